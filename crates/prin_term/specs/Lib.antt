@@ -1,0 +1,3 @@
+pub mod Principal
+pub mod View
+pub mod Codes
