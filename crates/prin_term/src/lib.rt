@@ -1,6 +1,21 @@
 //! Terms of the calculus: their sizes, their parts and their one spelling as bytes.
 #![tactic(auto)]
 
+mod fault;
+pub mod fields;
+mod laws;
+mod limits;
+mod reading;
+mod shape;
 mod term;
+mod writing;
 
+pub use fault::TermFault;
+pub use laws::{one_spelling, prefixes_are_short};
+pub use limits::{CERT_NODES, ENTRY_NODES, MAX_DEPTH, QUOTED_NODES};
+pub use reading::read_term;
 pub use term::{Anchor, Entry, Statement, Term};
+pub use writing::write_term;
+
+#[cfg(test)]
+mod tests;

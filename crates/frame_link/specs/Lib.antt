@@ -1,0 +1,12 @@
+pub mod Faults
+pub mod Readings
+pub mod Relay
+pub mod Doors
+pub mod Frames
+pub mod Next
+pub mod Buffer
+pub mod Plan
+pub mod Supply
+pub mod Store
+pub mod Times
+pub mod Hall

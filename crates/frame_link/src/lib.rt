@@ -1,0 +1,26 @@
+//! The traits of the outside, frames over them, and objects in memory that implement them.
+#![tactic(auto)]
+
+mod closed;
+mod fault_plan;
+mod frame;
+mod mem_clock;
+mod mem_door;
+mod mem_sink;
+mod mem_source;
+mod outcome;
+mod outside;
+mod whole;
+
+pub use closed::{ClosedDoor, NoRelay};
+pub use frame::{FrameBuf, Next, Put, SMALL_FRAME, next_frame, one_reading, put_frame};
+pub use mem_clock::MemClock;
+pub use mem_door::MemDoor;
+pub use mem_sink::MemSink;
+pub use mem_source::MemSource;
+pub use outcome::Outcome;
+pub use outside::{Clock, Door, Failed, RelayAnswer, RelayLink, Sink, Source};
+pub use whole::{fill, pour};
+
+#[cfg(test)]
+mod tests;

@@ -1,0 +1,5 @@
+pub mod Finding
+pub mod Place
+pub mod Masking
+pub mod Tags
+pub mod Alike

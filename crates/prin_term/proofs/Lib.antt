@@ -1,0 +1,9 @@
+pub mod Results
+pub mod FieldLaws
+pub mod Items
+pub mod Heads
+pub mod Levels
+pub mod Terms
+pub mod Refusals
+pub mod Whole
+pub mod Parts

@@ -1,0 +1,13 @@
+//! The limits of terms.
+
+/// The deepest tag that is read; the outermost has depth 1.
+pub const MAX_DEPTH: u32 = 16;
+
+/// The nodes of each term in a certificate.
+pub const CERT_NODES: u32 = 64;
+
+/// The nodes of a request's quoted term.
+pub const QUOTED_NODES: u32 = 14;
+
+/// The nodes of an entry's principal, of the part that a denial names, and of an ask's subject.
+pub const ENTRY_NODES: u32 = 16;

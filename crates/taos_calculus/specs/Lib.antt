@@ -1,0 +1,11 @@
+pub mod Rules
+pub mod Saturation
+pub mod Tidy
+pub mod Monitor
+pub mod Atoms
+pub mod Tables
+pub mod Canonical
+pub mod Spelling
+pub mod Limits
+pub mod Walking
+pub mod Having

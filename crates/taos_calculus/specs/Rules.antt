@@ -1,0 +1,89 @@
+-- The calculus: what a line of a derivation may say, and what is derivable.
+--     Judgement      `left => right`, or `who says (left => right)`
+--     Claim      a speaker with its statement: all that the calculus takes of a certificate
+--     Line      a judgement with the rule that gives it
+--     Follows anchors claims earlier line      the line's fact is given by its rule: one case for each rule
+--     EachFollows anchors claims earlier lines      each line follows from the earlier facts and the lines before it
+--     Proves anchors claims lines fact      each line follows from those before it, and the last one's fact is this
+--     Derivable anchors claims fact      some list of lines proves the fact; the lines may name any principals whatever
+use Rattle.std.specs.Prelude.{◌≡◌, ℕ, List, [], ◌∷◌, ◌++◌, Option, Some, None, slice_get}
+use Rattle.prin_term.specs.declared.term.Anchor.{Anchor}
+use Rattle.prin_term.specs.Principal.{Principal, Key, Name, And, Quoting, InRole, For}
+use Rattle.taos_calculus.specs.declared.line.Step.{Step}
+
+pub data Judgement : Type 0 where
+  SpeaksFor : (left right : Principal) → Judgement
+  Says : (who left right : Principal) → Judgement
+
+pub record Claim : Type 0 where
+  pub speaker : Principal
+  pub left : Principal
+  pub right : Principal
+
+pub record Line : Type 0 where
+  pub fact : Judgement
+  pub step : Step
+
+abbrev pub line : Judgement → Step → Line
+line fact step = record { fact = fact; step = step }
+
+-- the fact stands at this number
+abbrev pub IsAt : List Judgement → ℕ → Judgement → Type 0
+IsAt facts i fact = slice_get facts i ≡ Some fact
+
+pub data Follows (anchors : List Anchor) (claims : List Claim) (earlier : List Judgement) : Line → Type 0 where
+  same : {a : Principal} → Follows anchors claims earlier (line (SpeaksFor a a) Step.Same)
+  chain : {a b c : Principal} {i j : ℕ} →
+      IsAt earlier i (SpeaksFor a b) → IsAt earlier j (SpeaksFor b c) →
+      Follows anchors claims earlier (line (SpeaksFor a c) (Step.Chain i j))
+  left : {a b : Principal} → Follows anchors claims earlier (line (SpeaksFor (And a b) a) Step.Left)
+  right : {a b : Principal} → Follows anchors claims earlier (line (SpeaksFor (And a b) b) Step.Right)
+  both : {a b c : Principal} {i j : ℕ} →
+      IsAt earlier i (SpeaksFor c a) → IsAt earlier j (SpeaksFor c b) →
+      Follows anchors claims earlier (line (SpeaksFor c (And a b)) (Step.Both i j))
+  quoting : {a a' b b' : Principal} {i j : ℕ} →
+      IsAt earlier i (SpeaksFor a a') → IsAt earlier j (SpeaksFor b b') →
+      Follows anchors claims earlier (line (SpeaksFor (Quoting a b) (Quoting a' b')) (Step.Quote i j))
+  for_both : {a a' b b' : Principal} {i j : ℕ} →
+      IsAt earlier i (SpeaksFor a a') → IsAt earlier j (SpeaksFor b b') →
+      Follows anchors claims earlier (line (SpeaksFor (For a b) (For a' b')) (Step.For i j))
+  role : {a : Principal} {r : ℕ} → Follows anchors claims earlier (line (SpeaksFor a (InRole a r)) Step.Role)
+  role_under : {a b : Principal} {r i : ℕ} →
+      IsAt earlier i (SpeaksFor a b) →
+      Follows anchors claims earlier (line (SpeaksFor (InRole a r) (InRole b r)) (Step.RoleUnder i))
+  anchored : {anchor : Anchor} {i : ℕ} →
+      slice_get anchors i ≡ Some anchor →
+      Follows anchors claims earlier (line (SpeaksFor (Key anchor.key) (Name anchor.name)) (Step.Anchor i))
+  said : {claim : Claim} {i : ℕ} →
+      slice_get claims i ≡ Some claim →
+      Follows anchors claims earlier (line (Says claim.speaker claim.left claim.right) (Step.Said i))
+  lift : {a b l r : Principal} {i j : ℕ} →
+      IsAt earlier i (Says a l r) → IsAt earlier j (SpeaksFor a b) →
+      Follows anchors claims earlier (line (Says b l r) (Step.Lift i j))
+  join : {a b l r : Principal} {i j : ℕ} →
+      IsAt earlier i (Says a l r) → IsAt earlier j (Says b l r) →
+      Follows anchors claims earlier (line (Says (And a b) l r) (Step.Join i j))
+  hand_off : {l t : Principal} {i : ℕ} →
+      IsAt earlier i (Says t l t) →
+      Follows anchors claims earlier (line (SpeaksFor l t) (Step.HandOff i))
+  delegate : {a b : Principal} {i : ℕ} →
+      IsAt earlier i (Says a (Quoting b a) (For b a)) →
+      Follows anchors claims earlier (line (SpeaksFor (Quoting b a) (For b a)) (Step.Delegate i))
+
+abbrev pub EachFollows : List Anchor → List Claim → List Judgement → List Line → Type 0
+EachFollows anchors claims earlier [] = Unit {0}
+EachFollows anchors claims earlier (l ∷ rest) =
+    Follows anchors claims earlier l × EachFollows anchors claims (earlier ++ l.fact ∷ []) rest
+
+abbrev pub last_fact : List Line → Option Judgement
+last_fact [] = None
+last_fact (l ∷ []) = Some l.fact
+last_fact (l ∷ m ∷ rest) = last_fact (m ∷ rest)
+
+pub record Proves (anchors : List Anchor) (claims : List Claim) (lines : List Line) (fact : Judgement) : Type 0 where
+  pub follow : EachFollows anchors claims [] lines
+  pub last : last_fact lines ≡ Some fact
+
+pub record Derivable (anchors : List Anchor) (claims : List Claim) (fact : Judgement) : Type 0 where
+  pub lines : List Line
+  pub proves : Proves anchors claims lines fact

@@ -1,0 +1,37 @@
+-- The principals of a table in the order in which lines come to them.
+--     met table ps      the table, and behind it each principal of ps that was not yet there
+--     numbers_in fact      the numbers that a fact names, from left to right
+--     Reaches nodes due ids k      from the first `due` principals of the table, these numbers lead to its first k
+use Rattle.std.specs.Prelude.{◌≡◌, ℕ, ◌<◌, ◌≤◌, if◌then◌else◌, List, [], ◌∷◌, ◌++◌, length, map, take, All, Contains}
+use Rattle.std.specs.List.{flat_map, list_any}
+use Rattle.prin_term.specs.Principal.{Principal}
+use Rattle.taos_calculus.specs.declared.line.Node.{Node}
+use Rattle.taos_calculus.specs.declared.line.Fact.{Fact}
+use Rattle.taos_calculus.specs.Tables.{principals_of, named, OperandsBelow}
+use Rattle.taos_calculus.specs.Canonical.{same_principal, post_order}
+
+abbrev pub met : List Principal → List Principal → List Principal
+met table [] = table
+met table (p ∷ ps) = met (if list_any (same_principal p) table then table else table ++ p ∷ []) ps
+
+abbrev pub numbers_in : Fact → List ℕ
+numbers_in (Fact.Speaks left right) = left ∷ right ∷ []
+numbers_in (Fact.Says who left right) = who ∷ left ∷ right ∷ []
+
+-- all that the numbers name, with all that stands under it
+abbrev pub parts_under : List Node → List ℕ → List Principal
+parts_under nodes ids = flat_map post_order (map (named nodes) ids)
+
+pub record Reaches (nodes : List Node) (due : ℕ) (ids : List ℕ) (k : ℕ) : Type 0 where
+  pub within : k ≤ length nodes
+  pub below : All (λ i. i < length nodes) ids
+  pub front : met (take due (principals_of nodes)) (parts_under nodes ids) ≡ take k (principals_of nodes)
+
+-- they lead nowhere
+abbrev pub Strays : List Node → ℕ → List ℕ → Type 0
+Strays nodes due ids = (k : ℕ) → Reaches nodes due ids k → ⊥
+
+-- the node i has its operands before it, and its like nowhere before it
+pub record IsPlaced (nodes : List Node) (i : ℕ) (node : Node) : Type 0 where
+  pub ordered : OperandsBelow i node
+  pub first : ¬ Contains (take i nodes) node

@@ -1,0 +1,46 @@
+//! The laws of the calculus, each the contract of a function that does nothing.
+
+ghost use Rattle.std.specs.Prelude.{List, ℕ};
+ghost use Rattle.prin_term.specs.declared.term.Anchor.{Anchor};
+ghost use Rattle.prin_term.specs.Principal.{Principal};
+ghost use Rattle.taos_calculus.specs.Rules.{Judgement, Claim, Line};
+ghost use Rattle.taos_calculus.specs.Tables.{Parts};
+ghost use Rattle.taos_calculus.specs.Having.{HaveParts, AreAlone};
+ghost use Rattle.taos_calculus.specs.Saturation.{HasEveryFact};
+ghost use Rattle.taos_calculus.specs.Tidy.{StaysWithin, DerivesMore};
+ghost use Rattle.taos_calculus.specs.Atoms.{AtomIsDecided};
+
+/// Facts over a table that are closed under the rules within the table are all that is derivable
+/// about it, though a derivation may name any principals whatever.
+pub fn saturation_is_complete()
+    ensures { (anchors : List Anchor) (claims : List Claim) (table : List Principal)
+        (known : List Judgement) → HasEveryFact anchors claims table known }
+{}
+
+/// What is derivable about the members of a table has a derivation that names members only.
+pub fn derivations_stay_within()
+    ensures { (anchors : List Anchor) (claims : List Claim) (table : List Principal) →
+        StaysWithin anchors claims table }
+{}
+
+/// More certificates, in any order, derive no less.
+pub fn certificates_only_add()
+    ensures { (anchors : List Anchor) (claims more : List Claim) →
+        DerivesMore anchors claims more }
+{}
+
+/// Without certificates a key speaks for itself, for the names that its anchors give it, and for
+/// no other key or name.
+pub fn atoms_are_decided()
+    ensures { (anchors : List Anchor) (k : ℕ) (w : Principal) → AtomIsDecided anchors k w }
+{}
+
+/// Every list of lines over principals has parts with a canonical table, which mean these lines.
+pub fn lines_have_parts()
+    ensures { (lines : List Line) → HaveParts lines }
+{}
+
+/// Parts with a canonical table that mean the same lines are the same.
+pub fn canonical_parts_are_alone()
+    ensures { (parts : Parts) → AreAlone parts }
+{}

@@ -1,0 +1,15 @@
+//! The calculus of principals: its rules, what is derivable by them, and proofs as flat parts.
+#![tactic(auto)]
+
+mod canonical;
+pub mod laws;
+mod line;
+mod proof;
+mod writing;
+
+pub use line::{Fact, Line, Node, Step};
+pub use proof::{MAX_LINES, MAX_NODES, Proof};
+pub use writing::write_proof;
+
+#[cfg(test)]
+mod tests;

@@ -1,0 +1,70 @@
+ghost use Rattle.std.specs.Prelude.{◌≡◌, ◌↔◌, IsSome, IfSome};
+ghost use Rattle.taos_calculus.specs.Tables.{parts_of};
+
+use crate::canonical::{is_met_in_order, is_node_table};
+use crate::line::{Line, Node};
+use std::marker::Model;
+
+/// How many nodes the table of a proof has at most.
+pub const MAX_NODES: usize = 1_296;
+
+/// How many lines a proof has at most.
+pub const MAX_LINES: usize = 1_762_560;
+
+/// Lines over the numbers of a table of principals. The table is the canonical one of the lines,
+/// so no principal has two numbers, and lines over principals are one proof only. Whether a line
+/// follows is not part of it.
+#[derive(Debug, Drop)]
+pub struct Proof {
+    nodes: Vec<Node>,
+    lines: Vec<Line>,
+}
+
+impl Model for Proof {
+    ghost use Rattle.taos_calculus.specs.Tables.{Parts, parts_of};
+
+    ghost Value = { Parts };
+
+    ghost use Rattle.taos_calculus.specs.Limits.{IsProofParts};
+
+    ghost view = { λ p. parts_of p.nodes.items p.lines.items };
+
+    ghost invariant = { λ p. IsProofParts (parts_of p.nodes.items p.lines.items) };
+}
+
+impl Proof {
+    ghost use Rattle.taos_calculus.specs.Limits.{IsProofParts};
+
+    /// The proof of these parts. Takes no memory.
+    pub fn from_parts(nodes: Vec<Node>, lines: Vec<Line>) -> Option<Proof>
+        ensures made { IsSome result ↔ IsProofParts (parts_of nodes.items lines.items) }
+        ensures parts { IfSome result (λ p. p ≡ parts_of nodes.items lines.items) }
+    {
+        if nodes.len() > MAX_NODES || lines.len() > MAX_LINES {
+            return None;
+        }
+        if !is_node_table(&nodes) {
+            return None;
+        }
+        if !is_met_in_order(&nodes, &lines) {
+            return None;
+        }
+        Some(Proof { nodes, lines })
+    }
+
+    /// The principals by number: each node's operands stand before it.
+    pub fn nodes(&self) -> &[Node]
+        ensures value { result.now ≡ self.now.nodes }
+        ensures kept { IsProofParts self.now }
+    {
+        &self.nodes
+    }
+
+    /// The lines in order, the conclusion last.
+    pub fn lines(&self) -> &[Line]
+        ensures value { result.now ≡ self.now.lines }
+        ensures kept { IsProofParts self.now }
+    {
+        &self.lines
+    }
+}

@@ -1,0 +1,231 @@
+ghost use Rattle.std.specs.Prelude.{◌≡◌, ◌++◌, ◌∷◌, ◌+◌, ◌<◌, ◌≤◌, ◌^◌, ℕ, List, length, vec_capacity, OnOk, OnErr};
+ghost use Rattle.std.specs.Int.{w16, w32, to_be_bytes};
+ghost use Rattle.std.specs.List.{flat_map};
+ghost use Rattle.taos_calculus.specs.Tables.{lines_of, parts_of};
+ghost use Rattle.taos_calculus.specs.Spelling.{proof_spelling, parts_spelling, node_bytes, fact_bytes, premise_bytes, line_bytes, rule_byte, pair16, pair32};
+
+use crate::line::{Fact, Line, Node, Step};
+use crate::proof::{MAX_LINES, MAX_NODES, Proof};
+use std::alloc::AllocError;
+
+/// Appends the one spelling of a proof. An `Err` leaves the bytes as they were.
+pub fn write_proof(out: &mut Vec<u8>, proof: &Proof) -> Result<(), AllocError>
+    ensures ok { OnOk result
+        (out.new.items ≡ out.old.items ++ proof_spelling (lines_of proof.now)) }
+    ensures err { OnErr result (out.new.items ≡ out.old.items) }
+    ensures capacity { vec_capacity out.old ≤ vec_capacity out.new }
+    // Memory is refused only where the room behind what is there is too small.
+    ensures room { OnErr result (vec_capacity out.old
+        < length out.old.items + length (proof_spelling (lines_of proof.now))) }
+    // A proof within its limits is short.
+    ensures short { length (proof_spelling (lines_of proof.now)) < 2 ^ 25 }
+{
+    write_parts(out, proof.nodes(), proof.lines())
+}
+
+fn write_parts(out: &mut Vec<u8>, nodes: &[Node], lines: &[Line]) -> Result<(), AllocError>
+    requires nodes_fit { length nodes.now ≤ MAX_NODES }
+    requires lines_fit { length lines.now ≤ MAX_LINES }
+    ensures ok { OnOk result
+        (out.new.items ≡ out.old.items ++ parts_spelling (parts_of nodes.now lines.now)) }
+    ensures err { OnErr result (out.new.items ≡ out.old.items) }
+    ensures capacity { vec_capacity out.old ≤ vec_capacity out.new }
+    ensures room { OnErr result (vec_capacity out.old
+        < length out.old.items + length (parts_spelling (parts_of nodes.now lines.now))) }
+{
+    let len = out.len();
+    let written = push_parts(out, nodes, lines);
+    if written.is_err() {
+        out.truncate(len);
+    }
+    written
+}
+
+// What an `Err` leaves has the old bytes in front.
+fn push_parts(out: &mut Vec<u8>, nodes: &[Node], lines: &[Line]) -> Result<(), AllocError>
+    requires nodes_fit { length nodes.now ≤ MAX_NODES }
+    requires lines_fit { length lines.now ≤ MAX_LINES }
+    ensures ok { OnOk result
+        (out.new.items ≡ out.old.items ++ parts_spelling (parts_of nodes.now lines.now)) }
+    ensures err { OnErr result ((more : List ℕ) × (out.new.items ≡ out.old.items ++ more)) }
+    ensures capacity { vec_capacity out.old ≤ vec_capacity out.new }
+    ensures room { OnErr result (vec_capacity out.old
+        < length out.old.items + length (parts_spelling (parts_of nodes.now lines.now))) }
+{
+    out.extend_from_slice(&(nodes.len() as u16).to_be_bytes())?;
+    push_nodes(out, nodes)?;
+    out.extend_from_slice(&(lines.len() as u32).to_be_bytes())?;
+    push_lines(out, lines)?;
+    Ok(())
+}
+
+fn push_nodes(out: &mut Vec<u8>, nodes: &[Node]) -> Result<(), AllocError>
+    ensures ok { OnOk result (out.new.items ≡ out.old.items ++ flat_map node_bytes nodes.now) }
+    ensures err { OnErr result ((more : List ℕ) × (out.new.items ≡ out.old.items ++ more)) }
+    ensures capacity { vec_capacity out.old ≤ vec_capacity out.new }
+    ensures room { OnErr result
+        (vec_capacity out.old < length out.old.items + length (flat_map node_bytes nodes.now)) }
+{
+    for node in nodes {
+        push_node(out, *node)?;
+    }
+    Ok(())
+}
+
+fn push_lines(out: &mut Vec<u8>, lines: &[Line]) -> Result<(), AllocError>
+    ensures ok { OnOk result (out.new.items ≡ out.old.items ++ flat_map line_bytes lines.now) }
+    ensures err { OnErr result ((more : List ℕ) × (out.new.items ≡ out.old.items ++ more)) }
+    ensures capacity { vec_capacity out.old ≤ vec_capacity out.new }
+    ensures room { OnErr result
+        (vec_capacity out.old < length out.old.items + length (flat_map line_bytes lines.now)) }
+{
+    for line in lines {
+        push_line(out, *line)?;
+    }
+    Ok(())
+}
+
+fn push_line(out: &mut Vec<u8>, line: Line) -> Result<(), AllocError>
+    ensures ok { OnOk result (out.new.items ≡ out.old.items ++ line_bytes line) }
+    ensures err { OnErr result ((more : List ℕ) × (out.new.items ≡ out.old.items ++ more)) }
+    ensures capacity { vec_capacity out.old ≤ vec_capacity out.new }
+    ensures room { OnErr result
+        (vec_capacity out.old < length out.old.items + length (line_bytes line)) }
+{
+    out.push(rule_of(line.step))?;
+    push_fact(out, line.fact)?;
+    push_premises(out, line.step)?;
+    Ok(())
+}
+
+fn push_node(out: &mut Vec<u8>, node: Node) -> Result<(), AllocError>
+    ensures ok { OnOk result (out.new.items ≡ out.old.items ++ node_bytes node) }
+    ensures err { OnErr result ((more : List ℕ) × (out.new.items ≡ out.old.items ++ more)) }
+    ensures capacity { vec_capacity out.old ≤ vec_capacity out.new }
+    ensures room { OnErr result
+        (vec_capacity out.old < length out.old.items + length (node_bytes node)) }
+{
+    match node {
+        Node::Key(key) => push_atom(out, 1, key),
+        Node::Name(name) => push_atom(out, 2, name),
+        Node::And(left, right) => push_compound(out, 3, left, right),
+        Node::Quote(left, right) => push_compound(out, 4, left, right),
+        Node::AsRole(base, role) => push_role(out, base, role),
+        Node::For(left, right) => push_compound(out, 6, left, right),
+    }
+}
+
+fn push_atom(out: &mut Vec<u8>, tag: u8, number: u32) -> Result<(), AllocError>
+    ensures ok { OnOk result (out.new.items ≡ out.old.items ++ tag ∷ to_be_bytes w32 number) }
+    ensures err { OnErr result ((more : List ℕ) × (out.new.items ≡ out.old.items ++ more)) }
+    ensures capacity { vec_capacity out.old ≤ vec_capacity out.new }
+    ensures room { OnErr result (vec_capacity out.old < length out.old.items + 5) }
+{
+    out.push(tag)?;
+    out.extend_from_slice(&number.to_be_bytes())
+}
+
+fn push_compound(out: &mut Vec<u8>, tag: u8, left: u16, right: u16) -> Result<(), AllocError>
+    ensures ok { OnOk result (out.new.items ≡ out.old.items ++ tag ∷ pair16 left right) }
+    ensures err { OnErr result ((more : List ℕ) × (out.new.items ≡ out.old.items ++ more)) }
+    ensures capacity { vec_capacity out.old ≤ vec_capacity out.new }
+    ensures room { OnErr result (vec_capacity out.old < length out.old.items + 5) }
+{
+    out.push(tag)?;
+    push_pair16(out, left, right)
+}
+
+fn push_role(out: &mut Vec<u8>, base: u16, role: u32) -> Result<(), AllocError>
+    ensures ok { OnOk result
+        (out.new.items ≡ out.old.items ++ 5 ∷ (to_be_bytes w16 base ++ to_be_bytes w32 role)) }
+    ensures err { OnErr result ((more : List ℕ) × (out.new.items ≡ out.old.items ++ more)) }
+    ensures capacity { vec_capacity out.old ≤ vec_capacity out.new }
+    ensures room { OnErr result (vec_capacity out.old < length out.old.items + 7) }
+{
+    out.push(5)?;
+    out.extend_from_slice(&base.to_be_bytes())?;
+    out.extend_from_slice(&role.to_be_bytes())
+}
+
+fn push_fact(out: &mut Vec<u8>, fact: Fact) -> Result<(), AllocError>
+    ensures ok { OnOk result (out.new.items ≡ out.old.items ++ fact_bytes fact) }
+    ensures err { OnErr result ((more : List ℕ) × (out.new.items ≡ out.old.items ++ more)) }
+    ensures capacity { vec_capacity out.old ≤ vec_capacity out.new }
+    ensures room { OnErr result
+        (vec_capacity out.old < length out.old.items + length (fact_bytes fact)) }
+{
+    match fact {
+        Fact::Speaks { left, right } => push_pair16(out, left, right),
+        Fact::Says { who, left, right } => {
+            out.extend_from_slice(&who.to_be_bytes())?;
+            push_pair16(out, left, right)
+        }
+    }
+}
+
+fn push_premises(out: &mut Vec<u8>, step: Step) -> Result<(), AllocError>
+    ensures ok { OnOk result (out.new.items ≡ out.old.items ++ premise_bytes step) }
+    ensures err { OnErr result ((more : List ℕ) × (out.new.items ≡ out.old.items ++ more)) }
+    ensures capacity { vec_capacity out.old ≤ vec_capacity out.new }
+    ensures room { OnErr result
+        (vec_capacity out.old < length out.old.items + length (premise_bytes step)) }
+{
+    match step {
+        Step::Same | Step::Left | Step::Right | Step::Role => Ok(()),
+        Step::Chain { first, second }
+        | Step::Both { first, second }
+        | Step::Quote { first, second }
+        | Step::For { first, second }
+        | Step::Join { first, second } => push_pair32(out, first, second),
+        Step::Lift { says, speaks } => push_pair32(out, says, speaks),
+        Step::RoleUnder { first } => out.extend_from_slice(&first.to_be_bytes()),
+        Step::HandOff { says } | Step::Delegate { says } => {
+            out.extend_from_slice(&says.to_be_bytes())
+        }
+        Step::Anchor { index } => out.extend_from_slice(&index.to_be_bytes()),
+        Step::Said { cite } => out.extend_from_slice(&cite.to_be_bytes()),
+    }
+}
+
+fn push_pair16(out: &mut Vec<u8>, first: u16, second: u16) -> Result<(), AllocError>
+    ensures ok { OnOk result (out.new.items ≡ out.old.items ++ pair16 first second) }
+    ensures err { OnErr result ((more : List ℕ) × (out.new.items ≡ out.old.items ++ more)) }
+    ensures capacity { vec_capacity out.old ≤ vec_capacity out.new }
+    ensures room { OnErr result (vec_capacity out.old < length out.old.items + 4) }
+{
+    out.extend_from_slice(&first.to_be_bytes())?;
+    out.extend_from_slice(&second.to_be_bytes())
+}
+
+fn push_pair32(out: &mut Vec<u8>, first: u32, second: u32) -> Result<(), AllocError>
+    ensures ok { OnOk result (out.new.items ≡ out.old.items ++ pair32 first second) }
+    ensures err { OnErr result ((more : List ℕ) × (out.new.items ≡ out.old.items ++ more)) }
+    ensures capacity { vec_capacity out.old ≤ vec_capacity out.new }
+    ensures room { OnErr result (vec_capacity out.old < length out.old.items + 8) }
+{
+    out.extend_from_slice(&first.to_be_bytes())?;
+    out.extend_from_slice(&second.to_be_bytes())
+}
+
+// The byte of the rule.
+fn rule_of(step: Step) -> u8
+    ensures { result ≡ rule_byte step }
+{
+    match step {
+        Step::Same => 1,
+        Step::Chain { .. } => 2,
+        Step::Left => 3,
+        Step::Right => 4,
+        Step::Both { .. } => 5,
+        Step::Quote { .. } => 6,
+        Step::For { .. } => 7,
+        Step::Role => 8,
+        Step::Anchor { .. } => 9,
+        Step::Said { .. } => 10,
+        Step::Lift { .. } => 11,
+        Step::Join { .. } => 12,
+        Step::HandOff { .. } => 13,
+        Step::Delegate { .. } => 14,
+        Step::RoleUnder { .. } => 15,
+    }
+}

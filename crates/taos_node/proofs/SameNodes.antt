@@ -1,0 +1,100 @@
+-- Two openings in which each look-up finds the same have the same courses.
+use Rattle.std.proofs.Common.{◌≡◌, ◌≤◌, ◌<◌, ℕ, List, [], ◌∷◌, length, map, None, Some, true, false, Bool, cond, refl, sym, ap, subst, ◌∙◌}
+use Rattle.std.specs.Prelude.{Option, All, find, slice_index_or}
+use Rattle.std.proofs.lemmas.List.Elements.{All-head, All-tail}
+use Rattle.std.proofs.lemmas.Option.{none-some, same_Some}
+use Rattle.prin_term.specs.declared.term.Anchor.{Anchor}
+use Rattle.prin_term.specs.View.{Grant}
+use Rattle.frame_link.specs.declared.outcome.Outcome.{Outcome}
+use Rattle.frame_link.specs.declared.outcome.Outcome.TheVariants.{End, Truncated, TooLong, ReadFault, WriteFault, ClockFault, Spent, NoMemory}
+use Rattle.taos_calculus.specs.Rules.{Line, SpeaksFor, Proves}
+use Rattle.taos_calculus.specs.Monitor.{FirstEntry, Grants, MaySpeak}
+use Rattle.taos_node.specs.declared.opening.Opening as code
+use Rattle.taos_node.specs.Opening.{Opening, ObjectPlan, plan_of, IsPlain, IsPlainObject}
+use Rattle.taos_node.specs.OpeningView.{Represents}
+use Rattle.taos_node.specs.Messages.{Request, Sent, subject_of}
+use Rattle.taos_node.specs.Meaning.{opening, IsServable, SameNode}
+use Rattle.taos_node.specs.Course.{HasArrived, Arrival, Course, read_right, unbuilt, granted, denied, unread, unasked}
+use Rattle.taos_node.specs.Run.{Turn, IsCourse, AreTurns, IsConnection}
+use Rattle.taos_node.proofs.Listed.{plan_of-listed}
+
+pub same_node : (node : code.Opening) (o : Opening) → Represents node o → SameNode (opening node) o
+same_node node o r = record {
+  channels = r.channels.each;
+  anchors = r.anchors;
+  objects = λ n. plan_of-listed node.objects.entries n ∙ r.objects.each n;
+}
+
+found_at : {A : Type 0} (P : A → Type 0) (test : A → Bool) (y : A) (xs : List A) (x : A) (b : Bool) → All P (y ∷ xs) → cond b (Some y) (find test xs) ≡ Some x → (find test xs ≡ Some x → P x) → P x
+found_at P test y xs x true all is later = subst P (same_Some y x is) (All-head P y xs all)
+found_at P test y xs x false all is later = later is
+
+-- what is found passes what all do
+found_all : {A : Type 0} (P : A → Type 0) (test : A → Bool) (xs : List A) (x : A) → All P xs → find test xs ≡ Some x → P x
+found_all P test [] x all is = absurd (none-some x is)
+found_all P test (y ∷ xs) x all is = found_at P test y xs x (test y) all is (λ e. found_all P test xs x (All-tail P y xs all) e)
+
+pub is_servable : (node : code.Opening) (o : Opening) → Represents node o → IsPlain o → IsServable (opening node)
+is_servable node o r plain = record {
+  few_anchors = subst (λ (l : List Anchor). length l ≤ 64) (sym r.anchors) plain.few_anchors;
+  objects = λ n p is. found_all IsPlainObject _ o.objects p plain.objects (sym ((same_node node o r).objects n) ∙ is);
+}
+
+flipped : (a b : Opening) → SameNode a b → SameNode b a
+flipped a b same = record { channels = λ n. sym (same.channels n); anchors = sym same.anchors; objects = λ n. sym (same.objects n) }
+
+arrived_at : (a b : Opening) → SameNode a b → (payload : List ℕ) (r : Request) (key : List ℕ) (object : ObjectPlan) → HasArrived a payload r key object → HasArrived b payload r key object
+arrived_at a b same payload r key object h = record {
+  fits = h.fits;
+  keyed = sym (same.channels r.channel) ∙ h.keyed;
+  sealed_so = h.sealed_so;
+  there = sym (same.objects r.object) ∙ h.there;
+}
+
+abbrev arrival_at : (a b : Opening) → SameNode a b → (payload : List ℕ) → Arrival a payload → Arrival b payload
+arrival_at a b same payload t = record { request = t.request; key = t.key; object = t.object; arrived = arrived_at a b same payload t.request t.key t.object t.arrived }
+
+course_at : (a b : Opening) → SameNode a b → (payload readings : List ℕ) (sent : Sent) → Course a payload readings sent → Course b payload readings sent
+course_at a b same payload readings sent (unbuilt none) = unbuilt (λ t. none (arrival_at b a (flipped a b same) payload t))
+course_at a b same payload readings sent (granted {e} {g} {lines} t reading first proves) =
+    granted (arrival_at a b same payload t) reading
+    (subst (λ (l : List Anchor). FirstEntry t.object.list read_right (λ (h : Grant). MaySpeak l [] (subject_of t.request) h.who) e g) same.anchors first)
+    (subst (λ (l : List Anchor). Proves l [] lines (SpeaksFor (subject_of t.request) g.who)) same.anchors proves)
+course_at a b same payload readings sent (denied t reading none) =
+    denied (arrival_at a b same payload t) reading (subst (λ (l : List Anchor). Grants l [] (subject_of t.request) t.object.list read_right → ⊥) same.anchors none)
+course_at a b same payload readings sent unread = unread
+course_at a b same payload readings sent (unasked t few) = unasked (arrival_at a b same payload t) few
+
+turns_at : (a b : Opening) → SameNode a b → (outcome : Outcome) (turns : List Turn) (frames : List (List ℕ)) → AreTurns a outcome turns frames → AreTurns b outcome turns frames
+turns_at a b same ClockFault turns frames t = (t.0, arrival_at a b same t.0 t.1, t.2)
+turns_at a b same (End n) turns frames t = t
+turns_at a b same (Truncated n) turns frames t = t
+turns_at a b same (TooLong n) turns frames t = t
+turns_at a b same ReadFault turns frames t = t
+turns_at a b same WriteFault turns frames t = t
+turns_at a b same (Spent n) turns frames t = t
+turns_at a b same NoMemory turns frames t = t
+
+pub connection_at : (a b : Opening) → SameNode a b → (limit : ℕ) (in0 in1 out0 out1 clock0 clock1 : Option (List ℕ)) (outcome : Outcome) → IsConnection a limit in0 in1 out0 out1 clock0 clock1 outcome → IsConnection b limit in0 in1 out0 out1 clock0 clock1 outcome
+connection_at a b same limit in0 in1 out0 out1 clock0 clock1 outcome c = record {
+  taken = c.taken;
+  frames = c.frames;
+  rest = c.rest;
+  replies = c.replies;
+  readings = c.readings;
+  written = c.written;
+  took = c.took;
+  splits = c.splits;
+  few = c.few;
+  ended = c.ended;
+  answered = record {
+    turns = c.answered.turns;
+    courses = λ k (d : Turn) lt. let t : Turn = slice_index_or c.answered.turns k d in course_at a b same t.frame t.readings t.sent (c.answered.courses k d lt);
+    in_order = turns_at a b same outcome c.answered.turns c.frames c.answered.in_order;
+    read = c.answered.read;
+    replies_are = c.answered.replies_are;
+  };
+  gave = c.gave;
+  went = c.went;
+  wrote = c.wrote;
+}
