@@ -1,0 +1,5 @@
+pub mod Journal
+pub mod Known
+pub mod Line
+pub mod Rule
+pub mod Steps

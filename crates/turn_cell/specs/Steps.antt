@@ -1,0 +1,188 @@
+-- The seven kinds of step, a row each: draw, look, take, put, call, split, join.
+-- A row says what the seat `m` is afterwards, `n`: its view, and the slot that is out with it.
+use Rattle.std.specs.Prelude.{◌≡◌, ◌≢◌, ℕ, ◌+◌, ◌-◌, ◌<◌, ◌≤◌, cond, ltb, List, [], ◌∷◌, ◌++◌, length, Option, Some, None}
+use Rattle.atomic_table.specs.Seated.{TableId}
+use Rattle.atomic_table.specs.Table.{Me, Step}
+use Rattle.turn_cell.specs.declared.shares.TheConstants.{ALL_SHARES}
+use Rattle.turn_cell.specs.declared.view.Stage.{Stage}
+use Rattle.turn_cell.specs.declared.view.Stage.TheVariants.{Idle, Waiting, Turn, Joined}
+use Rattle.turn_cell.specs.declared.view.View.{View}
+use Rattle.turn_cell.specs.Journal.{Grows, MayLeave, HasEach, times, longer}
+use Rattle.turn_cell.specs.Known.{Known, Entered}
+
+-- the seat is of this table, which has the two words
+abbrev pub SitsAt : TableId → TableId → Type 0
+SitsAt seat table = (seat ≡ table) × (table.words ≡ 2)
+
+-- the places that a journal has beyond the one that was entered
+abbrev pub added : {E : Type 0} → List E → List E → List ℕ
+added entered journal = cond (ltb (length entered) (length journal)) (length entered ∷ []) []
+
+-- the journal that a stage at its turn keeps
+abbrev pub entered_of : {E : Type 0} → Stage E → List E
+entered_of Idle = []
+entered_of (Waiting t) = []
+entered_of (Turn t entered) = entered
+entered_of (Joined xs ys) = []
+
+-- the ticket that a stage holds
+abbrev pub ticket_of : {E : Type 0} → Stage E → ℕ
+ticket_of Idle = 0
+ticket_of (Waiting t) = t
+ticket_of (Turn t entered) = t
+ticket_of (Joined xs ys) = 0
+
+module _ {F E : Type 0} where
+  abbrev pub at_stage : Stage E → View F E → View F E
+  at_stage stage v = record v { stage = stage }
+
+  -- call: the view has seen the journal that was put, an added place is its own,
+  -- and it keeps nothing as entered and holds no ticket
+  abbrev pub gone_home : List E → List E → View F E → View F E
+  gone_home entered journal v = record v {
+    stage = Idle;
+    seen = journal;
+    own = v.own ++ added entered journal;
+  }
+
+  -- split: the first view keeps the other shares, what it had seen and its own places
+  abbrev pub keeping : ℕ → View F E → View F E
+  keeping give v = record v { shares = v.shares - give }
+
+  -- split: the second view has the shares, has seen the same and has no own places
+  abbrev pub given : ℕ → View F E → View F E
+  given give v = record v { stage = Idle; shares = give; own = [] }
+
+  -- join: one view with the longer list, both own places and the sum of shares. The other is spent
+  abbrev pub both : View F E → View F E → View F E
+  both v w = record v {
+    stage = Joined v.seen w.seen;
+    shares = v.shares + w.shares;
+    seen = longer v.seen w.seen;
+    own = v.own ++ w.own;
+  }
+
+  -- what contracts see of the view of a pass
+  abbrev pub known_of : TableId → ℕ → View F E → Known F E
+  known_of cell shares v = record {
+    cell = cell;
+    fixed = v.fixed;
+    start = v.start;
+    shares = shares;
+    seen = v.seen;
+    own = v.own;
+  }
+
+  abbrev pub entered_as : TableId → ℕ → View F E → Entered F E
+  entered_as cell shares v = record {
+    cell = cell;
+    fixed = v.fixed;
+    start = v.start;
+    shares = shares;
+    entered = entered_of v.stage;
+    own = v.own;
+  }
+
+module _ {V F E : Type 0} where
+  -- the seat takes no step: it has no ticket, no slot, and a share at least
+  abbrev pub IsIdle : Me (Option V) (View F E) → Type 0
+  IsIdle m = (m.0.stage ≡ Idle) × (0 < m.0.shares) × (m.1 ≡ [])
+
+  -- the seat is at its turn, and its slot is empty, since the value is in the caller's hand
+  abbrev pub IsAtTurn : Me (Option V) (View F E) → Type 0
+  IsAtTurn m = (t : ℕ) × (entered : List E) × (m.0.stage ≡ Turn t entered) × (m.1 ≡ (0, None) ∷ [])
+
+  -- the seat of a pass. One that has all shares has as its own each place from the opening on
+  pub record IsResting (shares : ℕ) (m : Me (Option V) (View F E)) : Type 0 where
+    pub no_slot : m.1 ≡ []
+    pub idle : m.0.stage ≡ Idle
+    pub counted : m.0.shares ≡ shares
+    pub least : 1 ≤ shares
+    pub most : shares ≤ ALL_SHARES
+    pub whole : shares ≡ ALL_SHARES → HasEach m.0.start (length m.0.seen) m.0.own
+
+  -- the seat of a pass that has entered
+  pub record IsOut (shares : ℕ) (m : Me (Option V) (View F E)) : Type 0 where
+    pub at_turn : IsAtTurn m
+    pub counted : m.0.shares ≡ shares
+    pub least : 1 ≤ shares
+    pub most : shares ≤ ALL_SHARES
+
+  -- draw: the view holds the ticket that was found
+  abbrev pub Draws : Step (Option V) → Me (Option V) (View F E) → ℕ → Me (Option V) (View F E) → Type 0
+  Draws st m found n = n ≡ (at_stage (Waiting found) m.0, m.1)
+
+  -- take: the value of the slot is in the caller's hand, and the view is as before
+  pub record IsTaken (m n : Me (Option V) (View F E)) (value : V) : Type 0 where
+    pub hand : m.1 ≡ (0, Some value) ∷ []
+    pub after : n ≡ (m.0, (0, None) ∷ [])
+
+  -- put: the slot has the value again, and the view is as before
+  abbrev pub IsPut : Me (Option V) (View F E) → Me (Option V) (View F E) → V → Type 0
+  IsPut m n value = n ≡ (m.0, (0, Some value) ∷ [])
+
+module _ {V F E : Type 0} (fixed : V → F) (journal : V → List E) (allows : F → List E → E → Type 0) where
+  -- look, on its turn: the seat has the slot, with a value that has the view's fixed data.
+  -- The view keeps its journal as entered, which grew from what was seen
+  pub record Turns (t : ℕ) (m n : Me (Option V) (View F E)) : Type 0 where
+    pub value : V
+    pub after : n ≡ (at_stage (Turn t (journal value)) m.0, (0, Some value) ∷ m.1)
+    pub its_fixed : m.0.fixed ≡ Some (fixed value)
+    pub grows : Grows allows (fixed value) m.0.seen (journal value)
+
+  -- look: the view knows whether it is its turn
+  abbrev pub Looks : Step (Option V) → Me (Option V) (View F E) → ℕ → Me (Option V) (View F E) → Type 0
+  Looks st m found n = (t : ℕ) → m.0.stage ≡ Waiting t → (found ≡ t → Turns t m n) × (found ≢ t → n ≡ m)
+
+  -- look on its turn, then take: the value is in the caller's hand
+  pub record TookOut (t : ℕ) (m n : Me (Option V) (View F E)) (value : V) : Type 0 where
+    pub after : n ≡ (at_stage (Turn t (journal value)) m.0, (0, None) ∷ [])
+    pub its_fixed : m.0.fixed ≡ Some (fixed value)
+    pub grows : Grows allows (fixed value) m.0.seen (journal value)
+
+  -- before a call: the slot has a value with the view's fixed data and with the entered journal,
+  -- or it with one allowed entry more
+  pub record MayCall (m : Me (Option V) (View F E)) : Type 0 where
+    pub ticket : ℕ
+    pub entered : List E
+    pub value : V
+    pub stage : m.0.stage ≡ Turn ticket entered
+    pub slot : m.1 ≡ (0, Some value) ∷ []
+    pub live : 0 < m.0.shares
+    pub its_fixed : m.0.fixed ≡ Some (fixed value)
+    pub may : MayLeave allows (fixed value) entered (journal value)
+
+module _ {V F E : Type 0} (journal : V → List E) where
+  -- call: the ticket that was served is the view's, and the slot goes home.
+  -- A view with all shares has as its own each place from the opening on
+  pub record GoesHome (entered : List E) (value : V) (m n : Me (Option V) (View F E)) : Type 0 where
+    pub after : n ≡ (gone_home entered (journal value) m.0, [])
+    pub whole : m.0.shares ≡ ALL_SHARES
+        → HasEach m.0.start (length (journal value)) (m.0.own ++ added entered (journal value))
+
+  abbrev pub Calls : Step (Option V) → Me (Option V) (View F E) → ℕ → Me (Option V) (View F E) → Type 0
+  Calls st m found n = (t : ℕ) (entered : List E) (value : V)
+      → m.0.stage ≡ Turn t entered → m.1 ≡ (0, Some value) ∷ [] → (found ≡ t) × GoesHome entered value m n
+
+module _ {V F E : Type 0} (allows : F → List E → E → Type 0) where
+  -- join, its second load: what both had seen begins what the view has seen,
+  -- no place is its own twice, and with all shares it has each from the opening on
+  pub record Settles (xs ys : List E) (m n : Me (Option V) (View F E)) : Type 0 where
+    pub after : n ≡ (at_stage Idle m.0, m.1)
+    pub grows : (f : F) → m.0.fixed ≡ Some f → Grows allows f xs m.0.seen × Grows allows f ys m.0.seen
+    pub few : m.0.shares ≤ ALL_SHARES
+    pub distinct : (place : ℕ) → times place m.0.own ≤ 1
+    pub whole : m.0.shares ≡ ALL_SHARES → HasEach m.0.start (length m.0.seen) m.0.own
+
+  abbrev pub Settled : Step (Option V) → Me (Option V) (View F E) → ℕ → Me (Option V) (View F E) → Type 0
+  Settled st m found n = (xs ys : List E) → m.0.stage ≡ Joined xs ys → Settles xs ys m n
+
+  -- the seat of `v` after that of `w` was joined into it
+  pub record IsJoinOf (v w : View F E) (n : Me (Option V) (View F E)) : Type 0 where
+    pub after : n ≡ (at_stage Idle (both v w), [])
+    pub grows : (f : F) → v.fixed ≡ Some f
+        → Grows allows f v.seen (longer v.seen w.seen) × Grows allows f w.seen (longer v.seen w.seen)
+    pub few : v.shares + w.shares ≤ ALL_SHARES
+    pub distinct : (place : ℕ) → times place v.own + times place w.own ≤ 1
+    pub whole : v.shares + w.shares ≡ ALL_SHARES
+        → HasEach v.start (length (longer v.seen w.seen)) (v.own ++ w.own)

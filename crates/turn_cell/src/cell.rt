@@ -1,0 +1,199 @@
+ghost use Rattle.std.specs.Prelude.{◌≡◌, ℕ, ◌+◌, ◌<◌, ◌≤◌, [], ◌∷◌, ◌++◌, length, IfOk};
+ghost use Rattle.turn_cell.specs.Journal.{Grows, HasEach, MayLeave, longer, times};
+ghost use Rattle.turn_cell.specs.Known.{IsHeldOf, IsPassOf};
+
+use crate::journaled::Journaled;
+use crate::pass::{Held, Pass};
+use crate::rule::{Gift, TurnRule};
+use crate::shares::ALL_SHARES;
+use crate::steps::{bring_home, draw, join, split, try_take, wait_past};
+use crate::view::View;
+use atomic_table::{Refused, Table};
+use std::alloc::{AllocError, Global};
+use std::marker::{Brand, Model};
+use std::snapshot::Snapshot;
+use std::sync::Wait;
+use std::thread;
+
+// How often a thread looks again before it sleeps.
+const LOOKS: u32 = 64;
+
+/// A value that one pass at a time takes out, in the order in which they drew their tickets.
+#[derive(Drop)]
+pub struct TurnCell<V: Journaled> {
+    table: Table<Option<V>, View<V::Fixed, V::Entry>, Snapshot<V>, TurnRule, Global>,
+}
+
+impl<V: Journaled> Model for TurnCell<V> {
+    ghost use Rattle.std.specs.Prelude.{◌≡◌};
+    ghost use Rattle.turn_cell.specs.Known.{Cell};
+
+    ghost Value = { Cell V.Fixed V.Entry };
+
+    ghost view = { λ c. record {
+      id = c.table.shared.table_id;
+      fixed = V.fixed c.table.shared.key.value;
+      opening = V.journal c.table.shared.key.value;
+    } };
+
+    ghost invariant = { λ c. (c.table.shared.table_id.words ≡ 2)
+        × (c.table.shared.table_id.slots ≡ 1) };
+}
+
+impl<V: Journaled> TurnCell<V> {
+    /// The cell, and a pass with all shares. Where memory is refused, the value is dropped.
+    pub fn new(alloc: Global, value: V) -> Result<(TurnCell<V>, Pass<V>), AllocError>
+    where
+        V: Drop,
+        ensures fixed { IfOk result (λ r. r.0.fixed ≡ V.fixed value) }
+        ensures opening { IfOk result (λ r. r.0.opening ≡ V.journal value) }
+        ensures cell { IfOk result (λ r. IsPassOf r.0 r.1) }
+        ensures seen { IfOk result (λ r. r.1.seen ≡ V.journal value) }
+        ensures own { IfOk result (λ r. r.1.own ≡ []) }
+        ensures shares { IfOk result (λ r. r.1.shares ≡ ALL_SHARES) }
+    {
+        let about = Snapshot::of(&value);
+        let mut slots = Vec::with_capacity(alloc, 1)?;
+        slots.push_reserved(Some(value));
+        match Table::new(alloc, &[0, 0], slots, &about) {
+            Ok((table, seat)) => Ok((
+                TurnCell { table },
+                Pass {
+                    shares: ALL_SHARES,
+                    seat,
+                },
+            )),
+            Err(Refused { slots: _ }) => Err(AllocError),
+        }
+    }
+
+    /// The shares of the pass.
+    pub fn shares(&self, pass: &Pass<V>) -> u64
+        requires { IsPassOf self.now pass.now }
+        ensures shares { result ≡ pass.now.shares }
+        ensures most { result ≤ ALL_SHARES }
+
+        // With all shares, each place from the opening on is its own.
+        ensures whole { result ≡ ALL_SHARES
+            → HasEach (length self.now.opening) (length pass.now.seen) pass.now.own }
+    {
+        pass.shares
+    }
+
+    /// Waits until the value is this pass's, and takes it out.
+    pub fn enter<W: Wait>(&self, rt: &W, pass: Pass<V>) -> (V, Held<V>)
+        requires { IsPassOf self.now pass }
+        ensures cell { IsHeldOf self.now result.1 }
+        ensures fixed { V.fixed result.0 ≡ self.now.fixed }
+        ensures journal { Grows V.allows self.now.fixed pass.seen (V.journal result.0) }
+        ensures entered { result.1.entered ≡ V.journal result.0 }
+        ensures shares { result.1.shares ≡ pass.shares }
+        ensures own { result.1.own ≡ pass.own }
+    {
+        let Pass { shares, mut seat } = pass;
+        let ticket = draw(&self.table.shared, &mut seat);
+        let mut looks = 0;
+        for _ in rt.forever() {
+            match try_take(&self.table.shared, &mut seat, ticket) {
+                Ok(value) => return (value, Held { shares, seat }),
+                Err(_) if looks < LOOKS => {
+                    looks += 1;
+                    thread::yield_now();
+                }
+                Err(serving) => wait_past(rt, &self.table.shared, serving),
+            }
+        }
+        unreachable!()
+    }
+
+    /// Puts the value back, with at most one entry more, and calls the next.
+    pub fn leave(&self, value: V, held: Held<V>) -> Pass<V>
+        requires cell { IsHeldOf self.now held }
+        requires fixed { V.fixed value ≡ self.now.fixed }
+        requires journal { MayLeave V.allows self.now.fixed held.entered (V.journal value) }
+        ensures cell { IsPassOf self.now result }
+        ensures seen { result.seen ≡ V.journal value }
+        ensures kept { V.journal value ≡ held.entered → result.own ≡ held.own }
+        ensures added { (e : V.Entry) → V.journal value ≡ held.entered ++ e ∷ []
+            → result.own ≡ held.own ++ length held.entered ∷ [] }
+        ensures shares { result.shares ≡ held.shares }
+    {
+        let Held { shares, mut seat } = held;
+        bring_home(&self.table.shared, &mut seat, value);
+        Pass { shares, seat }
+    }
+
+    /// The second pass has `give` of the shares.
+    pub fn split(&self, pass: Pass<V>, give: u64) -> (Pass<V>, Pass<V>)
+        requires cell { IsPassOf self.now pass }
+        requires shares { (1 ≤ give) × (give < pass.shares) }
+        ensures cell { IsPassOf self.now result.0 × IsPassOf self.now result.1 }
+        ensures shares { (result.0.shares + give ≡ pass.shares) × (result.1.shares ≡ give) }
+        ensures seen { (result.0.seen ≡ pass.seen) × (result.1.seen ≡ pass.seen) }
+        ensures own { (result.0.own ≡ pass.own) × (result.1.own ≡ []) }
+    {
+        self.split_as::<Brand>(pass, give)
+    }
+
+    fn split_as<G: Gift>(&self, pass: Pass<V>, give: u64) -> (Pass<V>, Pass<V>)
+        requires cell { IsPassOf self.now pass }
+        requires shares { (1 ≤ give) × (give < pass.shares) }
+        requires gift { give ≡ G.give }
+        ensures cell { IsPassOf self.now result.0 × IsPassOf self.now result.1 }
+        ensures shares { (result.0.shares + give ≡ pass.shares) × (result.1.shares ≡ give) }
+        ensures seen { (result.0.seen ≡ pass.seen) × (result.1.seen ≡ pass.seen) }
+        ensures own { (result.0.own ≡ pass.own) × (result.1.own ≡ []) }
+    {
+        let Pass { shares, mut seat } = pass;
+        let other = split::<V, G>(&self.table.shared, &mut seat);
+        (
+            Pass {
+                shares: shares - give,
+                seat,
+            },
+            Pass {
+                shares: give,
+                seat: other,
+            },
+        )
+    }
+
+    /// One pass of two. Both had seen a beginning of what it has seen.
+    pub fn join(&self, first: Pass<V>, second: Pass<V>) -> Pass<V>
+        requires { IsPassOf self.now first × IsPassOf self.now second }
+        ensures cell { IsPassOf self.now result }
+        ensures shares { result.shares ≡ first.shares + second.shares }
+        ensures own { result.own ≡ first.own ++ second.own }
+        ensures apart { (place : ℕ) → times place first.own + times place second.own ≤ 1 }
+        ensures seen { result.seen ≡ longer first.seen second.seen }
+        ensures first { Grows V.allows self.now.fixed first.seen result.seen }
+        ensures second { Grows V.allows self.now.fixed second.seen result.seen }
+    {
+        let Pass { shares, mut seat } = first;
+        let Pass {
+            shares: more,
+            seat: other,
+        } = second;
+        join(&self.table.shared, &mut seat, other);
+        Pass {
+            shares: shares + more,
+            seat,
+        }
+    }
+
+    /// Gives the value back, once one pass has all shares.
+    pub fn close(self, pass: Pass<V>) -> V
+        requires cell { IsPassOf self pass }
+        requires shares { pass.shares ≡ ALL_SHARES }
+        ensures fixed { V.fixed result ≡ self.fixed }
+        ensures journal { V.journal result ≡ pass.seen }
+        ensures own { HasEach (length self.opening) (length pass.seen) pass.own }
+    {
+        let Pass { shares: _, seat } = pass;
+        let TurnCell { table } = self;
+        let mut closed = table.close_with(seat);
+        let value = closed.take(0);
+        closed.free();
+        value.unwrap()
+    }
+}

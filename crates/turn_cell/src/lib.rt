@@ -1,0 +1,19 @@
+//! A ticket lock round a value that keeps a journal.
+//! A pass knows what it has seen of the journal and which places in it are its own.
+//! It holds shares, of which a cell has 65,536.
+#![tactic(auto)]
+
+mod cell;
+mod journaled;
+mod pass;
+mod rule;
+mod shares;
+mod steps;
+#[cfg(test)]
+mod tests;
+mod view;
+
+pub use cell::TurnCell;
+pub use journaled::Journaled;
+pub use pass::{Held, Pass};
+pub use shares::ALL_SHARES;
