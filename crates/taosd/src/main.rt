@@ -9,7 +9,7 @@ use frame_link::{ClosedDoor, NoRelay};
 use std::alloc::Global;
 use std::env;
 use std::fs::File;
-use std::io::BufReader;
+use std::io::{BufReader, ErrorKind};
 use std::process::ExitCode;
 use std::sync::Wait;
 use std::thread::Threads;
@@ -23,9 +23,13 @@ const USAGE: u8 = 1;
 
 const MEMORY: u8 = 6;
 
-fn words_of(rt: &HostRuntime) -> Option<Vec<String>> {
-    let words = env::args(rt).ok()?;
-    words.skip(1).collect(rt.alloc()).ok()
+// The words behind the program's name, or the exit status where there are none to be had.
+fn words_of(rt: &HostRuntime) -> Result<Vec<String>, u8> {
+    match env::args(rt) {
+        Ok(words) => words.skip(1).collect(rt.alloc()).map_err(|_| MEMORY),
+        Err(error) if error.kind() == ErrorKind::OutOfMemory => Err(MEMORY),
+        Err(_) => Err(USAGE),
+    }
 }
 
 fn file_of(rt: &HostRuntime, path: &str) -> FileReading<File> {
@@ -79,8 +83,8 @@ fn main(rt: HostRuntime) -> ExitCode {
     let _second = File::open(&rt, "/");
     let _third = File::open(&rt, "/");
     let status = match words_of(&rt) {
-        Some(words) => run(&rt, &rt, rt.alloc(), words.as_slice()),
-        None => USAGE,
+        Ok(words) => run(&rt, &rt, rt.alloc(), words.as_slice()),
+        Err(status) => status,
     };
     ExitCode::from(status)
 }
