@@ -40,40 +40,12 @@ not_two ClockFault = λ e. omega (arith, e)
 not_two (Spent n) = λ e. omega (arith, e)
 not_two NoMemory = λ e. omega (arith, e)
 
-pub not_one : (outcome : Outcome) → status_of outcome ≢ 1
-not_one (End n) = λ e. omega (arith, e)
-not_one (Truncated n) = λ e. omega (arith, e)
-not_one (TooLong n) = λ e. omega (arith, e)
-not_one ReadFault = λ e. omega (arith, e)
-not_one WriteFault = λ e. omega (arith, e)
-not_one ClockFault = λ e. omega (arith, e)
-not_one (Spent n) = λ e. omega (arith, e)
-not_one NoMemory = λ e. omega (arith, e)
-
 -- ---- what the file decides, by what came of it
 
 pub decided_opened : (file0 file1 : Option (List ℕ)) (f0 f1 : ℕ) (o : Opening) (outcome : Outcome) → Opens file0 file1 o → FileDecides file0 f0 f1 (status_of outcome)
 decided_opened file0 file1 f0 f1 o outcome opened = record {
   opens = λ bytes p told is. not_two outcome;
   refuses = λ bytes told none steady. absurd (none o (is_opened file0 file1 bytes o opened told));
-}
-
-pub decided_refused : (file0 file1 : Option (List ℕ)) (f0 f1 : ℕ) → IsRefused file0 file1 → FileDecides file0 f0 f1 2
-decided_refused file0 file1 f0 f1 refused = record {
-  opens = λ bytes o told is two. not_refused file0 file1 bytes o refused told is;
-  refuses = λ bytes told none steady. inl refl;
-}
-
-pub decided_unread : (file0 : Option (List ℕ)) (f0 f1 : ℕ) → Rose f0 f1 → FileDecides file0 f0 f1 3
-decided_unread file0 f0 f1 rose = record {
-  opens = λ bytes o told is e. omega (arith, e);
-  refuses = λ bytes told none steady. absurd (still f0 f1 steady rose);
-}
-
-pub decided_memory : (file0 : Option (List ℕ)) (f0 f1 : ℕ) → FileDecides file0 f0 f1 6
-decided_memory file0 f0 f1 = record {
-  opens = λ bytes o told is e. omega (arith, e);
-  refuses = λ bytes told none steady. inr refl;
 }
 
 -- ---- the connection, with what the file means
