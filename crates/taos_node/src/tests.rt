@@ -5,8 +5,9 @@ use std::sync::Wait;
 use std::test::Fail;
 use std::thread::Threads;
 
-// Bytes are written in hexadecimal digits. The fields are those of the formats, laid out by hand; the
-// tags are those that `hmac` and `hashlib` of Python make of them, under the key of 32 bytes n for channel n.
+// Bytes are written in hexadecimal digits. The fields are those of the formats, laid out by hand;
+// the tags are those that `hmac` and `hashlib` of Python make of them, where the key of channel n is
+// 32 bytes of n.
 
 // Channel 1 reads object 5, as its request 1.
 const BY_ONE: [&str; 2] = [
@@ -94,7 +95,10 @@ fn node_file(alloc: Global, list: &str) -> Result<Vec<u8>, AllocError> {
         bytes.extend_from_slice(&[number; 32])?;
     }
     spell(&mut bytes, "05 00000001 0000000a 00000003 0000001e")?;
-    spell(&mut bytes, "0000000b 00000014 0000000d 0000001e 00000010 00000015")?;
+    spell(
+        &mut bytes,
+        "0000000b 00000014 0000000d 0000001e 00000010 00000015",
+    )?;
     spell(&mut bytes, "00 0001 00000005 0005 68656c6c6f")?;
     spell(&mut bytes, list)?;
     Ok(bytes)
@@ -111,11 +115,7 @@ struct Outside {
 }
 
 fn source_of(alloc: Global, bytes: &[u8], fails: &[u64]) -> Result<MemSource, AllocError> {
-    Ok(MemSource::new(
-        bytes.to_vec(alloc)?,
-        Vec::new(alloc),
-        fails.to_vec(alloc)?,
-    ))
+    Ok(MemSource::new(bytes.to_vec(alloc)?, Vec::new(alloc), fails.to_vec(alloc)?))
 }
 
 fn sink_of(alloc: Global, fails: &[u64]) -> Result<MemSink, AllocError> {
@@ -287,11 +287,18 @@ fn no_other_words_run(rt: HostRuntime) -> Result<(), Fail> {
 
 #[test]
 fn a_file_that_opens_no_node_is_refused(rt: HostRuntime) -> Result<(), Fail> {
-    let mut file = small_file(rt.alloc())?;
-    file.push(0)?;
-    for bytes in [&file[..0], &file[..63], file.as_slice()] {
+    let mut shorter = small_file(rt.alloc())?;
+    shorter.pop();
+    let mut longer = small_file(rt.alloc())?;
+    longer.push(0)?;
+    let files: [&[u8]; 3] = [&[], shorter.as_slice(), longer.as_slice()];
+    for bytes in files {
         let mut around = around_of(rt.alloc(), bytes, &[])?;
-        assert_eq!(rt; call(&rt, rt.alloc(), &["run"], &mut around)?, 2, "{bytes:?}");
+        assert_eq!(rt;
+            call(&rt, rt.alloc(), &["run"], &mut around)?,
+            2,
+            "{bytes:?}"
+        );
     }
     Ok(())
 }
@@ -304,7 +311,11 @@ fn what_stands_behind_the_whole_frames_has_its_status(rt: HostRuntime) -> Result
         let mut input = spelled(rt.alloc(), &BY_ONE)?;
         spell(&mut input, tail)?;
         let mut around = around_of(rt.alloc(), &file, &input)?;
-        assert_eq!(rt; call(&rt, rt.alloc(), &["run"], &mut around)?, status, "{tail}");
+        assert_eq!(rt;
+            call(&rt, rt.alloc(), &["run"], &mut around)?,
+            status,
+            "{tail}"
+        );
         assert_eq!(rt; around.output.written(), wanted.as_slice(), "{tail}");
     }
     Ok(())
@@ -354,7 +365,11 @@ fn each_read_may_fail(rt: HostRuntime) -> Result<(), Fail> {
     ] {
         let mut around = around_of(rt.alloc(), &file, &input)?;
         around.input = source_of(rt.alloc(), &input, &[at])?;
-        assert_eq!(rt; call(&rt, rt.alloc(), &["run"], &mut around)?, status, "call {at}");
+        assert_eq!(rt;
+            call(&rt, rt.alloc(), &["run"], &mut around)?,
+            status,
+            "call {at}"
+        );
         let written = around.output.written();
         assert_eq!(rt; written.len(), len, "call {at}");
         assert!(rt; wanted.starts_with(written), "call {at}");
@@ -364,7 +379,11 @@ fn each_read_may_fail(rt: HostRuntime) -> Result<(), Fail> {
     for at in 0..2 {
         let mut around = around_of(rt.alloc(), &file, &input)?;
         around.file = source_of(rt.alloc(), &file, &[at])?;
-        assert_eq!(rt; call(&rt, rt.alloc(), &["run"], &mut around)?, 3, "call {at}");
+        assert_eq!(rt;
+            call(&rt, rt.alloc(), &["run"], &mut around)?,
+            3,
+            "call {at}"
+        );
         assert!(rt; around.output.written().is_empty(), "call {at}");
         assert_eq!(rt; around.file.faults(), 1, "call {at}");
     }
@@ -378,7 +397,11 @@ fn each_write_may_fail(rt: HostRuntime) -> Result<(), Fail> {
     for (at, status, len) in [(0, 4, 0), (1, 4, 99), (2, 4, 162), (3, 0, 212)] {
         let mut around = around_of(rt.alloc(), &file, &input)?;
         around.output = sink_of(rt.alloc(), &[at])?;
-        assert_eq!(rt; call(&rt, rt.alloc(), &["run"], &mut around)?, status, "call {at}");
+        assert_eq!(rt;
+            call(&rt, rt.alloc(), &["run"], &mut around)?,
+            status,
+            "call {at}"
+        );
         let written = around.output.written();
         assert_eq!(rt; written.len(), len, "call {at}");
         assert!(rt; wanted.starts_with(written), "call {at}");
@@ -410,7 +433,11 @@ fn each_reading_may_fail(rt: HostRuntime) -> Result<(), Fail> {
         let mut around = around_of(rt.alloc(), &file, &input)?;
         let clock = clock_of(rt.alloc(), &[at])?;
         around.lanes = [Lane::of(clock, NoRelay::new(), ClosedDoor::new())];
-        assert_eq!(rt; call(&rt, rt.alloc(), &["run"], &mut around)?, status, "call {at}");
+        assert_eq!(rt;
+            call(&rt, rt.alloc(), &["run"], &mut around)?,
+            status,
+            "call {at}"
+        );
         let written = around.output.written();
         assert_eq!(rt; written.len(), len, "call {at}");
         assert!(rt; wanted.starts_with(written), "call {at}");
@@ -424,15 +451,21 @@ fn each_reading_may_fail(rt: HostRuntime) -> Result<(), Fail> {
 fn frames_behind_the_last_are_not_answered(rt: HostRuntime) -> Result<(), Fail> {
     let alloc = rt.alloc();
     let node = read_opening(alloc, &node_file(alloc, FOR_ALICE)?)?;
-    let (all, wanted) = three(alloc)?;
-    let cases = [(0, Outcome::End { frames: 0 }), (56, Outcome::End { frames: 1 }), (57, Outcome::Spent { frames: 1 })];
-    for (len, outcome) in cases {
-        let mut input = source_of(alloc, &all[..len], &[])?;
+    let wanted = spelled(alloc, &GRANT)?;
+    let once = spelled(alloc, &BY_ONE)?;
+    let mut twice = spelled(alloc, &BY_ONE)?;
+    twice.append(&mut spelled(alloc, &BY_ONE)?)?;
+    let cases: [(&[u8], Outcome); 2] = [
+        (once.as_slice(), Outcome::End { frames: 1 }),
+        (twice.as_slice(), Outcome::Spent { frames: 1 }),
+    ];
+    for (bytes, outcome) in cases {
+        let mut input = source_of(alloc, bytes, &[])?;
         let mut output = sink_of(alloc, &[])?;
         let mut clock = clock_of(alloc, &[])?;
         let ended = serve_connection(alloc, &node, 1, &mut input, &mut output, &mut clock);
-        assert_eq!(rt; ended, outcome, "{len} bytes");
-        assert!(rt; wanted.starts_with(output.written()), "{len} bytes");
+        assert_eq!(rt; ended, outcome);
+        assert_eq!(rt; output.written(), wanted.as_slice(), "{outcome:?}");
     }
     Ok(())
 }
@@ -446,7 +479,11 @@ fn a_million_frames_are_answered_and_no_more(rt: HostRuntime) -> Result<(), Fail
         let zeros = vec![in alloc; 0; len]?;
         around.input = MemSource::new(zeros, Vec::new(alloc), Vec::new(alloc));
         around.output = MemSink::new(alloc, 60_000_000, Vec::new(alloc))?;
-        assert_eq!(rt; call(&rt, rt.alloc(), &["run"], &mut around)?, status, "{len} bytes");
+        assert_eq!(rt;
+            call(&rt, rt.alloc(), &["run"], &mut around)?,
+            status,
+            "{len} bytes"
+        );
         assert_eq!(rt; around.output.written().len(), 50_000_000, "{len} bytes");
     }
     Ok(())
