@@ -10,8 +10,8 @@ use Rattle.taos_node.specs.declared.opening.Opening as code
 use Rattle.taos_node.specs.Opening.{Opening, Spells}
 use Rattle.taos_node.specs.OpeningView.{Represents}
 use Rattle.taos_node.specs.Meaning.{opening}
-use Rattle.taos_node.specs.Run.{IsConnection, StandsStill, IsComplete}
-use Rattle.taos_node.specs.Command.{IsOpeningFile, Opens, IsRefused, Runs, served, FileDecides, EndsWell, status_of, max_file, max_frames}
+use Rattle.taos_node.specs.Run.{IsConnection, StandsStill, IsComplete, HasCauses}
+use Rattle.taos_node.specs.Command.{IsOpeningFile, Opens, IsRefused, Runs, served, FileDecides, EndsWell, TellsFaults, status_of, max_file, max_frames}
 use Rattle.taos_node.proofs.Complete.{left_behind, all_taken, still}
 use Rattle.taos_node.proofs.SameNodes.{same_node, connection_at}
 
@@ -20,7 +20,7 @@ pub not_refused : (file0 file1 : Option (List ℕ)) (bytes : List ℕ) (o : Open
 not_refused file0 file1 bytes o refused told is =
     let took : Consumes (Some bytes) file1 refused.bytes = subst (λ (f : Option (List ℕ)). Consumes f file1 refused.bytes) told refused.read in
     elim refused.why [
-      inl w ↦ w.1 o (subst (Spells o) (all_taken bytes refused.bytes file1 took w.0) is.0)
+      | inl w ↦ w.1 o (subst (Spells o) (all_taken bytes refused.bytes file1 took w.0) is.0)
       | inr long ↦ let behind = left_behind bytes refused.bytes file1 took in absurd (omega (arith, long, is.1, ap length behind.2, length-append refused.bytes behind.0))
     ]
 
@@ -40,40 +40,12 @@ not_two ClockFault = λ e. omega (arith, e)
 not_two (Spent n) = λ e. omega (arith, e)
 not_two NoMemory = λ e. omega (arith, e)
 
-pub not_one : (outcome : Outcome) → status_of outcome ≢ 1
-not_one (End n) = λ e. omega (arith, e)
-not_one (Truncated n) = λ e. omega (arith, e)
-not_one (TooLong n) = λ e. omega (arith, e)
-not_one ReadFault = λ e. omega (arith, e)
-not_one WriteFault = λ e. omega (arith, e)
-not_one ClockFault = λ e. omega (arith, e)
-not_one (Spent n) = λ e. omega (arith, e)
-not_one NoMemory = λ e. omega (arith, e)
-
 -- ---- what the file decides, by what came of it
 
 pub decided_opened : (file0 file1 : Option (List ℕ)) (f0 f1 : ℕ) (o : Opening) (outcome : Outcome) → Opens file0 file1 o → FileDecides file0 f0 f1 (status_of outcome)
 decided_opened file0 file1 f0 f1 o outcome opened = record {
   opens = λ bytes p told is. not_two outcome;
   refuses = λ bytes told none steady. absurd (none o (is_opened file0 file1 bytes o opened told));
-}
-
-pub decided_refused : (file0 file1 : Option (List ℕ)) (f0 f1 : ℕ) → IsRefused file0 file1 → FileDecides file0 f0 f1 2
-decided_refused file0 file1 f0 f1 refused = record {
-  opens = λ bytes o told is two. not_refused file0 file1 bytes o refused told is;
-  refuses = λ bytes told none steady. inl refl;
-}
-
-pub decided_unread : (file0 : Option (List ℕ)) (f0 f1 : ℕ) → Rose f0 f1 → FileDecides file0 f0 f1 3
-decided_unread file0 f0 f1 rose = record {
-  opens = λ bytes o told is e. omega (arith, e);
-  refuses = λ bytes told none steady. absurd (still f0 f1 steady rose);
-}
-
-pub decided_memory : (file0 : Option (List ℕ)) (f0 f1 : ℕ) → FileDecides file0 f0 f1 6
-decided_memory file0 f0 f1 = record {
-  opens = λ bytes o told is e. omega (arith, e);
-  refuses = λ bytes told none steady. inr refl;
 }
 
 -- ---- the connection, with what the file means
@@ -86,9 +58,32 @@ is_served file0 file1 in0 in1 out0 out1 clock0 clock1 node o outcome opened r c 
 pub ends_well : (file0 in0 : Option (List ℕ)) (f0 f1 i0 i1 o0 o1 c0 c1 : ℕ) (outcome : Outcome) → IsComplete max_frames in0 i0 i1 o0 o1 c0 c1 outcome → EndsWell file0 f0 f1 in0 i0 i1 o0 o1 c0 c1 (status_of outcome)
 ends_well file0 in0 f0 f1 i0 i1 o0 o1 c0 c1 outcome complete bytes o told is frames whole within few sf si so sc =
     elim (complete frames whole within few si so sc) [
-      inl ended ↦ inl (ap status_of ended)
+      | inl ended ↦ inl (ap status_of ended)
       | inr want ↦ inr (ap status_of want)
     ]
 
 pub file_opens : (file0 file1 : Option (List ℕ)) (bytes : List ℕ) (o : Opening) → Consumes file0 file1 bytes → IsAtEnd file1 → Spells o bytes → length bytes ≤ max_file → Opens file0 file1 o
 file_opens file0 file1 bytes o read at_end spelled short = record { bytes = bytes; read = read; at_end = at_end; is_opening = (spelled, short) }
+
+-- ---- the faults
+
+stayed : {P : Type 0} (a b : ℕ) → b ≡ a → a < b → P
+stayed a b same rose = absurd (omega (arith, same, rose))
+
+pub told : (f0 f1 i0 i1 o0 o1 c0 c1 : ℕ) (outcome : Outcome) → f1 ≡ f0 → HasCauses i0 i1 o0 o1 c0 c1 outcome → TellsFaults f0 f1 i0 i1 o0 o1 c0 c1 (status_of outcome)
+told f0 f1 i0 i1 o0 o1 c0 c1 ReadFault same h =
+    record { file = stayed f0 f1 same; input = λ _. refl; output = stayed o0 o1 h.2; clock = stayed c0 c1 h.3 }
+told f0 f1 i0 i1 o0 o1 c0 c1 WriteFault same h =
+    record { file = stayed f0 f1 same; input = stayed i0 i1 h.0; output = λ _. refl; clock = stayed c0 c1 h.3 }
+told f0 f1 i0 i1 o0 o1 c0 c1 ClockFault same h =
+    record { file = stayed f0 f1 same; input = stayed i0 i1 h.0; output = stayed o0 o1 h.1; clock = λ _. refl }
+told f0 f1 i0 i1 o0 o1 c0 c1 (End n) same h =
+    record { file = stayed f0 f1 same; input = stayed i0 i1 h.0; output = stayed o0 o1 h.1; clock = stayed c0 c1 h.2 }
+told f0 f1 i0 i1 o0 o1 c0 c1 (Truncated n) same h =
+    record { file = stayed f0 f1 same; input = stayed i0 i1 h.0; output = stayed o0 o1 h.1; clock = stayed c0 c1 h.2 }
+told f0 f1 i0 i1 o0 o1 c0 c1 (TooLong n) same h =
+    record { file = stayed f0 f1 same; input = stayed i0 i1 h.0; output = stayed o0 o1 h.1; clock = stayed c0 c1 h.2 }
+told f0 f1 i0 i1 o0 o1 c0 c1 (Spent n) same h =
+    record { file = stayed f0 f1 same; input = stayed i0 i1 h.0; output = stayed o0 o1 h.1; clock = stayed c0 c1 h.2 }
+told f0 f1 i0 i1 o0 o1 c0 c1 NoMemory same h =
+    record { file = stayed f0 f1 same; input = stayed i0 i1 h.0; output = stayed o0 o1 h.1; clock = stayed c0 c1 h.2 }

@@ -81,7 +81,7 @@ unclocked o limit in0 in1 out0 out1 clock0 clock1 e =
     let p = e.progress in
     let frames : List (List ℕ) = frames_of p.turns ++ e.payload ∷ [] in
     let whole : Consumes in0 in1 (framed frames) =
-        subst (Consumes in0 in1) (sym (framed_on (frames_of p.turns) e.payload)) (Consumes-trans in0 e.middle in1 (framed (frames_of p.turns)) (frame e.payload) p.taken e.frame.1) in
+    subst (Consumes in0 in1) (sym (framed_on (frames_of p.turns) e.payload)) (Consumes-trans in0 e.middle in1 (framed (frames_of p.turns)) (frame e.payload) p.taken e.frame.1) in
     record {
       taken = framed frames ++ [];
       frames = frames;

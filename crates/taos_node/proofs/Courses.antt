@@ -44,7 +44,7 @@ is_granted anchors r key object place step who lines bytes plain first is made t
     let g = first.0 in
     let entry = first.1 in
     elim told [
-      inl sent ↦ grants place g lines
+      | inl sent ↦ grants place g lines
           (record {
             stands = entry.stands;
             has_right = entry.has_right;
@@ -52,7 +52,7 @@ is_granted anchors r key object place step who lines bytes plain first is made t
             first = λ k e lt stands right speaks. entry.first k e lt stands right ((is_decided anchors r object plain k e stands).0 speaks);
           })
           (subst (λ (ls : List Line). Proves anchors [] ls (SpeaksFor (Key r.channel) g.who)) (sym (made ∙ ap (λ (p : Principal). line (SpeaksFor (Key r.channel) p) step ∷ []) (sym is)))
-              (proves_atom anchors r.channel g.who step first.2))
+          (proves_atom anchors r.channel g.who step first.2))
           sent short
       | inr sent ↦ lacks_memory sent short
     ]

@@ -46,17 +46,16 @@ anchored_by anchors key w _ gives = absurd gives
 -- the first that is for the key
 pub is_first : (anchors : List Anchor) (key : ℕ) (list : List Entry) (place : ℕ) (e : Entry) (step : Step) → place < length list → e ≡ slice_index_or list place e → (bit_and e.rights 1 ≡ 0 → ⊥) →
     GivesAtom anchors key (principal e.who) step → ((k : ℕ) → k < place → IsNotFor anchors key (map grant list) k) → IsFirst anchors key (map grant list) place step
-is_first anchors key list place e step within is has gives before =
-    (
-      grant e,
-      record {
-        stands = stands_at list place e within is;
-        has_right = has;
-        holds = anchored_by anchors key (principal e.who) step gives;
-        first = λ k h lt stands right anchored. before k lt h stands right anchored;
-      },
-      gives,
-    )
+is_first anchors key list place e step within is has gives before = (
+  grant e,
+  record {
+    stands = stands_at list place e within is;
+    has_right = has;
+    holds = anchored_by anchors key (principal e.who) step gives;
+    first = λ k h lt stands right anchored. before k lt h stands right anchored;
+  },
+  gives,
+)
 
 pub names_atom : (anchors : List Anchor) (key : ℕ) (w : Principal) (step : Step) → GivesAtom anchors key w step → NamesAtom key w step
 names_atom anchors key w Step.Same gives = gives

@@ -21,8 +21,8 @@ unfolding text
 granted_is key r entry lines content proof first v1 v2 v3 v4 v5 tag len n p l m f a b c d t e =
     let counts : List ℕ = 0 ∷ to_be_bytes w16 n in
     let made : v4 ≡ text r entry content proof len n =
-        d ∙ ap (λ (x : List ℕ). x ++ content) (c ∙ ap (λ (x : List ℕ). x ++ counts) (b ∙ ap (λ (x : List ℕ). x ++ proof) (a ∙ f))) in
+    d ∙ ap (λ (x : List ℕ). x ++ content) (c ∙ ap (λ (x : List ℕ). x ++ counts) (b ∙ ap (λ (x : List ℕ). x ++ proof) (a ∙ f))) in
     let spelled : v4 ≡ text r entry content (proof_spelling lines) (length (proof_spelling lines)) (length content) =
-        made ∙ ap (λ (x : ℕ). text r entry content proof len x) m ∙ ap (λ (x : ℕ). text r entry content proof x (length content)) (l ∙ ap length p)
-        ∙ ap (λ (x : List ℕ). text r entry content x (length (proof_spelling lines)) (length content)) p in
+    made ∙ ap (λ (x : ℕ). text r entry content proof len x) m ∙ ap (λ (x : ℕ). text r entry content proof x (length content)) (l ∙ ap length p)
+    ∙ ap (λ (x : List ℕ). text r entry content x (length (proof_spelling lines)) (length content)) p in
     e ∙ ap (λ (x : List ℕ). v4 ++ x) t ∙ ap (λ (x : List ℕ). x ++ tag_of key x) spelled

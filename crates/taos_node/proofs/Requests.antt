@@ -40,8 +40,8 @@ pub is_other : (r : Request) (payload tag text : List ℕ) (channel seq object :
     text ≡ request_text (numbers channel seq object) → same ≡ pointwise nat_eq (take 20 payload) text → same ≡ false → ⊥
 is_other r payload tag text channel seq object same fits is c s o made eq differs =
     let read : numbers channel seq object ≡ r =
-        ap (λ (n : ℕ). numbers n seq object) c ∙ ap (λ (n : ℕ). numbers (from_be_bytes w32 (take 4 (drop 1 payload))) n object) s
-        ∙ ap (λ (n : ℕ). numbers (from_be_bytes w32 (take 4 (drop 1 payload))) (from_be_bytes w64 (take 8 (drop 5 payload))) n) o ∙ reads_back r payload tag fits is in
+    ap (λ (n : ℕ). numbers n seq object) c ∙ ap (λ (n : ℕ). numbers (from_be_bytes w32 (take 4 (drop 1 payload))) n object) s
+    ∙ ap (λ (n : ℕ). numbers (from_be_bytes w32 (take 4 (drop 1 payload))) (from_be_bytes w64 (take 8 (drop 5 payload))) n) o ∙ reads_back r payload tag fits is in
     let alike : take 20 payload ≡ text = text_in_front r payload tag is ∙ ap request_text (sym read) ∙ sym made in
     let told = slice_eq-Decides Decides-eqb (take 20 payload) text same eq in
     let clash : true ≡ false = sym (told.1 alike) ∙ differs in

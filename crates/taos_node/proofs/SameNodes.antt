@@ -1,6 +1,6 @@
 -- Two openings in which each look-up finds the same have the same courses.
-use Rattle.std.proofs.Common.{◌≡◌, ◌≤◌, ◌<◌, ℕ, List, [], ◌∷◌, length, map, None, Some, true, false, Bool, cond, refl, sym, ap, subst, ◌∙◌}
-use Rattle.std.specs.Prelude.{Option, All, find, slice_index_or}
+use Rattle.std.proofs.Common.{◌≡◌, ◌≤◌, ◌<◌, ℕ, List, [], ◌∷◌, length, map, None, Some, Result, Ok, Err, true, false, Bool, cond, refl, sym, ap, subst, ◌∙◌}
+use Rattle.std.specs.Prelude.{Option, All, IfOk, find, slice_index_or}
 use Rattle.std.proofs.lemmas.List.Elements.{All-head, All-tail}
 use Rattle.std.proofs.lemmas.Option.{none-some, same_Some}
 use Rattle.prin_term.specs.declared.term.Anchor.{Anchor}
@@ -10,7 +10,8 @@ use Rattle.frame_link.specs.declared.outcome.Outcome.TheVariants.{End, Truncated
 use Rattle.taos_calculus.specs.Rules.{Line, SpeaksFor, Proves}
 use Rattle.taos_calculus.specs.Monitor.{FirstEntry, Grants, MaySpeak}
 use Rattle.taos_node.specs.declared.opening.Opening as code
-use Rattle.taos_node.specs.Opening.{Opening, ObjectPlan, plan_of, IsPlain, IsPlainObject}
+use Rattle.taos_node.specs.declared.opening.OpeningFault.{OpeningFault}
+use Rattle.taos_node.specs.Opening.{Opening, ObjectPlan, Spells, plan_of, IsPlain, IsPlainObject}
 use Rattle.taos_node.specs.OpeningView.{Represents}
 use Rattle.taos_node.specs.Messages.{Request, Sent, subject_of}
 use Rattle.taos_node.specs.Meaning.{opening, IsServable, SameNode}
@@ -39,6 +40,11 @@ is_servable node o r plain = record {
   few_anchors = subst (λ (l : List Anchor). length l ≤ 64) (sym r.anchors) plain.few_anchors;
   objects = λ n p is. found_all IsPlainObject _ o.objects p plain.objects (sym ((same_node node o r).objects n) ∙ is);
 }
+
+pub are_servable : (bytes : List ℕ) (r : Result code.Opening OpeningFault) → IfOk r (λ x. (o : Opening) × Spells o bytes × Represents x o)
+    → IfOk r (λ x. IsServable (opening x))
+are_servable bytes (Ok x) found = is_servable x found.0 found.2 found.1.0
+are_servable bytes (Err e) found = tt
 
 flipped : (a b : Opening) → SameNode a b → SameNode b a
 flipped a b same = record { channels = λ n. sym (same.channels n); anchors = sym same.anchors; objects = λ n. sym (same.objects n) }

@@ -4,6 +4,7 @@
 --     Runs ..      what `run` does, by the status
 --     FileDecides ..      which files are refused
 --     EndsWell ..      an input of whole frames is answered to its end
+--     TellsFaults ..      a fault is not passed over
 use Rattle.std.specs.Prelude.{◌≡◌, ◌≢◌, ◌⊎◌, ℕ, ◌<◌, ◌≤◌, List, [], ◌∷◌, length, All, Option, Some, None, Result, Ok, Err, codes, string_bytes, String}
 use Rattle.std.specs.Io.KnownBytes.{Keeps, Consumes, IsAtEnd}
 use Rattle.std.specs.declared.alloc.Global.{Global}
@@ -90,6 +91,13 @@ EndsWell file0 f0 f1 in0 i0 i1 o0 o1 c0 c1 status =
     (bytes : List ℕ) (o : Opening) → file0 ≡ Some bytes → IsOpeningFile o bytes →
     (frames : List (List ℕ)) → in0 ≡ Some (framed frames) → All (λ p. length p ≤ max_request) frames → length frames ≤ max_frames →
     StandsStill f0 f1 → StandsStill i0 i1 → StandsStill o0 o1 → StandsStill c0 c1 → (status ≡ 0) ⊎ (status ≡ 6)
+
+-- a count that rose is answered, by its status
+pub record TellsFaults (file0 file1 in0 in1 out0 out1 clock0 clock1 status : ℕ) : Type 0 where
+  pub file : file0 < file1 → status ≡ 3
+  pub input : in0 < in1 → status ≡ 3
+  pub output : out0 < out1 → status ≡ 4
+  pub clock : clock0 < clock1 → status ≡ 5
 
 -- what comes of reading a file
 abbrev pub FileGives : Option (List ℕ) → Option (List ℕ) → Result code.Opening FileFault → Type 0

@@ -30,7 +30,8 @@ fn arrival_of<'a>(
     payload: &[u8],
 ) -> Option<(Request, &'a Sealer, &'a ObjectPlan)>
     ensures none { IfNone result (Arrival (opening node.now) payload.now → ⊥) }
-    ensures some { IfSome result (λ x. HasArrived (opening node.now) payload.now (request x.0) x.1.now (object x.0.object x.2.now)) }
+    ensures some { IfSome result (λ x. HasArrived (opening node.now) payload.now
+        (request x.0) x.1.now (object x.0.object x.2.now)) }
 {
     let asked = request_of(payload)?;
     let sealer = node.channels.sealer(asked.channel)?;
@@ -50,7 +51,8 @@ pub fn answer<C: Clock>(
     out: &mut ReplyBuf,
 ) -> Handled
     requires { IsServable (opening node.now) }
-    ensures steps { Answers (opening node.now) payload.now (C.readings clock.old) (C.readings clock.new) out.new result }
+    ensures steps { Answers (opening node.now) payload.now
+        (C.readings clock.old) (C.readings clock.new) out.new result }
     ensures cause { AnswersCause (C.faults clock.old) (C.faults clock.new) result }
 {
     let Some((asked, sealer, plan)) = arrival_of(node, payload) else {
@@ -75,7 +77,8 @@ fn rule(
 )
     requires few_anchors { length node.now.anchors.items ≤ 64 }
     requires plain { IsPlainObject (object asked.object plan.now) }
-    ensures { IsRuled node.now.anchors.items (request asked) sealer.now (object asked.object plan.now) out.new }
+    ensures { IsRuled node.now.anchors.items (request asked) sealer.now
+        (object asked.object plan.now) out.new }
 {
     let Some((entry, step)) = first_reader(&node.anchors, asked.channel, &plan.list) else {
         out.leave_denied(sealer, asked);

@@ -4,7 +4,7 @@ ghost use Rattle.std.specs.Prelude.{◌≡◌, ◌⊎◌, ◌↔◌, ◌<◌, �
 ghost use Rattle.frame_link.specs.Faults.{Rose};
 ghost use Rattle.taos_node.specs.Meaning.{opening, IsServable};
 ghost use Rattle.taos_node.specs.Run.{IsConnection, HasCauses, IsComplete};
-ghost use Rattle.taos_node.specs.Command.{IsRun, Runs, FileGives, FileHasCause, FileDecides, EndsWell, status_of, told_by_first, faults_of_first};
+ghost use Rattle.taos_node.specs.Command.{IsRun, Runs, FileGives, FileHasCause, FileDecides, EndsWell, TellsFaults, status_of, told_by_first, faults_of_first};
 
 use crate::connection::serve_connection;
 use crate::opening::{Opening, OpeningFault, read_opening};
@@ -135,11 +135,14 @@ fn serve<I: Source, O: Sink, C: Clock, R: RelayLink, D: Door>(
 ) -> Outcome
     requires some { 0 < length lanes.old }
     requires node { IsServable (opening node.now) }
-    ensures connection { IsConnection (opening node.now) MAX_FRAMES (I.left input.old) (I.left input.new) (O.written output.old) (O.written output.new)
+    ensures connection { IsConnection (opening node.now) MAX_FRAMES
+        (I.left input.old) (I.left input.new) (O.written output.old) (O.written output.new)
         (told_by_first C.readings lanes.old) (told_by_first C.readings lanes.new) result }
-    ensures causes { HasCauses (I.faults input.old) (I.faults input.new) (O.faults output.old) (O.faults output.new)
+    ensures causes { HasCauses (I.faults input.old) (I.faults input.new)
+        (O.faults output.old) (O.faults output.new)
         (faults_of_first C.faults lanes.old) (faults_of_first C.faults lanes.new) result }
-    ensures complete { IsComplete MAX_FRAMES (I.left input.old) (I.faults input.old) (I.faults input.new) (O.faults output.old) (O.faults output.new)
+    ensures complete { IsComplete MAX_FRAMES (I.left input.old)
+        (I.faults input.old) (I.faults input.new) (O.faults output.old) (O.faults output.new)
         (faults_of_first C.faults lanes.old) (faults_of_first C.faults lanes.new) result }
 {
     let lane = &mut lanes[0];
@@ -173,19 +176,29 @@ pub fn taos<
 
     // The words decide status 1, and the file status 2.
     ensures usage { (result ≡ 1) ↔ ¬ (IsRun words.now) }
-    ensures file { IsRun words.now → FileDecides (F.left file.old) (F.faults file.old) (F.faults file.new) result }
+    ensures file { IsRun words.now → FileDecides (F.left file.old)
+        (F.faults file.old) (F.faults file.new) result }
 
     // Every whole frame has its course, and the bytes that are written are the replies.
-    ensures run { IsRun words.now → Runs (F.left file.old) (F.left file.new) (I.left input.old) (I.left input.new)
-        (O.written output.old) (O.written output.new) (told_by_first C.readings lanes.old) (told_by_first C.readings lanes.new) result }
-    ensures complete { IsRun words.now → EndsWell (F.left file.old) (F.faults file.old) (F.faults file.new)
-        (I.left input.old) (I.faults input.old) (I.faults input.new) (O.faults output.old) (O.faults output.new)
+    ensures run { IsRun words.now → Runs (F.left file.old) (F.left file.new)
+        (I.left input.old) (I.left input.new) (O.written output.old) (O.written output.new)
+        (told_by_first C.readings lanes.old) (told_by_first C.readings lanes.new) result }
+    ensures complete { IsRun words.now → EndsWell (F.left file.old)
+        (F.faults file.old) (F.faults file.new) (I.left input.old)
+        (I.faults input.old) (I.faults input.new) (O.faults output.old) (O.faults output.new)
         (faults_of_first C.faults lanes.old) (faults_of_first C.faults lanes.new) result }
 
     // A fault is answered only where its count rose.
-    ensures read_fault { result ≡ 3 → Rose (F.faults file.old) (F.faults file.new) ⊎ Rose (I.faults input.old) (I.faults input.new) }
+    ensures read_fault { result ≡ 3 → Rose (F.faults file.old) (F.faults file.new)
+        ⊎ Rose (I.faults input.old) (I.faults input.new) }
     ensures write_fault { result ≡ 4 → Rose (O.faults output.old) (O.faults output.new) }
-    ensures clock_fault { result ≡ 5 → Rose (faults_of_first C.faults lanes.old) (faults_of_first C.faults lanes.new) }
+    ensures clock_fault { result ≡ 5 → Rose
+        (faults_of_first C.faults lanes.old) (faults_of_first C.faults lanes.new) }
+
+    // And where it rose, its fault is answered.
+    ensures told { TellsFaults (F.faults file.old) (F.faults file.new)
+        (I.faults input.old) (I.faults input.new) (O.faults output.old) (O.faults output.new)
+        (faults_of_first C.faults lanes.old) (faults_of_first C.faults lanes.new) result }
 
     // No notes are written yet.
     ensures silent { notes.new ≡ notes.old }

@@ -34,8 +34,11 @@ fn turn<O: Sink, C: Clock>(
     clock: &mut C,
 ) -> Turned
     requires { IsServable (opening node.now) }
-    ensures steps { Turns (opening node.now) payload.now (O.written output.old) (O.written output.new) (C.readings clock.old) (C.readings clock.new) result }
-    ensures cause { TurnsCause (O.faults output.old) (O.faults output.new) (C.faults clock.old) (C.faults clock.new) result }
+    ensures steps { Turns (opening node.now) payload.now
+        (O.written output.old) (O.written output.new) (C.readings clock.old) (C.readings clock.new)
+        result }
+    ensures cause { TurnsCause (O.faults output.old) (O.faults output.new)
+        (C.faults clock.old) (C.faults clock.new) result }
 {
     match answer(alloc, node, payload, clock, reply) {
         Handled::ClockFault => Turned::ClockFault,
@@ -63,8 +66,12 @@ fn serve_frames<I: Source, O: Sink, C: Clock>(
     clock: &mut C,
 ) -> Outcome
     requires { IsServable (opening node.now) }
-    ensures served { Serves (opening node.now) frames (I.left input.old) (I.left input.new) (O.written output.old) (O.written output.new) (C.readings clock.old) (C.readings clock.new) result }
-    ensures causes { HasCauses (I.faults input.old) (I.faults input.new) (O.faults output.old) (O.faults output.new) (C.faults clock.old) (C.faults clock.new) result }
+    ensures served { Serves (opening node.now) frames (I.left input.old) (I.left input.new)
+        (O.written output.old) (O.written output.new) (C.readings clock.old) (C.readings clock.new)
+        result }
+    ensures causes { HasCauses (I.faults input.old) (I.faults input.new)
+        (O.faults output.old) (O.faults output.new) (C.faults clock.old) (C.faults clock.new)
+        result }
 {
     let Ok((mut buf, mut reply)) = room_of(alloc) else {
         return Outcome::NoMemory;
@@ -102,9 +109,15 @@ pub fn serve_connection<I: Source, O: Sink, C: Clock>(
     clock: &mut C,
 ) -> Outcome
     requires { IsServable (opening node.now) }
-    ensures connection { IsConnection (opening node.now) frames (I.left input.old) (I.left input.new) (O.written output.old) (O.written output.new) (C.readings clock.old) (C.readings clock.new) result }
-    ensures causes { HasCauses (I.faults input.old) (I.faults input.new) (O.faults output.old) (O.faults output.new) (C.faults clock.old) (C.faults clock.new) result }
-    ensures complete { IsComplete frames (I.left input.old) (I.faults input.old) (I.faults input.new) (O.faults output.old) (O.faults output.new) (C.faults clock.old) (C.faults clock.new) result }
+    ensures connection { IsConnection (opening node.now) frames
+        (I.left input.old) (I.left input.new) (O.written output.old) (O.written output.new)
+        (C.readings clock.old) (C.readings clock.new) result }
+    ensures causes { HasCauses (I.faults input.old) (I.faults input.new)
+        (O.faults output.old) (O.faults output.new) (C.faults clock.old) (C.faults clock.new)
+        result }
+    ensures complete { IsComplete frames (I.left input.old)
+        (I.faults input.old) (I.faults input.new) (O.faults output.old) (O.faults output.new)
+        (C.faults clock.old) (C.faults clock.new) result }
 {
     serve_frames(alloc, node, frames, input, output, clock)
 }

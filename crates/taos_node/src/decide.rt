@@ -49,7 +49,8 @@ fn step_to(anchors: &[Anchor], key: u32, who: &Term) -> Option<Step>
     }
 }
 
-/// The first entry with the right to read for whose principal the key speaks, and the step that says so.
+/// The first entry with the right to read for whose principal the key speaks, and the step that
+/// says so.
 pub fn first_reader(anchors: &[Anchor], key: u32, list: &[Entry]) -> Option<(u8, Step)>
     requires few_anchors { length anchors.now ≤ 64 }
     requires few_entries { length list.now ≤ 8 }
@@ -71,7 +72,8 @@ pub fn first_reader(anchors: &[Anchor], key: u32, list: &[Entry]) -> Option<(u8,
 /// The proof of one line that a key speaks for a key or a name.
 pub fn proof_by(alloc: Global, key: u32, who: &Term, step: Step) -> Result<Proof, AllocError>
     requires { NamesAtom key (principal who.now) step }
-    ensures { IfOk result (λ p. lines_of p ≡ line (SpeaksFor (Key key) (principal who.now)) step ∷ []) }
+    ensures { IfOk result
+        (λ p. lines_of p ≡ line (SpeaksFor (Key key) (principal who.now)) step ∷ []) }
 {
     let mut nodes = Vec::with_capacity(alloc, 2)?;
     nodes.push(Node::Key(key))?;

@@ -16,3 +16,6 @@ pub use frame_link::Outcome;
 pub use opening::{ObjectPlan, Opening, OpeningFault, one_opening, read_opening};
 pub use reply::ReplyBuf;
 pub use request::{Request, request_of};
+
+#[cfg(test)]
+mod tests;

@@ -163,8 +163,8 @@ impl ReplyBuf {
         let c = r.channel.to_be_bytes();
         let s = r.seq.to_be_bytes();
         let text = [
-            VERSION, c[0], c[1], c[2], c[3], s[0], s[1], s[2], s[3], s[4], s[5], s[6], s[7], DENIED, 0, 0, 0, 0, 0,
-            0, 0, 0, 0, 0, 0, 0, 0,
+            VERSION, c[0], c[1], c[2], c[3], s[0], s[1], s[2], s[3], s[4], s[5], s[6], s[7],
+            DENIED, 0, 0, 0, 0, 0, 0, 0, 0, 0, 0, 0, 0, 0,
         ];
         leave(&mut self.bytes, &text, Some(sealer));
     }

@@ -58,10 +58,11 @@ fn text_of(r: Request) -> [u8; TEXT_LEN]
 
 /// The plain request that a payload spells, whatever its tag.
 pub fn request_of(payload: &[u8]) -> Option<Request>
-    ensures spelled { IfSome result (λ r. (length payload.now ≡ REQUEST_LEN) × (take TEXT_LEN payload.now ≡ request_text (request r))) }
+    ensures spelled { IfSome result (λ r. (length payload.now ≡ REQUEST_LEN)
+        × (take TEXT_LEN payload.now ≡ request_text (request r))) }
     ensures fits { IfSome result (λ r. FitsFields (request r)) }
-    ensures only { (r : math.Request) (tag : List ℕ) → FitsFields r → length tag ≡ 32 → payload.now ≡ request_text r ++ tag →
-        IfSome result (λ x. request x ≡ r) × IsSome result }
+    ensures only { (r : math.Request) (tag : List ℕ) → FitsFields r → length tag ≡ 32
+        → payload.now ≡ request_text r ++ tag → IfSome result (λ x. request x ≡ r) × IsSome result }
 {
     if payload.len() != REQUEST_LEN {
         return None;

@@ -20,7 +20,8 @@ pub(super) fn ended(bytes: &[u8]) -> OpeningFault
 // A byte that has to be this one.
 pub(super) fn exactly(bytes: &[u8], at: usize, wanted: u8) -> Result<usize, OpeningFault>
     requires { at ≤ length bytes.now }
-    ensures value { Gives NoMemory (λ end. (wanted, end)) result (exactly wanted (u8_in bytes.now) at) }
+    ensures value { Gives NoMemory (λ end. (wanted, end)) result
+        (exactly wanted (u8_in bytes.now) at) }
     ensures within { IfOk result (λ end. end ≤ length bytes.now) }
 {
     let (byte, next) = u8_at(bytes, at, ended(bytes))?;

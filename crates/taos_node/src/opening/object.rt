@@ -154,7 +154,8 @@ fn plans_of(
     count: u16,
 ) -> Result<(BTreeMap<u32, ObjectPlan>, usize), OpeningFault>
     requires { at ≤ length bytes.now }
-    ensures value { Agrees (WithEnd HoldsPlans) result (items_behind (object_at bytes.now) count [] at) }
+    ensures value { Agrees (WithEnd HoldsPlans) result
+        (items_behind (object_at bytes.now) count [] at) }
     ensures within { IfOk result (λ x. x.1 ≤ length bytes.now) }
 {
     let mut plans = BTreeMap::new(alloc);

@@ -3,6 +3,7 @@
 ghost use Rattle.std.specs.Prelude.{◌≡◌, ◌≤◌, ℕ, List, length, nat_le, IfOk, MatchResult};
 ghost use Rattle.prin_term.specs.Steps.{Gives};
 ghost use Rattle.taos_node.specs.declared.opening.OpeningFault.TheVariants.{NoMemory};
+ghost use Rattle.taos_node.specs.Meaning.{opening, IsServable};
 ghost use Rattle.taos_node.specs.Opening.{Opening as Meaning, Spells, journal_room};
 ghost use Rattle.taos_node.specs.OpeningReading.{commons_at, fields_at, opening_of};
 ghost use Rattle.taos_node.specs.OpeningView.{Agrees, Represents, WithEnd};
@@ -82,6 +83,8 @@ pub fn read_opening(alloc: Global, bytes: &[u8]) -> Result<Opening, OpeningFault
     // What is spelled so is read, unless memory runs out.
     ensures only { (o : Meaning) → Spells o bytes.now
         → MatchResult result (λ x. Represents x o) (λ f. f ≡ NoMemory) }
+    // What is read can be served.
+    ensures servable { IfOk result (λ x. IsServable (opening x)) }
     // Which fault it is.
     ensures exact { Agrees Represents result (opening_of bytes.now) }
 {

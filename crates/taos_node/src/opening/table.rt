@@ -57,7 +57,8 @@ fn keys_of(
     count: u16,
 ) -> Result<(KeyTable, usize), OpeningFault>
     requires { at ≤ length bytes.now }
-    ensures value { Agrees (WithEnd HoldsKeys) result (items_behind (channel_at bytes.now) count [] at) }
+    ensures value { Agrees (WithEnd HoldsKeys) result
+        (items_behind (channel_at bytes.now) count [] at) }
     ensures within { IfOk result (λ x. x.1 ≤ length bytes.now) }
 {
     let mut table = KeyTable::new(alloc, count as usize)?;

@@ -34,7 +34,7 @@ returns-in-Ok c =
     is_granted c.args.node.now.anchors.items (request c.args.asked) c.args.sealer.now (object c.args.asked.object c.args.plan.now) c.in-Some.entry c.in-Some.step (principal c.index.result.now.who) (lines_of c.in-Ok.proof)
     c.leave_granted.new.self c.requires.plain first (who_is c.args.plan.now.list.items c.in-Some.entry c.index.result.now first.0 within c.index.ensures first.1.stands) c.in-Ok.ensures
     (subst (λ (content : List ℕ). (c.leave_granted.new.self ≡ spelling (sealed c.args.sealer.now (request c.args.asked) (Granted false c.in-Some.entry 0 0 (lines_of c.in-Ok.proof) content)))
-        ⊎ (c.leave_granted.new.self ≡ spelling (sealed c.args.sealer.now (request c.args.asked) NoMemory))) c.deref-in-Ok.ensures.value c.leave_granted.ensures.reply)
+    ⊎ (c.leave_granted.new.self ≡ spelling (sealed c.args.sealer.now (request c.args.asked) NoMemory))) c.deref-in-Ok.ensures.value c.leave_granted.ensures.reply)
     c.leave_granted.ensures.short
 
 pub returns-in-Err : goal.returns-in-Err

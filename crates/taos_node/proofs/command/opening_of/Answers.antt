@@ -8,12 +8,11 @@ use Rattle.taos_node.proofs.command.opening_of.Goals as goal
 pub returns-in-Ok-read_opening-clause-gives : goal.returns-in-Ok-read_opening-clause-gives
 returns-in-Ok-read_opening-clause-gives g c =
     let found = c.in-Ok-read_opening.ensures.found in
-    let bytes : List ℕ = take c.in-Ok-fill.len c.fill.new.room in
-    (
+    let bytes : List ℕ = take c.in-Ok-fill.len c.fill.new.room in (
       found.0,
       file_opens (g.F.Source.left c.args.file.now) (g.F.Source.left c.fill.new.source) bytes found.0 c.in-Ok-fill.ensures.bytes
-      (c.in-Ok-fill.ensures.end (omega arith))
-      (let same : c.deref.result.now ≡ c.fill.new.room = (c.deref.ensures.value ∙ take-append-le c.in-Ok.room.len c.fill.new.room (drop (length c.fill.new.room) c.in-Ok.room.items) (omega (arith, c.in-Ok.room.ok.0)) ∙ take_all c.in-Ok.room.len c.fill.new.room (omega (arith, c.in-Ok.room.ok.0))) in subst (λ (l : List ℕ). Spells found.0 (take c.in-Ok-fill.len l)) same found.1)
-      (omega (arith, length-take c.in-Ok-fill.len c.fill.new.room)),
+          (c.in-Ok-fill.ensures.end (omega arith))
+          (let same : c.deref.result.now ≡ c.fill.new.room = (c.deref.ensures.value ∙ take-append-le c.in-Ok.room.len c.fill.new.room (drop (length c.fill.new.room) c.in-Ok.room.items) (omega (arith, c.in-Ok.room.ok.0)) ∙ take_all c.in-Ok.room.len c.fill.new.room (omega (arith, c.in-Ok.room.ok.0))) in subst (λ (l : List ℕ). Spells found.0 (take c.in-Ok-fill.len l)) same found.1)
+          (omega (arith, length-take c.in-Ok-fill.len c.fill.new.room)),
       found.2,
     )

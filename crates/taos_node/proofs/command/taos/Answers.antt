@@ -1,7 +1,7 @@
 -- What the file means, and what came of the connection.
 use Rattle.taos_node.specs.Command.{told_by_first, faults_of_first}
 use Rattle.taos_node.proofs.SameNodes.{is_servable}
-use Rattle.taos_node.proofs.Commands.{decided_opened, is_served, ends_well}
+use Rattle.taos_node.proofs.Commands.{decided_opened, is_served, ends_well, told}
 use Rattle.taos_node.proofs.command.taos.Goals as goal
 
 pub serve-requires-clause-node : goal.serve-requires-clause-node
@@ -24,3 +24,9 @@ returns-clause-complete g c = λ _.
     rw c.status_of.ensures
     (ends_well (g.F.Source.left c.args.file.now) (g.I.Source.left c.args.input.now) (g.F.Source.faults c.args.file.now) (g.F.Source.faults c.opening_of.new.file) (g.I.Source.faults c.args.input.now) (g.I.Source.faults c.serve.new.input)
     (g.O.Sink.faults c.args.output.now) (g.O.Sink.faults c.serve.new.output) (faults_of_first g.C.Clock.faults c.args.lanes.now) (faults_of_first g.C.Clock.faults c.serve.new.lanes) c.serve.result c.serve.ensures.complete)
+
+pub returns-clause-told : goal.returns-clause-told
+returns-clause-told g c =
+    rw c.status_of.ensures
+    (told (g.F.Source.faults c.args.file.now) (g.F.Source.faults c.opening_of.new.file) (g.I.Source.faults c.args.input.now) (g.I.Source.faults c.serve.new.input)
+    (g.O.Sink.faults c.args.output.now) (g.O.Sink.faults c.serve.new.output) (faults_of_first g.C.Clock.faults c.args.lanes.now) (faults_of_first g.C.Clock.faults c.serve.new.lanes) c.serve.result c.in-Ok.ensures.cause c.serve.ensures.causes)

@@ -1,5 +1,6 @@
 use Rattle.std.proofs.Common.{arith}
 use Rattle.taos_node.proofs.Whole.{is_found, is_only}
+use Rattle.taos_node.proofs.SameNodes.{are_servable}
 use Rattle.taos_node.proofs.opening.reading.read_opening.Goals as goal
 
 pub returns-clause-found : goal.returns-clause-found
@@ -7,3 +8,7 @@ returns-clause-found c = is_found c.args.bytes.now c.all_of.result (λ i. omega 
 
 pub returns-clause-only : goal.returns-clause-only
 returns-clause-only c = is_only c.args.bytes.now c.all_of.result c.all_of.ensures
+
+-- what is spelled is plain
+pub returns-clause-servable : goal.returns-clause-servable
+returns-clause-servable c = are_servable c.args.bytes.now c.all_of.result (returns-clause-found c)

@@ -1,0 +1,490 @@
+use super::*;
+use frame_link::{ClosedDoor, MemClock, MemSink, MemSource, NoRelay};
+use std::alloc::{AllocError, Global};
+use std::sync::Wait;
+use std::test::Fail;
+use std::thread::Threads;
+
+// Bytes are written in hexadecimal digits. The fields are those of the formats, laid out by hand;
+// the tags are those that `hmac` and `hashlib` of Python make of them, where the key of channel n is
+// 32 bytes of n.
+
+// Channel 1 reads object 5, as its request 1.
+const BY_ONE: [&str; 2] = [
+    "00000034 03 00000001 0000000000000001 00 01 00000005 00",
+    "4afc9eb732af74440ece46185f2c6e4c4b5005637c8b8e7f57851cdf32e520d5",
+];
+
+// Channel 2 reads object 5, as its request 1.
+const BY_TWO: [&str; 2] = [
+    "00000034 03 00000002 0000000000000001 00 01 00000005 00",
+    "c73f631a5a521c8b03db0330288f054e6d352301c2f99b9b79b754d8bf5ae19e",
+];
+
+// Entry 0 is granted to channel 1 by anchor 0, with the content `hello`.
+const GRANT: [&str; 4] = [
+    "0000005f 04 00000001 0000000000000001 00 00 00 00000000 0000000000000000 00000017",
+    "0002 0100000001 020000000a 00000001 09 0000 0001 0000",
+    "00 0005 68656c6c6f",
+    "9058a1dc9eadc41ae129b82395520916c6563d31621c79d20cf4fbe10e23ab90",
+];
+
+// Channel 2 is denied.
+const DENIAL: [&str; 2] = [
+    "0000003b 04 00000002 0000000000000001 01 00000000 0000000000000000 00",
+    "9eebd119d6f7ae800bd3b8f0dde9a690d08a318a2a02fdaecd78e9a2a1295328",
+];
+
+const UNBUILT: [&str; 2] = [
+    "0000002e 04 00000000 0000000000000000 ff",
+    "0000000000000000000000000000000000000000000000000000000000000000",
+];
+
+// One entry: all rights to name 10.
+const FOR_ALICE: &str = "01 0f 020000000a";
+
+// Appends what the digits spell; blanks count for nothing.
+fn spell(out: &mut Vec<u8>, digits: &str) -> Result<(), AllocError> {
+    let mut high = None;
+    for digit in digits.bytes() {
+        let low = match digit {
+            b'0'..=b'9' => digit - b'0',
+            b'a'..=b'f' => digit - b'a' + 10,
+            _ => continue,
+        };
+        match high {
+            None => high = Some(low),
+            Some(first) => {
+                out.push((first << 4) | low)?;
+                high = None;
+            }
+        }
+    }
+    Ok(())
+}
+
+fn spelled(alloc: Global, parts: &[&str]) -> Result<Vec<u8>, AllocError> {
+    let mut bytes = Vec::new(alloc);
+    for part in parts {
+        spell(&mut bytes, part)?;
+    }
+    Ok(bytes)
+}
+
+// Node 7 with its key, one shard, keep 3600 and the default journal.
+fn head_of(alloc: Global) -> Result<Vec<u8>, AllocError> {
+    let mut bytes = spelled(alloc, &["0001 00000007"])?;
+    bytes.extend_from_slice(&[7; 32])?;
+    spell(&mut bytes, "00000001 0000000000000e10 0000000000004000")?;
+    Ok(bytes)
+}
+
+// The opening of 64 bytes.
+fn small_file(alloc: Global) -> Result<Vec<u8>, AllocError> {
+    let mut bytes = head_of(alloc)?;
+    spell(&mut bytes, "0000 00 00 0000")?;
+    Ok(bytes)
+}
+
+// Six channels, five anchors, and object 5 with this access list.
+fn node_file(alloc: Global, list: &str) -> Result<Vec<u8>, AllocError> {
+    let mut bytes = head_of(alloc)?;
+    spell(&mut bytes, "0006")?;
+    for number in [1, 2, 3, 4, 15, 18] {
+        bytes.extend_from_slice(&[0, 0, 0, number])?;
+        bytes.extend_from_slice(&[number; 32])?;
+    }
+    spell(&mut bytes, "05 00000001 0000000a 00000003 0000001e")?;
+    spell(
+        &mut bytes,
+        "0000000b 00000014 0000000d 0000001e 00000010 00000015",
+    )?;
+    spell(&mut bytes, "00 0001 00000005 0005 68656c6c6f")?;
+    spell(&mut bytes, list)?;
+    Ok(bytes)
+}
+
+// What stands round a run.
+#[derive(Drop)]
+struct Outside {
+    file: MemSource,
+    input: MemSource,
+    output: MemSink,
+    notes: MemSink,
+    lanes: [Lane<MemClock, NoRelay, ClosedDoor<MemSource, MemSink>>; 1],
+}
+
+fn source_of(alloc: Global, bytes: &[u8], fails: &[u64]) -> Result<MemSource, AllocError> {
+    Ok(MemSource::new(bytes.to_vec(alloc)?, Vec::new(alloc), fails.to_vec(alloc)?))
+}
+
+fn sink_of(alloc: Global, fails: &[u64]) -> Result<MemSink, AllocError> {
+    MemSink::new(alloc, 1000, fails.to_vec(alloc)?)
+}
+
+fn clock_of(alloc: Global, fails: &[u64]) -> Result<MemClock, AllocError> {
+    let readings = vec![in alloc; 1000]?;
+    Ok(MemClock::new(readings, fails.to_vec(alloc)?))
+}
+
+// Nothing fails.
+fn around_of(alloc: Global, file: &[u8], input: &[u8]) -> Result<Outside, AllocError> {
+    let clock = clock_of(alloc, &[])?;
+    Ok(Outside {
+        file: source_of(alloc, file, &[])?,
+        input: source_of(alloc, input, &[])?,
+        output: sink_of(alloc, &[])?,
+        notes: sink_of(alloc, &[])?,
+        lanes: [Lane::of(clock, NoRelay::new(), ClosedDoor::new())],
+    })
+}
+
+fn call<W: Threads + Wait + Sync>(
+    rt: &W,
+    alloc: Global,
+    words: &[&str],
+    around: &mut Outside,
+) -> Result<u8, AllocError> {
+    let mut list = Vec::new(alloc);
+    for word in words {
+        list.push(String::from_str(alloc, word)?)?;
+    }
+    Ok(taos(
+        rt,
+        alloc,
+        &list,
+        &mut around.file,
+        &mut around.input,
+        &mut around.output,
+        &mut around.notes,
+        &mut around.lanes,
+    ))
+}
+
+#[test]
+fn an_empty_input_has_no_output(rt: HostRuntime) -> Result<(), Fail> {
+    let file = small_file(rt.alloc())?;
+    assert_eq!(rt; file.len(), 64);
+    let mut around = around_of(rt.alloc(), &file, &[])?;
+    assert_eq!(rt; call(&rt, rt.alloc(), &["run"], &mut around)?, 0);
+    assert!(rt; around.output.written().is_empty());
+    assert!(rt; around.notes.written().is_empty());
+    Ok(())
+}
+
+// What comes for a request of an object with this list.
+fn replied<W: Threads + Wait + Sync>(
+    rt: &W,
+    alloc: Global,
+    list: &str,
+    request: &[&str],
+) -> Result<(u8, Vec<u8>), AllocError> {
+    let file = node_file(alloc, list)?;
+    let input = spelled(alloc, request)?;
+    let mut around = around_of(alloc, &file, &input)?;
+    let status = call(rt, alloc, &["run"], &mut around)?;
+    Ok((status, around.output.written().to_vec(alloc)?))
+}
+
+#[test]
+fn a_request_has_its_reply(rt: HostRuntime) -> Result<(), Fail> {
+    let cases: [(&str, &str, &[&str], &[&str]); 5] = [
+        ("the anchored read", FOR_ALICE, &BY_ONE, &GRANT),
+        (
+            "an empty list",
+            "00",
+            &BY_ONE,
+            &[
+                "0000003b 04 00000001 0000000000000001 01 00000000 0000000000000000 00",
+                "b38908478c6108a7edbc44654ad35e4fcfdb27ebc087e5aa7b06911d3a2593d2",
+            ],
+        ),
+        ("no anchor", FOR_ALICE, &BY_TWO, &DENIAL),
+        (
+            "a listed key",
+            "01 01 0100000002",
+            &BY_TWO,
+            &[
+                "00000058 04 00000002 0000000000000001 00 00 00 00000000 0000000000000000",
+                "00000010 0001 0100000002 00000001 01 0000 0000 00 0005 68656c6c6f",
+                "3f18020f12ef974cde2b1b046729a8c545cdc949ecc422bba1914c18890909a9",
+            ],
+        ),
+        (
+            "the second entry, behind one that may not read",
+            "02 0e 0100000001 01 020000000a",
+            &BY_ONE,
+            &[
+                "0000005f 04 00000001 0000000000000001 00 00 01 00000000 0000000000000000",
+                "00000017 0002 0100000001 020000000a 00000001 09 0000 0001 0000",
+                "00 0005 68656c6c6f",
+                "33116e49767b254f3e1c8452aac661e598195de0844595f745aae491de4d5962",
+            ],
+        ),
+    ];
+    for (name, list, request, reply) in cases {
+        let wanted = spelled(rt.alloc(), reply)?;
+        let (status, written) = replied(&rt, rt.alloc(), list, request)?;
+        assert_eq!(rt; status, 0, "{name}");
+        assert_eq!(rt; written.as_slice(), wanted.as_slice(), "{name}");
+    }
+    Ok(())
+}
+
+#[test]
+fn what_is_no_plain_request_has_one_reply(rt: HostRuntime) -> Result<(), Fail> {
+    let cases: [(&str, &[&str]); 5] = [
+        ("an empty payload", &["00000000"]),
+        (
+            "a turned tag",
+            &[
+                "00000034 03 00000001 0000000000000001 00 01 00000005 00",
+                "4afc9eb732af74440ece46185f2c6e4c4b5005637c8b8e7f57851cdf32e520d4",
+            ],
+        ),
+        (
+            "channel 9",
+            &[
+                "00000034 03 00000009 0000000000000001 00 01 00000005 00",
+                "64226cae64404ec9114f890b4783035ced59e7ef7d65b907c8e24cb8b40084ae",
+            ],
+        ),
+        (
+            "object 6",
+            &[
+                "00000034 03 00000001 0000000000000001 00 01 00000006 00",
+                "e4af5a58a2ca647e95d9b33320b626a032d30ae7c4cbf865f66ef9915f0db9df",
+            ],
+        ),
+        (
+            "a byte behind the tag",
+            &[
+                "00000035 03 00000001 0000000000000001 00 01 00000005 00",
+                "4afc9eb732af74440ece46185f2c6e4c4b5005637c8b8e7f57851cdf32e520d5",
+                "00",
+            ],
+        ),
+    ];
+    let wanted = spelled(rt.alloc(), &UNBUILT)?;
+    for (name, request) in cases {
+        let (status, written) = replied(&rt, rt.alloc(), FOR_ALICE, request)?;
+        assert_eq!(rt; status, 0, "{name}");
+        assert_eq!(rt; written.as_slice(), wanted.as_slice(), "{name}");
+    }
+    Ok(())
+}
+
+#[test]
+fn no_other_words_run(rt: HostRuntime) -> Result<(), Fail> {
+    let file = small_file(rt.alloc())?;
+    let cases: [&[&str]; 4] = [&[], &["go"], &["run", "run"], &["runs"]];
+    for words in cases {
+        let mut around = around_of(rt.alloc(), &file, &[])?;
+        assert_eq!(rt; call(&rt, rt.alloc(), words, &mut around)?, 1, "{words:?}");
+    }
+    Ok(())
+}
+
+#[test]
+fn a_file_that_opens_no_node_is_refused(rt: HostRuntime) -> Result<(), Fail> {
+    let mut shorter = small_file(rt.alloc())?;
+    shorter.pop();
+    let mut longer = small_file(rt.alloc())?;
+    longer.push(0)?;
+    let files: [&[u8]; 3] = [&[], shorter.as_slice(), longer.as_slice()];
+    for bytes in files {
+        let mut around = around_of(rt.alloc(), bytes, &[])?;
+        assert_eq!(rt;
+            call(&rt, rt.alloc(), &["run"], &mut around)?,
+            2,
+            "{bytes:?}"
+        );
+    }
+    Ok(())
+}
+
+#[test]
+fn what_stands_behind_the_whole_frames_has_its_status(rt: HostRuntime) -> Result<(), Fail> {
+    let file = node_file(rt.alloc(), FOR_ALICE)?;
+    let wanted = spelled(rt.alloc(), &GRANT)?;
+    for (tail, status) in [("", 0), ("000000", 7), ("00000034 03", 7), ("00010001", 8)] {
+        let mut input = spelled(rt.alloc(), &BY_ONE)?;
+        spell(&mut input, tail)?;
+        let mut around = around_of(rt.alloc(), &file, &input)?;
+        assert_eq!(rt;
+            call(&rt, rt.alloc(), &["run"], &mut around)?,
+            status,
+            "{tail}"
+        );
+        assert_eq!(rt; around.output.written(), wanted.as_slice(), "{tail}");
+    }
+    Ok(())
+}
+
+// Three frames: a grant, a denial, and what is no request.
+fn three(alloc: Global) -> Result<(Vec<u8>, Vec<u8>), AllocError> {
+    let mut input = spelled(alloc, &BY_ONE)?;
+    input.append(&mut spelled(alloc, &BY_TWO)?)?;
+    spell(&mut input, "00000000")?;
+    let mut output = spelled(alloc, &GRANT)?;
+    output.append(&mut spelled(alloc, &DENIAL)?)?;
+    output.append(&mut spelled(alloc, &UNBUILT)?)?;
+    Ok((input, output))
+}
+
+#[test]
+fn frames_in_pieces_of_every_size_have_the_same_replies(rt: HostRuntime) -> Result<(), Fail> {
+    let alloc = rt.alloc();
+    let node = read_opening(alloc, &node_file(alloc, FOR_ALICE)?)?;
+    let (bytes, wanted) = three(alloc)?;
+    for size in 1..=bytes.len() {
+        let pieces = vec![in alloc; size; 200]?;
+        let mut input = MemSource::new(bytes.to_vec(alloc)?, pieces, Vec::new(alloc));
+        let mut output = sink_of(alloc, &[])?;
+        let mut clock = clock_of(alloc, &[])?;
+        let ended = serve_connection(alloc, &node, 9, &mut input, &mut output, &mut clock);
+        assert_eq!(rt; ended, Outcome::End { frames: 3 }, "in {size}s");
+        assert_eq!(rt; output.written(), wanted.as_slice(), "in {size}s");
+    }
+    Ok(())
+}
+
+// The replies are of 99, 63 and 50 bytes. An empty frame has one read, and each other two.
+#[test]
+fn each_read_may_fail(rt: HostRuntime) -> Result<(), Fail> {
+    let file = node_file(rt.alloc(), FOR_ALICE)?;
+    let (input, wanted) = three(rt.alloc())?;
+    for (at, status, len) in [
+        (0, 3, 0),
+        (1, 3, 0),
+        (2, 3, 99),
+        (3, 3, 99),
+        (4, 3, 162),
+        (5, 3, 212),
+        (6, 0, 212),
+    ] {
+        let mut around = around_of(rt.alloc(), &file, &input)?;
+        around.input = source_of(rt.alloc(), &input, &[at])?;
+        assert_eq!(rt;
+            call(&rt, rt.alloc(), &["run"], &mut around)?,
+            status,
+            "call {at}"
+        );
+        let written = around.output.written();
+        assert_eq!(rt; written.len(), len, "call {at}");
+        assert!(rt; wanted.starts_with(written), "call {at}");
+        let faults = if status == 3 { 1 } else { 0 };
+        assert_eq!(rt; around.input.faults(), faults, "call {at}");
+    }
+    for at in 0..2 {
+        let mut around = around_of(rt.alloc(), &file, &input)?;
+        around.file = source_of(rt.alloc(), &file, &[at])?;
+        assert_eq!(rt;
+            call(&rt, rt.alloc(), &["run"], &mut around)?,
+            3,
+            "call {at}"
+        );
+        assert!(rt; around.output.written().is_empty(), "call {at}");
+        assert_eq!(rt; around.file.faults(), 1, "call {at}");
+    }
+    Ok(())
+}
+
+#[test]
+fn each_write_may_fail(rt: HostRuntime) -> Result<(), Fail> {
+    let file = node_file(rt.alloc(), FOR_ALICE)?;
+    let (input, wanted) = three(rt.alloc())?;
+    for (at, status, len) in [(0, 4, 0), (1, 4, 99), (2, 4, 162), (3, 0, 212)] {
+        let mut around = around_of(rt.alloc(), &file, &input)?;
+        around.output = sink_of(rt.alloc(), &[at])?;
+        assert_eq!(rt;
+            call(&rt, rt.alloc(), &["run"], &mut around)?,
+            status,
+            "call {at}"
+        );
+        let written = around.output.written();
+        assert_eq!(rt; written.len(), len, "call {at}");
+        assert!(rt; wanted.starts_with(written), "call {at}");
+        let faults = if status == 4 { 1 } else { 0 };
+        assert_eq!(rt; around.output.faults(), faults, "call {at}");
+    }
+    Ok(())
+}
+
+#[test]
+fn a_full_output_has_a_front_of_the_reply(rt: HostRuntime) -> Result<(), Fail> {
+    let file = node_file(rt.alloc(), FOR_ALICE)?;
+    let (input, wanted) = three(rt.alloc())?;
+    let mut around = around_of(rt.alloc(), &file, &input)?;
+    around.output = MemSink::new(rt.alloc(), 100, Vec::new(rt.alloc()))?;
+    assert_eq!(rt; call(&rt, rt.alloc(), &["run"], &mut around)?, 4);
+    let written = around.output.written();
+    assert_eq!(rt; written.len(), 100);
+    assert!(rt; wanted.starts_with(written));
+    Ok(())
+}
+
+// The last frame is no request: the clock is not read for it.
+#[test]
+fn each_reading_may_fail(rt: HostRuntime) -> Result<(), Fail> {
+    let file = node_file(rt.alloc(), FOR_ALICE)?;
+    let (input, wanted) = three(rt.alloc())?;
+    for (at, status, len) in [(0, 5, 0), (1, 5, 99), (2, 0, 212)] {
+        let mut around = around_of(rt.alloc(), &file, &input)?;
+        let clock = clock_of(rt.alloc(), &[at])?;
+        around.lanes = [Lane::of(clock, NoRelay::new(), ClosedDoor::new())];
+        assert_eq!(rt;
+            call(&rt, rt.alloc(), &["run"], &mut around)?,
+            status,
+            "call {at}"
+        );
+        let written = around.output.written();
+        assert_eq!(rt; written.len(), len, "call {at}");
+        assert!(rt; wanted.starts_with(written), "call {at}");
+        let faults = if status == 5 { 1 } else { 0 };
+        assert_eq!(rt; around.lanes[0].clock.faults(), faults, "call {at}");
+    }
+    Ok(())
+}
+
+#[test]
+fn frames_behind_the_last_are_not_answered(rt: HostRuntime) -> Result<(), Fail> {
+    let alloc = rt.alloc();
+    let node = read_opening(alloc, &node_file(alloc, FOR_ALICE)?)?;
+    let wanted = spelled(alloc, &GRANT)?;
+    let once = spelled(alloc, &BY_ONE)?;
+    let mut twice = spelled(alloc, &BY_ONE)?;
+    twice.append(&mut spelled(alloc, &BY_ONE)?)?;
+    let cases: [(&[u8], Outcome); 2] = [
+        (once.as_slice(), Outcome::End { frames: 1 }),
+        (twice.as_slice(), Outcome::Spent { frames: 1 }),
+    ];
+    for (bytes, outcome) in cases {
+        let mut input = source_of(alloc, bytes, &[])?;
+        let mut output = sink_of(alloc, &[])?;
+        let mut clock = clock_of(alloc, &[])?;
+        let ended = serve_connection(alloc, &node, 1, &mut input, &mut output, &mut clock);
+        assert_eq!(rt; ended, outcome);
+        assert_eq!(rt; output.written(), wanted.as_slice(), "{outcome:?}");
+    }
+    Ok(())
+}
+
+#[test]
+fn a_million_frames_are_answered_and_no_more(rt: HostRuntime) -> Result<(), Fail> {
+    let alloc = rt.alloc();
+    let file = small_file(alloc)?;
+    for (len, status) in [(4_000_000, 0), (4_000_004, 10)] {
+        let mut around = around_of(alloc, &file, &[])?;
+        let zeros = vec![in alloc; 0; len]?;
+        around.input = MemSource::new(zeros, Vec::new(alloc), Vec::new(alloc));
+        around.output = MemSink::new(alloc, 60_000_000, Vec::new(alloc))?;
+        assert_eq!(rt;
+            call(&rt, rt.alloc(), &["run"], &mut around)?,
+            status,
+            "{len} bytes"
+        );
+        assert_eq!(rt; around.output.written().len(), 50_000_000, "{len} bytes");
+    }
+    Ok(())
+}
