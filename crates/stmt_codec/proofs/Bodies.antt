@@ -21,7 +21,7 @@ use Rattle.stmt_codec.specs.Reading.{part_at, quoted_at, right_at, body_at}
 small : (t : Principal) → FitsLimits 64 t → IsSmall t
 small t fits = (fits.nodes_fit, fits.depth_fits)
 
-fitting : (t : Principal) → HasSpelling t → IsSmall t → FitsLimits 64 t
+pub fitting : (t : Principal) → HasSpelling t → IsSmall t → FitsLimits 64 t
 fitting t numbers is = record { numbers = numbers; nodes_fit = is.0; depth_fits = is.1 }
 
 quoted_small : (o : Option Principal) → OptionFits (FitsLimits 64) o → IfSome o IsSmall
@@ -32,7 +32,7 @@ quoted_numbers : (o : Option Principal) → OptionFits (FitsLimits 64) o → IfS
 quoted_numbers None fits = tt
 quoted_numbers (Some t) fits = fits.numbers
 
-quoted_fitting : (o : Option Principal) → IfSome o HasSpelling → IfSome o IsSmall → OptionFits (FitsLimits 64) o
+pub quoted_fitting : (o : Option Principal) → IfSome o HasSpelling → IfSome o IsSmall → OptionFits (FitsLimits 64) o
 quoted_fitting None numbers is = tt
 quoted_fitting (Some t) numbers is = fitting t numbers is
 
@@ -46,7 +46,7 @@ right_takes speaker left bytes at x e =
     let few : length (distinct_parts speaker left r.0.0) ≤ 16 = leb-true _ _ g.0 in
     (r.1 ∙ ap Ok g.1, subst (λ (y : Principal × ℕ). length (distinct_parts speaker left y.0) ≤ 16) g.1 few)
 
-right_again : (speaker left : Principal) (bytes : List ℕ) (at : ℕ) (x : Principal × ℕ) → part_at bytes at ≡ Ok x → length (distinct_parts speaker left x.0) ≤ 16 → right_at speaker left bytes at ≡ Ok x
+pub right_again : (speaker left : Principal) (bytes : List ℕ) (at : ℕ) (x : Principal × ℕ) → part_at bytes at ≡ Ok x → length (distinct_parts speaker left x.0) ≤ 16 → right_at speaker left bytes at ≡ Ok x
 unfolding right_at
 right_again speaker left bytes at x e few =
     let test : nat_le (length (distinct_parts speaker left x.0)) 16 ≡ true = le-leb _ _ few in

@@ -5,3 +5,7 @@ pub mod Counts
 pub mod Few
 pub mod Bodies
 pub mod Certs
+pub mod Once
+pub mod Cuts
+pub mod Prefixes
+pub mod Members

@@ -41,13 +41,9 @@ impl Cert {
         if !is_within_limits(&body) {
             return Err(CertFault::TooLarge);
         }
-        let speaker = speaker_of(alloc, body.issuer, &body.quoted)?;
-        let digest = digest_of(alloc, &body)?;
-        Ok(Cert {
-            body,
-            speaker,
-            digest,
-        })
+        let mut text = Vec::new(alloc);
+        write_body(&mut text, &body)?;
+        Ok(cert_of(alloc, body, &text)?)
     }
 
     /// Whether the certificate has not yet ended at the moment.
@@ -78,7 +74,7 @@ fn is_within_limits(body: &CertBody) -> bool
         )
 }
 
-pub(crate) fn speaker_of(
+fn speaker_of(
     alloc: Global,
     issuer: u32,
     quoted: &Option<Term>,
@@ -109,12 +105,4 @@ pub(crate) fn cert_of(alloc: Global, body: CertBody, text: &[u8]) -> Result<Cert
         speaker,
         digest,
     })
-}
-
-fn digest_of(alloc: Global, body: &CertBody) -> Result<[u8; 32], AllocError>
-    ensures { IfOk result (λ digest. digest ≡ digest_of (certificate body.now)) }
-{
-    let mut text = Vec::new(alloc);
-    write_body(&mut text, body)?;
-    Ok(Sha256::digest(text.as_slice()))
 }

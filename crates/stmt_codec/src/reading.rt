@@ -70,7 +70,7 @@ fn right_of(
 }
 
 #[tactic(auto, unfolding(crate::specs::Reading::body_at))]
-fn body_of(alloc: Global, bytes: &[u8], at: usize) -> Result<(CertBody, usize), BodyFault>
+fn fields_of(alloc: Global, bytes: &[u8], at: usize) -> Result<(CertBody, usize), BodyFault>
     requires { at ≤ length bytes.now }
     ensures value { Gives NoMemory (λ x. (certificate x.0, x.1)) result (body_at bytes.now at) }
     ensures within { IfOk result (λ x. x.1 ≤ length bytes.now) }
@@ -94,6 +94,17 @@ fn body_of(alloc: Global, bytes: &[u8], at: usize) -> Result<(CertBody, usize), 
         serial,
     };
     Ok((body, next))
+}
+
+// The same body, which is spelled there.
+fn body_of(alloc: Global, bytes: &[u8], at: usize) -> Result<(CertBody, usize), BodyFault>
+    requires { at ≤ length bytes.now }
+    ensures found { IfOk result (λ x. IsBodyAt bytes.now at (certificate x.0)
+        × (x.1 ≡ at + length (body_spelling (certificate x.0)))) }
+    ensures value { Gives NoMemory (λ x. (certificate x.0, x.1)) result (body_at bytes.now at) }
+    ensures within { IfOk result (λ x. x.1 ≤ length bytes.now) }
+{
+    fields_of(alloc, bytes, at)
 }
 
 fn cert_at(alloc: Global, bytes: &[u8], at: usize) -> Result<(Cert, usize), BodyFault>
