@@ -1,0 +1,11 @@
+pub mod Same
+pub mod Firsts
+pub mod Tables
+pub mod Counts
+pub mod Few
+pub mod Bodies
+pub mod Certs
+pub mod Once
+pub mod Cuts
+pub mod Prefixes
+pub mod Members

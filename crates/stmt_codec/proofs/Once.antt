@@ -1,0 +1,57 @@
+-- No body's spelling begins another's.
+use Rattle.std.proofs.Common.{◌≡◌, ℕ, ◌^◌, ◌<◌, List, [], ◌∷◌, ◌++◌, Option, Some, None, refl, sym, ap, ◌∙◌, append_assoc}
+use Rattle.std.specs.Prelude.{IfSome}
+use Rattle.std.specs.Int.{Width, w32, w64, to_be_bytes}
+use Rattle.prin_term.specs.declared.fault.TermFault.{TermFault}
+use Rattle.prin_term.specs.declared.fault.TermFault.TheVariants.{NoMemory}
+use Rattle.prin_term.specs.Principal.{Principal, spelling, HasSpelling}
+use Rattle.prin_term.specs.Steps.{front_number, optional}
+use Rattle.prin_term.proofs.Results.{ok_is}
+use Rattle.prin_term.proofs.FieldLaws.{IsWide, wide32, wide64, front_number_again}
+use Rattle.prin_term.proofs.Whole.{spelled_once}
+use Rattle.stmt_codec.specs.Certificates.{Certificate, body_spelling, HasBodySpelling}
+
+number_once : (w : Width) (limit : ℕ) (wide : IsWide w limit) (m n : ℕ) (x y : List ℕ) → m < limit → n < limit → to_be_bytes w m ++ x ≡ to_be_bytes w n ++ y → (m ≡ n) × (x ≡ y)
+number_once w limit wide m n x y mf nf e =
+    let first = front_number_again NoMemory w limit wide m x mf in
+    let second = front_number_again NoMemory w limit wide n y nf in
+    let same : (m, x) ≡ (n, y) = ok_is TermFault (m, x) (n, y) (sym first ∙ ap (front_number NoMemory w) e ∙ second) in
+    (ap (λ (o : ℕ × List ℕ). o.0) same, ap (λ (o : ℕ × List ℕ). o.1) same)
+
+optional_once : (o p : Option Principal) (x y : List ℕ) → IfSome o HasSpelling → IfSome p HasSpelling → optional spelling o ++ x ≡ optional spelling p ++ y → (o ≡ p) × (x ≡ y)
+optional_once None None x y ho hp e = (refl, cc)
+optional_once None (Some q) x y ho hp e = absurd (flags_differ e)
+  where
+    flags_differ : 0 ∷ x ≡ 1 ∷ (spelling q ++ y) → ⊥
+    flags_differ e = absurd cc
+optional_once (Some p) None x y ho hp e = absurd (flags_differ e)
+  where
+    flags_differ : 1 ∷ (spelling p ++ x) ≡ 0 ∷ y → ⊥
+    flags_differ e = absurd cc
+optional_once (Some p) (Some q) x y ho hp e =
+    let rest : spelling p ++ x ≡ spelling q ++ y = cc in
+    let same = spelled_once p q x y ho hp rest in
+    (ap Some same.0, same.1)
+
+regrouped : (a b c d e f g r : List ℕ) → (a ++ b ++ c ++ d ++ e ++ f ++ g) ++ r ≡ a ++ (b ++ (c ++ (d ++ (e ++ (f ++ (g ++ r))))))
+regrouped a b c d e f g r = simp append_assoc
+
+pub text : (c : Certificate) (x : List ℕ) → body_spelling c ++ x ≡ 1 ∷ (to_be_bytes w32 c.issuer ++ (optional spelling c.quoted ++ (spelling c.left ++ (spelling c.right ++ (to_be_bytes w64 c.until ++ (to_be_bytes w64 c.serial ++ x))))))
+text c x = regrouped (1 ∷ []) (to_be_bytes w32 c.issuer) (optional spelling c.quoted) (spelling c.left) (spelling c.right) (to_be_bytes w64 c.until) (to_be_bytes w64 c.serial) x
+
+behind_one : (x y : List ℕ) → 1 ∷ x ≡ 1 ∷ y → x ≡ y
+behind_one x y e = cc
+
+same_fields : (a b : Certificate) → a.issuer ≡ b.issuer → a.quoted ≡ b.quoted → a.left ≡ b.left → a.right ≡ b.right → a.until ≡ b.until → a.serial ≡ b.serial → a ≡ b
+same_fields a b i q l r u s = λ k. record { issuer = i k; quoted = q k; left = l k; right = r k; until = u k; serial = s k }
+
+pub body_once : (a b : Certificate) (x y : List ℕ) → HasBodySpelling a → HasBodySpelling b → body_spelling a ++ x ≡ body_spelling b ++ y → (a ≡ b) × (x ≡ y)
+body_once a b x y ha hb e =
+    let e0 = behind_one _ _ (sym (text a x) ∙ e ∙ text b y) in
+    let i = number_once w32 (2 ^ 32) wide32 a.issuer b.issuer _ _ ha.issuer hb.issuer e0 in
+    let q = optional_once a.quoted b.quoted _ _ ha.quoted hb.quoted i.1 in
+    let l = spelled_once a.left b.left _ _ ha.left hb.left q.1 in
+    let r = spelled_once a.right b.right _ _ ha.right hb.right l.1 in
+    let u = number_once w64 (2 ^ 64) wide64 a.until b.until _ _ ha.until hb.until r.1 in
+    let s = number_once w64 (2 ^ 64) wide64 a.serial b.serial x y ha.serial hb.serial u.1 in
+    (same_fields a b i.0 q.0 l.0 r.0 u.0 s.0, s.1)

@@ -1,0 +1,5 @@
+use Rattle.stmt_codec.proofs.Prefixes.{body_cut}
+use Rattle.stmt_codec.proofs.laws.short_bodies_are_refused.Goals as goal
+
+pub returns : goal.returns
+returns c = body_cut

@@ -1,0 +1,7 @@
+use Rattle.std.proofs.Common.{arith}
+use Rattle.stmt_codec.specs.Certificates.{certificate}
+use Rattle.stmt_codec.proofs.Certs.{is_found}
+use Rattle.stmt_codec.proofs.reading.body_of.Goals as goal
+
+pub returns-clause-found : goal.returns-clause-found
+returns-clause-found c = is_found certificate c.args.at c.args.bytes.now c.fields_of.result c.requires (λ i. omega (arith, c.type_inv.bytes i)) c.fields_of.ensures.value

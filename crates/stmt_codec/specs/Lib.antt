@@ -1,0 +1,6 @@
+pub mod Distinct
+pub mod Certificates
+pub mod Faults
+pub mod Reading
+pub mod Seen
+pub mod Unique

@@ -1,0 +1,31 @@
+//! Laws of certificates, stated as contracts of functions that do nothing.
+
+ghost use Rattle.std.specs.Prelude.{◌≡◌, ◌≢◌, ◌↔◌, ◌+◌, ◌-◌, ◌<◌, ◌≤◌, ◌++◌};
+ghost use Rattle.std.specs.Prelude.{ℕ, List, length, drop, Err, AllPairs, Contains};
+ghost use Rattle.prin_term.specs.Principal.{Principal};
+ghost use Rattle.stmt_codec.specs.declared.fault.BodyFault.TheVariants.{Malformed};
+ghost use Rattle.stmt_codec.specs.declared.limits.TheConstants.{MAX_DISTINCT};
+ghost use Rattle.stmt_codec.specs.Certificates.{Certificate, body_spelling};
+ghost use Rattle.stmt_codec.specs.Certificates.{HasBodySpelling, IsWithinLimits};
+ghost use Rattle.stmt_codec.specs.Distinct.{first_of_each};
+ghost use Rattle.stmt_codec.specs.Reading.{body_at};
+
+/// No body's spelling begins another's, and each certificate has one.
+pub fn one_body_spelling()
+    ensures { (a b : Certificate) (x y : List ℕ) → HasBodySpelling a → HasBodySpelling b
+        → body_spelling a ++ x ≡ body_spelling b ++ y → (a ≡ b) × (x ≡ y) }
+{}
+
+/// Input that ends inside a spelling is refused at its end.
+pub fn short_bodies_are_refused()
+    ensures { (bytes more : List ℕ) (at : ℕ) (c : Certificate) → at ≤ length bytes
+        → HasBodySpelling c → IsWithinLimits c → body_spelling c ≡ drop at bytes ++ more
+        → 0 < length more → body_at bytes at ≡ Err (Malformed (length bytes)) }
+{}
+
+/// The list of distinct parts has what the whole list has, and nothing twice.
+pub fn each_part_is_counted_once()
+    ensures members { (ps : List Principal) (p : Principal)
+        → Contains (first_of_each ps) p ↔ Contains ps p }
+    ensures apart { (ps : List Principal) → AllPairs (λ p q. p ≢ q) (first_of_each ps) }
+{}

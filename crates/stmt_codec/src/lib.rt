@@ -1,0 +1,22 @@
+//! Certificates: their bodies, as values and as bytes, with who speaks in them and their digest.
+#![tactic(auto)]
+
+mod body;
+mod cert;
+mod distinct;
+mod fault;
+mod laws;
+mod limits;
+mod reading;
+mod writing;
+
+pub use body::CertBody;
+pub use cert::Cert;
+pub use fault::{BodyFault, CertFault};
+pub use laws::{each_part_is_counted_once, one_body_spelling, short_bodies_are_refused};
+pub use limits::MAX_DISTINCT;
+pub use reading::read_body;
+pub use writing::write_body;
+
+#[cfg(test)]
+mod tests;

@@ -1,0 +1,139 @@
+//! Reading a certificate from its body's spelling.
+
+ghost use Rattle.std.specs.Prelude.{◌≡◌, ◌+◌, ◌≤◌, length, IfOk, MatchResult};
+ghost use Rattle.std.specs.Option.{option_map};
+ghost use Rattle.prin_term.specs.Steps.{Gives};
+ghost use Rattle.prin_term.specs.View.{principal};
+ghost use Rattle.stmt_codec.specs.declared.fault.BodyFault.TheVariants.{NoMemory};
+ghost use Rattle.stmt_codec.specs.Certificates.{Certificate, certificate, key_quoting};
+ghost use Rattle.stmt_codec.specs.Certificates.{body_spelling, IsBodyAt};
+ghost use Rattle.stmt_codec.specs.Reading.{part_at, quoted_at, right_at, body_at};
+
+use crate::body::CertBody;
+use crate::cert::{Cert, cert_of};
+use crate::distinct::has_few_subterms;
+use crate::fault::BodyFault;
+use prin_term::fields::{mark_at, u8_at, u32_at, u64_at};
+use prin_term::{CERT_NODES, Statement, Term, read_term};
+use std::alloc::Global;
+
+fn term_of(alloc: Global, bytes: &[u8], at: usize) -> Result<(Term, usize), BodyFault>
+    requires { at ≤ length bytes.now }
+    ensures value { Gives NoMemory (λ x. (principal x.0, x.1)) result (part_at bytes.now at) }
+    ensures within { IfOk result (λ x. x.1 ≤ length bytes.now) }
+{
+    Ok(read_term(alloc, bytes, at, CERT_NODES)?)
+}
+
+#[tactic(auto, unfolding(prin_term::specs::Steps::optional_at))]
+fn quoted_of(alloc: Global, bytes: &[u8], at: usize) -> Result<(Option<Term>, usize), BodyFault>
+    requires { at ≤ length bytes.now }
+    ensures value { Gives NoMemory (λ x. (option_map principal x.0, x.1)) result
+        (quoted_at bytes.now at) }
+    ensures within { IfOk result (λ x. x.1 ≤ length bytes.now) }
+{
+    let short = BodyFault::Malformed {
+        offset: bytes.len(),
+    };
+    let (flag, next) = u8_at(bytes, at, short)?;
+    match flag {
+        0 => Ok((None, next)),
+        1 => {
+            let (term, end) = term_of(alloc, bytes, next)?;
+            Ok((Some(term), end))
+        }
+        _ => Err(BodyFault::Malformed { offset: at }),
+    }
+}
+
+// The right term, after which the distinct subterms are few enough.
+#[tactic(auto, unfolding(crate::specs::Reading::right_at))]
+fn right_of(
+    alloc: Global,
+    bytes: &[u8],
+    at: usize,
+    issuer: u32,
+    quoted: &Option<Term>,
+    left: &Term,
+) -> Result<(Term, usize), BodyFault>
+    requires { at ≤ length bytes.now }
+    ensures value { Gives NoMemory (λ x. (principal x.0, x.1)) result
+        (right_at (key_quoting issuer (option_map principal quoted.now)) (principal left.now)
+        bytes.now at) }
+    ensures within { IfOk result (λ x. x.1 ≤ length bytes.now) }
+{
+    let (right, next) = term_of(alloc, bytes, at)?;
+    if has_few_subterms(issuer, quoted, left, &right) {
+        Ok((right, next))
+    } else {
+        Err(BodyFault::Malformed { offset: next })
+    }
+}
+
+#[tactic(auto, unfolding(crate::specs::Reading::body_at))]
+fn fields_of(alloc: Global, bytes: &[u8], at: usize) -> Result<(CertBody, usize), BodyFault>
+    requires { at ≤ length bytes.now }
+    ensures value { Gives NoMemory (λ x. (certificate x.0, x.1)) result (body_at bytes.now at) }
+    ensures within { IfOk result (λ x. x.1 ≤ length bytes.now) }
+{
+    let short = BodyFault::Malformed {
+        offset: bytes.len(),
+    };
+    let next = mark_at(bytes, at, 1, short, BodyFault::Malformed { offset: at })?;
+    let (issuer, next) = u32_at(bytes, next, short)?;
+    let (quoted, next) = quoted_of(alloc, bytes, next)?;
+    let (left, next) = term_of(alloc, bytes, next)?;
+    let (right, next) = right_of(alloc, bytes, next, issuer, &quoted, &left)?;
+    let (until, next) = u64_at(bytes, next, short)?;
+    let (serial, next) = u64_at(bytes, next, short)?;
+    let statement = Statement { left, right };
+    let body = CertBody {
+        issuer,
+        quoted,
+        statement,
+        until,
+        serial,
+    };
+    Ok((body, next))
+}
+
+// The same body, which is spelled there.
+fn body_of(alloc: Global, bytes: &[u8], at: usize) -> Result<(CertBody, usize), BodyFault>
+    requires { at ≤ length bytes.now }
+    ensures found { IfOk result (λ x. IsBodyAt bytes.now at (certificate x.0)
+        × (x.1 ≡ at + length (body_spelling (certificate x.0)))) }
+    ensures value { Gives NoMemory (λ x. (certificate x.0, x.1)) result (body_at bytes.now at) }
+    ensures within { IfOk result (λ x. x.1 ≤ length bytes.now) }
+{
+    fields_of(alloc, bytes, at)
+}
+
+fn cert_at(alloc: Global, bytes: &[u8], at: usize) -> Result<(Cert, usize), BodyFault>
+    requires { at ≤ length bytes.now }
+    ensures value { Gives NoMemory (λ x. (certificate x.0.body, x.1)) result
+        (body_at bytes.now at) }
+    ensures within { IfOk result (λ x. x.1 ≤ length bytes.now) }
+{
+    let (body, end) = body_of(alloc, bytes, at)?;
+    let cert = cert_of(alloc, body, &bytes[at..end])?;
+    Ok((cert, end))
+}
+
+/// The certificate whose body is spelled at `at`, and the offset after it. Bytes may follow it.
+/// Where the limit of distinct subterms is passed, the fault is at the first byte of `until`.
+pub fn read_body(alloc: Global, bytes: &[u8], at: usize) -> Result<(Cert, usize), BodyFault>
+    requires { at ≤ length bytes.now }
+    // What is read is spelled there, within the limits, and ends at the offset.
+    ensures found { IfOk result (λ x. IsBodyAt bytes.now at (certificate x.0.body)
+        × (x.1 ≡ at + length (body_spelling (certificate x.0.body)))) }
+    // What is spelled there within the limits is read, unless memory runs out.
+    ensures only { (c : Certificate) → IsBodyAt bytes.now at c
+        → MatchResult result (λ x. certificate x.0.body ≡ c) (λ e. e ≡ NoMemory) }
+
+    ensures within { IfOk result (λ x. x.1 ≤ length bytes.now) }
+    // The same as one function, with the fault of bytes that are refused.
+    ensures exact { Gives NoMemory (λ x. (certificate x.0.body, x.1)) result
+        (body_at bytes.now at) }
+{
+    cert_at(alloc, bytes, at)
+}
