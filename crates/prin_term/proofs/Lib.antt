@@ -7,3 +7,5 @@ pub mod Terms
 pub mod Refusals
 pub mod Whole
 pub mod Parts
+pub mod ReaderLaws
+pub mod Loops
