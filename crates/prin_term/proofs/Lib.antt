@@ -9,3 +9,4 @@ pub mod Whole
 pub mod Parts
 pub mod ReaderLaws
 pub mod Loops
+pub mod FieldReaders
