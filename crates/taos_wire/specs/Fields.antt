@@ -2,6 +2,7 @@
 --     ended bytes      the fault of bytes that are lacking
 --     u8_in, u16_in, u32_in, u64_in      a number, and the offset after it
 --     within low high r      a number that lies between the two; another is refused at its first byte
+--     at_most most r      a number that is not above; another is refused at its first byte
 --     term_in nodes bytes      a term of at most so many nodes
 use Rattle.std.specs.Prelude.{ℕ, Bool, ◌&&◌, List, length, nat_le}
 use Rattle.std.specs.Int.{w16, w32, w64}
@@ -37,6 +38,9 @@ is_within low high n = nat_le low n && nat_le n high
 
 abbrev pub within : ℕ → ℕ → WireReader ℕ → WireReader ℕ
 within low high r = passing (is_within low high) Malformed r
+
+abbrev pub at_most : ℕ → WireReader ℕ → WireReader ℕ
+at_most most r = passing (λ n. nat_le n most) Malformed r
 
 -- a term's fault, as a message's
 abbrev pub seen_as : TermFault → WireFault

@@ -13,7 +13,7 @@ use Rattle.prin_term.specs.View.{Grant}
 use Rattle.taos_wire.specs.declared.fault.WireFault.{WireFault}
 use Rattle.taos_wire.specs.declared.fault.WireFault.TheVariants.{Malformed}
 use Rattle.taos_wire.specs.declared.request.TheConstants.{MAX_CERTS}
-use Rattle.taos_wire.specs.Fields.{WireReader, ended, u8_in, u16_in, u32_in, u64_in, within, term_in}
+use Rattle.taos_wire.specs.Fields.{WireReader, ended, u8_in, u16_in, u32_in, u64_in, within, at_most, term_in}
 use Rattle.taos_wire.specs.Request.{Request}
 
 -- ---- who asks
@@ -33,7 +33,7 @@ quoted_at bytes at = optional_at (ended bytes) (Malformed at) (term_in QUOTED_NO
 unfoldable pub content_at : List ℕ → WireReader (List ℕ)
 content_at bytes =
     made (λ p. p.1)
-    (followed (within 0 MAX_CONTENT (u16_in bytes)) (λ n. bytes_at (ended bytes) n bytes))
+    (followed (at_most MAX_CONTENT (u16_in bytes)) (λ n. bytes_at (ended bytes) n bytes))
 
 unfoldable pub entry_at : List ℕ → WireReader Grant
 entry_at bytes =

@@ -7,11 +7,11 @@ ghost use Rattle.prin_term.specs.Steps.{Gives};
 ghost use Rattle.prin_term.specs.View.{principal, grant};
 ghost use Rattle.object_core.specs.View.{operation};
 ghost use Rattle.taos_wire.specs.declared.fault.WireFault.TheVariants.{NoMemory};
-ghost use Rattle.taos_wire.specs.Fields.{ended, u8_in, u16_in, within};
+ghost use Rattle.taos_wire.specs.Fields.{ended, u8_in, u16_in, within, at_most};
 ghost use Rattle.taos_wire.specs.Request as math;
 ghost use Rattle.taos_wire.specs.Request.{Spells};
 ghost use Rattle.taos_wire.specs.RequestReading.{origin_at, quoted_at, content_at, entry_at, list_at, fields_at, asked_at, cert_at, certs_at, request_at, request_of};
-ghost use Rattle.taos_wire.specs.View.{request};
+ghost use Rattle.taos_wire.specs.View.{request, text_of};
 
 use crate::fault::WireFault;
 use crate::request::{MAX_CERTS, Request};
@@ -47,10 +47,24 @@ fn byte_within(bytes: &[u8], at: usize, low: u8, high: u8) -> Result<(u8, usize)
     }
 }
 
-// A length of two bytes, at most so much.
-fn length_within(bytes: &[u8], at: usize, most: u16) -> Result<(u16, usize), WireFault>
+// A count of one byte, at most so much.
+fn count_up_to(bytes: &[u8], at: usize, most: u8) -> Result<(u8, usize), WireFault>
     requires { at ≤ length bytes.now }
-    ensures value { result ≡ within 0 most (u16_in bytes.now) at }
+    ensures value { result ≡ at_most most (u8_in bytes.now) at }
+    ensures within { IfOk result (λ x. x.1 ≤ length bytes.now) }
+{
+    let (count, next) = u8_at(bytes, at, ended(bytes))?;
+    if count <= most {
+        Ok((count, next))
+    } else {
+        Err(WireFault::Malformed { offset: at })
+    }
+}
+
+// A length of two bytes, at most so much.
+fn length_up_to(bytes: &[u8], at: usize, most: u16) -> Result<(u16, usize), WireFault>
+    requires { at ≤ length bytes.now }
+    ensures value { result ≡ at_most most (u16_in bytes.now) at }
     ensures within { IfOk result (λ x. x.1 ≤ length bytes.now) }
 {
     let (count, next) = u16_at(bytes, at, ended(bytes))?;
@@ -97,7 +111,7 @@ fn content_of(alloc: Global, bytes: &[u8], at: usize) -> Result<(Vec<u8>, usize)
     ensures value { Gives NoMemory (λ x. (x.0.items, x.1)) result (content_at bytes.now at) }
     ensures within { IfOk result (λ x. x.1 ≤ length bytes.now) }
 {
-    let (count, next) = length_within(bytes, at, MAX_CONTENT)?;
+    let (count, next) = length_up_to(bytes, at, MAX_CONTENT)?;
     let (content, next) = slice_at(bytes, next, count as usize, ended(bytes))?;
     Ok((Vec::from_slice(alloc, content)?, next))
 }
@@ -141,7 +155,7 @@ fn list_of(alloc: Global, bytes: &[u8], at: usize) -> Result<(Vec<Entry>, usize)
     ensures value { Gives NoMemory (λ x. (map grant x.0.items, x.1)) result (list_at bytes.now at) }
     ensures within { IfOk result (λ x. x.1 ≤ length bytes.now) }
 {
-    let (count, next) = byte_within(bytes, at, 0, MAX_ENTRIES)?;
+    let (count, next) = count_up_to(bytes, at, MAX_ENTRIES)?;
     entries_of(alloc, bytes, next, count)
 }
 
@@ -206,7 +220,7 @@ fn texts_of(
     count: u8,
 ) -> Result<(Vec<Vec<u8>>, usize), WireFault>
     requires { at ≤ length bytes.now }
-    ensures value { Gives NoMemory (λ x. (map (λ c. c.items) x.0.items, x.1)) result
+    ensures value { Gives NoMemory (λ x. (map text_of x.0.items, x.1)) result
         (items_behind (λ _. cert_at bytes.now) count [] at) }
     ensures within { IfOk result (λ x. x.1 ≤ length bytes.now) }
 {
@@ -223,10 +237,10 @@ fn texts_of(
 #[tactic(auto, unfolding(crate::specs::RequestReading::certs_at))]
 fn certs_of(alloc: Global, bytes: &[u8], at: usize) -> Result<(Vec<Vec<u8>>, usize), WireFault>
     requires { at ≤ length bytes.now }
-    ensures value { Gives NoMemory (λ x. (map (λ c. c.items) x.0.items, x.1)) result (certs_at bytes.now at) }
+    ensures value { Gives NoMemory (λ x. (map text_of x.0.items, x.1)) result (certs_at bytes.now at) }
     ensures within { IfOk result (λ x. x.1 ≤ length bytes.now) }
 {
-    let (count, next) = byte_within(bytes, at, 0, MAX_CERTS)?;
+    let (count, next) = count_up_to(bytes, at, MAX_CERTS)?;
     texts_of(alloc, bytes, next, count)
 }
 
