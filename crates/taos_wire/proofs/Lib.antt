@@ -1,2 +1,4 @@
 pub mod Operations
 pub mod RequestLaws
+pub mod Seals
+pub mod Pieces

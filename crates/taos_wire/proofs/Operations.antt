@@ -1,17 +1,16 @@
 -- The fields of a request: what is read is spelled so, and the other way.
-use Rattle.std.proofs.Common.{◌≡◌, ℕ, ◌+◌, ◌^◌, ◌<◌, ◌≤◌, Bool, true, false, cond, leb, eqb, List, [], ◌∷◌, ◌++◌, length, Option, Ok, refl, sym, ap, subst, ◌∙◌, append_assoc, append-nil, arith}
+use Rattle.std.proofs.Common.{◌≡◌, ℕ, ◌^◌, ◌<◌, ◌≤◌, true, false, leb, eqb, List, [], ◌∷◌, ◌++◌, length, refl, sym, ap, subst, arith}
 use Rattle.std.specs.Prelude.{All, IfSome}
 use Rattle.std.specs.List.{flat_map}
 use Rattle.std.specs.Int.{w16, w32, w64, to_be_bytes}
 use Rattle.std.proofs.lemmas.Bool.{eqb-true, eqb-false, leb-true, le-leb}
 use Rattle.std.proofs.lemmas.Bool.Decides.{nat_tests}
-use Rattle.object_core.specs.declared.limits.TheConstants.{MAX_CONTENT, MAX_ENTRIES, MAX_RIGHTS}
-use Rattle.object_core.specs.Operation.{Op, Read, Write, SetList, Hold, Discard, Forget, Sweep, FitsOperation, FitsGrant, IsByte, IsContent, IsAccessList, IsDigest}
+use Rattle.object_core.specs.Operation.{Op, Read, Write, SetList, Hold, Discard, Forget, Sweep, FitsOperation, FitsGrant, IsContent, IsAccessList, IsDigest}
 use Rattle.prin_term.specs.declared.limits.TheConstants.{ENTRY_NODES, QUOTED_NODES}
-use Rattle.prin_term.specs.Principal.{Principal, spelling}
-use Rattle.prin_term.specs.Readers.{Reader, given, made}
+use Rattle.prin_term.specs.Principal.{spelling}
+use Rattle.prin_term.specs.Readers.{given, made}
 use Rattle.prin_term.specs.Refusal.{FitsLimits}
-use Rattle.prin_term.specs.Steps.{byte_at, bytes_at, number_at, counted, optional}
+use Rattle.prin_term.specs.Steps.{bytes_at, counted, optional}
 use Rattle.prin_term.specs.View.{Grant}
 use Rattle.prin_term.proofs.FieldLaws.{wide16, wide32, wide64}
 use Rattle.prin_term.proofs.FieldReaders.{reads_given, reads_if, reads_term, reads_optional, reads_counted_bytes}
@@ -19,7 +18,7 @@ use Rattle.prin_term.proofs.ReaderLaws.{Reads, reads_byte, reads_number, reads_b
 use Rattle.taos_wire.specs.declared.fault.WireFault.{WireFault}
 use Rattle.taos_wire.specs.declared.fault.WireFault.TheVariants.{Malformed}
 use Rattle.taos_wire.specs.declared.request.TheConstants.{MAX_CERTS}
-use Rattle.taos_wire.specs.Fields.{WireReader, ended, seen_as, is_within, within, at_most, u8_in, u16_in, u32_in, u64_in, term_in}
+use Rattle.taos_wire.specs.Fields.{WireReader, ended, seen_as, is_within, within, u8_in, u16_in, u32_in, u64_in}
 use Rattle.taos_wire.specs.Request.{kind_of, grant_bytes, op_fields, certs_bytes, IsCertText, IsTag}
 use Rattle.taos_wire.specs.RequestReading.{origin_at, quoted_at, content_at, entry_at, list_at, fields_at, asked_at, cert_at, certs_at, tag_at}
 

@@ -1,38 +1,33 @@
 -- What is read as a request is spelled so, and what is spelled so is read.
-use Rattle.std.proofs.Common.{◌≡◌, ◌⊎◌, ℕ, ◌+◌, ◌^◌, ◌<◌, ◌≤◌, Bool, true, false, cond, ltb, List, [], ◌∷◌, ◌++◌, length, drop, Option, Result, Ok, Err, refl, sym, ap, subst, ◌∙◌, append_assoc, append-nil, arith, inl, inr, length-append}
-use Rattle.std.specs.Prelude.{All, IfOk, IfSome, MatchResult}
-use Rattle.std.specs.List.{flat_map}
+use Rattle.std.proofs.Common.{◌≡◌, ℕ, ◌+◌, ◌<◌, ◌≤◌, true, false, cond, ltb, List, [], ◌∷◌, ◌++◌, length, drop, Result, Ok, Err, refl, sym, ap, subst, ◌∙◌, append_assoc, append-nil, arith, length-append}
+use Rattle.std.specs.Prelude.{IfOk, MatchResult}
 use Rattle.std.specs.Int.{w32, w64, to_be_bytes}
-use Rattle.std.proofs.lemmas.Bool.{ltb-false, le-ltb}
+use Rattle.std.proofs.lemmas.Bool.{ltb-false, le-ltb, lt-ltb}
 use Rattle.std.proofs.lemmas.List.{drop_all}
 use Rattle.keyed_seal.specs.Tag.{tag_of}
 use Rattle.keyed_seal.proofs.Tags.{length-tag_of, bytes-tag_of}
-use Rattle.object_core.specs.Operation.{Op, FitsOperation}
-use Rattle.prin_term.specs.declared.limits.TheConstants.{QUOTED_NODES}
-use Rattle.prin_term.specs.Principal.{Principal, spelling}
-use Rattle.prin_term.specs.Refusal.{FitsLimits}
-use Rattle.prin_term.specs.Steps.{◌>>=◌, Gives, counted, optional}
+use Rattle.prin_term.specs.Principal.{spelling}
+use Rattle.prin_term.specs.Steps.{Gives, optional}
 use Rattle.prin_term.proofs.FieldLaws.{IsBytes}
 use Rattle.prin_term.proofs.ReaderLaws.{Reads, reads_followed, reads_made}
 use Rattle.prin_term.proofs.Results.{bind_ok, ok_is, refused_ok, gives_found, gives_only}
 use Rattle.taos_wire.specs.declared.fault.WireFault.{WireFault}
 use Rattle.taos_wire.specs.declared.fault.WireFault.TheVariants.{Malformed, NoMemory}
 use Rattle.taos_wire.specs.declared.request.Request as code
-use Rattle.taos_wire.specs.declared.request.TheConstants.{MAX_CERTS}
-use Rattle.taos_wire.specs.Request.{Request, request_text, FitsRequest, kind_of, op_fields, certs_bytes, IsCertText, IsTag, Spells, sealed}
+use Rattle.taos_wire.specs.Request.{Request, request_text, FitsRequest, kind_of, op_fields, certs_bytes, IsTag, Spells, sealed}
 use Rattle.taos_wire.specs.RequestReading.{request_at, request_of}
 use Rattle.taos_wire.specs.View.{request}
 use Rattle.taos_wire.proofs.Operations.{reads_origin, reads_quoted, reads_asked, reads_certs, reads_tag}
 
 -- its bytes, from the left and in fields
-in_fields : (version : ℕ) (channel seq quoted : List ℕ) (kind : ℕ) (object fields certs tag : List ℕ)
-    → (version ∷ (channel ++ seq)) ++ (quoted ++ ((kind ∷ (object ++ fields)) ++ (certs ++ tag))) ≡ (version ∷ channel ++ seq ++ quoted ++ kind ∷ object ++ fields ++ certs) ++ tag
-in_fields version channel seq quoted kind object fields certs tag = simp append_assoc
+in_fields : (channel seq quoted object fields certs tag : List ℕ)
+    → (channel ++ seq) ++ (quoted ++ ((object ++ fields) ++ (certs ++ tag))) ≡ ((((channel ++ seq) ++ quoted) ++ (object ++ fields)) ++ certs) ++ tag
+in_fields channel seq quoted object fields certs tag = simp append_assoc
 
 text_in_fields : (r : Request) (tag : List ℕ)
     → (3 ∷ (to_be_bytes w32 r.channel ++ to_be_bytes w64 r.seq)) ++ (optional spelling r.quoted ++ ((kind_of r.op ∷ (to_be_bytes w32 r.object ++ op_fields r.op)) ++ (certs_bytes r.certs ++ tag))) ≡ request_text r ++ tag
 text_in_fields r tag =
-    in_fields 3 (to_be_bytes w32 r.channel) (to_be_bytes w64 r.seq) (optional spelling r.quoted) (kind_of r.op) (to_be_bytes w32 r.object) (op_fields r.op) (certs_bytes r.certs) tag
+    in_fields (3 ∷ to_be_bytes w32 r.channel) (to_be_bytes w64 r.seq) (optional spelling r.quoted) (kind_of r.op ∷ to_be_bytes w32 r.object) (op_fields r.op) (certs_bytes r.certs) tag
 
 -- a request with its tag
 abbrev pub Tagged : Type 0
@@ -108,6 +103,17 @@ none_longer q r front more is_q is_r =
     none_of : (more : List ℕ) → length more ≤ 0 → more ≡ []
     none_of [] le = refl
     none_of (b ∷ more) le = absurd (omega (arith, le))
+
+-- bytes behind a spelling are refused at the first of them
+pub longer_refused : (r : Request) (bytes more : List ℕ) → Spells r bytes → 0 < length more → request_of (bytes ++ more) ≡ Err (Malformed (length bytes))
+unfolding request_of
+longer_refused r bytes more is some =
+    let text = request_text r ++ is.tag in
+    let read = request_in (bytes ++ more) more r is.tag is.limits is.is_tag (ap (λ (l : List ℕ). l ++ more) is.text) in
+    let len : length bytes ≡ length text = ap length is.text in
+    let end : ltb (0 + length text) (length (bytes ++ more)) ≡ true = lt-ltb _ _ (omega (arith, len, some, length-append bytes more)) in
+    let place : 0 + length text ≡ length bytes = omega (arith, len) in
+    rw (read, end, place) refl
 
 -- a request under the tag of a key is spelled
 pub sealed_spells : (key : List ℕ) (r : Request) → FitsRequest r → Spells r (sealed key r)

@@ -64,11 +64,16 @@ op_fields Sweep = []
 abbrev pub certs_bytes : List (List ℕ) → List ℕ
 certs_bytes certs = length certs ∷ flat_map (counted w16) certs
 
--- the version, the channel, the number, who is quoted, the operation, the object, the operation's fields, and the certificates
+-- the version, the channel, the number, and who is quoted, behind a byte that says whether anybody is
+abbrev pub origin_bytes : ℕ → ℕ → Option Principal → List ℕ
+origin_bytes channel seq quoted = 3 ∷ to_be_bytes w32 channel ++ to_be_bytes w64 seq ++ optional spelling quoted
+
+-- the operation's name, the object, and the operation's fields
+abbrev pub asked_bytes : ℕ → Op → List ℕ
+asked_bytes object op = kind_of op ∷ to_be_bytes w32 object ++ op_fields op
+
 abbrev pub request_text : Request → List ℕ
-request_text r =
-    3 ∷ to_be_bytes w32 r.channel ++ to_be_bytes w64 r.seq ++ optional spelling r.quoted
-    ++ kind_of r.op ∷ to_be_bytes w32 r.object ++ op_fields r.op ++ certs_bytes r.certs
+request_text r = origin_bytes r.channel r.seq r.quoted ++ asked_bytes r.object r.op ++ certs_bytes r.certs
 
 -- ---- limits
 

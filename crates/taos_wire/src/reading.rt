@@ -14,15 +14,12 @@ ghost use Rattle.taos_wire.specs.RequestReading.{origin_at, quoted_at, content_a
 ghost use Rattle.taos_wire.specs.View.{request, text_of};
 
 use crate::fault::WireFault;
-use crate::request::{MAX_CERTS, Request};
+use crate::request::{MAX_CERTS, Request, TAG_LEN};
 use object_core::{MAX_CONTENT, MAX_ENTRIES, MAX_RIGHTS, Op};
 use prin_term::fields::{array_at, counted16_at, slice_at, u8_at, u16_at, u32_at, u64_at};
 use prin_term::{ENTRY_NODES, Entry, QUOTED_NODES, Term, read_term};
 use std::alloc::Global;
 use std::sync::Arc;
-
-// How many bytes a tag has.
-const TAG_LEN: usize = 32;
 
 // The fault of bytes that are lacking.
 fn ended(bytes: &[u8]) -> WireFault
