@@ -14,3 +14,6 @@ pub use reading::read_request;
 pub use request::{MAX_CERTS, Request};
 pub use seal::{sealed_by, sealed_with};
 pub use writing::write_request;
+
+#[cfg(test)]
+mod tests;
