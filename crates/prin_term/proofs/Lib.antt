@@ -10,3 +10,4 @@ pub mod Parts
 pub mod ReaderLaws
 pub mod Loops
 pub mod FieldReaders
+pub mod Cuts

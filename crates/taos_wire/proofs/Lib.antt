@@ -2,3 +2,4 @@ pub mod Operations
 pub mod RequestLaws
 pub mod Seals
 pub mod Pieces
+pub mod CutRequests

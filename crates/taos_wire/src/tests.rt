@@ -150,7 +150,7 @@ fn a_cut_or_longer_request_is_refused_at_its_end(rt: HostRuntime) -> Result<(), 
 fn a_byte_is_refused_where_it_cannot_stand(rt: HostRuntime) -> Result<(), Fail> {
     let alloc = rt.alloc();
     for version in [0, 2, 4] {
-        let mut bytes = payload(alloc, &[0], 1, &[], &[0])?;
+        let mut bytes = ANCHORED;
         bytes[0] = version;
         assert_eq!(rt; refused_at(alloc, &bytes), Some(0), "version {version}");
     }
