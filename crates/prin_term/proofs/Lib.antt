@@ -7,3 +7,7 @@ pub mod Terms
 pub mod Refusals
 pub mod Whole
 pub mod Parts
+pub mod ReaderLaws
+pub mod Loops
+pub mod FieldReaders
+pub mod Cuts

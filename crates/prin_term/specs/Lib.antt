@@ -5,3 +5,4 @@ pub mod Kind
 pub mod Steps
 pub mod Refusal
 pub mod Reading
+pub mod Readers

@@ -1,8 +1,6 @@
-pub mod ReaderLaws
 pub mod OpeningFields
 pub mod OpeningObjects
 pub mod OpeningLaws
-pub mod Loops
 pub mod Lookups
 pub mod Whole
 pub mod Entries

@@ -21,11 +21,11 @@ use Rattle.taos_node.specs.declared.opening.OpeningFault.{OpeningFault}
 use Rattle.taos_node.specs.declared.opening.OpeningFault.TheVariants.{Byte}
 use Rattle.taos_node.specs.declared.opening.head.Head.{Head}
 use Rattle.taos_node.specs.Opening.{Opening, ObjectPlan, opening_bytes, channel_bytes, anchor_bytes, grant_bytes, object_bytes, IsByte, IsKey, IsChannel, IsAnchor, IsPlainGrant, IsPlainObject, journal_room, IsPlain, Spells}
-use Rattle.taos_node.specs.Readers.{is_new}
+use Rattle.prin_term.specs.Readers.{is_new}
 use Rattle.taos_node.specs.OpeningReading.{ended, seen_as, is_within, is_atom, same_anchor, mark_at, number_in, shards_at, head_at, new_channel_at, channel_at, channels_at, anchor_at, anchors_at, commons_at, atom_at, entry_at, list_at, content_at, new_object_at, object_at, objects_at, fields_at, opening_of}
 use Rattle.taos_node.proofs.OpeningFields.{head_bytes, IsHead, reads_head, reads_channels, reads_anchors, reads_commons}
 use Rattle.taos_node.proofs.OpeningObjects.{reads_objects}
-use Rattle.taos_node.proofs.ReaderLaws.{Reads, reads_byte, reads_number, reads_bytes, reads_followed, reads_passing, reads_made, reads_as, reads_counted, is_new-All, is_new-from_All}
+use Rattle.prin_term.proofs.ReaderLaws.{Reads, reads_byte, reads_number, reads_bytes, reads_followed, reads_passing, reads_made, reads_as, reads_counted, is_new-All, is_new-from_All}
 
 -- a plain opening, but for the room of its journals
 record HasPlainFields (o : Opening) : Type 0 where

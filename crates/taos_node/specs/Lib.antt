@@ -7,6 +7,5 @@ pub mod Deciding
 pub mod Ruling
 pub mod Serving
 pub mod Command
-pub mod Readers
 pub mod OpeningReading
 pub mod OpeningView

@@ -16,7 +16,7 @@ use Rattle.taos_node.specs.declared.opening.OpeningFault.TheVariants.{Byte, NoMe
 use Rattle.taos_node.specs.declared.opening.TheConstants.{MAX_KEEP, MAX_LIMIT, MAX_CHANNELS, MAX_ANCHORS, MAX_OBJECTS, MAX_CONTENT, MAX_ENTRIES, MAX_ROOM}
 use Rattle.taos_node.specs.declared.opening.head.Head.{Head}
 use Rattle.taos_node.specs.Opening.{Opening, ObjectPlan, journal_room}
-use Rattle.taos_node.specs.Readers.{Reader, followed, passing, made, counted, is_new}
+use Rattle.prin_term.specs.Readers.{Reader, followed, passing, made, counted, is_new}
 
 abbrev pub OpeningReader : Type 0 → Type 0
 OpeningReader A = Reader A OpeningFault

@@ -10,7 +10,7 @@ ghost use Rattle.taos_node.specs.Opening.{ObjectPlan as Plan};
 ghost use Rattle.taos_node.specs.OpeningReading.{is_within, is_atom, u8_in, atom_at, entry_at};
 ghost use Rattle.taos_node.specs.OpeningReading.{list_at, content_at, new_object_at, object_at, objects_at};
 ghost use Rattle.taos_node.specs.OpeningView.{Agrees, HoldsPlans, WithEnd, plan};
-ghost use Rattle.taos_node.specs.Readers.{passing, items_behind};
+ghost use Rattle.prin_term.specs.Readers.{passing, items_behind};
 
 use crate::opening::field::{ended, u8_count, u16_count};
 use crate::opening::{MAX_CONTENT, MAX_ENTRIES, MAX_OBJECTS, ObjectPlan, OpeningFault};

@@ -6,7 +6,7 @@ ghost use Rattle.prin_term.specs.Steps.{Gives};
 ghost use Rattle.taos_node.specs.declared.opening.OpeningFault.TheVariants.{NoMemory};
 ghost use Rattle.taos_node.specs.OpeningReading.{new_channel_at, channel_at, channels_at, anchor_at, anchors_at};
 ghost use Rattle.taos_node.specs.OpeningView.{Agrees, HoldsKeys, WithEnd};
-ghost use Rattle.taos_node.specs.Readers.{items_behind};
+ghost use Rattle.prin_term.specs.Readers.{items_behind};
 
 use crate::opening::field::{ended, u8_count, u16_count};
 use crate::opening::{MAX_ANCHORS, MAX_CHANNELS, OpeningFault};

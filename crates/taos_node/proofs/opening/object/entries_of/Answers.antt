@@ -4,8 +4,8 @@ use Rattle.std.proofs.lemmas.List.{map_push}
 use Rattle.prin_term.specs.View.{Grant, grant}
 use Rattle.taos_node.specs.declared.opening.OpeningFault.TheVariants.{NoMemory}
 use Rattle.taos_node.specs.OpeningReading.{entry_at}
-use Rattle.taos_node.specs.Readers.{items_behind}
-use Rattle.taos_node.proofs.Loops.{goes_on, stops, is_done}
+use Rattle.prin_term.specs.Readers.{items_behind}
+use Rattle.prin_term.proofs.Loops.{goes_on, stops, is_done}
 use Rattle.taos_node.proofs.opening.object.entries_of.Goals as goal
 
 pub returns-in_err-entry-clause-value : goal.returns-in_err-entry-clause-value

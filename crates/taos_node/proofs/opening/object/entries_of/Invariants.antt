@@ -1,8 +1,8 @@
 use Rattle.std.proofs.Common.{◌≤◌, [], map, length}
 use Rattle.prin_term.specs.View.{grant}
 use Rattle.taos_node.specs.OpeningReading.{entry_at}
-use Rattle.taos_node.specs.Readers.{items_behind}
-use Rattle.taos_node.proofs.Loops.{IsSoFar}
+use Rattle.prin_term.specs.Readers.{items_behind}
+use Rattle.prin_term.proofs.Loops.{IsSoFar}
 use Rattle.taos_node.proofs.opening.object.entries_of.Given as goal
 
 abbrev pub invariant-loop : goal.invariant-loop

@@ -2,8 +2,8 @@ use Rattle.std.proofs.Common.{◌≤◌, List, [], length}
 use Rattle.taos_node.specs.Opening.{ObjectPlan}
 use Rattle.taos_node.specs.OpeningReading.{object_at}
 use Rattle.taos_node.specs.OpeningView.{HoldsPlans}
-use Rattle.taos_node.specs.Readers.{items_behind}
-use Rattle.taos_node.proofs.Loops.{IsSoFar}
+use Rattle.prin_term.specs.Readers.{items_behind}
+use Rattle.prin_term.proofs.Loops.{IsSoFar}
 use Rattle.taos_node.proofs.opening.object.plans_of.Given as goal
 
 abbrev pub invariant-loop : goal.invariant-loop

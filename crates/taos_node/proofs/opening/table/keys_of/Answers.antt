@@ -3,9 +3,9 @@ use Rattle.std.proofs.lemmas.Result.{err_from_is_err_and, IfOk-at_ok}
 use Rattle.keyed_seal.specs.Keys.{AddsKey, Keys, key_of}
 use Rattle.taos_node.specs.declared.opening.OpeningFault.TheVariants.{NoMemory}
 use Rattle.taos_node.specs.OpeningReading.{channel_at}
-use Rattle.taos_node.specs.Readers.{items_behind}
+use Rattle.prin_term.specs.Readers.{items_behind}
 use Rattle.taos_node.proofs.Lookups.{adds_key}
-use Rattle.taos_node.proofs.Loops.{begins, goes_on, stops, is_done}
+use Rattle.prin_term.proofs.Loops.{begins, goes_on, stops, is_done}
 use Rattle.taos_node.proofs.opening.table.keys_of.Goals as goal
 
 pub loop-init : goal.loop-init

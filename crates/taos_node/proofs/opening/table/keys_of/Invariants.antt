@@ -1,8 +1,8 @@
 use Rattle.std.proofs.Common.{◌≡◌, ◌≤◌, ℕ, List, [], length}
 use Rattle.taos_node.specs.OpeningReading.{channel_at}
 use Rattle.taos_node.specs.OpeningView.{HoldsKeys}
-use Rattle.taos_node.specs.Readers.{items_behind}
-use Rattle.taos_node.proofs.Loops.{IsSoFar}
+use Rattle.prin_term.specs.Readers.{items_behind}
+use Rattle.prin_term.proofs.Loops.{IsSoFar}
 use Rattle.taos_node.proofs.opening.table.keys_of.Given as goal
 
 abbrev pub invariant-loop : goal.invariant-loop

@@ -2,8 +2,8 @@ use Rattle.std.proofs.Common.{◌≡◌, [], Err, Ok, sym, ap, ◌∙◌, inr}
 use Rattle.std.proofs.lemmas.Result.{err_from_is_err_and}
 use Rattle.taos_node.specs.declared.opening.OpeningFault.TheVariants.{NoMemory}
 use Rattle.taos_node.specs.OpeningReading.{anchor_at}
-use Rattle.taos_node.specs.Readers.{items_behind}
-use Rattle.taos_node.proofs.Loops.{goes_on, stops, is_done}
+use Rattle.prin_term.specs.Readers.{items_behind}
+use Rattle.prin_term.proofs.Loops.{goes_on, stops, is_done}
 use Rattle.taos_node.proofs.opening.table.names_of.Goals as goal
 
 pub returns-in_err-anchor-clause-value : goal.returns-in_err-anchor-clause-value

@@ -1,7 +1,7 @@
 use Rattle.std.proofs.Common.{◌≤◌, [], length}
 use Rattle.taos_node.specs.OpeningReading.{anchor_at}
-use Rattle.taos_node.specs.Readers.{items_behind}
-use Rattle.taos_node.proofs.Loops.{IsSoFar}
+use Rattle.prin_term.specs.Readers.{items_behind}
+use Rattle.prin_term.proofs.Loops.{IsSoFar}
 use Rattle.taos_node.proofs.opening.table.names_of.Given as goal
 
 abbrev pub invariant-loop : goal.invariant-loop

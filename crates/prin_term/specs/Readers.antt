@@ -2,6 +2,7 @@
 --     followed first second      one behind another; the second may depend on what the first gave
 --     passing test fault r      what r gives, where it passes a test; else the fault of its first byte
 --     made f r      what r gives, as another value
+--     given x      x, of no bytes
 --     items_behind item n before      n items behind those of `before`; each is read in view of all before it
 --     counted most fault count item      a count of at most so many, and that many items
 use Rattle.std.specs.Prelude.{ℕ, zero, suc, Bool, not, List, [], ◌∷◌, ◌++◌, Result, Ok, Err, nat_le, if◌then◌else◌}
@@ -26,6 +27,9 @@ abbrev pub made : {A B E : Type 0} → (A → B) → Reader A E → Reader B E
 made f r at = do
   a ← r at
   Ok (f a.0, a.1)
+
+abbrev pub given : {A E : Type 0} → A → Reader A E
+given x at = Ok (x, at)
 
 unfoldable pub items_behind : {A E : Type 0} → (List A → Reader A E) → ℕ → List A → Reader (List A) E
 items_behind item zero before at = Ok (before, at)

@@ -11,7 +11,7 @@ use Rattle.std.proofs.lemmas.List.Quantifiers.{all_pairs_push}
 use Rattle.prin_term.specs.Steps.{◌>>=◌, byte_at, bytes_at, number_at}
 use Rattle.prin_term.proofs.Results.{bind_ok, ok_is, chosen_ok}
 use Rattle.prin_term.proofs.FieldLaws.{IsBytes, IsBytes-drop, IsWide, TakesAt, TakesAt-then, TakesAt-none, TakesAt-within, behind, byte_takes, byte_below, byte_again, bytes_takes, bytes_again, number_takes, number_again}
-use Rattle.taos_node.specs.Readers.{Reader, followed, passing, made, items_behind, counted, is_new}
+use Rattle.prin_term.specs.Readers.{Reader, followed, passing, made, items_behind, counted, is_new}
 
 -- what a reader takes is what it spells, of the values that fit, and what is spelled is read
 pub record Reads {A E : Type 0} (bytes : List ℕ) (r : Reader A E) (spell : A → List ℕ) (Fits : A → Type 0) : Type 0 where

@@ -1,6 +1,6 @@
 -- A loop that reads item after item. Of `total`, all that the items give, `before` is read already.
 use Rattle.std.proofs.Common.{◌≡◌, ◌⊎◌, ℕ, suc, ◌+◌, ◌-◌, ◌<◌, ◌≤◌, List, [], ◌∷◌, ◌++◌, Result, Ok, Err, refl, sym, ap, ◌∙◌, arith, inl, inr}
-use Rattle.taos_node.specs.Readers.{Reader, items_behind}
+use Rattle.prin_term.specs.Readers.{Reader, items_behind}
 
 -- what is still read, behind what was read before
 pub record IsSoFar {A E : Type 0} (item : List A → Reader A E) (count i : ℕ) (before : List A) (at : ℕ) (total : Result (List A × ℕ) E) : Type 0 where

@@ -1,0 +1,47 @@
+//! Operations.
+
+ghost use Rattle.std.specs.Prelude.{◌≡◌};
+ghost use Rattle.object_core.specs.Operation as math;
+ghost use Rattle.object_core.specs.View.{operation};
+
+use prin_term::Entry;
+use std::sync::Arc;
+
+const READ: u8 = 1;
+
+const WRITE: u8 = 2;
+
+const CONTROL: u8 = 4;
+
+const MANAGE: u8 = 8;
+
+/// What is asked of an object, or at it of the node.
+#[derive(Debug, Drop)]
+pub enum Op {
+    /// Gives the content.
+    Read,
+    /// Replaces the content.
+    Write(Vec<u8>),
+    /// Replaces the access list.
+    SetList(Arc<Vec<Entry>>),
+    /// Holds the certificates that are presented, in common.
+    Hold,
+    /// Removes the certificate of a digest from those held in common.
+    Discard([u8; 32]),
+    /// Removes what is kept of a channel.
+    Forget(u32),
+    /// Removes what has expired.
+    Sweep,
+}
+
+/// The right that an operation needs: 1 read, 2 write, 4 control, 8 manage.
+pub fn right_of(op: &Op) -> u8
+    ensures { result ≡ math.right_of (operation op.now) }
+{
+    match op {
+        Op::Read => READ,
+        Op::Write(_) => WRITE,
+        Op::SetList(_) => CONTROL,
+        Op::Hold | Op::Discard(_) | Op::Forget(_) | Op::Sweep => MANAGE,
+    }
+}

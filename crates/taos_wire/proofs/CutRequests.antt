@@ -1,0 +1,90 @@
+-- A spelling that is cut is refused where it was cut.
+use Rattle.std.proofs.Common.{◌≡◌, ◌⊎◌, ℕ, ◌+◌, ◌<◌, ◌≤◌, eqb, leb, List, [], ◌++◌, length, get_or, Ok, Err, refl, sym, ap, ◌∙◌, append-nil, arith, inl, inr, length-append}
+use Rattle.std.specs.Prelude.{All}
+use Rattle.std.specs.Int.{w16, w32, w64}
+use Rattle.std.proofs.lemmas.Bool.{cases_lt}
+use Rattle.std.proofs.lemmas.List.{get_or_past}
+use Rattle.object_core.specs.Operation.{Op, Read, Write, SetList, Hold, Discard, Forget, Sweep, IsByte}
+use Rattle.prin_term.specs.Readers.{given, made}
+use Rattle.prin_term.specs.Steps.{◌>>=◌}
+use Rattle.prin_term.proofs.Cuts.{Cuts, cuts_followed, cuts_passing, cuts_made, cuts_given, cuts_if, cuts_counted, cuts_byte, cuts_bytes, cuts_number, cuts_counted_bytes, cuts_optional, cuts_term}
+use Rattle.prin_term.proofs.FieldLaws.{IsBytes}
+use Rattle.taos_wire.specs.declared.fault.WireFault.TheVariants.{Malformed}
+use Rattle.taos_wire.specs.Fields.{ended, seen_as, u8_in, u16_in, u32_in, u64_in, within, at_most, is_within, term_in}
+use Rattle.taos_wire.specs.Request.{Request, request_text, Spells}
+use Rattle.taos_wire.specs.RequestReading.{origin_at, quoted_at, content_at, entry_at, list_at, fields_at, asked_at, cert_at, certs_at, tag_at, request_at, request_of}
+use Rattle.taos_wire.proofs.RequestLaws.{Tagged, request_in}
+
+module _ (front more : List ℕ) (ok : IsBytes (front ++ more)) where
+  byte_cut : Cuts front (ended front) (u8_in front) (u8_in (front ++ more))
+  byte_cut = cuts_byte (ended front) (ended (front ++ more)) front more
+
+  origin_cut : Cuts front (ended front) (origin_at front) (origin_at (front ++ more))
+  unfolding origin_at
+  origin_cut =
+      cuts_made _ (cuts_followed (cuts_passing _ Malformed byte_cut)
+      (λ _. cuts_followed (cuts_number (ended front) (ended (front ++ more)) front more w32) (λ _. cuts_number (ended front) (ended (front ++ more)) front more w64)))
+
+  quoted_cut : Cuts front (ended front) (quoted_at front) (quoted_at (front ++ more))
+  unfolding quoted_at
+  quoted_cut = cuts_optional (ended front) (ended (front ++ more)) front more Malformed _ _ (cuts_term seen_as _ front more ok)
+
+  content_cut : Cuts front (ended front) (content_at front) (content_at (front ++ more))
+  unfolding content_at
+  content_cut =
+      cuts_made _ (cuts_followed (cuts_passing _ Malformed (cuts_number (ended front) (ended (front ++ more)) front more w16))
+      (λ n. cuts_bytes (ended front) (ended (front ++ more)) front more n))
+
+  entry_cut : Cuts front (ended front) (entry_at front) (entry_at (front ++ more))
+  unfolding entry_at
+  entry_cut = cuts_made _ (cuts_followed (cuts_passing _ Malformed byte_cut) (λ _. cuts_term seen_as _ front more ok))
+
+  list_cut : Cuts front (ended front) (list_at front) (list_at (front ++ more))
+  unfolding list_at
+  list_cut = cuts_counted _ Malformed byte_cut (λ _. entry_cut)
+
+  fields_cut : (kind : ℕ) → Cuts front (ended front) (fields_at front kind) (fields_at (front ++ more) kind)
+  unfolding fields_at
+  fields_cut kind =
+      cuts_if (eqb kind 1) _ _ _ _ (cuts_given front (ended front) Read)
+      (cuts_if (eqb kind 2) _ _ _ _ (cuts_made Write content_cut)
+      (cuts_if (eqb kind 3) _ _ _ _ (cuts_made SetList list_cut)
+      (cuts_if (eqb kind 4) _ _ _ _ (cuts_given front (ended front) Hold)
+      (cuts_if (eqb kind 5) _ _ _ _ (cuts_made Discard (cuts_bytes (ended front) (ended (front ++ more)) front more 32))
+      (cuts_if (eqb kind 6) _ _ _ _ (cuts_made Forget (cuts_number (ended front) (ended (front ++ more)) front more w32))
+      (cuts_given front (ended front) Sweep))))))
+
+  asked_cut : Cuts front (ended front) (asked_at front) (asked_at (front ++ more))
+  unfolding asked_at
+  asked_cut =
+      cuts_made _ (cuts_followed (cuts_passing _ Malformed byte_cut)
+      (λ kind. cuts_followed (cuts_number (ended front) (ended (front ++ more)) front more w32) (λ _. fields_cut kind)))
+
+  certs_cut : Cuts front (ended front) (certs_at front) (certs_at (front ++ more))
+  unfolding certs_at cert_at
+  certs_cut = cuts_counted _ Malformed byte_cut (λ _. cuts_counted_bytes (ended front) (ended (front ++ more)) front more w16)
+
+  tag_cut : Cuts front (ended front) (tag_at front) (tag_at (front ++ more))
+  unfolding tag_at
+  tag_cut = cuts_bytes (ended front) (ended (front ++ more)) front more 32
+
+  request_cut : Cuts front (ended front) (request_at front) (request_at (front ++ more))
+  unfolding request_at
+  request_cut = cuts_made _ (cuts_followed origin_cut (λ _. cuts_followed quoted_cut (λ _. cuts_followed asked_cut (λ _. cuts_followed certs_cut (λ _. tag_cut)))))
+
+in_bytes : (bytes : List ℕ) → All IsByte bytes → IsBytes bytes
+in_bytes bytes all i = elim (cases_lt i (length bytes)) [
+  | inl lt ↦ all i 0 lt
+  | inr past ↦ rw (get_or_past bytes i 0 past) (omega arith)
+]
+
+pub cut_refused : (r : Request) (front more : List ℕ) → All IsByte (front ++ more) → Spells r (front ++ more) → 0 < length more → request_of front ≡ Err (Malformed (length front))
+unfolding request_of
+cut_refused r front more all is some =
+    let whole = request_in (front ++ more) [] r is.tag is.limits is.is_tag (is.text ∙ sym (append-nil (request_text r ++ is.tag))) in
+    let x : Tagged × ℕ = ((r, is.tag), 0 + length (request_text r ++ is.tag)) in
+    let len : length (front ++ more) ≡ length (request_text r ++ is.tag) = ap length is.text in
+    elim ((request_cut front more (in_bytes (front ++ more) all)).at_cut 0 x (omega arith) whole) [
+      | inl read ↦ absurd (omega (arith, read.1, len, some, length-append front more))
+      | inr lacking ↦ rw lacking refl
+    ]

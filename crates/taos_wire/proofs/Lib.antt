@@ -1,0 +1,5 @@
+pub mod Operations
+pub mod RequestLaws
+pub mod Seals
+pub mod Pieces
+pub mod CutRequests

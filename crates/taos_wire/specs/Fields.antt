@@ -1,0 +1,54 @@
+-- Fields that every message has, read at an offset with the faults of messages.
+--     ended bytes      the fault of bytes that are lacking
+--     u8_in, u16_in, u32_in, u64_in      a number, and the offset after it
+--     within low high r      a number that lies between the two; another is refused at its first byte
+--     at_most most r      a number that is not above; another is refused at its first byte
+--     term_in nodes bytes      a term of at most so many nodes
+use Rattle.std.specs.Prelude.{ℕ, Bool, ◌&&◌, List, length, nat_le}
+use Rattle.std.specs.Int.{w16, w32, w64}
+use Rattle.prin_term.specs.declared.fault.TermFault.{TermFault}
+use Rattle.prin_term.specs.declared.fault.TermFault.TheVariants as terms
+use Rattle.prin_term.specs.Principal.{Principal}
+use Rattle.prin_term.specs.Readers.{Reader, passing}
+use Rattle.prin_term.specs.Reading.{term_at}
+use Rattle.prin_term.specs.Steps.{with_fault, byte_at, number_at}
+use Rattle.taos_wire.specs.declared.fault.WireFault.{WireFault}
+use Rattle.taos_wire.specs.declared.fault.WireFault.TheVariants.{Malformed, NoMemory}
+
+abbrev pub WireReader : Type 0 → Type 0
+WireReader A = Reader A WireFault
+
+abbrev pub ended : List ℕ → WireFault
+ended bytes = Malformed (length bytes)
+
+abbrev pub u8_in : List ℕ → WireReader ℕ
+u8_in bytes = byte_at (ended bytes) bytes
+
+abbrev pub u16_in : List ℕ → WireReader ℕ
+u16_in bytes = number_at (ended bytes) w16 bytes
+
+abbrev pub u32_in : List ℕ → WireReader ℕ
+u32_in bytes = number_at (ended bytes) w32 bytes
+
+abbrev pub u64_in : List ℕ → WireReader ℕ
+u64_in bytes = number_at (ended bytes) w64 bytes
+
+abbrev pub is_within : ℕ → ℕ → ℕ → Bool
+is_within low high n = nat_le low n && nat_le n high
+
+abbrev pub within : ℕ → ℕ → WireReader ℕ → WireReader ℕ
+within low high r = passing (is_within low high) Malformed r
+
+abbrev pub at_most : ℕ → WireReader ℕ → WireReader ℕ
+at_most most r = passing (λ n. nat_le n most) Malformed r
+
+-- a term's fault, as a message's
+abbrev pub seen_as : TermFault → WireFault
+seen_as (terms.Tag o) = Malformed o
+seen_as (terms.Short o) = Malformed o
+seen_as (terms.TooDeep o) = Malformed o
+seen_as (terms.TooLarge o) = Malformed o
+seen_as terms.NoMemory = NoMemory
+
+abbrev pub term_in : ℕ → List ℕ → WireReader Principal
+term_in nodes bytes at = with_fault seen_as (term_at nodes bytes at)

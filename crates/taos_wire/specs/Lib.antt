@@ -1,0 +1,4 @@
+pub mod Request
+pub mod View
+pub mod Fields
+pub mod RequestReading

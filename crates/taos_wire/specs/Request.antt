@@ -1,0 +1,110 @@
+-- Requests as values, and the bytes of each.
+--     Request      what a channel asks
+--     subject_of r      who asks
+--     request_text r      its one spelling, up to the tag
+--     FitsRequest r      it is within the limits
+--     Spells r bytes      the bytes are those of the request, under some tag
+--     sealed key r      its bytes under the tag of a key
+--     IsSealed key bytes      the bytes end in the tag of those before it
+use Rattle.std.specs.Prelude.{◌≡◌, ℕ, ◌≤◌, ◌<◌, ◌^◌, List, [], ◌∷◌, ◌++◌, length, All, Option, Some, None, IfSome}
+use Rattle.std.specs.List.{flat_map}
+use Rattle.std.specs.Int.{w16, w32, w64, to_be_bytes}
+use Rattle.keyed_seal.specs.Tag.{tag_of}
+use Rattle.object_core.specs.Operation.{Op, Read, Write, SetList, Hold, Discard, Forget, Sweep, FitsOperation, IsByte}
+use Rattle.prin_term.specs.declared.limits.TheConstants.{QUOTED_NODES}
+use Rattle.prin_term.specs.Principal.{Principal, Key, Quoting, spelling}
+use Rattle.prin_term.specs.Refusal.{FitsLimits}
+use Rattle.prin_term.specs.Steps.{counted, optional}
+use Rattle.prin_term.specs.View.{Grant}
+use Rattle.taos_wire.specs.declared.request.TheConstants.{MAX_CERTS}
+
+-- a certificate is bytes here
+pub record Request : Type 0 where
+  pub channel : ℕ
+  pub seq : ℕ
+  pub quoted : Option Principal
+  pub object : ℕ
+  pub op : Op
+  pub certs : List (List ℕ)
+
+-- the channel's key, or that key quoting
+abbrev pub speaker_of : ℕ → Option Principal → Principal
+speaker_of channel None = Key channel
+speaker_of channel (Some quoted) = Quoting (Key channel) quoted
+
+abbrev pub subject_of : Request → Principal
+subject_of r = speaker_of r.channel r.quoted
+
+-- ---- bytes
+
+-- the byte that names an operation
+abbrev pub kind_of : Op → ℕ
+kind_of Read = 1
+kind_of (Write content) = 2
+kind_of (SetList list) = 3
+kind_of Hold = 4
+kind_of (Discard digest) = 5
+kind_of (Forget channel) = 6
+kind_of Sweep = 7
+
+abbrev pub grant_bytes : Grant → List ℕ
+grant_bytes g = g.rights ∷ spelling g.who
+
+-- what an operation says besides its name: bytes behind their length, entries behind their count
+abbrev pub op_fields : Op → List ℕ
+op_fields Read = []
+op_fields (Write content) = counted w16 content
+op_fields (SetList list) = length list ∷ flat_map grant_bytes list
+op_fields Hold = []
+op_fields (Discard digest) = digest
+op_fields (Forget channel) = to_be_bytes w32 channel
+op_fields Sweep = []
+
+-- certificates behind their count, each behind its length
+abbrev pub certs_bytes : List (List ℕ) → List ℕ
+certs_bytes certs = length certs ∷ flat_map (counted w16) certs
+
+-- the version, the channel, the number, and who is quoted, behind a byte that says whether anybody is
+abbrev pub origin_bytes : ℕ → ℕ → Option Principal → List ℕ
+origin_bytes channel seq quoted = 3 ∷ to_be_bytes w32 channel ++ to_be_bytes w64 seq ++ optional spelling quoted
+
+-- the operation's name, the object, and the operation's fields
+abbrev pub asked_bytes : ℕ → Op → List ℕ
+asked_bytes object op = kind_of op ∷ to_be_bytes w32 object ++ op_fields op
+
+abbrev pub request_text : Request → List ℕ
+request_text r = origin_bytes r.channel r.seq r.quoted ++ asked_bytes r.object r.op ++ certs_bytes r.certs
+
+-- ---- limits
+
+abbrev pub IsCertText : List ℕ → Type 0
+IsCertText text = (length text < 2 ^ 16) × All IsByte text
+
+pub record FitsRequest (r : Request) : Type 0 where
+  pub channel : r.channel < 2 ^ 32
+  pub seq : r.seq < 2 ^ 64
+  pub quoted : IfSome r.quoted (FitsLimits QUOTED_NODES)
+  pub object : r.object < 2 ^ 32
+  pub op : FitsOperation r.op
+  pub few_certs : length r.certs ≤ MAX_CERTS
+  pub certs : All IsCertText r.certs
+
+-- ---- seals
+
+-- any 32 bytes
+abbrev pub IsTag : List ℕ → Type 0
+IsTag tag = (length tag ≡ 32) × All IsByte tag
+
+pub record Spells (r : Request) (bytes : List ℕ) : Type 0 where
+  pub limits : FitsRequest r
+  pub tag : List ℕ
+  pub is_tag : IsTag tag
+  pub text : bytes ≡ request_text r ++ tag
+
+abbrev pub sealed : List ℕ → Request → List ℕ
+sealed key r = request_text r ++ tag_of key (request_text r)
+
+-- a text, and behind it its tag
+pub record IsSealed (key bytes : List ℕ) : Type 0 where
+  pub text : List ℕ
+  pub whole : bytes ≡ text ++ tag_of key text

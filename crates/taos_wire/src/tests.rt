@@ -1,0 +1,271 @@
+use super::*;
+use keyed_seal::{Sealer, hmac};
+use object_core::Op;
+use prin_term::Term;
+use std::alloc::{AllocError, Global};
+use std::process::Abort;
+use std::test::Fail;
+
+const ONES: [u8; 32] = [1; 32];
+
+// channel 1 reads object 5, as its request 1; Python's hmac made the tag under ONES
+const ANCHORED: [u8; 52] = [
+    3, 0, 0, 0, 1, 0, 0, 0, 0, 0, 0, 0, 1, 0, 1, 0, 0, 0, 5, 0, 0x4a, 0xfc, 0x9e, 0xb7, 0x32, 0xaf,
+    0x74, 0x44, 0x0e, 0xce, 0x46, 0x18, 0x5f, 0x2c, 0x6e, 0x4c, 0x4b, 0x50, 0x05, 0x63, 0x7c, 0x8b,
+    0x8e, 0x7f, 0x57, 0x85, 0x1c, 0xdf, 0x32, 0xe5, 0x20, 0xd5,
+];
+
+// seven conjunctions deep on the left: 15 nodes, of which a quoted term may have 14
+const LARGE: [u8; 47] = [
+    3, 3, 3, 3, 3, 3, 3, 1, 0, 0, 0, 1, 1, 0, 0, 0, 1, 1, 0, 0, 0, 1, 1, 0, 0, 0, 1, 1, 0, 0, 0, 1,
+    1, 0, 0, 0, 1, 1, 0, 0, 0, 1, 1, 0, 0, 0, 1,
+];
+
+// Channel 1's request 1 at object 5, up to its tag, with a tag of zeros.
+fn payload(
+    alloc: Global,
+    quoted: &[u8],
+    kind: u8,
+    fields: &[u8],
+    certs: &[u8],
+) -> Result<Vec<u8>, AllocError> {
+    let mut bytes = Vec::from_slice(alloc, &ANCHORED[..13])?;
+    bytes.extend_from_slice(quoted)?;
+    bytes.extend_from_slice(&[kind, 0, 0, 0, 5])?;
+    bytes.extend_from_slice(fields)?;
+    bytes.extend_from_slice(certs)?;
+    bytes.extend_from_slice(&[0; 32])?;
+    Ok(bytes)
+}
+
+// The byte at which a request is refused.
+fn refused_at(alloc: Global, bytes: &[u8]) -> Option<usize> {
+    match read_request(alloc, bytes) {
+        Err(WireFault::Malformed { offset }) => Some(offset),
+        _ => None,
+    }
+}
+
+// What is read is written back behind other bytes, but for its tag, which is now that of the key.
+fn comes_back(rt: &impl Abort, alloc: Global, bytes: &[u8]) -> Result<(), Fail> {
+    let request = read_request(alloc, bytes)?;
+    let mut out = Vec::from_slice(alloc, &[9])?;
+    write_request(&mut out, &ONES, &request)?;
+    let written = &out[1..];
+    assert_eq!(rt; out.len(), bytes.len() + 1);
+    let end = bytes.len() - 32;
+    assert_eq!(rt; &written[..end], &bytes[..end]);
+    assert_eq!(rt; &written[end..], hmac(&ONES, &bytes[..end]).as_slice());
+    assert!(rt; sealed_by(&ONES, written));
+    assert!(rt; sealed_with(&Sealer::of(&ONES), written));
+    Ok(())
+}
+
+#[test]
+fn the_anchored_read_is_read_and_written(rt: HostRuntime) -> Result<(), Fail> {
+    let request = read_request(rt.alloc(), &ANCHORED)?;
+    assert_eq!(rt; request.channel, 1);
+    assert_eq!(rt; request.seq, 1);
+    assert!(rt; request.quoted.is_none());
+    assert_eq!(rt; request.object, 5);
+    assert!(rt; matches!(&*request.op, Op::Read));
+    assert!(rt; request.certs.is_empty());
+    let mut out = Vec::new(rt.alloc());
+    write_request(&mut out, &ONES, &request)?;
+    assert_eq!(rt; out.as_slice(), ANCHORED.as_slice());
+    Ok(())
+}
+
+#[test]
+fn a_request_has_its_parts(rt: HostRuntime) -> Result<(), Fail> {
+    let quoted = [1, 2, 0, 0, 0, 30];
+    let certs = [2, 0, 3, 7, 8, 9, 0, 0];
+    let bytes = payload(rt.alloc(), &quoted, 6, &[0, 0, 1, 2], &certs)?;
+    let request = read_request(rt.alloc(), &bytes)?;
+    assert!(rt; matches!(&request.quoted, Some(Term::Name(30))));
+    assert!(rt; matches!(&*request.op, Op::Forget(258)));
+    assert_eq!(rt; request.certs.len(), 2);
+    let first = request.certs.first().ok_or("a certificate")?;
+    assert_eq!(rt; first.as_slice(), [7, 8, 9].as_slice());
+    let last = request.certs.last().ok_or("a certificate")?;
+    assert!(rt; last.is_empty());
+    Ok(())
+}
+
+#[test]
+fn each_operation_is_read_and_written_back(rt: HostRuntime) -> Result<(), Fail> {
+    let alloc = rt.alloc();
+    let cases: [(u8, &[u8]); 9] = [
+        (1, &[]),
+        (2, &[0, 2, b'h', b'i']),
+        (2, &[0, 0]),
+        (3, &[1, 15, 2, 0, 0, 0, 1]),
+        (3, &[0]),
+        (4, &[]),
+        (5, &[7; 32]),
+        (6, &[0, 0, 1, 2]),
+        (7, &[]),
+    ];
+    for (kind, fields) in cases {
+        comes_back(&rt, alloc, &payload(alloc, &[0], kind, fields, &[0])?)?;
+        let quoted = [1, 6, 1, 0, 0, 0, 9, 2, 0, 0, 0, 30];
+        let certs = [2, 0, 3, 7, 8, 9, 0, 0];
+        comes_back(&rt, alloc, &payload(alloc, &quoted, kind, fields, &certs)?)?;
+    }
+    Ok(())
+}
+
+#[test]
+fn a_cut_or_longer_request_is_refused_at_its_end(rt: HostRuntime) -> Result<(), Fail> {
+    let alloc = rt.alloc();
+    let quoted = [1, 5, 1, 0, 0, 0, 9, 0, 0, 0, 2];
+    let certs = [2, 0, 3, 7, 8, 9, 0, 0];
+    let cases: [(u8, &[u8]); 7] = [
+        (1, &[]),
+        (2, &[0, 2, b'h', b'i']),
+        (3, &[2, 15, 2, 0, 0, 0, 1, 1, 5, 1, 0, 0, 0, 8, 0, 0, 0, 2]),
+        (4, &[]),
+        (5, &[7; 32]),
+        (6, &[0, 0, 1, 2]),
+        (7, &[]),
+    ];
+    for (kind, fields) in cases {
+        let mut bytes = payload(alloc, &quoted, kind, fields, &certs)?;
+        let len = bytes.len();
+        for cut in 0..len {
+            assert_eq!(rt;
+                refused_at(alloc, &bytes[..cut]),
+                Some(cut),
+                "{kind} cut to {cut}"
+            );
+        }
+        assert_eq!(rt; refused_at(alloc, &bytes), None);
+        bytes.push(0)?;
+        assert_eq!(rt; refused_at(alloc, &bytes), Some(len), "{kind} and a byte");
+    }
+    Ok(())
+}
+
+#[test]
+fn a_byte_is_refused_where_it_cannot_stand(rt: HostRuntime) -> Result<(), Fail> {
+    let alloc = rt.alloc();
+    for version in [0, 2, 4] {
+        let mut bytes = ANCHORED;
+        bytes[0] = version;
+        assert_eq!(rt; refused_at(alloc, &bytes), Some(0), "version {version}");
+    }
+    let cases: [(&[u8], u8, &[u8], &[u8], usize); 9] = [
+        // what says whether anybody is quoted, and what is no term
+        (&[2], 1, &[], &[0], 13),
+        (&[1, 7], 1, &[], &[0], 14),
+        // operations
+        (&[0], 0, &[], &[0], 14),
+        (&[0], 8, &[], &[0], 14),
+        // rights, and the second entry's term
+        (&[0], 3, &[1, 0, 2, 0, 0, 0, 1], &[0], 20),
+        (&[0], 3, &[1, 16, 2, 0, 0, 0, 1], &[0], 20),
+        (&[0], 3, &[2, 1, 2, 0, 0, 0, 1, 1, 0], &[0], 27),
+        // nine entries, and seventeen certificates
+        (&[0], 3, &[9], &[0], 19),
+        (&[0], 1, &[], &[17], 19),
+    ];
+    for (quoted, kind, fields, certs, wanted) in cases {
+        let bytes = payload(alloc, quoted, kind, fields, certs)?;
+        assert_eq!(rt;
+            refused_at(alloc, &bytes),
+            Some(wanted),
+            "{quoted:?} {kind} {fields:?}"
+        );
+    }
+    Ok(())
+}
+
+#[test]
+fn a_quoted_term_has_at_most_fourteen_nodes(rt: HostRuntime) -> Result<(), Fail> {
+    let alloc = rt.alloc();
+    let mut quoted = Vec::from_slice(alloc, &[1])?;
+    quoted.extend_from_slice(&LARGE)?;
+    // the fifteenth node begins five bytes before the term's end
+    let bytes = payload(alloc, &quoted, 1, &[], &[0])?;
+    assert_eq!(rt; refused_at(alloc, &bytes), Some(56));
+    // a role in place of the outermost conjunction leaves fourteen
+    let mut quoted = Vec::from_slice(alloc, &[1, 5])?;
+    quoted.extend_from_slice(&LARGE[1..42])?;
+    quoted.extend_from_slice(&[0, 0, 0, 3])?;
+    comes_back(&rt, alloc, &payload(alloc, &quoted, 1, &[], &[0])?)
+}
+
+#[test]
+fn an_entry_is_at_most_sixteen_deep(rt: HostRuntime) -> Result<(), Fail> {
+    let alloc = rt.alloc();
+    for (roles, wanted) in [(15, None), (16, Some(37))] {
+        let mut fields = Vec::from_slice(alloc, &[1, 15])?;
+        for _ in 0..roles {
+            fields.push(5)?;
+        }
+        fields.extend_from_slice(&[1, 0, 0, 0, 1])?;
+        for _ in 0..roles {
+            fields.extend_from_slice(&[0, 0, 0, 2])?;
+        }
+        let bytes = payload(alloc, &[0], 3, &fields, &[0])?;
+        assert_eq!(rt; refused_at(alloc, &bytes), wanted, "in {roles} roles");
+    }
+    Ok(())
+}
+
+#[test]
+fn a_write_has_at_most_4096_bytes(rt: HostRuntime) -> Result<(), Fail> {
+    let alloc = rt.alloc();
+    for (high, low, len, wanted) in [(0x10, 0, 4096, None), (0x10, 1, 4097, Some(19))] {
+        let mut fields = Vec::from_slice(alloc, &[high, low])?;
+        for _ in 0..len {
+            fields.push(b'x')?;
+        }
+        let bytes = payload(alloc, &[0], 2, &fields, &[0])?;
+        assert_eq!(rt; refused_at(alloc, &bytes), wanted, "of {len} bytes");
+    }
+    Ok(())
+}
+
+#[test]
+fn eight_entries_and_sixteen_certificates_are_read(rt: HostRuntime) -> Result<(), Fail> {
+    let alloc = rt.alloc();
+    let mut fields = Vec::from_slice(alloc, &[8])?;
+    for rights in 1..9 {
+        fields.extend_from_slice(&[rights, 1, 0, 0, 0, rights])?;
+    }
+    let mut certs = Vec::from_slice(alloc, &[16])?;
+    for byte in 0..16 {
+        certs.extend_from_slice(&[0, 1, byte])?;
+    }
+    comes_back(&rt, alloc, &payload(alloc, &[0], 3, &fields, &certs)?)
+}
+
+#[test]
+fn a_seal_is_that_of_the_key_and_the_bytes(rt: HostRuntime) -> Result<(), Fail> {
+    let sealer = Sealer::of(&ONES);
+    assert!(rt; sealed_by(&ONES, &ANCHORED));
+    assert!(rt; sealed_with(&sealer, &ANCHORED));
+    assert!(rt; !sealed_by(&[2; 32], &ANCHORED));
+    for i in 0..52 {
+        let mut bytes = ANCHORED;
+        bytes[i] = bytes[i] ^ 1;
+        assert!(rt; !sealed_by(&ONES, &bytes), "a bit of byte {i}");
+        assert!(rt; !sealed_with(&sealer, &bytes), "a bit of byte {i}");
+    }
+    assert!(rt; !sealed_by(&ONES, &ANCHORED[..51]));
+    assert!(rt; !sealed_by(&ONES, &ANCHORED[21..]));
+    assert!(rt; !sealed_by(&ONES, &[]));
+    // a tag alone is that of nothing
+    assert!(rt; sealed_by(&ONES, &hmac(&ONES, &[])));
+    Ok(())
+}
+
+#[test]
+fn a_fault_names_its_byte(rt: HostRuntime) -> Result<(), Fail> {
+    let text = format!(in rt.alloc(); "{}", WireFault::Malformed { offset: 20 })?;
+    assert_eq!(rt; text.as_str(), "byte 20: malformed");
+    let text = format!(in rt.alloc(); "{}", WireFault::NoMemory)?;
+    assert_eq!(rt; text.as_str(), "out of memory");
+    Ok(())
+}

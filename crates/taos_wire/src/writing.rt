@@ -1,0 +1,261 @@
+//! Writing a request.
+
+ghost use Rattle.std.specs.Prelude.{◌≡◌, ◌++◌, ◌+◌, ◌<◌, ◌≤◌, ◌^◌, ◌∷◌, List, ℕ, All, drop, length, map, vec_capacity, OnOk, OnErr};
+ghost use Rattle.std.specs.Int.{w16, w32, w64, to_be_bytes};
+ghost use Rattle.std.specs.List.{flat_map};
+ghost use Rattle.std.specs.Option.{option_map};
+ghost use Rattle.keyed_seal.specs.Tag.{tag_of};
+ghost use Rattle.object_core.specs.Operation.{FitsOperation};
+ghost use Rattle.object_core.specs.View.{operation};
+ghost use Rattle.prin_term.specs.Principal.{spelling};
+ghost use Rattle.prin_term.specs.Steps.{counted, optional};
+ghost use Rattle.prin_term.specs.View.{grant, principal};
+ghost use Rattle.taos_wire.specs.Request.{FitsRequest, IsCertText, asked_bytes, certs_bytes, grant_bytes, kind_of, op_fields, origin_bytes, request_text, sealed};
+ghost use Rattle.taos_wire.specs.View.{request, text_of};
+
+use crate::request::Request;
+use keyed_seal::hmac;
+use object_core::Op;
+use prin_term::{Entry, Term, write_term};
+use std::alloc::AllocError;
+
+/// Appends the request's one spelling under the tag of the key. The request has to be within the
+/// limits of requests. An `Err` changes nothing.
+pub fn write_request(out: &mut Vec<u8>, key: &[u8; 32], asked: &Request) -> Result<(), AllocError>
+    requires limits { FitsRequest (request asked.now) }
+    ensures ok { OnOk result
+        (out.new.items ≡ out.old.items ++ sealed key.now (request asked.now)) }
+    ensures err { OnErr result (out.new.items ≡ out.old.items) }
+    ensures capacity { vec_capacity out.old ≤ vec_capacity out.new }
+    // Memory is refused only where the room behind what is there is too small.
+    ensures room { OnErr result
+        (vec_capacity out.old < length out.old.items + length (sealed key.now (request asked.now))) }
+{
+    let len = out.len();
+    let written = push_sealed(out, key, asked);
+    if written.is_err() {
+        out.truncate(len);
+    }
+    written
+}
+
+// Appends the text and its tag. What an `Err` leaves has the old bytes in front, here and below.
+fn push_sealed(out: &mut Vec<u8>, key: &[u8; 32], asked: &Request) -> Result<(), AllocError>
+    requires limits { FitsRequest (request asked.now) }
+    ensures ok { OnOk result
+        (out.new.items ≡ out.old.items ++ sealed key.now (request asked.now)) }
+    ensures err { OnErr result ((more : List ℕ) × (out.new.items ≡ out.old.items ++ more)) }
+    ensures capacity { vec_capacity out.old ≤ vec_capacity out.new }
+    ensures room { OnErr result
+        (vec_capacity out.old < length out.old.items + length (sealed key.now (request asked.now))) }
+{
+    let start = out.len();
+    push_text(out, asked)?;
+    push_tag(out, key, start)
+}
+
+// The tag of what stands from `start` on.
+fn push_tag(out: &mut Vec<u8>, key: &[u8; 32], start: usize) -> Result<(), AllocError>
+    requires within { start ≤ length out.old.items }
+    ensures ok { OnOk result
+        (out.new.items ≡ out.old.items ++ tag_of key.now (drop start out.old.items)) }
+    ensures err { OnErr result (out.new.items ≡ out.old.items) }
+    ensures capacity { vec_capacity out.old ≤ vec_capacity out.new }
+    ensures room { OnErr result (vec_capacity out.old < length out.old.items + 32) }
+{
+    let tag = hmac(key, &out[start..]);
+    out.extend_from_slice(&tag)
+}
+
+fn push_text(out: &mut Vec<u8>, asked: &Request) -> Result<(), AllocError>
+    requires limits { FitsRequest (request asked.now) }
+    ensures ok { OnOk result
+        (out.new.items ≡ out.old.items ++ request_text (request asked.now)) }
+    ensures err { OnErr result ((more : List ℕ) × (out.new.items ≡ out.old.items ++ more)) }
+    ensures capacity { vec_capacity out.old ≤ vec_capacity out.new }
+    ensures room { OnErr result
+        (vec_capacity out.old < length out.old.items + length (request_text (request asked.now))) }
+{
+    push_origin(out, asked.channel, asked.seq, &asked.quoted)?;
+    push_asked(out, asked.object, &asked.op)?;
+    push_certs(out, &asked.certs)
+}
+
+// The version, the channel and the number.
+fn head_of(channel: u32, seq: u64) -> [u8; 13]
+    ensures { result ≡ 3 ∷ to_be_bytes w32 channel ++ to_be_bytes w64 seq }
+{
+    let c = channel.to_be_bytes();
+    let s = seq.to_be_bytes();
+    [
+        3, c[0], c[1], c[2], c[3], s[0], s[1], s[2], s[3], s[4], s[5], s[6], s[7],
+    ]
+}
+
+// The version, the channel, the number, and who is quoted.
+fn push_origin(
+    out: &mut Vec<u8>,
+    channel: u32,
+    seq: u64,
+    quoted: &Option<Term>,
+) -> Result<(), AllocError>
+    ensures ok { OnOk result
+        (out.new.items ≡ out.old.items ++ origin_bytes channel seq (option_map principal quoted.now)) }
+    ensures err { OnErr result ((more : List ℕ) × (out.new.items ≡ out.old.items ++ more)) }
+    ensures capacity { vec_capacity out.old ≤ vec_capacity out.new }
+    ensures room { OnErr result
+        (vec_capacity out.old < length out.old.items + length (origin_bytes channel seq (option_map principal quoted.now))) }
+{
+    out.extend_from_slice(&head_of(channel, seq))?;
+    push_quoted(out, quoted)
+}
+
+fn push_quoted(out: &mut Vec<u8>, quoted: &Option<Term>) -> Result<(), AllocError>
+    ensures ok { OnOk result
+        (out.new.items ≡ out.old.items ++ optional spelling (option_map principal quoted.now)) }
+    ensures err { OnErr result ((more : List ℕ) × (out.new.items ≡ out.old.items ++ more)) }
+    ensures capacity { vec_capacity out.old ≤ vec_capacity out.new }
+    ensures room { OnErr result
+        (vec_capacity out.old < length out.old.items + length (optional spelling (option_map principal quoted.now))) }
+{
+    match quoted {
+        None => {
+            out.push(0)?;
+            Ok(())
+        }
+        Some(term) => {
+            out.push(1)?;
+            write_term(out, term)
+        }
+    }
+}
+
+// The byte that names an operation.
+fn kind_of(op: &Op) -> u8
+    ensures { result ≡ kind_of (operation op.now) }
+{
+    match op {
+        Op::Read => 1,
+        Op::Write(_) => 2,
+        Op::SetList(_) => 3,
+        Op::Hold => 4,
+        Op::Discard(_) => 5,
+        Op::Forget(_) => 6,
+        Op::Sweep => 7,
+    }
+}
+
+// The operation's name, the object, and the operation's fields.
+fn push_asked(out: &mut Vec<u8>, object: u32, op: &Op) -> Result<(), AllocError>
+    requires limits { FitsOperation (operation op.now) }
+    ensures ok { OnOk result
+        (out.new.items ≡ out.old.items ++ asked_bytes object (operation op.now)) }
+    ensures err { OnErr result ((more : List ℕ) × (out.new.items ≡ out.old.items ++ more)) }
+    ensures capacity { vec_capacity out.old ≤ vec_capacity out.new }
+    ensures room { OnErr result
+        (vec_capacity out.old < length out.old.items + length (asked_bytes object (operation op.now))) }
+{
+    out.push(kind_of(op))?;
+    out.extend_from_slice(&object.to_be_bytes())?;
+    push_fields(out, op)
+}
+
+fn push_fields(out: &mut Vec<u8>, op: &Op) -> Result<(), AllocError>
+    requires limits { FitsOperation (operation op.now) }
+    ensures ok { OnOk result
+        (out.new.items ≡ out.old.items ++ op_fields (operation op.now)) }
+    ensures err { OnErr result ((more : List ℕ) × (out.new.items ≡ out.old.items ++ more)) }
+    ensures capacity { vec_capacity out.old ≤ vec_capacity out.new }
+    ensures room { OnErr result
+        (vec_capacity out.old < length out.old.items + length (op_fields (operation op.now))) }
+{
+    match op {
+        Op::Write(content) => push_counted(out, content),
+        Op::SetList(list) => push_list(out, list),
+        Op::Discard(digest) => out.extend_from_slice(digest),
+        Op::Forget(channel) => out.extend_from_slice(&channel.to_be_bytes()),
+        Op::Read | Op::Hold | Op::Sweep => Ok(()),
+    }
+}
+
+// Bytes behind their length.
+fn push_counted(out: &mut Vec<u8>, text: &[u8]) -> Result<(), AllocError>
+    requires short { length text.now < 2 ^ 16 }
+    ensures ok { OnOk result (out.new.items ≡ out.old.items ++ counted w16 text.now) }
+    ensures err { OnErr result ((more : List ℕ) × (out.new.items ≡ out.old.items ++ more)) }
+    ensures capacity { vec_capacity out.old ≤ vec_capacity out.new }
+    ensures room { OnErr result
+        (vec_capacity out.old < length out.old.items + length (counted w16 text.now)) }
+{
+    let len = text.len() as u16;
+    out.extend_from_slice(&len.to_be_bytes())?;
+    out.extend_from_slice(text)
+}
+
+// Entries behind their count.
+fn push_list(out: &mut Vec<u8>, list: &[Entry]) -> Result<(), AllocError>
+    requires few { length list.now < 256 }
+    ensures ok { OnOk result (out.new.items
+        ≡ out.old.items ++ length list.now ∷ flat_map grant_bytes (map grant list.now)) }
+    ensures err { OnErr result ((more : List ℕ) × (out.new.items ≡ out.old.items ++ more)) }
+    ensures capacity { vec_capacity out.old ≤ vec_capacity out.new }
+    ensures room { OnErr result (vec_capacity out.old
+        < length out.old.items + length (length list.now ∷ flat_map grant_bytes (map grant list.now))) }
+{
+    out.push(list.len() as u8)?;
+    push_entries(out, list)
+}
+
+fn push_entries(out: &mut Vec<u8>, list: &[Entry]) -> Result<(), AllocError>
+    ensures ok { OnOk result
+        (out.new.items ≡ out.old.items ++ flat_map grant_bytes (map grant list.now)) }
+    ensures err { OnErr result ((more : List ℕ) × (out.new.items ≡ out.old.items ++ more)) }
+    ensures capacity { vec_capacity out.old ≤ vec_capacity out.new }
+    ensures room { OnErr result (vec_capacity out.old
+        < length out.old.items + length (flat_map grant_bytes (map grant list.now))) }
+{
+    for entry in list {
+        push_entry(out, entry)?;
+    }
+    Ok(())
+}
+
+fn push_entry(out: &mut Vec<u8>, entry: &Entry) -> Result<(), AllocError>
+    ensures ok { OnOk result (out.new.items ≡ out.old.items ++ grant_bytes (grant entry.now)) }
+    ensures err { OnErr result ((more : List ℕ) × (out.new.items ≡ out.old.items ++ more)) }
+    ensures capacity { vec_capacity out.old ≤ vec_capacity out.new }
+    ensures room { OnErr result
+        (vec_capacity out.old < length out.old.items + length (grant_bytes (grant entry.now))) }
+{
+    out.push(entry.rights)?;
+    write_term(out, &entry.who)
+}
+
+// Certificates behind their count.
+fn push_certs(out: &mut Vec<u8>, certs: &[Vec<u8>]) -> Result<(), AllocError>
+    requires few { length certs.now < 256 }
+    requires short { All IsCertText (map text_of certs.now) }
+    ensures ok { OnOk result (out.new.items ≡ out.old.items ++ certs_bytes (map text_of certs.now)) }
+    ensures err { OnErr result ((more : List ℕ) × (out.new.items ≡ out.old.items ++ more)) }
+    ensures capacity { vec_capacity out.old ≤ vec_capacity out.new }
+    ensures room { OnErr result
+        (vec_capacity out.old < length out.old.items + length (certs_bytes (map text_of certs.now))) }
+{
+    out.push(certs.len() as u8)?;
+    push_texts(out, certs)
+}
+
+fn push_texts(out: &mut Vec<u8>, certs: &[Vec<u8>]) -> Result<(), AllocError>
+    requires short { All IsCertText (map text_of certs.now) }
+    ensures ok { OnOk result
+        (out.new.items ≡ out.old.items ++ flat_map (counted w16) (map text_of certs.now)) }
+    ensures err { OnErr result ((more : List ℕ) × (out.new.items ≡ out.old.items ++ more)) }
+    ensures capacity { vec_capacity out.old ≤ vec_capacity out.new }
+    ensures room { OnErr result (vec_capacity out.old
+        < length out.old.items + length (flat_map (counted w16) (map text_of certs.now))) }
+{
+    for cert in certs {
+        push_counted(out, cert)?;
+    }
+    Ok(())
+}
