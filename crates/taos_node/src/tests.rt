@@ -9,13 +9,13 @@ use std::thread::Threads;
 // the tags are those that `hmac` and `hashlib` of Python make of them, where the key of channel n is
 // 32 bytes of n.
 
-// Channel 1 reads object 5, as its request 1.
+// Channel 1 reads object 5, as its first request.
 const BY_ONE: [&str; 2] = [
     "00000034 03 00000001 0000000000000001 00 01 00000005 00",
     "4afc9eb732af74440ece46185f2c6e4c4b5005637c8b8e7f57851cdf32e520d5",
 ];
 
-// Channel 2 reads object 5, as its request 1.
+// Channel 2 reads object 5, as its first request.
 const BY_TWO: [&str; 2] = [
     "00000034 03 00000002 0000000000000001 00 01 00000005 00",
     "c73f631a5a521c8b03db0330288f054e6d352301c2f99b9b79b754d8bf5ae19e",

@@ -8,7 +8,7 @@ use std::test::Fail;
 
 const ONES: [u8; 32] = [1; 32];
 
-// channel 1 reads object 5, as its request 1; Python's hmac made the tag under ONES
+// channel 1 reads object 5, as its first request; Python's hmac made the tag under ONES
 const ANCHORED: [u8; 52] = [
     3, 0, 0, 0, 1, 0, 0, 0, 0, 0, 0, 0, 1, 0, 1, 0, 0, 0, 5, 0, 0x4a, 0xfc, 0x9e, 0xb7, 0x32, 0xaf,
     0x74, 0x44, 0x0e, 0xce, 0x46, 0x18, 0x5f, 0x2c, 0x6e, 0x4c, 0x4b, 0x50, 0x05, 0x63, 0x7c, 0x8b,
@@ -21,7 +21,7 @@ const LARGE: [u8; 47] = [
     1, 0, 0, 0, 1, 1, 0, 0, 0, 1, 1, 0, 0, 0, 1,
 ];
 
-// Channel 1's request 1 at object 5, up to its tag, with a tag of zeros.
+// Channel 1's first request, of object 5, up to its tag, with a tag of zeros.
 fn payload(
     alloc: Global,
     quoted: &[u8],
