@@ -1,11 +1,10 @@
 -- What a payload that comes to an object is.
-use Rattle.std.proofs.Common.{◌≡◌, ◌-◌, ◌≤◌, ℕ, List, ◌++◌, length, take, drop, None, Some, false, true, refl, sym, ap, subst, ◌∙◌, arith}
-use Rattle.std.specs.Prelude.{Option, IsSome, IfSome}
+use Rattle.std.proofs.Common.{◌≡◌, ◌-◌, ℕ, List, ◌++◌, length, take, drop, None, sym, ap, ◌∙◌, arith}
 use Rattle.std.proofs.lemmas.List.{take-append-drop, take_all, length-drop}
 use Rattle.std.proofs.lemmas.Option.{none-some}
 use Rattle.keyed_seal.specs.Tag.{tag_of}
 use Rattle.keyed_seal.proofs.Tags.{length-tag_of}
-use Rattle.taos_node.specs.Opening.{Opening, ObjectPlan, plan_of}
+use Rattle.taos_node.specs.Opening.{Opening, plan_of}
 use Rattle.taos_node.specs.Messages.{Request, FitsFields, request_text}
 use Rattle.taos_node.specs.Course.{Arrival}
 

@@ -1,18 +1,17 @@
 -- The statuses of the top call, from what was done.
-use Rattle.std.proofs.Common.{◌≡◌, ◌≢◌, ◌⊎◌, ℕ, ◌+◌, ◌<◌, ◌≤◌, List, [], ◌++◌, length, take, None, Some, Ok, Err, refl, sym, ap, subst, ◌∙◌, arith, inl, inr}
-use Rattle.std.specs.Prelude.{Option, All}
-use Rattle.std.specs.Io.KnownBytes.{Consumes, IsAtEnd, Keeps}
+use Rattle.std.proofs.Common.{◌≡◌, ◌≢◌, ℕ, ◌<◌, ◌≤◌, List, length, Some, refl, sym, ap, subst, arith, inl, inr}
+use Rattle.std.specs.Prelude.{Option}
+use Rattle.std.specs.Io.KnownBytes.{Consumes, IsAtEnd}
 use Rattle.std.proofs.lemmas.List.{length-append}
 use Rattle.frame_link.specs.declared.outcome.Outcome.{Outcome}
 use Rattle.frame_link.specs.declared.outcome.Outcome.TheVariants.{End, Truncated, TooLong, ReadFault, WriteFault, ClockFault, Spent, NoMemory}
-use Rattle.frame_link.specs.Faults.{Rose}
 use Rattle.taos_node.specs.declared.opening.Opening as code
 use Rattle.taos_node.specs.Opening.{Opening, Spells}
 use Rattle.taos_node.specs.OpeningView.{Represents}
 use Rattle.taos_node.specs.Meaning.{opening}
-use Rattle.taos_node.specs.Run.{IsConnection, StandsStill, IsComplete, HasCauses}
+use Rattle.taos_node.specs.Run.{IsConnection, IsComplete, HasCauses}
 use Rattle.taos_node.specs.Command.{IsOpeningFile, Opens, IsRefused, Runs, served, FileDecides, EndsWell, TellsFaults, status_of, max_file, max_frames}
-use Rattle.taos_node.proofs.Complete.{left_behind, all_taken, still}
+use Rattle.taos_node.proofs.Complete.{left_behind, all_taken}
 use Rattle.taos_node.proofs.SameNodes.{same_node, connection_at}
 
 -- a file that tells that it opens a node is not refused

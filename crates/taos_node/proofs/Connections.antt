@@ -1,8 +1,8 @@
 -- What serving does, told without the steps in between.
-use Rattle.std.proofs.Common.{◌⊎◌, ℕ, ◌+◌, ◌<◌, ◌≤◌, ◌≡◌, ◌^◌, List, [], ◌∷◌, ◌++◌, length, map, refl, sym, ap, subst, ◌∙◌, append-nil, arith, inl, inr}
+use Rattle.std.proofs.Common.{◌⊎◌, ℕ, ◌+◌, ◌<◌, ◌≤◌, ◌≡◌, ◌^◌, List, [], ◌∷◌, ◌++◌, length, refl, sym, ap, subst, ◌∙◌, append-nil, arith, inl, inr}
 use Rattle.std.specs.Prelude.{Option, All}
 use Rattle.std.specs.Int.{w32, to_be_bytes}
-use Rattle.std.specs.Io.KnownBytes.{Consumes, IsAtEnd}
+use Rattle.std.specs.Io.KnownBytes.{Consumes}
 use Rattle.std.proofs.KnownBytes.{Consumes-nil, Consumes-trans, Consumes-kept, Appends-nil, Appends-kept, Appends-trans}
 use Rattle.std.proofs.lemmas.List.{length-append, length-map}
 use Rattle.std.proofs.lemmas.List.Elements.{All-nil, All-push}
@@ -13,7 +13,7 @@ use Rattle.taos_node.specs.Opening.{Opening}
 use Rattle.taos_node.specs.Messages.{spelling}
 use Rattle.taos_node.specs.Run.{max_request, Turn, IsCourse, frames_of, readings_of, replies_of, Gave, AreTurns, EndsAs, IsWritten, IsConnection}
 use Rattle.taos_node.specs.Serving.{Progress, EndsInReply, EndsAtClock, Serves}
-use Rattle.taos_node.proofs.Steps.{gave_on, frames_on, replies_on, readings_on, framed_on, frames_taken, frames_within}
+use Rattle.taos_node.proofs.Steps.{gave_on, replies_on, readings_on, framed_on, frames_taken, frames_within}
 
 empty_part : IsPart max_request []
 empty_part = in_word (omega arith)

@@ -1,20 +1,20 @@
 -- The course of a request, from what was done for it.
-use Rattle.std.proofs.Common.{◌≡◌, ◌<◌, ◌≤◌, ◌^◌, ℕ, List, [], ◌∷◌, length, map, None, Some, refl, sym, ap, subst, ◌∙◌, arith, inl, inr}
-use Rattle.std.specs.Prelude.{Option, slice_get, All, ◌⊎◌, false}
+use Rattle.std.proofs.Common.{◌≡◌, ◌<◌, ◌^◌, ℕ, List, [], ◌∷◌, length, Some, refl, sym, ap, subst, ◌∙◌, arith, inl, inr}
+use Rattle.std.specs.Prelude.{Option, slice_get, ◌⊎◌, false}
 use Rattle.std.proofs.KnownBytes.{Keeps-refl}
 use Rattle.prin_term.specs.declared.term.Anchor.{Anchor}
-use Rattle.prin_term.specs.Principal.{Principal, Key, Name}
+use Rattle.prin_term.specs.Principal.{Principal, Key}
 use Rattle.prin_term.specs.View.{Grant}
 use Rattle.frame_link.specs.Readings.{ShowsKnown}
 use Rattle.taos_calculus.specs.declared.line.Step.{Step}
-use Rattle.taos_calculus.specs.Atoms.{IsAtom, IsAnchoredTo, anchor_of}
-use Rattle.taos_calculus.specs.Monitor.{FirstEntry, Grants, HasRight, MaySpeak}
+use Rattle.taos_calculus.specs.Atoms.{IsAnchoredTo, anchor_of}
+use Rattle.taos_calculus.specs.Monitor.{MaySpeak}
 use Rattle.taos_calculus.specs.Rules.{Line, line, SpeaksFor, Proves, Follows, same, anchored}
 use Rattle.taos_calculus.proofs.Atoms.{atom_is_decided}
 use Rattle.taos_calculus.proofs.Induction.{All-at}
 use Rattle.taos_node.specs.Opening.{Opening, ObjectPlan, IsPlainGrant, IsPlainObject}
-use Rattle.taos_node.specs.Messages.{Request, subject_of, Granted, Denied, NoMemory, Untold, Unbuilt, Sent, sealed, unsealed, spelling}
-use Rattle.taos_node.specs.Course.{Arrival, HasArrived, Course, read_right, unbuilt, granted, denied, unread, unasked}
+use Rattle.taos_node.specs.Messages.{Request, subject_of, Granted, Denied, NoMemory, Untold, Unbuilt, sealed, unsealed, spelling}
+use Rattle.taos_node.specs.Course.{Arrival, HasArrived, unbuilt, granted, denied, unasked}
 use Rattle.taos_node.specs.Deciding.{GivesAtom, IsFirst, IsNotFor}
 use Rattle.taos_node.specs.Ruling.{IsRuled, grants, denies, lacks_memory}
 use Rattle.taos_node.specs.Serving.{Takes}

@@ -1,16 +1,14 @@
 -- Entries of access lists by their places.
-use Rattle.std.proofs.Common.{◌≡◌, ◌<◌, ◌≤◌, ℕ, List, length, map, Some, None, sym, ap, subst, refl, ◌∙◌, arith}
+use Rattle.std.proofs.Common.{◌≡◌, ◌<◌, ◌≤◌, ℕ, List, length, map, Some, sym, ap, subst, refl, ◌∙◌, arith}
 use Rattle.std.specs.Prelude.{slice_get, slice_index_or, option_map, bit_and, Contains}
 use Rattle.std.proofs.lemmas.Option.{slice_get-map, slice_get_read, slice_get_within, get_or_from_slice_get, same_Some}
 use Rattle.std.proofs.lemmas.List.{length-map}
 use Rattle.prin_term.specs.declared.term.Anchor.{Anchor}
 use Rattle.prin_term.specs.declared.term.Entry.{Entry}
 use Rattle.prin_term.specs.View.{Grant, grant, principal}
-use Rattle.prin_term.specs.Principal.{Principal, Key, Name}
+use Rattle.prin_term.specs.Principal.{Principal}
 use Rattle.taos_calculus.specs.declared.line.Step.{Step}
 use Rattle.taos_calculus.specs.Atoms.{IsAnchoredTo}
-use Rattle.taos_calculus.specs.Monitor.{HasRight, FirstEntry}
-use Rattle.taos_node.specs.Course.{read_right}
 use Rattle.taos_node.specs.Deciding.{GivesAtom, NamesAtom, IsFirst, IsNotFor}
 
 -- the entry that was read at a place stands there

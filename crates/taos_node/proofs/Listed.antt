@@ -1,6 +1,6 @@
 -- Looking up an object by its number.
-use Rattle.std.proofs.Common.{◌≡◌, ℕ, List, [], ◌∷◌, map, Some, None, true, false, Bool, refl, ap, sym, subst, ◌∙◌}
-use Rattle.std.specs.Prelude.{Option, find, option_map, ◌==◌, cond}
+use Rattle.std.proofs.Common.{◌≡◌, ℕ, List, [], ◌∷◌, map, Some, true, false, Bool, refl, ap, sym, ◌∙◌}
+use Rattle.std.specs.Prelude.{Option, option_map, ◌==◌, cond}
 use Rattle.std.specs.Ordering.{is_eq, nat_cmp}
 use Rattle.std.specs.Map.{lookup}
 use Rattle.std.specs.Cmp.{unsigned_tied}

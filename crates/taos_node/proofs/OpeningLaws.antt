@@ -1,31 +1,20 @@
 -- What is read as an opening is spelled so, and what is spelled so is read.
-use Rattle.std.proofs.Common.{◌≡◌, ◌≢◌, ℕ, ◌+◌, ◌-◌, ◌^◌, ◌<◌, ◌≤◌, Bool, true, false, cond, leb, ltb, eqb, ◌&&◌, List, [], ◌∷◌, ◌++◌, length, drop, Ok, Err, refl, sym, ap, subst, ◌∙◌, append_assoc, append-nil, arith, inl, inr, length-append, length-drop}
+use Rattle.std.proofs.Common.{◌≡◌, ◌≢◌, ℕ, ◌+◌, ◌^◌, ◌<◌, ◌≤◌, true, false, cond, leb, ltb, List, [], ◌∷◌, ◌++◌, length, drop, Ok, Err, refl, sym, ap, subst, ◌∙◌, append_assoc, append-nil, arith, inl, inr}
 use Rattle.std.specs.Prelude.{All, AllPairs}
 use Rattle.std.specs.List.{flat_map}
 use Rattle.std.specs.Int.{w16, w32, w64, to_be_bytes}
-use Rattle.std.proofs.lemmas.Bool.{le-leb, leb-true, eqb-true, eqb-false, ltb-false, le-ltb}
+use Rattle.std.proofs.lemmas.Bool.{le-leb, leb-true, ltb-false, le-ltb}
 use Rattle.std.proofs.lemmas.List.{drop_all}
-use Rattle.std.proofs.lemmas.Bool.Decides.{nat_tests}
-use Rattle.std.proofs.lemmas.List.Elements.{All-weaker}
-use Rattle.prin_term.specs.declared.term.Anchor.{Anchor}
-use Rattle.prin_term.specs.declared.limits.TheConstants.{ENTRY_NODES}
-use Rattle.prin_term.specs.Principal.{Principal, Key, Name, And, Quoting, InRole, For, HasSpelling, spelling, node_count, depth}
-use Rattle.prin_term.specs.Reading.{front_term, term_at}
-use Rattle.prin_term.specs.Steps.{◌>>=◌, with_fault, byte_at, bytes_at, number_at}
-use Rattle.prin_term.specs.View.{Grant}
-use Rattle.prin_term.proofs.Results.{bind_ok, ok_is, chosen, with_fault_ok}
-use Rattle.prin_term.proofs.FieldLaws.{IsBytes, wide16, wide32, wide64, took}
-use Rattle.prin_term.proofs.Terms.{term_again}
-use Rattle.prin_term.proofs.Whole.{found_at}
+use Rattle.prin_term.proofs.Results.{bind_ok, ok_is, chosen}
+use Rattle.prin_term.proofs.FieldLaws.{IsBytes}
 use Rattle.taos_node.specs.declared.opening.OpeningFault.{OpeningFault}
 use Rattle.taos_node.specs.declared.opening.OpeningFault.TheVariants.{Byte}
 use Rattle.taos_node.specs.declared.opening.head.Head.{Head}
-use Rattle.taos_node.specs.Opening.{Opening, ObjectPlan, opening_bytes, channel_bytes, anchor_bytes, grant_bytes, object_bytes, IsByte, IsKey, IsChannel, IsAnchor, IsPlainGrant, IsPlainObject, journal_room, IsPlain, Spells}
-use Rattle.prin_term.specs.Readers.{is_new}
-use Rattle.taos_node.specs.OpeningReading.{ended, seen_as, is_within, is_atom, same_anchor, mark_at, number_in, shards_at, head_at, new_channel_at, channel_at, channels_at, anchor_at, anchors_at, commons_at, atom_at, entry_at, list_at, content_at, new_object_at, object_at, objects_at, fields_at, opening_of}
-use Rattle.taos_node.proofs.OpeningFields.{head_bytes, IsHead, reads_head, reads_channels, reads_anchors, reads_commons}
+use Rattle.taos_node.specs.Opening.{Opening, opening_bytes, channel_bytes, anchor_bytes, object_bytes, IsKey, IsChannel, IsAnchor, IsPlainObject, journal_room, IsPlain, Spells}
+use Rattle.taos_node.specs.OpeningReading.{ended, fields_at, opening_of}
+use Rattle.taos_node.proofs.OpeningFields.{head_bytes, reads_head, reads_channels, reads_anchors, reads_commons}
 use Rattle.taos_node.proofs.OpeningObjects.{reads_objects}
-use Rattle.prin_term.proofs.ReaderLaws.{Reads, reads_byte, reads_number, reads_bytes, reads_followed, reads_passing, reads_made, reads_as, reads_counted, is_new-All, is_new-from_All}
+use Rattle.prin_term.proofs.ReaderLaws.{Reads, reads_followed, reads_made}
 
 -- a plain opening, but for the room of its journals
 record HasPlainFields (o : Opening) : Type 0 where

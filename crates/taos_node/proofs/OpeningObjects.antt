@@ -1,31 +1,27 @@
 -- The objects of an opening: what is read is spelled so, and the other way.
-use Rattle.std.proofs.Common.{◌≡◌, ◌≢◌, ℕ, ◌+◌, ◌-◌, ◌^◌, ◌<◌, ◌≤◌, Bool, true, false, cond, leb, ltb, eqb, ◌&&◌, List, [], ◌∷◌, ◌++◌, length, drop, Ok, Err, refl, sym, ap, subst, ◌∙◌, append_assoc, append-nil, arith, inl, inr, length-append, length-drop}
+use Rattle.std.proofs.Common.{◌≡◌, ◌≢◌, ℕ, ◌+◌, ◌-◌, ◌^◌, ◌<◌, ◌≤◌, true, false, leb, eqb, List, ◌∷◌, ◌++◌, length, drop, Ok, refl, sym, ap, subst, ◌∙◌, append_assoc, arith, length-append, length-drop}
 use Rattle.std.specs.Prelude.{All, AllPairs}
 use Rattle.std.specs.List.{flat_map}
-use Rattle.std.specs.Int.{w16, w32, w64, to_be_bytes}
-use Rattle.std.proofs.lemmas.Bool.{le-leb, leb-true, eqb-true, eqb-false, ltb-false, le-ltb}
-use Rattle.std.proofs.lemmas.List.{drop_all}
+use Rattle.std.specs.Int.{w16, w32, to_be_bytes}
+use Rattle.std.proofs.lemmas.Bool.{le-leb, leb-true, eqb-false}
 use Rattle.std.proofs.lemmas.Bool.Decides.{nat_tests}
 use Rattle.std.proofs.lemmas.List.Elements.{All-weaker}
-use Rattle.prin_term.specs.declared.term.Anchor.{Anchor}
 use Rattle.prin_term.specs.declared.limits.TheConstants.{ENTRY_NODES}
 use Rattle.prin_term.specs.Principal.{Principal, Key, Name, And, Quoting, InRole, For, HasSpelling, spelling, node_count, depth}
 use Rattle.prin_term.specs.Reading.{front_term, term_at}
-use Rattle.prin_term.specs.Steps.{◌>>=◌, with_fault, byte_at, bytes_at, number_at}
+use Rattle.prin_term.specs.Steps.{◌>>=◌, with_fault}
 use Rattle.prin_term.specs.View.{Grant}
-use Rattle.prin_term.proofs.Results.{bind_ok, ok_is, chosen, with_fault_ok}
-use Rattle.prin_term.proofs.FieldLaws.{IsBytes, wide16, wide32, wide64, took}
+use Rattle.prin_term.proofs.Results.{with_fault_ok}
+use Rattle.prin_term.proofs.FieldLaws.{took}
 use Rattle.prin_term.proofs.Terms.{term_again}
 use Rattle.prin_term.proofs.Whole.{found_at}
-use Rattle.taos_node.specs.declared.opening.OpeningFault.{OpeningFault}
 use Rattle.taos_node.specs.declared.opening.OpeningFault.TheVariants.{Byte}
-use Rattle.taos_node.specs.declared.opening.head.Head.{Head}
 use Rattle.taos_calculus.specs.Atoms.{IsAtom}
-use Rattle.taos_node.specs.Opening.{Opening, ObjectPlan, opening_bytes, channel_bytes, anchor_bytes, grant_bytes, object_bytes, IsByte, IsKey, IsChannel, IsAnchor, IsPlainGrant, IsPlainObject, journal_room, IsPlain, Spells}
+use Rattle.taos_node.specs.Opening.{ObjectPlan, grant_bytes, object_bytes, IsByte, IsPlainGrant, IsPlainObject}
 use Rattle.prin_term.specs.Readers.{is_new}
-use Rattle.taos_node.specs.OpeningReading.{ended, seen_as, is_within, is_atom, same_anchor, mark_at, number_in, shards_at, head_at, new_channel_at, channel_at, channels_at, anchor_at, anchors_at, commons_at, atom_at, entry_at, list_at, content_at, new_object_at, object_at, objects_at, fields_at, opening_of}
+use Rattle.taos_node.specs.OpeningReading.{ended, seen_as, is_within, is_atom, atom_at, entry_at, list_at, content_at, new_object_at, object_at, objects_at}
 use Rattle.taos_node.proofs.OpeningFields.{within_is, is_within-true, reads_u8, reads_u16, reads_u32}
-use Rattle.prin_term.proofs.ReaderLaws.{Reads, reads_byte, reads_number, reads_bytes, reads_followed, reads_passing, reads_made, reads_as, reads_counted, is_new-All, is_new-from_All}
+use Rattle.prin_term.proofs.ReaderLaws.{Reads, reads_bytes, reads_followed, reads_passing, reads_made, reads_as, reads_counted, is_new-All, is_new-from_All}
 
 spelling_some : (t : Principal) → 0 < length (spelling t)
 spelling_some (Key k) = omega arith

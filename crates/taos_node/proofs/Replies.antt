@@ -1,10 +1,10 @@
 -- The bytes of a grant, piece by piece.
-use Rattle.std.proofs.Common.{◌≡◌, ℕ, List, [], ◌∷◌, ◌++◌, length, refl, sym, ap, subst, ◌∙◌, false}
+use Rattle.std.proofs.Common.{◌≡◌, ℕ, List, ◌∷◌, ◌++◌, length, ap, ◌∙◌, false}
 use Rattle.std.specs.Int.{w16, w32, w64, to_be_bytes}
 use Rattle.keyed_seal.specs.Tag.{tag_of}
 use Rattle.taos_calculus.specs.Rules.{Line}
 use Rattle.taos_calculus.specs.Spelling.{proof_spelling}
-use Rattle.taos_node.specs.Messages.{Request, Granted, Sent, sealed, spelling, reply_text}
+use Rattle.taos_node.specs.Messages.{Request, Granted, sealed, spelling}
 
 -- what stands before the proof
 abbrev pub front : Request → ℕ → ℕ → List ℕ

@@ -1,5 +1,5 @@
 -- Two openings in which each look-up finds the same have the same courses.
-use Rattle.std.proofs.Common.{◌≡◌, ◌≤◌, ◌<◌, ℕ, List, [], ◌∷◌, length, map, None, Some, Result, Ok, Err, true, false, Bool, cond, refl, sym, ap, subst, ◌∙◌}
+use Rattle.std.proofs.Common.{◌≡◌, ◌≤◌, ℕ, List, [], ◌∷◌, length, Some, Result, Ok, Err, true, false, Bool, cond, sym, subst, ◌∙◌}
 use Rattle.std.specs.Prelude.{Option, All, IfOk, find, slice_index_or}
 use Rattle.std.proofs.lemmas.List.Elements.{All-head, All-tail}
 use Rattle.std.proofs.lemmas.Option.{none-some, same_Some}
@@ -7,16 +7,16 @@ use Rattle.prin_term.specs.declared.term.Anchor.{Anchor}
 use Rattle.prin_term.specs.View.{Grant}
 use Rattle.frame_link.specs.declared.outcome.Outcome.{Outcome}
 use Rattle.frame_link.specs.declared.outcome.Outcome.TheVariants.{End, Truncated, TooLong, ReadFault, WriteFault, ClockFault, Spent, NoMemory}
-use Rattle.taos_calculus.specs.Rules.{Line, SpeaksFor, Proves}
+use Rattle.taos_calculus.specs.Rules.{SpeaksFor, Proves}
 use Rattle.taos_calculus.specs.Monitor.{FirstEntry, Grants, MaySpeak}
 use Rattle.taos_node.specs.declared.opening.Opening as code
 use Rattle.taos_node.specs.declared.opening.OpeningFault.{OpeningFault}
-use Rattle.taos_node.specs.Opening.{Opening, ObjectPlan, Spells, plan_of, IsPlain, IsPlainObject}
+use Rattle.taos_node.specs.Opening.{Opening, ObjectPlan, Spells, IsPlain, IsPlainObject}
 use Rattle.taos_node.specs.OpeningView.{Represents}
 use Rattle.taos_node.specs.Messages.{Request, Sent, subject_of}
 use Rattle.taos_node.specs.Meaning.{opening, IsServable, SameNode}
 use Rattle.taos_node.specs.Course.{HasArrived, Arrival, Course, read_right, unbuilt, granted, denied, unread, unasked}
-use Rattle.taos_node.specs.Run.{Turn, IsCourse, AreTurns, IsConnection}
+use Rattle.taos_node.specs.Run.{Turn, AreTurns, IsConnection}
 use Rattle.taos_node.proofs.Listed.{plan_of-listed}
 
 pub same_node : (node : code.Opening) (o : Opening) → Represents node o → SameNode (opening node) o

@@ -1,7 +1,6 @@
 -- One frame more.
-use Rattle.std.proofs.Common.{◌≡◌, ℕ, ◌+◌, ◌<◌, ◌≤◌, List, [], ◌∷◌, ◌++◌, length, map, None, Some, refl, sym, ap, subst, ◌∙◌, append_assoc, append-nil, arith}
+use Rattle.std.proofs.Common.{◌≡◌, ℕ, ◌+◌, ◌<◌, ◌≤◌, List, [], ◌∷◌, ◌++◌, length, map, None, Some, refl, sym, ap, subst, ◌∙◌, append-nil, arith}
 use Rattle.std.specs.Prelude.{Option, All}
-use Rattle.std.specs.List.{flat_map}
 use Rattle.std.specs.Io.KnownBytes.{Consumes, Appends, Keeps}
 use Rattle.std.proofs.KnownBytes.{Consumes-nil, Consumes-trans, Appends-nil, Appends-trans, Appends-kept, Keeps-refl, Keeps-trans}
 use Rattle.std.proofs.lemmas.Grind.{flat_map-append}
@@ -14,7 +13,6 @@ use Rattle.frame_link.specs.Next as link
 use Rattle.frame_link.specs.Readings.{Shows, ShowsKnown}
 use Rattle.taos_node.specs.Opening.{Opening}
 use Rattle.taos_node.specs.Messages.{spelling}
-use Rattle.taos_node.specs.Course.{Arrival}
 use Rattle.taos_node.specs.Run.{max_request, Turn, IsCourse, frames_of, readings_of, replies_of, Gave}
 use Rattle.taos_node.specs.Serving.{Takes, IsUnanswered, Progress, EndsWith, EndsAtClock}
 

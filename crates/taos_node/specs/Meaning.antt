@@ -4,7 +4,7 @@
 --     opening code      the opening that the program holds: its channels and objects by ascending number
 --     IsServable o      what a course needs of it
 --     SameNode a b      two openings in which each look-up finds the same
-use Rattle.std.specs.Prelude.{◌≡◌, ℕ, ◌≤◌, List, map, length, Some}
+use Rattle.std.specs.Prelude.{◌≡◌, ℕ, ◌≤◌, map, length, Some}
 use Rattle.keyed_seal.specs.Keys.{key_of}
 use Rattle.taos_node.specs.declared.request.Request.{Request}
 use Rattle.taos_node.specs.declared.opening.Opening.{Opening}

@@ -1,5 +1,5 @@
 -- A payload that is spelled, sealed and has its object came to it, and no other.
-use Rattle.std.proofs.Common.{ℕ, ◌≡◌, ap, sym, ◌∙◌, Some, true, false, rules}
+use Rattle.std.proofs.Common.{◌≡◌, ap, sym, ◌∙◌, true, false}
 use Rattle.std.specs.Prelude.{option_map}
 use Rattle.taos_node.specs.Meaning.{object, opening, request}
 use Rattle.taos_node.proofs.Listed.{plan_of-listed}
