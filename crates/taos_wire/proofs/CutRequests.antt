@@ -1,16 +1,14 @@
 -- A spelling that is cut is refused where it was cut.
-use Rattle.std.proofs.Common.{◌≡◌, ◌⊎◌, ℕ, ◌+◌, ◌<◌, ◌≤◌, eqb, leb, List, [], ◌++◌, length, get_or, Ok, Err, refl, sym, ap, ◌∙◌, append-nil, arith, inl, inr, length-append}
+use Rattle.std.proofs.Common.{◌≡◌, ℕ, ◌+◌, ◌<◌, eqb, List, [], ◌++◌, length, Err, refl, sym, ap, ◌∙◌, append-nil, arith, inl, inr, length-append}
 use Rattle.std.specs.Prelude.{All}
 use Rattle.std.specs.Int.{w16, w32, w64}
 use Rattle.std.proofs.lemmas.Bool.{cases_lt}
 use Rattle.std.proofs.lemmas.List.{get_or_past}
-use Rattle.object_core.specs.Operation.{Op, Read, Write, SetList, Hold, Discard, Forget, Sweep, IsByte}
-use Rattle.prin_term.specs.Readers.{given, made}
-use Rattle.prin_term.specs.Steps.{◌>>=◌}
+use Rattle.object_core.specs.Operation.{Read, Write, SetList, Hold, Discard, Forget, Sweep, IsByte}
 use Rattle.prin_term.proofs.Cuts.{Cuts, cuts_followed, cuts_passing, cuts_made, cuts_given, cuts_if, cuts_counted, cuts_byte, cuts_bytes, cuts_number, cuts_counted_bytes, cuts_optional, cuts_term}
 use Rattle.prin_term.proofs.FieldLaws.{IsBytes}
 use Rattle.taos_wire.specs.declared.fault.WireFault.TheVariants.{Malformed}
-use Rattle.taos_wire.specs.Fields.{ended, seen_as, u8_in, u16_in, u32_in, u64_in, within, at_most, is_within, term_in}
+use Rattle.taos_wire.specs.Fields.{ended, seen_as, u8_in}
 use Rattle.taos_wire.specs.Request.{Request, request_text, Spells}
 use Rattle.taos_wire.specs.RequestReading.{origin_at, quoted_at, content_at, entry_at, list_at, fields_at, asked_at, cert_at, certs_at, tag_at, request_at, request_of}
 use Rattle.taos_wire.proofs.RequestLaws.{Tagged, request_in}
