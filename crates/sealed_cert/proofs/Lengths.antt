@@ -66,8 +66,10 @@ carried_cut kind other key (b ∷ front) more c differs numbers limits e rest =
   where
     heads : (k b : ℕ) (x y : List ℕ) → k ∷ x ≡ b ∷ y → (k ≡ b) × (x ≡ y)
     heads k b x y e = (cc, cc)
+
     shorter : (b : ℕ) (front text left more tag : List ℕ) → length tag ≡ 32 → front ≡ text ++ left → left ++ more ≡ tag → 0 < length more → length (b ∷ front) - (1 + length text) < 32
     shorter b front text left more tag len f t rest = omega (arith, len, ap length f, ap length t, length-append text left, length-append left more)
+
     by : (tag : List ℕ) → length tag ≡ 32 → b ∷ front ≡ kind ∷ front → Split front more (body_spelling c) tag → carried kind other (b ∷ front) ≡ Err (Malformed (length (b ∷ front)))
     by tag len is (whole left f t) =
         tail_refused kind other (b ∷ front) left c (Malformed (length (b ∷ front))) differs numbers limits (is ∙ ap (λ (l : List ℕ). kind ∷ l) f)
@@ -84,6 +86,7 @@ carried_longer kind other key bytes more c differs is rest =
   where
     lengths : (k : ℕ) (text tag : List ℕ) → length tag ≡ 32 → (bytes : List ℕ) → bytes ≡ (k ∷ text) ++ tag → length bytes ≡ (1 + length text) + 32
     lengths k text tag len bytes e = omega (arith, len, ap length e, length-append (k ∷ text) tag)
+
     past : (n : ℕ) → length bytes ≡ n + 32 → n + 32 < length (bytes ++ more)
     past n e = omega (arith, e, rest, length-append bytes more)
 

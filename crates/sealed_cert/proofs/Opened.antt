@@ -117,12 +117,13 @@ carried_again kind other bytes c end differs is =
   where
     some : (b : ℕ) (l bytes : List ℕ) → bytes ≡ b ∷ l → 1 ≤ length bytes
     some b l bytes e = omega (arith, ap length e)
+
     behind_one : (b : ℕ) (l : List ℕ) → 1 + length l ≡ length (b ∷ l)
     behind_one b l = omega arith
 
 -- ---- the seal
 
-front_is : (bytes text : List ℕ) (end : ℕ) → bytes ≡ text ++ drop end bytes → end ≡ length text → take end bytes ≡ text
+pub front_is : (bytes text : List ℕ) (end : ℕ) → bytes ≡ text ++ drop end bytes → end ≡ length text → take end bytes ≡ text
 front_is bytes text end e place = ap (take end) e ∙ take_at text (drop end bytes) end (sym place)
 
 tagged_is_sealed : (kind : ℕ) (key bytes : List ℕ) (c : Certificate) (end : ℕ) → IsCarried kind bytes c end → is_tagged key bytes end ≡ true → IsSealed kind key bytes c
@@ -135,7 +136,7 @@ tagged_is_sealed kind key bytes c end is tagged =
       limits = is.limits;
     }
 
-tag_behind : (bytes text tag : List ℕ) → bytes ≡ text ++ tag → drop (length text) bytes ≡ tag
+pub tag_behind : (bytes text tag : List ℕ) → bytes ≡ text ++ tag → drop (length text) bytes ≡ tag
 tag_behind bytes text tag e = ap (drop (length text)) e ∙ drop_at text tag (length text) refl
 
 pub sealed_is_carried : (kind : ℕ) (key bytes : List ℕ) (c : Certificate) → IsSealed kind key bytes c → IsCarried kind bytes c (length (sealed_text kind c))

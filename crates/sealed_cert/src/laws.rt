@@ -1,10 +1,11 @@
 //! Laws of sealed certificates, stated as contracts of functions that do nothing.
 
-ghost use Rattle.std.specs.Prelude.{◌≡◌, ◌<◌, ◌∷◌, ◌++◌, ℕ, List, length, Some, Ok, Err};
+ghost use Rattle.std.specs.Prelude.{◌≡◌, ◌≢◌, ◌<◌, ◌∷◌, ◌++◌, ℕ, List, length, None, Some, Ok, Err};
 ghost use Rattle.keyed_seal.specs.Keys.{Entries, key_of};
+ghost use Rattle.keyed_seal.specs.Tag.{tag_of};
 ghost use Rattle.stmt_codec.specs.Certificates.{Certificate, HasBodySpelling, IsWithinLimits};
-ghost use Rattle.sealed_cert.specs.declared.fault.SealFault.TheVariants.{Malformed, WrongKind};
-ghost use Rattle.sealed_cert.specs.Seals.{sealed, IsSealed, Opens, OpensIssued};
+ghost use Rattle.sealed_cert.specs.declared.fault.SealFault.TheVariants.{Malformed, UnknownIssuer, BadSeal, WrongKind};
+ghost use Rattle.sealed_cert.specs.Seals.{sealed_text, sealed, Spells, IsSealed, Opens, OpensIssued};
 ghost use Rattle.sealed_cert.specs.Refusals.{opened, opened_issued};
 
 use crate::kind::{ISSUED, RELAYED};
@@ -51,4 +52,16 @@ pub fn bytes_behind_are_refused()
     ensures issued { (entries : Entries) (key bytes more : List ℕ) (c : Certificate)
         → IsSealed ISSUED key bytes c → 0 < length more
         → opened_issued entries (bytes ++ more) ≡ Err (Malformed (length bytes)) }
+{}
+
+/// What is spelled whole is judged by its issuer first, then by its tag.
+pub fn spelled_bytes_are_judged()
+    ensures unknown { (entries : Entries) (bytes tag : List ℕ) (c : Certificate)
+        → Spells ISSUED bytes c tag → key_of entries c.issuer ≡ None
+        → opened_issued entries bytes ≡ Err (UnknownIssuer c.issuer) }
+    ensures issued { (entries : Entries) (key bytes tag : List ℕ) (c : Certificate)
+        → Spells ISSUED bytes c tag → key_of entries c.issuer ≡ Some key
+        → tag ≢ tag_of key (sealed_text ISSUED c) → opened_issued entries bytes ≡ Err BadSeal }
+    ensures relayed { (key bytes tag : List ℕ) (c : Certificate) → Spells RELAYED bytes c tag
+        → tag ≢ tag_of key (sealed_text RELAYED c) → opened key bytes ≡ Err BadSeal }
 {}

@@ -1,8 +1,8 @@
 //! Sealing certificates.
 
-ghost use Rattle.std.specs.Prelude.{◌≡◌, ◌++◌, ◌+◌, ◌<◌, ◌≤◌, length, vec_capacity, List, ℕ, OnOk, OnErr};
-ghost use Rattle.stmt_codec.specs.Certificates.{certificate, IsWithinLimits};
-ghost use Rattle.sealed_cert.specs.Seals.{sealed};
+ghost use Rattle.std.specs.Prelude.{◌≡◌, ◌++◌, ◌+◌, ◌<◌, ◌≤◌, length, drop, vec_capacity, List, ℕ, OnOk, OnErr};
+ghost use Rattle.stmt_codec.specs.Certificates.{certificate, HasBodySpelling, IsWithinLimits};
+ghost use Rattle.sealed_cert.specs.Seals.{sealed, IsSealed, Opens};
 
 use crate::kind::{ISSUED, RELAYED};
 use keyed_seal::hmac;
@@ -14,6 +14,8 @@ pub fn seal_issued(out: &mut Vec<u8>, key: &[u8; 32], body: &CertBody) -> Result
     requires { IsWithinLimits (certificate body.now) }
     ensures ok { OnOk result (out.new.items
         ≡ out.old.items ++ sealed ISSUED key.now (certificate body.now)) }
+    ensures opens { OnOk result (HasBodySpelling (certificate body.now)
+        → IsSealed ISSUED key.now (drop (length out.old.items) out.new.items) (certificate body.now)) }
     ensures err { OnErr result (out.new.items ≡ out.old.items) }
     ensures capacity { vec_capacity out.old ≤ vec_capacity out.new }
     // Memory is refused only where the room behind what is there is too small.
@@ -29,6 +31,8 @@ pub fn seal_relayed(out: &mut Vec<u8>, key: &[u8; 32], body: &CertBody) -> Resul
     requires { IsWithinLimits (certificate body.now) }
     ensures ok { OnOk result (out.new.items
         ≡ out.old.items ++ sealed RELAYED key.now (certificate body.now)) }
+    ensures opens { OnOk result (HasBodySpelling (certificate body.now)
+        → Opens key.now (drop (length out.old.items) out.new.items) (certificate body.now)) }
     ensures err { OnErr result (out.new.items ≡ out.old.items) }
     ensures capacity { vec_capacity out.old ≤ vec_capacity out.new }
     ensures room { OnErr result (vec_capacity out.old

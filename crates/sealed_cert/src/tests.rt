@@ -199,7 +199,10 @@ fn bytes_behind_the_tag_are_refused_at_the_first(rt: HostRuntime) -> Result<(), 
 fn faults_print_what_they_name(rt: HostRuntime) -> Result<(), Fail> {
     let alloc = rt.alloc();
     let printed = format!(in alloc; "{}", SealFault::Malformed { offset: 65 })?;
-    assert_eq!(rt; printed.as_str(), "the sealed certificate is malformed at 65");
+    assert_eq!(rt;
+        printed.as_str(),
+        "the sealed certificate is malformed at 65"
+    );
     let printed = format!(in alloc; "{}", SealFault::UnknownIssuer { issuer: 9 })?;
     assert_eq!(rt; printed.as_str(), "there is no key of issuer 9");
     let printed = format!(in alloc; "{}", SealFault::WrongKind { kind: 2 })?;
