@@ -1,0 +1,4 @@
+pub mod Opened
+pub mod Apart
+pub mod Lengths
+pub mod Judged

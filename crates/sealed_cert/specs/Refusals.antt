@@ -1,0 +1,59 @@
+-- Opening bytes from left to right, with the first refusal that is met.
+--     carried kind other bytes      the certificate of a kind, whatever its tag, and where its body ends
+--     opened key bytes      what a relay's seal opens to, or the refusal
+--     opened_issued entries bytes      what an issuer's seal opens to, or the refusal
+use Rattle.std.specs.Prelude.{ℕ, ◌+◌, ◌-◌, Bool, ◌==◌, if◌then◌else◌, nat_lt, List, length, take, drop, Option, Some, None, Result, Ok, Err}
+use Rattle.std.specs.Str.{bytes_eq}
+use Rattle.keyed_seal.specs.Keys.{Entries, key_of}
+use Rattle.keyed_seal.specs.Tag.{tag_of}
+use Rattle.prin_term.specs.Steps.{◌>>=◌, with_fault, byte_at}
+use Rattle.stmt_codec.specs.declared.fault.BodyFault.{BodyFault}
+use Rattle.stmt_codec.specs.declared.fault.BodyFault.TheVariants as bodies
+use Rattle.stmt_codec.specs.Certificates.{Certificate}
+use Rattle.stmt_codec.specs.Reading.{body_at}
+use Rattle.sealed_cert.specs.declared.fault.SealFault.{SealFault}
+use Rattle.sealed_cert.specs.declared.fault.SealFault.TheVariants.{Malformed, UnknownIssuer, BadSeal, WrongKind, NoMemory}
+use Rattle.sealed_cert.specs.declared.kind.TheConstants.{ISSUED, RELAYED, TAG_LEN}
+
+-- a body's fault, as a seal's
+abbrev pub seen_as : BodyFault → SealFault
+seen_as (bodies.Malformed o) = Malformed o
+seen_as bodies.NoMemory = NoMemory
+
+-- where the body begins, behind the byte of the kind
+unfoldable pub kind_at : ℕ → ℕ → List ℕ → Result ℕ SealFault
+kind_at kind other bytes = do
+  first ← byte_at (Malformed 0) bytes 0
+  if first.0 == other then Err (WrongKind other) else (if first.0 == kind then Ok first.1 else Err (Malformed 0))
+
+-- a tag is left, and nothing behind it
+unfoldable pub ends_in_tag : List ℕ → ℕ → Result ℕ SealFault
+ends_in_tag bytes at =
+    if nat_lt (length bytes - at) TAG_LEN then Err (Malformed (length bytes)) else (if nat_lt (at + TAG_LEN) (length bytes) then Err (Malformed (at + TAG_LEN)) else Ok at)
+
+unfoldable pub carried : ℕ → ℕ → List ℕ → Result (Certificate × ℕ) SealFault
+carried kind other bytes = do
+  begin ← kind_at kind other bytes
+  body ← with_fault seen_as (body_at bytes begin)
+  end ← ends_in_tag bytes body.1
+  Ok (body.0, end)
+
+-- the bytes from an offset on are the tag of those before it
+abbrev pub is_tagged : List ℕ → List ℕ → ℕ → Bool
+is_tagged key bytes end = bytes_eq (drop end bytes) (tag_of key (take end bytes))
+
+abbrev pub checked : List ℕ → List ℕ → Certificate × ℕ → Result Certificate SealFault
+checked key bytes x = if is_tagged key bytes x.1 then Ok x.0 else Err BadSeal
+
+unfoldable pub opened : List ℕ → List ℕ → Result Certificate SealFault
+opened key bytes = carried RELAYED ISSUED bytes >>= checked key bytes
+
+abbrev pub known : ℕ → Option (List ℕ) → Result (List ℕ) SealFault
+known issuer (Some key) = Ok key
+known issuer None = Err (UnknownIssuer issuer)
+
+unfoldable pub opened_issued : Entries → List ℕ → Result Certificate SealFault
+opened_issued entries bytes = do
+  x ← carried ISSUED RELAYED bytes
+  key ← known x.0.issuer (key_of entries x.0.issuer)
+  checked key bytes x

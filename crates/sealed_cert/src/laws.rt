@@ -1,0 +1,67 @@
+//! Laws of sealed certificates, stated as contracts of functions that do nothing.
+
+ghost use Rattle.std.specs.Prelude.{◌≡◌, ◌≢◌, ◌<◌, ◌∷◌, ◌++◌, ℕ, List, length, None, Some, Ok, Err};
+ghost use Rattle.keyed_seal.specs.Keys.{Entries, key_of};
+ghost use Rattle.keyed_seal.specs.Tag.{tag_of};
+ghost use Rattle.stmt_codec.specs.Certificates.{Certificate, HasBodySpelling, IsWithinLimits};
+ghost use Rattle.sealed_cert.specs.declared.fault.SealFault.TheVariants.{Malformed, UnknownIssuer, BadSeal, WrongKind};
+ghost use Rattle.sealed_cert.specs.Seals.{sealed_text, sealed, Spells, IsSealed, Opens, OpensIssued};
+ghost use Rattle.sealed_cert.specs.Refusals.{opened, opened_issued};
+
+use crate::kind::{ISSUED, RELAYED};
+
+/// A sealed body opens to itself.
+pub fn a_sealed_body_opens()
+    ensures relayed { (key : List ℕ) (c : Certificate) → HasBodySpelling c → IsWithinLimits c
+        → opened key (sealed RELAYED key c) ≡ Ok c }
+    ensures issued { (entries : Entries) (key : List ℕ) (c : Certificate) → HasBodySpelling c
+        → IsWithinLimits c → key_of entries c.issuer ≡ Some key
+        → opened_issued entries (sealed ISSUED key c) ≡ Ok c }
+{}
+
+/// Bytes of one kind never open as the other.
+pub fn kinds_are_apart()
+    ensures relayed { (entries : Entries) (rest : List ℕ)
+        → opened_issued entries (RELAYED ∷ rest) ≡ Err (WrongKind RELAYED) }
+    ensures issued { (key rest : List ℕ) → opened key (ISSUED ∷ rest) ≡ Err (WrongKind ISSUED) }
+    ensures apart { (entries : Entries) (key bytes : List ℕ) (c d : Certificate)
+        → Opens key bytes c → OpensIssued entries bytes d → ⊥ }
+{}
+
+/// Bytes are sealed for one body at most, whatever the key.
+pub fn one_body_opens()
+    ensures { (kind : ℕ) (key other bytes : List ℕ) (c d : Certificate)
+        → IsSealed kind key bytes c → IsSealed kind other bytes d → c ≡ d }
+{}
+
+/// Input that ends inside a sealed certificate is refused at its end.
+pub fn cut_seals_are_refused()
+    ensures relayed { (key other bytes more : List ℕ) (c : Certificate) → HasBodySpelling c
+        → IsWithinLimits c → sealed RELAYED key c ≡ bytes ++ more → 0 < length more
+        → opened other bytes ≡ Err (Malformed (length bytes)) }
+    ensures issued { (entries : Entries) (key bytes more : List ℕ) (c : Certificate)
+        → HasBodySpelling c → IsWithinLimits c → sealed ISSUED key c ≡ bytes ++ more
+        → 0 < length more → opened_issued entries bytes ≡ Err (Malformed (length bytes)) }
+{}
+
+/// Bytes behind a sealed certificate are refused at the first of them.
+pub fn bytes_behind_are_refused()
+    ensures relayed { (key other bytes more : List ℕ) (c : Certificate)
+        → IsSealed RELAYED key bytes c → 0 < length more
+        → opened other (bytes ++ more) ≡ Err (Malformed (length bytes)) }
+    ensures issued { (entries : Entries) (key bytes more : List ℕ) (c : Certificate)
+        → IsSealed ISSUED key bytes c → 0 < length more
+        → opened_issued entries (bytes ++ more) ≡ Err (Malformed (length bytes)) }
+{}
+
+/// What is spelled whole is judged by its issuer first, then by its tag.
+pub fn spelled_bytes_are_judged()
+    ensures unknown { (entries : Entries) (bytes tag : List ℕ) (c : Certificate)
+        → Spells ISSUED bytes c tag → key_of entries c.issuer ≡ None
+        → opened_issued entries bytes ≡ Err (UnknownIssuer c.issuer) }
+    ensures issued { (entries : Entries) (key bytes tag : List ℕ) (c : Certificate)
+        → Spells ISSUED bytes c tag → key_of entries c.issuer ≡ Some key
+        → tag ≢ tag_of key (sealed_text ISSUED c) → opened_issued entries bytes ≡ Err BadSeal }
+    ensures relayed { (key bytes tag : List ℕ) (c : Certificate) → Spells RELAYED bytes c tag
+        → tag ≢ tag_of key (sealed_text RELAYED c) → opened key bytes ≡ Err BadSeal }
+{}

@@ -1,0 +1,20 @@
+//! Sealed certificates: a certificate's body behind the byte of its kind, with the tag that ends it.
+#![tactic(auto)]
+
+mod fault;
+mod kind;
+mod laws;
+mod opening;
+mod sealing;
+
+pub use fault::SealFault;
+pub use kind::{ISSUED, RELAYED, TAG_LEN};
+pub use laws::{
+    a_sealed_body_opens, bytes_behind_are_refused, cut_seals_are_refused, kinds_are_apart,
+    one_body_opens, spelled_bytes_are_judged,
+};
+pub use opening::{open_issued, open_relayed, open_with};
+pub use sealing::{seal_issued, seal_relayed};
+
+#[cfg(test)]
+mod tests;

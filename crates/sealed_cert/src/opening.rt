@@ -1,0 +1,143 @@
+//! Opening sealed certificates.
+
+ghost use Rattle.std.specs.Prelude.{◌≡◌, ◌≤◌, length, IfOk, MatchResult};
+ghost use Rattle.prin_term.specs.Steps.{Gives};
+ghost use Rattle.stmt_codec.specs.Certificates.{Certificate, certificate};
+ghost use Rattle.sealed_cert.specs.declared.fault.SealFault.TheVariants.{NoMemory};
+ghost use Rattle.sealed_cert.specs.Seals.{Opens, OpensIssued};
+ghost use Rattle.sealed_cert.specs.Refusals.{kind_at, ends_in_tag, carried, is_tagged, opened, opened_issued};
+
+use crate::fault::SealFault;
+use crate::kind::{ISSUED, RELAYED, TAG_LEN};
+use keyed_seal::{KeyTable, Sealer};
+use prin_term::fields::u8_at;
+use std::alloc::Global;
+use stmt_codec::{Cert, read_body};
+
+// Where the body begins.
+#[tactic(auto, unfolding(crate::specs::Refusals::kind_at))]
+fn kind_at(bytes: &[u8], kind: u8, other: u8) -> Result<usize, SealFault>
+    ensures value { result ≡ kind_at kind other bytes.now }
+    ensures within { IfOk result (λ begin. begin ≤ length bytes.now) }
+{
+    let (first, begin) = u8_at(bytes, 0, SealFault::Malformed { offset: 0 })?;
+    if first == other {
+        return Err(SealFault::WrongKind { kind: other });
+    }
+    if first == kind {
+        Ok(begin)
+    } else {
+        Err(SealFault::Malformed { offset: 0 })
+    }
+}
+
+// The offset, where a tag is left there and nothing behind it.
+#[tactic(auto, unfolding(crate::specs::Refusals::ends_in_tag))]
+fn ends_in_tag(bytes: &[u8], at: usize) -> Result<usize, SealFault>
+    requires { at ≤ length bytes.now }
+    ensures value { result ≡ ends_in_tag bytes.now at }
+    ensures within { IfOk result (λ end. end ≤ length bytes.now) }
+{
+    let len = bytes.len();
+    if len - at < TAG_LEN {
+        return Err(SealFault::Malformed { offset: len });
+    }
+    if at + TAG_LEN < len {
+        return Err(SealFault::Malformed {
+            offset: at + TAG_LEN,
+        });
+    }
+    Ok(at)
+}
+
+// The certificate, whatever its tag, and the offset of the tag.
+#[tactic(auto, unfolding(crate::specs::Refusals::carried))]
+fn carried(alloc: Global, bytes: &[u8], kind: u8, other: u8) -> Result<(Cert, usize), SealFault>
+    ensures value { Gives NoMemory (λ x. (certificate x.0.body, x.1)) result
+        (carried kind other bytes.now) }
+    ensures within { IfOk result (λ x. x.1 ≤ length bytes.now) }
+{
+    let begin = kind_at(bytes, kind, other)?;
+    let (cert, end) = read_body(alloc, bytes, begin)?;
+    let end = ends_in_tag(bytes, end)?;
+    Ok((cert, end))
+}
+
+// Whether the bytes from `end` on are the tag of those before it.
+fn is_tagged(sealer: &Sealer, bytes: &[u8], end: usize) -> bool
+    requires { end ≤ length bytes.now }
+    ensures { result ≡ is_tagged sealer.now bytes.now end }
+{
+    sealer.tag_is(&bytes[..end], &bytes[end..])
+}
+
+#[tactic(auto, unfolding(crate::specs::Refusals::opened_issued))]
+fn issued(alloc: Global, table: &KeyTable, bytes: &[u8]) -> Result<Cert, SealFault>
+    ensures { Gives NoMemory (λ cert. certificate cert.body) result
+        (opened_issued table.now.entries bytes.now) }
+{
+    let (cert, end) = carried(alloc, bytes, ISSUED, RELAYED)?;
+    let issuer = cert.body.issuer;
+    let Some(sealer) = table.sealer(issuer) else {
+        return Err(SealFault::UnknownIssuer { issuer });
+    };
+    if is_tagged(sealer, bytes, end) {
+        Ok(cert)
+    } else {
+        Err(SealFault::BadSeal)
+    }
+}
+
+#[tactic(auto, unfolding(crate::specs::Refusals::opened))]
+fn relayed(alloc: Global, sealer: &Sealer, bytes: &[u8]) -> Result<Cert, SealFault>
+    ensures { Gives NoMemory (λ cert. certificate cert.body) result
+        (opened sealer.now bytes.now) }
+{
+    let (cert, end) = carried(alloc, bytes, RELAYED, ISSUED)?;
+    if is_tagged(sealer, bytes, end) {
+        Ok(cert)
+    } else {
+        Err(SealFault::BadSeal)
+    }
+}
+
+/// Opens a certificate under its issuer's seal. The first byte is looked at first, then the
+/// form of the whole, then the issuer, then the tag.
+pub fn open_issued(alloc: Global, table: &KeyTable, bytes: &[u8]) -> Result<Cert, SealFault>
+    // What is opened is sealed so.
+    ensures found { IfOk result
+        (λ cert. OpensIssued table.now.entries bytes.now (certificate cert.body)) }
+    // What is sealed so is opened, unless memory runs out.
+    ensures only { (c : Certificate) → OpensIssued table.now.entries bytes.now c
+        → MatchResult result (λ cert. certificate cert.body ≡ c) (λ e. e ≡ NoMemory) }
+
+    // The same as one function, with the refusal of other bytes.
+    ensures exact { Gives NoMemory (λ cert. certificate cert.body) result
+        (opened_issued table.now.entries bytes.now) }
+{
+    issued(alloc, table, bytes)
+}
+
+/// Opens a certificate under a relay's seal, by the key that the relay shares with this node.
+pub fn open_relayed(alloc: Global, key: &[u8; 32], bytes: &[u8]) -> Result<Cert, SealFault>
+    ensures found { IfOk result (λ cert. Opens key.now bytes.now (certificate cert.body)) }
+    ensures only { (c : Certificate) → Opens key.now bytes.now c
+        → MatchResult result (λ cert. certificate cert.body ≡ c) (λ e. e ≡ NoMemory) }
+
+    ensures exact { Gives NoMemory (λ cert. certificate cert.body) result
+        (opened key.now bytes.now) }
+{
+    open_with(alloc, &Sealer::of(key), bytes)
+}
+
+/// As `open_relayed`, by a key that is kept ready.
+pub fn open_with(alloc: Global, sealer: &Sealer, bytes: &[u8]) -> Result<Cert, SealFault>
+    ensures found { IfOk result (λ cert. Opens sealer.now bytes.now (certificate cert.body)) }
+    ensures only { (c : Certificate) → Opens sealer.now bytes.now c
+        → MatchResult result (λ cert. certificate cert.body ≡ c) (λ e. e ≡ NoMemory) }
+
+    ensures exact { Gives NoMemory (λ cert. certificate cert.body) result
+        (opened sealer.now bytes.now) }
+{
+    relayed(alloc, sealer, bytes)
+}

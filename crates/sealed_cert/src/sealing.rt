@@ -1,0 +1,80 @@
+//! Sealing certificates.
+
+ghost use Rattle.std.specs.Prelude.{◌≡◌, ◌++◌, ◌+◌, ◌<◌, ◌≤◌, length, drop, vec_capacity, List, ℕ, OnOk, OnErr};
+ghost use Rattle.stmt_codec.specs.Certificates.{certificate, HasBodySpelling, IsWithinLimits};
+ghost use Rattle.sealed_cert.specs.Seals.{sealed, IsSealed, Opens};
+
+use crate::kind::{ISSUED, RELAYED};
+use keyed_seal::hmac;
+use std::alloc::AllocError;
+use stmt_codec::{CertBody, write_body};
+
+/// Appends the body under its issuer's seal, whose key is `key`. An `Err` changes nothing.
+pub fn seal_issued(out: &mut Vec<u8>, key: &[u8; 32], body: &CertBody) -> Result<(), AllocError>
+    requires { IsWithinLimits (certificate body.now) }
+    ensures ok { OnOk result (out.new.items
+        ≡ out.old.items ++ sealed ISSUED key.now (certificate body.now)) }
+    ensures opens { OnOk result (HasBodySpelling (certificate body.now)
+        → IsSealed ISSUED key.now (drop (length out.old.items) out.new.items) (certificate body.now)) }
+    ensures err { OnErr result (out.new.items ≡ out.old.items) }
+    ensures capacity { vec_capacity out.old ≤ vec_capacity out.new }
+    // Memory is refused only where the room behind what is there is too small.
+    ensures room { OnErr result (vec_capacity out.old
+        < length out.old.items + length (sealed ISSUED key.now (certificate body.now))) }
+{
+    seal(out, ISSUED, key, body)
+}
+
+/// Appends the body under a relay's seal, whose key the relay shares with the node that it is
+/// for. An `Err` changes nothing.
+pub fn seal_relayed(out: &mut Vec<u8>, key: &[u8; 32], body: &CertBody) -> Result<(), AllocError>
+    requires { IsWithinLimits (certificate body.now) }
+    ensures ok { OnOk result (out.new.items
+        ≡ out.old.items ++ sealed RELAYED key.now (certificate body.now)) }
+    ensures opens { OnOk result (HasBodySpelling (certificate body.now)
+        → Opens key.now (drop (length out.old.items) out.new.items) (certificate body.now)) }
+    ensures err { OnErr result (out.new.items ≡ out.old.items) }
+    ensures capacity { vec_capacity out.old ≤ vec_capacity out.new }
+    ensures room { OnErr result (vec_capacity out.old
+        < length out.old.items + length (sealed RELAYED key.now (certificate body.now))) }
+{
+    seal(out, RELAYED, key, body)
+}
+
+fn seal(out: &mut Vec<u8>, kind: u8, key: &[u8; 32], body: &CertBody) -> Result<(), AllocError>
+    ensures ok { OnOk result (out.new.items
+        ≡ out.old.items ++ sealed kind key.now (certificate body.now)) }
+    ensures err { OnErr result (out.new.items ≡ out.old.items) }
+    ensures capacity { vec_capacity out.old ≤ vec_capacity out.new }
+    ensures room { OnErr result (vec_capacity out.old
+        < length out.old.items + length (sealed kind key.now (certificate body.now))) }
+{
+    let len = out.len();
+    let written = push_sealed(out, kind, key, body);
+    if written.is_err() {
+        out.truncate(len);
+    }
+    written
+}
+
+// What an `Err` leaves has the old bytes in front.
+fn push_sealed(
+    out: &mut Vec<u8>,
+    kind: u8,
+    key: &[u8; 32],
+    body: &CertBody,
+) -> Result<(), AllocError>
+    ensures ok { OnOk result (out.new.items
+        ≡ out.old.items ++ sealed kind key.now (certificate body.now)) }
+    ensures err { OnErr result ((more : List ℕ) × (out.new.items ≡ out.old.items ++ more)) }
+    ensures capacity { vec_capacity out.old ≤ vec_capacity out.new }
+    ensures room { OnErr result (vec_capacity out.old
+        < length out.old.items + length (sealed kind key.now (certificate body.now))) }
+{
+    let len = out.len();
+    out.push(kind)?;
+    write_body(out, body)?;
+    let tag = hmac(key, &out[len..]);
+    out.extend_from_slice(&tag)?;
+    Ok(())
+}
