@@ -1,5 +1,5 @@
 -- The kinds are apart, and bytes carry one body.
-use Rattle.std.proofs.Common.{◌≡◌, ℕ, true, List, ◌∷◌, ◌++◌, length, Some, Result, Ok, Err, refl, sym, ap, ◌∙◌}
+use Rattle.std.proofs.Common.{◌≡◌, ℕ, true, List, ◌∷◌, ◌++◌, Some, Result, Ok, Err, refl, sym, ap, ◌∙◌}
 use Rattle.std.specs.Prelude.{◌==◌}
 use Rattle.std.proofs.lemmas.Bool.{eq-eqb}
 use Rattle.keyed_seal.specs.Keys.{Entries, key_of}
@@ -11,7 +11,7 @@ use Rattle.stmt_codec.proofs.Once.{body_once}
 use Rattle.sealed_cert.specs.declared.fault.SealFault.{SealFault}
 use Rattle.sealed_cert.specs.declared.fault.SealFault.TheVariants.{Malformed, WrongKind}
 use Rattle.sealed_cert.specs.Seals.{sealed_text, sealed, IsSealed, Opens, OpensIssued}
-use Rattle.sealed_cert.specs.Refusals.{kind_at, carried, checked, known, opened, opened_issued}
+use Rattle.sealed_cert.specs.Refusals.{kind_at, carried, checked, opened, opened_issued}
 use Rattle.sealed_cert.proofs.Opened.{opened_again, issued_again}
 
 pub relayed_opens : (key : List ℕ) (c : Certificate) → HasBodySpelling c → IsWithinLimits c → opened key (sealed 2 key c) ≡ Ok c

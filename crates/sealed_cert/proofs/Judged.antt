@@ -9,7 +9,7 @@ use Rattle.stmt_codec.specs.Certificates.{Certificate}
 use Rattle.sealed_cert.specs.declared.fault.SealFault.{SealFault}
 use Rattle.sealed_cert.specs.declared.fault.SealFault.TheVariants.{UnknownIssuer, BadSeal}
 use Rattle.sealed_cert.specs.Seals.{sealed_text, Spells}
-use Rattle.sealed_cert.specs.Refusals.{carried, is_tagged, checked, known, opened, opened_issued}
+use Rattle.sealed_cert.specs.Refusals.{is_tagged, checked, opened, opened_issued}
 use Rattle.sealed_cert.proofs.Opened.{IsCarried, carried_again, tag_behind, front_is}
 
 spelled_is_carried : (kind : ℕ) (bytes tag : List ℕ) (c : Certificate) → Spells kind bytes c tag → IsCarried kind bytes c (length (sealed_text kind c))

@@ -14,8 +14,8 @@ use Rattle.stmt_codec.specs.Certificates.{Certificate, body_spelling, HasBodySpe
 use Rattle.stmt_codec.specs.Reading.{body_at}
 use Rattle.stmt_codec.proofs.Bodies.{found_at, body_again}
 use Rattle.sealed_cert.specs.declared.fault.SealFault.{SealFault}
-use Rattle.sealed_cert.specs.declared.fault.SealFault.TheVariants.{Malformed, UnknownIssuer, BadSeal, WrongKind}
-use Rattle.sealed_cert.specs.Seals.{sealed_text, sealed, IsSealed, OpensIssued}
+use Rattle.sealed_cert.specs.declared.fault.SealFault.TheVariants.{Malformed, BadSeal, WrongKind}
+use Rattle.sealed_cert.specs.Seals.{sealed_text, IsSealed, OpensIssued}
 use Rattle.sealed_cert.specs.Refusals.{seen_as, kind_at, ends_in_tag, carried, is_tagged, checked, opened, known, opened_issued}
 
 -- the bytes are the body of a kind, and 32 more from an offset on
