@@ -1,20 +1,20 @@
 -- A body that is read was spelled there, and one that is spelled there is read.
-use Rattle.std.proofs.Common.{◌≡◌, ℕ, ◌+◌, ◌-◌, ◌^◌, ◌<◌, ◌≤◌, true, List, [], ◌∷◌, ◌++◌, length, drop, take, Option, Some, None, Result, Ok, Err, refl, sym, ap, subst, ◌∙◌, append_assoc, arith, length-append}
+use Rattle.std.proofs.Common.{◌≡◌, ℕ, ◌+◌, ◌-◌, ◌^◌, ◌≤◌, true, List, [], ◌∷◌, ◌++◌, length, drop, take, Option, Some, None, Ok, refl, ap, subst, ◌∙◌, append_assoc, arith, length-append}
 use Rattle.std.specs.Prelude.{nat_le, IfSome}
 use Rattle.std.specs.Int.{w32, w64, to_be_bytes}
 use Rattle.std.proofs.lemmas.Bool.{leb-true, le-leb}
 use Rattle.std.proofs.lemmas.List.{take_at}
 use Rattle.prin_term.specs.Principal.{Principal, spelling, HasSpelling}
 use Rattle.prin_term.specs.Refusal.{FitsLimits}
-use Rattle.prin_term.specs.Steps.{◌>>=◌, mark_at, number_at, optional, optional_at}
+use Rattle.prin_term.specs.Steps.{optional}
 use Rattle.prin_term.proofs.Results.{bind_ok, ok_is, chosen_ok}
 use Rattle.prin_term.proofs.FieldLaws.{IsBytes, TakesAt, TakesAt-then, TakesAt-within, OptionFits, behind, took, mark_takes, mark_again, number_takes, number_again, optional_takes, optional_again, wide32, wide64}
 use Rattle.prin_term.proofs.Whole.{term_takes_at, term_again_at}
 use Rattle.stmt_codec.specs.declared.fault.BodyFault.{BodyFault}
-use Rattle.stmt_codec.specs.declared.fault.BodyFault.TheVariants.{Malformed, NoMemory}
+use Rattle.stmt_codec.specs.declared.fault.BodyFault.TheVariants.{Malformed}
 use Rattle.stmt_codec.specs.Faults.{seen_as}
 use Rattle.stmt_codec.specs.Certificates.{Certificate, body_spelling, key_quoting, distinct_parts, IsSmall, IsWithinLimits, HasBodySpelling, IsBodyAt}
-use Rattle.stmt_codec.specs.Reading.{part_at, quoted_at, right_at, body_at}
+use Rattle.stmt_codec.specs.Reading.{part_at, right_at, body_at}
 
 -- ---- the limits of terms, in their two parts
 
@@ -85,10 +85,11 @@ body_takes bytes at x le fits e =
     let a4 = TakesAt-then bytes at _ l.0.1 _ r.0.1 a3 t4.0 in
     let a5 = TakesAt-then bytes at _ r.0.1 _ u.0.1 a4 t5.0 in
     let a6 = TakesAt-then bytes at _ u.0.1 _ s.0.1 a5 t6.0 in
-    subst (λ (y : Certificate × ℕ). TakesAt bytes at (body_spelling y.0) y.1 × HasBodySpelling y.0 × IsWithinLimits y.0) (ok_is BodyFault _ x s.2)
-    (a6,
+    subst (λ (y : Certificate × ℕ). TakesAt bytes at (body_spelling y.0) y.1 × HasBodySpelling y.0 × IsWithinLimits y.0) (ok_is BodyFault _ x s.2) (
+      a6,
       record { issuer = t1.1; quoted = quoted_numbers q.0.0 t2.1; left = t3.1.numbers; right = t4.1.numbers; until = t5.1; serial = t6.1 },
-      record { quoted_fits = quoted_small q.0.0 t2.1; left_fits = small l.0.0 t3.1; right_fits = small r.0.0 t4.1; few_subterms = g.1 })
+      record { quoted_fits = quoted_small q.0.0 t2.1; left_fits = small l.0.0 t3.1; right_fits = small r.0.0 t4.1; few_subterms = g.1 },
+    )
 
 regrouped : (a b c d e f g r : List ℕ) → (a ++ b ++ c ++ d ++ e ++ f ++ g) ++ r ≡ a ++ (b ++ (c ++ (d ++ (e ++ (f ++ (g ++ r))))))
 regrouped a b c d e f g r = simp append_assoc

@@ -1,12 +1,11 @@
 -- How many principals stand in a list, each counted once.
-use Rattle.std.proofs.Common.{◌≡◌, ◌≢◌, ℕ, suc, ◌+◌, ◌<◌, ◌≤◌, Bool, true, false, not, cond, List, [], ◌∷◌, ◌++◌, length, refl, sym, ap, subst, ◌∙◌, arith, inl, inr, All}
-use Rattle.std.specs.Prelude.{filter, nat_le}
+use Rattle.std.proofs.Common.{◌≡◌, ◌≢◌, suc, ◌≤◌, Bool, true, false, not, cond, List, [], ◌∷◌, ◌++◌, length, refl, sym, ap, subst, ◌∙◌, arith, inl, inr, All}
+use Rattle.std.specs.Prelude.{filter}
 use Rattle.std.specs.List.{list_any}
 use Rattle.std.proofs.lemmas.List.Elements.{All-filter, All-weaker, All-head, All-tail, filter_passes}
 use Rattle.std.proofs.lemmas.Bool.{cases_Bool, false≢true, true≢false, both_ways, not-true}
-use Rattle.prin_term.specs.Principal.{Principal, Quoting, subterms}
+use Rattle.prin_term.specs.Principal.{Principal}
 use Rattle.stmt_codec.specs.Distinct.{same_principal, first_of_each, met}
-use Rattle.stmt_codec.specs.Certificates.{distinct_parts}
 use Rattle.stmt_codec.proofs.Same.{same_principal-true, same_principal-itself}
 use Rattle.stmt_codec.proofs.Firsts.{met-append, first_of_each-met}
 

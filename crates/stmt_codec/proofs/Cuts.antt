@@ -1,15 +1,15 @@
 -- Input that ends inside a spelling is refused at its end, field by field.
-use Rattle.std.proofs.Common.{◌≡◌, ◌⊎◌, inl, inr, ℕ, zero, suc, ◌+◌, ◌-◌, ◌^◌, ◌<◌, ◌≤◌, true, false, ltb, List, [], ◌∷◌, ◌++◌, length, drop, Option, Some, None, Result, Ok, Err, refl, sym, ap, subst, ◌∙◌, append_assoc, arith, length-append, length-drop}
+use Rattle.std.proofs.Common.{◌≡◌, ◌⊎◌, inl, inr, ℕ, ◌+◌, ◌-◌, ◌<◌, ◌≤◌, true, false, ltb, List, [], ◌∷◌, ◌++◌, length, drop, Option, Some, None, Result, Err, refl, sym, ap, ◌∙◌, arith, length-append, length-drop}
 use Rattle.std.specs.Int.{Width, byte_len, to_be_bytes}
 use Rattle.std.proofs.lemmas.Bool.{lt-ltb, le-ltb}
 use Rattle.prin_term.specs.declared.fault.TermFault.{TermFault}
 use Rattle.prin_term.specs.declared.fault.TermFault.TheVariants.{Short}
-use Rattle.prin_term.specs.Principal.{Principal, spelling}
+use Rattle.prin_term.specs.Principal.{spelling}
 use Rattle.prin_term.specs.Refusal.{FitsLimits}
 use Rattle.prin_term.specs.Reading.{term_at}
 use Rattle.prin_term.specs.Steps.{◌>>=◌, with_fault, byte_at, mark_at, number_at, optional, optional_at}
-use Rattle.prin_term.proofs.FieldLaws.{ItemAgain, IsWide, OptionFits, TakesAt-within, behind, took, byte_again, mark_again, number_again, optional_again}
-use Rattle.prin_term.proofs.Whole.{term_again_at, prefix_refused, refused_again_at}
+use Rattle.prin_term.proofs.FieldLaws.{ItemAgain, IsWide, OptionFits, TakesAt-within, behind, took, byte_again, mark_again}
+use Rattle.prin_term.proofs.Whole.{prefix_refused, refused_again_at}
 
 -- where bytes and more are a text and a rest, the text stands in the bytes, or ends behind them
 pub data Split (front more text rest : List ℕ) : Type 0 where

@@ -1,7 +1,7 @@
 -- A list of first places has the same members, and none twice.
-use Rattle.std.proofs.Common.{◌≡◌, ◌≢◌, ◌↔◌, Bool, true, false, not, cond, List, [], ◌∷◌, ◌++◌, refl, sym, ap, subst, ◌∙◌, arith, inl, inr, All}
+use Rattle.std.proofs.Common.{◌≡◌, ◌≢◌, ◌↔◌, Bool, true, false, not, cond, List, [], ◌∷◌, sym, ap, subst, arith, inl, inr, All}
 use Rattle.std.specs.Prelude.{filter, Contains, AllPairs}
-use Rattle.std.proofs.lemmas.List.Elements.{All-filter, All-weaker, All-cons, All-nil, All-contains, filter_passes, Contains-append_left, Contains-append_right, Contains-push, All-contains_itself}
+use Rattle.std.proofs.lemmas.List.Elements.{All-filter, All-weaker, All-cons, All-nil, All-contains, filter_passes, Contains-append_left, Contains-append_right, Contains-push}
 use Rattle.std.proofs.lemmas.List.Kept.{AllPairs-cons, AllPairs-filter}
 use Rattle.std.proofs.lemmas.Bool.{cases_Bool, both_ways, not-true}
 use Rattle.prin_term.specs.Principal.{Principal}
@@ -19,7 +19,7 @@ first_comes [] = All-nil (λ q. Contains [] q)
 first_comes (p ∷ ps) =
     All-cons (λ q. Contains (p ∷ ps) q) p (filter (λ q. not (same_principal q p)) (first_of_each ps)) (here p ps)
     (All-filter (λ q. not (same_principal q p)) (λ q. Contains (p ∷ ps) q) (first_of_each ps)
-        (All-weaker (λ q. Contains ps q) (λ q. Contains (p ∷ ps) q) (λ q. there p ps q) (first_of_each ps) (first_comes ps)))
+    (All-weaker (λ q. Contains ps q) (λ q. Contains (p ∷ ps) q) (λ q. there p ps q) (first_of_each ps) (first_comes ps)))
 
 later : {X : Type 0} (b : Bool) (x : X) (xs : List X) (y : X) → Contains xs y → Contains (cond b (x ∷ xs) xs) y
 later true x xs y h = there x xs y h

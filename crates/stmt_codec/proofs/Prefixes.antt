@@ -1,9 +1,9 @@
 -- Input that ends inside a body is refused at its end.
-use Rattle.std.proofs.Common.{◌≡◌, ℕ, ◌+◌, ◌^◌, ◌<◌, ◌≤◌, List, [], ◌∷◌, ◌++◌, length, drop, Option, Result, Ok, Err, refl, sym, ap, ◌∙◌, append-nil, arith, length-append}
+use Rattle.std.proofs.Common.{◌≡◌, ℕ, ◌+◌, ◌^◌, ◌<◌, ◌≤◌, List, [], ◌++◌, length, drop, Err, refl, sym, ap, ◌∙◌, append-nil, arith, length-append}
 use Rattle.std.specs.Int.{w32, w64, to_be_bytes}
 use Rattle.prin_term.specs.Principal.{Principal, spelling}
 use Rattle.prin_term.specs.Refusal.{FitsLimits}
-use Rattle.prin_term.specs.Steps.{◌>>=◌, number_at, optional}
+use Rattle.prin_term.specs.Steps.{number_at, optional}
 use Rattle.prin_term.proofs.FieldLaws.{ItemAgain, OptionFits, wide32, wide64, number_again, optional_again}
 use Rattle.prin_term.proofs.Whole.{term_again_at}
 use Rattle.stmt_codec.specs.declared.fault.BodyFault.{BodyFault}

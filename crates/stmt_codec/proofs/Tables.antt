@@ -1,7 +1,6 @@
 -- Tables of principals without repetitions.
-use Rattle.std.proofs.Common.{◌≡◌, ◌||◌, ℕ, Bool, true, false, cond, List, [], ◌∷◌, ◌++◌, refl, ap, map, length, ◌<◌, ◌≤◌, arith, sym, ◌∙◌, length-append}
+use Rattle.std.proofs.Common.{◌≡◌, ◌||◌, Bool, true, false, List, [], ◌∷◌, ◌++◌, refl, ap, map, length, ◌<◌, ◌≤◌, arith, sym, ◌∙◌, length-append}
 use Rattle.std.specs.List.{list_any}
-use Rattle.std.proofs.lemmas.Bool.{cases_Bool}
 use Rattle.std.specs.Bool.{OnFalse}
 use Rattle.prin_term.specs.Principal.{Principal, Key, Name, And, Quoting, InRole, For, subterms}
 use Rattle.prin_term.specs.Kind.{Kind, pair}
@@ -29,7 +28,6 @@ pub met-cons : (table : List Principal) (p : Principal) (ps : List Principal) �
 met-cons table p ps = met-append table (p ∷ []) ps
 
 -- ---- the parts of a term, the term first
-
 
 pub over_more : (table ps qs : List Principal) → 16 < length (met table ps) → 16 < length (met table (ps ++ qs))
 over_more table ps qs over = omega (arith, over, length-met (met table ps) qs, ap length (met-append table ps qs))

@@ -1,7 +1,6 @@
 -- A certificate keeps its facts in one way.
-use Rattle.std.specs.Prelude.{◌≡◌, ◌≤◌, Option, None, Some, IfSome}
+use Rattle.std.specs.Prelude.{◌≡◌, Option, None, Some, IfSome}
 use Rattle.std.specs.Coded.{×_prop, Unit-prop, le_prop, Coded-set}
-use Rattle.std.specs.Coded.{prop_coded}
 use Rattle.prin_term.specs.Principal.{Principal}
 use Rattle.prin_term.specs.Codes.{principal_code}
 use Rattle.stmt_codec.specs.Certificates.{Certificate, IsSmall, IsWithinLimits}

@@ -4,8 +4,8 @@ ghost use Rattle.std.specs.Prelude.{◌≡◌, ◌↔◌, ◌<◌, IsTrue, IfOk,
 ghost use Rattle.std.specs.Option.{option_map};
 ghost use Rattle.prin_term.specs.View.{principal};
 ghost use Rattle.stmt_codec.specs.declared.fault.CertFault.TheVariants.{TooLarge, NoMemory};
-ghost use Rattle.stmt_codec.specs.Certificates.{certificate, key_quoting, speaker_of, body_spelling, digest_of};
-ghost use Rattle.stmt_codec.specs.Certificates.{IsSmall, IsWithinLimits};
+ghost use Rattle.stmt_codec.specs.Certificates.{certificate, key_quoting, speaker_of};
+ghost use Rattle.stmt_codec.specs.Certificates.{body_spelling, digest_of, IsSmall, IsWithinLimits};
 ghost use Rattle.stmt_codec.specs.Unique.{IsWithinLimits-prop, principal-set};
 
 use crate::body::CertBody;
@@ -24,8 +24,8 @@ pub struct Cert {
     pub speaker: Term,
     /// The SHA-256 of the body's spelling.
     pub digest: [u8; 32],
-    pub ghost limits: { IsWithinLimits (certificate body) } by { IsWithinLimits-prop (certificate body) },
-    pub ghost speaks: { principal speaker ≡ speaker_of (certificate body) } by { principal-set (principal speaker) (speaker_of (certificate body)) },
+    pub ghost limits: { IsWithinLimits (certificate body) } by { IsWithinLimits-prop _ },
+    pub ghost speaks: { principal speaker ≡ speaker_of (certificate body) } by { principal-set _ _ },
     pub ghost digested: { digest ≡ digest_of (certificate body) },
 }
 
@@ -74,21 +74,18 @@ fn is_within_limits(body: &CertBody) -> bool
         )
 }
 
-fn speaker_of(
-    alloc: Global,
-    issuer: u32,
-    quoted: &Option<Term>,
-) -> Result<Term, AllocError>
+fn speaker_of(alloc: Global, issuer: u32, quoted: &Option<Term>) -> Result<Term, AllocError>
     ensures { IfOk result
         (λ t. principal t ≡ key_quoting issuer (option_map principal quoted.now)) }
 {
     let key = Term::Key(issuer);
     match quoted {
         None => Ok(key),
-        Some(term) => Ok(Term::Quote(
-            Box::new(alloc, key)?,
-            Box::new(alloc, term.copy(alloc)?)?,
-        )),
+        Some(term) => {
+            let key = Box::new(alloc, key)?;
+            let copy = Box::new(alloc, term.copy(alloc)?)?;
+            Ok(Term::Quote(key, copy))
+        }
     }
 }
 

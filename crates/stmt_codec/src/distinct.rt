@@ -51,9 +51,7 @@ impl<'a> Seen<'a> {
     fn has(&self, term: &Term) -> bool
         ensures { result ≡ list_any (same_principal (principal term.now)) (principals self.now) }
     {
-        self.terms[..self.count]
-            .iter()
-            .any(|seen| same(term, seen))
+        self.terms[..self.count].iter().any(|seen| same(term, seen))
     }
 
     fn has_quoting(&self, first: &Term, second: &Term) -> bool
@@ -115,10 +113,10 @@ impl<'a> Seen<'a> {
     }
 
     fn meet_both(&mut self, first: &'a Term, second: &'a Term) -> bool
-        ensures added { OnTrue result (principals self.new
-            ≡ met (principals self.old) (subterms (principal first.now) ++ subterms (principal second.now))) }
-        ensures full { OnFalse result (MAX_DISTINCT < length
-            (met (principals self.old) (subterms (principal first.now) ++ subterms (principal second.now)))) }
+        ensures added { OnTrue result (principals self.new ≡ met (principals self.old)
+            (subterms (principal first.now) ++ subterms (principal second.now))) }
+        ensures full { OnFalse result (MAX_DISTINCT < length (met (principals self.old)
+            (subterms (principal first.now) ++ subterms (principal second.now)))) }
     {
         self.meet_all(first) && self.meet_all(second)
     }
@@ -144,12 +142,7 @@ fn are_few<'a>(key: &'a Term, left: &'a Term, right: &'a Term) -> bool
 }
 
 // The same of the key quoting that term.
-fn are_few_quoting<'a>(
-    key: &'a Term,
-    quoted: &'a Term,
-    left: &'a Term,
-    right: &'a Term,
-) -> bool
+fn are_few_quoting<'a>(key: &'a Term, quoted: &'a Term, left: &'a Term, right: &'a Term) -> bool
     ensures { result ≡ nat_le (length (distinct_parts
         (Quoting (principal key.now) (principal quoted.now))
         (principal left.now) (principal right.now))) MAX_DISTINCT }

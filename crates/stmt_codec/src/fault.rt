@@ -22,7 +22,10 @@ pub enum BodyFault {
 impl fmt::Display for BodyFault {
     fn fmt<W: fmt::Write>(&self, f: &mut fmt::Formatter<W>) -> fmt::Result {
         match self {
-            BodyFault::Malformed { offset } => write!(f, "the certificate is malformed at {offset}"),
+            BodyFault::Malformed { offset } => write!(
+                f,
+                "the certificate is malformed at {offset}"
+            ),
             BodyFault::NoMemory => write!(f, "out of memory"),
         }
     }

@@ -1,10 +1,12 @@
 //! Laws of certificates, stated as contracts of functions that do nothing.
 
-ghost use Rattle.std.specs.Prelude.{◌≡◌, ◌≢◌, ◌↔◌, ◌+◌, ◌-◌, ◌<◌, ◌≤◌, ◌++◌, ℕ, List, length, drop, Err, AllPairs, Contains};
+ghost use Rattle.std.specs.Prelude.{◌≡◌, ◌≢◌, ◌↔◌, ◌+◌, ◌-◌, ◌<◌, ◌≤◌, ◌++◌};
+ghost use Rattle.std.specs.Prelude.{ℕ, List, length, drop, Err, AllPairs, Contains};
 ghost use Rattle.prin_term.specs.Principal.{Principal};
 ghost use Rattle.stmt_codec.specs.declared.fault.BodyFault.TheVariants.{Malformed};
 ghost use Rattle.stmt_codec.specs.declared.limits.TheConstants.{MAX_DISTINCT};
-ghost use Rattle.stmt_codec.specs.Certificates.{Certificate, body_spelling, HasBodySpelling, IsWithinLimits};
+ghost use Rattle.stmt_codec.specs.Certificates.{Certificate, body_spelling};
+ghost use Rattle.stmt_codec.specs.Certificates.{HasBodySpelling, IsWithinLimits};
 ghost use Rattle.stmt_codec.specs.Distinct.{first_of_each};
 ghost use Rattle.stmt_codec.specs.Reading.{body_at};
 

@@ -2,12 +2,12 @@
 #![tactic(auto)]
 
 mod body;
+mod cert;
 mod distinct;
 mod fault;
 mod laws;
 mod limits;
 mod reading;
-mod cert;
 mod writing;
 
 pub use body::CertBody;

@@ -5,7 +5,8 @@ ghost use Rattle.std.specs.Option.{option_map};
 ghost use Rattle.prin_term.specs.Steps.{Gives};
 ghost use Rattle.prin_term.specs.View.{principal};
 ghost use Rattle.stmt_codec.specs.declared.fault.BodyFault.TheVariants.{NoMemory};
-ghost use Rattle.stmt_codec.specs.Certificates.{Certificate, certificate, key_quoting, body_spelling, IsBodyAt};
+ghost use Rattle.stmt_codec.specs.Certificates.{Certificate, certificate, key_quoting};
+ghost use Rattle.stmt_codec.specs.Certificates.{body_spelling, IsBodyAt};
 ghost use Rattle.stmt_codec.specs.Reading.{part_at, quoted_at, right_at, body_at};
 
 use crate::body::CertBody;
@@ -58,7 +59,7 @@ fn right_of(
     requires { at ≤ length bytes.now }
     ensures value { Gives NoMemory (λ x. (principal x.0, x.1)) result
         (right_at (key_quoting issuer (option_map principal quoted.now)) (principal left.now)
-            bytes.now at) }
+        bytes.now at) }
     ensures within { IfOk result (λ x. x.1 ≤ length bytes.now) }
 {
     let (right, next) = term_of(alloc, bytes, at)?;
@@ -109,7 +110,8 @@ fn body_of(alloc: Global, bytes: &[u8], at: usize) -> Result<(CertBody, usize), 
 
 fn cert_at(alloc: Global, bytes: &[u8], at: usize) -> Result<(Cert, usize), BodyFault>
     requires { at ≤ length bytes.now }
-    ensures value { Gives NoMemory (λ x. (certificate x.0.body, x.1)) result (body_at bytes.now at) }
+    ensures value { Gives NoMemory (λ x. (certificate x.0.body, x.1)) result
+        (body_at bytes.now at) }
     ensures within { IfOk result (λ x. x.1 ≤ length bytes.now) }
 {
     let (body, end) = body_of(alloc, bytes, at)?;

@@ -1,4 +1,7 @@
-ghost use Rattle.std.specs.Prelude.{◌≡◌, ◌++◌, ◌∷◌, ◌+◌, ◌<◌, ◌≤◌, length, vec_capacity, List, ℕ, OnOk, OnErr};
+//! Writing the spelling of a body.
+
+ghost use Rattle.std.specs.Prelude.{◌≡◌, ◌++◌, ◌∷◌, ◌+◌, ◌<◌, ◌≤◌, length, vec_capacity};
+ghost use Rattle.std.specs.Prelude.{List, ℕ, OnOk, OnErr};
 ghost use Rattle.stmt_codec.specs.Certificates.{certificate, body_spelling};
 ghost use Rattle.prin_term.specs.Steps.{optional};
 ghost use Rattle.prin_term.specs.Principal.{spelling};
@@ -11,11 +14,14 @@ use std::alloc::AllocError;
 
 /// Appends the one spelling of a body. An `Err` changes nothing.
 pub fn write_body(out: &mut Vec<u8>, body: &CertBody) -> Result<(), AllocError>
-    ensures ok { OnOk result (out.new.items ≡ out.old.items ++ body_spelling (certificate body.now)) }
+    ensures ok { OnOk result
+        (out.new.items ≡ out.old.items ++ body_spelling (certificate body.now)) }
     ensures err { OnErr result (out.new.items ≡ out.old.items) }
     ensures capacity { vec_capacity out.old ≤ vec_capacity out.new }
     // Memory is refused only where the room behind what is there is too small.
-    ensures room { OnErr result (vec_capacity out.old < length out.old.items + length (body_spelling (certificate body.now))) }
+    ensures room { OnErr result
+        (vec_capacity out.old < length out.old.items
+        + length (body_spelling (certificate body.now))) }
 {
     let len = out.len();
     let written = push_body(out, body);
@@ -27,10 +33,13 @@ pub fn write_body(out: &mut Vec<u8>, body: &CertBody) -> Result<(), AllocError>
 
 // What an `Err` leaves has the old bytes in front.
 fn push_body(out: &mut Vec<u8>, body: &CertBody) -> Result<(), AllocError>
-    ensures ok { OnOk result (out.new.items ≡ out.old.items ++ body_spelling (certificate body.now)) }
+    ensures ok { OnOk result
+        (out.new.items ≡ out.old.items ++ body_spelling (certificate body.now)) }
     ensures err { OnErr result ((more : List ℕ) × (out.new.items ≡ out.old.items ++ more)) }
     ensures capacity { vec_capacity out.old ≤ vec_capacity out.new }
-    ensures room { OnErr result (vec_capacity out.old < length out.old.items + length (body_spelling (certificate body.now))) }
+    ensures room { OnErr result
+        (vec_capacity out.old < length out.old.items
+        + length (body_spelling (certificate body.now))) }
 {
     out.push(1)?;
     out.extend_from_slice(&body.issuer.to_be_bytes())?;
@@ -43,10 +52,13 @@ fn push_body(out: &mut Vec<u8>, body: &CertBody) -> Result<(), AllocError>
 }
 
 fn push_quoted(out: &mut Vec<u8>, quoted: &Option<Term>) -> Result<(), AllocError>
-    ensures ok { OnOk result (out.new.items ≡ out.old.items ++ optional spelling (option_map principal quoted.now)) }
+    ensures ok { OnOk result
+        (out.new.items ≡ out.old.items ++ optional spelling (option_map principal quoted.now)) }
     ensures err { OnErr result ((more : List ℕ) × (out.new.items ≡ out.old.items ++ more)) }
     ensures capacity { vec_capacity out.old ≤ vec_capacity out.new }
-    ensures room { OnErr result (vec_capacity out.old < length out.old.items + length (optional spelling (option_map principal quoted.now))) }
+    ensures room { OnErr result
+        (vec_capacity out.old < length out.old.items + length
+        (optional spelling (option_map principal quoted.now))) }
 {
     match quoted {
         None => {

@@ -1,5 +1,4 @@
-use Rattle.std.proofs.Common.{◌++◌, ◌∙◌, ap, length, ◌<◌, sym}
-use Rattle.std.specs.Bool.{OnFalse}
+use Rattle.std.proofs.Common.{◌++◌, ◌∙◌, ap}
 use Rattle.prin_term.specs.View.{principal}
 use Rattle.prin_term.specs.Principal.{subterms}
 use Rattle.stmt_codec.specs.Distinct.{met}

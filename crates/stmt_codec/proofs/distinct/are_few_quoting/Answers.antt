@@ -1,7 +1,7 @@
-use Rattle.std.proofs.Common.{◌≡◌, ◌++◌, ◌∙◌, List, [], ap, length, ◌<◌, sym, arith}
+use Rattle.std.proofs.Common.{◌≡◌, ◌++◌, ◌∙◌, [], ap, arith}
 use Rattle.std.proofs.lemmas.Bool.{lt-ltb}
 use Rattle.prin_term.specs.View.{principal}
-use Rattle.prin_term.specs.Principal.{Principal, Quoting, subterms}
+use Rattle.prin_term.specs.Principal.{Quoting, subterms}
 use Rattle.stmt_codec.specs.Distinct.{met, first_of_each}
 use Rattle.stmt_codec.specs.Seen.{principals}
 use Rattle.stmt_codec.proofs.Counts.{met-twice}

@@ -1,4 +1,4 @@
-use Rattle.std.proofs.Common.{◌≡◌, List, inl, inr, ap, sym, ◌∙◌, subst, length, ◌<◌}
+use Rattle.std.proofs.Common.{◌≡◌, List, inl, inr, ap, ◌∙◌, subst, length, ◌<◌}
 use Rattle.std.specs.Bool.{OnTrue, OnFalse}
 use Rattle.prin_term.specs.View.{principal}
 use Rattle.prin_term.specs.Principal.{Principal, subterms}

@@ -1,8 +1,7 @@
-use Rattle.std.proofs.Common.{◌≡◌, ◌++◌, List, ap, sym, ◌∙◌, subst, length, ◌<◌}
+use Rattle.std.proofs.Common.{◌≡◌, List, subst, length, ◌<◌}
 use Rattle.std.specs.Bool.{OnTrue, OnFalse}
 use Rattle.prin_term.specs.View.{principal}
 use Rattle.prin_term.specs.Principal.{Principal, subterms}
-use Rattle.stmt_codec.specs.Distinct.{met}
 use Rattle.stmt_codec.specs.Seen.{principals}
 use Rattle.stmt_codec.proofs.Tables.{met-both, over_more, OnFalse-weaker}
 use Rattle.stmt_codec.proofs.distinct.Seen.meet_both.Goals as goal
