@@ -4,8 +4,10 @@ ghost use Rattle.std.specs.Prelude.{◌≡◌, ◌≢◌, ◌<◌, ◌∷◌, �
 ghost use Rattle.keyed_seal.specs.Keys.{Entries, key_of};
 ghost use Rattle.keyed_seal.specs.Tag.{tag_of};
 ghost use Rattle.stmt_codec.specs.Certificates.{Certificate, HasBodySpelling, IsWithinLimits};
-ghost use Rattle.sealed_cert.specs.declared.fault.SealFault.TheVariants.{Malformed, UnknownIssuer, BadSeal, WrongKind};
-ghost use Rattle.sealed_cert.specs.Seals.{sealed_text, sealed, Spells, IsSealed, Opens, OpensIssued};
+ghost use Rattle.sealed_cert.specs.declared.fault.SealFault.TheVariants.{Malformed, WrongKind};
+ghost use Rattle.sealed_cert.specs.declared.fault.SealFault.TheVariants.{UnknownIssuer, BadSeal};
+ghost use Rattle.sealed_cert.specs.Seals.{sealed_text, sealed, Spells};
+ghost use Rattle.sealed_cert.specs.Seals.{IsSealed, Opens, OpensIssued};
 ghost use Rattle.sealed_cert.specs.Refusals.{opened, opened_issued};
 
 use crate::kind::{ISSUED, RELAYED};

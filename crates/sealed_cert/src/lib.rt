@@ -1,4 +1,4 @@
-//! Sealed certificates: a certificate's body behind the byte of its kind, with the tag that ends it.
+//! Sealed certificates: a body behind the byte of its kind, with the tag that ends it.
 #![tactic(auto)]
 
 mod fault;

@@ -5,7 +5,8 @@ ghost use Rattle.prin_term.specs.Steps.{Gives};
 ghost use Rattle.stmt_codec.specs.Certificates.{Certificate, certificate};
 ghost use Rattle.sealed_cert.specs.declared.fault.SealFault.TheVariants.{NoMemory};
 ghost use Rattle.sealed_cert.specs.Seals.{Opens, OpensIssued};
-ghost use Rattle.sealed_cert.specs.Refusals.{kind_at, ends_in_tag, carried, is_tagged, opened, opened_issued};
+ghost use Rattle.sealed_cert.specs.Refusals.{kind_at, ends_in_tag, carried, is_tagged};
+ghost use Rattle.sealed_cert.specs.Refusals.{opened, opened_issued};
 
 use crate::fault::SealFault;
 use crate::kind::{ISSUED, RELAYED, TAG_LEN};

@@ -1,6 +1,7 @@
 //! Sealing certificates.
 
-ghost use Rattle.std.specs.Prelude.{◌≡◌, ◌++◌, ◌+◌, ◌<◌, ◌≤◌, length, drop, vec_capacity, List, ℕ, OnOk, OnErr};
+ghost use Rattle.std.specs.Prelude.{◌≡◌, ◌++◌, ◌+◌, ◌<◌, ◌≤◌, length, drop, vec_capacity};
+ghost use Rattle.std.specs.Prelude.{List, ℕ, OnOk, OnErr};
 ghost use Rattle.stmt_codec.specs.Certificates.{certificate, HasBodySpelling, IsWithinLimits};
 ghost use Rattle.sealed_cert.specs.Seals.{sealed, IsSealed, Opens};
 
@@ -15,7 +16,8 @@ pub fn seal_issued(out: &mut Vec<u8>, key: &[u8; 32], body: &CertBody) -> Result
     ensures ok { OnOk result (out.new.items
         ≡ out.old.items ++ sealed ISSUED key.now (certificate body.now)) }
     ensures opens { OnOk result (HasBodySpelling (certificate body.now)
-        → IsSealed ISSUED key.now (drop (length out.old.items) out.new.items) (certificate body.now)) }
+        → IsSealed ISSUED key.now (drop (length out.old.items) out.new.items)
+        (certificate body.now)) }
     ensures err { OnErr result (out.new.items ≡ out.old.items) }
     ensures capacity { vec_capacity out.old ≤ vec_capacity out.new }
     // Memory is refused only where the room behind what is there is too small.
