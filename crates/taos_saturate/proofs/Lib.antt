@@ -1,0 +1,12 @@
+pub mod Adding
+pub mod Cells
+pub mod Steps
+pub mod Growing
+pub mod Deciding
+pub mod Premises
+pub mod Marking
+pub mod Keeping
+pub mod Extracting
+pub mod Taking
+pub mod Passing
+pub mod Interned

@@ -1,0 +1,30 @@
+-- Taking principals into a table of nodes.
+--     IsRoomy nodes      operands come first, no node comes twice, and there is room for the largest table
+--     Fits nodes ps      the table is not too large with all of ps in it
+--     TakesIn old new ps p id      the table has grown by what was not there of ps, and p has the number id
+use Rattle.std.specs.Prelude.{◌≡◌, ℕ, ◌<◌, ◌≤◌, List, length}
+use Rattle.prin_term.specs.Kind.{Kind, And, Quoting, For}
+use Rattle.prin_term.specs.Principal.{Principal}
+use Rattle.taos_calculus.specs.declared.line.Node.{Node}
+use Rattle.taos_calculus.specs.declared.proof.TheConstants.{MAX_NODES}
+use Rattle.taos_calculus.specs.Walking.{met}
+use Rattle.taos_calculus.specs.Tables.{IsNodeTable, named, principals_of}
+
+pub record IsRoomy (nodes : List Node) (capacity : ℕ) : Type 0 where
+  pub table : IsNodeTable nodes
+  pub room : MAX_NODES ≤ capacity
+
+abbrev pub Fits : List Node → List Principal → Type 0
+Fits nodes ps = length (met (principals_of nodes) ps) ≤ MAX_NODES
+
+pub record TakesIn (old new : List Node) (ps : List Principal) (p : Principal) (id : ℕ) : Type 0 where
+  pub table : IsNodeTable new
+  pub grown : principals_of new ≡ met (principals_of old) ps
+  pub within : id < length new
+  pub named_is : named new id ≡ p
+
+-- a node of two operands
+abbrev pub node_pair : Kind → ℕ → ℕ → Node
+node_pair And a b = Node.And a b
+node_pair Quoting a b = Node.Quote a b
+node_pair For a b = Node.For a b

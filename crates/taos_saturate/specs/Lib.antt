@@ -1,0 +1,5 @@
+pub mod Finding
+pub mod Saturating
+pub mod Extract
+pub mod Taking
+pub mod Interning

@@ -1,0 +1,131 @@
+-- What a saturation holds.
+--     claims_in s      what its certificates say
+--     facts_of s      its facts, in the order in which they were found
+--     GivesIn s fact step, Lacks s fact step      the step gives the fact from these; it does not
+--     IsNumber s id      the number is one of the table
+--     IsReady s      its facts, certificates and statements speak of the table, and the index tells the lines
+--     IsNew s line      a line that may come next
+--     IsFull s      no step gives anything new
+--     IsGood s      it is full, and so knows all that is derivable about its table
+use Rattle.std.specs.Prelude.{◌≡◌, ◌↔◌, ℕ, ◌<◌, ◌≤◌, ◌^◌, List, [], ◌∷◌, ◌++◌, Some, slice_get, length, map, Contains, vec_capacity}
+use Rattle.prin_term.specs.declared.term.Anchor.{Anchor}
+use Rattle.prin_term.specs.Principal.{Principal, Key, Name}
+use Rattle.taos_calculus.specs.declared.line.Step.{Step}
+use Rattle.taos_calculus.specs.declared.line.Fact.{Fact}
+use Rattle.taos_calculus.specs.declared.line.Line.{Line}
+use Rattle.taos_calculus.specs.declared.line.Node.{Node}
+use Rattle.taos_calculus.specs.Rules.{Claim, SpeaksFor, Derivable}
+use Rattle.taos_calculus.specs.Tables.{named, principals_of, IsBelow, IsNodeTable}
+use Rattle.taos_calculus.specs.Numbered.{Gives, EachGives}
+use Rattle.taos_saturate.specs.declared.found.Pair.{Pair}
+use Rattle.taos_saturate.specs.declared.saturation.Cited.{Cited}
+use Rattle.taos_saturate.specs.declared.saturation.Saturation.{Saturation}
+use Rattle.taos_saturate.specs.Finding.{IsFound, facts_in, pair, CellOf, room}
+
+abbrev pub claim_by : (ℕ → Principal) → Cited → Claim
+claim_by p c = record { speaker = p c.speaker; left = p c.left; right = p c.right }
+
+abbrev pub claims_in : Saturation → List Claim
+claims_in s = map (claim_by (named s.nodes.items)) s.cited.items
+
+abbrev pub facts_of : Saturation → List Fact
+facts_of s = facts_in s.found
+
+abbrev pub GivesIn : Saturation → Fact → Step → Type 0
+GivesIn s fact step = Gives s.nodes.items s.anchors.items (claims_in s) (facts_of s) fact step
+
+abbrev pub Lacks : Saturation → Fact → Step → Type 0
+Lacks s fact step = GivesIn s fact step → ⊥
+
+abbrev pub IsNumber : Saturation → ℕ → Type 0
+IsNumber s id = id < length s.nodes.items
+
+pub record IsReady (s : Saturation) : Type 0 where
+  pub found : IsFound s.found
+  pub width_is : s.found.width ≡ length s.nodes.items
+  pub nodes_fit : length s.nodes.items < 2 ^ 16
+  pub table : IsNodeTable s.nodes.items
+  pub anchors_fit : length s.anchors.items < 2 ^ 16
+  pub cited_fit : length s.cited.items < 2 ^ 16
+  pub statements_in : (k : ℕ) (p : Pair) → slice_get s.found.statements.items k ≡ Some p → IsNumber s p.left × IsNumber s p.right
+  pub cited_in : (k : ℕ) (c : Cited) → slice_get s.cited.items k ≡ Some c →
+      IsNumber s c.speaker × ((m : ℕ) × (slice_get s.found.statements.items m ≡ Some (pair c.left c.right)))
+
+abbrev pub IsKnown : Saturation → Fact → Type 0
+IsKnown s fact = (k : ℕ) × (slice_get (facts_of s) k ≡ Some fact)
+
+-- a line that may come next
+pub record IsNew (s : Saturation) (line : Line) : Type 0 where
+  pub gives : GivesIn s line.fact line.step
+  pub below : IsBelow (length s.nodes.items) line.fact
+  pub unknown : (k : ℕ) → slice_get (facts_of s) k ≡ Some line.fact → ⊥
+  pub celled : (c : ℕ) × CellOf s.found line.fact c
+
+-- a step to `left => right` that does not go through a third principal, and one to what is said that does not pass it on
+abbrev pub IsNoChain : Step → Type 0
+IsNoChain (Step.Chain i j) = ⊥
+IsNoChain step = Unit {0}
+
+abbrev pub IsNoLift : Step → Type 0
+IsNoLift (Step.Lift i j) = ⊥
+IsNoLift step = Unit {0}
+
+abbrev pub LacksSpeaks : Saturation → ℕ → ℕ → Type 0
+LacksSpeaks s l r = (step : Step) → IsNoChain step → Lacks s (Fact.Speaks l r) step
+
+abbrev pub LacksSays : Saturation → ℕ → ℕ → ℕ → Type 0
+LacksSays s w l r = (step : Step) → IsNoLift step → Lacks s (Fact.Says w l r) step
+
+-- what such a step gives between these is known
+abbrev pub SpeaksFull : Saturation → ℕ → ℕ → Type 0
+SpeaksFull s l r = (step : Step) → IsNoChain step → GivesIn s (Fact.Speaks l r) step → IsKnown s (Fact.Speaks l r)
+
+abbrev pub SaysFull : Saturation → ℕ → Pair → Type 0
+SaysFull s w p = (step : Step) → IsNoLift step → GivesIn s (Fact.Says w p.left p.right) step → IsKnown s (Fact.Says w p.left p.right)
+
+-- what m speaks for, l is known to speak for too, if it speaks for m
+abbrev pub ChainFull : Saturation → ℕ → ℕ → Type 0
+ChainFull s l m = (i j r : ℕ) →
+    slice_get (facts_of s) i ≡ Some (Fact.Speaks l m) → slice_get (facts_of s) j ≡ Some (Fact.Speaks m r) → IsKnown s (Fact.Speaks l r)
+
+-- for whom w speaks, they are known to say what w says
+abbrev pub LiftFull : Saturation → ℕ → Pair → Type 0
+LiftFull s w p = (i j b : ℕ) →
+    slice_get (facts_of s) i ≡ Some (Fact.Says w p.left p.right) → slice_get (facts_of s) j ≡ Some (Fact.Speaks w b) → IsKnown s (Fact.Says b p.left p.right)
+
+-- no step gives anything new
+pub record IsFull (s : Saturation) : Type 0 where
+  pub speaks : (l r : ℕ) → IsNumber s l → IsNumber s r → SpeaksFull s l r
+  pub chains : (l m : ℕ) → IsNumber s l → IsNumber s m → ChainFull s l m
+  pub says : (k w : ℕ) (p : Pair) → slice_get s.found.statements.items k ≡ Some p → IsNumber s w → SaysFull s w p
+  pub lifts : (k w : ℕ) (p : Pair) → slice_get s.found.statements.items k ≡ Some p → IsNumber s w → LiftFull s w p
+
+abbrev pub IsSound : Saturation → Type 0
+IsSound s = EachGives s.nodes.items s.anchors.items (claims_in s) [] s.found.lines.items
+
+-- the table is the same, with the anchors and the certificates
+pub record SameTable (s t : Saturation) : Type 0 where
+  pub nodes : t.nodes ≡ s.nodes
+  pub anchors : t.anchors ≡ s.anchors
+  pub cited : t.cited ≡ s.cited
+
+-- t is s with more lines
+pub record IsGrown (s t : Saturation) : Type 0 where
+  pub ready : IsReady t
+  pub sound : IsSound t
+  pub table : SameTable s t
+  pub statements : t.found.statements ≡ s.found.statements
+  pub room_left : room t.found ≤ room s.found
+  pub lines_kept : vec_capacity s.found.lines ≤ vec_capacity t.found.lines
+  pub numbers_kept : vec_capacity s.found.numbers ≤ vec_capacity t.found.numbers
+
+-- the keys and names of the anchors stand in the table
+pub record AreAnchored (nodes : List Node) (anchors : List Anchor) : Type 0 where
+  pub keys_in : (i : ℕ) (anchor : Anchor) → slice_get anchors i ≡ Some anchor → Contains (principals_of nodes) (Key anchor.key)
+  pub names_in : (i : ℕ) (anchor : Anchor) → slice_get anchors i ≡ Some anchor → Contains (principals_of nodes) (Name anchor.name)
+
+pub record IsGood (s : Saturation) : Type 0 where
+  pub ready : IsReady s
+  pub sound : IsSound s
+  pub full : IsFull s
+  pub anchored : AreAnchored s.nodes.items s.anchors.items
