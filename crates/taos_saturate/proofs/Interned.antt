@@ -48,7 +48,7 @@ pub principals_of-push : (nodes : List Node) (node : Node) → principals_of (no
 principals_of-push nodes node = grown-push [] nodes node
 
 -- a longer list with an element of the shorter one
-pushed_at : {X : Type 0} (xs : List X) (x y : X) (i : ℕ) → slice_get (xs ++ x ∷ []) i ≡ Some y → (slice_get xs i ≡ Some y) ⊎ ((i ≡ length xs) × (x ≡ y))
+pub pushed_at : {X : Type 0} (xs : List X) (x y : X) (i : ℕ) → slice_get (xs ++ x ∷ []) i ≡ Some y → (slice_get xs i ≡ Some y) ⊎ ((i ≡ length xs) × (x ≡ y))
 pushed_at [] x y zero e = inr (refl, same_Some x y e)
 pushed_at [] x y (suc i) e = absurd (none-some y e)
 pushed_at (z ∷ xs) x y zero e = inl e

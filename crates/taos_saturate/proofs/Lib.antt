@@ -10,3 +10,5 @@ pub mod Extracting
 pub mod Taking
 pub mod Passing
 pub mod Interned
+pub mod Few
+pub mod Gathered

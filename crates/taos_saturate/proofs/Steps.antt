@@ -14,7 +14,7 @@ use Rattle.taos_calculus.proofs.Naming.{named_apart}
 use Rattle.std.specs.Prelude.{option_map}
 use Rattle.taos_calculus.specs.Numbered.{same, chain, left, right, both, quoting, for_both, role, role_under, anchored, said, lift, join, hand_off, delegate}
 use Rattle.taos_saturate.specs.Finding.{IsCell, of_speaks, of_says, IsFirstOf, pair, CellOf}
-use Rattle.taos_saturate.specs.Saturating.{facts_of, claims_in, claim_by, GivesIn, Lacks, IsNoChain, IsNoLift, IsNumber, IsReady, IsNew}
+use Rattle.taos_saturate.specs.Saturating.{facts_of, claims_in, claim_by, GivesIn, Lacks, IsNoChain, IsNoLift, HasSaying, LacksSaying, IsNumber, IsReady, IsNew}
 
 cell_speaks : (width : ℕ) (statements : List Pair) (a b c : ℕ) → IsCell width statements (Fact.Speaks a b) c → (a < width) × (b < width)
 cell_speaks width statements a b c (of_speaks h k e) = (h, k)
@@ -182,37 +182,29 @@ module _ (s : Saturation) (ready : IsReady s) where
           (c, q, same_Some (claim_by (named s.nodes.items) c) claim (sym n ∙ e))
 
   -- a certificate is known by its numbers
-  record SaidAt (i w l r : ℕ) : Type 0 where
-    cited : Cited
-    stands : slice_get s.cited.items i ≡ Some cited
-    speaker_is : cited.speaker ≡ w
-    left_is : cited.left ≡ l
-    right_is : cited.right ≡ r
-
   said_at : (i w l r : ℕ) (claim : Claim) → IsNumber s w → IsNumber s l → IsNumber s r → slice_get (claims_in s) i ≡ Some claim →
-      named s.nodes.items w ≡ claim.speaker → named s.nodes.items l ≡ claim.left → named s.nodes.items r ≡ claim.right → SaidAt i w l r
+      named s.nodes.items w ≡ claim.speaker → named s.nodes.items l ≡ claim.left → named s.nodes.items r ≡ claim.right → HasSaying s.cited.items w l r i
   said_at i w l r claim hw hl hr e pw pl pr =
       let (c, at, is) = claim_at i claim e in
       let (who, (m, stated)) = ready.cited_in i c at in
-      let sides : IsNumber s c.left × IsNumber s c.right = ready.statements_in m (pair c.left c.right) stated in
-      record {
-        cited = c;
-        stands = at;
-        speaker_is = named_apart s.nodes.items ready.table c.speaker w who hw (ap (λ (x : Claim). x.speaker) is ∙ sym pw);
-        left_is = named_apart s.nodes.items ready.table c.left l sides.0 hl (ap (λ (x : Claim). x.left) is ∙ sym pl);
-        right_is = named_apart s.nodes.items ready.table c.right r sides.1 hr (ap (λ (x : Claim). x.right) is ∙ sym pr);
-      }
+      let sides : IsNumber s c.left × IsNumber s c.right = ready.statements_in m (pair c.left c.right) stated in (
+        c,
+        at,
+        record {
+          speaker_is = named_apart s.nodes.items ready.table c.speaker w who hw (ap (λ (x : Claim). x.speaker) is ∙ sym pw);
+          left_is = named_apart s.nodes.items ready.table c.left l sides.0 hl (ap (λ (x : Claim). x.left) is ∙ sym pl);
+          right_is = named_apart s.nodes.items ready.table c.right r sides.1 hr (ap (λ (x : Claim). x.right) is ∙ sym pr);
+        },
+      )
 
-  pub gives_said : (i w l r : ℕ) → slice_get s.cited.items i ≡ Some (record { speaker = w; left = l; right = r }) → GivesIn s (Fact.Says w l r) (Step.Said i)
-  gives_said i w l r e =
-      said (slice_get-map (claim_by (named s.nodes.items)) s.cited.items i ∙ ap (option_map (claim_by (named s.nodes.items))) e) refl refl refl
+  pub gives_said : (i w l r : ℕ) → HasSaying s.cited.items w l r i → GivesIn s (Fact.Says w l r) (Step.Said i)
+  gives_said i w l r (c, e, is) =
+      said (slice_get-map (claim_by (named s.nodes.items)) s.cited.items i ∙ ap (option_map (claim_by (named s.nodes.items))) e)
+      (ap (named s.nodes.items) (sym is.speaker_is)) (ap (named s.nodes.items) (sym is.left_is)) (ap (named s.nodes.items) (sym is.right_is))
 
-  pub said_lacks : (w l r : ℕ) → IsNumber s w → IsNumber s l → IsNumber s r →
-      ((i : ℕ) → slice_get s.cited.items i ≡ Some (record { speaker = w; left = l; right = r }) → ⊥) → (i : ℕ) → Lacks s (Fact.Says w l r) (Step.Said i)
+  pub said_lacks : (w l r : ℕ) → IsNumber s w → IsNumber s l → IsNumber s r → LacksSaying s.cited.items w l r → (i : ℕ) → Lacks s (Fact.Says w l r) (Step.Said i)
   said_lacks w l r hw hl hr none i (said {claim} e pw pl pr) =
-      let q : SaidAt i w l r = said_at i w l r claim hw hl hr e pw pl pr in
-      let same : q.cited ≡ record { speaker = w; left = l; right = r } = (λ k. record { speaker = q.speaker_is k; left = q.left_is k; right = q.right_is k }) in
-      none i (q.stands ∙ ap (λ (z : Cited). Some z) same)
+      let (c, at, is) = said_at i w l r claim hw hl hr e pw pl pr in none i c at is
 
 -- another reason for a `None`
 pub for_none : {X : Type 0} {P P' : Type 0} (o : Option X) (Q : X → Type 0) → (P → P') → MatchOption o P Q → MatchOption o P' Q
@@ -333,8 +325,8 @@ module _ (s : Saturation) (ready : IsReady s) where
   pub says_stated : (w l r : ℕ) (step : Step) → IsNumber s w → IsNumber s l → IsNumber s r → GivesIn s (Fact.Says w l r) step →
       (k : ℕ) × (slice_get s.found.statements.items k ≡ Some (pair l r))
   says_stated w l r step hw hl hr (said {claim} {i} e pw pl pr) =
-      let q : SaidAt s ready i w l r = said_at s ready i w l r claim hw hl hr e pw pl pr in
-      let (m, stated) = (ready.cited_in i q.cited q.stands).1 in
-      (m, rw (q.left_is, q.right_is) at stated)
+      let (c, at, is) = said_at s ready i w l r claim hw hl hr e pw pl pr in
+      let (m, stated) = (ready.cited_in i c at).1 in
+      (m, rw (is.left_is, is.right_is) at stated)
   says_stated w l r step hw hl hr (lift {a} {i} e f) = fact_stated i a l r e
   says_stated w l r step hw hl hr (join {a} {i} e f g) = fact_stated i a l r f

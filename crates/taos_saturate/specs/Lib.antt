@@ -3,3 +3,5 @@ pub mod Saturating
 pub mod Extract
 pub mod Taking
 pub mod Interning
+pub mod Gathering
+pub mod Held

@@ -25,6 +25,18 @@ use Rattle.taos_saturate.specs.Finding.{IsFound, facts_in, pair, CellOf, room}
 abbrev pub claim_by : (ℕ → Principal) → Cited → Claim
 claim_by p c = record { speaker = p c.speaker; left = p c.left; right = p c.right }
 
+-- the certificate is this statement by this speaker
+pub record IsSaying (c : Cited) (speaker left right : ℕ) : Type 0 where
+  pub speaker_is : c.speaker ≡ speaker
+  pub left_is : c.left ≡ left
+  pub right_is : c.right ≡ right
+
+abbrev pub LacksSaying : List Cited → ℕ → ℕ → ℕ → Type 0
+LacksSaying cited speaker left right = (i : ℕ) (c : Cited) → slice_get cited i ≡ Some c → IsSaying c speaker left right → ⊥
+
+abbrev pub HasSaying : List Cited → ℕ → ℕ → ℕ → ℕ → Type 0
+HasSaying cited speaker left right i = (c : Cited) × (slice_get cited i ≡ Some c) × IsSaying c speaker left right
+
 abbrev pub claims_in : Saturation → List Claim
 claims_in s = map (claim_by (named s.nodes.items)) s.cited.items
 

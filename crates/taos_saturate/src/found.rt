@@ -35,6 +35,27 @@ fn place(row: usize, column: usize, width: usize, rows: usize) -> usize
 }
 
 impl Found {
+    /// No line yet, in a table of this width.
+    pub fn restart(&mut self, width: usize)
+        requires rows_fit { width + length self.old.statements.items < 2 ^ 32 }
+        requires fits { width * (width + length self.old.statements.items) < 2 ^ 32 }
+        requires lines_room { width * (width + length self.old.statements.items) ≤ vec_capacity self.old.lines }
+        requires numbers_room { width * (width + length self.old.statements.items) ≤ vec_capacity self.old.numbers }
+        ensures found { IsFound self.new }
+        ensures width { self.new.width ≡ width }
+        ensures statements { self.new.statements ≡ self.old.statements }
+        ensures lines { self.new.lines.items ≡ [] }
+        ensures lines_kept { vec_capacity self.old.lines ≤ vec_capacity self.new.lines }
+        ensures numbers_kept { vec_capacity self.old.numbers ≤ vec_capacity self.new.numbers }
+    {
+        self.width = width;
+        self.lines.clear();
+        self.numbers.clear();
+        self.numbers
+            .resize(width * (width + self.statements.len()), 0)
+            .unwrap();
+    }
+
     /// The first place of the statement.
     pub fn row(&self, left: u16, right: u16) -> Option<usize>
         ensures { MatchOption result ((k : ℕ) → slice_get self.now.statements.items k ≡ Some (record { left = left; right = right }) → ⊥) (IsFirstOf self.now.statements.items left right) }

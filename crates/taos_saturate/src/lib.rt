@@ -3,6 +3,8 @@
 
 mod found;
 mod gaps;
+mod gather;
+mod held;
 mod interning;
 mod look;
 mod saturate;

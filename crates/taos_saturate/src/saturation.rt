@@ -1,20 +1,30 @@
 //! A table of principals with its certificates, and the facts that were found about it.
 
-ghost use Rattle.std.specs.Prelude.{◌≡◌, ℕ, ◌<◌, Some, MatchOption, slice_get, length};
+ghost use Rattle.std.specs.Prelude.{◌≡◌, ◌↔◌, ℕ, ◌<◌, IsTrue, Some, MatchOption, slice_get, length};
 ghost use Rattle.taos_calculus.specs.declared.line.Fact.{Fact};
 ghost use Rattle.taos_calculus.specs.Tables.{OperandsBelow};
-ghost use Rattle.taos_saturate.specs.Saturating.{facts_of, IsReady, IsNumber};
+ghost use Rattle.taos_saturate.specs.Saturating.{facts_of, IsReady, IsNumber, IsSaying};
 
 use crate::found::Found;
 use prin_term::Anchor;
 use taos_calculus::{Fact, Node};
 
-/// A certificate's speaker and statement, by their numbers.
-#[derive(Clone, Copy, PartialEq, Eq, Debug)]
+/// A chosen certificate: its place, and its speaker and statement by their numbers.
+#[derive(Clone, Copy, Debug)]
 pub struct Cited {
+    pub place: u16,
     pub speaker: u16,
     pub left: u16,
     pub right: u16,
+}
+
+impl Cited {
+    /// Whether it is this statement by this speaker.
+    pub fn is(&self, speaker: u16, left: u16, right: u16) -> bool
+        ensures { IsTrue result ↔ IsSaying self.now speaker left right }
+    {
+        self.speaker == speaker && self.left == left && self.right == right
+    }
 }
 
 /// The table, and the facts that were found.

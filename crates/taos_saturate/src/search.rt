@@ -3,9 +3,9 @@
 ghost use Rattle.std.specs.Prelude.{◌≡◌, ℕ, ◌<◌, ◌^◌, Some, MatchOption, slice_get, length};
 ghost use Rattle.taos_calculus.specs.declared.line.Fact.{Fact};
 ghost use Rattle.taos_calculus.specs.declared.line.Step.{Step};
-ghost use Rattle.taos_saturate.specs.Saturating.{GivesIn, Lacks, LacksSpeaks, LacksSays, IsReady, IsNumber};
+ghost use Rattle.taos_saturate.specs.Saturating.{GivesIn, Lacks, LacksSpeaks, LacksSays, LacksSaying, HasSaying, IsReady, IsNumber};
 
-use crate::saturation::{Cited, Saturation};
+use crate::saturation::Saturation;
 use prin_term::Anchor;
 use taos_calculus::{Node, Step};
 
@@ -159,16 +159,11 @@ impl Saturation {
     // The place of a certificate's speaker and statement.
     fn cited_at(&self, speaker: u16, left: u16, right: u16) -> Option<u16>
         requires { length self.now.cited.items < 2 ^ 16 }
-        ensures { MatchOption result ((i : ℕ) → slice_get self.now.cited.items i ≡ Some (record { speaker = speaker; left = left; right = right }) → ⊥) (λ i. slice_get self.now.cited.items i ≡ Some (record { speaker = speaker; left = left; right = right })) }
+        ensures { MatchOption result (LacksSaying self.now.cited.items speaker left right)
+            (HasSaying self.now.cited.items speaker left right) }
     {
         for i in 0..self.cited.len() {
-            if self.cited[i]
-                == (Cited {
-                    speaker,
-                    left,
-                    right,
-                })
-            {
+            if self.cited[i].is(speaker, left, right) {
                 return Some(i as u16);
             }
         }

@@ -1,5 +1,7 @@
 use Rattle.std.proofs.Common.{◌≡◌, ℕ, ◌<◌, Some, slice_get}
+use Rattle.taos_saturate.specs.declared.saturation.Cited.{Cited}
+use Rattle.taos_saturate.specs.Saturating.{IsSaying}
 use Rattle.taos_saturate.proofs.saturation.Saturation.cited_at.Given as goal
 
 abbrev pub invariant-loop-i : goal.invariant-loop-i
-invariant-loop-i l = (m : ℕ) → m < l.i → slice_get l.self.cited.items m ≡ Some (record { speaker = l.speaker; left = l.left; right = l.right }) → ⊥
+invariant-loop-i l = (m : ℕ) → m < l.i → (c : Cited) → slice_get l.self.cited.items m ≡ Some c → IsSaying c l.speaker l.left l.right → ⊥

@@ -1,0 +1,194 @@
+-- What stays where a table of nodes widens, and what comes in.
+use Rattle.std.proofs.Common.{◌≡◌, ◌⊎◌, inl, inr, ℕ, zero, suc, ◌+◌, ◌*◌, ◌<◌, ◌≤◌, Bool, true, false, List, [], ◌∷◌, ◌++◌, Some, slice_get, get_or, length, map, take, refl, sym, ap, ap₂, subst, ◌∙◌, arith, All, Contains, append_assoc, add-one}
+use Rattle.std.proofs.lemmas.List.{get_or_append_left, get_or_default, length-append, append-nil, map-append, length-map}
+use Rattle.std.proofs.lemmas.List.Elements.{All-nil, All-cons, All-head, All-tail, All-push, All-weaker, Contains-append_left}
+use Rattle.std.proofs.lemmas.Option.{none-some, same_Some, slice_get-map, slice_get-get_or, slice_get_within, get_or_from_slice_get}
+use Rattle.std.specs.Prelude.{option_map}
+use Rattle.prin_term.specs.declared.term.Anchor.{Anchor}
+use Rattle.prin_term.specs.Principal.{Principal, Key, Name, node_count}
+use Rattle.taos_calculus.specs.declared.line.Node.{Node}
+use Rattle.taos_calculus.specs.Question.{picked, claim_of}
+use Rattle.taos_calculus.specs.Rules.{Claim}
+use Rattle.taos_calculus.specs.Canonical.{post_order}
+use Rattle.taos_calculus.specs.Walking.{met}
+use Rattle.taos_calculus.specs.Tables.{IsNodeTable, named, principals_of}
+use Rattle.taos_calculus.proofs.Naming.{length-principals_of}
+use Rattle.taos_calculus.proofs.Firsts.{met-grows, met-append}
+use Rattle.taos_saturate.specs.declared.saturation.Cited.{Cited}
+use Rattle.taos_saturate.specs.Gathering.{Widens, CitedIn, chosen_by, Gathers}
+use Rattle.taos_saturate.specs.Interning.{IsRoomy, Fits, TakesIn}
+use Rattle.taos_saturate.specs.Saturating.{AreAnchored, claim_by}
+use Rattle.stmt_codec.specs.Certificates.{Certificate, speaker_of, IsWithinLimits}
+use Rattle.taos_saturate.proofs.Interned.{pushed_at, length_grown, named_stays, fits_next}
+use Rattle.taos_saturate.proofs.Few.{cert_few}
+
+map_same : {X Y : Type 0} (f g : X → Y) (xs : List X) → All (λ x. f x ≡ g x) xs → map f xs ≡ map g xs
+map_same f g [] all = refl
+map_same {X} {Y} f g (x ∷ xs) all = ap₂ (λ (y : Y) (ys : List Y). y ∷ ys) (All-head (λ x. f x ≡ g x) x xs all) (map_same f g xs (All-tail (λ x. f x ≡ g x) x xs all))
+
+pub widens_none : (nodes : List Node) → IsNodeTable nodes → Widens nodes nodes 0
+widens_none nodes table = record { table = table; more = []; longer = sym (append-nil (principals_of nodes)); few = omega arith }
+
+pub widens_then : (a b c : List Node) (n m k : ℕ) → Widens a b n → Widens b c m → n + m ≤ k → Widens a c k
+widens_then a b c n m k h g le = record {
+  table = g.table;
+  more = h.more ++ g.more;
+  longer = g.longer ∙ ap (λ (t : List Principal). t ++ g.more) h.longer ∙ append_assoc (principals_of a) h.more g.more;
+  few = omega (arith, h.few, g.few);
+}
+
+pub widens_taken : (old new : List Node) (ps : List Principal) (p : Principal) (id n : ℕ) → TakesIn old new ps p id →
+    length (met (principals_of old) ps) ≤ length (principals_of old) + n → Widens old new n
+widens_taken old new ps p id n t few =
+    let (more, e) = met-grows (principals_of old) ps in
+    record {
+      table = t.table;
+      more = more;
+      longer = t.grown ∙ e;
+      few = omega (arith, few, ap length t.grown, length-principals_of old, length-principals_of new);
+    }
+
+module _ (old new : List Node) (n : ℕ) (w : Widens old new n) where
+  pub widens_length : length old ≤ length new
+  widens_length = omega (arith, ap length w.longer, length-append (principals_of old) w.more, length-principals_of old, length-principals_of new)
+
+  pub widens_named : (i : ℕ) → i < length old → named new i ≡ named old i
+  widens_named i h =
+      ap (λ (xs : List Principal). get_or xs i (Key 0)) w.longer ∙ get_or_append_left (principals_of old) w.more (Key 0) i (omega (arith, h, length-principals_of old))
+
+  pub widens_contains : (p : Principal) → Contains (principals_of old) p → Contains (principals_of new) p
+  widens_contains p c = subst (λ (xs : List Principal). Contains xs p) (sym w.longer) (Contains-append_left (principals_of old) w.more p c)
+
+  pub widens_roomy : (c d : ℕ) → IsRoomy old c → c ≤ d → IsRoomy new d
+  widens_roomy c d r h = record { table = w.table; room = omega (arith, r.room, h) }
+
+  pub widens_anchored : (anchors : List Anchor) → AreAnchored old anchors → AreAnchored new anchors
+  widens_anchored anchors a = record {
+    keys_in = λ i anchor e. widens_contains (Key anchor.key) (a.keys_in i anchor e);
+    names_in = λ i anchor e. widens_contains (Name anchor.name) (a.names_in i anchor e);
+  }
+
+  cited_still : (c : Cited) → CitedIn (length old) c → CitedIn (length new) c
+  cited_still c h = record { speaker = omega (arith, h.speaker, widens_length); left = omega (arith, h.left, widens_length); right = omega (arith, h.right, widens_length) }
+
+  same_claim : (c : Cited) → CitedIn (length old) c → claim_by (named new) c ≡ claim_by (named old) c
+  same_claim c h = λ k. record { speaker = widens_named c.speaker h.speaker k; left = widens_named c.left h.left k; right = widens_named c.right h.right k }
+
+  same_chosen : (c : Cited) → CitedIn (length old) c → chosen_by (named new) c ≡ chosen_by (named old) c
+  same_chosen c h = λ k. (c.place, same_claim c h k)
+
+  pub widens_gathers : (cited : List Cited) (chosen : List (ℕ × Claim)) → Gathers old cited chosen → Gathers new cited chosen
+  widens_gathers cited chosen g = record {
+    cited_in = All-weaker (CitedIn (length old)) (CitedIn (length new)) cited_still cited g.cited_in;
+    chosen_is = map_same (chosen_by (named new)) (chosen_by (named old)) cited
+        (All-weaker (CitedIn (length old)) (λ c. chosen_by (named new) c ≡ chosen_by (named old) c) same_chosen cited g.cited_in) ∙ g.chosen_is;
+  }
+
+  pub widens_numbers : (numbers : List ℕ) → All (λ i. i < length old) numbers → All (λ i. i < length new) numbers
+  widens_numbers numbers all = All-weaker (λ i. i < length old) (λ i. i < length new) (λ i h. omega (arith, h, widens_length)) numbers all
+
+  pub widens_map : (numbers : List ℕ) → All (λ i. i < length old) numbers → map (named new) numbers ≡ map (named old) numbers
+  widens_map numbers all = map_same (named new) (named old) numbers (All-weaker (λ i. i < length old) (λ i. named new i ≡ named old i) widens_named numbers all)
+
+pub number_contained : (nodes : List Node) (i : ℕ) (p : Principal) → i < length nodes → named nodes i ≡ p → Contains (principals_of nodes) p
+number_contained nodes i p h e =
+    let fits : i < length (principals_of nodes) = omega (arith, h, length-principals_of nodes) in
+    (i, fits, sym (get_or_default (principals_of nodes) i (Key 0) p fits) ∙ e)
+
+pub anchored_none : (nodes : List Node) → AreAnchored nodes []
+anchored_none nodes = record { keys_in = λ i anchor e. absurd (none-some anchor e); names_in = λ i anchor e. absurd (none-some anchor e) }
+
+pub anchored_more : (nodes : List Node) (anchors : List Anchor) (a : Anchor) → AreAnchored nodes anchors →
+    Contains (principals_of nodes) (Key a.key) → Contains (principals_of nodes) (Name a.name) → AreAnchored nodes (anchors ++ a ∷ [])
+anchored_more nodes anchors a h k n = record {
+  keys_in = λ i anchor e. elim (pushed_at anchors a anchor i e) [ inl f ↦ h.keys_in i anchor f | inr q ↦ subst (λ (x : Anchor). Contains (principals_of nodes) (Key x.key)) q.1 k ];
+  names_in = λ i anchor e. elim (pushed_at anchors a anchor i e) [ inl f ↦ h.names_in i anchor f | inr q ↦ subst (λ (x : Anchor). Contains (principals_of nodes) (Name x.name)) q.1 n ];
+}
+
+pub gathers_none : (nodes : List Node) → Gathers nodes [] []
+gathers_none nodes = record { cited_in = All-nil (CitedIn (length nodes)); chosen_is = refl }
+
+pub gathers_more : (nodes : List Node) (cited : List Cited) (chosen : List (ℕ × Claim)) (c : Cited) (place : ℕ) (claim : Claim) → Gathers nodes cited chosen → CitedIn (length nodes) c →
+    c.place ≡ place → claim_by (named nodes) c ≡ claim → Gathers nodes (cited ++ c ∷ []) (chosen ++ (place, claim) ∷ [])
+gathers_more nodes cited chosen c place claim g h at is = record {
+  cited_in = All-push (CitedIn (length nodes)) cited c g.cited_in h;
+  chosen_is = map-append (chosen_by (named nodes)) cited (c ∷ []) ∙ ap₂ (λ (xs ys : List (ℕ × Claim)). xs ++ ys) g.chosen_is (λ k. (at k, is k) ∷ []);
+}
+
+-- a certificate's terms one after another
+module _ (n0 n1 n2 n3 : List Node) (sp l r : Principal) (x y z : ℕ)
+    (h : TakesIn n0 n1 (post_order sp) sp x) (k : TakesIn n1 n2 (post_order l) l y) (m : TakesIn n2 n3 (post_order r) r z) where
+  pub all_taken : TakesIn n0 n3 (post_order sp ++ post_order l ++ post_order r) r z
+  all_taken = record {
+    table = m.table;
+    grown = m.grown ∙ ap (λ (t : List Principal). met t (post_order r)) (k.grown ∙ ap (λ (t : List Principal). met t (post_order l)) h.grown ∙ sym (met-append (principals_of n0) (post_order sp) (post_order l))) ∙
+        sym (met-append (principals_of n0) (post_order sp ++ post_order l) (post_order r));
+    within = m.within;
+    named_is = m.named_is;
+  }
+
+  pub three_within : (x < length n3) × (y < length n3) × (z < length n3)
+  three_within =
+      let a : length n1 ≤ length n2 = length_grown n1 n2 (post_order l) l y k in
+      let b : length n2 ≤ length n3 = length_grown n2 n3 (post_order r) r z m in
+      (omega (arith, h.within), omega (arith, k.within), m.within)
+
+  pub three_named : (named n3 x ≡ sp) × (named n3 y ≡ l) × (named n3 z ≡ r)
+  three_named =
+      let a : length n1 ≤ length n2 = length_grown n1 n2 (post_order l) l y k in (
+        named_stays n2 n3 (post_order r) r z m x (omega (arith, h.within)) ∙ named_stays n1 n2 (post_order l) l y k x h.within ∙ h.named_is,
+        named_stays n2 n3 (post_order r) r z m y k.within ∙ k.named_is,
+        m.named_is,
+      )
+
+pub second_fits : (n0 n1 : List Node) (sp l r : Principal) (x : ℕ) → TakesIn n0 n1 (post_order sp) sp x →
+    Fits n0 (post_order sp ++ post_order l ++ post_order r) → Fits n1 (post_order l ++ post_order r)
+second_fits n0 n1 sp l r x h f = fits_next n0 n1 (post_order sp) sp x h (post_order l ++ post_order r) (rw append_assoc at f)
+
+pub cert_fits : (nodes : List Node) (c : Certificate) → IsWithinLimits c → length nodes + 16 ≤ 1296 → Fits nodes (post_order (speaker_of c) ++ post_order c.left ++ post_order c.right)
+cert_fits nodes c limits room = omega (arith, room, cert_few (principals_of nodes) c limits, length-principals_of nodes)
+
+-- one element more is looked at
+pub picked-true : {X : Type 0} (at : ℕ) (xs : List X) (marks : List Bool) (i : ℕ) (x : X) → slice_get xs i ≡ Some x → slice_get marks i ≡ Some true →
+    picked at (take (suc i) xs) (take (suc i) marks) ≡ picked at (take i xs) (take i marks) ++ (at + i, x) ∷ []
+picked-true at [] marks i x e f = absurd (none-some x e)
+picked-true at (y ∷ xs) [] i x e f = absurd (none-some true f)
+picked-true {X} at (y ∷ xs) (true ∷ marks) zero x e f =
+    let n : at ≡ at + 0 = omega arith in
+    let q : y ≡ x = same_Some y x e in λ k. (n k, q k) ∷ []
+picked-true at (y ∷ xs) (false ∷ marks) zero x e f = absurd (let q : false ≡ true = same_Some false true f in cc)
+picked-true {X} at (y ∷ xs) (true ∷ marks) (suc i) x e f =
+    let n : (at + 1) + i ≡ at + suc i = omega arith in
+    ap (λ (l : List (ℕ × X)). (at, y) ∷ l) (picked-true (at + 1) xs marks i x e f ∙ (λ k. picked (at + 1) (take i xs) (take i marks) ++ (n k, x) ∷ []))
+picked-true {X} at (y ∷ xs) (false ∷ marks) (suc i) x e f =
+    let n : (at + 1) + i ≡ at + suc i = omega arith in
+    picked-true (at + 1) xs marks i x e f ∙ (λ k. picked (at + 1) (take i xs) (take i marks) ++ (n k, x) ∷ [])
+
+pub picked-false : {X : Type 0} (at : ℕ) (xs : List X) (marks : List Bool) (i : ℕ) → slice_get marks i ≡ Some false →
+    picked at (take (suc i) xs) (take (suc i) marks) ≡ picked at (take i xs) (take i marks)
+picked-false at [] marks zero f = refl
+picked-false at [] marks (suc i) f = refl
+picked-false at (y ∷ xs) [] i f = absurd (none-some false f)
+picked-false at (y ∷ xs) (true ∷ marks) zero f = absurd (let q : true ≡ false = same_Some true false f in cc)
+picked-false at (y ∷ xs) (false ∷ marks) zero f = refl
+picked-false {X} at (y ∷ xs) (true ∷ marks) (suc i) f = ap (λ (l : List (ℕ × X)). (at, y) ∷ l) (picked-false (at + 1) xs marks i f)
+picked-false at (y ∷ xs) (false ∷ marks) (suc i) f = picked-false (at + 1) xs marks i f
+
+pub gathers_skip : (nodes : List Node) (cited : List Cited) (xs : List Claim) (marks : List Bool) (i : ℕ) → slice_get marks i ≡ Some false →
+    Gathers nodes cited (picked 0 (take i xs) (take i marks)) → Gathers nodes cited (picked 0 (take (i + 1) xs) (take (i + 1) marks))
+gathers_skip nodes cited xs marks i e g =
+    subst (λ n. Gathers nodes cited (picked 0 (take n xs) (take n marks))) (sym (add-one i))
+    (subst (λ (ch : List (ℕ × Claim)). Gathers nodes cited ch) (sym (picked-false 0 xs marks i e)) g)
+
+pub gathers_step : (old new : List Node) (n : ℕ) (cited : List Cited) (xs : List Claim) (marks : List Bool) (i : ℕ) (c : Cited) (claim : Claim) → Widens old new n →
+    slice_get xs i ≡ Some claim → slice_get marks i ≡ Some true → CitedIn (length new) c → c.place ≡ i → claim_by (named new) c ≡ claim →
+    Gathers old cited (picked 0 (take i xs) (take i marks)) → Gathers new (cited ++ c ∷ []) (picked 0 (take (i + 1) xs) (take (i + 1) marks))
+gathers_step old new n cited xs marks i c claim w e f h at is g =
+    let more : Gathers new (cited ++ c ∷ []) (picked 0 (take i xs) (take i marks) ++ (0 + i, claim) ∷ [])
+    = gathers_more new cited (picked 0 (take i xs) (take i marks)) c (0 + i) claim (widens_gathers old new n w cited (picked 0 (take i xs) (take i marks)) g) h (omega (arith, at)) is in
+    subst (λ k. Gathers new (cited ++ c ∷ []) (picked 0 (take k xs) (take k marks))) (sym (add-one i))
+    (subst (λ (ch : List (ℕ × Claim)). Gathers new (cited ++ c ∷ []) ch) (sym (picked-true 0 xs marks i claim e f)) more)
+
+pub mapped_at : {X : Type 0} (f : X → Certificate) (xs : List X) (i : ℕ) (d : X) → i < length xs → slice_get (map claim_of (map f xs)) i ≡ Some (claim_of (f (get_or xs i d)))
+mapped_at f xs i d h =
+    slice_get-map claim_of (map f xs) i ∙ ap (option_map claim_of) (slice_get-map f xs i ∙ ap (option_map f) (slice_get-get_or xs i d h))

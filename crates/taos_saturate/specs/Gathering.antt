@@ -1,0 +1,35 @@
+-- Taking a question into a table of nodes.
+--     Widens old new n      the new table has the old one's principals in front, and at most n nodes more
+--     CitedIn n c      the numbers of a certificate are below n
+--     chosen_by p c      a chosen certificate as a place and a claim, where p gives the principal of each number
+--     Gathers nodes cited chosen      the certificates by their numbers are these
+use Rattle.std.specs.Prelude.{◌≡◌, ℕ, ◌+◌, ◌<◌, ◌≤◌, List, ◌++◌, length, map, All}
+use Rattle.prin_term.specs.Principal.{Principal}
+use Rattle.taos_calculus.specs.declared.line.Node.{Node}
+use Rattle.taos_calculus.specs.Rules.{Claim}
+use Rattle.taos_calculus.specs.Tables.{IsNodeTable, named, principals_of}
+use Rattle.taos_saturate.specs.declared.found.Pair.{Pair}
+use Rattle.taos_saturate.specs.declared.saturation.Cited.{Cited}
+use Rattle.taos_saturate.specs.Finding.{pair}
+use Rattle.taos_saturate.specs.Saturating.{claim_by}
+
+pub record Widens (old new : List Node) (n : ℕ) : Type 0 where
+  pub table : IsNodeTable new
+  pub more : List Principal
+  pub longer : principals_of new ≡ principals_of old ++ more
+  pub few : length new ≤ length old + n
+
+pub record CitedIn (n : ℕ) (c : Cited) : Type 0 where
+  pub speaker : c.speaker < n
+  pub left : c.left < n
+  pub right : c.right < n
+
+abbrev pub chosen_by : (ℕ → Principal) → Cited → ℕ × Claim
+chosen_by p c = (c.place, claim_by p c)
+
+abbrev pub statement_of : Cited → Pair
+statement_of c = pair c.left c.right
+
+pub record Gathers (nodes : List Node) (cited : List Cited) (chosen : List (ℕ × Claim)) : Type 0 where
+  pub cited_in : All (CitedIn (length nodes)) cited
+  pub chosen_is : map (chosen_by (named nodes)) cited ≡ chosen
