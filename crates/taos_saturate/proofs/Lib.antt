@@ -12,3 +12,5 @@ pub mod Passing
 pub mod Interned
 pub mod Few
 pub mod Gathered
+pub mod Holding
+pub mod Seen

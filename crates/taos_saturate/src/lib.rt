@@ -9,4 +9,7 @@ mod interning;
 mod look;
 mod saturate;
 mod saturation;
+mod saturator;
 mod search;
+
+pub use saturator::Saturator;

@@ -1,0 +1,65 @@
+-- What a held decider knows of the terms of its question.
+use Rattle.std.proofs.Common.{◌≡◌, ◌↔◌, ◌⊎◌, inl, inr, ℕ, ◌<◌, List, [], ◌∷◌, ◌++◌, length, map, refl, sym, ap, subst, ◌∙◌, All, Contains, lit<}
+use Rattle.std.specs.Prelude.{Any}
+use Rattle.std.proofs.lemmas.List.Elements.{All-cons, All-append, All-weaker, All-map, All-contains}
+use Rattle.prin_term.specs.Principal.{Principal, Key, Name, And, Quoting, InRole, For, subterms, operands}
+use Rattle.taos_calculus.specs.declared.line.Fact.{Fact}
+use Rattle.taos_calculus.specs.Question.{Question, claims_of, IsTermOf, MayAnswer}
+use Rattle.taos_calculus.specs.Rules.{Claim, SpeaksFor, Derivable}
+use Rattle.taos_calculus.specs.Tables.{named}
+use Rattle.taos_calculus.proofs.Induction.{All-one}
+use Rattle.taos_calculus.proofs.Numbers.{Numbered, numbered_operands}
+use Rattle.taos_saturate.specs.declared.held.Held.{Held}
+use Rattle.taos_saturate.specs.declared.saturation.Cited.{Cited}
+use Rattle.taos_saturate.specs.Gathering.{chosen_by}
+use Rattle.taos_saturate.specs.Held.{IsHeld, seen}
+use Rattle.taos_saturate.specs.Saturating.{IsNumber, IsKnown, claims_in, claim_by}
+use Rattle.taos_saturate.proofs.Deciding.{good_decides}
+
+claims-map : (p : ℕ → Principal) (cited : List Cited) → map (λ (x : ℕ × Claim). x.1) (map (chosen_by p) cited) ≡ map (claim_by p) cited
+claims-map p [] = refl
+claims-map p (c ∷ cited) = ap (λ (xs : List Claim). claim_by p c ∷ xs) (claims-map p cited)
+
+pub claims_seen : (h : Held) → claims_of (seen h) ≡ claims_in h.table
+claims_seen h = claims-map (named h.table.nodes.items) h.table.cited.items
+
+module _ (h : Held) (held : IsHeld h) where
+  abbrev Has : Principal → Type 0
+  Has q = Numbered h.table.nodes.items held.good.ready.table h.table.anchors.items (claims_in h.table) q
+
+  operands_have : (q : Principal) → Has q → All Has (operands q)
+  operands_have q u = numbered_operands h.table.nodes.items held.good.ready.table h.table.anchors.items (claims_in h.table) q u
+
+  parts_have : (q : Principal) → Has q → All Has (subterms q)
+  parts_have (Key k) u = All-one Has (Key k) u
+  parts_have (Name n) u = All-one Has (Name n) u
+  parts_have (And a b) u =
+      All-cons Has (And a b) (subterms a ++ subterms b) u
+      (All-append Has (subterms a) (subterms b) (parts_have a (operands_have (And a b) u 0 a (lit< tt))) (parts_have b (operands_have (And a b) u 1 b (lit< tt))))
+  parts_have (Quoting a b) u =
+      All-cons Has (Quoting a b) (subterms a ++ subterms b) u
+      (All-append Has (subterms a) (subterms b) (parts_have a (operands_have (Quoting a b) u 0 a (lit< tt))) (parts_have b (operands_have (Quoting a b) u 1 b (lit< tt))))
+  parts_have (For a b) u =
+      All-cons Has (For a b) (subterms a ++ subterms b) u
+      (All-append Has (subterms a) (subterms b) (parts_have a (operands_have (For a b) u 0 a (lit< tt))) (parts_have b (operands_have (For a b) u 1 b (lit< tt))))
+  parts_have (InRole a r) u =
+      All-cons Has (InRole a r) (subterms a) u (parts_have a (operands_have (InRole a r) u 0 a (lit< tt)))
+
+  entries_have : All Has (seen h).list
+  entries_have =
+      All-map Has (named h.table.nodes.items) h.list.items
+      (All-weaker (λ i. i < length h.table.nodes.items) (λ i. Has (named h.table.nodes.items i)) (λ i b. (i, b, refl)) h.list.items held.list_in)
+
+  has_term : (p : Principal) → IsTermOf (seen h) p → Has p
+  has_term p (inl c) = All-contains Has (subterms (seen h).subject) p (parts_have (seen h).subject (h.subject, held.subject_in, refl)) c
+  has_term p (inr (k, x, b, e, c)) =
+      All-contains Has (subterms x) p (parts_have x (subst Has e (entries_have k x b))) c
+
+  -- the same, as it is seen from outside
+  module _ (q : Question) (view : q ≡ seen h) where
+    pub has_number : (p : Principal) → IsTermOf q p → ((i : ℕ) → i < length h.table.nodes.items → named h.table.nodes.items i ≡ p → ⊥) → ⊥
+    has_number p t none = let (i, b, e) = has_term p (rw view at t) in none i b e
+
+    pub seen_decides : (l r : Principal) (i j : ℕ) → IsNumber h.table i → IsNumber h.table j → named h.table.nodes.items i ≡ l → named h.table.nodes.items j ≡ r →
+        IsKnown h.table (Fact.Speaks i j) ↔ MayAnswer q l r
+    seen_decides l r i j hi hj ei ej = rw (view, claims_seen h, ← ei, ← ej) (good_decides h.table held.good i j hi hj)

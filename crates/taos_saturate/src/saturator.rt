@@ -1,0 +1,111 @@
+//! The decider, seen by what it was asked.
+
+ghost use Rattle.std.specs.Prelude.{◌≡◌, ◌≢◌, ◌↔◌, ℕ, ◌<◌, ◌^◌, IsTrue, IfOk, MatchOption, length, map};
+ghost use Rattle.prin_term.specs.View.{principal};
+ghost use Rattle.taos_calculus.specs.Tables.{IsNodeTable, named, shape, OperandsBelow};
+ghost use Rattle.taos_calculus.specs.Question.{IsTermOf, MayAnswer};
+
+use crate::held::Held;
+use prin_term::Term;
+use std::marker::Model;
+use taos_calculus::Node;
+
+// The node of a number.
+fn node_at(nodes: &[Node], id: u16) -> Node
+    requires table { IsNodeTable nodes.now }
+    requires id_in { id < length nodes.now }
+    ensures reads { named nodes.now id ≡ shape (named nodes.now) result }
+    ensures operands { OperandsBelow (length nodes.now) result }
+{
+    nodes[id as usize]
+}
+
+// Whether the number stands for the term.
+fn node_is(nodes: &[Node], id: u16, term: &Term) -> bool
+    requires table { IsNodeTable nodes.now }
+    requires id_in { id < length nodes.now }
+    ensures { IsTrue result ↔ (named nodes.now id ≡ principal term.now) }
+{
+    match term {
+        Term::Key(k) => match node_at(nodes, id) {
+            Node::Key(n) => *k == n,
+            _ => false,
+        },
+        Term::Name(k) => match node_at(nodes, id) {
+            Node::Name(n) => *k == n,
+            _ => false,
+        },
+        Term::And(a, b) => match node_at(nodes, id) {
+            Node::And(x, y) => node_is(nodes, x, a) && node_is(nodes, y, b),
+            _ => false,
+        },
+        Term::Quote(a, b) => match node_at(nodes, id) {
+            Node::Quote(x, y) => node_is(nodes, x, a) && node_is(nodes, y, b),
+            _ => false,
+        },
+        Term::AsRole(a, r) => match node_at(nodes, id) {
+            Node::AsRole(x, s) => *r == s && node_is(nodes, x, a),
+            _ => false,
+        },
+        Term::For(a, b) => match node_at(nodes, id) {
+            Node::For(x, y) => node_is(nodes, x, a) && node_is(nodes, y, b),
+            _ => false,
+        },
+    }
+}
+
+// The number of the term.
+fn find(nodes: &[Node], term: &Term) -> Option<u16>
+    requires table { IsNodeTable nodes.now }
+    requires fits { length nodes.now < 2 ^ 16 }
+    ensures { MatchOption result ((i : ℕ) → i < length nodes.now → named nodes.now i ≢ principal term.now)
+        (λ i. (i < length nodes.now) × (named nodes.now i ≡ principal term.now)) }
+{
+    for i in 0..nodes.len() {
+        if node_is(nodes, i as u16, term) {
+            return Some(i as u16);
+        }
+    }
+    None
+}
+
+/// A decider that has looked at all pairs of the terms that it was asked about.
+#[derive(Drop)]
+pub struct Saturator {
+    held: Held,
+}
+
+impl Model for Saturator {
+    ghost use Rattle.std.specs.Coded.{codes};
+    ghost use Rattle.prin_term.specs.Codes.{principal_code};
+    ghost use Rattle.taos_calculus.specs.Question.{Question};
+    ghost use Rattle.taos_saturate.specs.Held.{IsHeld, seen};
+
+    ghost Value = { Question };
+
+    ghost coded = { Prim.hlevel (codes, principal_code) };
+
+    ghost view = { λ s. seen s.held };
+
+    ghost invariant = { λ s. IsHeld s.held };
+}
+
+impl Saturator {
+    // Whether `left => right` is among the facts.
+    fn knows(&self, left: &Term, right: &Term) -> bool
+        requires left_in { IsTermOf self.now (principal left.now) }
+        requires right_in { IsTermOf self.now (principal right.now) }
+        ensures { IsTrue result ↔ MayAnswer self.now (principal left.now) (principal right.now) }
+    {
+        match find(&self.held.table.nodes, left) {
+            Some(i) => match find(&self.held.table.nodes, right) {
+                Some(j) => match self.held.table.speaks(i, j) {
+                    Some(_) => true,
+                    None => false,
+                },
+                None => false,
+            },
+            None => false,
+        }
+    }
+}
