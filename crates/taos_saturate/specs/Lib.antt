@@ -5,3 +5,5 @@ pub mod Taking
 pub mod Interning
 pub mod Gathering
 pub mod Held
+pub mod Citing
+pub mod Carrying

@@ -25,8 +25,8 @@ fn find(nodes: &[Node], node: Node) -> Option<usize>
     None
 }
 
-// The number of a node, which is put behind the others where it is not there.
-fn place(nodes: &mut Vec<Node>, node: Node) -> u16
+/// The number of a node, which is put behind the others where it is not there.
+pub fn place(nodes: &mut Vec<Node>, node: Node) -> u16
     requires roomy { IsRoomy nodes.old.items (vec_capacity nodes.old) }
     requires operands { OperandsBelow (length nodes.old.items) node }
     requires fits { Fits nodes.old.items (shape (named nodes.old.items) node ∷ []) }

@@ -1,12 +1,15 @@
 //! A decider that goes over all pairs of terms.
 #![tactic(auto)]
 
+mod extract;
+mod citing;
 mod found;
 mod gaps;
 mod gather;
 mod held;
 mod interning;
 mod look;
+mod retable;
 mod saturate;
 mod saturation;
 mod saturator;

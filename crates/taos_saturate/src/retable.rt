@@ -1,0 +1,74 @@
+//! Lines over the table of their own terms.
+
+ghost use Rattle.std.specs.Prelude.{◌≡◌, ℕ, ◌<◌, ◌≤◌, length, vec_capacity};
+ghost use Rattle.prin_term.specs.Kind.{Kind};
+ghost use Rattle.taos_calculus.specs.Canonical.{post_order};
+ghost use Rattle.taos_calculus.specs.Tables.{IsNodeTable, IsBelow, named};
+ghost use Rattle.taos_saturate.specs.Carrying.{CarriesFact, FactFits};
+ghost use Rattle.taos_saturate.specs.Interning.{IsRoomy, Fits, TakesIn, node_pair};
+
+use crate::interning::place;
+use taos_calculus::{Fact, Node};
+
+// The node of two operands of the kind of a node.
+fn pair_like(node: Node, a: u16, b: u16) -> Node
+    ensures { (kind : Kind) (x y : ℕ) → node ≡ node_pair kind x y → result ≡ node_pair kind a b }
+{
+    match node {
+        Node::And(_, _) => Node::And(a, b),
+        Node::Quote(_, _) => Node::Quote(a, b),
+        _ => Node::For(a, b),
+    }
+}
+
+// The number in the new table of what has this number in the old one.
+fn carry(nodes: &[Node], new: &mut Vec<Node>, id: u16) -> u16
+    requires table { IsNodeTable nodes.now }
+    requires id_in { id < length nodes.now }
+    requires roomy { IsRoomy new.old.items (vec_capacity new.old) }
+    requires fits { Fits new.old.items (post_order (named nodes.now id)) }
+    ensures taken { TakesIn new.old.items new.new.items (post_order (named nodes.now id)) (named nodes.now id) result }
+    ensures capacity { vec_capacity new.old ≤ vec_capacity new.new }
+{
+    let node = nodes[id as usize];
+    match node {
+        Node::Key(_) | Node::Name(_) => place(new, node),
+        Node::And(a, b) | Node::Quote(a, b) | Node::For(a, b) => {
+            let x = carry(nodes, new, a);
+            let y = carry(nodes, new, b);
+            place(new, pair_like(node, x, y))
+        }
+        Node::AsRole(a, role) => {
+            let x = carry(nodes, new, a);
+            place(new, Node::AsRole(x, role))
+        }
+    }
+}
+
+/// The fact by the numbers of the new table.
+pub fn carry_fact(nodes: &[Node], new: &mut Vec<Node>, fact: Fact) -> Fact
+    requires table { IsNodeTable nodes.now }
+    requires below { IsBelow (length nodes.now) fact }
+    requires roomy { IsRoomy new.old.items (vec_capacity new.old) }
+    requires fits { FactFits nodes.now new.old.items fact }
+    ensures carries { CarriesFact nodes.now new.old.items new.new.items fact result }
+    ensures capacity { vec_capacity new.old ≤ vec_capacity new.new }
+{
+    match fact {
+        Fact::Speaks { left, right } => {
+            let a = carry(nodes, new, left);
+            let b = carry(nodes, new, right);
+            Fact::Speaks { left: a, right: b }
+        }
+        Fact::Says { who, left, right } => {
+            let w = carry(nodes, new, who);
+            let a = carry(nodes, new, left);
+            let b = carry(nodes, new, right);
+            Fact::Says {
+                who: w,
+                left: a,
+                right: b,
+            }
+        }
+    }
+}
