@@ -14,3 +14,4 @@ pub mod Few
 pub mod Gathered
 pub mod Holding
 pub mod Seen
+pub mod Carried
