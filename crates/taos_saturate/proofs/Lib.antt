@@ -15,3 +15,6 @@ pub mod Gathered
 pub mod Holding
 pub mod Seen
 pub mod Carried
+pub mod Cited
+pub mod CarriedLines
+pub mod Fitting

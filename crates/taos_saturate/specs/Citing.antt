@@ -1,22 +1,27 @@
--- The certificates that lines cite, and the lines by the places among these.
---     IsCitedBy lines used      used are the numbers that the lines cite, each once
+-- The certificates that lines cite, and steps by the places among these.
+--     IsCite lines k      some line cites the number
+--     UsedBelow lines k used      used are the numbers below k that the lines cite, each once
 --     IsRecited used step new      the step names its certificate by the place of its number in used
-use Rattle.std.specs.Prelude.{◌≡◌, ℕ, List, Some, slice_get, Contains}
+use Rattle.std.specs.Prelude.{◌≡◌, ℕ, ◌<◌, ◌≤◌, List, Some, slice_get, length, Contains}
 use Rattle.taos_calculus.specs.declared.line.Line.{Line}
 use Rattle.taos_calculus.specs.declared.line.Step.{Step}
 use Rattle.taos_calculus.specs.Tidy.{cites_of, moved}
 
--- some line cites the number
 pub record IsCite (lines : List Line) (k : ℕ) : Type 0 where
   pub at : ℕ
   pub line : Line
   pub stands : slice_get lines at ≡ Some line
   pub names : Contains (cites_of line.step) k
 
-pub record IsCitedBy (lines : List Line) (used : List ℕ) : Type 0 where
-  pub all : (i k : ℕ) (l : Line) → slice_get lines i ≡ Some l → Contains (cites_of l.step) k → Contains used k
-  pub only : (j k : ℕ) → slice_get used j ≡ Some k → IsCite lines k
-  pub apart : (i j k : ℕ) → slice_get used i ≡ Some k → slice_get used j ≡ Some k → i ≡ j
+abbrev pub HasPlace : List ℕ → ℕ → Type 0
+HasPlace used k = (j : ℕ) × (slice_get used j ≡ Some k)
+
+pub record UsedBelow (lines : List Line) (k : ℕ) (used : List ℕ) : Type 0 where
+  pub all : (m : ℕ) → m < k → IsCite lines m → HasPlace used m
+  pub below : (j m : ℕ) → slice_get used j ≡ Some m → m < k
+  pub only : (j m : ℕ) → slice_get used j ≡ Some m → IsCite lines m
+  pub apart : (i j m : ℕ) → slice_get used i ≡ Some m → slice_get used j ≡ Some m → i ≡ j
+  pub few : length used ≤ k
 
 pub record IsRecited (used : List ℕ) (step new : Step) : Type 0 where
   pub cite : ℕ → ℕ

@@ -1,14 +1,20 @@
 //! Lines over the table of their own terms.
 
-ghost use Rattle.std.specs.Prelude.{◌≡◌, ℕ, ◌<◌, ◌≤◌, length, vec_capacity};
+ghost use Rattle.std.specs.Prelude.{◌≡◌, ℕ, ◌<◌, ◌≤◌, ◌^◌, Some, IfOk, slice_get, length, Contains, vec_capacity};
 ghost use Rattle.prin_term.specs.Kind.{Kind};
 ghost use Rattle.taos_calculus.specs.Canonical.{post_order};
 ghost use Rattle.taos_calculus.specs.Tables.{IsNodeTable, IsBelow, named};
-ghost use Rattle.taos_saturate.specs.Carrying.{CarriesFact, FactFits};
+ghost use Rattle.taos_saturate.specs.Carrying.{CarriesFact, CarriesLines, FactFits};
+ghost use Rattle.taos_calculus.specs.declared.line.Line.{Line};
+ghost use Rattle.taos_calculus.specs.declared.proof.TheConstants.{MAX_NODES};
+ghost use Rattle.taos_calculus.specs.Tidy.{cites_of};
+ghost use Rattle.taos_saturate.specs.Citing.{HasPlace};
 ghost use Rattle.taos_saturate.specs.Interning.{IsRoomy, Fits, TakesIn, node_pair};
 
+use crate::citing::recite;
 use crate::interning::place;
-use taos_calculus::{Fact, Node};
+use std::alloc::{AllocError, Global};
+use taos_calculus::{Fact, Line, MAX_NODES, Node};
 
 // The node of two operands of the kind of a node.
 fn pair_like(node: Node, a: u16, b: u16) -> Node
@@ -71,4 +77,38 @@ pub fn carry_fact(nodes: &[Node], new: &mut Vec<Node>, fact: Fact) -> Fact
             }
         }
     }
+}
+
+/// Lines with the table of their terms.
+#[derive(Drop)]
+pub struct Carried {
+    pub nodes: Vec<Node>,
+    pub lines: Vec<Line>,
+}
+
+/// The lines over the table of their own terms, with their certificates by the places in `used`.
+pub fn carry_lines(
+    alloc: Global,
+    nodes: &[Node],
+    lines: &[Line],
+    used: &[u16],
+) -> Result<Carried, AllocError>
+    requires table { IsNodeTable nodes.now }
+    requires few { length nodes.now ≤ MAX_NODES }
+    requires few_used { length used.now < 2 ^ 16 }
+    requires below { (i : ℕ) (l : Line) → slice_get lines.now i ≡ Some l → IsBelow (length nodes.now) l.fact }
+    requires has { (i k : ℕ) (l : Line) → slice_get lines.now i ≡ Some l → Contains (cites_of l.step) k → HasPlace used.now k }
+    ensures { IfOk result (λ r. CarriesLines nodes.now used.now lines.now r.nodes.items r.lines.items) }
+{
+    let mut new = Vec::with_capacity(alloc, MAX_NODES)?;
+    let mut out = Vec::new(alloc);
+    for i in 0..lines.len() {
+        let fact = carry_fact(nodes, &mut new, lines[i].fact);
+        let step = recite(lines[i].step, used);
+        out.push(Line { fact, step })?;
+    }
+    Ok(Carried {
+        nodes: new,
+        lines: out,
+    })
 }
