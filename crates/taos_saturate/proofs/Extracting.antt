@@ -1,5 +1,5 @@
 -- What is kept of the marked lines is what the last one needs.
-use Rattle.std.proofs.Common.{◌≡◌, ◌≢◌, ◌⊎◌, inl, inr, ℕ, ◌+◌, ◌-◌, ◌<◌, Bool, List, Some, slice_get, slice_index, get_or, length, Contains, sym, ◌∙◌, ap, arith}
+use Rattle.std.proofs.Common.{◌≡◌, ◌≢◌, ◌⊎◌, inl, inr, ℕ, ◌+◌, ◌-◌, ◌<◌, ◌≤◌, Bool, List, Some, slice_get, slice_index, get_or, length, Contains, sym, ◌∙◌, ap, arith}
 use Rattle.std.specs.Prelude.{AllPairs}
 use Rattle.std.proofs.lemmas.Option.{same_Some, slice_get_within, slice_get-get_or}
 use Rattle.taos_calculus.specs.declared.line.Fact.{Fact}
@@ -14,7 +14,7 @@ use Rattle.taos_saturate.proofs.Keeping.{fact_stands}
 no_line : Line
 no_line = record { fact = Fact.Speaks 0 0; step = Step.Same }
 
-module _ (lines : List Line) (last : ℕ) (marks : List Bool) (numbers : List ℕ) (out : List Line) (inside : last < length lines)
+module _ (lines : List Line) (last : ℕ) (marks : List Bool) (numbers : List ℕ) (out : List Line) (inside : last < length lines) (small : length out ≤ last + 1)
     (marked : IsMarked lines last marks) (kept : IsKept lines marks (last + 1) numbers out) where
   line_of : (i : ℕ) (d : Line) → i < last + 1 → slice_get lines i ≡ Some (get_or lines i d)
   line_of i d h = slice_get-get_or lines i d (omega arith)
@@ -77,4 +77,4 @@ module _ (lines : List Line) (last : ℕ) (marks : List Bool) (numbers : List �
       omega (arith, ap (λ k. slice_index numbers k) q)
 
   pub is_extract : IsExtract lines last out
-  is_extract = record { valid = kept.valid; ends = ends; used = used; distinct = distinct }
+  is_extract = record { valid = kept.valid; short = omega arith; from_line = λ k m e. (let (i, q, f) = old_fact k (slice_get_within out k m e) in (i, f m e)); ends = ends; used = used; distinct = distinct }

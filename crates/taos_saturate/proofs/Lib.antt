@@ -18,3 +18,5 @@ pub mod Carried
 pub mod Cited
 pub mod CarriedLines
 pub mod Fitting
+pub mod Proving
+pub mod Tidying

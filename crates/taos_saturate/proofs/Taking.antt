@@ -78,6 +78,8 @@ module _ (s : Saturation) (ready : IsReady s) (sound : IsSound s) where
       record {
         valid = x.valid s.nodes.items s.anchors.items (claims_in s) sound;
         ends = (m, some, stand, fact_is ∙ is);
+        from_fact = x.from_line;
+        short = x.short;
         used = x.used;
         distinct = x.distinct apart;
       }

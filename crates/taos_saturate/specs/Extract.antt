@@ -58,6 +58,8 @@ pub record IsKept (lines : List Line) (marks : List Bool) (k : ℕ) (numbers : L
 pub record IsExtract (lines : List Line) (last : ℕ) (out : List Line) : Type 0 where
   pub valid : (nodes : List Node) (anchors : List Anchor) (claims : List Claim) →
       EachGives nodes anchors claims [] lines → EachGives nodes anchors claims [] out
+  pub short : length out ≤ length lines
+  pub from_line : (k : ℕ) (m : Line) → slice_get out k ≡ Some m → (i : ℕ) × (slice_get (facts_at lines) i ≡ Some m.fact)
   pub ends : (l : Line) → slice_get lines last ≡ Some l → (m : Line) × (0 < length out) × (slice_get out (length out - 1) ≡ Some m) × (m.fact ≡ l.fact)
   pub used : (j : ℕ) → j + 1 < length out →
       (i : ℕ) × (m : Line) × (j < i) × (slice_get out i ≡ Some m) × Contains (premises_of m.step) j

@@ -3,7 +3,7 @@
 --     CitedIn n c      the numbers of a certificate are below n
 --     chosen_by p c      a chosen certificate as a place and a claim, where p gives the principal of each number
 --     Gathers nodes cited chosen      the certificates by their numbers are these
-use Rattle.std.specs.Prelude.{◌≡◌, ℕ, ◌+◌, ◌<◌, ◌≤◌, List, ◌++◌, length, map, All}
+use Rattle.std.specs.Prelude.{◌≡◌, ℕ, ◌+◌, ◌<◌, ◌≤◌, List, ◌++◌, length, map, slice_index_or, All}
 use Rattle.prin_term.specs.Principal.{Principal}
 use Rattle.taos_calculus.specs.declared.line.Node.{Node}
 use Rattle.taos_calculus.specs.Rules.{Claim}
@@ -29,6 +29,13 @@ chosen_by p c = (c.place, claim_by p c)
 
 abbrev pub statement_of : Cited → Pair
 statement_of c = pair c.left c.right
+
+-- the certificate of a number, and its place
+abbrev pub cited_or : List Cited → ℕ → Cited
+cited_or cited k = slice_index_or cited k (record { place = 0; speaker = 0; left = 0; right = 0 })
+
+abbrev pub place_at : List Cited → ℕ → ℕ
+place_at cited k = (cited_or cited k).place
 
 pub record Gathers (nodes : List Node) (cited : List Cited) (chosen : List (ℕ × Claim)) : Type 0 where
   pub cited_in : All (CitedIn (length nodes)) cited
