@@ -14,7 +14,7 @@ use Rattle.taos_saturate.proofs.Keeping.{fact_stands}
 no_line : Line
 no_line = record { fact = Fact.Speaks 0 0; step = Step.Same }
 
-module _ (lines : List Line) (last : ℕ) (marks : List Bool) (numbers : List ℕ) (out : List Line) (inside : last < length lines) (small : length out ≤ last + 1)
+module _ (lines : List Line) (last : ℕ) (marks : List Bool) (numbers : List ℕ) (out : List Line) (inside : last < length lines)
     (marked : IsMarked lines last marks) (kept : IsKept lines marks (last + 1) numbers out) where
   line_of : (i : ℕ) (d : Line) → i < last + 1 → slice_get lines i ≡ Some (get_or lines i d)
   line_of i d h = slice_get-get_or lines i d (omega arith)
@@ -76,5 +76,5 @@ module _ (lines : List Line) (last : ℕ) (marks : List Bool) (numbers : List �
       let q : i ≡ j = apart i j (get_or out a d).fact si (sj ∙ ap (λ (z : Fact). Some z) (sym same)) in
       omega (arith, ap (λ k. slice_index numbers k) q)
 
-  pub is_extract : IsExtract lines last out
-  is_extract = record { valid = kept.valid; short = omega arith; from_line = λ k m e. (let (i, q, f) = old_fact k (slice_get_within out k m e) in (i, f m e)); ends = ends; used = used; distinct = distinct }
+  pub is_extract : length out ≤ last + 1 → IsExtract lines last out
+  is_extract small = record { valid = kept.valid; short = omega arith; from_line = λ k m e. (let (i, q, f) = old_fact k (slice_get_within out k m e) in (i, f m e)); ends = ends; used = used; distinct = distinct }

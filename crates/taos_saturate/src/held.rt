@@ -1,16 +1,25 @@
 //! A decider with what it was asked.
 
-ghost use Rattle.std.specs.Prelude.{◌≡◌, [], map};
+ghost use Rattle.std.specs.Prelude.{◌≡◌, ◌<◌, ℕ, [], All, IfOk, Some, length, map, slice_get};
 ghost use Rattle.prin_term.specs.View.{grant, principal};
 ghost use Rattle.stmt_codec.specs.Certificates.{certificate};
-ghost use Rattle.taos_calculus.specs.Question.{question_of, IsAskable};
+ghost use Rattle.taos_calculus.specs.declared.line.Fact.{Fact};
+ghost use Rattle.taos_calculus.specs.Question.{question_of, IsAskable, IsProofOf};
+ghost use Rattle.taos_calculus.specs.Tables.{named, lines_of};
+ghost use Rattle.taos_saturate.specs.Gathering.{place_at};
+ghost use Rattle.taos_saturate.specs.Saturating.{facts_of};
 ghost use Rattle.taos_saturate.specs.Held.{IsReserved, IsGathered, IsHeld, ArePlacesApart, seen};
 
+use crate::citing::cites_in;
+use crate::extract::extract;
 use crate::gather::{state_all, take_anchors, take_certs, take_list, take_term};
-use crate::saturation::Saturation;
+use crate::retable::carry_lines;
+use crate::saturation::{Cited, Saturation};
 use prin_term::{Anchor, Entry, Term};
+use std::alloc::{AllocError, Global};
 use std::sync::Arc;
 use stmt_codec::Cert;
+use taos_calculus::{Proof, Taken};
 
 /// The saturated table, with the numbers of who asks and of who is on the list.
 #[derive(Drop)]
@@ -102,4 +111,37 @@ impl Held {
         self.gather(anchors, certs, chosen, subject, list);
         self.settle();
     }
+
+    /// A proof of `left => right` without waste, from the line that has this fact.
+    pub fn proof_of(
+        &self,
+        alloc: Global,
+        left: u16,
+        right: u16,
+        number: u32,
+    ) -> Result<Taken, AllocError>
+        requires held { IsHeld self.now }
+        requires stands { slice_get (facts_of self.now.table) number ≡ Some (Fact.Speaks left right) }
+        ensures { IfOk result (λ t. IsProofOf (seen self.now) (named self.now.table.nodes.items left)
+            (named self.now.table.nodes.items right) (lines_of t.proof) t.cites.items) }
+    {
+        let lines = extract(alloc, &self.table.found.lines, number as usize)?;
+        let used = cites_in(alloc, &lines, self.table.cited.len() as u16)?;
+        let carried = carry_lines(alloc, &self.table.nodes, &lines, &used)?;
+        let cites = places(alloc, &self.table.cited, &used)?;
+        let proof = Proof::from_parts(carried.nodes, carried.lines).unwrap();
+        Ok(Taken { proof, cites })
+    }
+}
+
+// The places of the certificates of these numbers.
+fn places(alloc: Global, cited: &[Cited], used: &[u16]) -> Result<Vec<u16>, AllocError>
+    requires { All (λ k. k < length cited.now) used.now }
+    ensures { IfOk result (λ r. r.items ≡ map (place_at cited.now) used.now) }
+{
+    let mut out = Vec::new(alloc);
+    for i in 0..used.len() {
+        out.push(cited[used[i] as usize].place)?;
+    }
+    Ok(out)
 }

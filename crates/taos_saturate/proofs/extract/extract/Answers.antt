@@ -66,5 +66,6 @@ loop-k-preserved c =
 pub returns : goal.returns
 returns c =
     let end : c.loop-k.k ≡ c.args.last + 1 = omega arith in
-    is_extract c.args.lines.now c.args.last c.in_ok-marks.marks.items c.loop-k.numbers.items c.loop-k.out.items c.requires.last_in (omega (arith, end, c.loop-k.invariant.small)) c.in_ok-marks.ensures
+    is_extract c.args.lines.now c.args.last c.in_ok-marks.marks.items c.loop-k.numbers.items c.loop-k.out.items c.requires.last_in c.in_ok-marks.ensures
     (subst (λ n. IsKept c.args.lines.now c.in_ok-marks.marks.items n c.loop-k.numbers.items c.loop-k.out.items) end c.loop-k.invariant.kept)
+    (omega (arith, end, c.loop-k.invariant.small))

@@ -22,6 +22,9 @@ returns-clause-held c =
         list = c.requires.reserved.list;
       };
       good = record { ready = g.ready; sound = g.sound; full = c.saturate.ensures.full; anchored = rw (g.table.nodes, g.table.anchors) c.requires.gathered.anchored };
+      few_nodes = rw g.table.nodes c.requires.gathered.few;
+      few_cells = ?;
+      few_cited = rw g.table.cited c.requires.gathered.few_cited;
       subject_in = rw g.table.nodes c.requires.gathered.subject_in;
       list_in = rw g.table.nodes c.requires.gathered.list_in;
       apart = rw (g.table.nodes, g.table.cited) c.requires.apart;
