@@ -3,3 +3,5 @@ pub mod RequestLaws
 pub mod Seals
 pub mod Pieces
 pub mod CutRequests
+pub mod ShortReplies
+pub mod ReplyPieces
