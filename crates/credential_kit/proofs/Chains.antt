@@ -7,8 +7,9 @@ use Rattle.prin_term.specs.declared.term.Anchor.{Anchor}
 use Rattle.prin_term.specs.Principal.{Principal, Key, Name, Quoting, For}
 use Rattle.stmt_codec.specs.Certificates.{Certificate, speaker_of, live}
 use Rattle.taos_calculus.specs.Rules.{Judgement, SpeaksFor, Says, Derivable}
+use Rattle.taos_calculus.specs.Question.{claim_of}
 use Rattle.credential_kit.specs.Forms.{in_role, seat, logged_in, channel_of, login_of, role_of, delegate_of}
-use Rattle.credential_kit.specs.Conclusions.{claim_of, claims_of, HasAnchor, HasLive, IsBooted, IsLoggedIn, LoginSpeaks, DelegateSpeaks, RoleSpeaks}
+use Rattle.credential_kit.specs.Conclusions.{claims_of, HasAnchor, HasLive, IsBooted, IsLoggedIn, LoginSpeaks, DelegateSpeaks, RoleSpeaks}
 use Rattle.credential_kit.proofs.Deriving.{Known, chained, first_part, for_two, quotes, acts_for, takes_role, named, claimed, lifted, handed, delegated}
 
 -- x stands at a number

@@ -1,3 +1,2 @@
-pub mod Sealed
 pub mod Deriving
 pub mod Chains

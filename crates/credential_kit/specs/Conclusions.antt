@@ -7,13 +7,11 @@
 use Rattle.std.specs.Prelude.{ℕ, ◌<◌, List, map, Contains}
 use Rattle.prin_term.specs.declared.term.Anchor.{Anchor}
 use Rattle.prin_term.specs.Principal.{Principal, Key, Name, Quoting, For}
-use Rattle.stmt_codec.specs.Certificates.{Certificate, speaker_of, live}
+use Rattle.stmt_codec.specs.Certificates.{Certificate, live}
 use Rattle.taos_calculus.specs.Rules.{Claim}
 use Rattle.taos_calculus.specs.Monitor.{MaySpeak}
+use Rattle.taos_calculus.specs.Question.{claim_of}
 use Rattle.credential_kit.specs.Forms.{in_role, logged_in, boot_of, channel_of, login_of, session_of, role_of, delegate_of}
-
-abbrev pub claim_of : Certificate → Claim
-claim_of c = record { speaker = speaker_of c; left = c.left; right = c.right }
 
 abbrev pub claims_of : List Certificate → List Claim
 claims_of certs = map claim_of certs

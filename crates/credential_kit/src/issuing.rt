@@ -5,11 +5,12 @@ ghost use Rattle.std.specs.Option.{option_map};
 ghost use Rattle.prin_term.specs.Principal.{Key, Quoting, For, HasSpelling};
 ghost use Rattle.prin_term.specs.View.{principal};
 ghost use Rattle.stmt_codec.specs.Certificates.{certificate, HasBodySpelling, IsWithinLimits};
+ghost use Rattle.sealed_cert.specs.Seals.{sealed};
 ghost use Rattle.credential_kit.specs.Forms.{says, IsIssued, in_role, logged_in, seat};
 
 use crate::signer::Signer;
 use prin_term::{Statement, Term};
-use sealed_cert::seal_issued;
+use sealed_cert::{ISSUED, seal_issued};
 use std::alloc::{AllocError, Global};
 use stmt_codec::CertBody;
 
@@ -38,6 +39,16 @@ fn body_of(
     }
 }
 
+fn sealed(alloc: Global, key: &[u8; 32], body: &CertBody) -> Result<Vec<u8>, AllocError>
+    requires { IsWithinLimits (certificate body.now) }
+    ensures { IfOk result
+        (λ bytes. bytes.items ≡ sealed ISSUED key.now (certificate body.now)) }
+{
+    let mut bytes = Vec::new(alloc);
+    seal_issued(&mut bytes, key, body)?;
+    Ok(bytes)
+}
+
 // What the signer says, under its seal.
 pub(crate) fn issue(
     alloc: Global,
@@ -58,9 +69,7 @@ pub(crate) fn issue(
         until serial) bytes.items) }
 {
     let body = body_of(signer.issuer, quoted, left, right, until, serial);
-    let mut bytes = Vec::new(alloc);
-    seal_issued(&mut bytes, &signer.key, &body)?;
-    Ok(bytes)
+    sealed(alloc, &signer.key, &body)
 }
 
 pub(crate) fn key(number: u32) -> Term
