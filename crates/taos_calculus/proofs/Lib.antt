@@ -5,8 +5,6 @@ pub mod Building
 pub mod Staying
 pub mod Atoms
 pub mod Naming
-pub mod Same
-pub mod Firsts
 pub mod Walks
 pub mod Canon
 pub mod Placing

@@ -9,3 +9,5 @@ pub mod Spelling
 pub mod Limits
 pub mod Walking
 pub mod Having
+pub mod Spells
+pub mod ProofReading

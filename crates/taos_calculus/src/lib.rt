@@ -2,13 +2,17 @@
 #![tactic(auto)]
 
 mod canonical;
+mod fault;
 pub mod laws;
 mod line;
 mod proof;
+mod reading;
 mod writing;
 
+pub use fault::ProofFault;
 pub use line::{Fact, Line, Node, Step};
 pub use proof::{MAX_LINES, MAX_NODES, Proof};
+pub use reading::read_proof;
 pub use writing::write_proof;
 
 #[cfg(test)]
