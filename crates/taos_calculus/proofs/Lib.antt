@@ -14,3 +14,7 @@ pub mod Spelled
 pub mod OneLine
 pub mod Numbering
 pub mod Short
+pub mod Placed
+pub mod ProofReaders
+pub mod ProofLaws
+pub mod CutProofs

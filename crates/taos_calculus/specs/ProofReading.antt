@@ -88,12 +88,12 @@ nodes_at bytes = counted MAX_NODES Malformed (u16_in bytes) (λ before. node_at 
 -- ---- lines
 
 -- whether the rule of a byte gives a Says
-abbrev pub is_saying : ℕ → Bool
-is_saying rule = rule == 10 || (rule == 11 || rule == 12)
+abbrev pub gives_says : ℕ → Bool
+gives_says rule = rule == 10 || (rule == 11 || rule == 12)
 
 unfoldable pub fact_at : List ℕ → ℕ → ℕ → ProofReader Fact
 fact_at bytes n rule at =
-    if is_saying rule then made (λ x. Fact.Says x.0 x.1.0 x.1.1) (followed (number_in n bytes) (λ _. pair_in n bytes)) at
+    if gives_says rule then made (λ x. Fact.Says x.0 x.1.0 x.1.1) (followed (number_in n bytes) (λ _. pair_in n bytes)) at
     else made (λ p. Fact.Speaks p.0 p.1) (pair_in n bytes) at
 
 -- what stands behind a fact: the number of an anchor or a certificate, or those of two lines or one; what a rule does not have is 0

@@ -1,8 +1,8 @@
 -- Which bytes spell a proof.
---     IsSaying step      the rule gives a Says; the others give a Speaks
---     FitsProof parts      parts of a proof whose numbers fit their fields, and whose facts are of their rules' kinds
+--     LineFits l      the fact is of the kind that the rule gives, and the premises' numbers fit their fields
+--     FitsProof parts      parts of a proof, with numbers that fit their fields and facts of the kinds that their rules give
 --     Spells parts bytes      the bytes are the one spelling of the lines that the parts mean
-use Rattle.std.specs.Prelude.{◌≡◌, ◌<◌, ◌^◌, ℕ, List, All}
+use Rattle.std.specs.Prelude.{◌≡◌, ◌<◌, ◌^◌, ℕ, Bool, true, false, List, All}
 use Rattle.taos_calculus.specs.declared.line.Node.{Node}
 use Rattle.taos_calculus.specs.declared.line.Fact.{Fact}
 use Rattle.taos_calculus.specs.declared.line.Step.{Step}
@@ -38,29 +38,30 @@ StepFits (Step.Join i j) = (i < 2 ^ 32) × (j < 2 ^ 32)
 StepFits (Step.HandOff i) = i < 2 ^ 32
 StepFits (Step.Delegate i) = i < 2 ^ 32
 
-abbrev pub IsSaying : Step → Type 0
-IsSaying Step.Same = ⊥
-IsSaying (Step.Chain i j) = ⊥
-IsSaying Step.Left = ⊥
-IsSaying Step.Right = ⊥
-IsSaying (Step.Both i j) = ⊥
-IsSaying (Step.Quote i j) = ⊥
-IsSaying (Step.For i j) = ⊥
-IsSaying Step.Role = ⊥
-IsSaying (Step.RoleUnder i) = ⊥
-IsSaying (Step.Anchor i) = ⊥
-IsSaying (Step.Said i) = Unit {0}
-IsSaying (Step.Lift i j) = Unit {0}
-IsSaying (Step.Join i j) = Unit {0}
-IsSaying (Step.HandOff i) = ⊥
-IsSaying (Step.Delegate i) = ⊥
+abbrev pub is_says : Fact → Bool
+is_says (Fact.Speaks left right) = false
+is_says (Fact.Says who left right) = true
 
-abbrev pub KindFits : Fact → Step → Type 0
-KindFits (Fact.Speaks left right) step = ¬ IsSaying step
-KindFits (Fact.Says who left right) step = IsSaying step
+-- the rule gives a Says
+abbrev pub is_saying : Step → Bool
+is_saying Step.Same = false
+is_saying (Step.Chain i j) = false
+is_saying Step.Left = false
+is_saying Step.Right = false
+is_saying (Step.Both i j) = false
+is_saying (Step.Quote i j) = false
+is_saying (Step.For i j) = false
+is_saying Step.Role = false
+is_saying (Step.RoleUnder i) = false
+is_saying (Step.Anchor i) = false
+is_saying (Step.Said i) = true
+is_saying (Step.Lift i j) = true
+is_saying (Step.Join i j) = true
+is_saying (Step.HandOff i) = false
+is_saying (Step.Delegate i) = false
 
 abbrev pub LineFits : Line → Type 0
-LineFits l = KindFits l.fact l.step × StepFits l.step
+LineFits l = (is_says l.fact ≡ is_saying l.step) × StepFits l.step
 
 pub record FitsProof (parts : Parts) : Type 0 where
   pub proof : IsProofParts parts

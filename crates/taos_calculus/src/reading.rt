@@ -6,7 +6,7 @@ ghost use Rattle.prin_term.specs.Steps.{Gives};
 ghost use Rattle.taos_calculus.specs.declared.fault.ProofFault.TheVariants.{NoMemory};
 ghost use Rattle.taos_calculus.specs.Tables.{Parts, parts_of};
 ghost use Rattle.taos_calculus.specs.Spells.{Spells};
-ghost use Rattle.taos_calculus.specs.ProofReading.{ended, byte_up_to, number_in, pair_in, node_shape, node_fields_at, node_tagged, node_at, nodes_at, is_saying, fact_at, step_shape, premises_at, step_ruled, step_at, line_at, lines_at, parts_at, proof_of};
+ghost use Rattle.taos_calculus.specs.ProofReading.{ended, byte_up_to, number_in, pair_in, node_shape, node_fields_at, node_tagged, node_at, nodes_at, gives_says, fact_at, step_shape, premises_at, step_ruled, step_at, line_at, lines_at, parts_at, proof_of};
 
 use crate::fault::ProofFault;
 use crate::line::{Fact, Line, Node, Step};
@@ -183,8 +183,8 @@ fn nodes_of(alloc: Global, bytes: &[u8], at: usize) -> Result<(Vec<Node>, usize)
     some_nodes(alloc, bytes, next, count)
 }
 
-fn is_saying(rule: u8) -> bool
-    ensures { result ≡ is_saying rule }
+fn gives_says(rule: u8) -> bool
+    ensures { result ≡ gives_says rule }
 {
     rule == 10 || rule == 11 || rule == 12
 }
@@ -196,7 +196,7 @@ fn fact_of(bytes: &[u8], at: usize, nodes: usize, rule: u8) -> Result<(Fact, usi
     ensures value { result ≡ fact_at bytes.now nodes rule at }
     ensures within { IfOk result (λ x. x.1 ≤ length bytes.now) }
 {
-    if is_saying(rule) {
+    if gives_says(rule) {
         let (who, next) = number_of(bytes, at, nodes)?;
         let ((left, right), next) = pair_of(bytes, next, nodes)?;
         return Ok((Fact::Says { who, left, right }, next));
@@ -259,7 +259,7 @@ fn premises_of(
 
 // The step of a rule, by the place of an anchor or a certificate, or by the numbers of two lines.
 fn step_ruled(rule: u8, place: u16, first: u32, second: u32) -> Step
-    ensures { result ≡ step_ruled rule (place, first, second) }
+    ensures { result ≡ step_ruled rule (place, (first, second)) }
 {
     match rule {
         1 => Step::Same,
