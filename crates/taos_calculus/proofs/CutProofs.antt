@@ -1,7 +1,12 @@
 -- A spelling that is cut is refused where it was cut.
-use Rattle.std.proofs.Common.{◌≡◌, ℕ, ◌+◌, ◌<◌, List, [], ◌++◌, length, Err, refl, sym, ap, ◌∙◌, append-nil, arith, inl, inr, length-append}
+use Rattle.std.proofs.Common.{◌≡◌, ℕ, ◌+◌, ◌<◌, ◌≤◌, List, [], ◌++◌, length, take, Ok, Err, refl, subst, sym, ap, ◌∙◌, append-nil, arith, inl, inr, length-append}
 use Rattle.std.specs.Int.{w16, w32}
-use Rattle.prin_term.proofs.Cuts.{Cuts, cuts_followed, cuts_passing, cuts_made, cuts_given, cuts_if, cuts_counted, cuts_byte, cuts_number}
+use Rattle.std.proofs.lemmas.List.{take-append-le}
+use Rattle.prin_term.specs.Steps.{◌>>=◌, bytes_at}
+use Rattle.prin_term.proofs.FieldLaws.{bytes_takes}
+use Rattle.prin_term.proofs.Results.{bind_ok, ok_is}
+use Rattle.prin_term.proofs.Cuts.{Cuts, cuts_followed, cuts_passing, cuts_made, cuts_given, cuts_if, cuts_counted, cuts_byte, cuts_bytes, cuts_number}
+use Rattle.taos_calculus.specs.declared.fault.ProofFault.{ProofFault}
 use Rattle.taos_calculus.specs.declared.fault.ProofFault.TheVariants.{Malformed}
 use Rattle.taos_calculus.specs.declared.reading.NodeShape.{NodeShape}
 use Rattle.taos_calculus.specs.declared.reading.NodeShape.TheVariants.{Atom, Role, Pair}
@@ -10,7 +15,7 @@ use Rattle.taos_calculus.specs.declared.reading.StepShape.TheVariants.{Bare, Pla
 use Rattle.taos_calculus.specs.Tables.{Parts, lines_of}
 use Rattle.taos_calculus.specs.Spelling.{proof_spelling}
 use Rattle.taos_calculus.specs.Spells.{Spells}
-use Rattle.taos_calculus.specs.ProofReading.{ended, u8_in, u16_in, u32_in, byte_up_to, number_in, pair_in, node_shape, node_fields_at, node_at, nodes_at, gives_says, fact_at, step_shape, premises_at, step_at, line_at, lines_at, parts_at, proof_of}
+use Rattle.taos_calculus.specs.ProofReading.{ended, u8_in, u16_in, u32_in, byte_up_to, number_in, pair_in, node_shape, node_fields_at, node_at, nodes_at, gives_says, fact_at, step_shape, premises_at, step_at, line_at, lines_at, parts_at, proof_from, proof_of, proof_filling}
 use Rattle.taos_calculus.proofs.ProofLaws.{parts_in, parts_refused}
 
 module _ (front more : List ℕ) where
@@ -69,10 +74,29 @@ module _ (front more : List ℕ) where
 
 pub cut_refused : (parts : Parts) (front more : List ℕ) → Spells parts (front ++ more) → 0 < length more → proof_of front ≡ Err (Malformed (length front))
 cut_refused parts front more is some =
-    let whole = parts_in (front ++ more) [] parts is.limits (is.text ∙ sym (append-nil (proof_spelling (lines_of parts)))) in
+    let whole = parts_in (front ++ more) [] 0 parts is.limits (is.text ∙ sym (append-nil (proof_spelling (lines_of parts)))) in
     let x : Parts × ℕ = (parts, 0 + length (proof_spelling (lines_of parts))) in
     let len : length (front ++ more) ≡ length (proof_spelling (lines_of parts)) = ap length is.text in
     elim ((parts_cut front more).at_cut 0 x (omega arith) whole) [
       | inl read ↦ absurd (omega (arith, read.1, len, some, length-append front more))
-      | inr lacking ↦ parts_refused front (Malformed (length front)) lacking
+      | inr lacking ↦ parts_refused front 0 (Malformed (length front)) lacking
     ]
+
+-- where a proof that fills a part of the bytes is cut, bytes are lacking
+pub filling_cut : (front more : List ℕ) (n : ℕ) → Cuts front (ended front) (proof_filling front n) (proof_filling (front ++ more) n)
+unfolding proof_filling
+filling_cut front more n = record {
+  at_cut = λ at x le e.
+      let a = bind_ok (bytes_at (ended (front ++ more)) n (front ++ more) at) (λ text. proof_from (take (at + n) (front ++ more)) at >>= λ parts. Ok (parts, text.1)) x e in
+      let b = bind_ok (proof_from (take (at + n) (front ++ more)) at) (λ parts. Ok (parts, a.0.1)) x a.2 in
+      let made : Parts × ℕ = (b.0, a.0.1) in
+      let made_is : made ≡ x = ok_is ProofFault made x b.2 in
+      elim ((cuts_bytes (ended front) (ended (front ++ more)) front more n).at_cut at a.0 le a.1) [
+        | inl there ↦
+            let t = bytes_takes (ended front) n front at a.0 there.0 in
+            let within : at + n ≤ length front = omega (arith, there.1, t.0.end_is, t.1) in
+            let read : proof_from (take (at + n) front) at ≡ Ok b.0 = ap (λ (l : List ℕ). proof_from l at) (sym (take-append-le (at + n) front more within)) ∙ b.1 in
+            inl (rw (there.0, read) (ap Ok made_is), subst (λ (y : Parts × ℕ). y.1 ≤ length front) made_is there.1)
+        | inr lacking ↦ inr (rw lacking refl)
+      ];
+}

@@ -1,16 +1,16 @@
 -- Whole proofs: what is read is spelled, and what is spelled is read.
-use Rattle.std.proofs.Common.{◌≡◌, ◌⊎◌, inl, inr, ℕ, zero, suc, ◌+◌, ◌^◌, ◌<◌, ◌≤◌, Bool, true, false, ◌&&◌, cond, ltb, List, [], ◌∷◌, ◌++◌, Some, slice_get, length, get_or, drop, Result, Ok, Err, refl, sym, ap, ap₂, subst, ◌∙◌, append_assoc, append-nil, arith, length-append, All}
+use Rattle.std.proofs.Common.{◌≡◌, ◌⊎◌, inl, inr, ℕ, zero, suc, ◌+◌, ◌^◌, ◌<◌, ◌≤◌, Bool, true, false, ◌&&◌, cond, ltb, List, [], ◌∷◌, ◌++◌, Some, slice_get, length, get_or, take, drop, ◌-◌, Result, Ok, Err, refl, sym, ap, ap₂, subst, ◌∙◌, append_assoc, append-nil, arith, length-append, length-drop, All}
 use Rattle.std.specs.Prelude.{AllPairs, IfOk, MatchResult, IfSome}
 use Rattle.std.specs.List.{flat_map}
 use Rattle.std.specs.Int.{w16, w32, to_be_bytes}
 use Rattle.std.proofs.lemmas.Bool.{cases_Bool, ltb-false, le-ltb, lt-ltb, and_parts, and_from, false≢true}
-use Rattle.std.proofs.lemmas.List.{drop_all}
+use Rattle.std.proofs.lemmas.List.{drop_all, drop-take, take_at, length-take-le}
 use Rattle.std.proofs.lemmas.List.Elements.{All-weaker}
 use Rattle.std.proofs.lemmas.Option.{none-some, same_Some, slice_get_within, get_or_from_slice_get, slice_get-get_or}
 use Rattle.prin_term.specs.Principal.{Principal}
-use Rattle.prin_term.specs.Steps.{Gives}
-use Rattle.prin_term.proofs.FieldLaws.{IsBytes}
-use Rattle.prin_term.proofs.ReaderLaws.{Reads, reads_number, reads_followed, reads_made, reads_as, reads_counted}
+use Rattle.prin_term.specs.Steps.{◌>>=◌, Gives, bytes_at}
+use Rattle.prin_term.proofs.FieldLaws.{IsBytes, IsBytes-take, TakesAt, TakesAt-within, bytes_takes, bytes_again}
+use Rattle.prin_term.proofs.ReaderLaws.{Reads, reads_followed, reads_made, reads_as, reads_counted}
 use Rattle.prin_term.proofs.Results.{bind_ok, ok_is, chosen_ok, refused_ok, gives_found, gives_only}
 use Rattle.stmt_codec.specs.Distinct.{same_principal}
 use Rattle.stmt_codec.proofs.Same.{same_principal-true, same_principal-itself}
@@ -26,7 +26,7 @@ use Rattle.taos_calculus.specs.Limits.{IsProofParts}
 use Rattle.taos_calculus.specs.Rules.{Line as Meaning}
 use Rattle.taos_calculus.specs.Spelling.{numbered, node_bytes, line_bytes, parts_spelling, proof_spelling}
 use Rattle.taos_calculus.specs.Spells.{NodeFits, LineFits, FitsProof, Spells}
-use Rattle.taos_calculus.specs.ProofReading.{ended, u16_in, u32_in, nodes_at, lines_at, parts_at, same_principals, is_canonical, proof_of}
+use Rattle.taos_calculus.specs.ProofReading.{ended, u16_in, u32_in, nodes_at, lines_at, parts_at, same_principals, is_canonical, proof_from, proof_of, proof_filling}
 use Rattle.taos_calculus.proofs.Placed.{FitFrom, reads_counted_placed}
 use Rattle.taos_calculus.proofs.ProofReaders.{FitsNode, FitsFact, reads_u16, reads_u32, reads_node, reads_line}
 use Rattle.taos_calculus.proofs.Numbering.{lines_have_parts}
@@ -171,17 +171,17 @@ proof_fits parts fits = record {
 -- ---- the whole
 
 -- what is read is spelled
-pub proof_takes : (bytes : List ℕ) → IsBytes bytes → (parts : Parts) → proof_of bytes ≡ Ok parts → Spells parts bytes
-unfolding proof_of
-proof_takes bytes ok parts e =
-    let x = bind_ok (parts_at bytes 0) (λ x. cond (is_canonical x.0) (cond (ltb x.1 (length bytes)) (Err (Malformed x.1)) (Ok x.0)) (Err (Malformed 0))) parts e in
-    let t = (reads_parts bytes).takes ok 0 x.0 (omega arith) x.1 in
-    let g = then_refused (is_canonical x.0.0) (ltb x.0.1 (length bytes)) (Malformed x.0.1) (Malformed 0) x.0.0 parts x.2 in
+pub from_takes : (bytes : List ℕ) (at : ℕ) → IsBytes bytes → at ≤ length bytes → (parts : Parts) → proof_from bytes at ≡ Ok parts → FitsProof parts × (drop at bytes ≡ proof_spelling (lines_of parts))
+unfolding proof_from
+from_takes bytes at ok le parts e =
+    let x = bind_ok (parts_at bytes at) (λ x. cond (is_canonical x.0) (cond (ltb x.1 (length bytes)) (Err (Malformed x.1)) (Ok x.0)) (Err (Malformed at))) parts e in
+    let t = (reads_parts bytes).takes ok at x.0 le x.1 in
+    let g = then_refused (is_canonical x.0.0) (ltb x.0.1 (length bytes)) (Malformed x.0.1) (Malformed at) x.0.0 parts x.2 in
     let past : length bytes ≤ x.0.1 = ltb-false _ _ g.1 in
     let nothing : drop x.0.1 bytes ≡ [] = drop_all x.0.1 bytes past in
-    let whole : bytes ≡ parts_spelling x.0.0 = t.0.parts ∙ ap (λ (l : List ℕ). parts_spelling x.0.0 ++ l) nothing ∙ append-nil (parts_spelling x.0.0) in
+    let whole : drop at bytes ≡ parts_spelling x.0.0 = t.0.parts ∙ ap (λ (l : List ℕ). parts_spelling x.0.0 ++ l) nothing ∙ append-nil (parts_spelling x.0.0) in
     let fits = canonical_fits x.0.0 t.1 g.0 in
-    subst (λ (p : Parts). Spells p bytes) g.2 (record { limits = fits; text = whole ∙ spelling_is x.0.0 x.0.0.nodes x.0.0.lines fits.proof.canonical refl refl })
+    subst (λ (p : Parts). FitsProof p × (drop at bytes ≡ proof_spelling (lines_of p))) g.2 (fits, whole ∙ spelling_is x.0.0 x.0.0.nodes x.0.0.lines fits.proof.canonical refl refl)
   where
     then_refused : {A E : Type 0} (b c : Bool) (f g : E) (x y : A) → cond b (cond c (Err f) (Ok x)) (Err g) ≡ Ok y → (b ≡ true) × (c ≡ false) × (x ≡ y)
     then_refused true true f g x y e = absurd cc
@@ -189,19 +189,27 @@ proof_takes bytes ok parts e =
     then_refused false c f g x y e = absurd cc
 
 -- a spelling is read up to its end, whatever follows
-pub parts_in : (bytes rest : List ℕ) (parts : Parts) → FitsProof parts → bytes ≡ proof_spelling (lines_of parts) ++ rest → parts_at bytes 0 ≡ Ok (parts, 0 + length (proof_spelling (lines_of parts)))
-parts_in bytes rest parts fits e =
+pub parts_in : (bytes rest : List ℕ) (at : ℕ) (parts : Parts) → FitsProof parts → drop at bytes ≡ proof_spelling (lines_of parts) ++ rest → parts_at bytes at ≡ Ok (parts, at + length (proof_spelling (lines_of parts)))
+parts_in bytes rest at parts fits e =
     let same : parts_spelling parts ≡ proof_spelling (lines_of parts) = spelling_is parts parts.nodes parts.lines fits.proof.canonical refl refl in
-    (reads_parts bytes).again 0 parts rest (proof_fits parts fits) (e ∙ ap (λ (l : List ℕ). l ++ rest) (sym same)) ∙ ap (λ (l : List ℕ). Ok (parts, 0 + length l)) same
+    (reads_parts bytes).again at parts rest (proof_fits parts fits) (e ∙ ap (λ (l : List ℕ). l ++ rest) (sym same)) ∙ ap (λ (l : List ℕ). Ok (parts, at + length l)) same
 
 -- what is spelled is read
+pub from_again : (bytes : List ℕ) (at : ℕ) (parts : Parts) → FitsProof parts → drop at bytes ≡ proof_spelling (lines_of parts) → proof_from bytes at ≡ Ok parts
+unfolding proof_from
+from_again bytes at parts fits e =
+    let read = parts_in bytes [] at parts fits (e ∙ sym (append-nil (proof_spelling (lines_of parts)))) in
+    let len : length bytes - at ≡ length (proof_spelling (lines_of parts)) = sym (length-drop at bytes) ∙ ap length e in
+    let end : ltb (at + length (proof_spelling (lines_of parts))) (length bytes) ≡ false = le-ltb _ _ (omega (arith, len)) in
+    rw (read, canonical_test parts fits.proof, end) refl
+
+pub proof_takes : (bytes : List ℕ) → IsBytes bytes → (parts : Parts) → proof_of bytes ≡ Ok parts → Spells parts bytes
+proof_takes bytes ok parts e =
+    let t = from_takes bytes 0 ok (omega arith) parts e in
+    record { limits = t.0; text = t.1 }
+
 pub proof_again : (bytes : List ℕ) (parts : Parts) → Spells parts bytes → proof_of bytes ≡ Ok parts
-unfolding proof_of
-proof_again bytes parts is =
-    let read = parts_in bytes [] parts is.limits (is.text ∙ sym (append-nil (proof_spelling (lines_of parts)))) in
-    let len : length bytes ≡ length (proof_spelling (lines_of parts)) = ap length is.text in
-    let end : ltb (0 + length (proof_spelling (lines_of parts))) (length bytes) ≡ false = le-ltb _ _ (omega (arith, len)) in
-    rw (read, canonical_test parts is.limits.proof, end) refl
+proof_again bytes parts is = from_again bytes 0 parts is.limits is.text
 
 -- the spelling of lines is read as their parts
 pub lines_again : (lines : List Meaning) → FitsProof (numbered lines) → proof_of (proof_spelling lines) ≡ Ok (numbered lines)
@@ -215,8 +223,8 @@ spelled_once p q bytes is_p is_q = ok_is ProofFault p q (sym (proof_again bytes 
 -- a spelling does not begin another
 pub none_longer : (p q : Parts) (front more : List ℕ) → Spells p front → Spells q (front ++ more) → more ≡ []
 none_longer p q front more is_p is_q =
-    let short = parts_in (front ++ more) more p is_p.limits (ap (λ (l : List ℕ). l ++ more) is_p.text) in
-    let long = parts_in (front ++ more) [] q is_q.limits (is_q.text ∙ sym (append-nil (proof_spelling (lines_of q)))) in
+    let short = parts_in (front ++ more) more 0 p is_p.limits (ap (λ (l : List ℕ). l ++ more) is_p.text) in
+    let long = parts_in (front ++ more) [] 0 q is_q.limits (is_q.text ∙ sym (append-nil (proof_spelling (lines_of q)))) in
     let one : Parts × ℕ = (p, 0 + length (proof_spelling (lines_of p))) in
     let other : Parts × ℕ = (q, 0 + length (proof_spelling (lines_of q))) in
     let ends : 0 + length (proof_spelling (lines_of p)) ≡ 0 + length (proof_spelling (lines_of q)) = ap (λ (x : Parts × ℕ). x.1) (ok_is ProofFault one other (sym short ∙ long)) in
@@ -230,10 +238,10 @@ none_longer p q front more is_p is_q =
 
 -- bytes behind a spelling are refused at the first of them
 pub longer_refused : (parts : Parts) (bytes more : List ℕ) → Spells parts bytes → 0 < length more → proof_of (bytes ++ more) ≡ Err (Malformed (length bytes))
-unfolding proof_of
+unfolding proof_from
 longer_refused parts bytes more is some =
     let text = proof_spelling (lines_of parts) in
-    let read = parts_in (bytes ++ more) more parts is.limits (ap (λ (l : List ℕ). l ++ more) is.text) in
+    let read = parts_in (bytes ++ more) more 0 parts is.limits (ap (λ (l : List ℕ). l ++ more) is.text) in
     let len : length bytes ≡ length text = ap length is.text in
     let end : ltb (0 + length text) (length (bytes ++ more)) ≡ true = lt-ltb _ _ (omega (arith, len, some, length-append bytes more)) in
     let place : 0 + length text ≡ length bytes = omega (arith, len) in
@@ -241,34 +249,95 @@ longer_refused parts bytes more is some =
 
 -- ---- what becomes of parts that were read
 
-pub parts_refused : (bytes : List ℕ) (f : ProofFault) → parts_at bytes 0 ≡ Err f → proof_of bytes ≡ Err f
-unfolding proof_of
-parts_refused bytes f e = rw e refl
+pub parts_refused : (bytes : List ℕ) (at : ℕ) (f : ProofFault) → parts_at bytes at ≡ Err f → proof_from bytes at ≡ Err f
+unfolding proof_from
+parts_refused bytes at f e = rw e refl
 
-module _ (bytes : List ℕ) (ok : IsBytes bytes) (parts : Parts) (end : ℕ) (read : parts_at bytes 0 ≡ Ok (parts, end)) where
+module _ (bytes : List ℕ) (at : ℕ) (ok : IsBytes bytes) (within : at ≤ length bytes) (parts : Parts) (end : ℕ) (read : parts_at bytes at ≡ Ok (parts, end)) where
   test_fails : ¬ IsProofParts parts → is_canonical parts ≡ false
   test_fails is_none = elim (cases_Bool (is_canonical parts)) [
     | inl holds ↦
         let x : Parts × ℕ = (parts, end) in
-        absurd (is_none (canonical_fits parts ((reads_parts bytes).takes ok 0 x (omega arith) read).1 holds).proof)
+        absurd (is_none (canonical_fits parts ((reads_parts bytes).takes ok at x within read).1 holds).proof)
     | inr fails ↦ fails
   ]
 
-  pub not_canonical : ¬ IsProofParts parts → proof_of bytes ≡ Err (Malformed 0)
-  unfolding proof_of
+  pub not_canonical : ¬ IsProofParts parts → proof_from bytes at ≡ Err (Malformed at)
+  unfolding proof_from
   not_canonical is_none = rw (read, test_fails is_none) refl
 
-  pub bytes_left : IsProofParts parts → end < length bytes → proof_of bytes ≡ Err (Malformed end)
-  unfolding proof_of
+  pub bytes_left : IsProofParts parts → end < length bytes → proof_from bytes at ≡ Err (Malformed end)
+  unfolding proof_from
   bytes_left is lt =
       let left : ltb end (length bytes) ≡ true = lt-ltb _ _ lt in
       rw (read, canonical_test parts is, left) refl
 
-  pub all_read : IsProofParts parts → length bytes ≤ end → proof_of bytes ≡ Ok parts
-  unfolding proof_of
+  pub all_read : IsProofParts parts → length bytes ≤ end → proof_from bytes at ≡ Ok parts
+  unfolding proof_from
   all_read is le =
       let past : ltb end (length bytes) ≡ false = le-ltb _ _ le in
       rw (read, canonical_test parts is, past) refl
+
+-- ---- a proof that fills a part of the bytes
+
+abbrev pub lines_spelling : Parts → List ℕ
+lines_spelling parts = proof_spelling (lines_of parts)
+
+abbrev pub Fills : ℕ → Parts → Type 0
+Fills n parts = FitsProof parts × (length (lines_spelling parts) ≡ n)
+
+some_bytes : (parts : Parts) → FitsProof parts → 0 < length (lines_spelling parts)
+some_bytes parts fits =
+    let same : parts_spelling parts ≡ lines_spelling parts = spelling_is parts parts.nodes parts.lines fits.proof.canonical refl refl in
+    let some : 0 < length (parts_spelling parts) = omega arith in
+    subst (λ (l : List ℕ). 0 < length l) same some
+
+pub reads_filling : (bytes : List ℕ) (n : ℕ) → Reads bytes (proof_filling bytes n) lines_spelling (Fills n)
+unfolding proof_filling
+reads_filling bytes n = record {
+  takes = λ ok at x le e.
+      let a = bind_ok (bytes_at (ended bytes) n bytes at) (λ text. proof_from (take (at + n) bytes) at >>= λ parts. Ok (parts, text.1)) x e in
+      let b = bind_ok (proof_from (take (at + n) bytes) at) (λ parts. Ok (parts, a.0.1)) x a.2 in
+      let made : Parts × ℕ = (b.0, a.0.1) in
+      let t = bytes_takes (ended bytes) n bytes at a.0 a.1 in
+      let fits_in : at + n ≤ length bytes = omega (arith, TakesAt-within bytes at a.0.0 a.0.1 le t.0, t.0.end_is, t.1) in
+      let front = from_takes (take (at + n) bytes) at (IsBytes-take (at + n) bytes ok) (omega (arith, length-take-le (at + n) bytes fits_in)) b.0 b.1 in
+      let text : a.0.0 ≡ lines_spelling b.0 = filled bytes at n a.0.0 (drop a.0.1 bytes) t.1 t.0.parts fits_in ∙ front.1 in
+      subst (λ (y : Parts × ℕ). TakesAt bytes at (lines_spelling y.0) y.1 × Fills n y.0) (ok_is ProofFault made x b.2)
+      (subst (λ (l : List ℕ). TakesAt bytes at l a.0.1) text t.0, (front.0, ap length (sym text) ∙ t.1));
+  again = λ at parts rest fits e.
+      let len : length bytes - at ≡ length (lines_spelling parts) + length rest = sym (length-drop at bytes) ∙ ap length e ∙ length-append (lines_spelling parts) rest in
+      let fits_in : at + n ≤ length bytes = omega (arith, len, fits.1, some_bytes parts fits.0) in
+      let first = bytes_again (ended bytes) n bytes (lines_spelling parts) rest at fits.1 e in
+      let second = from_again (take (at + n) bytes) at parts fits.0 (sym (filled bytes at n (lines_spelling parts) rest fits.1 e fits_in)) in
+      rw (first, second) (ap (λ (k : ℕ). Ok (parts, at + k)) (sym fits.1));
+}
+  where
+    -- the text of so many bytes is what stands at the offset in their front
+    filled : (bytes : List ℕ) (at n : ℕ) (text rest : List ℕ) → length text ≡ n → drop at bytes ≡ text ++ rest → at + n ≤ length bytes → text ≡ drop at (take (at + n) bytes)
+    filled bytes at n text rest len e fits = sym (take_at text rest n len) ∙ ap (take n) (sym e) ∙ sym (drop-take at n bytes)
+
+module _ (bytes : List ℕ) (at n : ℕ) (le : at ≤ length bytes) (text : List ℕ × ℕ) (there : bytes_at (ended bytes) n bytes at ≡ Ok text) where
+  end_is : text.1 ≡ at + n
+  end_is = let t = bytes_takes (ended bytes) n bytes at text there in omega (arith, t.0.end_is, t.1)
+
+  end_in : text.1 ≤ length bytes
+  end_in = TakesAt-within bytes at text.0 text.1 le (bytes_takes (ended bytes) n bytes at text there).0
+
+  pub front_within : at ≤ length (take text.1 bytes)
+  front_within = omega (arith, end_is, end_in, length-take-le text.1 bytes end_in)
+
+  pub filled_read : (parts : Parts) → proof_from (take text.1 bytes) at ≡ Ok parts → proof_filling bytes n at ≡ Ok (parts, text.1)
+  unfolding proof_filling
+  filled_read parts e =
+      let read : proof_from (take (at + n) bytes) at ≡ Ok parts = ap (λ (k : ℕ). proof_from (take k bytes) at) (sym end_is) ∙ e in
+      rw (there, read) refl
+
+  pub filled_refused : (f : ProofFault) → proof_from (take text.1 bytes) at ≡ Err f → proof_filling bytes n at ≡ Err f
+  unfolding proof_filling
+  filled_refused f e =
+      let refused : proof_from (take (at + n) bytes) at ≡ Err f = ap (λ (k : ℕ). proof_from (take k bytes) at) (sym end_is) ∙ e in
+      rw (there, refused) refl
 
 -- ---- what the whole reader answers
 

@@ -5,16 +5,16 @@
 --     line_at bytes n      a line over the numbers of n nodes
 --     parts_at bytes      the nodes and the lines
 --     is_canonical parts      whether the table is the canonical one of the lines
---     proof_of bytes      the proof that all of the bytes spell, or the fault
+--     proof_from bytes at, proof_of bytes      the proof that all of the bytes spell, from an offset on or from the first, or the fault
 --     proof_filling bytes n      the proof that fills so many bytes at an offset
-use Rattle.std.specs.Prelude.{ℕ, ◌+◌, Bool, true, false, ◌&&◌, ◌||◌, List, [], ◌∷◌, length, Result, Ok, Err, nat_lt, nat_le, ◌==◌, if◌then◌else◌}
+use Rattle.std.specs.Prelude.{ℕ, ◌+◌, Bool, true, false, ◌&&◌, ◌||◌, List, [], ◌∷◌, length, take, Result, Ok, Err, nat_lt, nat_le, ◌==◌, if◌then◌else◌}
 use Rattle.std.specs.Int.{w16, w32}
 use Rattle.prin_term.specs.Principal.{Principal}
 use Rattle.prin_term.specs.Readers.{Reader, followed, passing, made, given, counted}
-use Rattle.prin_term.specs.Steps.{◌>>=◌, with_fault, byte_at, bytes_at, number_at}
+use Rattle.prin_term.specs.Steps.{◌>>=◌, byte_at, bytes_at, number_at}
 use Rattle.stmt_codec.specs.Distinct.{same_principal}
 use Rattle.taos_calculus.specs.declared.fault.ProofFault.{ProofFault}
-use Rattle.taos_calculus.specs.declared.fault.ProofFault.TheVariants.{Malformed, NoMemory}
+use Rattle.taos_calculus.specs.declared.fault.ProofFault.TheVariants.{Malformed}
 use Rattle.taos_calculus.specs.declared.line.Node.{Node}
 use Rattle.taos_calculus.specs.declared.line.Fact.{Fact}
 use Rattle.taos_calculus.specs.declared.line.Step.{Step}
@@ -157,21 +157,18 @@ same_principals _ _ = false
 unfoldable pub is_canonical : Parts → Bool
 is_canonical parts = same_principals (principals_of parts.nodes) (canonical_table (lines_of parts))
 
--- another table is refused at the first byte of all; then nothing stands behind the last line
-unfoldable pub proof_of : List ℕ → Result Parts ProofFault
-proof_of bytes = do
-  x ← parts_at bytes 0
-  if is_canonical x.0 then (if nat_lt x.1 (length bytes) then Err (Malformed x.1) else Ok x.0) else Err (Malformed 0)
+-- the proof that all of the bytes from an offset on spell: another table is refused at its first byte, and then what stands behind the last line
+unfoldable pub proof_from : List ℕ → ℕ → Result Parts ProofFault
+proof_from bytes at = do
+  x ← parts_at bytes at
+  if is_canonical x.0 then (if nat_lt x.1 (length bytes) then Err (Malformed x.1) else Ok x.0) else Err (Malformed at)
 
--- ---- inside other bytes
+abbrev pub proof_of : List ℕ → Result Parts ProofFault
+proof_of bytes = proof_from bytes 0
 
--- a fault of bytes that begin at an offset
-abbrev pub moved_by : ℕ → ProofFault → ProofFault
-moved_by at (Malformed o) = Malformed (at + o)
-moved_by at NoMemory = NoMemory
-
+-- so many bytes stand there, and spell a proof; faults are told by their offsets in all of the bytes
 unfoldable pub proof_filling : List ℕ → ℕ → ProofReader Parts
 proof_filling bytes n at = do
   text ← bytes_at (ended bytes) n bytes at
-  parts ← with_fault (moved_by at) (proof_of text.0)
+  parts ← proof_from (take (at + n) bytes) at
   Ok (parts, text.1)

@@ -5,6 +5,7 @@ mod canonical;
 mod fault;
 pub mod laws;
 mod line;
+mod node_is;
 mod proof;
 mod reading;
 mod writing;
@@ -12,7 +13,7 @@ mod writing;
 pub use fault::ProofFault;
 pub use line::{Fact, Line, Node, Step};
 pub use proof::{MAX_LINES, MAX_NODES, Proof};
-pub use reading::read_proof;
+pub use reading::{read_proof, read_proof_at};
 pub use writing::write_proof;
 
 #[cfg(test)]

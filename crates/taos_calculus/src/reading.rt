@@ -6,12 +6,12 @@ ghost use Rattle.prin_term.specs.Steps.{Gives};
 ghost use Rattle.taos_calculus.specs.declared.fault.ProofFault.TheVariants.{NoMemory};
 ghost use Rattle.taos_calculus.specs.Tables.{Parts, parts_of};
 ghost use Rattle.taos_calculus.specs.Spells.{Spells};
-ghost use Rattle.taos_calculus.specs.ProofReading.{ended, byte_up_to, number_in, pair_in, node_shape, node_fields_at, node_tagged, node_at, nodes_at, gives_says, fact_at, step_shape, premises_at, step_ruled, step_at, line_at, lines_at, parts_at, proof_of};
+ghost use Rattle.taos_calculus.specs.ProofReading.{ended, byte_up_to, number_in, pair_in, node_shape, node_fields_at, node_tagged, node_at, nodes_at, gives_says, fact_at, step_shape, premises_at, step_ruled, step_at, line_at, lines_at, parts_at, proof_from, proof_of, proof_filling};
 
 use crate::fault::ProofFault;
 use crate::line::{Fact, Line, Node, Step};
 use crate::proof::{MAX_LINES, MAX_NODES, Proof};
-use prin_term::fields::{u8_at, u16_at, u32_at};
+use prin_term::fields::{slice_at, u8_at, u16_at, u32_at};
 use std::alloc::Global;
 
 // The fewest bytes of a node, and of a line.
@@ -349,21 +349,27 @@ fn lines_of(
 
 // The nodes, the lines, and the offset behind them.
 #[tactic(auto, unfolding(crate::specs::ProofReading::parts_at))]
-fn parts_of(alloc: Global, bytes: &[u8]) -> Result<(Vec<Node>, Vec<Line>, usize), ProofFault>
+fn parts_of(
+    alloc: Global,
+    bytes: &[u8],
+    at: usize,
+) -> Result<(Vec<Node>, Vec<Line>, usize), ProofFault>
+    requires { at ≤ length bytes.now }
     ensures { Gives NoMemory (λ x. (parts_of x.0.items x.1.items, x.2)) result
-        (parts_at bytes.now 0) }
+        (parts_at bytes.now at) }
 {
-    let (nodes, next) = nodes_of(alloc, bytes, 0)?;
+    let (nodes, next) = nodes_of(alloc, bytes, at)?;
     let (lines, end) = lines_of(alloc, bytes, next, nodes.len())?;
     Ok((nodes, lines, end))
 }
 
-fn all_of(alloc: Global, bytes: &[u8]) -> Result<Proof, ProofFault>
-    ensures { Gives NoMemory (λ p. p) result (proof_of bytes.now) }
+fn all_of(alloc: Global, bytes: &[u8], at: usize) -> Result<Proof, ProofFault>
+    requires { at ≤ length bytes.now }
+    ensures { Gives NoMemory (λ p. p) result (proof_from bytes.now at) }
 {
-    let (nodes, lines, end) = parts_of(alloc, bytes)?;
+    let (nodes, lines, end) = parts_of(alloc, bytes, at)?;
     let Some(proof) = Proof::from_parts(nodes, lines) else {
-        return Err(ProofFault::Malformed { offset: 0 });
+        return Err(ProofFault::Malformed { offset: at });
     };
     if end < bytes.len() {
         Err(ProofFault::Malformed { offset: end })
@@ -383,5 +389,23 @@ pub fn read_proof(alloc: Global, bytes: &[u8]) -> Result<Proof, ProofFault>
     // Which fault it is.
     ensures exact { Gives NoMemory (λ p. p) result (proof_of bytes.now) }
 {
-    all_of(alloc, bytes)
+    all_of(alloc, bytes, 0)
+}
+
+/// The proof that fills so many bytes at an offset, and the offset after it. A fault tells its
+/// offset in all of the bytes.
+#[tactic(auto, unfolding(crate::specs::ProofReading::proof_filling))]
+pub fn read_proof_at(
+    alloc: Global,
+    bytes: &[u8],
+    at: usize,
+    len: usize,
+) -> Result<(Proof, usize), ProofFault>
+    requires { at ≤ length bytes.now }
+    ensures exact { Gives NoMemory (λ x. x) result (proof_filling bytes.now len at) }
+    ensures within { IfOk result (λ x. x.1 ≤ length bytes.now) }
+{
+    let (_, end) = slice_at(bytes, at, len, ended(bytes))?;
+    let proof = all_of(alloc, &bytes[..end], at)?;
+    Ok((proof, end))
 }

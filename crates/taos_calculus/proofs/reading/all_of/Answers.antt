@@ -10,17 +10,17 @@ returns-in_err-nodes c =
     let p = err_from_is_err_and c.from_residual.result c.from_residual.ensures.1 in
     rw (p.1, p.2) (elim c.in_err-nodes.ensures [
       | inl want ↦ inl want
-      | inr read ↦ inr (parts_refused c.args.bytes.now c.in_err-nodes.field-0.0 read)
+      | inr read ↦ inr (parts_refused c.args.bytes.now c.args.at c.in_err-nodes.field-0.0 read)
     ])
 
 pub returns-in_default : goal.returns-in_default
 returns-in_default c =
-    inr (not_canonical c.args.bytes.now (λ i. omega (arith, c.type_inv.bytes i)) (parts_of c.in_ok-nodes.nodes.items c.in_ok-nodes.lines.items) c.in_ok-nodes.end c.in_ok-nodes.ensures (λ is. absurd (false≢true (c.in_default.ensures.made.1 is))))
+    inr (not_canonical c.args.bytes.now c.args.at (λ i. omega (arith, c.type_inv.bytes i)) c.requires (parts_of c.in_ok-nodes.nodes.items c.in_ok-nodes.lines.items) c.in_ok-nodes.end c.in_ok-nodes.ensures (λ is. absurd (false≢true (c.in_default.ensures.made.1 is))))
 
 pub returns-then-end-bytes : goal.returns-then-end-bytes
 returns-then-end-bytes c =
-    inr (bytes_left c.args.bytes.now (λ i. omega (arith, c.type_inv.bytes i)) (parts_of c.in_ok-nodes.nodes.items c.in_ok-nodes.lines.items) c.in_ok-nodes.end c.in_ok-nodes.ensures (c.in-Some.ensures.made.0 refl) c.if-end-bytes.true)
+    inr (bytes_left c.args.bytes.now c.args.at (λ i. omega (arith, c.type_inv.bytes i)) c.requires (parts_of c.in_ok-nodes.nodes.items c.in_ok-nodes.lines.items) c.in_ok-nodes.end c.in_ok-nodes.ensures (c.in-Some.ensures.made.0 refl) c.if-end-bytes.true)
 
 pub returns-else-end-bytes : goal.returns-else-end-bytes
 returns-else-end-bytes c =
-    all_read c.args.bytes.now (λ i. omega (arith, c.type_inv.bytes i)) (parts_of c.in_ok-nodes.nodes.items c.in_ok-nodes.lines.items) c.in_ok-nodes.end c.in_ok-nodes.ensures (c.in-Some.ensures.made.0 refl) c.if-end-bytes.false ∙ ap Ok (sym c.in-Some.ensures.parts)
+    all_read c.args.bytes.now c.args.at (λ i. omega (arith, c.type_inv.bytes i)) c.requires (parts_of c.in_ok-nodes.nodes.items c.in_ok-nodes.lines.items) c.in_ok-nodes.end c.in_ok-nodes.ensures (c.in-Some.ensures.made.0 refl) c.if-end-bytes.false ∙ ap Ok (sym c.in-Some.ensures.parts)
