@@ -18,3 +18,6 @@ pub mod Placed
 pub mod ProofReaders
 pub mod ProofLaws
 pub mod CutProofs
+pub mod Numbers
+pub mod NumberedMoving
+pub mod Asking

@@ -2,6 +2,7 @@
 #![tactic(auto)]
 
 mod canonical;
+mod decide;
 mod fault;
 pub mod laws;
 mod line;
@@ -10,6 +11,7 @@ mod proof;
 mod reading;
 mod writing;
 
+pub use decide::{Decide, MAX_ANCHORS, MAX_CERTS, MAX_ENTRIES, Taken};
 pub use fault::ProofFault;
 pub use line::{Fact, Line, Node, Step};
 pub use proof::{MAX_LINES, MAX_NODES, Proof};
