@@ -8,14 +8,14 @@ use Rattle.prin_term.proofs.Results.{bind_ok, ok_is}
 use Rattle.prin_term.proofs.Cuts.{Cuts, cuts_followed, cuts_passing, cuts_made, cuts_given, cuts_if, cuts_counted, cuts_byte, cuts_bytes, cuts_number}
 use Rattle.taos_calculus.specs.declared.fault.ProofFault.{ProofFault}
 use Rattle.taos_calculus.specs.declared.fault.ProofFault.TheVariants.{Malformed}
-use Rattle.taos_calculus.specs.declared.reading.NodeShape.{NodeShape}
-use Rattle.taos_calculus.specs.declared.reading.NodeShape.TheVariants.{Atom, Role, Pair}
-use Rattle.taos_calculus.specs.declared.reading.StepShape.{StepShape}
-use Rattle.taos_calculus.specs.declared.reading.StepShape.TheVariants.{Bare, Place, OneLine, TwoLines}
+use Rattle.taos_calculus.specs.declared.reading_nodes.NodeShape.{NodeShape}
+use Rattle.taos_calculus.specs.declared.reading_nodes.NodeShape.TheVariants.{Atom, Role, Pair}
+use Rattle.taos_calculus.specs.declared.reading_lines.StepShape.{StepShape}
+use Rattle.taos_calculus.specs.declared.reading_lines.StepShape.TheVariants.{Bare, Place, OneLine, TwoLines}
 use Rattle.taos_calculus.specs.Tables.{Parts, lines_of}
 use Rattle.taos_calculus.specs.Spelling.{proof_spelling}
 use Rattle.taos_calculus.specs.Spells.{Spells}
-use Rattle.taos_calculus.specs.ProofReading.{ended, u8_in, u16_in, u32_in, byte_up_to, number_in, pair_in, node_shape, node_fields_at, node_at, nodes_at, gives_says, fact_at, step_shape, premises_at, step_at, line_at, lines_at, parts_at, proof_from, proof_of, proof_filling}
+use Rattle.taos_calculus.specs.ProofReading.{ended, u16_in, u32_in, byte_up_to, number_in, pair_in, node_shape, node_fields_at, node_at, nodes_at, gives_says, fact_at, step_shape, premises_at, step_at, line_at, lines_at, parts_at, proof_from, proof_of, proof_filling}
 use Rattle.taos_calculus.proofs.ProofLaws.{parts_in, parts_refused}
 
 module _ (front more : List ℕ) where

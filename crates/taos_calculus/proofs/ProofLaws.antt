@@ -1,6 +1,6 @@
 -- Whole proofs: what is read is spelled, and what is spelled is read.
-use Rattle.std.proofs.Common.{◌≡◌, ◌⊎◌, inl, inr, ℕ, zero, suc, ◌+◌, ◌^◌, ◌<◌, ◌≤◌, Bool, true, false, ◌&&◌, cond, ltb, List, [], ◌∷◌, ◌++◌, Some, slice_get, length, get_or, take, drop, ◌-◌, Result, Ok, Err, refl, sym, ap, ap₂, subst, ◌∙◌, append_assoc, append-nil, arith, length-append, length-drop, All}
-use Rattle.std.specs.Prelude.{AllPairs, IfOk, MatchResult, IfSome}
+use Rattle.std.proofs.Common.{◌≡◌, inl, inr, ℕ, zero, suc, ◌+◌, ◌^◌, ◌<◌, ◌≤◌, Bool, true, false, cond, ltb, List, [], ◌∷◌, ◌++◌, Some, slice_get, length, get_or, take, drop, ◌-◌, Result, Ok, Err, refl, sym, ap, ap₂, subst, ◌∙◌, append_assoc, append-nil, arith, length-append, length-drop, All}
+use Rattle.std.specs.Prelude.{IfOk, MatchResult}
 use Rattle.std.specs.List.{flat_map}
 use Rattle.std.specs.Int.{w16, w32, to_be_bytes}
 use Rattle.std.proofs.lemmas.Bool.{cases_Bool, ltb-false, le-ltb, lt-ltb, and_parts, and_from, false≢true}
@@ -11,7 +11,7 @@ use Rattle.prin_term.specs.Principal.{Principal}
 use Rattle.prin_term.specs.Steps.{◌>>=◌, Gives, bytes_at}
 use Rattle.prin_term.proofs.FieldLaws.{IsBytes, IsBytes-take, TakesAt, TakesAt-within, bytes_takes, bytes_again}
 use Rattle.prin_term.proofs.ReaderLaws.{Reads, reads_followed, reads_made, reads_as, reads_counted}
-use Rattle.prin_term.proofs.Results.{bind_ok, ok_is, chosen_ok, refused_ok, gives_found, gives_only}
+use Rattle.prin_term.proofs.Results.{bind_ok, ok_is, gives_found, gives_only}
 use Rattle.stmt_codec.specs.Distinct.{same_principal}
 use Rattle.stmt_codec.proofs.Same.{same_principal-true, same_principal-itself}
 use Rattle.taos_calculus.specs.declared.fault.ProofFault.{ProofFault}
@@ -21,12 +21,12 @@ use Rattle.taos_calculus.specs.declared.line.Fact.{Fact}
 use Rattle.taos_calculus.specs.declared.line.Line.{Line}
 use Rattle.taos_calculus.specs.declared.proof.TheConstants.{MAX_NODES, MAX_LINES}
 use Rattle.taos_calculus.specs.Tables.{Parts, parts_of, OperandsBelow, IsBelow, principals_of, lines_of}
-use Rattle.taos_calculus.specs.Canonical.{IsCanonical, canonical_table}
+use Rattle.taos_calculus.specs.Canonical.{canonical_table}
 use Rattle.taos_calculus.specs.Limits.{IsProofParts}
 use Rattle.taos_calculus.specs.Rules.{Line as Meaning}
 use Rattle.taos_calculus.specs.Spelling.{numbered, node_bytes, line_bytes, parts_spelling, proof_spelling}
 use Rattle.taos_calculus.specs.Spells.{NodeFits, LineFits, FitsProof, Spells}
-use Rattle.taos_calculus.specs.ProofReading.{ended, u16_in, u32_in, nodes_at, lines_at, parts_at, same_principals, is_canonical, proof_from, proof_of, proof_filling}
+use Rattle.taos_calculus.specs.ProofReading.{ended, nodes_at, lines_at, parts_at, same_principals, is_canonical, proof_from, proof_of, proof_filling}
 use Rattle.taos_calculus.proofs.Placed.{FitFrom, reads_counted_placed}
 use Rattle.taos_calculus.proofs.ProofReaders.{FitsNode, FitsFact, reads_u16, reads_u32, reads_node, reads_line}
 use Rattle.taos_calculus.proofs.Numbering.{lines_have_parts}

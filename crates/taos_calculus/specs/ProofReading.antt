@@ -19,10 +19,10 @@ use Rattle.taos_calculus.specs.declared.line.Node.{Node}
 use Rattle.taos_calculus.specs.declared.line.Fact.{Fact}
 use Rattle.taos_calculus.specs.declared.line.Step.{Step}
 use Rattle.taos_calculus.specs.declared.line.Line.{Line}
-use Rattle.taos_calculus.specs.declared.reading.NodeShape.{NodeShape}
-use Rattle.taos_calculus.specs.declared.reading.NodeShape.TheVariants.{Atom, Role, Pair}
-use Rattle.taos_calculus.specs.declared.reading.StepShape.{StepShape}
-use Rattle.taos_calculus.specs.declared.reading.StepShape.TheVariants.{Bare, Place, OneLine, TwoLines}
+use Rattle.taos_calculus.specs.declared.reading_nodes.NodeShape.{NodeShape}
+use Rattle.taos_calculus.specs.declared.reading_nodes.NodeShape.TheVariants.{Atom, Role, Pair}
+use Rattle.taos_calculus.specs.declared.reading_lines.StepShape.{StepShape}
+use Rattle.taos_calculus.specs.declared.reading_lines.StepShape.TheVariants.{Bare, Place, OneLine, TwoLines}
 use Rattle.taos_calculus.specs.declared.proof.TheConstants.{MAX_NODES, MAX_LINES}
 use Rattle.taos_calculus.specs.Tables.{Parts, parts_of, principals_of, lines_of}
 use Rattle.taos_calculus.specs.Canonical.{canonical_table}

@@ -9,6 +9,9 @@ mod line;
 mod node_is;
 mod proof;
 mod reading;
+mod reading_fields;
+mod reading_lines;
+mod reading_nodes;
 mod writing;
 
 pub use decide::{Decide, MAX_ANCHORS, MAX_CERTS, MAX_ENTRIES, Taken};

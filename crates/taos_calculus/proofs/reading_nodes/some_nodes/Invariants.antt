@@ -1,8 +1,8 @@
-use Rattle.std.proofs.Common.{◌≡◌, ◌≤◌, [], length}
+use Rattle.std.proofs.Common.{◌≤◌, [], length}
 use Rattle.prin_term.specs.Readers.{items_behind}
 use Rattle.prin_term.proofs.Loops.{IsSoFar}
 use Rattle.taos_calculus.specs.ProofReading.{node_at}
-use Rattle.taos_calculus.proofs.reading.some_nodes.Given as goal
+use Rattle.taos_calculus.proofs.reading_nodes.some_nodes.Given as goal
 
 abbrev pub invariant-loop : goal.invariant-loop
 invariant-loop l = record {

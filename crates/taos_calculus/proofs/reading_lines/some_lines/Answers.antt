@@ -5,7 +5,7 @@ use Rattle.prin_term.proofs.Loops.{goes_on, stops, is_done}
 use Rattle.taos_calculus.specs.declared.fault.ProofFault.TheVariants.{NoMemory}
 use Rattle.taos_calculus.specs.declared.line.Line.{Line}
 use Rattle.taos_calculus.specs.ProofReading.{line_at}
-use Rattle.taos_calculus.proofs.reading.some_lines.Goals as goal
+use Rattle.taos_calculus.proofs.reading_lines.some_lines.Goals as goal
 
 pub loop-preserved : goal.loop-preserved
 loop-preserved c =

@@ -5,7 +5,7 @@ use Rattle.prin_term.proofs.Loops.{goes_on, stops, is_done}
 use Rattle.taos_calculus.specs.declared.fault.ProofFault.TheVariants.{NoMemory}
 use Rattle.taos_calculus.specs.declared.line.Node.{Node}
 use Rattle.taos_calculus.specs.ProofReading.{node_at}
-use Rattle.taos_calculus.proofs.reading.some_nodes.Goals as goal
+use Rattle.taos_calculus.proofs.reading_nodes.some_nodes.Goals as goal
 
 pub loop-preserved : goal.loop-preserved
 loop-preserved c =
