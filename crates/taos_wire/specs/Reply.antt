@@ -16,9 +16,9 @@ use Rattle.prin_term.specs.Principal.{Principal, spelling as term_spelling}
 use Rattle.prin_term.specs.Refusal.{FitsLimits}
 use Rattle.prin_term.specs.Steps.{counted}
 use Rattle.stmt_codec.specs.Certificates.{Certificate, body_spelling, HasBodySpelling, IsWithinLimits}
-use Rattle.taos_calculus.specs.Limits.{IsProofParts}
 use Rattle.taos_calculus.specs.Rules.{Line}
 use Rattle.taos_calculus.specs.Spelling.{proof_spelling}
+use Rattle.taos_calculus.specs.Spells.{FitsProof}
 use Rattle.taos_calculus.specs.Tables.{Parts, lines_of}
 use Rattle.taos_wire.specs.declared.reply.TheConstants.{MAX_CITED}
 use Rattle.taos_wire.specs.Request.{Request, IsTag}
@@ -122,11 +122,11 @@ reply_text channel seq r = answered_bytes channel seq ++ status_of r ∷ fields_
 
 -- ---- limits
 
--- lines of a proof, which has the canonical table
-pub record FitsProof (lines : List Line) : Type 0 where
+-- the lines that the parts of a proof mean, whose table is the canonical one
+pub record IsProof (lines : List Line) : Type 0 where
   pub parts : Parts
-  pub means : lines_of parts ≡ lines
-  pub limits : IsProofParts parts
+  pub limits : FitsProof parts
+  pub meaning : lines_of parts ≡ lines
 
 pub record FitsCited (c : Certificate) : Type 0 where
   pub numbers : HasBodySpelling c
@@ -142,7 +142,7 @@ pub record FitsGranted (entry shard place : ℕ) (proof : List Line) (certs : Li
   pub entry_fits : IsByte entry
   pub shard_fits : shard < 2 ^ 32
   pub place_fits : place < 2 ^ 64
-  pub proof_fits : FitsProof proof
+  pub proof_fits : IsProof proof
   pub few_certs : length certs ≤ MAX_CITED
   pub certs_fit : All FitsCited certs
   pub result_fits : (length result < 2 ^ 16) × All IsByte result
