@@ -4,7 +4,6 @@ pub mod OpeningLaws
 pub mod Lookups
 pub mod Whole
 pub mod Entries
-pub mod Requests
 pub mod Listed
 pub mod Courses
 pub mod Steps

@@ -1,32 +1,12 @@
--- Requests and replies as values, and the one spelling of each.
---     Request, request_text r      a plain request, and its bytes before the tag
+-- Replies as values, and the one spelling of each.
 --     Reply, Sent      what is answered; with the channel and the number that it answers, and the key that seals it
 --     spelling s      the bytes of a reply, with its tag
-use Rattle.std.specs.Prelude.{ℕ, ◌^◌, ◌<◌, Bool, true, false, List, [], ◌∷◌, ◌++◌, length, Option, Some, None, replicate}
+use Rattle.std.specs.Prelude.{ℕ, Bool, true, false, List, [], ◌∷◌, ◌++◌, length, Option, Some, None, replicate}
 use Rattle.std.specs.Int.{w16, w32, w64, to_be_bytes}
 use Rattle.keyed_seal.specs.Tag.{tag_of}
-use Rattle.prin_term.specs.Principal.{Principal, Key}
 use Rattle.taos_calculus.specs.Rules.{Line}
 use Rattle.taos_calculus.specs.Spelling.{proof_spelling}
-
--- a Read without certificates, by a channel that quotes nobody
-pub record Request : Type 0 where
-  pub channel : ℕ
-  pub seq : ℕ
-  pub object : ℕ
-
-abbrev pub subject_of : Request → Principal
-subject_of r = Key r.channel
-
--- the version, the channel, the number, nothing quoted, the operation, the object, and no certificates
-abbrev pub request_text : Request → List ℕ
-request_text r = 3 ∷ to_be_bytes w32 r.channel ++ to_be_bytes w64 r.seq ++ 0 ∷ 1 ∷ to_be_bytes w32 r.object ++ 0 ∷ []
-
--- its numbers fit their fields
-pub record FitsFields (r : Request) : Type 0 where
-  pub channel : r.channel < 2 ^ 32
-  pub seq : r.seq < 2 ^ 64
-  pub object : r.object < 2 ^ 32
+use Rattle.taos_wire.specs.Request.{Request}
 
 -- what a denial names; nothing, until links are built
 pub data LinkSent : Type 0 where
@@ -35,6 +15,10 @@ pub data LinkSent : Type 0 where
 pub data Reply : Type 0 where
   Granted : (kept : Bool) (entry shard place : ℕ) (proof : List Line) (content : List ℕ) → Reply
   Denied : (shard place : ℕ) → LinkSent → Reply
+  Malformed : (offset : ℕ) → Reply
+  UnknownChannel : (number : ℕ) → Reply
+  BadSeal : Reply
+  UnknownObject : (number : ℕ) → Reply
   NoMemory : Reply
   -- in place of all that is not built yet
   Unbuilt : Reply
@@ -69,6 +53,10 @@ fields_of (Granted kept entry shard place proof content) =
     ++ to_be_bytes w32 (length (proof_spelling proof)) ++ proof_spelling proof
     ++ 0 ∷ to_be_bytes w16 (length content) ++ content
 fields_of (Denied shard place link) = 1 ∷ to_be_bytes w32 shard ++ to_be_bytes w64 place ++ link_bytes link
+fields_of (Malformed offset) = 2 ∷ to_be_bytes w32 offset
+fields_of (UnknownChannel number) = 3 ∷ to_be_bytes w32 number
+fields_of BadSeal = 4 ∷ []
+fields_of (UnknownObject number) = 9 ∷ to_be_bytes w32 number
 fields_of NoMemory = 11 ∷ []
 fields_of Unbuilt = 255 ∷ []
 
