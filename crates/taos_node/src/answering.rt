@@ -81,7 +81,7 @@ fn object_of<'a>(node: &'a Opening, asked: &Request) -> Result<&'a ObjectPlan, R
     ensures arrived { IfOk result (λ plan. (payload key : List ℕ)
         → IsAsked (opening node.now) payload (request asked.now) key
         → HasArrived (opening node.now) payload (request asked.now) key
-            (object asked.now.object plan.now)) }
+        (object asked.now.object plan.now)) }
     ensures refused { IfErr result (λ f. (payload key : List ℕ)
         → IsAsked (opening node.now) payload (request asked.now) key
         → Course (opening node.now) payload [] (sealed key (request asked.now) (refusal f))) }

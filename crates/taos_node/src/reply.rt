@@ -120,8 +120,12 @@ fn leave(out: &mut Vec<u8>, text: &[u8], sealer: Option<&Sealer>)
 // Leaves the reply of a refusal.
 fn leave_why(out: &mut Vec<u8>, sealer: Option<&Sealer>, channel: u32, seq: u64, why: Refusal)
     requires room { 256 ≤ vec_capacity out.old }
-    ensures bytes { out.new.items ≡ spelling (record { key = option_copied sealer.entry;
-        channel = channel; seq = seq; reply = refusal why }) }
+    ensures bytes { out.new.items ≡ spelling (record {
+      key = option_copied sealer.entry;
+      channel = channel;
+      seq = seq;
+      reply = refusal why;
+    }) }
     ensures short { length out.new.items ≤ 256 }
     ensures capacity { vec_capacity out.old ≤ vec_capacity out.new }
 {
@@ -130,11 +134,19 @@ fn leave_why(out: &mut Vec<u8>, sealer: Option<&Sealer>, channel: u32, seq: u64,
             leave(out, &numbered_of(channel, seq, MALFORMED, offset), sealer);
         }
         Refusal::UnknownChannel { number } => {
-            leave(out, &numbered_of(channel, seq, UNKNOWN_CHANNEL, number), sealer);
+            leave(
+                out,
+                &numbered_of(channel, seq, UNKNOWN_CHANNEL, number),
+                sealer,
+            );
         }
         Refusal::BadSeal => leave(out, &head_of(channel, seq, BAD_SEAL), sealer),
         Refusal::UnknownObject { number } => {
-            leave(out, &numbered_of(channel, seq, UNKNOWN_OBJECT, number), sealer);
+            leave(
+                out,
+                &numbered_of(channel, seq, UNKNOWN_OBJECT, number),
+                sealer,
+            );
         }
         Refusal::NoMemory => leave(out, &head_of(channel, seq, NO_MEMORY), sealer),
         Refusal::Unbuilt => leave(out, &head_of(channel, seq, UNBUILT), sealer),
@@ -175,9 +187,12 @@ fn write_granted(
     content: &[u8],
 ) -> Result<(), AllocError>
     requires { length content.now < 2 ^ 16 }
-    ensures ok { OnOk result (out.new.items ≡ spelling (record { key = Some sealer.now;
-        channel = channel; seq = seq;
-        reply = Granted false entry 0 0 (lines_of proof.now) content.now })) }
+    ensures ok { OnOk result (out.new.items ≡ spelling (record {
+      key = Some sealer.now;
+      channel = channel;
+      seq = seq;
+      reply = Granted false entry 0 0 (lines_of proof.now) content.now;
+    })) }
     ensures short { OnOk result (length out.new.items < 2 ^ 32) }
     ensures capacity { vec_capacity out.old ≤ vec_capacity out.new }
 {
@@ -221,8 +236,12 @@ impl ReplyBuf {
 
     /// Leaves the reply of a refusal under a key.
     pub fn leave_refused(&mut self, sealer: &Sealer, channel: u32, seq: u64, why: Refusal)
-        ensures reply { self.new ≡ spelling (record { key = Some sealer.now;
-            channel = channel; seq = seq; reply = refusal why }) }
+        ensures reply { self.new ≡ spelling (record {
+          key = Some sealer.now;
+          channel = channel;
+          seq = seq;
+          reply = refusal why;
+        }) }
         ensures short { length self.new < 2 ^ 32 }
     {
         leave_why(&mut self.bytes, Some(sealer), channel, seq, why);
@@ -230,8 +249,12 @@ impl ReplyBuf {
 
     /// Leaves a denial.
     pub fn leave_denied(&mut self, sealer: &Sealer, channel: u32, seq: u64)
-        ensures reply { self.new ≡ spelling (record { key = Some sealer.now;
-            channel = channel; seq = seq; reply = Denied 0 0 Untold }) }
+        ensures reply { self.new ≡ spelling (record {
+          key = Some sealer.now;
+          channel = channel;
+          seq = seq;
+          reply = Denied 0 0 Untold;
+        }) }
         ensures short { length self.new < 2 ^ 32 }
     {
         let c = channel.to_be_bytes();
@@ -255,11 +278,18 @@ impl ReplyBuf {
         content: &[u8],
     )
         requires { length content.now < 2 ^ 16 }
-        ensures reply { (self.new ≡ spelling (record { key = Some sealer.now;
-            channel = channel; seq = seq;
-            reply = Granted false entry 0 0 (lines_of proof.now) content.now }))
-            ⊎ (self.new ≡ spelling (record { key = Some sealer.now;
-            channel = channel; seq = seq; reply = NoMemory })) }
+        ensures reply { (self.new ≡ spelling (record {
+          key = Some sealer.now;
+          channel = channel;
+          seq = seq;
+          reply = Granted false entry 0 0 (lines_of proof.now) content.now;
+        }))
+            ⊎ (self.new ≡ spelling (record {
+              key = Some sealer.now;
+              channel = channel;
+              seq = seq;
+              reply = NoMemory;
+            })) }
         ensures short { length self.new < 2 ^ 32 }
     {
         match write_granted(

@@ -11,9 +11,11 @@ returns-in-Err-object_of-clause-steps g c =
     (c.in-Err-object_of.ensures.refused c.args.payload.now c.in-Ok.found.1.now c.in-Ok.ensures.asked) c.leave_refused.ensures.reply c.leave_refused.ensures.short
 
 pub returns-in-Err-now-clause-steps : goal.returns-in-Err-now-clause-steps
-returns-in-Err-now-clause-steps g c =
-    (arrived (opening c.args.node.now) c.args.payload.now (request c.in-Ok.found.0) c.in-Ok.found.1.now (object c.in-Ok.found.0.object c.in-Ok-object_of.plan.now)
-    (c.in-Ok-object_of.ensures.arrived c.args.payload.now c.in-Ok.found.1.now c.in-Ok.ensures.asked), c.in-Err-now.ensures.reading)
+returns-in-Err-now-clause-steps g c = (
+  arrived (opening c.args.node.now) c.args.payload.now (request c.in-Ok.found.0) c.in-Ok.found.1.now (object c.in-Ok.found.0.object c.in-Ok-object_of.plan.now)
+      (c.in-Ok-object_of.ensures.arrived c.args.payload.now c.in-Ok.found.1.now c.in-Ok.ensures.asked),
+  c.in-Err-now.ensures.reading,
+)
 
 pub rule-requires-clause-built : goal.rule-requires-clause-built
 rule-requires-clause-built g c = (c.in-Ok-object_of.ensures.arrived c.args.payload.now c.in-Ok.found.1.now c.in-Ok.ensures.asked).taken.built
