@@ -6,10 +6,10 @@ use Rattle.object_core.specs.Operation.{Op, Read, Write, SetList, Hold, Discard,
 use Rattle.prin_term.specs.Principal.{Principal, Key}
 use Rattle.taos_wire.specs.declared.fault.WireFault.{WireFault}
 use Rattle.taos_wire.specs.declared.fault.WireFault.TheVariants as wire
-use Rattle.taos_wire.specs.Request.{Request, Spells, IsSealed, speaker_of, subject_of}
+use Rattle.taos_wire.specs.Request.{Request, Spells, IsSealed, subject_of}
 use Rattle.taos_wire.specs.RequestReading.{request_of}
 use Rattle.taos_node.specs.Opening.{Opening, ObjectPlan, plan_of}
-use Rattle.taos_node.specs.Messages.{Malformed, BadSeal, UnknownObject, sealed, unsealed}
+use Rattle.taos_wire.specs.Reply.{Malformed, BadSeal, UnknownObject, sealed, unsealed}
 use Rattle.taos_node.specs.Course.{IsUnbuilt, IsAsked, HasArrived, Course, malformed, bad_seal, unknown_object}
 use Rattle.taos_node.specs.Deciding.{read_right}
 
@@ -28,7 +28,8 @@ is_read Sweep built = absurd (built (λ e. cc))
 
 -- it quotes nobody
 pub speaks_itself : (r : Request) → (IsUnbuilt r → ⊥) → subject_of r ≡ Key r.channel
-speaks_itself r built = ap (speaker_of r.channel) (none_quoted r.quoted (λ some. built (inl some)))
+speaks_itself r built =
+    ap (λ (quoted : Option Principal). subject_of (record { channel = r.channel; seq = r.seq; quoted = quoted; object = r.object; op = r.op; certs = r.certs })) (none_quoted r.quoted (λ some. built (inl some)))
 
 -- and asks for no other right
 pub only_reads : (r : Request) → (IsUnbuilt r → ⊥) → right_of r.op ≡ read_right

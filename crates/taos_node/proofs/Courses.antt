@@ -1,5 +1,5 @@
 -- The course of a request, from what was done for it.
-use Rattle.std.proofs.Common.{◌≡◌, ◌<◌, ◌^◌, ℕ, List, [], ◌∷◌, length, Some, refl, sym, ap, subst, ◌∙◌, arith, inl, inr}
+use Rattle.std.proofs.Common.{◌≡◌, ◌<◌, ◌^◌, ℕ, List, [], ◌∷◌, length, Some, refl, sym, ap, subst, ◌∙◌, inl, inr}
 use Rattle.std.specs.Prelude.{Option, slice_get, ◌⊎◌, false}
 use Rattle.std.proofs.KnownBytes.{Keeps-refl}
 use Rattle.object_core.specs.Operation.{right_of}
@@ -15,7 +15,7 @@ use Rattle.taos_calculus.proofs.Atoms.{atom_is_decided}
 use Rattle.taos_calculus.proofs.Induction.{All-at}
 use Rattle.taos_wire.specs.Request.{Request}
 use Rattle.taos_node.specs.Opening.{Opening, ObjectPlan, IsPlainGrant, IsPlainObject}
-use Rattle.taos_node.specs.Messages.{Granted, Denied, NoMemory, Untold, Sent, sealed, spelling}
+use Rattle.taos_wire.specs.Reply.{Granted, Denied, NoMemory, Untold, Sent, sealed, spelling}
 use Rattle.taos_node.specs.Course.{IsUnbuilt, Arrival, HasArrived, Course, granted, denied, unruled}
 use Rattle.taos_node.specs.Deciding.{read_right, GivesAtom, IsFirst, IsNotFor}
 use Rattle.taos_node.specs.Ruling.{IsRuled, grants, denies, lacks_memory}
@@ -56,7 +56,7 @@ proves_atom anchors key w _ gives = absurd gives
 
 pub is_granted : (anchors : List Anchor) (r : Request) (key : List ℕ) (object : ObjectPlan) (place : ℕ) (step : Step) (who : Principal) (lines : List Line) (bytes : List ℕ) → (IsUnbuilt r → ⊥) → IsPlainObject object →
     (first : IsFirst anchors r.channel object.list place step) → first.0.who ≡ who → lines ≡ line (SpeaksFor (Key r.channel) who) step ∷ [] →
-    ((bytes ≡ spelling (sealed key r (Granted false place 0 0 lines object.content))) ⊎ (bytes ≡ spelling (sealed key r NoMemory))) → length bytes < 2 ^ 32 → IsRuled anchors r key object bytes
+    ((bytes ≡ spelling (sealed key r (Granted false place 0 0 lines [] object.content))) ⊎ (bytes ≡ spelling (sealed key r NoMemory))) → length bytes < 2 ^ 32 → IsRuled anchors r key object bytes
 is_granted anchors r key object place step who lines bytes built plain first is made told short =
     let g = first.0 in
     let subject = speaks_itself r built in
@@ -93,7 +93,7 @@ pub is_ruled : (o : Opening) (payload reply : List ℕ) (r : Request) (key : Lis
 is_ruled o payload reply r key object clock0 clock1 reading arrived shows (grants e g lines first proves sent short) =
     record {
       readings = reading ∷ [];
-      sent = sealed key r (Granted false e 0 0 lines object.content);
+      sent = sealed key r (Granted false e 0 0 lines [] object.content);
       course = granted (record { request = r; key = key; object = object; arrived = arrived }) reading first proves;
       gave = (clock1, shows, Keeps-refl clock1);
       holds = (sent, subst (λ (b : List ℕ). length b < 2 ^ 32) sent short);

@@ -9,7 +9,6 @@ pub mod Courses
 pub mod Steps
 pub mod Connections
 pub mod Complete
-pub mod Replies
 pub mod Arrivals
 pub mod SameNodes
 pub mod Commands

@@ -15,7 +15,7 @@ use Rattle.taos_node.specs.declared.opening.Opening as code
 use Rattle.taos_node.specs.declared.opening.OpeningFault.{OpeningFault}
 use Rattle.taos_node.specs.Opening.{Opening, ObjectPlan, Spells, IsPlain, IsPlainObject}
 use Rattle.taos_node.specs.OpeningView.{Represents}
-use Rattle.taos_node.specs.Messages.{Sent}
+use Rattle.taos_wire.specs.Reply.{Sent}
 use Rattle.taos_node.specs.Meaning.{opening, IsServable, SameNode}
 use Rattle.taos_node.specs.Course.{IsAsked, IsBuilt, HasArrived, Arrival, Course, malformed, unknown_channel, bad_seal, unbuilt, unknown_object, granted, denied, unread, unasked, unruled}
 use Rattle.taos_node.specs.Run.{Turn, AreTurns, IsConnection}

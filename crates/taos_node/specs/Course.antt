@@ -13,7 +13,7 @@ use Rattle.taos_wire.specs.declared.fault.WireFault.TheVariants as wire
 use Rattle.taos_wire.specs.Request.{Request, Spells, IsSealed, subject_of}
 use Rattle.taos_wire.specs.RequestReading.{request_of}
 use Rattle.taos_node.specs.Opening.{Opening, ObjectPlan, plan_of}
-use Rattle.taos_node.specs.Messages.{Reply, Granted, Denied, Malformed, UnknownChannel, BadSeal, UnknownObject, NoMemory, Unbuilt, Untold, Sent, sealed, unsealed}
+use Rattle.taos_wire.specs.Reply.{Reply, Granted, Denied, Malformed, UnknownChannel, BadSeal, UnknownObject, NoMemory, Unbuilt, Untold, Sent, sealed, unsealed}
 
 -- it quotes somebody, or its operation is not Read, or it presents a certificate
 abbrev pub IsUnbuilt : Request → Type 0
@@ -60,7 +60,7 @@ module _ (o : Opening) where
     granted : {e : ℕ} {g : Grant} {lines : List Line} (t : Arrival payload) (reading : ℕ) →
         FirstEntry t.object.list (right_of t.request.op) (λ h. MaySpeak o.anchors [] (subject_of t.request) h.who) e g →
         Proves o.anchors [] lines (SpeaksFor (subject_of t.request) g.who) →
-        Course payload (reading ∷ []) (answering t (Granted false e 0 0 lines t.object.content))
+        Course payload (reading ∷ []) (answering t (Granted false e 0 0 lines [] t.object.content))
     denied : (t : Arrival payload) (reading : ℕ) →
         (Grants o.anchors [] (subject_of t.request) t.object.list (right_of t.request.op) → ⊥) →
         Course payload (reading ∷ []) (answering t (Denied 0 0 Untold))

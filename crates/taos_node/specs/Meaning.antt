@@ -9,7 +9,7 @@ use Rattle.keyed_seal.specs.Keys.{key_of}
 use Rattle.taos_node.specs.declared.opening.Opening.{Opening}
 use Rattle.taos_node.specs.declared.reply.Refusal.{Refusal}
 use Rattle.taos_node.specs.declared.reply.Refusal.TheVariants as code
-use Rattle.taos_node.specs.Messages.{Reply, Malformed, UnknownChannel, BadSeal, UnknownObject, NoMemory, Unbuilt}
+use Rattle.taos_wire.specs.Reply.{Reply, Malformed, UnknownChannel, BadSeal, UnknownObject, NoMemory, Unbuilt}
 use Rattle.taos_node.specs.Opening as plain
 use Rattle.taos_node.specs.Opening.{plan_of, IsPlainObject}
 pub use Rattle.taos_node.specs.OpeningView.{plan as object}

@@ -5,7 +5,7 @@ ghost use Rattle.object_core.specs.Operation as math;
 ghost use Rattle.object_core.specs.View.{operation};
 ghost use Rattle.taos_wire.specs.View.{request};
 ghost use Rattle.taos_node.specs.Opening.{IsPlainObject};
-ghost use Rattle.taos_node.specs.Messages.{sealed, unsealed};
+ghost use Rattle.taos_wire.specs.Reply.{sealed, unsealed};
 ghost use Rattle.taos_node.specs.Course.{Course, HasArrived, IsAsked, IsUnbuilt};
 ghost use Rattle.taos_node.specs.Meaning.{opening, object, refusal, IsServable};
 ghost use Rattle.taos_node.specs.Ruling.{IsRuled};
@@ -154,7 +154,6 @@ fn rule(
     let who = &plan.list[entry as usize].who;
     match proof_by(alloc, asked.channel, who, step) {
         Ok(proof) => out.leave_granted(
-            alloc,
             sealer,
             asked.channel,
             asked.seq,

@@ -1,6 +1,6 @@
 -- The course that was taken.
 use Rattle.taos_wire.specs.View.{request}
-use Rattle.taos_node.specs.Messages.{sealed, unsealed}
+use Rattle.taos_wire.specs.Reply.{sealed}
 use Rattle.taos_node.specs.Meaning.{object, opening, refusal}
 use Rattle.taos_node.proofs.Courses.{is_refused, is_ruled, arrived}
 use Rattle.taos_node.proofs.answering.answer.Goals as goal

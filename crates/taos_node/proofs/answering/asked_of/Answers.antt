@@ -1,5 +1,5 @@
 -- What is no request under its channel's seal, and why.
-use Rattle.std.proofs.Common.{◌≡◌, sym}
+use Rattle.std.proofs.Common.{sym}
 use Rattle.taos_wire.specs.View.{request}
 use Rattle.taos_node.specs.Course.{unknown_channel, unread}
 use Rattle.taos_node.specs.Meaning.{opening}

@@ -1,5 +1,5 @@
 -- What is not built, and what has no object.
-use Rattle.std.proofs.Common.{◌≡◌, ap, sym, ◌∙◌}
+use Rattle.std.proofs.Common.{ap, sym, ◌∙◌}
 use Rattle.std.specs.Prelude.{option_map}
 use Rattle.taos_wire.specs.View.{request}
 use Rattle.taos_node.specs.Course.{unbuilt}

@@ -1,10 +1,10 @@
 -- The first reader is the first entry that is derivable.
-use Rattle.std.proofs.Common.{List, ℕ, subst, ◌≡◌, arith, false}
+use Rattle.std.proofs.Common.{List, [], ℕ, subst, ◌≡◌, arith, false}
 use Rattle.std.specs.Prelude.{◌⊎◌}
 use Rattle.prin_term.specs.View.{principal}
 use Rattle.taos_calculus.specs.Tables.{lines_of}
 use Rattle.taos_wire.specs.View.{request}
-use Rattle.taos_node.specs.Messages.{Granted, NoMemory, sealed, spelling}
+use Rattle.taos_wire.specs.Reply.{Granted, NoMemory, sealed, spelling}
 use Rattle.taos_node.specs.Meaning.{object}
 use Rattle.taos_node.specs.Ruling.{lacks_memory}
 use Rattle.taos_node.proofs.Courses.{is_granted, is_denied}
@@ -34,7 +34,7 @@ returns-in-Ok c =
     let within = place_within c.args.plan.now.list.items c.in-Some.entry first.0 first.1.stands in
     is_granted c.args.node.now.anchors.items (request c.args.asked.now) c.args.sealer.now (object c.args.asked.now.object c.args.plan.now) c.in-Some.entry c.in-Some.step (principal c.index.result.now.who) (lines_of c.in-Ok.proof)
     c.leave_granted.new.self c.requires.built c.requires.plain first (who_is c.args.plan.now.list.items c.in-Some.entry c.index.result.now first.0 within c.index.ensures first.1.stands) c.in-Ok.ensures
-    (subst (λ (content : List ℕ). (c.leave_granted.new.self ≡ spelling (sealed c.args.sealer.now (request c.args.asked.now) (Granted false c.in-Some.entry 0 0 (lines_of c.in-Ok.proof) content)))
+    (subst (λ (content : List ℕ). (c.leave_granted.new.self ≡ spelling (sealed c.args.sealer.now (request c.args.asked.now) (Granted false c.in-Some.entry 0 0 (lines_of c.in-Ok.proof) [] content)))
     ⊎ (c.leave_granted.new.self ≡ spelling (sealed c.args.sealer.now (request c.args.asked.now) NoMemory))) c.deref-in-Ok.ensures.value c.leave_granted.ensures.reply)
     c.leave_granted.ensures.short
 
