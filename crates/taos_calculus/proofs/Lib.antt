@@ -16,3 +16,6 @@ pub mod Spelled
 pub mod OneLine
 pub mod Numbering
 pub mod Short
+pub mod Numbers
+pub mod NumberedMoving
+pub mod Asking

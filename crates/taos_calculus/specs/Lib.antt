@@ -4,6 +4,8 @@ pub mod Tidy
 pub mod Monitor
 pub mod Atoms
 pub mod Tables
+pub mod Numbered
+pub mod Question
 pub mod Canonical
 pub mod Spelling
 pub mod Limits

@@ -3,3 +3,4 @@ pub mod RequestLaws
 pub mod Seals
 pub mod Pieces
 pub mod CutRequests
+pub mod Places
