@@ -9,7 +9,7 @@ use arrayvec::ArrayVec;
 use std::cmp::Reverse;
 use std::sync::Arc;
 use stmt_codec::Cert;
-const MAX_CERTS: usize = 64;
+use taos_calculus::MAX_CERTS;
 
 /// The end, the digest and the place of a certificate.
 pub(crate) type Key = (Reverse<u64>, [u8; 32], u8);
