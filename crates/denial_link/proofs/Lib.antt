@@ -1,2 +1,4 @@
 pub mod Members
+pub mod Places
 pub mod Sorting
+pub mod Reviving

@@ -1,6 +1,6 @@
 //! The first missing or expired link.
 
-ghost use Rattle.std.specs.Prelude.{◌≡◌, true, map, length, replicate, slice_get, Some, MatchOption};
+ghost use Rattle.std.specs.Prelude.{◌≡◌, ◌≤◌, ℕ, true, map, length, replicate, slice_get, Some, MatchOption};
 ghost use Rattle.prin_term.specs.View.{Grant, grant, principal};
 ghost use Rattle.stmt_codec.specs.Certificates.{certificate, live};
 ghost use Rattle.taos_calculus.specs.Monitor.{FirstEntry, Grants};

@@ -37,8 +37,8 @@ pub(crate) fn dead_in_order(certs: &[Arc<Cert>], moment: u64) -> ArrayVec<u8, MA
     let mut keys = dead_keys(certs, moment);
     keys.sort_unstable();
     let mut places = ArrayVec::new();
-    for key in &keys {
-        places.push(key.2);
+    for place in 0..keys.len() {
+        places.push(keys[place].2);
     }
     places
 }
