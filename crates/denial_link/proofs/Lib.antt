@@ -1,4 +1,5 @@
 pub mod Members
 pub mod Places
 pub mod Sorting
+pub mod Reaching
 pub mod Reviving
