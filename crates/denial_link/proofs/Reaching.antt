@@ -68,6 +68,10 @@ operands_of_pair t a b (inl e) = ap (λ (x : Term). operands (principal x)) e
 operands_of_pair t a b (inr (inl e)) = ap (λ (x : Term). operands (principal x)) e
 operands_of_pair t a b (inr (inr e)) = ap (λ (x : Term). operands (principal x)) e
 
+pub operands_of_leaf : (t : Term) → ((n : ℕ) × (t ≡ code.Key n)) ⊎ ((n : ℕ) × (t ≡ code.Name n)) → operands (principal t) ≡ []
+operands_of_leaf t (inl (n, e)) = ap (λ (x : Term). operands (principal x)) e
+operands_of_leaf t (inr (n, e)) = ap (λ (x : Term). operands (principal x)) e
+
 pub operands_of_role : (t : Term) (a : Box Term Global) (r : ℕ) → t ≡ code.AsRole a r → operands (principal t) ≡ principal a.value ∷ []
 operands_of_role t a r e = ap (λ (x : Term). operands (principal x)) e
 

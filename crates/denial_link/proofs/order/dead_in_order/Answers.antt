@@ -5,7 +5,7 @@ use Rattle.std.proofs.Math.Seq.{take-append_seam, take-length}
 use Rattle.std.proofs.lemmas.List.{take_more, get_or-map, length-map}
 use Rattle.denial_link.specs.Keys.{Key, KeysBelow}
 use Rattle.denial_link.specs.Order.{DeadInOrder}
-use Rattle.denial_link.proofs.Places.{certificates}
+use Rattle.denial_link.proofs.Places.{certificates, certificate_count}
 use Rattle.denial_link.proofs.Sorting.{places_of, sorted_in_order}
 use Rattle.denial_link.proofs.order.dead_in_order.Goals as goal
 
@@ -33,7 +33,7 @@ returns c =
     let ys = c.sort_unstable.new.self in
     let certs = certificates c.args.certs.now in
     let below : KeysBelow certs c.args.moment (length certs) keys =
-          subst (λ n. KeysBelow certs c.args.moment n keys) (sym (length-map c.args.certs.now _)) c.dead_keys-keys.ensures in
+          subst (λ n. KeysBelow certs c.args.moment n keys) (sym (certificate_count c.args.certs.now)) c.dead_keys-keys.ensures in
     let n : c.loop-place.place ≡ length (refill (length keys) keys ys) = omega (arith, c.len-place-end.ensures.value) in
     let value : c.deref_mut.result.now ≡ keys = c.deref_mut.ensures.value in
     let len : length ys ≡ length keys = c.sort_unstable.ensures.len ∙ ap length value in

@@ -1,7 +1,7 @@
 use Rattle.std.proofs.Common.{◌≡◌, ◌+◌, refl, ap, ◌∙◌, arith}
 use Rattle.prin_term.specs.Principal.{node_count}
 use Rattle.prin_term.specs.View.{principal}
-use Rattle.denial_link.proofs.Reaching.{operands_of_pair, operands_of_role, only_operand, first_operand, second_operand, falls_to, still_term, still_terms, operand_is_term, terms_below, Reaches, reached_same, lacks_leaf, lacks_none_of_one, lacks_none_of_two, lacks_first, lacks_second, lacks_same}
+use Rattle.denial_link.proofs.Reaching.{operands_of_leaf, operands_of_pair, operands_of_role, only_operand, first_operand, second_operand, falls_to, still_term, still_terms, operand_is_term, terms_below, Reaches, reached_same, lacks_leaf, lacks_none_of_one, lacks_none_of_two, lacks_first, lacks_second, lacks_same}
 use Rattle.denial_link.proofs.part.+lacking.Goals as goal
 
 pub is_reached-requires-clause-asked : goal.is_reached-requires-clause-asked
@@ -78,10 +78,10 @@ returns-else-is_reached-clause-lacks g t c =
     (lacks_same q _ subject _ _ c.lacking.result c.is_reached.ensures.same (ap principal c.deref-else-is_reached.ensures) c.lacking.ensures.lacks) refl
 
 pub returns-in-Key-clause-lacks : goal.returns-in-Key-clause-lacks
-returns-in-Key-clause-lacks g t c = let e = c.in-Key.is in ?
+returns-in-Key-clause-lacks g t c = lacks_leaf _ (principal c.args.part.now) (operands_of_leaf c.args.part.now c.in-Key.is)
 
 pub returns-in-Key-2-clause-lacks : goal.returns-in-Key-2-clause-lacks
-returns-in-Key-2-clause-lacks g t c = let e = c.in-Key.is in ?
+returns-in-Key-2-clause-lacks g t c = lacks_leaf _ (principal c.args.part.now) (operands_of_leaf c.args.part.now c.in-Key.is)
 
 pub returns-then-not-is_reached-clause-lacks : goal.returns-then-not-is_reached-clause-lacks
 returns-then-not-is_reached-clause-lacks g t c =
