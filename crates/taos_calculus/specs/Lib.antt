@@ -11,3 +11,5 @@ pub mod Spelling
 pub mod Limits
 pub mod Walking
 pub mod Having
+pub mod Spells
+pub mod ProofReading

@@ -4,3 +4,5 @@ pub mod Seals
 pub mod Pieces
 pub mod CutRequests
 pub mod Places
+pub mod ShortReplies
+pub mod ReplyPieces
