@@ -1,5 +1,5 @@
 -- The first entries of an access list, and what is asked about its entries.
-use Rattle.std.proofs.Common.{◌≡◌, ◌⊎◌, inl, inr, ℕ, zero, suc, ◌+◌, ◌<◌, ◌≤◌, ◌∷◌, [], Bool, true, false, List, length, map, replicate, Contains, All, Some, slice_get, refl, sym, ◌∙◌, ap, subst, arith}
+use Rattle.std.proofs.Common.{◌≡◌, inl, inr, ℕ, zero, suc, ◌+◌, ◌<◌, ◌≤◌, ◌∷◌, [], Bool, true, List, length, map, replicate, Contains, All, Some, slice_get, refl, sym, ◌∙◌, ap, subst, arith}
 use Rattle.std.proofs.lemmas.Bool.{cases_lt}
 use Rattle.std.proofs.lemmas.Option.{same_Some, slice_get_within, slice_get-map, get_or_from_slice_get}
 use Rattle.std.specs.Option.{option_map}
@@ -9,14 +9,14 @@ use Rattle.prin_term.specs.declared.term.Anchor.{Anchor}
 use Rattle.prin_term.specs.Principal.{Principal, subterms, node_count}
 use Rattle.prin_term.specs.declared.limits.TheConstants.{ENTRY_NODES}
 use Rattle.prin_term.specs.View.{Grant}
-use Rattle.stmt_codec.specs.Certificates.{Certificate, live}
+use Rattle.stmt_codec.specs.Certificates.{Certificate}
 use Rattle.taos_calculus.specs.Rules.{Claim}
 use Rattle.taos_calculus.specs.Monitor.{MaySpeak, HasRight, FirstEntry, Grants}
 use Rattle.taos_calculus.specs.Question.{Question, question_of, claims_of, claim_of, picked, IsTermOf, MayAnswer}
 use Rattle.denial_link.specs.Revived.{claims}
 use Rattle.denial_link.specs.Needed.{IsNeeded}
-use Rattle.denial_link.specs.Links.{NoEntryWith, IsReached, Lacks, IsFirstLink, no_entry, expired, missing}
-use Rattle.denial_link.specs.declared.link.Link.TheVariants.{Expired, Missing, NoEntry}
+use Rattle.denial_link.specs.Links.{NoEntryWith, IsReached, Lacks, IsFirstLink, expired, missing}
+use Rattle.denial_link.specs.declared.link.Link.TheVariants.{Expired, Missing}
 use Rattle.denial_link.proofs.Members.{has-at}
 use Rattle.denial_link.proofs.Reaching.{part_itself, Reaches}
 
@@ -31,11 +31,11 @@ module _ (list : List Grant) (right : ℕ) (P : Grant → Type 0) where
   pub none_more : (n : ℕ) (e : Grant) → NoneBefore list right P n → slice_get list n ≡ Some e → (HasRight e right → P e → ⊥) → NoneBefore list right P (n + 1)
   none_more n e none s not k d lt t r p =
       elim (cases_lt k n) [
-        inl l ↦ none k d l t r p
+        | inl l ↦ none k d l t r p
         | inr l ↦
-          let at : k ≡ n = omega arith in
-          let one : d ≡ e = same_Some d e (sym t ∙ ap (slice_get list) at ∙ s) in
-          not (subst (λ (x : Grant). HasRight x right) one r) (subst P one p)
+            let at : k ≡ n = omega arith in
+            let one : d ≡ e = same_Some d e (sym t ∙ ap (slice_get list) at ∙ s) in
+            not (subst (λ (x : Grant). HasRight x right) one r) (subst P one p)
       ]
 
   pub none_at_all : (n : ℕ) → NoneBefore list right P n → length list ≤ n → NoEntryWith list right P

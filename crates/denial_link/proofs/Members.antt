@@ -1,6 +1,5 @@
 -- What a list has, by place.
-use Rattle.std.proofs.Common.{◌≡◌, ◌⊎◌, inl, inr, ℕ, zero, suc, ◌<◌, ◌≤◌, ◌++◌, ◌∷◌, [], Bool, true, false, cond, List, length, get_or, take, map, filter, filter_map, Contains, Some, None, Option, slice_get, refl, sym, ◌∙◌, ap, subst, arith}
-use Rattle.std.proofs.lemmas.List.{get_or-map, length-map}
+use Rattle.std.proofs.Common.{◌≡◌, ◌⊎◌, inl, inr, ℕ, zero, suc, ◌≤◌, ◌∷◌, [], Bool, true, false, cond, List, take, map, filter, Contains, Some, slice_get, refl, sym, ◌∙◌, ap, subst, arith}
 use Rattle.std.proofs.lemmas.Option.{slice_get-get_or, slice_get_within, get_or_from_slice_get, none-some, same_Some}
 
 pub has-at : {X : Type 0} (xs : List X) (i : ℕ) (x : X) → slice_get xs i ≡ Some x → Contains xs x
@@ -30,7 +29,7 @@ pub Contains-to_map : {X Y : Type 0} (f : X → Y) (xs : List X) (x : X) → Con
 Contains-to_map f [] x c = absurd (has-nil x c)
 Contains-to_map f (y ∷ xs) x c =
     elim (has-cases y xs x c) [
-      inl e ↦ subst (λ z. Contains (f y ∷ map f xs) (f z)) e (has-head (f y) (map f xs))
+      | inl e ↦ subst (λ z. Contains (f y ∷ map f xs) (f z)) e (has-head (f y) (map f xs))
       | inr h ↦ has-cons (f y) (map f xs) (f x) (Contains-to_map f xs x h)
     ]
 
@@ -38,7 +37,7 @@ pub Contains-from_map : {X Y : Type 0} (f : X → Y) (xs : List X) (y : Y) → C
 Contains-from_map f [] y c = absurd (has-nil y c)
 Contains-from_map f (z ∷ xs) y c =
     elim (has-cases (f z) (map f xs) y c) [
-      inl e ↦ (z, has-head z xs, e)
+      | inl e ↦ (z, has-head z xs, e)
       | inr h ↦ let (x, has, at) = Contains-from_map f xs y h in (x, has-cons z xs x has, at)
     ]
 
@@ -48,7 +47,7 @@ Contains-take (suc n) zero xs x le c = absurd (omega arith)
 Contains-take (suc n) (suc m) [] x le c = c
 Contains-take (suc n) (suc m) (y ∷ xs) x le c =
     elim (has-cases y (take n xs) x c) [
-      inl e ↦ subst (λ z. Contains (y ∷ take m xs) z) e (has-head y (take m xs))
+      | inl e ↦ subst (λ z. Contains (y ∷ take m xs) z) e (has-head y (take m xs))
       | inr h ↦ has-cons y (take m xs) x (Contains-take n m xs x (omega arith) h)
     ]
 
@@ -59,12 +58,12 @@ Contains-to_filter p (y ∷ xs) x c t = by (λ h. Contains-to_filter p xs x h t)
     by : (Contains xs x → Contains (filter p xs) x) → (b : Bool) → p y ≡ b → Contains (cond b (y ∷ filter p xs) (filter p xs)) x
     by more true e =
         elim (has-cases y xs x c) [
-          inl f ↦ subst (λ z. Contains (y ∷ filter p xs) z) f (has-head y (filter p xs))
+          | inl f ↦ subst (λ z. Contains (y ∷ filter p xs) z) f (has-head y (filter p xs))
           | inr h ↦ has-cons y (filter p xs) x (more h)
         ]
     by more false e =
         elim (has-cases y xs x c) [
-          inl f ↦ let g : false ≡ true = sym e ∙ ap p f ∙ t in absurd (cc)
+          | inl f ↦ let g : false ≡ true = sym e ∙ ap p f ∙ t in absurd (cc)
           | inr h ↦ more h
         ]
 
@@ -75,7 +74,7 @@ Contains-from_filter p (y ∷ xs) x c = by (λ h. Contains-from_filter p xs x h)
     by : (Contains (filter p xs) x → Contains xs x × (p x ≡ true)) → (b : Bool) → p y ≡ b → Contains (cond b (y ∷ filter p xs) (filter p xs)) x → Contains (y ∷ xs) x × (p x ≡ true)
     by more true e h =
         elim (has-cases y (filter p xs) x h) [
-          inl f ↦ (subst (λ z. Contains (y ∷ xs) z) f (has-head y xs), ap p (sym f) ∙ e)
+          | inl f ↦ (subst (λ z. Contains (y ∷ xs) z) f (has-head y xs), ap p (sym f) ∙ e)
           | inr g ↦ let (has, t) = more g in (has-cons y xs x has, t)
         ]
     by more false e h = let (has, t) = more h in (has-cons y xs x has, t)

@@ -7,7 +7,7 @@ use Rattle.std.specs.declared.sync.Arc.{Arc}
 use Rattle.stmt_codec.specs.declared.cert.Cert.{Cert}
 use Rattle.stmt_codec.specs.Certificates.{Certificate, certificate}
 use Rattle.prin_term.specs.declared.term.Entry.{Entry}
-use Rattle.prin_term.specs.View.{Grant, grant}
+use Rattle.prin_term.specs.View.{grant}
 
 abbrev pub certificates : List (Arc Cert Global) → List Certificate
 certificates certs = map (λ (c : Arc Cert Global). certificate c.value.body) certs

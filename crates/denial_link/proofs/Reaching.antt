@@ -1,12 +1,11 @@
 -- Which principals a subject reaches, by its operands, and the first part that is not reached.
-use Rattle.std.proofs.Common.{◌≡◌, ◌⊎◌, ◌↔◌, inl, inr, ℕ, ◌+◌, ◌<◌, ◌≤◌, ◌++◌, ◌∷◌, [], Bool, true, false, List, length, Contains, All, IsTrue, sum_by, refl, sym, ◌∙◌, ap, subst, arith, Box, Global}
+use Rattle.std.proofs.Common.{◌≡◌, ◌⊎◌, ◌↔◌, inl, inr, ℕ, ◌+◌, ◌<◌, ◌++◌, ◌∷◌, [], Bool, true, false, List, Contains, All, IsTrue, refl, sym, ◌∙◌, ap, subst, arith, Box, Global}
 use Rattle.std.proofs.lemmas.Bool.{false≢true}
 use Rattle.std.proofs.lemmas.List.Elements.{All-nil, All-cons, Contains-append_left, Contains-append_right, Contains-append_cases}
 use Rattle.prin_term.specs.Principal.{Principal, Key, Name, And, Quoting, InRole, For, operands, subterms, node_count}
 use Rattle.prin_term.specs.declared.term.Term.{Term}
 use Rattle.prin_term.specs.declared.term.Term as code
 use Rattle.prin_term.specs.View.{principal}
-use Rattle.taos_calculus.specs.Monitor.{MaySpeak}
 use Rattle.taos_calculus.specs.Question.{Question, IsTermOf, MayAnswer, claims_of}
 use Rattle.denial_link.specs.Links.{IsReached, Lacks, here, below}
 use Rattle.denial_link.proofs.Members.{has-cons, has-head, has-cases, has-nil}
@@ -26,9 +25,9 @@ of_two : (t a b o s : Principal) → Contains (a ∷ b ∷ []) o → Contains (s
 of_two t a b o s has h =
     has-cons t (subterms a ++ subterms b) s
     (elim (has-cases a (b ∷ []) o has) [
-      inl e ↦ Contains-append_left (subterms a) (subterms b) s (subst (λ (p : Principal). Contains (subterms p) s) (sym e) h)
+      | inl e ↦ Contains-append_left (subterms a) (subterms b) s (subst (λ (p : Principal). Contains (subterms p) s) (sym e) h)
       | inr more ↦ elim (has-cases b [] o more) [
-        inl e ↦ Contains-append_right (subterms a) (subterms b) s (subst (λ (p : Principal). Contains (subterms p) s) (sym e) h)
+        | inl e ↦ Contains-append_right (subterms a) (subterms b) s (subst (λ (p : Principal). Contains (subterms p) s) (sym e) h)
         | inr none ↦ absurd (has-nil o none)
       ]
     ])
@@ -49,7 +48,7 @@ IsBelow t s = (o : Principal) × Contains (operands t) o × Contains (subterms o
 in_two : (a b s : Principal) → Contains (subterms a ++ subterms b) s → (o : Principal) × Contains (a ∷ b ∷ []) o × Contains (subterms o) s
 in_two a b s h =
     elim (Contains-append_cases (subterms a) (subterms b) s h) [
-      inl l ↦ (a, has-head a (b ∷ []), l)
+      | inl l ↦ (a, has-head a (b ∷ []), l)
       | inr r ↦ (b, has-cons a (b ∷ []) b (has-head b []), r)
     ]
 
@@ -78,7 +77,7 @@ operands_of_role t a r e = ap (λ (x : Term). operands (principal x)) e
 fewer_in_two : (a b o : Principal) → Contains (a ∷ b ∷ []) o → node_count o < 1 + (node_count a + node_count b)
 fewer_in_two a b o h =
     elim (has-cases a (b ∷ []) o h) [
-      inl e ↦ omega (arith, ap node_count e)
+      | inl e ↦ omega (arith, ap node_count e)
       | inr more ↦ elim (has-cases b [] o more) [ inl e ↦ omega (arith, ap node_count e) | inr none ↦ absurd (has-nil o none) ]
     ]
 
@@ -132,7 +131,7 @@ reaches_operand q t o p has (s, h, d) = (s, part_of_operand t o s has h, d)
 reaches_cases : (q : Question) (t p : Principal) → Reaches q t p → MayAnswer q t p ⊎ ((o : Principal) × Contains (operands t) o × Reaches q o p)
 reaches_cases q t p (s, h, d) =
     elim (part_cases t s h) [
-      inl e ↦ inl (subst (λ (x : Principal). MayAnswer q x p) (sym e) d)
+      | inl e ↦ inl (subst (λ (x : Principal). MayAnswer q x p) (sym e) d)
       | inr b ↦ inr (b.0, b.1, (s, b.2, d))
     ]
 
@@ -140,33 +139,35 @@ pub reached_by_itself : (q : Question) (t p : Principal) (r : Bool) → IsTrue r
 reached_by_itself q t p r is e = (λ _. reaches_itself q t p (is.0 e), λ _. refl)
 
 pub reached_by_one : (q : Question) (t a p : Principal) (r by : Bool) → operands t ≡ a ∷ [] → IsTrue r ↔ MayAnswer q t p → r ≡ false → IsTrue by ↔ Reaches q a p → IsTrue by ↔ Reaches q t p
-reached_by_one q t a p r by o is e h =
-    (λ x. reaches_operand q t a p (subst (λ l. Contains l a) (sym o) (has-head a [])) (h.0 x),
-    λ x. elim (reaches_cases q t p x) [
-      inl d ↦ absurd (false≢true (sym e ∙ is.1 d))
-      | inr w ↦ elim (has-cases a [] w.0 (subst (λ l. Contains l w.0) o w.1)) [
-        inl f ↦ h.1 (subst (λ (b : Principal). Reaches q b p) (sym f) w.2)
-        | inr none ↦ absurd (has-nil w.0 none)
-      ]
-    ])
+reached_by_one q t a p r by o is e h = (
+  λ x. reaches_operand q t a p (subst (λ l. Contains l a) (sym o) (has-head a [])) (h.0 x),
+  λ x. elim (reaches_cases q t p x) [
+    | inl d ↦ absurd (false≢true (sym e ∙ is.1 d))
+    | inr w ↦ elim (has-cases a [] w.0 (subst (λ l. Contains l w.0) o w.1)) [
+      | inl f ↦ h.1 (subst (λ (b : Principal). Reaches q b p) (sym f) w.2)
+      | inr none ↦ absurd (has-nil w.0 none)
+    ]
+  ],
+)
 
 pub reached_by_first : (q : Question) (t a b p : Principal) (by : Bool) → operands t ≡ a ∷ b ∷ [] → IsTrue by ↔ Reaches q a p → by ≡ true → IsTrue by ↔ Reaches q t p
 reached_by_first q t a b p by o h e =
     (λ x. reaches_operand q t a p (subst (λ l. Contains l a) (sym o) (has-head a (b ∷ []))) (h.0 x), λ _. e)
 
 pub reached_by_second : (q : Question) (t a b p : Principal) (r first by : Bool) → operands t ≡ a ∷ b ∷ [] → IsTrue r ↔ MayAnswer q t p → r ≡ false → IsTrue first ↔ Reaches q a p → first ≡ false → IsTrue by ↔ Reaches q b p → IsTrue by ↔ Reaches q t p
-reached_by_second q t a b p r first by o is e h f k =
-    (λ x. reaches_operand q t b p (subst (λ l. Contains l b) (sym o) (has-cons a (b ∷ []) b (has-head b []))) (k.0 x),
-    λ x. elim (reaches_cases q t p x) [
-      inl d ↦ absurd (false≢true (sym e ∙ is.1 d))
-      | inr w ↦ elim (has-cases a (b ∷ []) w.0 (subst (λ l. Contains l w.0) o w.1)) [
-        inl g ↦ absurd (false≢true (sym f ∙ h.1 (subst (λ (c : Principal). Reaches q c p) (sym g) w.2)))
-        | inr more ↦ elim (has-cases b [] w.0 more) [
-          inl g ↦ k.1 (subst (λ (c : Principal). Reaches q c p) (sym g) w.2)
-          | inr none ↦ absurd (has-nil w.0 none)
-        ]
+reached_by_second q t a b p r first by o is e h f k = (
+  λ x. reaches_operand q t b p (subst (λ l. Contains l b) (sym o) (has-cons a (b ∷ []) b (has-head b []))) (k.0 x),
+  λ x. elim (reaches_cases q t p x) [
+    | inl d ↦ absurd (false≢true (sym e ∙ is.1 d))
+    | inr w ↦ elim (has-cases a (b ∷ []) w.0 (subst (λ l. Contains l w.0) o w.1)) [
+      | inl g ↦ absurd (false≢true (sym f ∙ h.1 (subst (λ (c : Principal). Reaches q c p) (sym g) w.2)))
+      | inr more ↦ elim (has-cases b [] w.0 more) [
+        | inl g ↦ k.1 (subst (λ (c : Principal). Reaches q c p) (sym g) w.2)
+        | inr none ↦ absurd (has-nil w.0 none)
       ]
-    ])
+    ]
+  ],
+)
 
 -- the same question and the same principals
 pub reached_same : (q q' : Question) (s s' p p' : Principal) (r : Bool) → q' ≡ q → s' ≡ s → p' ≡ p → IsTrue r ↔ Reaches q' s' p' → IsTrue r ↔ Reaches q s p

@@ -1,5 +1,5 @@
 -- What is picked by marks says what the revived certificates say, and more of them derive more.
-use Rattle.std.proofs.Common.{◌≡◌, ◌⊎◌, ◌↔◌, inl, inr, ℕ, zero, suc, ◌+◌, ◌<◌, ◌≤◌, ◌++◌, ◌∷◌, [], Bool, true, false, List, length, take, map, filter, filter_map, nat_lt, ltb, Contains, Some, None, Option, IsTrue, slice_get, refl, sym, ◌∙◌, ap, subst, arith, get_or}
+use Rattle.std.proofs.Common.{◌≡◌, ◌⊎◌, ◌↔◌, inl, inr, ℕ, ◌+◌, ◌<◌, ◌≤◌, ◌∷◌, [], Bool, List, length, take, map, filter_map, nat_lt, Contains, Some, None, Option, IsTrue, slice_get, refl, sym, ◌∙◌, ap, subst, arith, get_or}
 use Rattle.std.proofs.Math.Seq.{take-length}
 use Rattle.std.proofs.lemmas.List.{append-nil}
 use Rattle.std.specs.List.{cons_option}
@@ -17,7 +17,7 @@ use Rattle.taos_calculus.specs.Monitor.{MaySpeak}
 use Rattle.taos_calculus.specs.Question.{Question, question_of, MayAnswer, picked, claim_of}
 use Rattle.taos_calculus.proofs.Asking.{IsPicked, picked-at, has-picked}
 use Rattle.taos_calculus.proofs.Staying.{derives_more}
-use Rattle.denial_link.specs.Order.{IsDead, DeadInOrder}
+use Rattle.denial_link.specs.Order.{DeadInOrder}
 use Rattle.denial_link.specs.Keys.{AreMarked}
 use Rattle.denial_link.specs.Needed.{IsNeeded}
 use Rattle.denial_link.specs.Revived.{claims, at_places, revived}
@@ -31,7 +31,7 @@ at_place_of : {X Y : Type 0} (h : X → Option Y) (xs : List X) (x : X) (y : Y) 
 at_place_of h [] x y c e = absurd (has-nil x c)
 at_place_of {X} {Y} h (z ∷ xs) x y c e =
     elim (has-cases z xs x c) [
-      inl f ↦ subst (λ o. Contains (cons_option o (filter_map h xs)) y) (sym (ap h f ∙ e)) (has-head y (filter_map h xs))
+      | inl f ↦ subst (λ o. Contains (cons_option o (filter_map h xs)) y) (sym (ap h f ∙ e)) (has-head y (filter_map h xs))
       | inr g ↦ past (h z) (at_place_of h xs x y g e)
     ]
   where
@@ -47,7 +47,7 @@ of_place {X} {Y} h (z ∷ xs) y c = by (λ d. let (x, has, e) = of_place h xs y 
     by later None e d = later d
     by later (Some w) e d =
         elim (has-cases w (filter_map h xs) y d) [
-          inl f ↦ (z, has-head z xs, e ∙ ap Some f)
+          | inl f ↦ (z, has-head z xs, e ∙ ap Some f)
           | inr g ↦ later g
         ]
 
@@ -65,13 +65,13 @@ pub taken-revived : (certs : List Certificate) (moment : ℕ) (places : List ℕ
 taken-revived certs moment places x h =
     let (c, has, says) = Contains-from_map claim_of (revived certs moment places) x h in
     elim (Contains-append_cases (live certs moment) (at_places certs places) c has) [
-      inl l ↦
-        let (there, lives) = Contains-from_filter (λ (b : Certificate). nat_lt moment b.until) certs c l in
-        let (i, at) = at-has certs c there in
-        record { place = i; cert = c; stands = at; taken = inl (ltb-true moment c.until lives); says = says }
+      | inl l ↦
+          let (there, lives) = Contains-from_filter (λ (b : Certificate). nat_lt moment b.until) certs c l in
+          let (i, at) = at-has certs c there in
+          record { place = i; cert = c; stands = at; taken = inl (ltb-true moment c.until lives); says = says }
       | inr d ↦
-        let (i, there, at) = of_place (slice_get certs) places c d in
-        record { place = i; cert = c; stands = at; taken = inr there; says = says }
+          let (i, there, at) = of_place (slice_get certs) places c d in
+          record { place = i; cert = c; stands = at; taken = inr there; says = says }
     ]
 
 pub revived-taken : (certs : List Certificate) (moment : ℕ) (places : List ℕ) (x : Claim) → IsTaken certs moment places x → Contains (claims (revived certs moment places)) x
@@ -80,10 +80,10 @@ revived-taken certs moment places x t =
   where
     has : Contains (revived certs moment places) t.cert
     has = elim t.taken [
-        inl lives ↦ Contains-append_left (live certs moment) (at_places certs places) t.cert
+      | inl lives ↦ Contains-append_left (live certs moment) (at_places certs places) t.cert
           (Contains-to_filter (λ (b : Certificate). nat_lt moment b.until) certs t.cert (has-at certs t.place t.cert t.stands) (lt-ltb moment t.cert.until lives))
-        | inr there ↦ Contains-append_right (live certs moment) (at_places certs places) t.cert (at_place_of (slice_get certs) places t.place t.cert there t.stands)
-      ]
+      | inr there ↦ Contains-append_right (live certs moment) (at_places certs places) t.cert (at_place_of (slice_get certs) places t.place t.cert there t.stands)
+    ]
 
 -- ---- what is picked
 
@@ -107,7 +107,7 @@ taken-picked certs moment places marks x m h =
 pub picked-taken : (certs : List Certificate) (moment : ℕ) (places : List ℕ) (marks : List Bool) (x : Claim) → AreMarked certs moment places (length certs) marks → IsTaken certs moment places x → Contains (picked_claims certs marks) x
 picked-taken certs moment places marks x m t =
     let (k, at) = has-picked 0 (map claim_of certs) marks t.place (claim_of t.cert) (slice_get-map claim_of certs t.place ∙ ap (option_map claim_of) t.stands)
-          ((m.each t.place t.cert (slice_get_within certs t.place t.cert t.stands) t.stands).1 t.taken) in
+    ((m.each t.place t.cert (slice_get_within certs t.place t.cert t.stands) t.stands).1 t.taken) in
     let p : ℕ × Claim = (0 + t.place, claim_of t.cert) in
     subst (Contains (picked_claims certs marks)) t.says
     (Contains-to_map (λ (c : ℕ × Claim). c.1) (picked 0 (map claim_of certs) marks) p (has-at (picked 0 (map claim_of certs) marks) k p at))
@@ -119,9 +119,10 @@ speaks_more anchors said more left right sub d =
     derives_more anchors said more (λ i x e. at-has more x (sub x (has-at said i x e))) (rules.SpeaksFor left right) d
 
 pub speaks_by_marks : (anchors : List Anchor) (certs : List Certificate) (moment : ℕ) (places : List ℕ) (marks : List Bool) (left right : Principal) → AreMarked certs moment places (length certs) marks → MaySpeak anchors (picked_claims certs marks) left right ↔ MaySpeak anchors (claims (revived certs moment places)) left right
-speaks_by_marks anchors certs moment places marks left right m =
-    (speaks_more anchors _ _ left right (λ x h. revived-taken certs moment places x (taken-picked certs moment places marks x m h)),
-    speaks_more anchors _ _ left right (λ x h. picked-taken certs moment places marks x m (taken-revived certs moment places x h)))
+speaks_by_marks anchors certs moment places marks left right m = (
+  speaks_more anchors _ _ left right (λ x h. revived-taken certs moment places x (taken-picked certs moment places marks x m h)),
+  speaks_more anchors _ _ left right (λ x h. picked-taken certs moment places marks x m (taken-revived certs moment places x h)),
+)
 
 -- the more places, the more is derivable
 pub speaks_by_more : (anchors : List Anchor) (certs : List Certificate) (moment : ℕ) (places : List ℕ) (m n : ℕ) (left right : Principal) → m ≤ n → MaySpeak anchors (claims (revived certs moment (take m places))) left right → MaySpeak anchors (claims (revived certs moment (take n places))) left right
@@ -151,7 +152,7 @@ speaks_by_all anchors certs moment places left right d = speaks_more anchors _ _
         let (c, has, says) = Contains-from_map claim_of certs x h in
         let (i, at) = at-has certs c has in
         let which : (moment < c.until) ⊎ Contains places i =
-              elim (cases_lt moment c.until) [ inl l ↦ inl l | inr le ↦ inr ((d.dead i).1 (c, at, le)) ] in
+        elim (cases_lt moment c.until) [ inl l ↦ inl l | inr le ↦ inr ((d.dead i).1 (c, at, le)) ] in
         revived-taken certs moment places x (record { place = i; cert = c; stands = at; taken = which; says = says })
 
 pub answer_by_marks : (q : Question) (anchors : List Anchor) (certs : List Certificate) (moment : ℕ) (places : List ℕ) (n : ℕ) (marks used : List Bool) (subject : Principal) (list : List Grant) (left right : Principal) (answer : Bool) →
@@ -174,8 +175,10 @@ module _ (anchors : List Anchor) (certs : List Certificate) (moment : ℕ) (plac
     where
       none : Enough 0 → ⊥
       none h = lacking (speaks_by_none anchors certs moment places left right h)
+
       all : Enough n
       all = subst (λ ps. MaySpeak anchors (claims (revived certs moment ps)) left right) (sym (ap (λ k. take k places) e ∙ take-length places)) (speaks_by_all anchors certs moment places left right d enough)
+
       some : 0 < n
       some = elim (cases_lt 0 n) [ inl lt ↦ lt | inr le ↦ let z : n ≡ 0 = omega arith in absurd (none (subst Enough z all)) ]
 

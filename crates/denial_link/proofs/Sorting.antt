@@ -1,5 +1,5 @@
 -- Keys that are sorted have their places in order.
-use Rattle.std.proofs.Common.{◌≡◌, ◌≢◌, ◌⊎◌, inl, inr, ℕ, ◌+◌, ◌++◌, ◌∷◌, [], ◌<◌, ◌≤◌, Bool, true, false, List, length, get_or, map, All, AllPairs, Contains, Some, slice_get, refl, sym, ◌∙◌, ap, subst, arith}
+use Rattle.std.proofs.Common.{◌≡◌, ◌≢◌, ◌⊎◌, inl, inr, ℕ, ◌+◌, ◌++◌, ◌∷◌, [], ◌<◌, ◌≤◌, false, List, length, get_or, map, All, AllPairs, Contains, Some, slice_get, refl, sym, ◌∙◌, ap, subst, arith}
 use Rattle.std.proofs.lemmas.Bool.{cases_lt, cases_eq}
 use Rattle.std.specs.declared.cmp.Ordering.{Ordering}
 use Rattle.std.specs.declared.cmp.Ordering.TheVariants.{Less, Equal, Greater}
@@ -12,7 +12,7 @@ use Rattle.std.proofs.lemmas.List.Edits.{swapped_from_swap, length-swap}
 use Rattle.std.proofs.lemmas.List.{get_or-map, length-map}
 use Rattle.std.proofs.lemmas.List.Elements.{All-contains, All-push, All-weaker, Contains-append_left, Contains-push}
 use Rattle.std.proofs.lemmas.List.Quantifiers.{all_pairs_push}
-use Rattle.std.proofs.lemmas.List.Sorted.{IsPermutation-keeps, All-permutation, Contains-permutation, sorted_far, ranks_by, length_permutation}
+use Rattle.std.proofs.lemmas.List.Sorted.{IsPermutation-keeps, All-permutation, Contains-permutation, sorted_far, ranks_by}
 use Rattle.std.proofs.lemmas.Option.{same_Some, slice_get_within}
 use Rattle.denial_link.proofs.Members.{Contains-from_map, Contains-to_map}
 use Rattle.stmt_codec.specs.Certificates.{Certificate, digest_of}
@@ -51,9 +51,9 @@ AreApart keys = (a b : ℕ) (d : Key) → a < length keys → b < length keys �
 pub apart_from_rising : (keys : List Key) → AllPairs (λ j k. j.2 < k.2) keys → AreApart keys
 apart_from_rising keys up a b d al bl e =
     elim (cases_lt a b) [
-      inl lt ↦ let h : (get_or keys a d).2 < (get_or keys b d).2 = up a b d lt bl in omega arith
+      | inl lt ↦ let h : (get_or keys a d).2 < (get_or keys b d).2 = up a b d lt bl in omega arith
       | inr le ↦ elim (cases_lt b a) [
-        inl lt ↦ let h : (get_or keys b d).2 < (get_or keys a d).2 = up b a d lt al in omega arith
+        | inl lt ↦ let h : (get_or keys b d).2 < (get_or keys a d).2 = up b a d lt al in omega arith
         | inr le' ↦ omega arith
       ]
     ]
@@ -85,9 +85,9 @@ swap_apart keys i j il jl apart a b d al bl e =
         let s = swapped_from_swap keys (swap keys i j) i j d il jl refl in
         let within : m < length keys = subst (λ (n : ℕ). m < n) (length-swap keys i j) ml in
         elim (cases_eq m i) [
-          inl e ↦ (j, jl, ap (λ n. get_or (swap keys i j) n d) e ∙ s.0, inl (e, refl))
+          | inl e ↦ (j, jl, ap (λ n. get_or (swap keys i j) n d) e ∙ s.0, inl (e, refl))
           | inr n ↦ elim (cases_eq m j) [
-            inl e ↦ (i, il, ap (λ n. get_or (swap keys i j) n d) e ∙ s.1, inr (inl (e, refl)))
+            | inl e ↦ (i, il, ap (λ n. get_or (swap keys i j) n d) e ∙ s.1, inr (inl (e, refl)))
             | inr o ↦ (m, within, s.2 m n o, inr (inr (n, o, refl)))
           ]
         ]
@@ -114,7 +114,7 @@ keys_push certs moment n keys c k below s d p e g = record {
     every : (i : ℕ) (b : Certificate) → i < n + 1 → slice_get certs i ≡ Some b → b.until ≤ moment → (j : Key) × Contains (keys ++ k ∷ []) j × (j.2 ≡ i)
     every i b lt t u =
         elim (cases_lt i n) [
-          inl l ↦ let (j, has, at) = below.every i b l t u in (j, Contains-append_left keys (k ∷ []) j has, at)
+          | inl l ↦ let (j, has, at) = below.every i b l t u in (j, Contains-append_left keys (k ∷ []) j has, at)
           | inr l ↦ (k, Contains-push keys k, omega (arith, p, lt, l))
         ]
 
@@ -129,12 +129,12 @@ keys_pass certs moment n keys c below s live = record {
     every : (i : ℕ) (b : Certificate) → i < n + 1 → slice_get certs i ≡ Some b → b.until ≤ moment → (j : Key) × Contains keys j × (j.2 ≡ i)
     every i b lt t u =
         elim (cases_lt i n) [
-          inl l ↦ below.every i b l t u
+          | inl l ↦ below.every i b l t u
           | inr l ↦
-            let at : i ≡ n = omega arith in
-            let same : b ≡ c = same_Some b c (sym t ∙ ap (slice_get certs) at ∙ s) in
-            let ends : b.until ≡ c.until = ap (λ (x : Certificate). x.until) same in
-            absurd (omega (arith, ends, live, u))
+              let at : i ≡ n = omega arith in
+              let same : b ≡ c = same_Some b c (sym t ∙ ap (slice_get certs) at ∙ s) in
+              let ends : b.until ≡ c.until = ap (λ (x : Certificate). x.until) same in
+              absurd (omega (arith, ends, live, u))
         ]
 
 -- ---- the places in order
@@ -150,25 +150,29 @@ goes_before certs moment x y kx ky less c d sc sd =
     let cx : kx.cert ≡ c = same_Some kx.cert c (sym kx.stands ∙ sc) in
     let cy : ky.cert ≡ d = same_Some ky.cert d (sym ky.stands ∙ sd) in
     sym (order_of x y c d
-      (kx.end ∙ ap (λ (b : Certificate). b.until) cx) (kx.digest ∙ ap digest_of cx)
-      (ky.end ∙ ap (λ (b : Certificate). b.until) cy) (ky.digest ∙ ap digest_of cy)) ∙ less
+    (kx.end ∙ ap (λ (b : Certificate). b.until) cx) (kx.digest ∙ ap digest_of cx)
+    (ky.end ∙ ap (λ (b : Certificate). b.until) cy) (ky.digest ∙ ap digest_of cy)) ∙ less
 
 pub sorted_in_order : (certs : List Certificate) (moment : ℕ) (keys ys : List Key) → KeysBelow certs moment (length certs) keys → IsPermutation keys ys → IsSorted key_cmp ys → DeadInOrder certs moment (places_of ys)
 sorted_in_order certs moment keys ys below p sorted = record { dead = λ i. (to i, from i); in_order = in_order }
   where
     sound : All (IsKeyOf certs moment) ys
     sound = All-permutation (IsKeyOf certs moment) keys ys p below.sound
+
     apart : AreApart ys
     apart = apart_permuted keys ys p (apart_from_rising keys below.rising)
+
     to : (i : ℕ) → Contains (places_of ys) i → IsDead certs moment i
     to i h =
         let (k, has, at) = Contains-from_map (λ (k : Key). k.2) ys i h in
         let of : IsKeyOf certs moment k = All-contains (IsKeyOf certs moment) ys k sound has in
         (of.cert, ap (slice_get certs) (sym at) ∙ of.stands, of.dead)
+
     from : (i : ℕ) → IsDead certs moment i → Contains (places_of ys) i
     from i (c, s, d) =
         let (k, has, at) = below.every i c (slice_get_within certs i c s) s d in
         subst (Contains (places_of ys)) at (Contains-to_map (λ (k : Key). k.2) ys k (Contains-permutation keys ys k p has))
+
     in_order : AllPairs (GoesBefore certs) (places_of ys)
     in_order i j d lt jl =
         let n : j < length ys = subst (λ (m : ℕ). j < m) (length-map ys (λ (k : Key). k.2)) jl in

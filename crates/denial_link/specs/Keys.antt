@@ -25,4 +25,3 @@ pub record KeysBelow (certs : List Certificate) (moment n : ℕ) (keys : List Ke
 pub record AreMarked (certs : List Certificate) (moment : ℕ) (places : List ℕ) (n : ℕ) (marks : List Bool) : Type 0 where
   pub count : length marks ≡ n
   pub each : (i : ℕ) (c : Certificate) → i < n → slice_get certs i ≡ Some c → (slice_get marks i ≡ Some true) ↔ ((moment < c.until) ⊎ Contains places i)
-

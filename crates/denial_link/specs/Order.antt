@@ -2,7 +2,7 @@
 --     order i c j d      the certificate c at place i against d at j: the later end first, then the lesser digest, then the lesser place
 --     IsDead certs moment i      the certificate at the place has ended
 --     DeadInOrder certs moment places      the places of all that have ended, each before those that the order has behind it
-use Rattle.std.specs.Prelude.{◌≡◌, ℕ, ◌≤◌, List, Some, slice_get, length, Contains, AllPairs, ◌↔◌}
+use Rattle.std.specs.Prelude.{◌≡◌, ℕ, ◌≤◌, List, Some, slice_get, Contains, AllPairs, ◌↔◌}
 use Rattle.std.specs.Ordering.{nat_cmp, ordering_then}
 use Rattle.std.specs.declared.cmp.Ordering.{Ordering}
 use Rattle.std.specs.declared.cmp.Ordering.TheVariants.{Less}

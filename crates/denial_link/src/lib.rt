@@ -9,3 +9,6 @@ mod revive;
 
 pub use first::first_link;
 pub use link::Link;
+
+#[cfg(test)]
+mod tests;

@@ -1,4 +1,4 @@
-use Rattle.std.proofs.Common.{◌≡◌, false, sym, ap, ◌∙◌, map, subst, arith}
+use Rattle.std.proofs.Common.{sym, ap, ◌∙◌, map, subst, arith}
 use Rattle.std.proofs.lemmas.Bool.{false≢true}
 use Rattle.std.proofs.lemmas.List.{length-map}
 use Rattle.prin_term.specs.View.{Grant, grant, principal}
@@ -30,11 +30,12 @@ loop-place-preserved g c =
     let at = entry_at c.args.list.now c.loop-place.place c.index-list-place.result c.index-list-place.is (omega arith) in
     let more = none_more (map grant c.args.list.now) c.args.right (λ (e : Grant). MayAnswer q subject e.who) c.loop-place.place (grant c.index-list-place.result) c.loop-place.invariant.1 at in
     elim c.else-entry-right-ne0.branch [
-      else-entry-right-ne0-via-then-entry-right-ne0+else-derives w ↦
-        (ap g.D.Decide.question w.bench-is ∙ w.derives.ensures.same ∙ c.loop-place.invariant.0,
-        more (λ r d. false≢true (sym w.if-derives.false ∙ w.derives.ensures.answer.1 (subst (λ (x : Question). MayAnswer x subject (principal c.index-list-place.result.who)) (sym c.loop-place.invariant.0) d))))
+      | else-entry-right-ne0-via-then-entry-right-ne0+else-derives w ↦ (
+        ap g.D.Decide.question w.bench-is ∙ w.derives.ensures.same ∙ c.loop-place.invariant.0,
+        more (λ r d. false≢true (sym w.if-derives.false ∙ w.derives.ensures.answer.1 (subst (λ (x : Question). MayAnswer x subject (principal c.index-list-place.result.who)) (sym c.loop-place.invariant.0) d))),
+      )
       | else-entry-right-ne0-via-else-entry-right-ne0 w ↦
-        (ap g.D.Decide.question w.bench-is ∙ c.loop-place.invariant.0, more (λ r d. r w.if-entry-right-ne0.false))
+          (ap g.D.Decide.question w.bench-is ∙ c.loop-place.invariant.0, more (λ r d. r w.if-entry-right-ne0.false))
     ]
 
 pub returns-clause-found : goal.returns-clause-found

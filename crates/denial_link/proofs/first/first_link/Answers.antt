@@ -1,4 +1,4 @@
-use Rattle.std.proofs.Common.{◌≡◌, length, true, replicate, map, arith, refl, sym, ◌∙◌}
+use Rattle.std.proofs.Common.{length, true, replicate, map, arith, refl, sym}
 use Rattle.std.proofs.lemmas.List.{length-map, take-replicate}
 use Rattle.std.proofs.lemmas.Option.{slice_get_within}
 use Rattle.prin_term.specs.View.{Grant, grant, principal}

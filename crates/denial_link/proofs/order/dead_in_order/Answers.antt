@@ -1,4 +1,4 @@
-use Rattle.std.proofs.Common.{◌≡◌, ◌++◌, ◌∷◌, [], ℕ, ◌+◌, ◌<◌, ◌≤◌, List, length, take, drop, get_or, map, refl, sym, ap, ◌∙◌, subst, arith}
+use Rattle.std.proofs.Common.{◌≡◌, ◌++◌, ◌∷◌, [], ℕ, ◌+◌, ◌<◌, List, length, take, drop, get_or, sym, ap, ◌∙◌, subst, arith}
 use Rattle.std.specs.List.{refill}
 use Rattle.std.specs.List.Sorted.{IsPermutation}
 use Rattle.std.proofs.Math.Seq.{take-append_seam, take-length}
@@ -15,8 +15,8 @@ refilled keys ys e = ap (λ n. take n (ys ++ drop (length ys) keys)) (sym e) ∙
 one_more : (keys now : List Key) (i : ℕ) (d : Key) (old new : List ℕ) → now ≡ keys → i < length keys → old ≡ take i (places_of keys) → new ≡ old ++ (get_or now i d).2 ∷ [] → new ≡ take (i + 1) (places_of keys)
 one_more keys now i d old new e lt o n =
     n ∙ ap (λ xs. xs ++ (get_or now i d).2 ∷ []) o ∙ ap (λ (ks : List Key). take i (places_of keys) ++ (get_or ks i d).2 ∷ []) e
-      ∙ ap (λ m. take i (places_of keys) ++ m ∷ []) (sym (get_or-map (λ (k : Key). k.2) keys i d d.2 lt))
-      ∙ sym (take_more (places_of keys) i d.2 (subst (λ m. i < m) (sym (length-map keys (λ (k : Key). k.2))) lt))
+    ∙ ap (λ m. take i (places_of keys) ++ m ∷ []) (sym (get_or-map (λ (k : Key). k.2) keys i d d.2 lt))
+    ∙ sym (take_more (places_of keys) i d.2 (subst (λ m. i < m) (sym (length-map keys (λ (k : Key). k.2))) lt))
 
 all_of : (keys ys : List Key) (places : List ℕ) (n : ℕ) → length ys ≡ length keys → n ≡ length (refill (length keys) keys ys) → places ≡ take n (places_of (refill (length keys) keys ys)) → places ≡ places_of ys
 all_of keys ys places n e l p =
@@ -33,7 +33,7 @@ returns c =
     let ys = c.sort_unstable.new.self in
     let certs = certificates c.args.certs.now in
     let below : KeysBelow certs c.args.moment (length certs) keys =
-          subst (λ n. KeysBelow certs c.args.moment n keys) (sym (certificate_count c.args.certs.now)) c.dead_keys-keys.ensures in
+    subst (λ n. KeysBelow certs c.args.moment n keys) (sym (certificate_count c.args.certs.now)) c.dead_keys-keys.ensures in
     let n : c.loop-place.place ≡ length (refill (length keys) keys ys) = omega (arith, c.len-place-end.ensures.value) in
     let value : c.deref_mut.result.now ≡ keys = c.deref_mut.ensures.value in
     let len : length ys ≡ length keys = c.sort_unstable.ensures.len ∙ ap length value in

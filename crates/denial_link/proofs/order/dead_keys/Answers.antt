@@ -1,7 +1,7 @@
-use Rattle.std.proofs.Common.{◌≡◌, ◌↔◌, ◌<◌, ◌≤◌, ℕ, inl, inr, ◌+◌, ◌++◌, ◌∷◌, [], Bool, true, false, List, slice_get, Some, length, IsTrue, refl, sym, ap, ◌∙◌, subst, arith, length-append}
+use Rattle.std.proofs.Common.{◌≡◌, ◌↔◌, ◌<◌, ◌≤◌, ℕ, inl, inr, ◌+◌, ◌++◌, ◌∷◌, [], Bool, false, List, slice_get, Some, length, IsTrue, refl, sym, ap, ◌∙◌, subst, arith, length-append}
 use Rattle.std.proofs.lemmas.Bool.{cases_lt, false≢true}
 use Rattle.stmt_codec.specs.declared.cert.Cert.{Cert}
-use Rattle.stmt_codec.specs.Certificates.{Certificate, certificate, digest_of}
+use Rattle.stmt_codec.specs.Certificates.{Certificate, digest_of}
 use Rattle.denial_link.specs.Keys.{Key, KeysBelow}
 use Rattle.denial_link.proofs.Sorting.{keys_push, keys_pass}
 use Rattle.denial_link.proofs.Places.{certificate_at}
@@ -26,13 +26,13 @@ loop-place-preserved c =
     let at = certificate_at c.args.certs.now c.loop-place.place a c.index-certs-place.is (omega arith) in
     let until : c.deref.result.now.body.until ≡ a.value.body.until = ap (λ (x : Cert). x.body.until) c.deref.ensures in
     elim c.if-not-is_live.branch [
-      then-not-is_live w ↦
-        let dead = dead_from c.is_live.result c.args.moment c.deref.result.now.body.until c.is_live.ensures w.if-not-is_live.true in
-        pushed _ _ _ _ _ _ _ c.loop-place.invariant.0 c.loop-place.invariant.1 at (omega (arith, dead, until)) refl
-        (ap (λ (x : Cert). x.body.until) w.deref-then-not-is_live.ensures)
-        (ap (λ (x : Cert). x.digest) w.deref-then-not-is_live-2.ensures ∙ a.value.digested)
-        (ap (λ v. v.items) w.keys-is ∙ w.push.ensures.items)
+      | then-not-is_live w ↦
+          let dead = dead_from c.is_live.result c.args.moment c.deref.result.now.body.until c.is_live.ensures w.if-not-is_live.true in
+          pushed _ _ _ _ _ _ _ c.loop-place.invariant.0 c.loop-place.invariant.1 at (omega (arith, dead, until)) refl
+          (ap (λ (x : Cert). x.body.until) w.deref-then-not-is_live.ensures)
+          (ap (λ (x : Cert). x.digest) w.deref-then-not-is_live-2.ensures ∙ a.value.digested)
+          (ap (λ v. v.items) w.keys-is ∙ w.push.ensures.items)
       | else-not-is_live w ↦
-        let live : c.args.moment < c.deref.result.now.body.until = c.is_live.ensures.0 w.if-not-is_live.false in
-        passed _ _ _ _ _ _ c.loop-place.invariant.0 c.loop-place.invariant.1 at (omega (arith, live, until)) (ap (λ v. v.items) w.keys-is)
+          let live : c.args.moment < c.deref.result.now.body.until = c.is_live.ensures.0 w.if-not-is_live.false in
+          passed _ _ _ _ _ _ c.loop-place.invariant.0 c.loop-place.invariant.1 at (omega (arith, live, until)) (ap (λ v. v.items) w.keys-is)
     ]
