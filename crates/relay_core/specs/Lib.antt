@@ -1,0 +1,2 @@
+pub mod Resealing
+pub mod Plans
