@@ -1,2 +1,5 @@
 pub mod Resealing
 pub mod Plans
+pub mod Messages
+pub mod Asked
+pub mod Links
