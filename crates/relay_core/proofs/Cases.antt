@@ -1,5 +1,5 @@
 -- Of the cases of resealing one holds, and that is what is said.
-use Rattle.std.proofs.Common.{◌≡◌, ◌≢◌, ◌⊎◌, ℕ, ◌+◌, ◌-◌, ◌<◌, Bool, true, false, cond, List, [], ◌∷◌, ◌++◌, length, take, drop, Option, Some, None, Result, Ok, Err, refl, sym, ap, subst, ◌∙◌, inl, inr, arith, All, get_or}
+use Rattle.std.proofs.Common.{◌≡◌, ◌≢◌, ℕ, ◌+◌, ◌-◌, ◌<◌, Bool, true, false, cond, List, ◌∷◌, ◌++◌, length, drop, Option, Some, None, Result, Ok, Err, refl, sym, ap, subst, ◌∙◌, inl, inr, arith, All, get_or}
 use Rattle.std.specs.Prelude.{nat_lt, ◌==◌, if◌then◌else◌}
 use Rattle.std.specs.Str.{bytes_eq}
 use Rattle.std.proofs.lemmas.Bool.{eqb-true, false≢true, cases_lt, cases_Bool}
@@ -23,8 +23,8 @@ use Rattle.sealed_cert.specs.Refusals.{seen_as, kind_at, ends_in_tag, carried, i
 use Rattle.sealed_cert.proofs.Opened.{IsCarried, carried_takes, issued_takes, issued_again, front_is}
 use Rattle.sealed_cert.proofs.Apart.{relayed_is_wrong}
 use Rattle.sealed_cert.proofs.Judged.{issued_unknown, issued_bad}
-use Rattle.frame_link.specs.Relay.{Said, Gave, Refuses}
-use Rattle.relay_core.specs.Resealing.{code_of, said_of, resealed, IsRelayed, IsResealed, is_given, is_of_wrong_kind, is_malformed, is_of_no_issuer, is_badly_sealed, is_for_no_node}
+use Rattle.frame_link.specs.Relay.{Said, Refuses}
+use Rattle.relay_core.specs.Resealing.{said_of, resealed, IsRelayed, IsResealed, is_given, is_of_wrong_kind, is_malformed, is_of_no_issuer, is_badly_sealed, is_for_no_node}
 
 pub bytes_are : (bytes : List ℕ) → All (λ b. b < 256) bytes → IsBytes bytes
 bytes_are bytes all i = elim (cases_lt i (length bytes)) [

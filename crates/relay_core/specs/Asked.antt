@@ -3,9 +3,11 @@ use Rattle.std.specs.Prelude.{ℕ, List, drop, Result, Ok, Err}
 use Rattle.std.specs.Int.{w32}
 use Rattle.keyed_seal.specs.Keys.{Entries}
 use Rattle.prin_term.specs.Steps.{◌>>=◌, mark_at, number_at}
+use Rattle.frame_link.specs.declared.outside.RelayAnswer.{RelayAnswer}
+use Rattle.frame_link.specs.declared.outside.RelayAnswer.TheVariants.{Resealed, Refused, NoMemory}
 use Rattle.frame_link.specs.Relay.{Said, Refuses}
 use Rattle.relay_core.specs.declared.code.TheConstants.{MALFORMED}
-use Rattle.relay_core.specs.declared.message.TheConstants.{ASK}
+use Rattle.relay_core.specs.declared.message.TheConstants.{ASK, RESEALED, NO_MEMORY}
 use Rattle.relay_core.specs.Resealing.{resealed}
 
 -- the node, and where the certificate begins
@@ -17,3 +19,9 @@ asked_at payload = do
 abbrev pub said_from : Entries → Entries → List ℕ → Result (ℕ × ℕ) ℕ → Said
 said_from issuers nodes payload (Ok x) = resealed issuers nodes x.0 (drop x.1 payload)
 said_from issuers nodes payload (Err code) = Refuses code
+
+-- the second byte of an answer
+abbrev pub second_of : RelayAnswer → ℕ
+second_of Resealed = RESEALED
+second_of (Refused code) = code
+second_of NoMemory = NO_MEMORY

@@ -11,7 +11,7 @@ use Rattle.frame_link.specs.Faults.{Rose}
 use Rattle.frame_link.specs.Frames.{frame}
 use Rattle.frame_link.specs.Next.{Takes, Puts}
 use Rattle.relay_core.specs.declared.message.TheConstants.{MAX_FRAME}
-use Rattle.relay_core.specs.Messages.{asking, IsAnswer, IsNoAnswer}
+use Rattle.relay_core.specs.Messages.{IsAnswer, IsNoAnswer}
 
 pub record Link (I O : Type 0) : Type 0 where
   pub input : I

@@ -10,12 +10,7 @@ use crate::message::{lay_asking, read_answer};
 use arrayvec::ArrayVec;
 use frame_link::{Failed, FrameBuf, Next, Put, RelayAnswer, Sink, Source, next_frame, put_frame};
 
-fn write_asking<O: Sink>(
-    output: &mut O,
-    room: &mut [u8],
-    node: u32,
-    sealed: &[u8],
-) -> Put
+fn write_asking<O: Sink>(output: &mut O, room: &mut [u8], node: u32, sealed: &[u8]) -> Put
     requires fits { length sealed.now ≤ 65531 }
     requires room { MAX_FRAME ≤ length room.old }
     ensures same_room { length room.new ≡ length room.old }

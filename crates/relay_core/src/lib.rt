@@ -8,7 +8,9 @@ mod link;
 mod local;
 mod mem;
 mod message;
+mod replying;
 mod resealing;
+mod serving;
 
 pub use code::{BAD_SEAL, MALFORMED, UNKNOWN_ISSUER, UNKNOWN_NODE, WRONG_KIND};
 pub use link::LinkRelay;
@@ -16,6 +18,7 @@ pub use local::LocalRelay;
 pub use mem::MemRelay;
 pub use message::{ANSWER, ASK, MAX_CERT, MAX_FRAME, NO_MEMORY, RESEALED};
 pub use resealing::{RelayTable, reseal};
+pub use serving::serve_relay;
 
 #[cfg(test)]
 mod tests;

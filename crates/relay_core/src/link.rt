@@ -61,6 +61,13 @@ impl<I: Source + Drop, O: Sink + Drop> LinkRelay<I, O> {
         })
     }
 
+    /// Gives the input and the output back.
+    pub fn into_parts(self) -> (I, O)
+        ensures { result ≡ (self.input, self.output) }
+    {
+        (self.input, self.output)
+    }
+
     /// How often a call has failed.
     pub fn faults(&self) -> u64
         ensures { result ≡ self.now.faults }

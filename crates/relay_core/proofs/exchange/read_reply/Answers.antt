@@ -1,5 +1,5 @@
 -- What came in an answer's place stops the link.
-use Rattle.std.proofs.Common.{ℕ, List, [], subst}
+use Rattle.std.proofs.Common.{ℕ, [], subst}
 use Rattle.frame_link.specs.declared.frame.Next.TheVariants as next
 use Rattle.frame_link.specs.Next.{Takes}
 use Rattle.relay_core.specs.Messages.{IsNoAnswer}
