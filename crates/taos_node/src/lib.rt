@@ -7,15 +7,13 @@ mod connection;
 mod decide;
 mod opening;
 mod reply;
-mod request;
 
 pub use answering::{Handled, answer};
 pub use command::{FileFault, Lane, MAX_FILE, MAX_FRAMES, taos};
 pub use connection::{MAX_REQUEST, serve_connection};
 pub use frame_link::Outcome;
 pub use opening::{ObjectPlan, Opening, OpeningFault, one_opening, read_opening};
-pub use reply::ReplyBuf;
-pub use request::{Request, request_of};
+pub use reply::{Refusal, ReplyBuf};
 
 #[cfg(test)]
 mod tests;

@@ -35,10 +35,16 @@ const DENIAL: [&str; 2] = [
     "9eebd119d6f7ae800bd3b8f0dde9a690d08a318a2a02fdaecd78e9a2a1295328",
 ];
 
+// No request has no bytes.
+const MALFORMED: [&str; 2] = ["00000032 04 00000000 0000000000000000 02 00000000", NO_SEAL];
+
+// What is not built yet is answered so to channel 1's first request.
 const UNBUILT: [&str; 2] = [
-    "0000002e 04 00000000 0000000000000000 ff",
-    "0000000000000000000000000000000000000000000000000000000000000000",
+    "0000002e 04 00000001 0000000000000001 ff",
+    "45c3e412071dc35eb7188388748d95f45ebe8d1122737cb8fbcf156ff81a1626",
 ];
+
+const NO_SEAL: &str = "0000000000000000000000000000000000000000000000000000000000000000";
 
 // One entry: all rights to name 10.
 const FOR_ALICE: &str = "01 0f 020000000a";
@@ -232,30 +238,9 @@ fn a_request_has_its_reply(rt: HostRuntime) -> Result<(), Fail> {
 }
 
 #[test]
-fn what_is_no_plain_request_has_one_reply(rt: HostRuntime) -> Result<(), Fail> {
-    let cases: [(&str, &[&str]); 5] = [
-        ("an empty payload", &["00000000"]),
-        (
-            "a turned tag",
-            &[
-                "00000034 03 00000001 0000000000000001 00 01 00000005 00",
-                "4afc9eb732af74440ece46185f2c6e4c4b5005637c8b8e7f57851cdf32e520d4",
-            ],
-        ),
-        (
-            "channel 9",
-            &[
-                "00000034 03 00000009 0000000000000001 00 01 00000005 00",
-                "64226cae64404ec9114f890b4783035ced59e7ef7d65b907c8e24cb8b40084ae",
-            ],
-        ),
-        (
-            "object 6",
-            &[
-                "00000034 03 00000001 0000000000000001 00 01 00000006 00",
-                "e4af5a58a2ca647e95d9b33320b626a032d30ae7c4cbf865f66ef9915f0db9df",
-            ],
-        ),
+fn each_refusal_has_its_reply(rt: HostRuntime) -> Result<(), Fail> {
+    let cases: [(&str, &[&str], &[&str]); 10] = [
+        ("an empty payload", &["00000000"], &MALFORMED),
         (
             "a byte behind the tag",
             &[
@@ -263,10 +248,78 @@ fn what_is_no_plain_request_has_one_reply(rt: HostRuntime) -> Result<(), Fail> {
                 "4afc9eb732af74440ece46185f2c6e4c4b5005637c8b8e7f57851cdf32e520d5",
                 "00",
             ],
+            &["00000032 04 00000000 0000000000000000 02 00000034", NO_SEAL],
+        ),
+        (
+            "channel 9",
+            &[
+                "00000034 03 00000009 0000000000000001 00 01 00000005 00",
+                "64226cae64404ec9114f890b4783035ced59e7ef7d65b907c8e24cb8b40084ae",
+            ],
+            &["00000032 04 00000000 0000000000000000 03 00000009", NO_SEAL],
+        ),
+        (
+            "a turned tag",
+            &[
+                "00000034 03 00000001 0000000000000001 00 01 00000005 00",
+                "4afc9eb732af74440ece46185f2c6e4c4b5005637c8b8e7f57851cdf32e520d4",
+            ],
+            &["0000002e 04 00000000 0000000000000000 04", NO_SEAL],
+        ),
+        (
+            "a turned tag of a request that is not built",
+            &[
+                "00000039 03 00000001 0000000000000001 01 020000001e 01 00000005 00",
+                "2077822346d90e8079b989c53fccfcb6b8017be6a1c42eae9c55c9418d3c1812",
+            ],
+            &["0000002e 04 00000000 0000000000000000 04", NO_SEAL],
+        ),
+        (
+            "channel 1 quoting name 30",
+            &[
+                "00000039 03 00000001 0000000000000001 01 020000001e 01 00000005 00",
+                "2077822346d90e8079b989c53fccfcb6b8017be6a1c42eae9c55c9418d3c1813",
+            ],
+            &UNBUILT,
+        ),
+        (
+            "a Write of `new`",
+            &[
+                "00000039 03 00000001 0000000000000001 00 02 00000005 0003 6e6577 00",
+                "6446071b6cb71d5ee3309f661b6b0819dd66e4290dc50b6f669f8a5969598ce3",
+            ],
+            &UNBUILT,
+        ),
+        (
+            "a certificate of one byte",
+            &[
+                "00000037 03 00000001 0000000000000001 00 01 00000005 01 0001 02",
+                "704502d6286bab0b9830766cf5ca3e1962f9d15a3576346e3279edfc46044f94",
+            ],
+            &UNBUILT,
+        ),
+        (
+            "a Hold of object 6",
+            &[
+                "00000034 03 00000001 0000000000000001 00 04 00000006 00",
+                "59c4bd93dc26bc7ae41a6a4aebb1e7f289aa64f00e7d35930198da50001f05d0",
+            ],
+            &UNBUILT,
+        ),
+        (
+            "object 6",
+            &[
+                "00000034 03 00000001 0000000000000001 00 01 00000006 00",
+                "e4af5a58a2ca647e95d9b33320b626a032d30ae7c4cbf865f66ef9915f0db9df",
+            ],
+            &[
+                "00000032 04 00000001 0000000000000001 09 00000006",
+                "bb5c271ccf743bb49f2137a643b36477ecc8788d5f905398658297948c394ef2",
+            ],
         ),
     ];
-    let wanted = spelled(rt.alloc(), &UNBUILT)?;
-    for (name, request) in cases {
+    for (name, request, reply) in cases {
+        let wanted = spelled(rt.alloc(), reply)?;
         let (status, written) = replied(&rt, rt.alloc(), FOR_ALICE, request)?;
         assert_eq!(rt; status, 0, "{name}");
         assert_eq!(rt; written.as_slice(), wanted.as_slice(), "{name}");
@@ -328,7 +381,7 @@ fn three(alloc: Global) -> Result<(Vec<u8>, Vec<u8>), AllocError> {
     spell(&mut input, "00000000")?;
     let mut output = spelled(alloc, &GRANT)?;
     output.append(&mut spelled(alloc, &DENIAL)?)?;
-    output.append(&mut spelled(alloc, &UNBUILT)?)?;
+    output.append(&mut spelled(alloc, &MALFORMED)?)?;
     Ok((input, output))
 }
 
@@ -349,7 +402,7 @@ fn frames_in_pieces_of_every_size_have_the_same_replies(rt: HostRuntime) -> Resu
     Ok(())
 }
 
-// The replies are of 99, 63 and 50 bytes. An empty frame has one read, and each other two.
+// The replies are of 99, 63 and 54 bytes. An empty frame has one read, and each other two.
 #[test]
 fn each_read_may_fail(rt: HostRuntime) -> Result<(), Fail> {
     let file = node_file(rt.alloc(), FOR_ALICE)?;
@@ -360,8 +413,8 @@ fn each_read_may_fail(rt: HostRuntime) -> Result<(), Fail> {
         (2, 3, 99),
         (3, 3, 99),
         (4, 3, 162),
-        (5, 3, 212),
-        (6, 0, 212),
+        (5, 3, 216),
+        (6, 0, 216),
     ] {
         let mut around = around_of(rt.alloc(), &file, &input)?;
         around.input = source_of(rt.alloc(), &input, &[at])?;
@@ -394,7 +447,7 @@ fn each_read_may_fail(rt: HostRuntime) -> Result<(), Fail> {
 fn each_write_may_fail(rt: HostRuntime) -> Result<(), Fail> {
     let file = node_file(rt.alloc(), FOR_ALICE)?;
     let (input, wanted) = three(rt.alloc())?;
-    for (at, status, len) in [(0, 4, 0), (1, 4, 99), (2, 4, 162), (3, 0, 212)] {
+    for (at, status, len) in [(0, 4, 0), (1, 4, 99), (2, 4, 162), (3, 0, 216)] {
         let mut around = around_of(rt.alloc(), &file, &input)?;
         around.output = sink_of(rt.alloc(), &[at])?;
         assert_eq!(rt;
@@ -429,7 +482,7 @@ fn a_full_output_has_a_front_of_the_reply(rt: HostRuntime) -> Result<(), Fail> {
 fn each_reading_may_fail(rt: HostRuntime) -> Result<(), Fail> {
     let file = node_file(rt.alloc(), FOR_ALICE)?;
     let (input, wanted) = three(rt.alloc())?;
-    for (at, status, len) in [(0, 5, 0), (1, 5, 99), (2, 0, 212)] {
+    for (at, status, len) in [(0, 5, 0), (1, 5, 99), (2, 0, 216)] {
         let mut around = around_of(rt.alloc(), &file, &input)?;
         let clock = clock_of(rt.alloc(), &[at])?;
         around.lanes = [Lane::of(clock, NoRelay::new(), ClosedDoor::new())];
@@ -484,7 +537,7 @@ fn a_million_frames_are_answered_and_no_more(rt: HostRuntime) -> Result<(), Fail
             status,
             "{len} bytes"
         );
-        assert_eq!(rt; around.output.written().len(), 50_000_000, "{len} bytes");
+        assert_eq!(rt; around.output.written().len(), 54_000_000, "{len} bytes");
     }
     Ok(())
 }
