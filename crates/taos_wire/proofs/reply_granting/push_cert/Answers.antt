@@ -2,7 +2,7 @@
 use Rattle.std.proofs.Common.{arith, ap, length, length-append, ◌∙◌}
 use Rattle.stmt_codec.specs.Certificates.{body_spelling, certificate}
 use Rattle.taos_wire.proofs.ShortReplies.{body_short}
-use Rattle.taos_wire.proofs.reply_writing.push_cert.Goals as goal
+use Rattle.taos_wire.proofs.reply_granting.push_cert.Goals as goal
 
 pub overflow_cast-len : goal.overflow_cast-len
 overflow_cast-len c =

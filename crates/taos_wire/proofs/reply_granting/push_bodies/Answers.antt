@@ -5,7 +5,7 @@ use Rattle.stmt_codec.specs.Certificates.{certificate}
 use Rattle.taos_wire.specs.Reply.{cert_bytes}
 use Rattle.taos_wire.specs.View.{cited}
 use Rattle.taos_wire.proofs.Pieces.{one_more, room_for_all, begun}
-use Rattle.taos_wire.proofs.reply_writing.push_bodies.Goals as goal
+use Rattle.taos_wire.proofs.reply_granting.push_bodies.Goals as goal
 
 pub returns-in_err-push_cert-clause-err : goal.returns-in_err-push_cert-clause-err
 returns-in_err-push_cert-clause-err c =

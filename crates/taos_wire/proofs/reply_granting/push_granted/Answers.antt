@@ -5,7 +5,7 @@ use Rattle.taos_wire.specs.Reply.{flag}
 use Rattle.taos_wire.specs.View.{cited}
 use Rattle.taos_wire.proofs.ReplyPieces.{granted_is}
 use Rattle.taos_wire.proofs.ShortReplies.{granted_short}
-use Rattle.taos_wire.proofs.reply_writing.push_granted.Goals as goal
+use Rattle.taos_wire.proofs.reply_granting.push_granted.Goals as goal
 
 pub returns-clause-ok : goal.returns-clause-ok
 returns-clause-ok c =
