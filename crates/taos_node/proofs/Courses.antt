@@ -7,12 +7,12 @@ use Rattle.prin_term.specs.Principal.{Principal, Key}
 use Rattle.prin_term.specs.View.{Grant}
 use Rattle.frame_link.specs.Readings.{ShowsKnown}
 use Rattle.taos_calculus.specs.declared.line.Step.{Step}
-use Rattle.taos_calculus.specs.Atoms.{IsAnchoredTo, anchor_of}
+use Rattle.taos_calculus.specs.Atoms.{IsAtom, IsAnchoredTo, anchor_of}
 use Rattle.taos_calculus.specs.Monitor.{MaySpeak}
 use Rattle.taos_calculus.specs.Rules.{Line, line, SpeaksFor, Proves, Follows, same, anchored}
 use Rattle.taos_calculus.proofs.Atoms.{atom_is_decided}
 use Rattle.taos_calculus.proofs.Induction.{All-at}
-use Rattle.taos_node.specs.Opening.{Opening, ObjectPlan, IsPlainGrant, IsPlainObject}
+use Rattle.taos_node.specs.Opening.{Opening, ObjectPlan, IsPlainObject}
 use Rattle.taos_node.specs.Messages.{Request, subject_of, Granted, Denied, NoMemory, Untold, Unbuilt, sealed, unsealed, spelling}
 use Rattle.taos_node.specs.Course.{Arrival, HasArrived, unbuilt, granted, denied, unasked}
 use Rattle.taos_node.specs.Deciding.{GivesAtom, IsFirst, IsNotFor}
@@ -25,8 +25,7 @@ use Rattle.taos_node.specs.Serving.{Takes}
 is_decided : (anchors : List Anchor) (r : Request) (object : ObjectPlan) → IsPlainObject object → (k : ℕ) (g : Grant) → slice_get object.list k ≡ Some g →
     (MaySpeak anchors [] (subject_of r) g.who → IsAnchoredTo anchors r.channel g.who) × (IsAnchoredTo anchors r.channel g.who → MaySpeak anchors [] (subject_of r) g.who)
 is_decided anchors r object plain k g stands =
-    let entry : IsPlainGrant g = All-at IsPlainGrant object.list k g plain.list stands in
-    atom_is_decided anchors r.channel g.who entry.atom
+    atom_is_decided anchors r.channel g.who (All-at (λ g. IsAtom g.who) object.list k g plain.atoms stands)
 
 -- the one line of a proof
 proves_atom : (anchors : List Anchor) (key : ℕ) (w : Principal) (step : Step) → GivesAtom anchors key w step → Proves anchors [] (line (SpeaksFor (Key key) w) step ∷ []) (SpeaksFor (Key key) w)

@@ -1,4 +1,5 @@
 pub mod OpeningFields
+pub mod OpeningCommons
 pub mod OpeningObjects
 pub mod OpeningLaws
 pub mod Lookups
@@ -14,3 +15,4 @@ pub mod Replies
 pub mod Arrivals
 pub mod SameNodes
 pub mod Commands
+pub mod Notes

@@ -11,6 +11,7 @@ use Rattle.taos_node.specs.declared.opening.Opening.{Opening}
 use Rattle.taos_node.specs.Messages as math
 use Rattle.taos_node.specs.Opening as plain
 use Rattle.taos_node.specs.Opening.{plan_of, IsPlainObject}
+use Rattle.taos_node.specs.OpeningView.{common}
 pub use Rattle.taos_node.specs.OpeningView.{plan as object}
 
 abbrev pub request : Request → math.Request
@@ -25,6 +26,7 @@ opening code = record {
   limit = code.limit;
   channels = code.channels.entries;
   anchors = code.anchors.items;
+  commons = map common code.commons.items;
   objects = map (λ e. object e.0 e.1) code.objects.entries;
 }
 
