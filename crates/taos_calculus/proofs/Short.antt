@@ -1,5 +1,5 @@
 -- How long a proof's bytes are at most.
-use Rattle.std.proofs.Common.{◌≡◌, ◌+◌, ◌*◌, ◌<◌, ◌≤◌, ◌^◌, ℕ, List, [], ◌∷◌, ◌++◌, length, arith}
+use Rattle.std.proofs.Common.{◌*◌, ◌<◌, ◌≤◌, ◌^◌, ℕ, List, [], ◌∷◌, ◌++◌, length, arith}
 use Rattle.std.specs.List.{flat_map}
 use Rattle.std.specs.Int.{w16, w32, to_be_bytes}
 use Rattle.std.proofs.lemmas.List.{length-append}
@@ -10,7 +10,7 @@ use Rattle.taos_calculus.specs.declared.line.Fact.{Fact}
 use Rattle.taos_calculus.specs.declared.line.Step.{Step}
 use Rattle.taos_calculus.specs.declared.line.Line.{Line}
 use Rattle.taos_calculus.specs.Tables.{parts_of}
-use Rattle.taos_calculus.specs.Spelling.{node_bytes, fact_bytes, premise_bytes, line_bytes, rule_byte, parts_spelling}
+use Rattle.taos_calculus.specs.Spelling.{node_bytes, fact_bytes, premise_bytes, line_bytes, parts_spelling}
 
 flat_map_short : {A : Type 0} (f : A → List ℕ) (c : ℕ) → ((x : A) → length (f x) ≤ c) → (xs : List A) → length (flat_map f xs) ≤ length xs * c
 flat_map_short f c each [] = omega arith

@@ -4,8 +4,12 @@ pub mod Tidy
 pub mod Monitor
 pub mod Atoms
 pub mod Tables
+pub mod Numbered
+pub mod Question
 pub mod Canonical
 pub mod Spelling
 pub mod Limits
 pub mod Walking
 pub mod Having
+pub mod Spells
+pub mod ProofReading

@@ -17,7 +17,7 @@ use Rattle.taos_node.specs.declared.ending.FileFault.TheVariants as fault
 use Rattle.taos_node.specs.declared.ending.FileFault.TheVariants.{Malformed, TooLarge, Unbuilt}
 use Rattle.taos_node.specs.declared.ending.Ending.TheVariants.{Served}
 use Rattle.taos_node.specs.Ending.{file_status, served_status}
-use Rattle.taos_node.specs.Command.{IsRun, IsOpeningFile, IsUnbuilt, Opens, IsMalformed, IsTooLarge, FileFails, FaultHasCause, Runs, FileDecides, EndsWell, TellsFaults, max_file, max_frames}
+use Rattle.taos_node.specs.Command.{IsRun, IsOpeningFile, IsUnbuiltOpening, Opens, IsMalformed, IsTooLarge, FileFails, FaultHasCause, Runs, FileDecides, EndsWell, TellsFaults, max_file, max_frames}
 use Rattle.taos_node.proofs.OpeningLaws.{opening_again, spelled_once}
 use Rattle.taos_node.proofs.Complete.{left_behind, all_taken, still}
 use Rattle.taos_node.proofs.SameNodes.{same_node, connection_at}
@@ -69,19 +69,19 @@ not_unbuilt NoMemory = λ e. omega (arith, e)
 -- ---- what the file decides, by what came of it
 
 module _ (file0 file1 : Option (List ℕ)) (f0 f1 : ℕ) where
-  pub decided_opened : (o : Opening) (outcome : Outcome) → Opens file0 file1 o → (IsUnbuilt o → ⊥) → FileDecides file0 f0 f1 (served_status outcome)
+  pub decided_opened : (o : Opening) (outcome : Outcome) → Opens file0 file1 o → (IsUnbuiltOpening o → ⊥) → FileDecides file0 f0 f1 (served_status outcome)
   decided_opened o outcome opened built = record {
     opens = λ bytes p told is. not_two outcome;
     refuses = λ bytes told none steady. absurd (none o (is_opened file0 file1 bytes o opened told));
     serves = λ bytes p told is built. not_unbuilt outcome;
-    lacks = λ bytes p told is unbuilt steady. absurd (built (subst IsUnbuilt (one_file bytes p o is (is_opened file0 file1 bytes o opened told)) unbuilt));
+    lacks = λ bytes p told is unbuilt steady. absurd (built (subst IsUnbuiltOpening (one_file bytes p o is (is_opened file0 file1 bytes o opened told)) unbuilt));
   }
 
-  pub decided_unbuilt : (o : Opening) → Opens file0 file1 o → IsUnbuilt o → FileDecides file0 f0 f1 99
+  pub decided_unbuilt : (o : Opening) → Opens file0 file1 o → IsUnbuiltOpening o → FileDecides file0 f0 f1 99
   decided_unbuilt o opened unbuilt = record {
     opens = λ bytes p told is e. omega (arith, e);
     refuses = λ bytes told none steady. absurd (none o (is_opened file0 file1 bytes o opened told));
-    serves = λ bytes p told is built e. built (subst IsUnbuilt (one_file bytes o p (is_opened file0 file1 bytes o opened told) is) unbuilt);
+    serves = λ bytes p told is built e. built (subst IsUnbuiltOpening (one_file bytes o p (is_opened file0 file1 bytes o opened told) is) unbuilt);
     lacks = λ bytes p told is unbuilt steady. inl refl;
   }
 
@@ -124,13 +124,13 @@ module _ (file0 file1 : Option (List ℕ)) (f0 f1 : ℕ) where
       absurd (not_malformed file0 file1 bytes o offset bad told is)
   ends_unserved in0 i0 i1 o0 o1 c0 c1 TooLarge bad cause bytes o told is built frames whole within few sf si so sc = absurd (not_too_large file0 file1 bytes o bad told is)
   ends_unserved in0 i0 i1 o0 o1 c0 c1 Unbuilt bad cause bytes o told is built frames whole within few sf si so sc =
-      absurd (built (subst IsUnbuilt (one_file bytes bad.0 o (is_opened file0 file1 bytes bad.0 bad.1 told) is) bad.2))
+      absurd (built (subst IsUnbuiltOpening (one_file bytes bad.0 o (is_opened file0 file1 bytes bad.0 bad.1 told) is) bad.2))
   ends_unserved in0 i0 i1 o0 o1 c0 c1 fault.ReadFault bad cause bytes o told is built frames whole within few sf si so sc = absurd (still f0 f1 sf cause.1)
   ends_unserved in0 i0 i1 o0 o1 c0 c1 fault.NoMemory bad cause bytes o told is built frames whole within few sf si so sc = inr refl
 
 -- ---- the connection, with what the file means
 
-pub is_served : (words : List (String Global)) (file0 file1 in0 in1 out0 out1 clock0 clock1 : Option (List ℕ)) (node : code.Opening) (o : Opening) (outcome : Outcome) → IsRun words → Opens file0 file1 o → Represents node o → (IsUnbuilt o → ⊥) →
+pub is_served : (words : List (String Global)) (file0 file1 in0 in1 out0 out1 clock0 clock1 : Option (List ℕ)) (node : code.Opening) (o : Opening) (outcome : Outcome) → IsRun words → Opens file0 file1 o → Represents node o → (IsUnbuiltOpening o → ⊥) →
     IsConnection (opening node) max_frames in0 in1 out0 out1 clock0 clock1 outcome → Runs words file0 file1 in0 in1 out0 out1 clock0 clock1 (Served outcome)
 is_served words file0 file1 in0 in1 out0 out1 clock0 clock1 node o outcome run opened r built c =
     (run, (o, opened, built, connection_at (opening node) o (same_node node o r) max_frames in0 in1 out0 out1 clock0 clock1 outcome c))

@@ -5,13 +5,11 @@ pub mod OpeningLaws
 pub mod Lookups
 pub mod Whole
 pub mod Entries
-pub mod Requests
 pub mod Listed
 pub mod Courses
 pub mod Steps
 pub mod Connections
 pub mod Complete
-pub mod Replies
 pub mod Arrivals
 pub mod SameNodes
 pub mod Commands

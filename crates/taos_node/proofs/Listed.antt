@@ -15,7 +15,7 @@ use Rattle.prin_term.specs.View.{Grant, grant}
 use Rattle.taos_calculus.specs.Atoms.{IsAtom}
 use Rattle.taos_node.specs.declared.opening.Opening as code
 use Rattle.taos_node.specs.declared.opening.ObjectPlan.{ObjectPlan}
-use Rattle.taos_node.specs.Command.{HasCompound, IsUnbuilt}
+use Rattle.taos_node.specs.Command.{HasCompound, IsUnbuiltOpening}
 use Rattle.taos_node.specs.OpeningView.{common}
 use Rattle.taos_node.specs.Opening as plain
 use Rattle.taos_node.specs.Opening.{plan_of}
@@ -49,7 +49,7 @@ pub names_more : (entries left rest : List (ℕ × ObjectPlan)) (e : ℕ × Obje
 names_more entries left rest e is atoms before all = before (subst (All NamesAtoms) (sym is) (All-cons NamesAtoms e rest atoms all))
 
 -- an object that is found has an entry that is no key and no name
-pub is_compound : (node : code.Opening) (number : ℕ) (p : ObjectPlan) (g : Grant) → get nat_cmp node.objects number ≡ Some p → Contains (map grant p.list.items) g → (IsAtom g.who → ⊥) → IsUnbuilt (opening node)
+pub is_compound : (node : code.Opening) (number : ℕ) (p : ObjectPlan) (g : Grant) → get nat_cmp node.objects number ≡ Some p → Contains (map grant p.list.items) g → (IsAtom g.who → ⊥) → IsUnbuiltOpening (opening node)
 is_compound node number p g found listed compound = inr (inr (record {
   number = number;
   object = object number p;
@@ -70,7 +70,7 @@ no_compound node all c = by (get nat_cmp node.objects c.number) refl
         let atoms : All (λ g. IsAtom g.who) (map grant p.list.items) = subst (λ (o : Option ObjectPlan). IfSome o PlanNamesAtoms) found (All-lookup PlanNamesAtoms (λ k. is_eq (nat_cmp c.number k)) node.objects.entries all) in
         c.compound (All-contains (λ g. IsAtom g.who) c.object.list c.entry (subst (λ (q : plain.ObjectPlan). All (λ g. IsAtom g.who) q.list) same atoms) c.listed)
 
-pub are_built : (node : code.Opening) → node.shards ≡ 1 → length node.commons.items ≡ 0 → All NamesAtoms node.objects.entries → IsUnbuilt (opening node) → ⊥
+pub are_built : (node : code.Opening) → node.shards ≡ 1 → length node.commons.items ≡ 0 → All NamesAtoms node.objects.entries → IsUnbuiltOpening (opening node) → ⊥
 are_built node one none all (inl other) = other one
 are_built node one none all (inr (inl some)) = omega (arith, none, some, length-map node.commons.items common)
 are_built node one none all (inr (inr c)) = no_compound node all c

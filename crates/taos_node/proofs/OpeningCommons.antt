@@ -1,5 +1,5 @@
 -- The certificates that an opening holds in common: what is read is spelled so, and the other way.
-use Rattle.std.proofs.Common.{◌≡◌, ◌≢◌, ℕ, ◌+◌, ◌*◌, ◌^◌, ◌<◌, ◌≤◌, true, false, List, [], ◌∷◌, ◌++◌, length, drop, Option, None, Some, Ok, refl, sym, ap, subst, ◌∙◌, append_assoc, arith, length-append, inl, inr}
+use Rattle.std.proofs.Common.{◌≡◌, ◌≢◌, ℕ, ◌+◌, ◌*◌, ◌^◌, ◌<◌, ◌≤◌, false, List, [], ◌∷◌, ◌++◌, length, drop, Option, None, Some, Ok, refl, sym, ap, subst, ◌∙◌, append_assoc, arith, length-append, inl, inr}
 use Rattle.std.specs.Prelude.{All, AllPairs, IfSome}
 use Rattle.std.specs.List.{flat_map}
 use Rattle.std.specs.Int.{w16, w32, w64, to_be_bytes}
@@ -9,15 +9,15 @@ use Rattle.std.proofs.lemmas.List.Elements.{All-weaker}
 use Rattle.keyed_seal.specs.Tag.{tag_of}
 use Rattle.keyed_seal.proofs.Tags.{length-tag_of}
 use Rattle.prin_term.specs.Principal.{Principal, Key, Name, And, Quoting, InRole, For, node_count, spelling}
-use Rattle.prin_term.specs.Readers.{Reader, followed, passing, is_new}
-use Rattle.prin_term.specs.Steps.{◌>>=◌, with_fault, bytes_at, counted, optional}
+use Rattle.prin_term.specs.Readers.{Reader, followed, is_new}
+use Rattle.prin_term.specs.Steps.{◌>>=◌, with_fault, bytes_at, optional}
 use Rattle.prin_term.proofs.FieldLaws.{IsBytes, TakesAt, TakesAt-then, TakesAt-within, behind, bytes_again}
-use Rattle.prin_term.proofs.ReaderLaws.{Reads, reads_bytes, reads_followed, reads_passing, reads_made, reads_as, reads_counted, is_new-All, is_new-from_All}
+use Rattle.prin_term.proofs.ReaderLaws.{Reads, reads_bytes, reads_followed, reads_passing, reads_made, reads_counted, is_new-All, is_new-from_All}
 use Rattle.prin_term.proofs.Results.{bind_ok, ok_is, with_fault_ok}
 use Rattle.sealed_cert.specs.Refusals.{opened}
 use Rattle.sealed_cert.specs.Seals.{sealed, sealed_text, IsSealed}
 use Rattle.sealed_cert.proofs.Opened.{opened_takes, opened_again}
-use Rattle.stmt_codec.specs.Certificates.{Certificate, body_spelling, IsSmall, IsWithinLimits}
+use Rattle.stmt_codec.specs.Certificates.{Certificate, IsSmall, IsWithinLimits}
 use Rattle.stmt_codec.specs.Equality.{same_certificate}
 use Rattle.stmt_codec.proofs.Equal.{same_certificate-false, same_certificate-apart}
 use Rattle.taos_node.specs.declared.opening.OpeningFault.{OpeningFault}

@@ -1,7 +1,7 @@
 -- The top call: the words, the file, and then the work.
 --     IsRun words      the one command line
 --     IsOpeningFile o bytes      a file that opens the node
---     IsUnbuilt o      an opening that reads, and is not served yet
+--     IsUnbuiltOpening o      an opening that reads, and is not served yet
 --     Runs ..      what is done, by how it ends
 --     Ends ..      the same, with the status and the note that tell it
 --     FileDecides ..      which files are refused
@@ -55,8 +55,8 @@ pub record HasCompound (o : Opening) : Type 0 where
   pub compound : IsAtom entry.who → ⊥
 
 -- other than one shard, certificates in common, or such an entry
-abbrev pub IsUnbuilt : Opening → Type 0
-IsUnbuilt o = (o.shards ≢ 1) ⊎ ((0 < length o.commons) ⊎ HasCompound o)
+abbrev pub IsUnbuiltOpening : Opening → Type 0
+IsUnbuiltOpening o = (o.shards ≢ 1) ⊎ ((0 < length o.commons) ⊎ HasCompound o)
 
 -- the file was read to its end, and opens the node
 pub record Opens (file0 file1 : Option (List ℕ)) (o : Opening) : Type 0 where
@@ -82,7 +82,7 @@ pub record IsTooLarge (file0 file1 : Option (List ℕ)) : Type 0 where
 abbrev pub FileFails : Option (List ℕ) → Option (List ℕ) → FileFault → Type 0
 FileFails file0 file1 (Malformed offset) = IsMalformed file0 file1 offset
 FileFails file0 file1 TooLarge = IsTooLarge file0 file1
-FileFails file0 file1 Unbuilt = (o : Opening) × Opens file0 file1 o × IsUnbuilt o
+FileFails file0 file1 Unbuilt = (o : Opening) × Opens file0 file1 o × IsUnbuiltOpening o
 FileFails file0 file1 fault.ReadFault = Unit {0}
 FileFails file0 file1 fault.NoMemory = Unit {0}
 
@@ -99,7 +99,7 @@ abbrev pub Runs : List (String Global) → Option (List ℕ) → Option (List �
 Runs words file0 file1 in0 in1 out0 out1 clock0 clock1 Usage = (IsRun words → ⊥) × Keeps file0 file1 × Untouched in0 in1 out0 out1 clock0 clock1
 Runs words file0 file1 in0 in1 out0 out1 clock0 clock1 (File fault) = IsRun words × FileFails file0 file1 fault × Untouched in0 in1 out0 out1 clock0 clock1
 Runs words file0 file1 in0 in1 out0 out1 clock0 clock1 (Served outcome) =
-    IsRun words × ((o : Opening) × Opens file0 file1 o × (IsUnbuilt o → ⊥) × IsConnection o max_frames in0 in1 out0 out1 clock0 clock1 outcome)
+    IsRun words × ((o : Opening) × Opens file0 file1 o × (IsUnbuiltOpening o → ⊥) × IsConnection o max_frames in0 in1 out0 out1 clock0 clock1 outcome)
 
 -- How it ended, with what was done: the status and the note, with its number, tell that ending.
 pub record Ends (words : List (String Global)) (file0 file1 in0 in1 out0 out1 clock0 clock1 notes0 notes1 : Option (List ℕ)) (n0 n1 status : ℕ) : Type 0 where
@@ -113,8 +113,8 @@ pub record Ends (words : List (String Global)) (file0 file1 in0 in1 out0 out1 cl
 pub record FileDecides (file0 : Option (List ℕ)) (f0 f1 : ℕ) (status : ℕ) : Type 0 where
   pub opens : (bytes : List ℕ) (o : Opening) → file0 ≡ Some bytes → IsOpeningFile o bytes → status ≢ 2
   pub refuses : (bytes : List ℕ) → file0 ≡ Some bytes → ((o : Opening) → IsOpeningFile o bytes → ⊥) → StandsStill f0 f1 → (status ≡ 2) ⊎ (status ≡ 6)
-  pub serves : (bytes : List ℕ) (o : Opening) → file0 ≡ Some bytes → IsOpeningFile o bytes → (IsUnbuilt o → ⊥) → status ≢ 99
-  pub lacks : (bytes : List ℕ) (o : Opening) → file0 ≡ Some bytes → IsOpeningFile o bytes → IsUnbuilt o → StandsStill f0 f1 → (status ≡ 99) ⊎ (status ≡ 6)
+  pub serves : (bytes : List ℕ) (o : Opening) → file0 ≡ Some bytes → IsOpeningFile o bytes → (IsUnbuiltOpening o → ⊥) → status ≢ 99
+  pub lacks : (bytes : List ℕ) (o : Opening) → file0 ≡ Some bytes → IsOpeningFile o bytes → IsUnbuiltOpening o → StandsStill f0 f1 → (status ≡ 99) ⊎ (status ≡ 6)
 
 -- what the clock of the first lane tells, and how often it failed
 abbrev pub told_by_first : {C R D I O : Type 0} → (C → Option (List ℕ)) → List (Lane C R D I O) → Option (List ℕ)
@@ -129,7 +129,7 @@ faults_of_first faults (lane ∷ lanes) = faults lane.clock
 -- 0, or that of want of memory.
 abbrev pub EndsWell : Option (List ℕ) → ℕ → ℕ → Option (List ℕ) → ℕ → ℕ → ℕ → ℕ → ℕ → ℕ → ℕ → Type 0
 EndsWell file0 f0 f1 in0 i0 i1 o0 o1 c0 c1 status =
-    (bytes : List ℕ) (o : Opening) → file0 ≡ Some bytes → IsOpeningFile o bytes → (IsUnbuilt o → ⊥) →
+    (bytes : List ℕ) (o : Opening) → file0 ≡ Some bytes → IsOpeningFile o bytes → (IsUnbuiltOpening o → ⊥) →
     (frames : List (List ℕ)) → in0 ≡ Some (framed frames) → All (λ p. length p ≤ max_request) frames → length frames ≤ max_frames →
     StandsStill f0 f1 → StandsStill i0 i1 → StandsStill o0 o1 → StandsStill c0 c1 → (status ≡ 0) ⊎ (status ≡ 6)
 
@@ -147,7 +147,7 @@ FileReads file0 file1 (Err fault) = FileFails file0 file1 fault
 
 -- the same for an opening that is built
 abbrev pub FileGives : Option (List ℕ) → Option (List ℕ) → Result code.Opening FileFault → Type 0
-FileGives file0 file1 (Ok node) = (o : Opening) × Opens file0 file1 o × Represents node o × (IsUnbuilt o → ⊥)
+FileGives file0 file1 (Ok node) = (o : Opening) × Opens file0 file1 o × Represents node o × (IsUnbuiltOpening o → ⊥)
 FileGives file0 file1 (Err fault) = FileFails file0 file1 fault
 
 abbrev pub FaultHasCause : ℕ → ℕ → FileFault → Type 0

@@ -1,5 +1,4 @@
 pub mod Opening
-pub mod Messages
 pub mod Course
 pub mod Run
 pub mod Meaning

@@ -1,7 +1,7 @@
 -- Reading an opening from left to right, with the first fault that is met. It is pinned from both sides by
 -- Spells (Opening.antt), which does not read: see the clauses of read_opening.
 --     opening_of bytes      the opening that the bytes spell, or the fault
-use Rattle.std.specs.Prelude.{ℕ, Bool, true, false, ◌&&◌, List, length, Result, Ok, Err, nat_le, nat_lt, ◌==◌, if◌then◌else◌}
+use Rattle.std.specs.Prelude.{ℕ, Bool, ◌&&◌, List, length, Result, Ok, Err, nat_le, nat_lt, ◌==◌, if◌then◌else◌}
 use Rattle.std.specs.Int.{w16, w32, w64}
 use Rattle.prin_term.specs.declared.term.Anchor.{Anchor}
 use Rattle.prin_term.specs.declared.fault.TermFault.{TermFault}

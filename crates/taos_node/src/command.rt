@@ -5,7 +5,7 @@ ghost use Rattle.frame_link.specs.Faults.{Rose};
 ghost use Rattle.taos_node.specs.Meaning.{opening, IsServable};
 ghost use Rattle.taos_node.specs.Run.{IsConnection, HasCauses, IsComplete};
 ghost use Rattle.taos_node.specs.Ending.{status_of};
-ghost use Rattle.taos_node.specs.Command.{IsRun, IsUnbuilt, Runs, Ends, FileReads, FileGives, FileHasCause, FileDecides, EndsWell, TellsFaults, told_by_first, faults_of_first};
+ghost use Rattle.taos_node.specs.Command.{IsRun, IsUnbuiltOpening, Runs, Ends, FileReads, FileGives, FileHasCause, FileDecides, EndsWell, TellsFaults, told_by_first, faults_of_first};
 
 use crate::connection::serve_connection;
 use crate::ending::{Ending, FileFault, status_of};
@@ -61,7 +61,7 @@ fn zeros(alloc: Global, len: usize) -> Result<Vec<u8>, AllocError>
 fn file_opening<F: Source>(alloc: Global, file: &mut F) -> Result<Opening, FileFault>
     ensures reads { FileReads (F.left file.old) (F.left file.new) result }
     ensures servable { IfOk result
-        (λ node. (IsUnbuilt (opening node) → ⊥) → IsServable (opening node)) }
+        (λ node. (IsUnbuiltOpening (opening node) → ⊥) → IsServable (opening node)) }
     ensures cause { FileHasCause (F.faults file.old) (F.faults file.new) result }
 {
     let Ok(mut room) = zeros(alloc, MAX_FILE + 1) else {

@@ -1,10 +1,11 @@
 -- Fields that every message has, read at an offset with the faults of messages.
 --     ended bytes      the fault of bytes that are lacking
+--     IsPlaceIn bytes fault      the fault's place is one of the bytes, or behind the last
 --     u8_in, u16_in, u32_in, u64_in      a number, and the offset after it
 --     within low high r      a number that lies between the two; another is refused at its first byte
 --     at_most most r      a number that is not above; another is refused at its first byte
 --     term_in nodes bytes      a term of at most so many nodes
-use Rattle.std.specs.Prelude.{ℕ, Bool, ◌&&◌, List, length, nat_le}
+use Rattle.std.specs.Prelude.{ℕ, ◌≤◌, Bool, ◌&&◌, List, length, nat_le}
 use Rattle.std.specs.Int.{w16, w32, w64}
 use Rattle.prin_term.specs.declared.fault.TermFault.{TermFault}
 use Rattle.prin_term.specs.declared.fault.TermFault.TheVariants as terms
@@ -20,6 +21,11 @@ WireReader A = Reader A WireFault
 
 abbrev pub ended : List ℕ → WireFault
 ended bytes = Malformed (length bytes)
+
+-- want of memory has no place
+abbrev pub IsPlaceIn : List ℕ → WireFault → Type 0
+IsPlaceIn bytes (Malformed o) = o ≤ length bytes
+IsPlaceIn bytes NoMemory = Unit {0}
 
 abbrev pub u8_in : List ℕ → WireReader ℕ
 u8_in bytes = byte_at (ended bytes) bytes

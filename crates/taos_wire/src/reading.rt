@@ -1,13 +1,13 @@
 //! Reading a request from its bytes.
 
-ghost use Rattle.std.specs.Prelude.{◌≡◌, ◌≤◌, [], length, map, IfOk, MatchResult};
+ghost use Rattle.std.specs.Prelude.{◌≡◌, ◌≤◌, [], length, map, IfOk, IfErr, MatchResult};
 ghost use Rattle.std.specs.Option.{option_map};
 ghost use Rattle.prin_term.specs.Readers.{made, items_behind};
 ghost use Rattle.prin_term.specs.Steps.{Gives};
 ghost use Rattle.prin_term.specs.View.{principal, grant};
 ghost use Rattle.object_core.specs.View.{operation};
 ghost use Rattle.taos_wire.specs.declared.fault.WireFault.TheVariants.{NoMemory};
-ghost use Rattle.taos_wire.specs.Fields.{ended, u8_in, u16_in, within, at_most};
+ghost use Rattle.taos_wire.specs.Fields.{ended, IsPlaceIn, u8_in, u16_in, within, at_most};
 ghost use Rattle.taos_wire.specs.Request as math;
 ghost use Rattle.taos_wire.specs.Request.{Spells};
 ghost use Rattle.taos_wire.specs.RequestReading.{origin_at, quoted_at, content_at, entry_at, list_at, fields_at, asked_at, cert_at, certs_at, request_at, request_of};
@@ -284,8 +284,9 @@ pub fn read_request(alloc: Global, bytes: &[u8]) -> Result<Request, WireFault>
     // What is spelled so is read, unless memory runs out.
     ensures only { (r : math.Request) → Spells r bytes.now
         → MatchResult result (λ x. request x ≡ r) (λ f. f ≡ NoMemory) }
-    // Which fault it is.
+    // Which fault it is, and that its place is one of the bytes, or behind the last.
     ensures exact { Gives NoMemory request result (request_of bytes.now) }
+    ensures place { IfErr result (IsPlaceIn bytes.now) }
 {
     all_of(alloc, bytes)
 }

@@ -4,7 +4,7 @@ ghost use Rattle.std.specs.Prelude.{◌↔◌, ℕ, All, Contains, map, IsTrue};
 ghost use Rattle.std.specs.Bool.{OnTrue, OnFalse};
 ghost use Rattle.prin_term.specs.View.{Grant, grant, principal};
 ghost use Rattle.taos_calculus.specs.Atoms.{IsAtom};
-ghost use Rattle.taos_node.specs.Command.{IsUnbuilt};
+ghost use Rattle.taos_node.specs.Command.{IsUnbuiltOpening};
 ghost use Rattle.taos_node.specs.Meaning.{opening};
 
 use crate::opening::Opening;
@@ -31,14 +31,14 @@ fn names_atoms(list: &[Entry]) -> bool
 
 impl Opening {
     ghost use Rattle.std.specs.Bool.{OnTrue, OnFalse};
-    ghost use Rattle.taos_node.specs.Command.{IsUnbuilt};
+    ghost use Rattle.taos_node.specs.Command.{IsUnbuiltOpening};
     ghost use Rattle.taos_node.specs.Meaning.{opening};
 
     /// Whether what it asks for is built: it has one shard and holds no certificates in common, and
     /// its lists name keys and names alone.
     pub fn is_built(&self) -> bool
-        ensures yes { OnTrue result (IsUnbuilt (opening self.now) → ⊥) }
-        ensures no { OnFalse result (IsUnbuilt (opening self.now)) }
+        ensures yes { OnTrue result (IsUnbuiltOpening (opening self.now) → ⊥) }
+        ensures no { OnFalse result (IsUnbuiltOpening (opening self.now)) }
     {
         if self.shards != 1 || !self.commons.is_empty() {
             return false;

@@ -2,7 +2,7 @@
 
 ghost use Rattle.std.specs.Prelude.{◌≡◌, ◌≤◌, ℕ, List, length, nat_le, IfOk, MatchResult};
 ghost use Rattle.taos_node.specs.declared.opening.OpeningFault.TheVariants.{NoMemory};
-ghost use Rattle.taos_node.specs.Command.{IsUnbuilt};
+ghost use Rattle.taos_node.specs.Command.{IsUnbuiltOpening};
 ghost use Rattle.taos_node.specs.Meaning.{opening, IsServable};
 ghost use Rattle.taos_node.specs.Opening.{Opening as Meaning, Spells, journal_room};
 ghost use Rattle.taos_node.specs.OpeningReading.{fields_at, opening_of};
@@ -76,7 +76,7 @@ pub fn read_opening(alloc: Global, bytes: &[u8]) -> Result<Opening, OpeningFault
     ensures only { (o : Meaning) → Spells o bytes.now
         → MatchResult result (λ x. Represents x o) (λ f. f ≡ NoMemory) }
     // What is read and built can be served.
-    ensures servable { IfOk result (λ x. (IsUnbuilt (opening x) → ⊥) → IsServable (opening x)) }
+    ensures servable { IfOk result (λ x. (IsUnbuiltOpening (opening x) → ⊥) → IsServable (opening x)) }
     // Which fault it is.
     ensures exact { Agrees Represents result (opening_of bytes.now) }
 {

@@ -1,7 +1,6 @@
-use Rattle.std.proofs.Common.{◌≡◌, ◌++◌, ◌+◌, ◌<◌, ◌≤◌, ◌^◌, ℕ, List, length, vec_capacity, subst, OnOk, OnErr, sym}
+use Rattle.std.proofs.Common.{◌≡◌, ◌++◌, ◌+◌, ◌<◌, ◌^◌, ℕ, List, length, vec_capacity, subst, OnOk, OnErr}
 use Rattle.taos_calculus.proofs.Spelled.{spelling_is}
 use Rattle.taos_calculus.proofs.Short.{parts_short}
-use Rattle.taos_calculus.specs.declared.proof.TheConstants.{MAX_NODES, MAX_LINES}
 use Rattle.taos_calculus.proofs.writing.write_proof.Goals as goal
 
 pub write_parts-requires-clause-nodes_fit : goal.write_parts-requires-clause-nodes_fit

@@ -1,5 +1,5 @@
-use Rattle.std.proofs.Common.{◌≡◌, List, ℕ, subst, sym, ◌∙◌}
-use Rattle.taos_node.specs.Notes.{note_of, IsNoted}
+use Rattle.std.proofs.Common.{List, ℕ, subst, ◌∙◌}
+use Rattle.taos_node.specs.Notes.{IsNoted}
 use Rattle.taos_node.proofs.Notes.{is_noted}
 use Rattle.taos_node.proofs.note.tell.Goals as goal
 

@@ -1,5 +1,6 @@
 use Rattle.std.proofs.Common.{arith}
 use Rattle.taos_wire.proofs.RequestLaws.{is_found, is_only}
+use Rattle.taos_wire.proofs.Places.{fault_within}
 use Rattle.taos_wire.proofs.reading.read_request.Goals as goal
 
 pub returns-clause-found : goal.returns-clause-found
@@ -7,3 +8,6 @@ returns-clause-found c = is_found c.args.bytes.now c.all_of.result (λ i. omega 
 
 pub returns-clause-only : goal.returns-clause-only
 returns-clause-only c = is_only c.args.bytes.now c.all_of.result c.all_of.ensures
+
+pub returns-clause-place : goal.returns-clause-place
+returns-clause-place c = fault_within c.args.bytes.now c.all_of.result (λ i. omega (arith, c.type_inv.bytes i)) c.all_of.ensures

@@ -1,4 +1,4 @@
-use Rattle.std.proofs.Common.{◌≡◌, All, List, length, map, sym, ap, subst, ◌∙◌, arith, inl, inr, []}
+use Rattle.std.proofs.Common.{◌≡◌, All, List, map, sym, subst, ◌∙◌, arith}
 use Rattle.std.specs.Prelude.{Contains, Some}
 use Rattle.std.specs.Ordering.{nat_cmp}
 use Rattle.std.specs.BTreeMap.{get}
@@ -20,7 +20,7 @@ returns-then-not-names_atoms-clause-no c =
     let gives = c.into_iter-number-iterator.ensures.into_iter_gives in
     let objects = c.args.self.now.objects in
     let found : get nat_cmp objects c.in-Some._number.now ≡ Some c.in-Some.plan.now =
-        All-turn deref_pair (λ e. get nat_cmp objects e.0 ≡ Some e.1) objects.entries _ _ _ _ _ _ gives.6 gives.0 c.loop-number.yielded_by c.in-Some.is c.next.ensures.steps
+    All-turn deref_pair (λ e. get nat_cmp objects e.0 ≡ Some e.1) objects.entries _ _ _ _ _ _ gives.6 gives.0 c.loop-number.yielded_by c.in-Some.is c.next.ensures.steps
     in
     let no = c.if-not-names_atoms.ensures.no in
     is_compound c.args.self.now c.in-Some._number.now c.in-Some.plan.now no.0 found (subst (λ (l : List Entry). Contains (map grant l) no.0) c.deref.ensures.value no.1) no.2

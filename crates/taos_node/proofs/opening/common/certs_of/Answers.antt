@@ -18,7 +18,7 @@ returns-in_err-cert-clause-value c =
     let before = map common c.loop.commons.items in
     let f = c.in_err-cert.field-0.0 in
     let read : (f ≡ NoMemory) ⊎ (item before c.loop.next ≡ Err f) =
-        subst (λ (l : List (Arc Cert Global)). (f ≡ NoMemory) ⊎ (item (map common l) c.loop.next ≡ Err f)) c.deref.ensures.value c.in_err-cert.ensures.value
+    subst (λ (l : List (Arc Cert Global)). (f ≡ NoMemory) ⊎ (item (map common l) c.loop.next ≡ Err f)) c.deref.ensures.value c.in_err-cert.ensures.value
     in
     rw (p.1, p.2) (stops item c.args.count c.loop.counter before c.loop.next (items_behind item c.args.count [] c.args.at) NoMemory c.in_err-cert.field-0.0 c.loop-test.true read c.loop.invariant.so_far)
 
@@ -28,7 +28,7 @@ loop-preserved c =
     let before = map common c.loop.commons.items in
     let cert = c.in_ok-cert.cert in
     let read : item before c.loop.next ≡ Ok (common cert, c.in_ok-cert.after) =
-        ap (λ (l : List (Arc Cert Global)). item (map common l) c.loop.next) (sym c.deref.ensures.value) ∙ c.in_ok-cert.ensures.value
+    ap (λ (l : List (Arc Cert Global)). item (map common l) c.loop.next) (sym c.deref.ensures.value) ∙ c.in_ok-cert.ensures.value
     in
     let pushed : map common c.push.new.self.items ≡ before ++ common cert ∷ [] = rw c.in_ok-push.ensures.items (map_push _ c.loop.commons.items cert) in
     record {
