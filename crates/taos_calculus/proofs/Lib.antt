@@ -18,6 +18,8 @@ pub mod Placed
 pub mod ProofReaders
 pub mod ProofLaws
 pub mod CutProofs
+pub mod Premises
+pub mod Checks
 pub mod Numbers
 pub mod NumberedMoving
 pub mod Asking

@@ -13,3 +13,5 @@ pub mod Walking
 pub mod Having
 pub mod Spells
 pub mod ProofReading
+pub mod Premises
+pub mod Checking

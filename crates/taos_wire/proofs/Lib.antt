@@ -6,3 +6,7 @@ pub mod CutRequests
 pub mod Places
 pub mod ShortReplies
 pub mod ReplyPieces
+pub mod Fillings
+pub mod ReplyFields
+pub mod ReplyLaws
+pub mod CutReplies

@@ -3,3 +3,4 @@ pub mod View
 pub mod Fields
 pub mod RequestReading
 pub mod Reply
+pub mod ReplyReading

@@ -9,9 +9,8 @@ ghost use Rattle.taos_wire.specs.Reply.{reply_text, sent, spelling};
 ghost use Rattle.taos_wire.specs.View.{cited};
 
 use crate::reply::MAX_CITED;
-use crate::reply_writing::{
-    DENIED, GRANTED, head_of, place_of, push_granted, push_part, push_seal,
-};
+use crate::reply_granting::push_granted;
+use crate::reply_writing::{DENIED, GRANTED, head_of, place_of, push_part, push_seal};
 use keyed_seal::Sealer;
 use prin_term::{ENTRY_NODES, Term};
 use std::alloc::AllocError;

@@ -1,26 +1,18 @@
 //! Writing a reply.
 
-ghost use Rattle.std.specs.Prelude.{◌≡◌, ◌++◌, ◌+◌, ◌<◌, ◌≤◌, ◌^◌, ◌∷◌, [], List, ℕ, Some, drop, take, length, map, vec_capacity, OnOk, OnErr};
-ghost use Rattle.std.specs.Int.{w16, w32, w64, to_be_bytes};
-ghost use Rattle.std.specs.List.{flat_map};
+ghost use Rattle.std.specs.Prelude.{◌≡◌, ◌++◌, ◌+◌, ◌<◌, ◌≤◌, ◌^◌, ◌∷◌, [], List, ℕ, drop, length, vec_capacity, OnOk, OnErr};
+ghost use Rattle.std.specs.Int.{w32, w64, to_be_bytes};
 ghost use Rattle.std.specs.Option.{option_copied};
 ghost use Rattle.prin_term.specs.Principal.{spelling as term_spelling};
-ghost use Rattle.prin_term.specs.Refusal.{FitsLimits};
 ghost use Rattle.prin_term.specs.View.{principal};
-ghost use Rattle.stmt_codec.specs.Certificates.{body_spelling, certificate};
-ghost use Rattle.taos_calculus.specs.Tables.{lines_of};
-ghost use Rattle.taos_wire.specs.Reply as math;
-ghost use Rattle.taos_wire.specs.Reply.{FitsReply, FitsLink, answered_bytes, cert_bytes, cited_bytes, fields_of, flag, granted_bytes, link_bytes, proof_bytes, reply_text, seal_of, sent, spelling, status_of};
-ghost use Rattle.taos_wire.specs.View.{cited, link, reply};
+ghost use Rattle.taos_wire.specs.Reply.{FitsReply, answered_bytes, fields_of, link_bytes, reply_text, seal_of, sent, spelling, status_of};
+ghost use Rattle.taos_wire.specs.View.{link, reply};
 
-use crate::reply::{LinkSent, MAX_CITED, Reply};
-use crate::writing::push_counted;
+use crate::reply::{LinkSent, Reply};
+use crate::reply_granting::push_granted;
 use keyed_seal::Sealer;
 use prin_term::{Term, write_term};
 use std::alloc::AllocError;
-use std::sync::Arc;
-use stmt_codec::{Cert, write_body};
-use taos_calculus::{Proof, write_proof};
 
 // The version of a reply.
 const VERSION: u8 = 4;
@@ -300,115 +292,4 @@ pub(crate) fn push_part(out: &mut Vec<u8>, entry: u8, part: &Term) -> Result<(),
 {
     out.extend_from_slice(&[MISSING, entry])?;
     write_term(out, part)
-}
-
-fn flag_of(kept: bool) -> u8
-    ensures { result ≡ flag kept }
-{
-    if kept { 1 } else { 0 }
-}
-
-// The fields of a grant.
-pub(crate) fn push_granted(
-    out: &mut Vec<u8>,
-    kept: bool,
-    entry: u8,
-    shard: u32,
-    place: u64,
-    proof: &Proof,
-    certs: &[Arc<Cert>],
-    content: &[u8],
-) -> Result<(), AllocError>
-    requires few_certs { length certs.now ≤ MAX_CITED }
-    requires short { length content.now < 2 ^ 16 }
-    ensures ok { OnOk result (out.new.items ≡ out.old.items ++ granted_bytes kept entry shard place
-        (lines_of proof.now) (map cited certs.now) content.now) }
-    ensures err { OnErr result ((more : List ℕ) × (out.new.items ≡ out.old.items ++ more)) }
-    ensures capacity { vec_capacity out.old ≤ vec_capacity out.new }
-    ensures room { OnErr result (vec_capacity out.old < length out.old.items
-        + length (granted_bytes kept entry shard place (lines_of proof.now) (map cited certs.now)
-        content.now)) }
-    ensures short { OnOk result (length (granted_bytes kept entry shard place (lines_of proof.now)
-        (map cited certs.now) content.now) < 2 ^ 25 + 2 ^ 17 + 2 ^ 16) }
-{
-    out.extend_from_slice(&[flag_of(kept), entry])?;
-    out.extend_from_slice(&place_of(shard, place))?;
-    push_proof(out, proof)?;
-    push_cited(out, certs)?;
-    push_counted(out, content)
-}
-
-// Writes bytes over those that stand at `start`.
-fn fill(out: &mut Vec<u8>, start: usize, bytes: &[u8])
-    requires within { start + length bytes.now ≤ length out.old.items }
-    ensures items { out.new.items ≡ take start out.old.items ++ bytes.now
-        ++ drop (start + length bytes.now) out.old.items }
-    ensures capacity { vec_capacity out.new ≡ vec_capacity out.old }
-{
-    out[start..start + bytes.len()].copy_from_slice(bytes);
-}
-
-// A proof behind its length.
-#[tactic(auto, unfolding(crate::specs::Reply::proof_bytes))]
-fn push_proof(out: &mut Vec<u8>, proof: &Proof) -> Result<(), AllocError>
-    ensures ok { OnOk result (out.new.items ≡ out.old.items ++ proof_bytes (lines_of proof.now)) }
-    ensures err { OnErr result ((more : List ℕ) × (out.new.items ≡ out.old.items ++ more)) }
-    ensures capacity { vec_capacity out.old ≤ vec_capacity out.new }
-    ensures room { OnErr result
-        (vec_capacity out.old < length out.old.items + length (proof_bytes (lines_of proof.now))) }
-    ensures short { OnOk result (length (proof_bytes (lines_of proof.now)) < 2 ^ 25 + 4) }
-{
-    let start = out.len();
-    out.extend_from_slice(&[0; 4])?;
-    let text = out.len();
-    write_proof(out, proof)?;
-    let len = (out.len() - text) as u32;
-    fill(out, start, &len.to_be_bytes());
-    Ok(())
-}
-
-// Certificates behind their count.
-fn push_cited(out: &mut Vec<u8>, certs: &[Arc<Cert>]) -> Result<(), AllocError>
-    requires few { length certs.now < 256 }
-    ensures ok { OnOk result (out.new.items ≡ out.old.items ++ cited_bytes (map cited certs.now)) }
-    ensures err { OnErr result ((more : List ℕ) × (out.new.items ≡ out.old.items ++ more)) }
-    ensures capacity { vec_capacity out.old ≤ vec_capacity out.new }
-    ensures room { OnErr result
-        (vec_capacity out.old < length out.old.items + length (cited_bytes (map cited certs.now))) }
-{
-    out.push(certs.len() as u8)?;
-    push_bodies(out, certs)
-}
-
-fn push_bodies(out: &mut Vec<u8>, certs: &[Arc<Cert>]) -> Result<(), AllocError>
-    ensures ok { OnOk result
-        (out.new.items ≡ out.old.items ++ flat_map cert_bytes (map cited certs.now)) }
-    ensures err { OnErr result ((more : List ℕ) × (out.new.items ≡ out.old.items ++ more)) }
-    ensures capacity { vec_capacity out.old ≤ vec_capacity out.new }
-    ensures room { OnErr result (vec_capacity out.old
-        < length out.old.items + length (flat_map cert_bytes (map cited certs.now))) }
-{
-    for cert in certs {
-        push_cert(out, cert)?;
-    }
-    Ok(())
-}
-
-// A certificate's body behind its length.
-#[tactic(auto, unfolding(crate::specs::Reply::cert_bytes))]
-fn push_cert(out: &mut Vec<u8>, cert: &Cert) -> Result<(), AllocError>
-    ensures ok { OnOk result
-        (out.new.items ≡ out.old.items ++ cert_bytes (certificate cert.now.body)) }
-    ensures err { OnErr result ((more : List ℕ) × (out.new.items ≡ out.old.items ++ more)) }
-    ensures capacity { vec_capacity out.old ≤ vec_capacity out.new }
-    ensures room { OnErr result (vec_capacity out.old
-        < length out.old.items + length (cert_bytes (certificate cert.now.body))) }
-{
-    let start = out.len();
-    out.extend_from_slice(&[0; 2])?;
-    let text = out.len();
-    write_body(out, &cert.body)?;
-    let len = (out.len() - text) as u16;
-    fill(out, start, &len.to_be_bytes());
-    Ok(())
 }

@@ -1,0 +1,6 @@
+pub mod Members
+pub mod Places
+pub mod Sorting
+pub mod Entries
+pub mod Reaching
+pub mod Reviving
