@@ -70,6 +70,7 @@ pub record IsMalformed (file0 file1 : Option (List ℕ)) (offset : ℕ) : Type 0
   pub bytes : List ℕ
   pub read : Consumes file0 file1 bytes
   pub at_end : IsAtEnd file1
+  pub short : length bytes ≤ max_file
   pub fault : opening_of bytes ≡ Err (Byte offset)
 
 -- one byte more than the most was read
@@ -125,8 +126,8 @@ abbrev pub faults_of_first : {C R D I O : Type 0} → (C → ℕ) → List (Lane
 faults_of_first faults [] = 0
 faults_of_first faults (lane ∷ lanes) = faults lane.clock
 
--- Where the file opens a node that is built, the input is whole frames, not more than may be answered, and no count rises, the status is
--- 0, or that of want of memory.
+-- Where the file opens a node that is built, the input is whole frames, not more than may be answered, and no count rises,
+-- the status is 0, or that of want of memory.
 abbrev pub EndsWell : Option (List ℕ) → ℕ → ℕ → Option (List ℕ) → ℕ → ℕ → ℕ → ℕ → ℕ → ℕ → ℕ → Type 0
 EndsWell file0 f0 f1 in0 i0 i1 o0 o1 c0 c1 status =
     (bytes : List ℕ) (o : Opening) → file0 ≡ Some bytes → IsOpeningFile o bytes → (IsUnbuiltOpening o → ⊥) →
