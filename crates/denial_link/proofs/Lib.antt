@@ -1,4 +1,5 @@
 pub mod Members
+pub mod Once
 pub mod Places
 pub mod Sorting
 pub mod Entries

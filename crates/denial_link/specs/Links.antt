@@ -31,11 +31,14 @@ NoEntryWith list right P = (k : ℕ) (e : Grant) → slice_get list k ≡ Some e
 -- where nothing is granted
 pub data IsFirstLink (anchors : List Anchor) (certs : List Certificate) (moment : ℕ) (subject : Principal)
     (list : List Grant) (right : ℕ) : Link → Type 0 where
+  -- no entry has the right
   no_entry : NoEntryWith list right (λ e. Unit {0}) → IsFirstLink anchors certs moment subject list right NoEntry
+  -- all certificates together would do for some entry with the right: the first of these, and the certificate that is needed
   expired : {k c : ℕ} (e : Grant) →
       FirstEntry list right (λ g. MaySpeak anchors (claims certs) subject g.who) k e →
       IsNeeded anchors certs moment subject e.who c →
       IsFirstLink anchors certs moment subject list right (Expired k c)
+  -- they would do for none: the first entry with the right, and the first part of it that lacks
   missing : {k n : ℕ} (e : Grant) →
       FirstEntry list right (λ g. Unit {0}) k e →
       NoEntryWith list right (λ g. MaySpeak anchors (claims certs) subject g.who) →

@@ -8,6 +8,7 @@ use Rattle.taos_calculus.specs.Monitor.{MaySpeak}
 use Rattle.denial_link.specs.Order.{DeadInOrder}
 use Rattle.denial_link.specs.Revived.{claims, revived}
 
+-- the n before c in the order are not enough with the live ones, and with c they are
 pub record IsNeeded (anchors : List Anchor) (certs : List Certificate) (moment : ℕ) (subject who : Principal) (c : ℕ) : Type 0 where
   pub n : ℕ
   pub places : List ℕ

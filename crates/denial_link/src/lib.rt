@@ -2,12 +2,14 @@
 #![tactic(auto)]
 
 mod first;
+mod laws;
 mod link;
 mod order;
 mod part;
 mod revive;
 
 pub use first::first_link;
+pub use laws::one_first_link;
 pub use link::Link;
 
 #[cfg(test)]

@@ -30,4 +30,6 @@ pub use seal::{sealed_by, sealed_with};
 pub use writing::write_request;
 
 #[cfg(test)]
+mod reply_tests;
+#[cfg(test)]
 mod tests;
