@@ -74,11 +74,11 @@ abbrev pub JoinIn : Option Node → Option Fact → Option Fact → ℕ → ℕ 
 JoinIn (Some (Node.And a b)) first second left right = IsSays first a left right × IsSays second b left right
 JoinIn _ first second left right = ⊥
 
--- the one whom it is about says so of himself
+-- the right one says so himself
 abbrev pub HandsOff : Option Fact → ℕ → ℕ → Type 0
 HandsOff says left right = IsSays says right left right
 
--- the one who is quoted says that whoever quotes him acts for him
+-- the one who is quoted says that the other acts for him
 abbrev pub Delegates : Option Node → Option Node → Option Fact → ℕ → ℕ → Type 0
 Delegates (Some (Node.Quote b a)) target says left right = (target ≡ Some (Node.For b a)) × IsSays says a left right
 Delegates _ target says left right = ⊥

@@ -1,6 +1,6 @@
 //! Fields of a proof, read at an offset.
 
-ghost use Rattle.std.specs.Prelude.{◌≡◌, ◌≤◌, ◌*◌, ◌-◌, length, IfOk};
+ghost use Rattle.std.specs.Prelude.{◌≡◌, ◌≤◌, ◌-◌, ◌/◌, min, length, IfOk};
 ghost use Rattle.taos_calculus.specs.ProofReading.{ended, byte_up_to, number_in, pair_in};
 
 use crate::fault::ProofFault;
@@ -64,8 +64,7 @@ pub(crate) fn pair_of(
 // So many, or as many as the bytes from an offset on can hold.
 pub(crate) fn room_for(bytes: &[u8], at: usize, count: usize) -> usize
     requires { at ≤ length bytes.now }
-    ensures most { result ≤ count }
-    ensures fits { result * LEAST ≤ length bytes.now - at }
+    ensures { result ≡ min count ((length bytes.now - at) / LEAST) }
 {
     let most = (bytes.len() - at) / LEAST;
     if count < most { count } else { most }

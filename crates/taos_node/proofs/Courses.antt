@@ -8,13 +8,13 @@ use Rattle.prin_term.specs.Principal.{Principal, Key}
 use Rattle.prin_term.specs.View.{Grant}
 use Rattle.frame_link.specs.Readings.{ShowsKnown}
 use Rattle.taos_calculus.specs.declared.line.Step.{Step}
-use Rattle.taos_calculus.specs.Atoms.{IsAnchoredTo, anchor_of}
+use Rattle.taos_calculus.specs.Atoms.{IsAtom, IsAnchoredTo, anchor_of}
 use Rattle.taos_calculus.specs.Monitor.{FirstEntry, Grants, MaySpeak}
 use Rattle.taos_calculus.specs.Rules.{Line, line, SpeaksFor, Proves, Follows, same, anchored}
 use Rattle.taos_calculus.proofs.Atoms.{atom_is_decided}
 use Rattle.taos_calculus.proofs.Induction.{All-at}
 use Rattle.taos_wire.specs.Request.{Request}
-use Rattle.taos_node.specs.Opening.{Opening, ObjectPlan, IsPlainGrant, IsPlainObject}
+use Rattle.taos_node.specs.Opening.{Opening, ObjectPlan, IsPlainObject}
 use Rattle.taos_wire.specs.Reply.{Granted, Denied, NoMemory, Untold, Sent, sealed, spelling}
 use Rattle.taos_node.specs.Course.{IsUnbuilt, Arrival, HasArrived, Course, granted, denied, unruled}
 use Rattle.taos_node.specs.Deciding.{read_right, GivesAtom, IsFirst, IsNotFor}
@@ -28,8 +28,7 @@ use Rattle.taos_node.proofs.Arrivals.{speaks_itself, only_reads}
 is_decided : (anchors : List Anchor) (key : ℕ) (object : ObjectPlan) → IsPlainObject object → (k : ℕ) (g : Grant) → slice_get object.list k ≡ Some g →
     (MaySpeak anchors [] (Key key) g.who → IsAnchoredTo anchors key g.who) × (IsAnchoredTo anchors key g.who → MaySpeak anchors [] (Key key) g.who)
 is_decided anchors key object plain k g stands =
-    let entry : IsPlainGrant g = All-at IsPlainGrant object.list k g plain.list stands in
-    atom_is_decided anchors key g.who entry.atom
+    atom_is_decided anchors key g.who (All-at (λ g. IsAtom g.who) object.list k g plain.atoms stands)
 
 abbrev FirstFor : List Anchor → Principal → ℕ → List Grant → ℕ → Grant → Type 0
 FirstFor anchors subject right list place g = FirstEntry list right (λ h. MaySpeak anchors [] subject h.who) place g

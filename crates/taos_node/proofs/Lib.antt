@@ -1,4 +1,5 @@
 pub mod OpeningFields
+pub mod OpeningCommons
 pub mod OpeningObjects
 pub mod OpeningLaws
 pub mod Lookups
@@ -12,3 +13,4 @@ pub mod Complete
 pub mod Arrivals
 pub mod SameNodes
 pub mod Commands
+pub mod Notes

@@ -5,6 +5,8 @@ pub mod Meaning
 pub mod Deciding
 pub mod Ruling
 pub mod Serving
+pub mod Ending
+pub mod Notes
 pub mod Command
 pub mod OpeningReading
 pub mod OpeningView

@@ -12,6 +12,7 @@ use Rattle.taos_node.specs.declared.reply.Refusal.TheVariants as code
 use Rattle.taos_wire.specs.Reply.{Reply, Malformed, UnknownChannel, BadSeal, UnknownObject, NoMemory, Unbuilt}
 use Rattle.taos_node.specs.Opening as plain
 use Rattle.taos_node.specs.Opening.{plan_of, IsPlainObject}
+use Rattle.taos_node.specs.OpeningView.{common}
 pub use Rattle.taos_node.specs.OpeningView.{plan as object}
 
 abbrev pub refusal : Refusal → Reply
@@ -31,6 +32,7 @@ opening node = record {
   limit = node.limit;
   channels = node.channels.entries;
   anchors = node.anchors.items;
+  commons = map common node.commons.items;
   objects = map (λ e. object e.0 e.1) node.objects.entries;
 }
 

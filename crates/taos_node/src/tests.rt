@@ -1,3 +1,7 @@
+ghost use Rattle.std.specs.Prelude.{IfOk};
+ghost use Rattle.taos_node.specs.Command.{IsUnbuiltOpening};
+ghost use Rattle.taos_node.specs.Meaning.{opening, IsServable};
+
 use super::*;
 use frame_link::{ClosedDoor, MemClock, MemSink, MemSource, NoRelay};
 use std::alloc::{AllocError, Global};
@@ -69,7 +73,7 @@ fn spell(out: &mut Vec<u8>, digits: &str) -> Result<(), AllocError> {
     Ok(())
 }
 
-fn spelled(alloc: Global, parts: &[&str]) -> Result<Vec<u8>, AllocError> {
+pub(crate) fn spelled(alloc: Global, parts: &[&str]) -> Result<Vec<u8>, AllocError> {
     let mut bytes = Vec::new(alloc);
     for part in parts {
         spell(&mut bytes, part)?;
@@ -108,6 +112,18 @@ fn node_file(alloc: Global, list: &str) -> Result<Vec<u8>, AllocError> {
     spell(&mut bytes, "00 0001 00000005 0005 68656c6c6f")?;
     spell(&mut bytes, list)?;
     Ok(bytes)
+}
+
+// The opening, where it is built.
+fn built(node: Opening) -> Result<Opening, Fail>
+    requires { (IsUnbuiltOpening (opening node) → ⊥) → IsServable (opening node) }
+    ensures { IfOk result (λ node. IsServable (opening node)) }
+{
+    if node.is_built() {
+        Ok(node)
+    } else {
+        Err("not built".into())
+    }
 }
 
 // What stands round a run.
@@ -334,8 +350,25 @@ fn no_other_words_run(rt: HostRuntime) -> Result<(), Fail> {
     for words in cases {
         let mut around = around_of(rt.alloc(), &file, &[])?;
         assert_eq!(rt; call(&rt, rt.alloc(), words, &mut around)?, 1, "{words:?}");
+        let note = around.notes.written();
+        assert_eq!(rt; note, b"taos: usage\n".as_slice(), "{words:?}");
     }
     Ok(())
+}
+
+fn zeros(alloc: Global, len: usize) -> Result<Vec<u8>, AllocError> {
+    vec![in alloc; 0; len]
+}
+
+// What comes of a file, and its note.
+fn noted<W: Threads + Wait + Sync>(
+    rt: &W,
+    alloc: Global,
+    file: &[u8],
+) -> Result<(u8, Vec<u8>), AllocError> {
+    let mut around = around_of(alloc, file, &[])?;
+    let status = call(rt, alloc, &["run"], &mut around)?;
+    Ok((status, around.notes.written().to_vec(alloc)?))
 }
 
 #[test]
@@ -344,14 +377,120 @@ fn a_file_that_opens_no_node_is_refused(rt: HostRuntime) -> Result<(), Fail> {
     shorter.pop();
     let mut longer = small_file(rt.alloc())?;
     longer.push(0)?;
-    let files: [&[u8]; 3] = [&[], shorter.as_slice(), longer.as_slice()];
-    for bytes in files {
-        let mut around = around_of(rt.alloc(), bytes, &[])?;
+    let files: [(&[u8], &[u8]); 3] = [
+        (&[], b"taos: node file: byte 0: malformed\n"),
+        (shorter.as_slice(), b"taos: node file: byte 63: malformed\n"),
+        (longer.as_slice(), b"taos: node file: byte 64: malformed\n"),
+    ];
+    for (bytes, wanted) in files {
+        let (status, note) = noted(&rt, rt.alloc(), bytes)?;
+        assert_eq!(rt; status, 2, "{bytes:?}");
+        assert_eq!(rt; note.as_slice(), wanted, "{bytes:?}");
+    }
+    let large = zeros(rt.alloc(), MAX_FILE + 1)?;
+    let (status, note) = noted(&rt, rt.alloc(), &large)?;
+    assert_eq!(rt; status, 2);
+    assert_eq!(rt;
+        note.as_slice(),
+        b"taos: node file: line 0: limit\n".as_slice()
+    );
+    Ok(())
+}
+
+#[test]
+fn an_opening_that_is_not_built_is_answered_so(rt: HostRuntime) -> Result<(), Fail> {
+    // Two shards; a certificate in common; an entry for name 10 in role 1.
+    let shards = "00000002 0000000000000e10 0000000000004000 0000 00 00 0000";
+    let common = [
+        "00000001 0000000000000e10 0000000000004000 0000 00 01",
+        "0041 02 01 00000001 00 0100000002 020000000a 00000000000007d0 0000000000000001",
+        "22f512cd8f27327c1e0e348919e951e406ff1789829adff76908eeb41ce4f867 0000",
+    ];
+    let compound = [
+        "00000001 0000000000000e10 0000000000004000 0000 00 00",
+        "0001 00000005 0000 01 01 05 020000000a 00000001",
+    ];
+    let cases: [&[&str]; 3] = [&[shards], &common, &compound];
+    for tail in cases {
+        let mut file = spelled(rt.alloc(), &["0001 00000007"])?;
+        file.extend_from_slice(&[7; 32])?;
+        file.append(&mut spelled(rt.alloc(), tail)?)?;
+        let (status, note) = noted(&rt, rt.alloc(), &file)?;
+        assert_eq!(rt; status, 99, "{tail:?}");
         assert_eq!(rt;
-            call(&rt, rt.alloc(), &["run"], &mut around)?,
-            2,
-            "{bytes:?}"
+            note.as_slice(),
+            b"taos: not built\n".as_slice(),
+            "{tail:?}"
         );
+    }
+    Ok(())
+}
+
+#[test]
+fn each_ending_has_its_status_and_its_note(rt: HostRuntime) -> Result<(), Fail> {
+    let offset = 38;
+    let cases: [(Ending, u8, &[u8]); 14] = [
+        (Ending::Usage, 1, b"taos: usage\n"),
+        (Ending::File(FileFault::ReadFault), 3, b"taos: read fault\n"),
+        (
+            Ending::File(FileFault::Malformed { offset }),
+            2,
+            b"taos: node file: byte 38: malformed\n",
+        ),
+        (
+            Ending::File(FileFault::TooLarge),
+            2,
+            b"taos: node file: line 0: limit\n",
+        ),
+        (Ending::File(FileFault::Unbuilt), 99, b"taos: not built\n"),
+        (Ending::File(FileFault::NoMemory), 6, b"taos: no memory\n"),
+        (Ending::Served(Outcome::End { frames: 3 }), 0, b""),
+        (
+            Ending::Served(Outcome::Truncated { have: 3 }),
+            7,
+            b"taos: input ends inside a frame, 3 bytes kept\n",
+        ),
+        (
+            Ending::Served(Outcome::TooLong { length: 65_537 }),
+            8,
+            b"taos: frame too long: 65537\n",
+        ),
+        (Ending::Served(Outcome::ReadFault), 3, b"taos: read fault\n"),
+        (
+            Ending::Served(Outcome::WriteFault),
+            4,
+            b"taos: write fault\n",
+        ),
+        (
+            Ending::Served(Outcome::ClockFault),
+            5,
+            b"taos: clock fault\n",
+        ),
+        (
+            Ending::Served(Outcome::Spent { frames: 1_000_000 }),
+            10,
+            b"taos: frames spent: 1000000\n",
+        ),
+        (Ending::Served(Outcome::NoMemory), 6, b"taos: no memory\n"),
+    ];
+    for (ending, status, note) in cases {
+        let mut notes = sink_of(rt.alloc(), &[])?;
+        tell(&mut notes, ending);
+        assert_eq!(rt; notes.written(), note, "{ending:?}");
+        assert_eq!(rt; status_of(ending), status, "{ending:?}");
+    }
+    Ok(())
+}
+
+#[test]
+fn a_note_that_fails_is_cut_and_changes_no_status(rt: HostRuntime) -> Result<(), Fail> {
+    let cases: [(usize, &[u64], &[u8]); 3] = [(1000, &[0], b""), (5, &[], b"taos:"), (0, &[], b"")];
+    for (room, fails, wanted) in cases {
+        let mut around = around_of(rt.alloc(), &[], &[])?;
+        around.notes = MemSink::new(rt.alloc(), room, fails.to_vec(rt.alloc())?)?;
+        assert_eq!(rt; call(&rt, rt.alloc(), &["run"], &mut around)?, 2, "{room}");
+        assert_eq!(rt; around.notes.written(), wanted, "{room}");
+        assert_eq!(rt; around.notes.faults(), 1, "{room}");
     }
     Ok(())
 }
@@ -388,7 +527,7 @@ fn three(alloc: Global) -> Result<(Vec<u8>, Vec<u8>), AllocError> {
 #[test]
 fn frames_in_pieces_of_every_size_have_the_same_replies(rt: HostRuntime) -> Result<(), Fail> {
     let alloc = rt.alloc();
-    let node = read_opening(alloc, &node_file(alloc, FOR_ALICE)?)?;
+    let node = built(read_opening(alloc, &node_file(alloc, FOR_ALICE)?)?)?;
     let (bytes, wanted) = three(alloc)?;
     for size in 1..=bytes.len() {
         let pieces = vec![in alloc; size; 200]?;
@@ -503,7 +642,7 @@ fn each_reading_may_fail(rt: HostRuntime) -> Result<(), Fail> {
 #[test]
 fn frames_behind_the_last_are_not_answered(rt: HostRuntime) -> Result<(), Fail> {
     let alloc = rt.alloc();
-    let node = read_opening(alloc, &node_file(alloc, FOR_ALICE)?)?;
+    let node = built(read_opening(alloc, &node_file(alloc, FOR_ALICE)?)?)?;
     let wanted = spelled(alloc, &GRANT)?;
     let once = spelled(alloc, &BY_ONE)?;
     let mut twice = spelled(alloc, &BY_ONE)?;
