@@ -13,7 +13,7 @@ use Rattle.taos_calculus.proofs.Naming.{ordered_reads, length-principals_of}
 use Rattle.stmt_codec.proofs.Same.{same_principal-itself}
 
 -- no element comes again
-abbrev Apart : List Principal → Type 0
+abbrev pub Apart : List Principal → Type 0
 Apart [] = Unit {0}
 Apart (p ∷ ps) = All (λ q. q ≢ p) ps × Apart ps
 
@@ -21,14 +21,14 @@ Apart-cond : (b : Bool) (p : Principal) (xs : List Principal) → All (λ q. q �
 Apart-cond true p xs h a = (h, a)
 Apart-cond false p xs h a = a
 
-Apart-filter : (t : Principal → Bool) (ps : List Principal) → Apart ps → Apart (filter t ps)
+pub Apart-filter : (t : Principal → Bool) (ps : List Principal) → Apart ps → Apart (filter t ps)
 Apart-filter t [] a = tt
 Apart-filter t (p ∷ ps) a = Apart-cond (t p) p (filter t ps) (All-filter t (λ q. q ≢ p) ps a.0) (Apart-filter t ps a.1)
 
 differs : (p q : Principal) → not (same_principal q p) ≡ true → q ≢ p
 differs p q t e = both_ways (same_principal q p) (not-true (same_principal q p) t) (subst (λ (x : Principal). same_principal q x ≡ true) e (same_principal-itself q))
 
-Apart-first_of_each : (ps : List Principal) → Apart (first_of_each ps)
+pub Apart-first_of_each : (ps : List Principal) → Apart (first_of_each ps)
 Apart-first_of_each [] = tt
 Apart-first_of_each (p ∷ ps) = (
   All-weaker (λ q. not (same_principal q p) ≡ true) (λ q. q ≢ p) (differs p) (filter (λ q. not (same_principal q p)) (first_of_each ps))

@@ -332,7 +332,7 @@ module _ (nodes : List Node) (table : IsNodeTable nodes) (anchors : List Anchor)
       let fits : k < length (principals_of nodes) = omega (arith, h, length-principals_of nodes) in
       (k, fits, sym (get_or_default (principals_of nodes) k (Key 0) q fits) ∙ e)
 
-  numbered_operands : (q : Principal) → Numbered q → All Numbered (operands q)
+  pub numbered_operands : (q : Principal) → Numbered q → All Numbered (operands q)
   numbered_operands (Key k) u = All-nil Numbered
   numbered_operands (Name k) u = All-nil Numbered
   numbered_operands (And a b) (i, h, e) =
