@@ -3,12 +3,17 @@
 
     load.py write OPENING FRAMES [COUNT [LIMIT]]
     load.py check REPLIES COUNT
+    load.py write-large FRAMES COUNT LENGTH
+    load.py check-large REPLIES COUNT
 
 The opening has node 7, one shard, channel 1, anchor 1 -> 10 and object 5 with `hello`, whose list
 grants all rights to name 10. Each frame is a Read of object 5 by channel 1; the sequence numbers
 go from 1. Key n is 32 bytes of value n. LIMIT is the journal limit of shard and object: a service
 that keeps journals refuses what is above it. `check` looks at each reply's length, channel,
 sequence number, status and tag, and fails unless all COUNT are grants.
+
+A large request has LENGTH bytes, at most 65,536: a Hold that presents 16 certificates, which are
+bytes of no form. It is read whole, and `check-large` fails unless each answer is status 255, sealed.
 """
 import hashlib
 import hmac
@@ -17,6 +22,9 @@ import sys
 
 COUNT, LIMIT = 200_000, 16_384
 CHANNEL, NAME, OBJECT = 1, 10, 5
+GRANTED, UNBUILT = 0, 255
+READ, HOLD = 1, 4
+CERTIFICATES = 16
 
 
 def key(number):
@@ -41,10 +49,17 @@ def opening(limit):
     return b"".join(fields)
 
 
-def frame(seq):
-    body = struct.pack(">BIQBBIB", 3, CHANNEL, seq, 0, 1, OBJECT, 0)
+def frame(seq, operation=READ, certificates=()):
+    body = struct.pack(">BIQBBIB", 3, CHANNEL, seq, 0, operation, OBJECT, len(certificates))
+    body += b"".join(struct.pack(">H", len(text)) + text for text in certificates)
     payload = body + tag(CHANNEL, body)
     return struct.pack(">I", len(payload)) + payload
+
+
+def certificates_of(length):
+    """Certificates that take so many bytes with their lengths; the last has what is left over."""
+    each, more = divmod(length - 2 * CERTIFICATES, CERTIFICATES)
+    return [bytes(each)] * (CERTIFICATES - 1) + [bytes(each + more)]
 
 
 def write(opening_path, frames_path, count=COUNT, limit=LIMIT):
@@ -55,10 +70,18 @@ def write(opening_path, frames_path, count=COUNT, limit=LIMIT):
             out.write(frame(seq))
 
 
-def check(path, count):
+def write_large(frames_path, count, length):
+    empty = len(frame(1, HOLD)) - 4
+    certificates = certificates_of(int(length) - empty)
+    with open(frames_path, "wb") as out:
+        for seq in range(1, int(count) + 1):
+            out.write(frame(seq, HOLD, certificates))
+
+
+def check(path, count, wanted=GRANTED):
     with open(path, "rb") as replies:
         data = replies.read()
-    at, granted, statuses = 0, 0, {}
+    at, sealed, statuses = 0, 0, {}
     for seq in range(1, int(count) + 1):
         if at + 4 > len(data):
             break
@@ -70,11 +93,11 @@ def check(path, count):
         status = payload[13]
         statuses[status] = statuses.get(status, 0) + 1
         head = payload[:13] == struct.pack(">BIQ", 4, CHANNEL, seq)
-        if status == 0 and head and payload[-32:] == tag(CHANNEL, payload[:-32]):
-            granted += 1
+        if status == wanted and head and payload[-32:] == tag(CHANNEL, payload[:-32]):
+            sealed += 1
     told = ", ".join(f"{n} of status {status}" for status, n in sorted(statuses.items()))
-    print(f"replies: {told or 'none'}; {granted} sealed grants of {count}")
-    return 0 if granted == int(count) and at == len(data) else 1
+    print(f"replies: {told or 'none'}; {sealed} of {count} are status {wanted} with the right tag")
+    return 0 if sealed == int(count) and at == len(data) else 1
 
 
 def main(words):
@@ -83,6 +106,11 @@ def main(words):
         return 0
     if words[:1] == ["check"] and len(words) == 3:
         return check(words[1], words[2])
+    if words[:1] == ["write-large"] and len(words) == 4:
+        write_large(*words[1:])
+        return 0
+    if words[:1] == ["check-large"] and len(words) == 3:
+        return check(words[1], words[2], UNBUILT)
     print(__doc__, end="", file=sys.stderr)
     return 2
 

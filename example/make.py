@@ -21,6 +21,7 @@ REQUESTS = [
     (1, 1, 5, False),  # key 1 is anchored to name 10, which is listed
     (2, 1, 5, False),  # key 2 is anchored to no name
     (1, 2, 5, True),  # nobody sealed this
+    (1, 3, 6, False),  # no such object
 ]
 
 

@@ -114,6 +114,26 @@ def denial(fields):
     return "denial"
 
 
+# What each refusal says: its name, and the width of the number behind it.
+REFUSALS = {
+    2: ("malformed, at byte", 4),
+    3: ("unknown channel", 4),
+    4: ("bad seal", 0),
+    9: ("unknown object", 4),
+    11: ("no memory", 0),
+    255: ("not built", 0),
+}
+# These come before the seal of a request is found right, and NO_MEMORY may.
+UNSEALED, NO_MEMORY = (2, 3, 4), 11
+
+
+def refusal(status, fields):
+    if status not in REFUSALS:
+        raise ValueError(f"a reply of status {status}")
+    name, width = REFUSALS[status]
+    return f"refusal: {name} {fields.number(width)}" if width else f"refusal: {name}"
+
+
 def reply(payload, keys):
     """A reply in words, and whether its tag is what it should be."""
     if len(payload) < TAG:
@@ -122,20 +142,18 @@ def reply(payload, keys):
     fields = Bytes(text)
     if fields.number(1) != 4:
         raise ValueError("a reply of another version")
-    channel, _, status = fields.number(4), fields.number(8), fields.number(1)
+    channel, seq, status = fields.number(4), fields.number(8), fields.number(1)
     if status == 0:
         said = grant(fields)
     elif status == 1:
         said = denial(fields)
-    elif status == 11:
-        said = "no memory"
-    elif status == 255:
-        said = "refused (not built)"
     else:
-        raise ValueError(f"a reply of status {status}")
+        said = refusal(status, fields)
     fields.end()
-    if status == 255 and sealed == bytes(TAG):
+    if (channel, seq, sealed) == (0, 0, bytes(TAG)) and (status in UNSEALED or status == NO_MEMORY):
         return f"{said}; not sealed", True
+    if status in UNSEALED:
+        return f"{said}; SEALED, WHICH IT SHOULD NOT BE", False
     if channel in keys and hmac.compare_digest(sealed, hmac.new(keys[channel], text, hashlib.sha256).digest()):
         return f"{said}; the tag checks under the key of channel {channel}", True
     return f"{said}; THE TAG DOES NOT CHECK under the key of channel {channel}", False

@@ -9,3 +9,4 @@ pub mod Once
 pub mod Cuts
 pub mod Prefixes
 pub mod Members
+pub mod Equal

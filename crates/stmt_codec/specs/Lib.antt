@@ -4,3 +4,4 @@ pub mod Faults
 pub mod Reading
 pub mod Seen
 pub mod Unique
+pub mod Equality

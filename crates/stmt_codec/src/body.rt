@@ -1,5 +1,12 @@
 //! What a certificate says.
 
+ghost use Rattle.std.specs.Prelude.{◌≡◌};
+ghost use Rattle.std.specs.Option.{option_map};
+ghost use Rattle.prin_term.specs.View.{principal};
+ghost use Rattle.stmt_codec.specs.Certificates.{certificate};
+ghost use Rattle.stmt_codec.specs.Equality.{same_quoted, same_certificate};
+
+use crate::distinct::same;
 use prin_term::{Statement, Term};
 
 /// What the key `issuer` says, alone or quoting another principal. It ends at `until`, a moment in
@@ -11,4 +18,40 @@ pub struct CertBody {
     pub statement: Statement,
     pub until: u64,
     pub serial: u64,
+}
+
+impl CertBody {
+    ghost use Rattle.std.specs.Prelude.{◌≡◌, ◌↔◌, IsTrue};
+    ghost use Rattle.stmt_codec.specs.Certificates.{certificate};
+    ghost use Rattle.stmt_codec.specs.Equality.{same_certificate};
+
+    /// Whether the two say the same.
+    pub fn same(&self, other: &CertBody) -> bool
+        ensures equal { IsTrue result ↔ (certificate self.now ≡ certificate other.now) }
+        ensures test { result ≡ same_certificate (certificate self.now) (certificate other.now) }
+    {
+        is_same(self, other)
+    }
+}
+
+fn same_quoted(quoted: &Option<Term>, other: &Option<Term>) -> bool
+    ensures { result ≡ same_quoted (option_map principal quoted.now)
+        (option_map principal other.now) }
+{
+    match (quoted, other) {
+        (None, None) => true,
+        (Some(term), Some(with)) => same(term, with),
+        _ => false,
+    }
+}
+
+fn is_same(body: &CertBody, other: &CertBody) -> bool
+    ensures { result ≡ same_certificate (certificate body.now) (certificate other.now) }
+{
+    body.issuer == other.issuer
+        && same_quoted(&body.quoted, &other.quoted)
+        && same(&body.statement.left, &other.statement.left)
+        && same(&body.statement.right, &other.statement.right)
+        && body.until == other.until
+        && body.serial == other.serial
 }

@@ -11,7 +11,7 @@ ghost use Rattle.prin_term.specs.Principal.{Quoting};
 use crate::limits::MAX_DISTINCT;
 use prin_term::Term;
 
-fn same(term: &Term, other: &Term) -> bool
+pub(crate) fn same(term: &Term, other: &Term) -> bool
     ensures { result ≡ same_principal (principal term.now) (principal other.now) }
 {
     term.same(other)

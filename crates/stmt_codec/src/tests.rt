@@ -90,6 +90,17 @@ fn a_quoting_speaker_is_read_and_written_back(rt: HostRuntime) -> Result<(), Fai
 }
 
 #[test]
+fn a_body_is_the_same_as_itself_alone(rt: HostRuntime) -> Result<(), Fail> {
+    let (first, _) = read_body(rt.alloc(), &HAND_OFF, 0)?;
+    let (again, _) = read_body(rt.alloc(), &HAND_OFF, 0)?;
+    let (other, _) = read_body(rt.alloc(), &QUOTING, 0)?;
+    assert!(rt; first.body.same(&again.body));
+    assert!(rt; !first.body.same(&other.body));
+    assert!(rt; !other.body.same(&first.body));
+    Ok(())
+}
+
+#[test]
 fn a_certificate_ends_at_its_moment(rt: HostRuntime) -> Result<(), Fail> {
     let (cert, _) = read_body(rt.alloc(), &HAND_OFF, 0)?;
     assert!(rt; cert.is_live(1999));

@@ -10,11 +10,12 @@ use Rattle.taos_calculus.specs.declared.line.Node.{Node}
 use Rattle.taos_calculus.specs.declared.line.Fact.{Fact}
 use Rattle.taos_calculus.specs.declared.line.Line.{Line}
 use Rattle.taos_calculus.specs.Tables.{IsNodeTable, IsBelow, principals_of, named, judgement, meaning, parts_of, lines_of}
-use Rattle.taos_calculus.specs.Canonical.{IsCanonical, post_order, terms_of, first_of_each, canonical_table}
-use Rattle.taos_calculus.specs.Walking.{met, numbers_in, parts_under, Reaches, Strays}
+use Rattle.stmt_codec.specs.Distinct.{first_of_each, met}
+use Rattle.taos_calculus.specs.Canonical.{IsCanonical, post_order, terms_of, canonical_table}
+use Rattle.taos_calculus.specs.Walking.{numbers_in, parts_under, Reaches, Strays}
 use Rattle.taos_calculus.proofs.Induction.{All-two}
 use Rattle.taos_calculus.proofs.Naming.{length-principals_of}
-use Rattle.taos_calculus.proofs.Firsts.{first_of_each-met}
+use Rattle.stmt_codec.proofs.Firsts.{first_of_each-met}
 use Rattle.taos_calculus.proofs.Walks.{All-front, All-back, reaches_then, reaches_split, reaches_one, strays_then}
 
 -- the numbers that lines name, in order

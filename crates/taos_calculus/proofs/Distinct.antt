@@ -7,9 +7,10 @@ use Rattle.std.proofs.lemmas.Bool.{cases_order, both_ways, not-true}
 use Rattle.std.specs.List.{flat_map}
 use Rattle.prin_term.specs.Principal.{Principal, Key}
 use Rattle.taos_calculus.specs.Tables.{Parts, shape, IsNodeTable, principals_of, named, lines_of}
-use Rattle.taos_calculus.specs.Canonical.{IsCanonical, same_principal, first_of_each, post_order, terms_of}
+use Rattle.stmt_codec.specs.Distinct.{same_principal, first_of_each}
+use Rattle.taos_calculus.specs.Canonical.{IsCanonical, post_order, terms_of}
 use Rattle.taos_calculus.proofs.Naming.{ordered_reads, length-principals_of}
-use Rattle.taos_calculus.proofs.Same.{same_principal-itself}
+use Rattle.stmt_codec.proofs.Same.{same_principal-itself}
 
 -- no element comes again
 abbrev pub Apart : List Principal → Type 0

@@ -5,8 +5,6 @@ pub mod Building
 pub mod Staying
 pub mod Atoms
 pub mod Naming
-pub mod Same
-pub mod Firsts
 pub mod Walks
 pub mod Canon
 pub mod Placing
@@ -16,6 +14,12 @@ pub mod Spelled
 pub mod OneLine
 pub mod Numbering
 pub mod Short
+pub mod Placed
+pub mod ProofReaders
+pub mod ProofLaws
+pub mod CutProofs
+pub mod Premises
+pub mod Checks
 pub mod Numbers
 pub mod NumberedMoving
 pub mod Asking

@@ -12,13 +12,13 @@ use Rattle.taos_calculus.specs.declared.line.Node.{Node}
 use Rattle.taos_calculus.specs.declared.line.Line.{Line as FlatLine}
 use Rattle.taos_calculus.specs.Rules.{Judgement, SpeaksFor, Says, Line}
 use Rattle.taos_calculus.specs.Tables.{shape, OperandsBelow, IsBelow, grown, principals_of, named, judgement, meaning, lines_of}
-use Rattle.taos_calculus.specs.Canonical.{same_principal, post_order, terms_of, canonical_table}
+use Rattle.stmt_codec.specs.Distinct.{same_principal, met}
+use Rattle.taos_calculus.specs.Canonical.{post_order, terms_of, canonical_table}
 use Rattle.taos_calculus.specs.Spelling.{place_in, node_of, fact_of, line_of, numbered}
-use Rattle.taos_calculus.specs.Walking.{met}
 use Rattle.taos_calculus.specs.Having.{HaveParts}
 use Rattle.taos_calculus.proofs.Induction.{All-one, All-two}
-use Rattle.taos_calculus.proofs.Same.{same_principal-true, same_principal-itself}
-use Rattle.taos_calculus.proofs.Firsts.{met-there, met-new, met-append, met-grows, first_of_each-met}
+use Rattle.stmt_codec.proofs.Same.{same_principal-true, same_principal-itself}
+use Rattle.stmt_codec.proofs.Firsts.{met-there, met-new, met-append, met-grows, first_of_each-met}
 use Rattle.taos_calculus.proofs.Walks.{All-front, All-back}
 
 -- each one's operands stand before it

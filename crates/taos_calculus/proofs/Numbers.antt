@@ -231,7 +231,7 @@ module _ (nodes : List Node) (table : IsNodeTable nodes) (anchors : List Anchor)
       rw (eu, ev, ew) at s.at
 
   -- a rule that gives what a pair of numbers says gives the pair
-  speaks_given : (earlier : List Fact) (l : Line) (i j : ℕ) → All (IsBelow (length nodes)) earlier → i < length nodes → j < length nodes →
+  pub speaks_given : (earlier : List Fact) (l : Line) (i j : ℕ) → All (IsBelow (length nodes)) earlier → i < length nodes → j < length nodes →
       l.fact ≡ SpeaksFor (p i) (p j) → Follows anchors claims (map (judgement p) earlier) l →
       Gives nodes anchors claims earlier (Fact.Speaks i j) l.step
   speaks_given earlier l i j all hi hj e Rules.same =
@@ -295,7 +295,7 @@ module _ (nodes : List Node) (table : IsNodeTable nodes) (anchors : List Anchor)
       (found_says earlier k a (Quoting b a) (For b a) all f s.y i j s.right_is ei ej s.y_in hi hj)
   speaks_given earlier l i j all hi hj e f = absurd (cc)
 
-  says_given : (earlier : List Fact) (l : Line) (i j k : ℕ) → All (IsBelow (length nodes)) earlier →
+  pub says_given : (earlier : List Fact) (l : Line) (i j k : ℕ) → All (IsBelow (length nodes)) earlier →
       i < length nodes → j < length nodes → k < length nodes →
       l.fact ≡ Says (p i) (p j) (p k) → Follows anchors claims (map (judgement p) earlier) l →
       Gives nodes anchors claims earlier (Fact.Says i j k) l.step

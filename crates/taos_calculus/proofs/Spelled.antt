@@ -10,10 +10,11 @@ use Rattle.taos_calculus.specs.declared.line.Node.{Node}
 use Rattle.taos_calculus.specs.declared.line.Fact.{Fact}
 use Rattle.taos_calculus.specs.declared.line.Line.{Line}
 use Rattle.taos_calculus.specs.Tables.{Parts, parts_of, shape, OperandsBelow, IsBelow, IsNodeTable, principals_of, named, judgement, meaning, lines_of}
-use Rattle.taos_calculus.specs.Canonical.{IsCanonical, same_principal}
+use Rattle.stmt_codec.specs.Distinct.{same_principal}
+use Rattle.taos_calculus.specs.Canonical.{IsCanonical}
 use Rattle.taos_calculus.specs.Spelling.{place_in, node_of, fact_of, line_of, numbered, parts_spelling, proof_spelling}
 use Rattle.taos_calculus.proofs.Naming.{length-principals_of, named_reads, named_apart}
-use Rattle.taos_calculus.proofs.Same.{same_principal-true, same_principal-itself}
+use Rattle.stmt_codec.proofs.Same.{same_principal-true, same_principal-itself}
 use Rattle.taos_calculus.proofs.Distinct.{canonical_nodes}
 
 node_again : (p : ℕ → Principal) (number : Principal → ℕ) (n : ℕ) → ((i : ℕ) → i < n → number (p i) ≡ i) → (node : Node) → OperandsBelow n node → node_of number (shape p node) ≡ node

@@ -11,12 +11,13 @@ use Rattle.std.proofs.lemmas.Bool.{false_from_ne_true}
 use Rattle.prin_term.specs.Principal.{Principal, Key, And, Quoting, InRole, For}
 use Rattle.taos_calculus.specs.declared.line.Node.{Node}
 use Rattle.taos_calculus.specs.Tables.{shape, OperandsBelow, IsNodeTable, principals_of, named}
-use Rattle.taos_calculus.specs.Canonical.{same_principal, post_order}
-use Rattle.taos_calculus.specs.Walking.{met, parts_under, Reaches, Strays}
+use Rattle.stmt_codec.specs.Distinct.{same_principal, met}
+use Rattle.taos_calculus.specs.Canonical.{post_order}
+use Rattle.taos_calculus.specs.Walking.{parts_under, Reaches, Strays}
 use Rattle.taos_calculus.proofs.Induction.{All-one, All-two}
 use Rattle.taos_calculus.proofs.Naming.{length-principals_of, named_reads, named_apart}
-use Rattle.taos_calculus.proofs.Same.{same_principal-true, same_principal-itself}
-use Rattle.taos_calculus.proofs.Firsts.{met-there, met-new, met-append, met-grows}
+use Rattle.stmt_codec.proofs.Same.{same_principal-true, same_principal-itself}
+use Rattle.stmt_codec.proofs.Firsts.{met-there, met-new, met-append, met-grows}
 
 pub All-front : {X : Type 0} (P : X → Type 0) (xs ys : List X) → All P (xs ++ ys) → All P xs
 All-front P xs ys all = λ i d h. subst P (get_or_append_left xs ys d i h) (all i d (omega (arith, length-append xs ys)))

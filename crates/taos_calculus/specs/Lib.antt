@@ -11,3 +11,7 @@ pub mod Spelling
 pub mod Limits
 pub mod Walking
 pub mod Having
+pub mod Spells
+pub mod ProofReading
+pub mod Premises
+pub mod Checking

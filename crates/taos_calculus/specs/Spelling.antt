@@ -12,7 +12,8 @@ use Rattle.taos_calculus.specs.declared.line.Step.{Step}
 use Rattle.taos_calculus.specs.declared.line.Line.{Line}
 use Rattle.taos_calculus.specs.Rules.{Judgement, SpeaksFor, Says, Line as Meaning}
 use Rattle.taos_calculus.specs.Tables.{Parts, parts_of}
-use Rattle.taos_calculus.specs.Canonical.{same_principal, canonical_table}
+use Rattle.stmt_codec.specs.Distinct.{same_principal}
+use Rattle.taos_calculus.specs.Canonical.{canonical_table}
 
 -- the first place at which a principal stands in a table
 abbrev pub place_in : List Principal → Principal → ℕ

@@ -1,18 +1,14 @@
 -- The principals of a table in the order in which lines come to them.
---     met table ps      the table, and behind it each principal of ps that was not yet there
 --     numbers_in fact      the numbers that a fact names, from left to right
 --     Reaches nodes due ids k      from the first `due` principals of the table, these numbers lead to its first k
-use Rattle.std.specs.Prelude.{◌≡◌, ℕ, ◌<◌, ◌≤◌, if◌then◌else◌, List, [], ◌∷◌, ◌++◌, length, map, take, All, Contains}
-use Rattle.std.specs.List.{flat_map, list_any}
+use Rattle.std.specs.Prelude.{◌≡◌, ℕ, ◌<◌, ◌≤◌, List, [], ◌∷◌, length, map, take, All, Contains}
+use Rattle.std.specs.List.{flat_map}
 use Rattle.prin_term.specs.Principal.{Principal}
+use Rattle.stmt_codec.specs.Distinct.{met}
 use Rattle.taos_calculus.specs.declared.line.Node.{Node}
 use Rattle.taos_calculus.specs.declared.line.Fact.{Fact}
 use Rattle.taos_calculus.specs.Tables.{principals_of, named, OperandsBelow}
-use Rattle.taos_calculus.specs.Canonical.{same_principal, post_order}
-
-abbrev pub met : List Principal → List Principal → List Principal
-met table [] = table
-met table (p ∷ ps) = met (if list_any (same_principal p) table then table else table ++ p ∷ []) ps
+use Rattle.taos_calculus.specs.Canonical.{post_order}
 
 abbrev pub numbers_in : Fact → List ℕ
 numbers_in (Fact.Speaks left right) = left ∷ right ∷ []

@@ -1,10 +1,14 @@
 //! The laws of the calculus, each the contract of a function that does nothing.
 
-ghost use Rattle.std.specs.Prelude.{List, ℕ};
+ghost use Rattle.std.specs.Prelude.{◌≡◌, ◌<◌, ◌++◌, [], List, ℕ, Ok, Err, length};
 ghost use Rattle.prin_term.specs.declared.term.Anchor.{Anchor};
 ghost use Rattle.prin_term.specs.Principal.{Principal};
+ghost use Rattle.taos_calculus.specs.declared.fault.ProofFault.TheVariants.{Malformed};
 ghost use Rattle.taos_calculus.specs.Rules.{Judgement, Claim, Line};
-ghost use Rattle.taos_calculus.specs.Tables.{Parts};
+ghost use Rattle.taos_calculus.specs.Tables.{Parts, lines_of};
+ghost use Rattle.taos_calculus.specs.Spelling.{numbered, proof_spelling};
+ghost use Rattle.taos_calculus.specs.Spells.{FitsProof, Spells};
+ghost use Rattle.taos_calculus.specs.ProofReading.{proof_of};
 ghost use Rattle.taos_calculus.specs.Having.{HaveParts, AreAlone};
 ghost use Rattle.taos_calculus.specs.Saturation.{HasEveryFact};
 ghost use Rattle.taos_calculus.specs.Tidy.{StaysWithin, DerivesMore};
@@ -43,4 +47,28 @@ pub fn lines_have_parts()
 /// Parts with a canonical table that mean the same lines are the same.
 pub fn canonical_parts_are_alone()
     ensures { (parts : Parts) → AreAlone parts }
+{}
+
+/// No bytes spell two proofs.
+pub fn one_proof()
+    ensures { (p q : Parts) (bytes : List ℕ) → Spells p bytes → Spells q bytes → p ≡ q }
+{}
+
+/// What is written is read back as the proof that it was.
+pub fn written_is_read()
+    ensures spelled { (p : Parts) → FitsProof p → Spells p (proof_spelling (lines_of p)) }
+    ensures read { (p : Parts) → FitsProof p → proof_of (proof_spelling (lines_of p)) ≡ Ok p }
+    ensures lines { (lines : List Line) → FitsProof (numbered lines)
+        → proof_of (proof_spelling lines) ≡ Ok (numbered lines) }
+{}
+
+/// No spelling begins another: one that is cut is refused at the cut, and what follows one at its
+/// first byte.
+pub fn no_proper_prefix()
+    ensures alone { (p q : Parts) (front more : List ℕ) → Spells p front
+        → Spells q (front ++ more) → more ≡ [] }
+    ensures cut { (p : Parts) (front more : List ℕ) → Spells p (front ++ more)
+        → 0 < length more → proof_of front ≡ Err (Malformed (length front)) }
+    ensures longer { (p : Parts) (bytes more : List ℕ) → Spells p bytes → 0 < length more
+        → proof_of (bytes ++ more) ≡ Err (Malformed (length bytes)) }
 {}

@@ -2,16 +2,29 @@
 #![tactic(auto)]
 
 mod canonical;
+mod check;
 mod decide;
+mod fault;
 pub mod laws;
 mod line;
+mod node_is;
 mod proof;
+mod reading;
+mod reading_fields;
+mod reading_lines;
+mod reading_nodes;
+mod rules;
 mod writing;
 
+pub use check::{BadLine, Conclusion, check_proof};
 pub use decide::{Decide, MAX_ANCHORS, MAX_CERTS, MAX_ENTRIES, Taken};
+pub use fault::ProofFault;
 pub use line::{Fact, Line, Node, Step};
 pub use proof::{MAX_LINES, MAX_NODES, Proof};
+pub use reading::{read_proof, read_proof_at};
 pub use writing::write_proof;
 
+#[cfg(test)]
+mod check_tests;
 #[cfg(test)]
 mod tests;

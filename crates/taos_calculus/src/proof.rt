@@ -3,6 +3,8 @@ ghost use Rattle.taos_calculus.specs.Tables.{parts_of};
 
 use crate::canonical::{is_met_in_order, is_node_table};
 use crate::line::{Line, Node};
+use crate::node_is::node_is;
+use prin_term::Term;
 use std::marker::Model;
 
 /// How many nodes the table of a proof has at most.
@@ -33,6 +35,9 @@ impl Model for Proof {
 }
 
 impl Proof {
+    ghost use Rattle.std.specs.Prelude.{◌<◌, IsTrue, length};
+    ghost use Rattle.prin_term.specs.View.{principal};
+    ghost use Rattle.taos_calculus.specs.Tables.{named};
     ghost use Rattle.taos_calculus.specs.Limits.{IsProofParts};
 
     /// The proof of these parts. Takes no memory.
@@ -66,5 +71,14 @@ impl Proof {
         ensures kept { IsProofParts self.now }
     {
         &self.lines
+    }
+
+    /// Whether the number is one of the table and stands for the term. Takes no memory.
+    pub fn node_is(&self, id: u16, term: &Term) -> bool
+        ensures { IsTrue result ↔ ((id < length self.now.nodes)
+            × (named self.now.nodes id ≡ principal term.now)) }
+    {
+        let nodes = self.nodes();
+        (id as usize) < nodes.len() && node_is(nodes, id, term)
     }
 }

@@ -1,4 +1,5 @@
 use super::*;
+use prin_term::Term;
 use std::test::Fail;
 
 // Key 1 speaks for name 10 by the first anchor.
@@ -123,5 +124,71 @@ fn only_the_canonical_table_is_taken(rt: HostRuntime) -> Result<(), Fail> {
     assert!(rt; outside.is_none(), "a number past the table");
     let later = proof_of(&rt, &[Node::Key(1), Node::And(0, 1)], &[speaks(0, 1)])?;
     assert!(rt; later.is_none(), "an operand that is not earlier");
+    Ok(())
+}
+
+// The hand-off of a name by four lines, spelled.
+const HAND_OFF: [u8; 61] = [
+    0, 3, 1, 0, 0, 0, 1, 2, 0, 0, 0, 10, 1, 0, 0, 0, 2, 0, 0, 0, 4, 9, 0, 0, 0, 1, 0, 0, 10, 0, 0,
+    0, 2, 0, 1, 0, 0, 11, 0, 1, 0, 2, 0, 1, 0, 0, 0, 1, 0, 0, 0, 0, 13, 0, 2, 0, 1, 0, 0, 0, 2,
+];
+
+fn fault_of(rt: &HostRuntime, bytes: &[u8]) -> Option<ProofFault> {
+    read_proof(rt.alloc(), bytes).err()
+}
+
+#[test]
+fn a_hand_off_is_read_and_written_back(rt: HostRuntime) -> Result<(), Fail> {
+    let proof = read_proof(rt.alloc(), &HAND_OFF)?;
+    assert_eq!(rt; proof.lines(), HANDED.as_slice());
+    let mut out = Vec::new(rt.alloc());
+    write_proof(&mut out, &proof)?;
+    assert_eq!(rt; out.as_slice(), HAND_OFF.as_slice());
+    assert!(rt; proof.node_is(1, &Term::Name(10)));
+    assert!(rt; !proof.node_is(1, &Term::Key(10)));
+    Ok(())
+}
+
+#[test]
+fn a_proof_is_read_inside_other_bytes(rt: HostRuntime) -> Result<(), Fail> {
+    let mut bytes = [7, 7, 7].to_vec(rt.alloc())?;
+    bytes.extend_from_slice(&HAND_OFF)?;
+    bytes.push(7)?;
+    let (proof, end) = read_proof_at(rt.alloc(), &bytes, 3, 61)?;
+    assert_eq!(rt; proof.lines(), HANDED.as_slice());
+    assert_eq!(rt; end, 64);
+    let longer = read_proof_at(rt.alloc(), &bytes, 3, 62).err();
+    assert_eq!(rt; longer, Some(ProofFault::Malformed { offset: 64 }));
+    Ok(())
+}
+
+// The place of a byte of the hand-off, another value there, and the place of the fault.
+const TURNED: [(usize, u8, usize); 10] = [
+    (1, 2, 12),
+    (2, 7, 2),
+    (2, 3, 3),
+    (17, 1, 17),
+    (21, 0, 21),
+    (21, 8, 26),
+    (21, 16, 21),
+    (23, 3, 22),
+    (6, 2, 0),
+    (20, 3, 52),
+];
+
+#[test]
+fn a_turned_byte_is_refused_at_its_place(rt: HostRuntime) -> Result<(), Fail> {
+    for (place, value, want) in TURNED {
+        let mut bytes = HAND_OFF;
+        if let Some(byte) = bytes.get_mut(place) {
+            *byte = value;
+        }
+        let fault = fault_of(&rt, &bytes);
+        assert_eq!(rt;
+            fault,
+            Some(ProofFault::Malformed { offset: want }),
+            "at {place}"
+        );
+    }
     Ok(())
 }

@@ -1,14 +1,15 @@
 -- Entries of access lists by their places.
-use Rattle.std.proofs.Common.{◌≡◌, ◌<◌, ◌≤◌, ℕ, List, length, map, Some, sym, ap, subst, refl, ◌∙◌, arith}
-use Rattle.std.specs.Prelude.{slice_get, slice_index_or, option_map, bit_and, Contains}
+use Rattle.std.proofs.Common.{◌≡◌, ◌+◌, ◌<◌, ◌≤◌, ℕ, List, [], ◌∷◌, ◌++◌, length, take, map, Some, sym, ap, subst, refl, ◌∙◌, arith}
+use Rattle.std.specs.Prelude.{slice_get, slice_index_or, option_map, bit_and, Contains, All}
 use Rattle.std.proofs.lemmas.Option.{slice_get-map, slice_get_read, slice_get_within, get_or_from_slice_get, same_Some}
-use Rattle.std.proofs.lemmas.List.{length-map}
+use Rattle.std.proofs.lemmas.List.{length-map, take_more, take_all}
+use Rattle.std.proofs.lemmas.List.Elements.{All-nil, All-push, All-map}
 use Rattle.prin_term.specs.declared.term.Anchor.{Anchor}
 use Rattle.prin_term.specs.declared.term.Entry.{Entry}
 use Rattle.prin_term.specs.View.{Grant, grant, principal}
 use Rattle.prin_term.specs.Principal.{Principal}
 use Rattle.taos_calculus.specs.declared.line.Step.{Step}
-use Rattle.taos_calculus.specs.Atoms.{IsAnchoredTo}
+use Rattle.taos_calculus.specs.Atoms.{IsAtom, IsAnchoredTo}
 use Rattle.taos_node.specs.Deciding.{GivesAtom, NamesAtom, IsFirst, IsNotFor}
 
 -- the entry that was read at a place stands there
@@ -79,3 +80,22 @@ moved_none found anchors key list items a l none k =
 pub names_who : (anchors : List Anchor) (key : ℕ) (list : List Entry) (place : ℕ) (e : Entry) (step : Step) → e ≡ slice_index_or list place e → IsFirst anchors key (map grant list) place step → NamesAtom key (principal e.who) step
 names_who anchors key list place e step is first =
     subst (λ (w : Principal). NamesAtom key w step) (who_is list place e first.0 (place_within list place first.0 first.1.stands) is first.1.stands) (names_atom anchors key first.0.who step first.2)
+
+-- ---- entries for a key or a name
+
+abbrev pub IsForAtom : Entry → Type 0
+IsForAtom e = IsAtom (principal e.who)
+
+pub atoms_none : (list : List Entry) → All IsForAtom (take 0 list)
+atoms_none list = All-nil IsForAtom
+
+pub atoms_more : (list : List Entry) (place : ℕ) (e : Entry) → place < length list → e ≡ slice_index_or list place e → IsForAtom e → All IsForAtom (take place list) → All IsForAtom (take (place + 1) list)
+atoms_more list place e within is atom before =
+    let longer : take (place + 1) list ≡ take place list ++ e ∷ [] = take_more list place e within ∙ ap (λ y. take place list ++ y ∷ []) (sym is) in
+    subst (All IsForAtom) (sym longer) (All-push IsForAtom (take place list) e before atom)
+
+pub atoms_all : (list : List Entry) (place : ℕ) → length list ≤ place → All IsForAtom (take place list) → All (λ g. IsAtom g.who) (map grant list)
+atoms_all list place past before = All-map (λ g. IsAtom g.who) grant list (subst (All IsForAtom) (take_all place list past) before)
+
+pub listed_at : (list : List Entry) (place : ℕ) (e : Entry) → place < length list → e ≡ slice_index_or list place e → Contains (map grant list) (grant e)
+listed_at list place e within is = contains_get (map grant list) place (grant e) (stands_at list place e within is)

@@ -13,7 +13,7 @@ use Rattle.taos_node.specs.declared.opening.OpeningFault.TheVariants.{Byte}
 use Rattle.taos_node.specs.declared.opening.head.Head.{Head}
 use Rattle.taos_node.specs.Opening.{channel_bytes, anchor_bytes, IsKey, IsChannel, IsAnchor}
 use Rattle.prin_term.specs.Readers.{is_new}
-use Rattle.taos_node.specs.OpeningReading.{ended, is_within, same_anchor, mark_at, number_in, shards_at, head_at, new_channel_at, channel_at, channels_at, anchor_at, anchors_at, commons_at}
+use Rattle.taos_node.specs.OpeningReading.{ended, is_within, same_anchor, mark_at, number_in, shards_at, head_at, new_channel_at, channel_at, channels_at, anchor_at, anchors_at}
 use Rattle.prin_term.proofs.ReaderLaws.{Reads, reads_byte, reads_number, reads_bytes, reads_followed, reads_passing, reads_made, reads_as, reads_counted, is_new-All, is_new-from_All}
 
 pub within_is : (low high n : ℕ) → is_within low high n ≡ true → (low ≤ n) × (n ≤ high)
@@ -29,7 +29,7 @@ head_bytes h = (0 ∷ 1 ∷ []) ++ (to_be_bytes w32 h.node ++ (h.relay_key ++ (t
 pub record IsHead (h : Head) : Type 0 where
   pub node : h.node < 2 ^ 32
   pub relay_key : IsKey h.relay_key
-  pub shards : h.shards ≡ 1
+  pub shards : (1 ≤ h.shards) × (h.shards ≤ 64)
   pub keep : (1 ≤ h.keep) × (h.keep ≤ 31536000)
   pub limit : (1 ≤ h.limit) × (h.limit ≤ 1048576)
 
@@ -88,12 +88,12 @@ module _ (bytes : List ℕ) where
       (λ n is. (within_is low high n is.1, refl))
       (λ n is. (omega (arith, is.1), is_within-true low high n is.0 is.1))
 
-  pub reads_shards : Reads bytes (shards_at bytes) (to_be_bytes w32) (λ n. n ≡ 1)
+  pub reads_shards : Reads bytes (shards_at bytes) (to_be_bytes w32) (λ n. (1 ≤ n) × (n ≤ 64))
   unfolding shards_at
   reads_shards =
-      reads_as (to_be_bytes w32) (λ n. n ≡ 1) (reads_passing (λ n. eqb n 1) Byte reads_u32)
-      (λ n is. (eqb-true _ _ is.1, refl))
-      (λ n is. (omega (arith, is), grind (arith, nat_tests, is)))
+      reads_as (to_be_bytes w32) (λ n. (1 ≤ n) × (n ≤ 64)) (reads_passing (is_within 1 64) Byte reads_u32)
+      (λ n is. (within_is 1 64 n is.1, refl))
+      (λ n is. (omega (arith, is.1), is_within-true 1 64 n is.0 is.1))
 
   pub reads_head : Reads bytes (head_at bytes) head_bytes IsHead
   unfolding head_at
@@ -136,10 +136,3 @@ module _ (bytes : List ℕ) where
   pub reads_anchors : Reads bytes (anchors_at bytes) (λ xs. length xs ∷ flat_map anchor_bytes xs) (λ xs. (length xs ≤ 64) × All IsAnchor xs × AllPairs (λ a b. a ≢ b) xs)
   unfolding anchors_at
   reads_anchors = reads_counted 64 256 Byte anchor_bytes IsAnchor (λ a b. a ≢ b) (omega arith) reads_u8 reads_anchor
-
-  pub reads_commons : Reads bytes (commons_at bytes) (λ n. 0 ∷ []) (λ n. n ≡ 0)
-  unfolding commons_at
-  reads_commons =
-      reads_as (λ n. 0 ∷ []) (λ n. n ≡ 0) (reads_passing (λ n. eqb n 0) Byte reads_u8)
-      (λ n is. let e : n ≡ 0 = eqb-true _ _ is.1 in (e, ap (λ (k : ℕ). k ∷ []) e))
-      (λ n is. (omega (arith, is), grind (arith, nat_tests, is)))

@@ -1,21 +1,26 @@
 -- Two openings in which each look-up finds the same have the same courses.
-use Rattle.std.proofs.Common.{◌≡◌, ◌≤◌, ℕ, List, [], ◌∷◌, length, Some, Result, Ok, Err, true, false, Bool, cond, sym, subst, ◌∙◌}
+use Rattle.std.proofs.Common.{◌≡◌, ◌≤◌, ℕ, List, [], ◌∷◌, length, Some, Result, Ok, Err, true, false, Bool, cond, sym, ap, subst, ◌∙◌, arith, inl, inr}
 use Rattle.std.specs.Prelude.{Option, All, IfOk, find, slice_index_or}
-use Rattle.std.proofs.lemmas.List.Elements.{All-head, All-tail}
+use Rattle.std.proofs.lemmas.List.Elements.{All-head, All-tail, Contains-get_or}
 use Rattle.std.proofs.lemmas.Option.{none-some, same_Some}
+use Rattle.object_core.specs.Operation.{right_of}
 use Rattle.prin_term.specs.declared.term.Anchor.{Anchor}
 use Rattle.prin_term.specs.View.{Grant}
 use Rattle.frame_link.specs.declared.outcome.Outcome.{Outcome}
 use Rattle.frame_link.specs.declared.outcome.Outcome.TheVariants.{End, Truncated, TooLong, ReadFault, WriteFault, ClockFault, Spent, NoMemory}
 use Rattle.taos_calculus.specs.Rules.{SpeaksFor, Proves}
 use Rattle.taos_calculus.specs.Monitor.{FirstEntry, Grants, MaySpeak}
+use Rattle.taos_wire.specs.Request.{Request, subject_of}
 use Rattle.taos_node.specs.declared.opening.Opening as code
 use Rattle.taos_node.specs.declared.opening.OpeningFault.{OpeningFault}
-use Rattle.taos_node.specs.Opening.{Opening, ObjectPlan, Spells, IsPlain, IsPlainObject}
+use Rattle.prin_term.specs.Principal.{Principal, Key, Name, And, Quoting, InRole, For}
+use Rattle.taos_calculus.specs.Atoms.{IsAtom}
+use Rattle.taos_node.specs.Command.{IsUnbuiltOpening}
+use Rattle.taos_node.specs.Opening.{Opening, ObjectPlan, Spells, FitsOpening, FitsObject, plan_of}
 use Rattle.taos_node.specs.OpeningView.{Represents}
-use Rattle.taos_node.specs.Messages.{Request, Sent, subject_of}
+use Rattle.taos_wire.specs.Reply.{Sent}
 use Rattle.taos_node.specs.Meaning.{opening, IsServable, SameNode}
-use Rattle.taos_node.specs.Course.{HasArrived, Arrival, Course, read_right, unbuilt, granted, denied, unread, unasked}
+use Rattle.taos_node.specs.Course.{IsAsked, IsBuilt, HasArrived, Arrival, Course, malformed, unknown_channel, bad_seal, unbuilt, unknown_object, granted, denied, unread, unasked, unruled}
 use Rattle.taos_node.specs.Run.{Turn, AreTurns, IsConnection}
 use Rattle.taos_node.proofs.Listed.{plan_of-listed}
 
@@ -35,41 +40,79 @@ found_all : {A : Type 0} (P : A → Type 0) (test : A → Bool) (xs : List A) (x
 found_all P test [] x all is = absurd (none-some x is)
 found_all P test (y ∷ xs) x all is = found_at P test y xs x (test y) all is (λ e. found_all P test xs x (All-tail P y xs all) e)
 
-pub is_servable : (node : code.Opening) (o : Opening) → Represents node o → IsPlain o → IsServable (opening node)
-is_servable node o r plain = record {
-  few_anchors = subst (λ (l : List Anchor). length l ≤ 64) (sym r.anchors) plain.few_anchors;
-  objects = λ n p is. found_all IsPlainObject _ o.objects p plain.objects (sym ((same_node node o r).objects n) ∙ is);
+-- ---- what is built
+
+atom_or : (p : Principal) → ((IsAtom p → ⊥) → ⊥) → IsAtom p
+atom_or (Key k) it = tt
+atom_or (Name n) it = tt
+atom_or (And a b) it = absurd (it (λ x. x))
+atom_or (Quoting a b) it = absurd (it (λ x. x))
+atom_or (InRole a r) it = absurd (it (λ x. x))
+atom_or (For a b) it = absurd (it (λ x. x))
+
+-- a list of an object that is found, in an opening that is built
+pub are_atoms : (o : Opening) → (IsUnbuiltOpening o → ⊥) → (number : ℕ) (p : ObjectPlan) → plan_of o.objects number ≡ Some p → All (λ g. IsAtom g.who) p.list
+are_atoms o built number p there k d below =
+    let g : Grant = slice_index_or p.list k d in
+    atom_or g.who (λ compound. built (inr (inr (record { number = number; object = p; there = there; entry = g; listed = Contains-get_or p.list k d below; compound = compound }))))
+
+-- the program's opening and what it stands for are built together
+unbuilt_by : (a b : Opening) → a.shards ≡ b.shards → length a.commons ≡ length b.commons → ((number : ℕ) → plan_of a.objects number ≡ plan_of b.objects number) → IsUnbuiltOpening a → IsUnbuiltOpening b
+unbuilt_by a b shards commons objects (inl other) = inl (λ one. other (shards ∙ one))
+unbuilt_by a b shards commons objects (inr (inl some)) = inr (inl (omega (arith, commons, some)))
+unbuilt_by a b shards commons objects (inr (inr c)) =
+    inr (inr (record { number = c.number; object = c.object; there = sym (objects c.number) ∙ c.there; entry = c.entry; listed = c.listed; compound = c.compound }))
+
+pub unbuilt_there : (node : code.Opening) (o : Opening) → Represents node o → IsUnbuiltOpening (opening node) → IsUnbuiltOpening o
+unbuilt_there node o r = unbuilt_by (opening node) o r.shards (ap length r.commons) (same_node node o r).objects
+
+pub unbuilt_here : (node : code.Opening) (o : Opening) → Represents node o → IsUnbuiltOpening o → IsUnbuiltOpening (opening node)
+unbuilt_here node o r = unbuilt_by o (opening node) (sym r.shards) (ap length (sym r.commons)) (λ n. sym ((same_node node o r).objects n))
+
+pub is_servable : (node : code.Opening) (o : Opening) → Represents node o → FitsOpening o → (IsUnbuiltOpening (opening node) → ⊥) → IsServable (opening node)
+is_servable node o r fits built = record {
+  few_anchors = subst (λ (l : List Anchor). length l ≤ 64) (sym r.anchors) fits.few_anchors;
+  objects = λ n p is. record {
+    fits = found_all FitsObject _ o.objects p fits.objects (sym ((same_node node o r).objects n) ∙ is);
+    atoms = are_atoms (opening node) built n p is;
+  };
 }
 
 pub are_servable : (bytes : List ℕ) (r : Result code.Opening OpeningFault) → IfOk r (λ x. (o : Opening) × Spells o bytes × Represents x o)
-    → IfOk r (λ x. IsServable (opening x))
-are_servable bytes (Ok x) found = is_servable x found.0 found.2 found.1.0
+    → IfOk r (λ x. (IsUnbuiltOpening (opening x) → ⊥) → IsServable (opening x))
+are_servable bytes (Ok x) found = λ built. is_servable x found.0 found.2 found.1.0 built
 are_servable bytes (Err e) found = tt
 
 flipped : (a b : Opening) → SameNode a b → SameNode b a
 flipped a b same = record { channels = λ n. sym (same.channels n); anchors = sym same.anchors; objects = λ n. sym (same.objects n) }
 
+asked_at : (a b : Opening) → SameNode a b → (payload : List ℕ) (r : Request) (key : List ℕ) → IsAsked a payload r key → IsAsked b payload r key
+asked_at a b same payload r key h = record { spelled = h.spelled; keyed = sym (same.channels r.channel) ∙ h.keyed; seal = h.seal }
+
+built_at : (a b : Opening) → SameNode a b → (payload : List ℕ) (r : Request) (key : List ℕ) → IsBuilt a payload r key → IsBuilt b payload r key
+built_at a b same payload r key h = record { asked = asked_at a b same payload r key h.asked; built = h.built }
+
 arrived_at : (a b : Opening) → SameNode a b → (payload : List ℕ) (r : Request) (key : List ℕ) (object : ObjectPlan) → HasArrived a payload r key object → HasArrived b payload r key object
-arrived_at a b same payload r key object h = record {
-  fits = h.fits;
-  keyed = sym (same.channels r.channel) ∙ h.keyed;
-  sealed_so = h.sealed_so;
-  there = sym (same.objects r.object) ∙ h.there;
-}
+arrived_at a b same payload r key object h = record { taken = built_at a b same payload r key h.taken; there = sym (same.objects r.object) ∙ h.there }
 
 abbrev arrival_at : (a b : Opening) → SameNode a b → (payload : List ℕ) → Arrival a payload → Arrival b payload
 arrival_at a b same payload t = record { request = t.request; key = t.key; object = t.object; arrived = arrived_at a b same payload t.request t.key t.object t.arrived }
 
 course_at : (a b : Opening) → SameNode a b → (payload readings : List ℕ) (sent : Sent) → Course a payload readings sent → Course b payload readings sent
-course_at a b same payload readings sent (unbuilt none) = unbuilt (λ t. none (arrival_at b a (flipped a b same) payload t))
+course_at a b same payload readings sent (malformed none at) = malformed none at
+course_at a b same payload readings sent (unknown_channel r spelled none) = unknown_channel r spelled (sym (same.channels r.channel) ∙ none)
+course_at a b same payload readings sent (bad_seal r key spelled keyed wrong) = bad_seal r key spelled (sym (same.channels r.channel) ∙ keyed) wrong
+course_at a b same payload readings sent (unbuilt {r} {key} asked what) = unbuilt (asked_at a b same payload r key asked) what
+course_at a b same payload readings sent (unknown_object {r} {key} built none) = unknown_object (built_at a b same payload r key built) (sym (same.objects r.object) ∙ none)
 course_at a b same payload readings sent (granted {e} {g} {lines} t reading first proves) =
     granted (arrival_at a b same payload t) reading
-    (subst (λ (l : List Anchor). FirstEntry t.object.list read_right (λ (h : Grant). MaySpeak l [] (subject_of t.request) h.who) e g) same.anchors first)
+    (subst (λ (l : List Anchor). FirstEntry t.object.list (right_of t.request.op) (λ (h : Grant). MaySpeak l [] (subject_of t.request) h.who) e g) same.anchors first)
     (subst (λ (l : List Anchor). Proves l [] lines (SpeaksFor (subject_of t.request) g.who)) same.anchors proves)
 course_at a b same payload readings sent (denied t reading none) =
-    denied (arrival_at a b same payload t) reading (subst (λ (l : List Anchor). Grants l [] (subject_of t.request) t.object.list read_right → ⊥) same.anchors none)
+    denied (arrival_at a b same payload t) reading (subst (λ (l : List Anchor). Grants l [] (subject_of t.request) t.object.list (right_of t.request.op) → ⊥) same.anchors none)
 course_at a b same payload readings sent unread = unread
-course_at a b same payload readings sent (unasked t few) = unasked (arrival_at a b same payload t) few
+course_at a b same payload readings sent (unasked {r} {key} asked) = unasked (asked_at a b same payload r key asked)
+course_at a b same payload readings sent (unruled t reading) = unruled (arrival_at a b same payload t) reading
 
 turns_at : (a b : Opening) → SameNode a b → (outcome : Outcome) (turns : List Turn) (frames : List (List ℕ)) → AreTurns a outcome turns frames → AreTurns b outcome turns frames
 turns_at a b same ClockFault turns frames t = (t.0, arrival_at a b same t.0 t.1, t.2)

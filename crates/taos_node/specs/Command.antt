@@ -1,24 +1,32 @@
 -- The top call: the words, the file, and then the work.
 --     IsRun words      the one command line
 --     IsOpeningFile o bytes      a file that opens the node
---     Runs ..      what `run` does, by the status
+--     IsUnbuiltOpening o      an opening that reads, and is not served yet
+--     Runs ..      what is done, by how it ends
+--     Ends ..      the same, with the status and the note that tell it
 --     FileDecides ..      which files are refused
 --     EndsWell ..      an input of whole frames is answered to its end
 --     TellsFaults ..      a fault is not passed over
-use Rattle.std.specs.Prelude.{◌≡◌, ◌≢◌, ◌⊎◌, ℕ, ◌<◌, ◌≤◌, List, [], ◌∷◌, length, All, Option, Some, None, Result, Ok, Err, codes, string_bytes, String}
+use Rattle.std.specs.Prelude.{◌≡◌, ◌≢◌, ◌⊎◌, ℕ, ◌<◌, ◌≤◌, List, [], ◌∷◌, length, All, Contains, Option, Some, None, Result, Ok, Err, codes, string_bytes, String}
 use Rattle.std.specs.Io.KnownBytes.{Keeps, Consumes, IsAtEnd}
 use Rattle.std.specs.declared.alloc.Global.{Global}
-use Rattle.frame_link.specs.declared.outcome.Outcome.{Outcome}
-use Rattle.frame_link.specs.declared.outcome.Outcome.TheVariants.{End, Truncated, TooLong, ReadFault, WriteFault, ClockFault, Spent, NoMemory}
 use Rattle.frame_link.specs.Frames.{framed}
 use Rattle.frame_link.specs.Faults.{Rose}
-use Rattle.taos_node.specs.declared.command.FileFault.{FileFault}
-use Rattle.taos_node.specs.declared.command.FileFault.TheVariants as fault
-use Rattle.taos_node.specs.declared.command.FileFault.TheVariants.{Refused}
+use Rattle.taos_node.specs.declared.ending.FileFault.{FileFault}
+use Rattle.taos_node.specs.declared.ending.FileFault.TheVariants as fault
+use Rattle.taos_node.specs.declared.ending.FileFault.TheVariants.{Malformed, TooLarge, Unbuilt}
+use Rattle.taos_node.specs.declared.ending.Ending.{Ending}
+use Rattle.taos_node.specs.declared.ending.Ending.TheVariants.{Usage, File, Served}
+use Rattle.taos_node.specs.Ending.{status_of}
+use Rattle.taos_node.specs.Notes.{note_of, IsNoted}
 use Rattle.taos_node.specs.declared.command.Lane.{Lane}
 use Rattle.taos_node.specs.declared.opening.Opening as code
+use Rattle.taos_node.specs.declared.opening.OpeningFault.TheVariants.{Byte}
+use Rattle.taos_node.specs.OpeningReading.{opening_of}
 use Rattle.taos_node.specs.OpeningView.{Represents}
-use Rattle.taos_node.specs.Opening.{Opening, Spells}
+use Rattle.prin_term.specs.View.{Grant}
+use Rattle.taos_calculus.specs.Atoms.{IsAtom}
+use Rattle.taos_node.specs.Opening.{Opening, ObjectPlan, Spells, plan_of}
 use Rattle.taos_node.specs.Run.{IsConnection, StandsStill, max_request}
 
 abbrev pub IsRun : List (String Global) → Type 0
@@ -37,6 +45,19 @@ max_frames = 1000000
 abbrev pub IsOpeningFile : Opening → List ℕ → Type 0
 IsOpeningFile o bytes = Spells o bytes × (length bytes ≤ max_file)
 
+-- an object whose list has an entry that is no key and no name
+pub record HasCompound (o : Opening) : Type 0 where
+  pub number : ℕ
+  pub object : ObjectPlan
+  pub there : plan_of o.objects number ≡ Some object
+  pub entry : Grant
+  pub listed : Contains object.list entry
+  pub compound : IsAtom entry.who → ⊥
+
+-- other than one shard, certificates in common, or such an entry
+abbrev pub IsUnbuiltOpening : Opening → Type 0
+IsUnbuiltOpening o = (o.shards ≢ 1) ⊎ ((0 < length o.commons) ⊎ HasCompound o)
+
 -- the file was read to its end, and opens the node
 pub record Opens (file0 file1 : Option (List ℕ)) (o : Opening) : Type 0 where
   pub bytes : List ℕ
@@ -44,36 +65,57 @@ pub record Opens (file0 file1 : Option (List ℕ)) (o : Opening) : Type 0 where
   pub at_end : IsAtEnd file1
   pub is_opening : IsOpeningFile o bytes
 
--- the file was read to its end and opens no node, or one byte more than the most was read
-pub record IsRefused (file0 file1 : Option (List ℕ)) : Type 0 where
+-- the file was read to its end, and its first byte that can't stand where it does is at the offset
+pub record IsMalformed (file0 file1 : Option (List ℕ)) (offset : ℕ) : Type 0 where
   pub bytes : List ℕ
   pub read : Consumes file0 file1 bytes
-  pub why : (IsAtEnd file1 × ((o : Opening) → Spells o bytes → ⊥)) ⊎ (max_file < length bytes)
+  pub at_end : IsAtEnd file1
+  pub short : length bytes ≤ max_file
+  pub fault : opening_of bytes ≡ Err (Byte offset)
 
--- the exit status of a connection that was served from input to output
-abbrev pub status_of : Outcome → ℕ
-status_of (End frames) = 0
-status_of ReadFault = 3
-status_of WriteFault = 4
-status_of ClockFault = 5
-status_of NoMemory = 6
-status_of (Truncated have) = 7
-status_of (TooLong n) = 8
-status_of (Spent frames) = 10
+-- one byte more than the most was read
+pub record IsTooLarge (file0 file1 : Option (List ℕ)) : Type 0 where
+  pub bytes : List ℕ
+  pub read : Consumes file0 file1 bytes
+  pub large : max_file < length bytes
 
--- what is told of file, input, output and the first lane's clock, before and after: the file is refused, or fails, or
--- memory is refused, and nothing else is touched; or it opens the node, which serves the connection
-pub data Runs (file0 file1 in0 in1 out0 out1 clock0 clock1 : Option (List ℕ)) (status : ℕ) : Type 0 where
-  refused : status ≡ 2 → IsRefused file0 file1 → Keeps in0 in1 → Keeps out0 out1 → Keeps clock0 clock1 → Runs file0 file1 in0 in1 out0 out1 clock0 clock1 status
-  unread : status ≡ 3 → Keeps in0 in1 → Keeps out0 out1 → Keeps clock0 clock1 → Runs file0 file1 in0 in1 out0 out1 clock0 clock1 status
-  out_of_memory : status ≡ 6 → Keeps in0 in1 → Keeps out0 out1 → Keeps clock0 clock1 → Runs file0 file1 in0 in1 out0 out1 clock0 clock1 status
-  served : (o : Opening) (outcome : Outcome) → Opens file0 file1 o → IsConnection o max_frames in0 in1 out0 out1 clock0 clock1 outcome →
-      status ≡ status_of outcome → Runs file0 file1 in0 in1 out0 out1 clock0 clock1 status
+-- why a file is not served
+abbrev pub FileFails : Option (List ℕ) → Option (List ℕ) → FileFault → Type 0
+FileFails file0 file1 (Malformed offset) = IsMalformed file0 file1 offset
+FileFails file0 file1 TooLarge = IsTooLarge file0 file1
+FileFails file0 file1 Unbuilt = (o : Opening) × Opens file0 file1 o × IsUnbuiltOpening o
+FileFails file0 file1 fault.ReadFault = Unit {0}
+FileFails file0 file1 fault.NoMemory = Unit {0}
 
--- a file that opens the node is not refused, and every other one is, unless its count rises or memory is refused
+-- what is told of input, output and the first lane's clock, before and after, where nothing of them was touched
+pub record Untouched (in0 in1 out0 out1 clock0 clock1 : Option (List ℕ)) : Type 0 where
+  pub input : Keeps in0 in1
+  pub output : Keeps out0 out1
+  pub clock : Keeps clock0 clock1
+
+-- What is done, by how it ends. Other words do nothing. A file that is malformed or too large, or fails, or opens a node that
+-- is not built, and one for which memory is refused, leaves the rest untouched; and every other opens a node that serves the
+-- connection.
+abbrev pub Runs : List (String Global) → Option (List ℕ) → Option (List ℕ) → Option (List ℕ) → Option (List ℕ) → Option (List ℕ) → Option (List ℕ) → Option (List ℕ) → Option (List ℕ) → Ending → Type 0
+Runs words file0 file1 in0 in1 out0 out1 clock0 clock1 Usage = (IsRun words → ⊥) × Keeps file0 file1 × Untouched in0 in1 out0 out1 clock0 clock1
+Runs words file0 file1 in0 in1 out0 out1 clock0 clock1 (File fault) = IsRun words × FileFails file0 file1 fault × Untouched in0 in1 out0 out1 clock0 clock1
+Runs words file0 file1 in0 in1 out0 out1 clock0 clock1 (Served outcome) =
+    IsRun words × ((o : Opening) × Opens file0 file1 o × (IsUnbuiltOpening o → ⊥) × IsConnection o max_frames in0 in1 out0 out1 clock0 clock1 outcome)
+
+-- How it ended, with what was done: the status and the note, with its number, tell that ending.
+pub record Ends (words : List (String Global)) (file0 file1 in0 in1 out0 out1 clock0 clock1 notes0 notes1 : Option (List ℕ)) (n0 n1 status : ℕ) : Type 0 where
+  pub ending : Ending
+  pub runs : Runs words file0 file1 in0 in1 out0 out1 clock0 clock1 ending
+  pub tells : status ≡ status_of ending
+  pub noted : IsNoted notes0 notes1 n0 n1 (note_of ending)
+
+-- A file that opens no node is refused, one that opens a node that is not built is answered so, and every other is neither,
+-- unless its count rises or memory is refused.
 pub record FileDecides (file0 : Option (List ℕ)) (f0 f1 : ℕ) (status : ℕ) : Type 0 where
   pub opens : (bytes : List ℕ) (o : Opening) → file0 ≡ Some bytes → IsOpeningFile o bytes → status ≢ 2
   pub refuses : (bytes : List ℕ) → file0 ≡ Some bytes → ((o : Opening) → IsOpeningFile o bytes → ⊥) → StandsStill f0 f1 → (status ≡ 2) ⊎ (status ≡ 6)
+  pub serves : (bytes : List ℕ) (o : Opening) → file0 ≡ Some bytes → IsOpeningFile o bytes → (IsUnbuiltOpening o → ⊥) → status ≢ 99
+  pub lacks : (bytes : List ℕ) (o : Opening) → file0 ≡ Some bytes → IsOpeningFile o bytes → IsUnbuiltOpening o → StandsStill f0 f1 → (status ≡ 99) ⊎ (status ≡ 6)
 
 -- what the clock of the first lane tells, and how often it failed
 abbrev pub told_by_first : {C R D I O : Type 0} → (C → Option (List ℕ)) → List (Lane C R D I O) → Option (List ℕ)
@@ -84,11 +126,11 @@ abbrev pub faults_of_first : {C R D I O : Type 0} → (C → ℕ) → List (Lane
 faults_of_first faults [] = 0
 faults_of_first faults (lane ∷ lanes) = faults lane.clock
 
--- Where the file opens a node, the input is whole frames, not more than may be answered, and no count rises, the status is
--- 0, or that of want of memory.
+-- Where the file opens a node that is built, the input is whole frames, not more than may be answered, and no count rises,
+-- the status is 0, or that of want of memory.
 abbrev pub EndsWell : Option (List ℕ) → ℕ → ℕ → Option (List ℕ) → ℕ → ℕ → ℕ → ℕ → ℕ → ℕ → ℕ → Type 0
 EndsWell file0 f0 f1 in0 i0 i1 o0 o1 c0 c1 status =
-    (bytes : List ℕ) (o : Opening) → file0 ≡ Some bytes → IsOpeningFile o bytes →
+    (bytes : List ℕ) (o : Opening) → file0 ≡ Some bytes → IsOpeningFile o bytes → (IsUnbuiltOpening o → ⊥) →
     (frames : List (List ℕ)) → in0 ≡ Some (framed frames) → All (λ p. length p ≤ max_request) frames → length frames ≤ max_frames →
     StandsStill f0 f1 → StandsStill i0 i1 → StandsStill o0 o1 → StandsStill c0 c1 → (status ≡ 0) ⊎ (status ≡ 6)
 
@@ -99,15 +141,23 @@ pub record TellsFaults (file0 file1 in0 in1 out0 out1 clock0 clock1 status : ℕ
   pub output : out0 < out1 → status ≡ 4
   pub clock : clock0 < clock1 → status ≡ 5
 
--- what comes of reading a file
+-- what comes of reading a file, whatever opening it spells
+abbrev pub FileReads : Option (List ℕ) → Option (List ℕ) → Result code.Opening FileFault → Type 0
+FileReads file0 file1 (Ok node) = (o : Opening) × Opens file0 file1 o × Represents node o
+FileReads file0 file1 (Err fault) = FileFails file0 file1 fault
+
+-- the same for an opening that is built
 abbrev pub FileGives : Option (List ℕ) → Option (List ℕ) → Result code.Opening FileFault → Type 0
-FileGives file0 file1 (Ok node) = (o : Opening) × Opens file0 file1 o × Represents node o
-FileGives file0 file1 (Err Refused) = IsRefused file0 file1
-FileGives file0 file1 (Err fault.ReadFault) = Unit {0}
-FileGives file0 file1 (Err fault.NoMemory) = Unit {0}
+FileGives file0 file1 (Ok node) = (o : Opening) × Opens file0 file1 o × Represents node o × (IsUnbuiltOpening o → ⊥)
+FileGives file0 file1 (Err fault) = FileFails file0 file1 fault
+
+abbrev pub FaultHasCause : ℕ → ℕ → FileFault → Type 0
+FaultHasCause f0 f1 (Malformed offset) = f1 ≡ f0
+FaultHasCause f0 f1 TooLarge = f1 ≡ f0
+FaultHasCause f0 f1 Unbuilt = f1 ≡ f0
+FaultHasCause f0 f1 fault.ReadFault = (f0 ≤ f1) × Rose f0 f1
+FaultHasCause f0 f1 fault.NoMemory = f1 ≡ f0
 
 abbrev pub FileHasCause : ℕ → ℕ → Result code.Opening FileFault → Type 0
 FileHasCause f0 f1 (Ok node) = f1 ≡ f0
-FileHasCause f0 f1 (Err Refused) = f1 ≡ f0
-FileHasCause f0 f1 (Err fault.ReadFault) = (f0 ≤ f1) × Rose f0 f1
-FileHasCause f0 f1 (Err fault.NoMemory) = f1 ≡ f0
+FileHasCause f0 f1 (Err fault) = FaultHasCause f0 f1 fault

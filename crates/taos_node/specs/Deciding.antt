@@ -6,7 +6,10 @@ use Rattle.prin_term.specs.View.{Grant}
 use Rattle.taos_calculus.specs.declared.line.Step.{Step}
 use Rattle.taos_calculus.specs.Atoms.{IsAnchoredTo, anchor_of}
 use Rattle.taos_calculus.specs.Monitor.{FirstEntry, HasRight}
-use Rattle.taos_node.specs.Course.{read_right}
+
+-- the right to read
+abbrev pub read_right : ℕ
+read_right = 1
 
 -- the step gives `key => w`: w is the key, or the name of this anchor
 abbrev pub GivesAtom : List Anchor → ℕ → Principal → Step → Type 0

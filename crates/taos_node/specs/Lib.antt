@@ -1,11 +1,12 @@
 pub mod Opening
-pub mod Messages
 pub mod Course
 pub mod Run
 pub mod Meaning
 pub mod Deciding
 pub mod Ruling
 pub mod Serving
+pub mod Ending
+pub mod Notes
 pub mod Command
 pub mod OpeningReading
 pub mod OpeningView

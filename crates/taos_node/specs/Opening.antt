@@ -1,18 +1,25 @@
--- What a node is opened with, and the bytes of its plain form.
+-- What a node is opened with, and the bytes of its binary form.
 --     ObjectPlan      a guarded object: its number, its content and its access list
---     Opening      a node: its relay key, its shards, its channels' keys, its anchors and its objects
+--     Opening      a node: its relay key, its shards, its channels' keys, its anchors, the certificates that it holds in common, and its objects
 --     opening_bytes o      its one spelling, the lists in their order
---     IsPlain o      its numbers are within the limits and nothing stands twice, it has one shard, and its lists name keys and names
---     Spells o bytes      the bytes are those of a plain opening
+--     FitsOpening o      its numbers are within the limits, and nothing stands twice
+--     Spells o bytes      the bytes are those of an opening within the limits
+--     IsPlainObject p      an object within the limits, whose list names keys and names alone
 --     key_of keys number, plan_of objects number      the channel's key, the object of a number
 use Rattle.std.specs.Prelude.{◌≡◌, ◌≢◌, ℕ, ◌+◌, ◌*◌, ◌^◌, ◌<◌, ◌≤◌, ◌==◌, List, ◌∷◌, ◌++◌, length, All, AllPairs, Option, find}
 use Rattle.std.specs.List.{flat_map}
 use Rattle.std.specs.Int.{w16, w32, w64, to_be_bytes}
 pub use Rattle.keyed_seal.specs.Keys.{key_of}
+use Rattle.object_core.specs.Operation.{IsByte, IsContent, IsAccessList}
 use Rattle.prin_term.specs.declared.term.Anchor.{Anchor}
-use Rattle.prin_term.specs.Principal.{HasSpelling, spelling}
+use Rattle.prin_term.specs.Steps.{counted}
 use Rattle.prin_term.specs.View.{Grant}
+use Rattle.sealed_cert.specs.declared.kind.TheConstants.{RELAYED}
+use Rattle.sealed_cert.specs.Seals.{sealed}
+use Rattle.stmt_codec.specs.Certificates.{Certificate, HasBodySpelling, IsWithinLimits}
 use Rattle.taos_calculus.specs.Atoms.{IsAtom}
+use Rattle.taos_node.specs.declared.opening.TheConstants.{MAX_SHARDS, MAX_KEEP, MAX_LIMIT, MAX_CHANNELS, MAX_ANCHORS, MAX_COMMONS, MAX_OBJECTS, MAX_ROOM}
+use Rattle.taos_wire.specs.Request.{grant_bytes}
 
 pub record ObjectPlan : Type 0 where
   pub number : ℕ
@@ -28,6 +35,7 @@ pub record Opening : Type 0 where
   pub limit : ℕ
   pub channels : List (ℕ × List ℕ)
   pub anchors : List Anchor
+  pub commons : List Certificate
   pub objects : List ObjectPlan
 
 -- ---- bytes
@@ -38,25 +46,24 @@ channel_bytes c = to_be_bytes w32 c.0 ++ c.1
 abbrev pub anchor_bytes : Anchor → List ℕ
 anchor_bytes a = to_be_bytes w32 a.key ++ to_be_bytes w32 a.name
 
-abbrev pub grant_bytes : Grant → List ℕ
-grant_bytes g = g.rights ∷ spelling g.who
+-- a certificate under the relay's seal for this node, behind its length
+abbrev pub common_bytes : List ℕ → Certificate → List ℕ
+common_bytes relay_key c = counted w16 (sealed RELAYED relay_key c)
 
 -- the number, the content behind its length, and the entries behind their count
 abbrev pub object_bytes : ObjectPlan → List ℕ
-object_bytes p = to_be_bytes w32 p.number ++ to_be_bytes w16 (length p.content) ++ p.content ++ length p.list ∷ flat_map grant_bytes p.list
+object_bytes p = to_be_bytes w32 p.number ++ counted w16 p.content ++ length p.list ∷ flat_map grant_bytes p.list
 
--- the mark, the node's own fields, and four lists behind their counts; the third, the certificates held in common, is empty
+-- the mark, the node's own fields, and four lists behind their counts
 abbrev pub opening_bytes : Opening → List ℕ
 opening_bytes o =
     0 ∷ 1 ∷ to_be_bytes w32 o.node ++ o.relay_key ++ to_be_bytes w32 o.shards ++ to_be_bytes w64 o.keep ++ to_be_bytes w64 o.limit
     ++ to_be_bytes w16 (length o.channels) ++ flat_map channel_bytes o.channels
     ++ length o.anchors ∷ flat_map anchor_bytes o.anchors
-    ++ 0 ∷ to_be_bytes w16 (length o.objects) ++ flat_map object_bytes o.objects
+    ++ length o.commons ∷ flat_map (common_bytes o.relay_key) o.commons
+    ++ to_be_bytes w16 (length o.objects) ++ flat_map object_bytes o.objects
 
 -- ---- limits
-
-abbrev pub IsByte : ℕ → Type 0
-IsByte b = b < 256
 
 -- 32 bytes
 abbrev pub IsKey : List ℕ → Type 0
@@ -68,40 +75,46 @@ IsChannel c = (c.0 < 2 ^ 32) × IsKey c.1
 abbrev pub IsAnchor : Anchor → Type 0
 IsAnchor a = (a.key < 2 ^ 32) × (a.name < 2 ^ 32)
 
-pub record IsPlainGrant (g : Grant) : Type 0 where
-  pub rights : (1 ≤ g.rights) × (g.rights ≤ 15)
-  pub numbers : HasSpelling g.who
-  pub atom : IsAtom g.who
+-- its numbers fit their fields, and its terms are within the limits
+abbrev pub IsCommon : Certificate → Type 0
+IsCommon c = HasBodySpelling c × IsWithinLimits c
 
-pub record IsPlainObject (p : ObjectPlan) : Type 0 where
+pub record FitsObject (p : ObjectPlan) : Type 0 where
   pub number : p.number < 2 ^ 32
-  pub content : (length p.content ≤ 4096) × All IsByte p.content
-  pub entries : length p.list ≤ 8
-  pub list : All IsPlainGrant p.list
+  pub content : IsContent p.content
+  pub list : IsAccessList p.list
 
 -- the journals of all shards and objects have room for this many entries
 abbrev pub journal_room : Opening → ℕ
 journal_room o = (o.shards + length o.objects) * o.limit
 
-pub record IsPlain (o : Opening) : Type 0 where
+pub record FitsOpening (o : Opening) : Type 0 where
   pub node : o.node < 2 ^ 32
   pub relay_key : IsKey o.relay_key
-  pub shards : o.shards ≡ 1
-  pub keep : (1 ≤ o.keep) × (o.keep ≤ 31536000)
-  pub limit : (1 ≤ o.limit) × (o.limit ≤ 1048576)
-  pub few_channels : length o.channels ≤ 1024
+  pub shards : (1 ≤ o.shards) × (o.shards ≤ MAX_SHARDS)
+  pub keep : (1 ≤ o.keep) × (o.keep ≤ MAX_KEEP)
+  pub limit : (1 ≤ o.limit) × (o.limit ≤ MAX_LIMIT)
+  pub few_channels : length o.channels ≤ MAX_CHANNELS
   pub channels : All IsChannel o.channels
   pub each_channel_once : AllPairs (λ c d. c.0 ≢ d.0) o.channels
-  pub few_anchors : length o.anchors ≤ 64
+  pub few_anchors : length o.anchors ≤ MAX_ANCHORS
   pub anchors : All IsAnchor o.anchors
   pub each_anchor_once : AllPairs (λ a b. a ≢ b) o.anchors
-  pub few_objects : length o.objects ≤ 256
-  pub objects : All IsPlainObject o.objects
+  pub few_commons : length o.commons ≤ MAX_COMMONS
+  pub commons : All IsCommon o.commons
+  pub each_common_once : AllPairs (λ c d. c ≢ d) o.commons
+  pub few_objects : length o.objects ≤ MAX_OBJECTS
+  pub objects : All FitsObject o.objects
   pub each_object_once : AllPairs (λ p q. p.number ≢ q.number) o.objects
-  pub room : journal_room o ≤ 8388608
+  pub room : journal_room o ≤ MAX_ROOM
 
 abbrev pub Spells : Opening → List ℕ → Type 0
-Spells o bytes = IsPlain o × (bytes ≡ opening_bytes o)
+Spells o bytes = FitsOpening o × (bytes ≡ opening_bytes o)
+
+-- an object within the limits, whose list names keys and names alone
+pub record IsPlainObject (p : ObjectPlan) : Type 0 where
+  pub fits : FitsObject p
+  pub atoms : All (λ g. IsAtom g.who) p.list
 
 -- ---- what is looked up
 

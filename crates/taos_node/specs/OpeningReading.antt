@@ -1,19 +1,23 @@
 -- Reading an opening from left to right, with the first fault that is met. It is pinned from both sides by
 -- Spells (Opening.antt), which does not read: see the clauses of read_opening.
 --     opening_of bytes      the opening that the bytes spell, or the fault
-use Rattle.std.specs.Prelude.{ℕ, Bool, true, false, ◌&&◌, List, length, Result, Ok, Err, nat_le, nat_lt, ◌==◌, if◌then◌else◌}
+use Rattle.std.specs.Prelude.{ℕ, Bool, ◌&&◌, List, length, Result, Ok, Err, nat_le, nat_lt, ◌==◌, if◌then◌else◌}
 use Rattle.std.specs.Int.{w16, w32, w64}
 use Rattle.prin_term.specs.declared.term.Anchor.{Anchor}
 use Rattle.prin_term.specs.declared.fault.TermFault.{TermFault}
 use Rattle.prin_term.specs.declared.fault.TermFault.TheVariants as terms
 use Rattle.prin_term.specs.declared.limits.TheConstants.{ENTRY_NODES}
-use Rattle.prin_term.specs.Principal.{Principal, Key, Name, And, Quoting, InRole, For}
+use Rattle.object_core.specs.declared.limits.TheConstants.{MAX_CONTENT, MAX_ENTRIES, MAX_RIGHTS}
+use Rattle.prin_term.specs.Principal.{Principal}
 use Rattle.prin_term.specs.Reading.{term_at}
 use Rattle.prin_term.specs.Steps.{◌>>=◌, with_fault, byte_at, bytes_at, number_at}
 use Rattle.prin_term.specs.View.{Grant}
+use Rattle.sealed_cert.specs.Refusals.{opened}
+use Rattle.stmt_codec.specs.Certificates.{Certificate}
+use Rattle.stmt_codec.specs.Equality.{same_certificate}
 use Rattle.taos_node.specs.declared.opening.OpeningFault.{OpeningFault}
 use Rattle.taos_node.specs.declared.opening.OpeningFault.TheVariants.{Byte, NoMemory}
-use Rattle.taos_node.specs.declared.opening.TheConstants.{MAX_KEEP, MAX_LIMIT, MAX_CHANNELS, MAX_ANCHORS, MAX_OBJECTS, MAX_CONTENT, MAX_ENTRIES, MAX_ROOM}
+use Rattle.taos_node.specs.declared.opening.TheConstants.{MAX_KEEP, MAX_LIMIT, MAX_CHANNELS, MAX_ANCHORS, MAX_COMMONS, MAX_OBJECTS, MAX_SHARDS, MAX_ROOM}
 use Rattle.taos_node.specs.declared.opening.head.Head.{Head}
 use Rattle.taos_node.specs.Opening.{Opening, ObjectPlan, journal_room}
 use Rattle.prin_term.specs.Readers.{Reader, followed, passing, made, counted, is_new}
@@ -59,14 +63,6 @@ seen_as terms.NoMemory = NoMemory
 abbrev pub is_within : ℕ → ℕ → ℕ → Bool
 is_within low high n = nat_le low n && nat_le n high
 
-abbrev pub is_atom : Principal → Bool
-is_atom (Key k) = true
-is_atom (Name n) = true
-is_atom (And a b) = false
-is_atom (Quoting a b) = false
-is_atom (InRole a r) = false
-is_atom (For a b) = false
-
 -- ---- the fields before the lists
 
 unfoldable pub mark_at : List ℕ → OpeningReader (ℕ × ℕ)
@@ -76,7 +72,7 @@ unfoldable pub number_in : ℕ → ℕ → List ℕ → OpeningReader ℕ
 number_in low high bytes = passing (is_within low high) Byte (u64_in bytes)
 
 unfoldable pub shards_at : List ℕ → OpeningReader ℕ
-shards_at bytes = exactly 1 (u32_in bytes)
+shards_at bytes = passing (is_within 1 MAX_SHARDS) Byte (u32_in bytes)
 
 unfoldable pub head_at : List ℕ → OpeningReader Head
 head_at bytes =
@@ -113,20 +109,34 @@ anchor_at bytes before =
 unfoldable pub anchors_at : List ℕ → OpeningReader (List Anchor)
 anchors_at bytes = counted MAX_ANCHORS Byte (u8_in bytes) (anchor_at bytes)
 
--- ---- the certificates held in common, of which a plain opening has none
+-- ---- the certificates held in common
 
-unfoldable pub commons_at : List ℕ → OpeningReader ℕ
-commons_at bytes = exactly 0 (u8_in bytes)
+-- the certificate that so many bytes open to under the relay's key; where they open to none the fault is at their first
+unfoldable pub opened_in : List ℕ → List ℕ → ℕ → OpeningReader Certificate
+opened_in bytes relay_key count at = do
+  text ← bytes_at (ended bytes) count bytes at
+  c ← with_fault (λ _. Byte at) (opened relay_key text.0)
+  Ok (c, text.1)
+
+-- a length, and a certificate of that length that is not among those before
+unfoldable pub common_at : List ℕ → List ℕ → List Certificate → OpeningReader Certificate
+common_at bytes relay_key before =
+    made (λ p. p.1)
+    (followed (u16_in bytes)
+    (λ count. passing (λ c. is_new (same_certificate c) before) Byte (opened_in bytes relay_key count)))
+
+unfoldable pub commons_at : List ℕ → List ℕ → OpeningReader (List Certificate)
+commons_at bytes relay_key = counted MAX_COMMONS Byte (u8_in bytes) (common_at bytes relay_key)
 
 -- ---- objects
 
-unfoldable pub atom_at : List ℕ → OpeningReader Principal
-atom_at bytes = passing is_atom Byte (λ at. with_fault seen_as (term_at ENTRY_NODES bytes at))
+unfoldable pub who_at : List ℕ → OpeningReader Principal
+who_at bytes at = with_fault seen_as (term_at ENTRY_NODES bytes at)
 
 unfoldable pub entry_at : List ℕ → OpeningReader Grant
 entry_at bytes =
     made (λ x. record { rights = x.0; who = x.1 })
-    (followed (passing (is_within 1 15) Byte (u8_in bytes)) (λ _. atom_at bytes))
+    (followed (passing (is_within 1 MAX_RIGHTS) Byte (u8_in bytes)) (λ _. who_at bytes))
 
 unfoldable pub list_at : List ℕ → OpeningReader (List Grant)
 list_at bytes = counted MAX_ENTRIES Byte (u8_in bytes) (λ _. entry_at bytes)
@@ -152,11 +162,11 @@ objects_at bytes = counted MAX_OBJECTS Byte (u16_in bytes) (object_at bytes)
 
 unfoldable pub fields_at : List ℕ → OpeningReader Opening
 fields_at bytes =
-    made (λ x. record { node = x.0.node; relay_key = x.0.relay_key; shards = x.0.shards; keep = x.0.keep; limit = x.0.limit; channels = x.1.0; anchors = x.1.1.0; objects = x.1.1.1.1 })
+    made (λ x. record { node = x.0.node; relay_key = x.0.relay_key; shards = x.0.shards; keep = x.0.keep; limit = x.0.limit; channels = x.1.0; anchors = x.1.1.0; commons = x.1.1.1.0; objects = x.1.1.1.1 })
     (followed (head_at bytes)
-    (λ _. followed (channels_at bytes)
+    (λ head. followed (channels_at bytes)
     (λ _. followed (anchors_at bytes)
-    (λ _. followed (commons_at bytes)
+    (λ _. followed (commons_at bytes head.relay_key)
     (λ _. objects_at bytes)))))
 
 -- nothing stands after the fields, and the journals have room

@@ -1,14 +1,19 @@
 -- What the program's opening means. Its channels and objects are looked up by number, so their order is not kept.
 --     HoldsKeys table keys      a look-up in the table of keys gives what the list has, and they have as many keys
 --     HoldsPlans map plans      a look-up in the map of objects gives what the list has, and they have as many objects
+--     common c      the certificate that the program shares
 --     Represents code o      the program's opening stands for the opening o
 --     Agrees Stands result read      what was returned stands for what reading gives, unless memory ran out
 use Rattle.std.specs.Prelude.{◌≡◌, ◌⊎◌, ℕ, List, length, map, Result, Ok, Err}
+use Rattle.std.specs.Arc.{arc_value}
+use Rattle.std.specs.declared.sync.Arc.{Arc}
 use Rattle.std.specs.BTreeMap.{BTreeMap, btree_map_len, get}
 use Rattle.std.specs.Option.{option_map}
 use Rattle.std.specs.Ordering.{nat_cmp}
 use Rattle.keyed_seal.specs.Keys.{Keys}
 use Rattle.prin_term.specs.View.{grant}
+use Rattle.stmt_codec.specs.declared.cert.Cert.{Cert}
+use Rattle.stmt_codec.specs.Certificates.{Certificate, certificate}
 use Rattle.taos_node.specs.declared.opening.Opening as code
 use Rattle.taos_node.specs.declared.opening.ObjectPlan as code_plan
 use Rattle.taos_node.specs.declared.opening.OpeningFault.{OpeningFault}
@@ -27,6 +32,10 @@ pub record HoldsPlans (plans : BTreeMap ℕ code_plan.ObjectPlan) (list : List O
   pub each : (number : ℕ) → option_map (plan number) (get nat_cmp plans number) ≡ plan_of list number
   pub count : btree_map_len plans ≡ length list
 
+-- the certificate that the program shares, wherever it lies
+abbrev pub common : {Z : Type 0} → Arc Cert Z → Certificate
+common c = certificate (arc_value c).body
+
 pub record Represents (code : code.Opening) (o : Opening) : Type 0 where
   pub node : code.node ≡ o.node
   pub relay_key : code.relay_key ≡ o.relay_key
@@ -35,6 +44,7 @@ pub record Represents (code : code.Opening) (o : Opening) : Type 0 where
   pub limit : code.limit ≡ o.limit
   pub channels : HoldsKeys code.channels o.channels
   pub anchors : code.anchors.items ≡ o.anchors
+  pub commons : map common code.commons.items ≡ o.commons
   pub objects : HoldsPlans code.objects o.objects
 
 -- one thing for another, each with the offset after it

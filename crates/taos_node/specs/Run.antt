@@ -14,7 +14,7 @@ use Rattle.frame_link.specs.Faults.{Rose}
 use Rattle.frame_link.specs.Frames.{frame, framed, IsPart, Splits}
 use Rattle.frame_link.specs.Readings.{ShowsKnown}
 use Rattle.taos_node.specs.Opening.{Opening}
-use Rattle.taos_node.specs.Messages.{Sent, spelling}
+use Rattle.taos_wire.specs.Reply.{Sent, spelling}
 use Rattle.taos_node.specs.Course.{Arrival, Course}
 
 -- the most bytes of a request

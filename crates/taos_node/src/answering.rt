@@ -1,19 +1,24 @@
 //! The course of one request.
 
-ghost use Rattle.std.specs.Prelude.{◌≡◌, ◌≤◌, Some, IfNone, IfSome, length};
+ghost use Rattle.std.specs.Prelude.{◌≡◌, ◌↔◌, ◌<◌, ◌≤◌, ◌^◌, [], List, ℕ, IfErr, IfOk, IsTrue, length};
+ghost use Rattle.object_core.specs.Operation as math;
+ghost use Rattle.object_core.specs.View.{operation};
+ghost use Rattle.taos_wire.specs.View.{request};
 ghost use Rattle.taos_node.specs.Opening.{IsPlainObject};
+ghost use Rattle.taos_wire.specs.Reply.{sealed, unsealed};
+ghost use Rattle.taos_node.specs.Course.{Course, HasArrived, IsAsked, IsUnbuilt};
+ghost use Rattle.taos_node.specs.Meaning.{opening, object, refusal, IsServable};
 ghost use Rattle.taos_node.specs.Ruling.{IsRuled};
-ghost use Rattle.taos_node.specs.Course.{Arrival, HasArrived};
-ghost use Rattle.taos_node.specs.Meaning.{opening, request, object, IsServable};
 ghost use Rattle.taos_node.specs.Serving.{Answers, AnswersCause};
 
 use crate::decide::{first_reader, proof_by};
 use crate::opening::{ObjectPlan, Opening};
-use crate::reply::ReplyBuf;
-use crate::request::{Request, TEXT_LEN, request_of};
+use crate::reply::{Refusal, ReplyBuf};
 use frame_link::{Clock, Failed};
 use keyed_seal::Sealer;
+use object_core::Op;
 use std::alloc::{AllocError, Global};
+use taos_wire::{Request, WireFault, read_request, sealed_with};
 
 /// How answering a request ended.
 #[derive(Clone, Copy, Debug, PartialEq, Eq)]
@@ -24,22 +29,72 @@ pub enum Handled {
     ClockFault,
 }
 
-// The request that a payload is, the key that sealed it, and its object.
-fn arrival_of<'a>(
+// The request that a payload is, under the seal of its channel's key, and that key; or what is
+// answered without a seal.
+fn asked_of<'a>(
+    alloc: Global,
     node: &'a Opening,
     payload: &[u8],
-) -> Option<(Request, &'a Sealer, &'a ObjectPlan)>
-    ensures none { IfNone result (Arrival (opening node.now) payload.now → ⊥) }
-    ensures some { IfSome result (λ x. HasArrived (opening node.now) payload.now
-        (request x.0) x.1.now (object x.0.object x.2.now)) }
+) -> Result<(Request, &'a Sealer), Refusal>
+    requires { length payload.now < 2 ^ 32 }
+    ensures asked { IfOk result (λ x. IsAsked (opening node.now) payload.now (request x.0) x.1.now) }
+    ensures refused { IfErr result
+        (λ f. Course (opening node.now) payload.now [] (unsealed (refusal f))) }
 {
-    let asked = request_of(payload)?;
-    let sealer = node.channels.sealer(asked.channel)?;
-    if !sealer.tag_is(&payload[..TEXT_LEN], &payload[TEXT_LEN..]) {
-        return None;
+    let asked = match read_request(alloc, payload) {
+        Ok(asked) => asked,
+        Err(WireFault::Malformed { offset }) => {
+            return Err(Refusal::Malformed {
+                offset: offset as u32,
+            });
+        }
+        Err(WireFault::NoMemory) => return Err(Refusal::NoMemory),
+    };
+    let Some(sealer) = node.channels.sealer(asked.channel) else {
+        return Err(Refusal::UnknownChannel {
+            number: asked.channel,
+        });
+    };
+    if !sealed_with(sealer, payload) {
+        return Err(Refusal::BadSeal);
     }
-    let plan = node.objects.get(&asked.object)?;
-    Some((asked, sealer, plan))
+    Ok((asked, sealer))
+}
+
+fn is_read(op: &Op) -> bool
+    ensures { IsTrue result ↔ (operation op.now ≡ math.Read) }
+{
+    match op {
+        Op::Read => true,
+        _ => false,
+    }
+}
+
+fn is_unbuilt(asked: &Request) -> bool
+    ensures { IsTrue result ↔ IsUnbuilt (request asked.now) }
+{
+    asked.quoted.is_some() || !is_read(&asked.op) || !asked.certs.is_empty()
+}
+
+// The object to which a sealed request comes; or what is answered under the same key.
+fn object_of<'a>(node: &'a Opening, asked: &Request) -> Result<&'a ObjectPlan, Refusal>
+    ensures arrived { IfOk result (λ plan. (payload key : List ℕ)
+        → IsAsked (opening node.now) payload (request asked.now) key
+        → HasArrived (opening node.now) payload (request asked.now) key
+        (object asked.now.object plan.now)) }
+    ensures refused { IfErr result (λ f. (payload key : List ℕ)
+        → IsAsked (opening node.now) payload (request asked.now) key
+        → Course (opening node.now) payload [] (sealed key (request asked.now) (refusal f))) }
+{
+    if is_unbuilt(asked) {
+        return Err(Refusal::Unbuilt);
+    }
+    match node.objects.get(&asked.object) {
+        Some(plan) => Ok(plan),
+        None => Err(Refusal::UnknownObject {
+            number: asked.object,
+        }),
+    }
 }
 
 /// Answers one request from its payload to its reply, which is left in the buffer.
@@ -50,19 +105,30 @@ pub fn answer<C: Clock>(
     clock: &mut C,
     out: &mut ReplyBuf,
 ) -> Handled
-    requires { IsServable (opening node.now) }
+    requires node { IsServable (opening node.now) }
+    requires short { length payload.now < 2 ^ 32 }
     ensures steps { Answers (opening node.now) payload.now
         (C.readings clock.old) (C.readings clock.new) out.new result }
     ensures cause { AnswersCause (C.faults clock.old) (C.faults clock.new) result }
 {
-    let Some((asked, sealer, plan)) = arrival_of(node, payload) else {
-        out.leave_unbuilt();
-        return Handled::Replied;
+    let (asked, sealer) = match asked_of(alloc, node, payload) {
+        Ok(found) => found,
+        Err(refusal) => {
+            out.leave_unsealed(refusal);
+            return Handled::Replied;
+        }
+    };
+    let plan = match object_of(node, &asked) {
+        Ok(plan) => plan,
+        Err(refusal) => {
+            out.leave_refused(sealer, asked.channel, asked.seq, refusal);
+            return Handled::Replied;
+        }
     };
     if let Err(Failed) = clock.now() {
         return Handled::ClockFault;
     }
-    rule(alloc, node, asked, sealer, plan, out);
+    rule(alloc, node, &asked, sealer, plan, out);
     Handled::Replied
 }
 
@@ -70,23 +136,33 @@ pub fn answer<C: Clock>(
 fn rule(
     alloc: Global,
     node: &Opening,
-    asked: Request,
+    asked: &Request,
     sealer: &Sealer,
     plan: &ObjectPlan,
     out: &mut ReplyBuf,
 )
     requires few_anchors { length node.now.anchors.items ≤ 64 }
-    requires plain { IsPlainObject (object asked.object plan.now) }
-    ensures { IsRuled node.now.anchors.items (request asked) sealer.now
-        (object asked.object plan.now) out.new }
+    requires built { IsUnbuilt (request asked.now) → ⊥ }
+    requires plain { IsPlainObject (object asked.now.object plan.now) }
+    ensures { IsRuled node.now.anchors.items (request asked.now) sealer.now
+        (object asked.now.object plan.now) out.new }
 {
     let Some((entry, step)) = first_reader(&node.anchors, asked.channel, &plan.list) else {
-        out.leave_denied(sealer, asked);
+        out.leave_denied(sealer, asked.channel, asked.seq);
         return;
     };
     let who = &plan.list[entry as usize].who;
     match proof_by(alloc, asked.channel, who, step) {
-        Ok(proof) => out.leave_granted(alloc, sealer, asked, entry, &proof, &plan.content),
-        Err(AllocError) => out.leave_no_memory(sealer, asked),
+        Ok(proof) => out.leave_granted(
+            sealer,
+            asked.channel,
+            asked.seq,
+            entry,
+            &proof,
+            &plan.content,
+        ),
+        Err(AllocError) => {
+            out.leave_refused(sealer, asked.channel, asked.seq, Refusal::NoMemory);
+        }
     }
 }

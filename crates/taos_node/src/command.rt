@@ -4,9 +4,12 @@ ghost use Rattle.std.specs.Prelude.{◌≡◌, ◌⊎◌, ◌↔◌, ◌<◌, �
 ghost use Rattle.frame_link.specs.Faults.{Rose};
 ghost use Rattle.taos_node.specs.Meaning.{opening, IsServable};
 ghost use Rattle.taos_node.specs.Run.{IsConnection, HasCauses, IsComplete};
-ghost use Rattle.taos_node.specs.Command.{IsRun, Runs, FileGives, FileHasCause, FileDecides, EndsWell, TellsFaults, status_of, told_by_first, faults_of_first};
+ghost use Rattle.taos_node.specs.Ending.{status_of};
+ghost use Rattle.taos_node.specs.Command.{IsRun, IsUnbuiltOpening, Runs, Ends, FileReads, FileGives, FileHasCause, FileDecides, EndsWell, TellsFaults, told_by_first, faults_of_first};
 
 use crate::connection::serve_connection;
+use crate::ending::{Ending, FileFault, status_of};
+use crate::note::tell;
 use crate::opening::{Opening, OpeningFault, read_opening};
 use frame_link::{Clock, Door, Failed, Outcome, RelayLink, Sink, Source, fill};
 use std::alloc::{AllocError, Global};
@@ -42,40 +45,11 @@ impl<C: Clock, R: RelayLink, D: Door> Lane<C, R, D> {
     }
 }
 
-/// Why a file opens no node.
-#[derive(Clone, Copy, Debug, PartialEq, Eq)]
-pub enum FileFault {
-    /// A read failed.
-    ReadFault,
-    /// Its bytes are no plain opening, or too many.
-    Refused,
-    /// Memory was refused.
-    NoMemory,
-}
-
 /// The most bytes of a node file.
 pub const MAX_FILE: usize = 4_194_304;
 
 /// The most frames that a connection answers.
 pub const MAX_FRAMES: u64 = 1_000_000;
-
-const USAGE: u8 = 1;
-
-const NODE_FILE: u8 = 2;
-
-const READ_FAULT: u8 = 3;
-
-const WRITE_FAULT: u8 = 4;
-
-const CLOCK_FAULT: u8 = 5;
-
-const MEMORY: u8 = 6;
-
-const TRUNCATED: u8 = 7;
-
-const TOO_LONG: u8 = 8;
-
-const SPENT: u8 = 10;
 
 fn zeros(alloc: Global, len: usize) -> Result<Vec<u8>, AllocError>
     ensures { IfOk result (λ v. length v.items ≡ len) }
@@ -84,8 +58,10 @@ fn zeros(alloc: Global, len: usize) -> Result<Vec<u8>, AllocError>
 }
 
 // The opening that a file spells.
-fn opening_of<F: Source>(alloc: Global, file: &mut F) -> Result<Opening, FileFault>
-    ensures gives { FileGives (F.left file.old) (F.left file.new) result }
+fn file_opening<F: Source>(alloc: Global, file: &mut F) -> Result<Opening, FileFault>
+    ensures reads { FileReads (F.left file.old) (F.left file.new) result }
+    ensures servable { IfOk result
+        (λ node. (IsUnbuiltOpening (opening node) → ⊥) → IsServable (opening node)) }
     ensures cause { FileHasCause (F.faults file.old) (F.faults file.new) result }
 {
     let Ok(mut room) = zeros(alloc, MAX_FILE + 1) else {
@@ -95,27 +71,26 @@ fn opening_of<F: Source>(alloc: Global, file: &mut F) -> Result<Opening, FileFau
         return Err(FileFault::ReadFault);
     };
     if len > MAX_FILE {
-        return Err(FileFault::Refused);
+        return Err(FileFault::TooLarge);
     }
     match read_opening(alloc, &room[..len]) {
         Ok(opening) => Ok(opening),
         Err(OpeningFault::NoMemory) => Err(FileFault::NoMemory),
-        Err(OpeningFault::Byte { .. }) => Err(FileFault::Refused),
+        Err(OpeningFault::Byte { offset }) => Err(FileFault::Malformed { offset }),
     }
 }
 
-fn status_of(outcome: Outcome) -> u8
-    ensures { result ≡ status_of outcome }
+// The same, where it is built.
+fn opening_of<F: Source>(alloc: Global, file: &mut F) -> Result<Opening, FileFault>
+    ensures gives { FileGives (F.left file.old) (F.left file.new) result }
+    ensures servable { IfOk result (λ node. IsServable (opening node)) }
+    ensures cause { FileHasCause (F.faults file.old) (F.faults file.new) result }
 {
-    match outcome {
-        Outcome::End { .. } => 0,
-        Outcome::Truncated { .. } => TRUNCATED,
-        Outcome::TooLong { .. } => TOO_LONG,
-        Outcome::ReadFault => READ_FAULT,
-        Outcome::WriteFault => WRITE_FAULT,
-        Outcome::ClockFault => CLOCK_FAULT,
-        Outcome::Spent { .. } => SPENT,
-        Outcome::NoMemory => MEMORY,
+    let opening = file_opening(alloc, file)?;
+    if opening.is_built() {
+        Ok(opening)
+    } else {
+        Err(FileFault::Unbuilt)
     }
 }
 
@@ -149,9 +124,50 @@ fn serve<I: Source, O: Sink, C: Clock, R: RelayLink, D: Door>(
     serve_connection(alloc, node, MAX_FRAMES, input, output, &mut lane.clock)
 }
 
+// Does the work, and tells nobody how it ended.
+fn run<F: Source, I: Source, O: Sink, C: Clock, R: RelayLink, D: Door>(
+    alloc: Global,
+    words: &[String],
+    file: &mut F,
+    input: &mut I,
+    output: &mut O,
+    lanes: &mut [Lane<C, R, D>],
+) -> Ending
+    requires some { 0 < length lanes.old }
+    ensures usage { (status_of result ≡ 1) ↔ ¬ (IsRun words.now) }
+    ensures file { IsRun words.now → FileDecides (F.left file.old)
+        (F.faults file.old) (F.faults file.new) (status_of result) }
+    ensures runs { Runs words.now (F.left file.old) (F.left file.new)
+        (I.left input.old) (I.left input.new) (O.written output.old) (O.written output.new)
+        (told_by_first C.readings lanes.old) (told_by_first C.readings lanes.new) result }
+    ensures complete { IsRun words.now → EndsWell (F.left file.old)
+        (F.faults file.old) (F.faults file.new) (I.left input.old)
+        (I.faults input.old) (I.faults input.new) (O.faults output.old) (O.faults output.new)
+        (faults_of_first C.faults lanes.old) (faults_of_first C.faults lanes.new)
+        (status_of result) }
+    ensures read_fault { status_of result ≡ 3 → Rose (F.faults file.old) (F.faults file.new)
+        ⊎ Rose (I.faults input.old) (I.faults input.new) }
+    ensures write_fault { status_of result ≡ 4
+        → Rose (O.faults output.old) (O.faults output.new) }
+    ensures clock_fault { status_of result ≡ 5 → Rose
+        (faults_of_first C.faults lanes.old) (faults_of_first C.faults lanes.new) }
+    ensures told { TellsFaults (F.faults file.old) (F.faults file.new)
+        (I.faults input.old) (I.faults input.new) (O.faults output.old) (O.faults output.new)
+        (faults_of_first C.faults lanes.old) (faults_of_first C.faults lanes.new)
+        (status_of result) }
+{
+    if !is_run(words) {
+        return Ending::Usage;
+    }
+    match opening_of(alloc, file) {
+        Ok(node) => Ending::Served(serve(alloc, &node, input, output, lanes)),
+        Err(fault) => Ending::File(fault),
+    }
+}
+
 /// Does all that the program does, and answers its exit status. `run` is the one command line: the
 /// file is read to a node's opening, and each request frame of the input is answered by one reply
-/// frame of the output, with the first lane's clock.
+/// frame of the output, with the first lane's clock. A note tells how it ended.
 pub fn taos<
     W: Threads + Wait + Sync,
     F: Source,
@@ -174,15 +190,18 @@ pub fn taos<
     requires some { 0 < length lanes.old }
     requires few { length lanes.old ≤ 16 }
 
-    // The words decide status 1, and the file status 2.
+    // The words decide status 1, and the file statuses 2 and 99.
     ensures usage { (result ≡ 1) ↔ ¬ (IsRun words.now) }
     ensures file { IsRun words.now → FileDecides (F.left file.old)
         (F.faults file.old) (F.faults file.new) result }
 
-    // Every whole frame has its course, and the bytes that are written are the replies.
-    ensures run { IsRun words.now → Runs (F.left file.old) (F.left file.new)
+    // Every whole frame has its course, the bytes that are written are the replies, and the note
+    // tells how it ended.
+    ensures run { Ends words.now (F.left file.old) (F.left file.new)
         (I.left input.old) (I.left input.new) (O.written output.old) (O.written output.new)
-        (told_by_first C.readings lanes.old) (told_by_first C.readings lanes.new) result }
+        (told_by_first C.readings lanes.old) (told_by_first C.readings lanes.new)
+        (N.written notes.old) (N.written notes.new) (N.faults notes.old) (N.faults notes.new)
+        result }
     ensures complete { IsRun words.now → EndsWell (F.left file.old)
         (F.faults file.old) (F.faults file.new) (I.left input.old)
         (I.faults input.old) (I.faults input.new) (O.faults output.old) (O.faults output.new)
@@ -200,18 +219,10 @@ pub fn taos<
         (I.faults input.old) (I.faults input.new) (O.faults output.old) (O.faults output.new)
         (faults_of_first C.faults lanes.old) (faults_of_first C.faults lanes.new) result }
 
-    // No notes are written yet.
-    ensures silent { notes.new ≡ notes.old }
+    // Success has no note.
+    ensures silent { result ≡ 0 → notes.new ≡ notes.old }
 {
-    let _ = notes;
-    if !is_run(words) {
-        return USAGE;
-    }
-    let node = match opening_of(alloc, file) {
-        Ok(node) => node,
-        Err(FileFault::ReadFault) => return READ_FAULT,
-        Err(FileFault::Refused) => return NODE_FILE,
-        Err(FileFault::NoMemory) => return MEMORY,
-    };
-    status_of(serve(alloc, &node, input, output, lanes))
+    let ending = run(alloc, words, file, input, output, lanes);
+    tell(notes, ending);
+    status_of(ending)
 }

@@ -1,6 +1,6 @@
 //! A connection: one reply frame for each request frame, in order.
 
-ghost use Rattle.std.specs.Prelude.{◌≡◌, ◌≤◌, IfOk};
+ghost use Rattle.std.specs.Prelude.{◌≡◌, ◌≤◌, IfOk, length};
 ghost use Rattle.taos_node.specs.Meaning.{opening, IsServable};
 ghost use Rattle.taos_node.specs.Serving.{Turns, TurnsCause, Serves};
 ghost use Rattle.taos_node.specs.Run.{IsConnection, HasCauses, IsComplete};
@@ -33,7 +33,8 @@ fn turn<O: Sink, C: Clock>(
     output: &mut O,
     clock: &mut C,
 ) -> Turned
-    requires { IsServable (opening node.now) }
+    requires node { IsServable (opening node.now) }
+    requires short { length payload.now ≤ MAX_REQUEST }
     ensures steps { Turns (opening node.now) payload.now
         (O.written output.old) (O.written output.new) (C.readings clock.old) (C.readings clock.new)
         result }

@@ -5,17 +5,19 @@ mod answering;
 mod command;
 mod connection;
 mod decide;
+mod ending;
+mod note;
 mod opening;
 mod reply;
-mod request;
 
 pub use answering::{Handled, answer};
-pub use command::{FileFault, Lane, MAX_FILE, MAX_FRAMES, taos};
+pub use command::{Lane, MAX_FILE, MAX_FRAMES, taos};
 pub use connection::{MAX_REQUEST, serve_connection};
+pub use ending::{Ending, FileFault, status_of};
 pub use frame_link::Outcome;
+pub use note::tell;
 pub use opening::{ObjectPlan, Opening, OpeningFault, one_opening, read_opening};
-pub use reply::ReplyBuf;
-pub use request::{Request, request_of};
+pub use reply::{Refusal, ReplyBuf};
 
 #[cfg(test)]
 mod tests;

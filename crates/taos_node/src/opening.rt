@@ -4,6 +4,8 @@ ghost use Rattle.std.specs.Prelude.{◌≡◌};
 ghost use Rattle.taos_node.specs.declared.opening.OpeningFault.TheVariants.{NoMemory};
 ghost use Rattle.taos_node.specs.OpeningReading.{seen_as};
 
+mod built;
+mod common;
 mod field;
 mod head;
 mod object;
@@ -17,7 +19,11 @@ use std::alloc::{AllocError, AllocFailed};
 use std::collections::BTreeMap;
 use std::error::Error;
 use std::fmt;
+use std::sync::Arc;
+use stmt_codec::Cert;
 
+/// The most shards.
+pub const MAX_SHARDS: u32 = 64;
 /// The longest time in seconds that a dead certificate stays.
 pub const MAX_KEEP: u64 = 31_536_000;
 /// The most entries of a journal.
@@ -26,12 +32,10 @@ pub const MAX_LIMIT: u64 = 1_048_576;
 pub const MAX_CHANNELS: u16 = 1_024;
 /// The most anchors.
 pub const MAX_ANCHORS: u8 = 64;
+/// The most certificates that are held in common.
+pub const MAX_COMMONS: u8 = 32;
 /// The most objects.
 pub const MAX_OBJECTS: u16 = 256;
-/// The most bytes of an object's content.
-pub const MAX_CONTENT: u16 = 4_096;
-/// The most entries of an access list.
-pub const MAX_ENTRIES: u8 = 8;
 /// The most entries of all journals together, of shards and of objects.
 pub const MAX_ROOM: u64 = 8_388_608;
 
@@ -44,7 +48,8 @@ pub struct ObjectPlan {
 
 /// What a node is opened with: its number and the key of its relay, how many shards it has, the
 /// seconds that a dead certificate stays, the entries that a journal has room for, the keys of
-/// its channels, the names that keys are anchored to, and its objects by their numbers.
+/// its channels, the names that keys are anchored to, the certificates that it holds in common, and
+/// its objects by their numbers.
 #[derive(Drop)]
 pub struct Opening {
     pub node: u32,
@@ -54,6 +59,7 @@ pub struct Opening {
     pub limit: u64,
     pub channels: KeyTable,
     pub anchors: Vec<Anchor>,
+    pub commons: Vec<Arc<Cert>>,
     pub objects: BTreeMap<u32, ObjectPlan>,
 }
 

@@ -1,3 +1,7 @@
+ghost use Rattle.std.specs.Prelude.{IfOk};
+ghost use Rattle.taos_node.specs.Command.{IsUnbuiltOpening};
+ghost use Rattle.taos_node.specs.Meaning.{opening, IsServable};
+
 use super::*;
 use frame_link::{ClosedDoor, MemClock, MemSink, MemSource, NoRelay};
 use std::alloc::{AllocError, Global};
@@ -35,10 +39,16 @@ const DENIAL: [&str; 2] = [
     "9eebd119d6f7ae800bd3b8f0dde9a690d08a318a2a02fdaecd78e9a2a1295328",
 ];
 
+// No request has no bytes.
+const MALFORMED: [&str; 2] = ["00000032 04 00000000 0000000000000000 02 00000000", NO_SEAL];
+
+// What is not built yet is answered so to channel 1's first request.
 const UNBUILT: [&str; 2] = [
-    "0000002e 04 00000000 0000000000000000 ff",
-    "0000000000000000000000000000000000000000000000000000000000000000",
+    "0000002e 04 00000001 0000000000000001 ff",
+    "45c3e412071dc35eb7188388748d95f45ebe8d1122737cb8fbcf156ff81a1626",
 ];
+
+const NO_SEAL: &str = "0000000000000000000000000000000000000000000000000000000000000000";
 
 // One entry: all rights to name 10.
 const FOR_ALICE: &str = "01 0f 020000000a";
@@ -63,7 +73,7 @@ fn spell(out: &mut Vec<u8>, digits: &str) -> Result<(), AllocError> {
     Ok(())
 }
 
-fn spelled(alloc: Global, parts: &[&str]) -> Result<Vec<u8>, AllocError> {
+pub(crate) fn spelled(alloc: Global, parts: &[&str]) -> Result<Vec<u8>, AllocError> {
     let mut bytes = Vec::new(alloc);
     for part in parts {
         spell(&mut bytes, part)?;
@@ -102,6 +112,18 @@ fn node_file(alloc: Global, list: &str) -> Result<Vec<u8>, AllocError> {
     spell(&mut bytes, "00 0001 00000005 0005 68656c6c6f")?;
     spell(&mut bytes, list)?;
     Ok(bytes)
+}
+
+// The opening, where it is built.
+fn built(node: Opening) -> Result<Opening, Fail>
+    requires { (IsUnbuiltOpening (opening node) → ⊥) → IsServable (opening node) }
+    ensures { IfOk result (λ node. IsServable (opening node)) }
+{
+    if node.is_built() {
+        Ok(node)
+    } else {
+        Err("not built".into())
+    }
 }
 
 // What stands round a run.
@@ -232,30 +254,9 @@ fn a_request_has_its_reply(rt: HostRuntime) -> Result<(), Fail> {
 }
 
 #[test]
-fn what_is_no_plain_request_has_one_reply(rt: HostRuntime) -> Result<(), Fail> {
-    let cases: [(&str, &[&str]); 5] = [
-        ("an empty payload", &["00000000"]),
-        (
-            "a turned tag",
-            &[
-                "00000034 03 00000001 0000000000000001 00 01 00000005 00",
-                "4afc9eb732af74440ece46185f2c6e4c4b5005637c8b8e7f57851cdf32e520d4",
-            ],
-        ),
-        (
-            "channel 9",
-            &[
-                "00000034 03 00000009 0000000000000001 00 01 00000005 00",
-                "64226cae64404ec9114f890b4783035ced59e7ef7d65b907c8e24cb8b40084ae",
-            ],
-        ),
-        (
-            "object 6",
-            &[
-                "00000034 03 00000001 0000000000000001 00 01 00000006 00",
-                "e4af5a58a2ca647e95d9b33320b626a032d30ae7c4cbf865f66ef9915f0db9df",
-            ],
-        ),
+fn each_refusal_has_its_reply(rt: HostRuntime) -> Result<(), Fail> {
+    let cases: [(&str, &[&str], &[&str]); 10] = [
+        ("an empty payload", &["00000000"], &MALFORMED),
         (
             "a byte behind the tag",
             &[
@@ -263,10 +264,78 @@ fn what_is_no_plain_request_has_one_reply(rt: HostRuntime) -> Result<(), Fail> {
                 "4afc9eb732af74440ece46185f2c6e4c4b5005637c8b8e7f57851cdf32e520d5",
                 "00",
             ],
+            &["00000032 04 00000000 0000000000000000 02 00000034", NO_SEAL],
+        ),
+        (
+            "channel 9",
+            &[
+                "00000034 03 00000009 0000000000000001 00 01 00000005 00",
+                "64226cae64404ec9114f890b4783035ced59e7ef7d65b907c8e24cb8b40084ae",
+            ],
+            &["00000032 04 00000000 0000000000000000 03 00000009", NO_SEAL],
+        ),
+        (
+            "a turned tag",
+            &[
+                "00000034 03 00000001 0000000000000001 00 01 00000005 00",
+                "4afc9eb732af74440ece46185f2c6e4c4b5005637c8b8e7f57851cdf32e520d4",
+            ],
+            &["0000002e 04 00000000 0000000000000000 04", NO_SEAL],
+        ),
+        (
+            "a turned tag of a request that is not built",
+            &[
+                "00000039 03 00000001 0000000000000001 01 020000001e 01 00000005 00",
+                "2077822346d90e8079b989c53fccfcb6b8017be6a1c42eae9c55c9418d3c1812",
+            ],
+            &["0000002e 04 00000000 0000000000000000 04", NO_SEAL],
+        ),
+        (
+            "channel 1 quoting name 30",
+            &[
+                "00000039 03 00000001 0000000000000001 01 020000001e 01 00000005 00",
+                "2077822346d90e8079b989c53fccfcb6b8017be6a1c42eae9c55c9418d3c1813",
+            ],
+            &UNBUILT,
+        ),
+        (
+            "a Write of `new`",
+            &[
+                "00000039 03 00000001 0000000000000001 00 02 00000005 0003 6e6577 00",
+                "6446071b6cb71d5ee3309f661b6b0819dd66e4290dc50b6f669f8a5969598ce3",
+            ],
+            &UNBUILT,
+        ),
+        (
+            "a certificate of one byte",
+            &[
+                "00000037 03 00000001 0000000000000001 00 01 00000005 01 0001 02",
+                "704502d6286bab0b9830766cf5ca3e1962f9d15a3576346e3279edfc46044f94",
+            ],
+            &UNBUILT,
+        ),
+        (
+            "a Hold of object 6",
+            &[
+                "00000034 03 00000001 0000000000000001 00 04 00000006 00",
+                "59c4bd93dc26bc7ae41a6a4aebb1e7f289aa64f00e7d35930198da50001f05d0",
+            ],
+            &UNBUILT,
+        ),
+        (
+            "object 6",
+            &[
+                "00000034 03 00000001 0000000000000001 00 01 00000006 00",
+                "e4af5a58a2ca647e95d9b33320b626a032d30ae7c4cbf865f66ef9915f0db9df",
+            ],
+            &[
+                "00000032 04 00000001 0000000000000001 09 00000006",
+                "bb5c271ccf743bb49f2137a643b36477ecc8788d5f905398658297948c394ef2",
+            ],
         ),
     ];
-    let wanted = spelled(rt.alloc(), &UNBUILT)?;
-    for (name, request) in cases {
+    for (name, request, reply) in cases {
+        let wanted = spelled(rt.alloc(), reply)?;
         let (status, written) = replied(&rt, rt.alloc(), FOR_ALICE, request)?;
         assert_eq!(rt; status, 0, "{name}");
         assert_eq!(rt; written.as_slice(), wanted.as_slice(), "{name}");
@@ -281,8 +350,25 @@ fn no_other_words_run(rt: HostRuntime) -> Result<(), Fail> {
     for words in cases {
         let mut around = around_of(rt.alloc(), &file, &[])?;
         assert_eq!(rt; call(&rt, rt.alloc(), words, &mut around)?, 1, "{words:?}");
+        let note = around.notes.written();
+        assert_eq!(rt; note, b"taos: usage\n".as_slice(), "{words:?}");
     }
     Ok(())
+}
+
+fn zeros(alloc: Global, len: usize) -> Result<Vec<u8>, AllocError> {
+    vec![in alloc; 0; len]
+}
+
+// What comes of a file, and its note.
+fn noted<W: Threads + Wait + Sync>(
+    rt: &W,
+    alloc: Global,
+    file: &[u8],
+) -> Result<(u8, Vec<u8>), AllocError> {
+    let mut around = around_of(alloc, file, &[])?;
+    let status = call(rt, alloc, &["run"], &mut around)?;
+    Ok((status, around.notes.written().to_vec(alloc)?))
 }
 
 #[test]
@@ -291,14 +377,120 @@ fn a_file_that_opens_no_node_is_refused(rt: HostRuntime) -> Result<(), Fail> {
     shorter.pop();
     let mut longer = small_file(rt.alloc())?;
     longer.push(0)?;
-    let files: [&[u8]; 3] = [&[], shorter.as_slice(), longer.as_slice()];
-    for bytes in files {
-        let mut around = around_of(rt.alloc(), bytes, &[])?;
+    let files: [(&[u8], &[u8]); 3] = [
+        (&[], b"taos: node file: byte 0: malformed\n"),
+        (shorter.as_slice(), b"taos: node file: byte 63: malformed\n"),
+        (longer.as_slice(), b"taos: node file: byte 64: malformed\n"),
+    ];
+    for (bytes, wanted) in files {
+        let (status, note) = noted(&rt, rt.alloc(), bytes)?;
+        assert_eq!(rt; status, 2, "{bytes:?}");
+        assert_eq!(rt; note.as_slice(), wanted, "{bytes:?}");
+    }
+    let large = zeros(rt.alloc(), MAX_FILE + 1)?;
+    let (status, note) = noted(&rt, rt.alloc(), &large)?;
+    assert_eq!(rt; status, 2);
+    assert_eq!(rt;
+        note.as_slice(),
+        b"taos: node file: line 0: limit\n".as_slice()
+    );
+    Ok(())
+}
+
+#[test]
+fn an_opening_that_is_not_built_is_answered_so(rt: HostRuntime) -> Result<(), Fail> {
+    // Two shards; a certificate in common; an entry for name 10 in role 1.
+    let shards = "00000002 0000000000000e10 0000000000004000 0000 00 00 0000";
+    let common = [
+        "00000001 0000000000000e10 0000000000004000 0000 00 01",
+        "0041 02 01 00000001 00 0100000002 020000000a 00000000000007d0 0000000000000001",
+        "22f512cd8f27327c1e0e348919e951e406ff1789829adff76908eeb41ce4f867 0000",
+    ];
+    let compound = [
+        "00000001 0000000000000e10 0000000000004000 0000 00 00",
+        "0001 00000005 0000 01 01 05 020000000a 00000001",
+    ];
+    let cases: [&[&str]; 3] = [&[shards], &common, &compound];
+    for tail in cases {
+        let mut file = spelled(rt.alloc(), &["0001 00000007"])?;
+        file.extend_from_slice(&[7; 32])?;
+        file.append(&mut spelled(rt.alloc(), tail)?)?;
+        let (status, note) = noted(&rt, rt.alloc(), &file)?;
+        assert_eq!(rt; status, 99, "{tail:?}");
         assert_eq!(rt;
-            call(&rt, rt.alloc(), &["run"], &mut around)?,
-            2,
-            "{bytes:?}"
+            note.as_slice(),
+            b"taos: not built\n".as_slice(),
+            "{tail:?}"
         );
+    }
+    Ok(())
+}
+
+#[test]
+fn each_ending_has_its_status_and_its_note(rt: HostRuntime) -> Result<(), Fail> {
+    let offset = 38;
+    let cases: [(Ending, u8, &[u8]); 14] = [
+        (Ending::Usage, 1, b"taos: usage\n"),
+        (Ending::File(FileFault::ReadFault), 3, b"taos: read fault\n"),
+        (
+            Ending::File(FileFault::Malformed { offset }),
+            2,
+            b"taos: node file: byte 38: malformed\n",
+        ),
+        (
+            Ending::File(FileFault::TooLarge),
+            2,
+            b"taos: node file: line 0: limit\n",
+        ),
+        (Ending::File(FileFault::Unbuilt), 99, b"taos: not built\n"),
+        (Ending::File(FileFault::NoMemory), 6, b"taos: no memory\n"),
+        (Ending::Served(Outcome::End { frames: 3 }), 0, b""),
+        (
+            Ending::Served(Outcome::Truncated { have: 3 }),
+            7,
+            b"taos: input ends inside a frame, 3 bytes kept\n",
+        ),
+        (
+            Ending::Served(Outcome::TooLong { length: 65_537 }),
+            8,
+            b"taos: frame too long: 65537\n",
+        ),
+        (Ending::Served(Outcome::ReadFault), 3, b"taos: read fault\n"),
+        (
+            Ending::Served(Outcome::WriteFault),
+            4,
+            b"taos: write fault\n",
+        ),
+        (
+            Ending::Served(Outcome::ClockFault),
+            5,
+            b"taos: clock fault\n",
+        ),
+        (
+            Ending::Served(Outcome::Spent { frames: 1_000_000 }),
+            10,
+            b"taos: frames spent: 1000000\n",
+        ),
+        (Ending::Served(Outcome::NoMemory), 6, b"taos: no memory\n"),
+    ];
+    for (ending, status, note) in cases {
+        let mut notes = sink_of(rt.alloc(), &[])?;
+        tell(&mut notes, ending);
+        assert_eq!(rt; notes.written(), note, "{ending:?}");
+        assert_eq!(rt; status_of(ending), status, "{ending:?}");
+    }
+    Ok(())
+}
+
+#[test]
+fn a_note_that_fails_is_cut_and_changes_no_status(rt: HostRuntime) -> Result<(), Fail> {
+    let cases: [(usize, &[u64], &[u8]); 3] = [(1000, &[0], b""), (5, &[], b"taos:"), (0, &[], b"")];
+    for (room, fails, wanted) in cases {
+        let mut around = around_of(rt.alloc(), &[], &[])?;
+        around.notes = MemSink::new(rt.alloc(), room, fails.to_vec(rt.alloc())?)?;
+        assert_eq!(rt; call(&rt, rt.alloc(), &["run"], &mut around)?, 2, "{room}");
+        assert_eq!(rt; around.notes.written(), wanted, "{room}");
+        assert_eq!(rt; around.notes.faults(), 1, "{room}");
     }
     Ok(())
 }
@@ -328,14 +520,14 @@ fn three(alloc: Global) -> Result<(Vec<u8>, Vec<u8>), AllocError> {
     spell(&mut input, "00000000")?;
     let mut output = spelled(alloc, &GRANT)?;
     output.append(&mut spelled(alloc, &DENIAL)?)?;
-    output.append(&mut spelled(alloc, &UNBUILT)?)?;
+    output.append(&mut spelled(alloc, &MALFORMED)?)?;
     Ok((input, output))
 }
 
 #[test]
 fn frames_in_pieces_of_every_size_have_the_same_replies(rt: HostRuntime) -> Result<(), Fail> {
     let alloc = rt.alloc();
-    let node = read_opening(alloc, &node_file(alloc, FOR_ALICE)?)?;
+    let node = built(read_opening(alloc, &node_file(alloc, FOR_ALICE)?)?)?;
     let (bytes, wanted) = three(alloc)?;
     for size in 1..=bytes.len() {
         let pieces = vec![in alloc; size; 200]?;
@@ -349,7 +541,7 @@ fn frames_in_pieces_of_every_size_have_the_same_replies(rt: HostRuntime) -> Resu
     Ok(())
 }
 
-// The replies are of 99, 63 and 50 bytes. An empty frame has one read, and each other two.
+// The replies are of 99, 63 and 54 bytes. An empty frame has one read, and each other two.
 #[test]
 fn each_read_may_fail(rt: HostRuntime) -> Result<(), Fail> {
     let file = node_file(rt.alloc(), FOR_ALICE)?;
@@ -360,8 +552,8 @@ fn each_read_may_fail(rt: HostRuntime) -> Result<(), Fail> {
         (2, 3, 99),
         (3, 3, 99),
         (4, 3, 162),
-        (5, 3, 212),
-        (6, 0, 212),
+        (5, 3, 216),
+        (6, 0, 216),
     ] {
         let mut around = around_of(rt.alloc(), &file, &input)?;
         around.input = source_of(rt.alloc(), &input, &[at])?;
@@ -394,7 +586,7 @@ fn each_read_may_fail(rt: HostRuntime) -> Result<(), Fail> {
 fn each_write_may_fail(rt: HostRuntime) -> Result<(), Fail> {
     let file = node_file(rt.alloc(), FOR_ALICE)?;
     let (input, wanted) = three(rt.alloc())?;
-    for (at, status, len) in [(0, 4, 0), (1, 4, 99), (2, 4, 162), (3, 0, 212)] {
+    for (at, status, len) in [(0, 4, 0), (1, 4, 99), (2, 4, 162), (3, 0, 216)] {
         let mut around = around_of(rt.alloc(), &file, &input)?;
         around.output = sink_of(rt.alloc(), &[at])?;
         assert_eq!(rt;
@@ -429,7 +621,7 @@ fn a_full_output_has_a_front_of_the_reply(rt: HostRuntime) -> Result<(), Fail> {
 fn each_reading_may_fail(rt: HostRuntime) -> Result<(), Fail> {
     let file = node_file(rt.alloc(), FOR_ALICE)?;
     let (input, wanted) = three(rt.alloc())?;
-    for (at, status, len) in [(0, 5, 0), (1, 5, 99), (2, 0, 212)] {
+    for (at, status, len) in [(0, 5, 0), (1, 5, 99), (2, 0, 216)] {
         let mut around = around_of(rt.alloc(), &file, &input)?;
         let clock = clock_of(rt.alloc(), &[at])?;
         around.lanes = [Lane::of(clock, NoRelay::new(), ClosedDoor::new())];
@@ -450,7 +642,7 @@ fn each_reading_may_fail(rt: HostRuntime) -> Result<(), Fail> {
 #[test]
 fn frames_behind_the_last_are_not_answered(rt: HostRuntime) -> Result<(), Fail> {
     let alloc = rt.alloc();
-    let node = read_opening(alloc, &node_file(alloc, FOR_ALICE)?)?;
+    let node = built(read_opening(alloc, &node_file(alloc, FOR_ALICE)?)?)?;
     let wanted = spelled(alloc, &GRANT)?;
     let once = spelled(alloc, &BY_ONE)?;
     let mut twice = spelled(alloc, &BY_ONE)?;
@@ -484,7 +676,7 @@ fn a_million_frames_are_answered_and_no_more(rt: HostRuntime) -> Result<(), Fail
             status,
             "{len} bytes"
         );
-        assert_eq!(rt; around.output.written().len(), 50_000_000, "{len} bytes");
+        assert_eq!(rt; around.output.written().len(), 54_000_000, "{len} bytes");
     }
     Ok(())
 }

@@ -9,10 +9,10 @@ use Rattle.taos_calculus.specs.declared.line.Node.{Node}
 use Rattle.taos_calculus.specs.declared.line.Fact.{Fact}
 use Rattle.taos_calculus.specs.Rules.{SpeaksFor, Says}
 use Rattle.taos_calculus.specs.Canonical.{post_order}
-use Rattle.taos_calculus.specs.Walking.{met}
+use Rattle.stmt_codec.specs.Distinct.{met}
 use Rattle.taos_calculus.specs.Tables.{shape, IsNodeTable, IsBelow, named, principals_of}
 use Rattle.taos_calculus.proofs.Naming.{named_reads}
-use Rattle.taos_calculus.proofs.Firsts.{met-append}
+use Rattle.stmt_codec.proofs.Firsts.{met-append}
 use Rattle.taos_saturate.specs.Interning.{Fits, TakesIn, node_pair}
 use Rattle.taos_saturate.specs.Carrying.{CarriesFact}
 use Rattle.taos_saturate.proofs.Interned.{fits_front, fits_next, length_grown, named_stays}

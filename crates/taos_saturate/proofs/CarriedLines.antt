@@ -12,11 +12,11 @@ use Rattle.taos_calculus.specs.declared.line.Line.{Line}
 use Rattle.taos_calculus.specs.declared.line.Step.{Step}
 use Rattle.taos_calculus.specs.Rules.{SpeaksFor, Says}
 use Rattle.taos_calculus.specs.Canonical.{post_order, terms_of}
-use Rattle.taos_calculus.specs.Walking.{met}
+use Rattle.stmt_codec.specs.Distinct.{met}
 use Rattle.taos_calculus.specs.Tables.{IsNodeTable, IsBelow, judgement, named, principals_of}
 use Rattle.taos_calculus.proofs.Building.{slice_get-front, slice_get-back}
 use Rattle.taos_calculus.proofs.Naming.{length-principals_of}
-use Rattle.taos_calculus.proofs.Firsts.{met-append, met-grows}
+use Rattle.stmt_codec.proofs.Firsts.{met-append, met-grows}
 use Rattle.taos_saturate.specs.Citing.{IsRecited}
 use Rattle.taos_saturate.specs.Carrying.{FactFits, CarriesFact, IsCarriedLine, CarriesLines}
 use Rattle.taos_saturate.proofs.Few.{met_few}

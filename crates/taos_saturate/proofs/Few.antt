@@ -8,10 +8,11 @@ use Rattle.std.proofs.lemmas.Bool.{cases_Bool, false_from_ne_true}
 use Rattle.prin_term.specs.Principal.{Principal, Key, Name, And, Quoting, InRole, For, subterms, node_count}
 use Rattle.stmt_codec.specs.Certificates.{Certificate, speaker_of, IsWithinLimits, distinct_subterms}
 use Rattle.stmt_codec.proofs.Members.{members_same}
-use Rattle.taos_calculus.specs.Canonical.{same_principal, post_order, first_of_each}
-use Rattle.taos_calculus.specs.Walking.{met}
-use Rattle.taos_calculus.proofs.Same.{same_principal-true, same_principal-itself}
-use Rattle.taos_calculus.proofs.Firsts.{is_new, met-is, met-append}
+use Rattle.stmt_codec.specs.Distinct.{same_principal, first_of_each}
+use Rattle.taos_calculus.specs.Canonical.{post_order}
+use Rattle.stmt_codec.specs.Distinct.{met}
+use Rattle.stmt_codec.proofs.Same.{same_principal-true, same_principal-itself}
+use Rattle.stmt_codec.proofs.Firsts.{is_new, met-is, met-append}
 use Rattle.taos_calculus.proofs.Distinct.{Apart, Apart-filter, Apart-first_of_each}
 
 here : {X : Type 0} (x : X) (xs : List X) → Contains (x ∷ xs) x

@@ -8,11 +8,11 @@ use Rattle.taos_calculus.specs.declared.line.Node.{Node}
 use Rattle.taos_calculus.specs.declared.line.Fact.{Fact}
 use Rattle.taos_calculus.specs.declared.line.Line.{Line}
 use Rattle.taos_calculus.specs.Canonical.{post_order, terms_of}
-use Rattle.taos_calculus.specs.Walking.{met}
+use Rattle.stmt_codec.specs.Distinct.{met}
 use Rattle.taos_calculus.specs.Tables.{IsNodeTable, IsBelow, judgement, named, principals_of}
 use Rattle.taos_calculus.proofs.Induction.{All-one, All-two}
 use Rattle.taos_calculus.proofs.Naming.{length-principals_of}
-use Rattle.taos_calculus.proofs.Firsts.{met-append}
+use Rattle.stmt_codec.proofs.Firsts.{met-append}
 use Rattle.taos_calculus.proofs.Numbers.{Numbered, numbered_operands, number_member}
 use Rattle.taos_saturate.specs.Carrying.{FactFits, CarriesLines}
 use Rattle.taos_saturate.proofs.Few.{met_few, post_in}

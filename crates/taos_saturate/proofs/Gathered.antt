@@ -10,10 +10,10 @@ use Rattle.taos_calculus.specs.declared.line.Node.{Node}
 use Rattle.taos_calculus.specs.Question.{picked, claim_of}
 use Rattle.taos_calculus.specs.Rules.{Claim}
 use Rattle.taos_calculus.specs.Canonical.{post_order}
-use Rattle.taos_calculus.specs.Walking.{met}
+use Rattle.stmt_codec.specs.Distinct.{met}
 use Rattle.taos_calculus.specs.Tables.{IsNodeTable, named, principals_of}
 use Rattle.taos_calculus.proofs.Naming.{length-principals_of}
-use Rattle.taos_calculus.proofs.Firsts.{met-grows, met-append}
+use Rattle.stmt_codec.proofs.Firsts.{met-grows, met-append}
 use Rattle.taos_saturate.specs.declared.saturation.Cited.{Cited}
 use Rattle.taos_saturate.specs.Gathering.{Widens, CitedIn, chosen_by, Gathers}
 use Rattle.taos_saturate.specs.Interning.{IsRoomy, Fits, TakesIn}

@@ -10,13 +10,14 @@ use Rattle.std.proofs.lemmas.Option.{none-some, same_Some, slice_get-get_or, sli
 use Rattle.prin_term.specs.Kind.{Kind, And, Quoting, For, pair}
 use Rattle.prin_term.specs.Principal.{Principal, Key, InRole, node_count}
 use Rattle.taos_calculus.specs.declared.line.Node.{Node}
-use Rattle.taos_calculus.specs.Canonical.{same_principal, post_order}
-use Rattle.taos_calculus.specs.Walking.{met}
+use Rattle.stmt_codec.specs.Distinct.{same_principal}
+use Rattle.taos_calculus.specs.Canonical.{post_order}
+use Rattle.stmt_codec.specs.Distinct.{met}
 use Rattle.taos_calculus.specs.Tables.{shape, OperandsBelow, IsNodeTable, grown, principals_of, named}
 use Rattle.taos_calculus.proofs.Building.{slice_get-front, slice_get-back}
-use Rattle.taos_calculus.proofs.Firsts.{met-there, met-new, met-append, met-grows}
+use Rattle.stmt_codec.proofs.Firsts.{met-there, met-new, met-append, met-grows}
 use Rattle.taos_calculus.proofs.Naming.{named_reads, named_apart, operands_below, length-principals_of}
-use Rattle.taos_calculus.proofs.Same.{same_principal-true, same_principal-itself}
+use Rattle.stmt_codec.proofs.Same.{same_principal-true, same_principal-itself}
 use Rattle.taos_saturate.specs.Interning.{IsRoomy, Fits, TakesIn, node_pair}
 use Rattle.taos_saturate.proofs.Adding.{below_or_not, same_or_not}
 

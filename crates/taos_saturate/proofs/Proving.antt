@@ -11,12 +11,13 @@ use Rattle.taos_calculus.specs.declared.line.Fact.{Fact}
 use Rattle.taos_calculus.specs.declared.line.Line.{Line}
 use Rattle.taos_calculus.specs.declared.line.Step.{Step}
 use Rattle.taos_calculus.specs.Rules.{Claim, Judgement, SpeaksFor, EachFollows, Follows, last_fact, Line as Meaning, line}
-use Rattle.taos_calculus.specs.Canonical.{IsCanonical, terms_of, post_order, first_of_each, canonical_table}
+use Rattle.stmt_codec.specs.Distinct.{first_of_each}
+use Rattle.taos_calculus.specs.Canonical.{IsCanonical, terms_of, post_order, canonical_table}
 use Rattle.taos_calculus.specs.Limits.{IsProofParts}
 use Rattle.taos_calculus.specs.Tables.{IsNodeTable, IsBelow, judgement, meaning, named, principals_of, parts_of, lines_of}
 use Rattle.taos_calculus.specs.Tidy.{premises_of, cites_of, moved}
 use Rattle.taos_calculus.specs.Numbered.{Gives, EachGives}
-use Rattle.taos_calculus.proofs.Firsts.{first_of_each-met}
+use Rattle.stmt_codec.proofs.Firsts.{first_of_each-met}
 use Rattle.taos_calculus.proofs.Numbers.{gives-follows}
 use Rattle.taos_calculus.proofs.NumberedMoving.{gives_moved}
 use Rattle.taos_saturate.specs.Citing.{IsRecited}

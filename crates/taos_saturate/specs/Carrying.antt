@@ -7,7 +7,7 @@ use Rattle.std.specs.List.{flat_map}
 use Rattle.taos_calculus.specs.declared.line.Node.{Node}
 use Rattle.taos_calculus.specs.declared.line.Fact.{Fact}
 use Rattle.taos_calculus.specs.Canonical.{post_order, terms_of}
-use Rattle.taos_calculus.specs.Walking.{met}
+use Rattle.stmt_codec.specs.Distinct.{met}
 use Rattle.taos_calculus.specs.Tables.{IsNodeTable, IsBelow, judgement, named, principals_of}
 use Rattle.taos_calculus.specs.declared.line.Line.{Line}
 use Rattle.taos_saturate.specs.Citing.{IsRecited}

@@ -7,7 +7,7 @@ use Rattle.prin_term.specs.Kind.{Kind, And, Quoting, For}
 use Rattle.prin_term.specs.Principal.{Principal}
 use Rattle.taos_calculus.specs.declared.line.Node.{Node}
 use Rattle.taos_calculus.specs.declared.proof.TheConstants.{MAX_NODES}
-use Rattle.taos_calculus.specs.Walking.{met}
+use Rattle.stmt_codec.specs.Distinct.{met}
 use Rattle.taos_calculus.specs.Tables.{IsNodeTable, named, principals_of}
 
 pub record IsRoomy (nodes : List Node) (capacity : ℕ) : Type 0 where

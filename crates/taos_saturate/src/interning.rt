@@ -6,7 +6,7 @@ ghost use Rattle.prin_term.specs.Principal.{Principal};
 ghost use Rattle.prin_term.specs.View.{principal};
 ghost use Rattle.taos_calculus.specs.declared.proof.TheConstants.{MAX_NODES};
 ghost use Rattle.taos_calculus.specs.Canonical.{post_order};
-ghost use Rattle.taos_calculus.specs.Walking.{met};
+ghost use Rattle.stmt_codec.specs.Distinct.{met};
 ghost use Rattle.taos_calculus.specs.Tables.{IsNodeTable, OperandsBelow, named, principals_of, shape};
 ghost use Rattle.taos_saturate.specs.Interning.{IsRoomy, TakesIn, Fits, node_pair};
 

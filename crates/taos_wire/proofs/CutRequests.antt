@@ -62,7 +62,7 @@ module _ (front more : List ℕ) (ok : IsBytes (front ++ more)) where
   unfolding certs_at cert_at
   certs_cut = cuts_counted _ Malformed byte_cut (λ _. cuts_counted_bytes (ended front) (ended (front ++ more)) front more w16)
 
-  tag_cut : Cuts front (ended front) (tag_at front) (tag_at (front ++ more))
+  pub tag_cut : Cuts front (ended front) (tag_at front) (tag_at (front ++ more))
   unfolding tag_at
   tag_cut = cuts_bytes (ended front) (ended (front ++ more)) front more 32
 
@@ -70,7 +70,7 @@ module _ (front more : List ℕ) (ok : IsBytes (front ++ more)) where
   unfolding request_at
   request_cut = cuts_made _ (cuts_followed origin_cut (λ _. cuts_followed quoted_cut (λ _. cuts_followed asked_cut (λ _. cuts_followed certs_cut (λ _. tag_cut)))))
 
-in_bytes : (bytes : List ℕ) → All IsByte bytes → IsBytes bytes
+pub in_bytes : (bytes : List ℕ) → All IsByte bytes → IsBytes bytes
 in_bytes bytes all i = elim (cases_lt i (length bytes)) [
   | inl lt ↦ all i 0 lt
   | inr past ↦ rw (get_or_past bytes i 0 past) (omega arith)

@@ -4,3 +4,9 @@ pub mod Seals
 pub mod Pieces
 pub mod CutRequests
 pub mod Places
+pub mod ShortReplies
+pub mod ReplyPieces
+pub mod Fillings
+pub mod ReplyFields
+pub mod ReplyLaws
+pub mod CutReplies

@@ -124,25 +124,25 @@ sweep_is (Discard digest) is = absurd (omega (arith, is.1))
 sweep_is (Forget channel) is = absurd (omega (arith, is.1))
 sweep_is Sweep is = (refl, refl)
 
-abbrev Anyhow : {A : Type 0} → A → A → Type 0
+abbrev pub Anyhow : {A : Type 0} → A → A → Type 0
 Anyhow a b = Unit {0}
 
 module _ (bytes : List ℕ) where
   -- ---- numbers and terms
 
-  reads_u8 : Reads bytes (u8_in bytes) (λ b. b ∷ []) (λ b. b < 256)
+  pub reads_u8 : Reads bytes (u8_in bytes) (λ b. b ∷ []) (λ b. b < 256)
   reads_u8 = reads_byte (ended bytes) bytes
 
-  reads_u16 : Reads bytes (u16_in bytes) (to_be_bytes w16) (λ n. n < 2 ^ 16)
+  pub reads_u16 : Reads bytes (u16_in bytes) (to_be_bytes w16) (λ n. n < 2 ^ 16)
   reads_u16 = reads_number (ended bytes) w16 (2 ^ 16) wide16 bytes
 
-  reads_u32 : Reads bytes (u32_in bytes) (to_be_bytes w32) (λ n. n < 2 ^ 32)
+  pub reads_u32 : Reads bytes (u32_in bytes) (to_be_bytes w32) (λ n. n < 2 ^ 32)
   reads_u32 = reads_number (ended bytes) w32 (2 ^ 32) wide32 bytes
 
-  reads_u64 : Reads bytes (u64_in bytes) (to_be_bytes w64) (λ n. n < 2 ^ 64)
+  pub reads_u64 : Reads bytes (u64_in bytes) (to_be_bytes w64) (λ n. n < 2 ^ 64)
   reads_u64 = reads_number (ended bytes) w64 (2 ^ 64) wide64 bytes
 
-  reads_u8_in : (low high : ℕ) → high < 256 → Reads bytes (within low high (u8_in bytes)) (λ b. b ∷ []) (λ b. (low ≤ b) × (b ≤ high))
+  pub reads_u8_in : (low high : ℕ) → high < 256 → Reads bytes (within low high (u8_in bytes)) (λ b. b ∷ []) (λ b. (low ≤ b) × (b ≤ high))
   reads_u8_in low high lt =
       reads_as (λ b. b ∷ []) (λ b. (low ≤ b) × (b ≤ high)) (reads_passing (is_within low high) Malformed reads_u8)
       (λ n is. (within_is low high n is.1, refl))

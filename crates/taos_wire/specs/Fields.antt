@@ -13,6 +13,10 @@ use Rattle.prin_term.specs.Principal.{Principal}
 use Rattle.prin_term.specs.Readers.{Reader, passing}
 use Rattle.prin_term.specs.Reading.{term_at}
 use Rattle.prin_term.specs.Steps.{with_fault, byte_at, number_at}
+use Rattle.stmt_codec.specs.declared.fault.BodyFault.{BodyFault}
+use Rattle.stmt_codec.specs.declared.fault.BodyFault.TheVariants as bodies
+use Rattle.taos_calculus.specs.declared.fault.ProofFault.{ProofFault}
+use Rattle.taos_calculus.specs.declared.fault.ProofFault.TheVariants as proofs
 use Rattle.taos_wire.specs.declared.fault.WireFault.{WireFault}
 use Rattle.taos_wire.specs.declared.fault.WireFault.TheVariants.{Malformed, NoMemory}
 
@@ -55,6 +59,15 @@ seen_as (terms.Short o) = Malformed o
 seen_as (terms.TooDeep o) = Malformed o
 seen_as (terms.TooLarge o) = Malformed o
 seen_as terms.NoMemory = NoMemory
+
+-- a body's, and a proof's
+abbrev pub seen_as_body : BodyFault → WireFault
+seen_as_body (bodies.Malformed o) = Malformed o
+seen_as_body bodies.NoMemory = NoMemory
+
+abbrev pub seen_as_proof : ProofFault → WireFault
+seen_as_proof (proofs.Malformed o) = Malformed o
+seen_as_proof proofs.NoMemory = NoMemory
 
 abbrev pub term_in : ℕ → List ℕ → WireReader Principal
 term_in nodes bytes at = with_fault seen_as (term_at nodes bytes at)

@@ -6,16 +6,17 @@
 --     Spells r bytes      the bytes are those of the request, under some tag
 --     sealed key r      its bytes under the tag of a key
 --     IsSealed key bytes      the bytes end in the tag of those before it
-use Rattle.std.specs.Prelude.{◌≡◌, ℕ, ◌≤◌, ◌<◌, ◌^◌, List, [], ◌∷◌, ◌++◌, length, All, Option, Some, None, IfSome}
+use Rattle.std.specs.Prelude.{◌≡◌, ℕ, ◌≤◌, ◌<◌, ◌^◌, List, [], ◌∷◌, ◌++◌, length, All, Option, IfSome}
 use Rattle.std.specs.List.{flat_map}
 use Rattle.std.specs.Int.{w16, w32, w64, to_be_bytes}
 use Rattle.keyed_seal.specs.Tag.{tag_of}
 use Rattle.object_core.specs.Operation.{Op, Read, Write, SetList, Hold, Discard, Forget, Sweep, FitsOperation, IsByte}
 use Rattle.prin_term.specs.declared.limits.TheConstants.{QUOTED_NODES}
-use Rattle.prin_term.specs.Principal.{Principal, Key, Quoting, spelling}
+use Rattle.prin_term.specs.Principal.{Principal, spelling}
 use Rattle.prin_term.specs.Refusal.{FitsLimits}
 use Rattle.prin_term.specs.Steps.{counted, optional}
 use Rattle.prin_term.specs.View.{Grant}
+use Rattle.stmt_codec.specs.Certificates.{key_quoting}
 use Rattle.taos_wire.specs.declared.request.TheConstants.{MAX_CERTS}
 
 -- a certificate is bytes here
@@ -28,12 +29,8 @@ pub record Request : Type 0 where
   pub certs : List (List ℕ)
 
 -- the channel's key, or that key quoting
-abbrev pub speaker_of : ℕ → Option Principal → Principal
-speaker_of channel None = Key channel
-speaker_of channel (Some quoted) = Quoting (Key channel) quoted
-
 abbrev pub subject_of : Request → Principal
-subject_of r = speaker_of r.channel r.quoted
+subject_of r = key_quoting r.channel r.quoted
 
 -- ---- bytes
 

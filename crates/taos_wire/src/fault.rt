@@ -2,12 +2,14 @@
 
 ghost use Rattle.std.specs.Prelude.{◌≡◌};
 ghost use Rattle.taos_wire.specs.declared.fault.WireFault.TheVariants.{NoMemory};
-ghost use Rattle.taos_wire.specs.Fields.{seen_as};
+ghost use Rattle.taos_wire.specs.Fields.{seen_as, seen_as_body, seen_as_proof};
 
 use prin_term::TermFault;
 use std::alloc::{AllocError, AllocFailed};
 use std::error::Error;
 use std::fmt;
+use stmt_codec::BodyFault;
+use taos_calculus::ProofFault;
 
 /// The first fault in the order of reading.
 #[derive(Clone, Copy, Debug, PartialEq, Eq, Hash)]
@@ -55,6 +57,28 @@ impl From<TermFault> for WireFault {
             | TermFault::TooDeep { offset }
             | TermFault::TooLarge { offset } => WireFault::Malformed { offset },
             TermFault::NoMemory => WireFault::NoMemory,
+        }
+    }
+}
+
+impl From<BodyFault> for WireFault {
+    ghost from_gives = { λ f e. e ≡ seen_as_body f };
+
+    fn from(fault: BodyFault) -> WireFault {
+        match fault {
+            BodyFault::Malformed { offset } => WireFault::Malformed { offset },
+            BodyFault::NoMemory => WireFault::NoMemory,
+        }
+    }
+}
+
+impl From<ProofFault> for WireFault {
+    ghost from_gives = { λ f e. e ≡ seen_as_proof f };
+
+    fn from(fault: ProofFault) -> WireFault {
+        match fault {
+            ProofFault::Malformed { offset } => WireFault::Malformed { offset },
+            ProofFault::NoMemory => WireFault::NoMemory,
         }
     }
 }

@@ -1,10 +1,12 @@
-//! Laws of requests, stated as contracts of functions that do nothing.
+//! Laws of requests and replies, stated as contracts of functions that do nothing.
 
-ghost use Rattle.std.specs.Prelude.{◌≡◌, ◌<◌, ◌++◌, [], All, List, ℕ, Ok, Err, length};
+ghost use Rattle.std.specs.Prelude.{◌≡◌, ◌<◌, ◌^◌, ◌++◌, [], All, List, ℕ, Option, Ok, Err, length};
 ghost use Rattle.object_core.specs.Operation.{IsByte};
 ghost use Rattle.taos_wire.specs.Request.{Request, FitsRequest, IsSealed, Spells, sealed};
 ghost use Rattle.taos_wire.specs.declared.fault.WireFault.TheVariants.{Malformed};
 ghost use Rattle.taos_wire.specs.RequestReading.{request_of};
+ghost use Rattle.taos_wire.specs.Reply.{Reply, FitsReply, SpellsReply, sent, spelling};
+ghost use Rattle.taos_wire.specs.ReplyReading.{reply_of};
 
 /// No bytes spell two requests.
 pub fn one_request()
@@ -29,4 +31,33 @@ pub fn no_proper_prefix()
         → request_of front ≡ Err (Malformed (length front)) }
     ensures longer { (r : Request) (bytes more : List ℕ) → Spells r bytes → 0 < length more
         → request_of (bytes ++ more) ≡ Err (Malformed (length bytes)) }
+{}
+
+/// No bytes spell two replies.
+pub fn one_reply()
+    ensures { (c d n m : ℕ) (q r : Reply) (bytes : List ℕ) → SpellsReply c n q bytes
+        → SpellsReply d m r bytes → (c ≡ d) × (n ≡ m) × (q ≡ r) }
+{}
+
+/// A reply that is written, under a key or none, is read back as it was.
+pub fn reply_is_read()
+    ensures spelled { (key : Option (List ℕ)) (channel seq : ℕ) (r : Reply) → channel < 2 ^ 32
+        → seq < 2 ^ 64 → FitsReply r
+        → SpellsReply channel seq r (spelling (sent key channel seq r)) }
+    ensures read { (key : Option (List ℕ)) (channel seq : ℕ) (r : Reply) → channel < 2 ^ 32
+        → seq < 2 ^ 64 → FitsReply r
+        → reply_of (spelling (sent key channel seq r)) ≡ Ok (channel, seq, r) }
+{}
+
+/// No reply's spelling begins another: one that is cut is refused at the cut, and what follows one
+/// at its first byte.
+pub fn no_reply_begins_another()
+    ensures alone { (c d n m : ℕ) (q r : Reply) (front more : List ℕ) → SpellsReply c n q front
+        → SpellsReply d m r (front ++ more) → more ≡ [] }
+    ensures cut { (channel seq : ℕ) (r : Reply) (front more : List ℕ) → All IsByte (front ++ more)
+        → SpellsReply channel seq r (front ++ more) → 0 < length more
+        → reply_of front ≡ Err (Malformed (length front)) }
+    ensures longer { (channel seq : ℕ) (r : Reply) (bytes more : List ℕ)
+        → SpellsReply channel seq r bytes → 0 < length more
+        → reply_of (bytes ++ more) ≡ Err (Malformed (length bytes)) }
 {}

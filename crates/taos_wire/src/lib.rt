@@ -1,19 +1,35 @@
-//! Requests both ways: what a node is asked, as a value and as bytes under a seal.
+//! Requests and replies both ways: what a node is asked and what it answers, as values and as bytes
+//! under a seal.
 #![tactic(auto)]
 
 mod fault;
 mod laws;
 mod reading;
+mod reply;
+mod reply_grant;
+mod reply_granting;
+mod reply_lent;
+mod reply_reading;
+mod reply_writing;
 mod request;
 mod seal;
 mod writing;
 
 pub use fault::WireFault;
-pub use laws::{no_proper_prefix, one_request, written_is_read};
+pub use laws::{
+    no_proper_prefix, no_reply_begins_another, one_reply, one_request, reply_is_read,
+    written_is_read,
+};
 pub use reading::read_request;
+pub use reply::{LinkSent, MAX_CITED, Reply};
+pub use reply_lent::{write_granted, write_granted_with, write_missing, write_missing_with};
+pub use reply_reading::read_reply;
+pub use reply_writing::{write_reply, write_reply_with};
 pub use request::{MAX_CERTS, Request};
 pub use seal::{sealed_by, sealed_with};
 pub use writing::write_request;
 
+#[cfg(test)]
+mod reply_tests;
 #[cfg(test)]
 mod tests;

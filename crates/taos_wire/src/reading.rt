@@ -22,7 +22,7 @@ use std::alloc::Global;
 use std::sync::Arc;
 
 // The fault of bytes that are lacking.
-fn ended(bytes: &[u8]) -> WireFault
+pub(crate) fn ended(bytes: &[u8]) -> WireFault
     ensures { result ≡ ended bytes.now }
 {
     WireFault::Malformed {
@@ -31,7 +31,12 @@ fn ended(bytes: &[u8]) -> WireFault
 }
 
 // A byte between the two.
-fn byte_within(bytes: &[u8], at: usize, low: u8, high: u8) -> Result<(u8, usize), WireFault>
+pub(crate) fn byte_within(
+    bytes: &[u8],
+    at: usize,
+    low: u8,
+    high: u8,
+) -> Result<(u8, usize), WireFault>
     requires { at ≤ length bytes.now }
     ensures value { result ≡ within low high (u8_in bytes.now) at }
     ensures within { IfOk result (λ x. x.1 ≤ length bytes.now) }
@@ -45,7 +50,7 @@ fn byte_within(bytes: &[u8], at: usize, low: u8, high: u8) -> Result<(u8, usize)
 }
 
 // A count of one byte, at most so much.
-fn count_up_to(bytes: &[u8], at: usize, most: u8) -> Result<(u8, usize), WireFault>
+pub(crate) fn count_up_to(bytes: &[u8], at: usize, most: u8) -> Result<(u8, usize), WireFault>
     requires { at ≤ length bytes.now }
     ensures value { result ≡ at_most most (u8_in bytes.now) at }
     ensures within { IfOk result (λ x. x.1 ≤ length bytes.now) }

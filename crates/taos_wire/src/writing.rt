@@ -179,7 +179,7 @@ fn push_fields(out: &mut Vec<u8>, op: &Op) -> Result<(), AllocError>
 }
 
 // Bytes behind their length.
-fn push_counted(out: &mut Vec<u8>, text: &[u8]) -> Result<(), AllocError>
+pub(crate) fn push_counted(out: &mut Vec<u8>, text: &[u8]) -> Result<(), AllocError>
     requires short { length text.now < 2 ^ 16 }
     ensures ok { OnOk result (out.new.items ≡ out.old.items ++ counted w16 text.now) }
     ensures err { OnErr result ((more : List ℕ) × (out.new.items ≡ out.old.items ++ more)) }

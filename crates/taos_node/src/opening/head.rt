@@ -6,7 +6,7 @@ ghost use Rattle.taos_node.specs.declared.opening.OpeningFault.TheVariants.{NoMe
 ghost use Rattle.taos_node.specs.OpeningReading.{mark_at, shards_at, head_at};
 
 use crate::opening::field::{ended, exactly, number_of};
-use crate::opening::{MAX_KEEP, MAX_LIMIT, OpeningFault};
+use crate::opening::{MAX_KEEP, MAX_LIMIT, MAX_SHARDS, OpeningFault};
 use prin_term::fields::{array_at, u32_at};
 
 // The fields before the lists.
@@ -36,7 +36,7 @@ fn shards_of(bytes: &[u8], at: usize) -> Result<(u32, usize), OpeningFault>
     ensures within { IfOk result (λ x. x.1 ≤ length bytes.now) }
 {
     let (shards, next) = u32_at(bytes, at, ended(bytes))?;
-    if shards == 1 {
+    if 1 <= shards && shards <= MAX_SHARDS {
         Ok((shards, next))
     } else {
         Err(OpeningFault::Byte { offset: at })

@@ -7,45 +7,36 @@ ghost use Rattle.prin_term.specs.Steps.{Gives};
 ghost use Rattle.prin_term.specs.View.{principal, grant};
 ghost use Rattle.taos_node.specs.declared.opening.OpeningFault.TheVariants.{Byte, NoMemory};
 ghost use Rattle.taos_node.specs.Opening.{ObjectPlan as Plan};
-ghost use Rattle.taos_node.specs.OpeningReading.{is_within, is_atom, u8_in, atom_at, entry_at};
+ghost use Rattle.object_core.specs.declared.limits.TheConstants.{MAX_RIGHTS};
+ghost use Rattle.taos_node.specs.OpeningReading.{is_within, u8_in, who_at, entry_at};
 ghost use Rattle.taos_node.specs.OpeningReading.{list_at, content_at, new_object_at, object_at, objects_at};
 ghost use Rattle.taos_node.specs.OpeningView.{Agrees, HoldsPlans, WithEnd, plan};
 ghost use Rattle.prin_term.specs.Readers.{passing, items_behind};
 
 use crate::opening::field::{ended, u8_count, u16_count};
-use crate::opening::{MAX_CONTENT, MAX_ENTRIES, MAX_OBJECTS, ObjectPlan, OpeningFault};
+use crate::opening::{MAX_OBJECTS, ObjectPlan, OpeningFault};
+use object_core::{MAX_CONTENT, MAX_ENTRIES, MAX_RIGHTS};
 use prin_term::fields::{slice_at, u8_at, u32_at};
 use prin_term::{ENTRY_NODES, Entry, Term, read_term};
 use std::alloc::Global;
 use std::collections::BTreeMap;
 
-fn is_atom(term: &Term) -> bool
-    ensures { result ≡ is_atom (principal term.now) }
-{
-    matches!(term, Term::Key(_) | Term::Name(_))
-}
-
-#[tactic(auto, unfolding(crate::specs::OpeningReading::atom_at))]
-fn atom_of(alloc: Global, bytes: &[u8], at: usize) -> Result<(Term, usize), OpeningFault>
+#[tactic(auto, unfolding(crate::specs::OpeningReading::who_at))]
+fn who_of(alloc: Global, bytes: &[u8], at: usize) -> Result<(Term, usize), OpeningFault>
     requires { at ≤ length bytes.now }
-    ensures value { Gives NoMemory (λ x. (principal x.0, x.1)) result (atom_at bytes.now at) }
+    ensures value { Gives NoMemory (λ x. (principal x.0, x.1)) result (who_at bytes.now at) }
     ensures within { IfOk result (λ x. x.1 ≤ length bytes.now) }
 {
-    let (term, next) = read_term(alloc, bytes, at, ENTRY_NODES)?;
-    if is_atom(&term) {
-        Ok((term, next))
-    } else {
-        Err(OpeningFault::Byte { offset: at })
-    }
+    Ok(read_term(alloc, bytes, at, ENTRY_NODES)?)
 }
 
 fn rights_of(bytes: &[u8], at: usize) -> Result<(u8, usize), OpeningFault>
     requires { at ≤ length bytes.now }
-    ensures value { result ≡ passing (is_within 1 15) Byte (u8_in bytes.now) at }
+    ensures value { result ≡ passing (is_within 1 MAX_RIGHTS) Byte (u8_in bytes.now) at }
     ensures within { IfOk result (λ x. x.1 ≤ length bytes.now) }
 {
     let (rights, next) = u8_at(bytes, at, ended(bytes))?;
-    if 1 <= rights && rights <= 15 {
+    if 1 <= rights && rights <= MAX_RIGHTS {
         Ok((rights, next))
     } else {
         Err(OpeningFault::Byte { offset: at })
@@ -59,7 +50,7 @@ fn entry_of(alloc: Global, bytes: &[u8], at: usize) -> Result<(Entry, usize), Op
     ensures within { IfOk result (λ x. x.1 ≤ length bytes.now) }
 {
     let (rights, next) = rights_of(bytes, at)?;
-    let (who, next) = atom_of(alloc, bytes, next)?;
+    let (who, next) = who_of(alloc, bytes, next)?;
     Ok((Entry { rights, who }, next))
 }
 

@@ -1,29 +1,20 @@
 //! Reading a node's opening from its binary form.
 
 ghost use Rattle.std.specs.Prelude.{◌≡◌, ◌≤◌, ℕ, List, length, nat_le, IfOk, MatchResult};
-ghost use Rattle.prin_term.specs.Steps.{Gives};
 ghost use Rattle.taos_node.specs.declared.opening.OpeningFault.TheVariants.{NoMemory};
+ghost use Rattle.taos_node.specs.Command.{IsUnbuiltOpening};
 ghost use Rattle.taos_node.specs.Meaning.{opening, IsServable};
 ghost use Rattle.taos_node.specs.Opening.{Opening as Meaning, Spells, journal_room};
-ghost use Rattle.taos_node.specs.OpeningReading.{commons_at, fields_at, opening_of};
+ghost use Rattle.taos_node.specs.OpeningReading.{fields_at, opening_of};
 ghost use Rattle.taos_node.specs.OpeningView.{Agrees, Represents, WithEnd};
 
-use crate::opening::field::{ended, exactly};
+use crate::opening::common::commons_of;
+use crate::opening::field::ended;
 use crate::opening::head::head_of;
 use crate::opening::object::objects_of;
 use crate::opening::table::{anchors_of, channels_of};
 use crate::opening::{MAX_ROOM, Opening, OpeningFault};
 use std::alloc::Global;
-
-// The count of the certificates held in common, which is 0.
-#[tactic(auto, unfolding(crate::specs::OpeningReading::commons_at))]
-fn commons_of(bytes: &[u8], at: usize) -> Result<usize, OpeningFault>
-    requires { at ≤ length bytes.now }
-    ensures value { Gives NoMemory (λ end. (0, end)) result (commons_at bytes.now at) }
-    ensures within { IfOk result (λ end. end ≤ length bytes.now) }
-{
-    exactly(bytes, at, 0)
-}
 
 // All fields, and the offset after them.
 #[tactic(auto, unfolding(crate::specs::OpeningReading::fields_at))]
@@ -34,7 +25,7 @@ fn fields_of(alloc: Global, bytes: &[u8]) -> Result<(Opening, usize), OpeningFau
     let (head, next) = head_of(bytes, 0)?;
     let (channels, next) = channels_of(alloc, bytes, next)?;
     let (anchors, next) = anchors_of(alloc, bytes, next)?;
-    let next = commons_of(bytes, next)?;
+    let (commons, next) = commons_of(alloc, bytes, next, &head.relay_key)?;
     let (objects, next) = objects_of(alloc, bytes, next)?;
     let relay_key = head.relay_key;
     let opening = Opening {
@@ -45,6 +36,7 @@ fn fields_of(alloc: Global, bytes: &[u8]) -> Result<(Opening, usize), OpeningFau
         limit: head.limit,
         channels,
         anchors,
+        commons,
         objects,
     };
     Ok((opening, next))
@@ -83,8 +75,8 @@ pub fn read_opening(alloc: Global, bytes: &[u8]) -> Result<Opening, OpeningFault
     // What is spelled so is read, unless memory runs out.
     ensures only { (o : Meaning) → Spells o bytes.now
         → MatchResult result (λ x. Represents x o) (λ f. f ≡ NoMemory) }
-    // What is read can be served.
-    ensures servable { IfOk result (λ x. IsServable (opening x)) }
+    // What is read and built can be served.
+    ensures servable { IfOk result (λ x. (IsUnbuiltOpening (opening x) → ⊥) → IsServable (opening x)) }
     // Which fault it is.
     ensures exact { Agrees Represents result (opening_of bytes.now) }
 {

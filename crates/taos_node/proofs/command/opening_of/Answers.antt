@@ -1,18 +1,13 @@
--- What was read to the end is what the opening spells.
-use Rattle.std.proofs.Common.{List, ℕ, take, drop, length, arith, subst, ◌≡◌, ◌∙◌}
-use Rattle.std.proofs.lemmas.List.{length-take, take-append-le, take_all}
-use Rattle.taos_node.specs.Opening.{Spells}
-use Rattle.taos_node.proofs.Commands.{file_opens}
+-- The program's opening is built where that of the file is.
+use Rattle.taos_node.proofs.SameNodes.{unbuilt_here, unbuilt_there}
 use Rattle.taos_node.proofs.command.opening_of.Goals as goal
 
-pub returns-in-Ok-read_opening-clause-gives : goal.returns-in-Ok-read_opening-clause-gives
-returns-in-Ok-read_opening-clause-gives g c =
-    let found = c.in-Ok-read_opening.ensures.found in
-    let bytes : List ℕ = take c.in-Ok-fill.len c.fill.new.room in (
-      found.0,
-      file_opens (g.F.Source.left c.args.file.now) (g.F.Source.left c.fill.new.source) bytes found.0 c.in-Ok-fill.ensures.bytes
-          (c.in-Ok-fill.ensures.end (omega arith))
-          (let same : c.deref.result.now ≡ c.fill.new.room = (c.deref.ensures.value ∙ take-append-le c.in-Ok.room.len c.fill.new.room (drop (length c.fill.new.room) c.in-Ok.room.items) (omega (arith, c.in-Ok.room.ok.0)) ∙ take_all c.in-Ok.room.len c.fill.new.room (omega (arith, c.in-Ok.room.ok.0))) in subst (λ (l : List ℕ). Spells found.0 (take c.in-Ok-fill.len l)) same found.1)
-          (omega (arith, length-take c.in-Ok-fill.len c.fill.new.room)),
-      found.2,
-    )
+pub returns-then-is_built-clause-gives : goal.returns-then-is_built-clause-gives
+returns-then-is_built-clause-gives g c =
+    let reads = c.in_ok-opening.ensures.reads in
+    (reads.0, reads.1, reads.2, λ unbuilt. c.if-is_built.ensures.yes (unbuilt_here c.in_ok-opening.opening reads.0 reads.2 unbuilt))
+
+pub returns-else-is_built-clause-gives : goal.returns-else-is_built-clause-gives
+returns-else-is_built-clause-gives g c =
+    let reads = c.in_ok-opening.ensures.reads in
+    (reads.0, reads.1, unbuilt_there c.in_ok-opening.opening reads.0 reads.2 c.if-is_built.ensures.no)

@@ -3,7 +3,7 @@ use Rattle.prin_term.specs.Principal.{Principal}
 use Rattle.prin_term.specs.View.{principal}
 use Rattle.stmt_codec.specs.Certificates.{certificate, speaker_of}
 use Rattle.taos_calculus.specs.Canonical.{post_order}
-use Rattle.taos_calculus.specs.Walking.{met}
+use Rattle.stmt_codec.specs.Distinct.{met}
 use Rattle.taos_calculus.specs.Tables.{principals_of}
 use Rattle.taos_saturate.specs.Interning.{Fits}
 use Rattle.taos_saturate.proofs.Few.{cert_few}

@@ -1,0 +1,55 @@
+-- The certificates of logins, roles and delegations, one form for each call, and what the calls give.
+--     in_role name role      a named principal in a role
+--     boot_of, channel_of, login_of, session_of, role_of, delegate_of      what an issuer's certificate of that form says
+--     IsIssued signer c bytes      the bytes are c under the signer's seal, and open to c
+use Rattle.std.specs.Prelude.{◌≡◌, ℕ, List, Option, None, Some}
+use Rattle.keyed_seal.specs.Keys.{Entries, key_of}
+use Rattle.prin_term.specs.Principal.{Principal, Key, Name, And, Quoting, InRole, For}
+use Rattle.stmt_codec.specs.Certificates.{Certificate}
+use Rattle.sealed_cert.specs.declared.kind.TheConstants.{ISSUED}
+use Rattle.sealed_cert.specs.Seals.{sealed, OpensIssued}
+use Rattle.credential_kit.specs.declared.signer.Signer.{Signer}
+
+abbrev pub in_role : ℕ → ℕ → Principal
+in_role name role = InRole (Name name) role
+
+-- the issuer, which may quote a principal, says that left speaks for right
+abbrev pub says : ℕ → Option Principal → Principal → Principal → ℕ → ℕ → Certificate
+says issuer quoted left right until serial = record { issuer = issuer; quoted = quoted; left = left; right = right; until = until; serial = serial }
+
+-- the machine says that the node's key kn speaks for the machine's name w, in the role os of its system
+abbrev pub boot_of : (issuer kn w os until serial : ℕ) → Certificate
+boot_of issuer kn w os = says issuer None (Key kn) (in_role w os)
+
+-- a key says that the key of a channel speaks for it
+abbrev pub channel_of : (issuer c until serial : ℕ) → Certificate
+channel_of issuer c = says issuer None (Key c) (Key issuer)
+
+-- the system on a machine, together with the key ks of a session
+abbrev pub seat : (w os ks : ℕ) → Principal
+seat w os ks = And (in_role w os) (Key ks)
+
+-- the user's key says that the seat, when it quotes the user u, speaks for the seat for u
+abbrev pub login_of : (issuer w os ks u until serial : ℕ) → Certificate
+login_of issuer w os ks u = says issuer None (Quoting (seat w os ks) (Name u)) (For (seat w os ks) (Name u))
+
+-- the session's key says that the key of a channel speaks for it
+abbrev pub session_of : (issuer c until serial : ℕ) → Certificate
+session_of issuer c = says issuer None (Key c) (Key issuer)
+
+-- the user's key says that the key k speaks for the user u in the role r
+abbrev pub role_of : (issuer k u r until serial : ℕ) → Certificate
+role_of issuer k u r = says issuer None (Key k) (in_role u r)
+
+-- the system on a machine, for a user
+abbrev pub logged_in : (w os u : ℕ) → Principal
+logged_in w os u = For (in_role w os) (Name u)
+
+-- the channel, quoting the user u, says that a second system, when it quotes the first for u, speaks for the second for the first for u
+abbrev pub delegate_of : (issuer u w os v vos until serial : ℕ) → Certificate
+delegate_of issuer u w os v vos = says issuer (Some (Name u)) (Quoting (in_role v vos) (logged_in w os u)) (For (in_role v vos) (logged_in w os u))
+
+pub record IsIssued (signer : Signer) (c : Certificate) (bytes : List ℕ) : Type 0 where
+  pub text : bytes ≡ sealed ISSUED signer.key c
+  -- by every table that has the signer's key
+  pub opens : (entries : Entries) → key_of entries signer.issuer ≡ Some signer.key → OpensIssued entries bytes c

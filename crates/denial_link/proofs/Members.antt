@@ -1,0 +1,80 @@
+-- What a list has, by place.
+use Rattle.std.proofs.Common.{◌≡◌, ◌⊎◌, inl, inr, ℕ, zero, suc, ◌≤◌, ◌∷◌, [], Bool, true, false, cond, List, take, map, filter, Contains, Some, slice_get, refl, sym, ◌∙◌, ap, subst, arith}
+use Rattle.std.proofs.lemmas.Option.{slice_get-get_or, slice_get_within, get_or_from_slice_get, none-some, same_Some}
+
+pub has-at : {X : Type 0} (xs : List X) (i : ℕ) (x : X) → slice_get xs i ≡ Some x → Contains xs x
+has-at xs i x e = (i, slice_get_within xs i x e, get_or_from_slice_get xs i x x e)
+
+pub at-has : {X : Type 0} (xs : List X) (x : X) → Contains xs x → (i : ℕ) × (slice_get xs i ≡ Some x)
+at-has xs x c = (c.0, slice_get-get_or xs c.0 x c.1 ∙ ap Some c.2)
+
+-- by recursion on the list
+pub has-cons : {X : Type 0} (y : X) (xs : List X) (x : X) → Contains xs x → Contains (y ∷ xs) x
+has-cons y xs x c = let (i, e) = at-has xs x c in has-at (y ∷ xs) (suc i) x e
+
+pub has-head : {X : Type 0} (x : X) (xs : List X) → Contains (x ∷ xs) x
+has-head x xs = has-at (x ∷ xs) 0 x refl
+
+at-cons : {X : Type 0} (y : X) (xs : List X) (x : X) (i : ℕ) → slice_get (y ∷ xs) i ≡ Some x → (y ≡ x) ⊎ Contains xs x
+at-cons y xs x zero e = inl (same_Some y x e)
+at-cons y xs x (suc i) e = inr (has-at xs i x e)
+
+pub has-cases : {X : Type 0} (y : X) (xs : List X) (x : X) → Contains (y ∷ xs) x → (y ≡ x) ⊎ Contains xs x
+has-cases y xs x c = let (i, e) = at-has (y ∷ xs) x c in at-cons y xs x i e
+
+pub has-nil : {X : Type 0} (x : X) → Contains [] x → ⊥
+has-nil {X} x c = let (i, e) = at-has [] x c in none-some x e
+
+pub Contains-to_map : {X Y : Type 0} (f : X → Y) (xs : List X) (x : X) → Contains xs x → Contains (map f xs) (f x)
+Contains-to_map f [] x c = absurd (has-nil x c)
+Contains-to_map f (y ∷ xs) x c =
+    elim (has-cases y xs x c) [
+      | inl e ↦ subst (λ z. Contains (f y ∷ map f xs) (f z)) e (has-head (f y) (map f xs))
+      | inr h ↦ has-cons (f y) (map f xs) (f x) (Contains-to_map f xs x h)
+    ]
+
+pub Contains-from_map : {X Y : Type 0} (f : X → Y) (xs : List X) (y : Y) → Contains (map f xs) y → (x : X) × Contains xs x × (f x ≡ y)
+Contains-from_map f [] y c = absurd (has-nil y c)
+Contains-from_map f (z ∷ xs) y c =
+    elim (has-cases (f z) (map f xs) y c) [
+      | inl e ↦ (z, has-head z xs, e)
+      | inr h ↦ let (x, has, at) = Contains-from_map f xs y h in (x, has-cons z xs x has, at)
+    ]
+
+pub Contains-take : {X : Type 0} (n m : ℕ) (xs : List X) (x : X) → n ≤ m → Contains (take n xs) x → Contains (take m xs) x
+Contains-take zero m xs x le c = absurd (has-nil x c)
+Contains-take (suc n) zero xs x le c = absurd (omega arith)
+Contains-take (suc n) (suc m) [] x le c = c
+Contains-take (suc n) (suc m) (y ∷ xs) x le c =
+    elim (has-cases y (take n xs) x c) [
+      | inl e ↦ subst (λ z. Contains (y ∷ take m xs) z) e (has-head y (take m xs))
+      | inr h ↦ has-cons y (take m xs) x (Contains-take n m xs x (omega arith) h)
+    ]
+
+pub Contains-to_filter : {X : Type 0} (p : X → Bool) (xs : List X) (x : X) → Contains xs x → p x ≡ true → Contains (filter p xs) x
+Contains-to_filter p [] x c t = absurd (has-nil x c)
+Contains-to_filter p (y ∷ xs) x c t = by (λ h. Contains-to_filter p xs x h t) (p y) refl
+  where
+    by : (Contains xs x → Contains (filter p xs) x) → (b : Bool) → p y ≡ b → Contains (cond b (y ∷ filter p xs) (filter p xs)) x
+    by more true e =
+        elim (has-cases y xs x c) [
+          | inl f ↦ subst (λ z. Contains (y ∷ filter p xs) z) f (has-head y (filter p xs))
+          | inr h ↦ has-cons y (filter p xs) x (more h)
+        ]
+    by more false e =
+        elim (has-cases y xs x c) [
+          | inl f ↦ let g : false ≡ true = sym e ∙ ap p f ∙ t in absurd (cc)
+          | inr h ↦ more h
+        ]
+
+pub Contains-from_filter : {X : Type 0} (p : X → Bool) (xs : List X) (x : X) → Contains (filter p xs) x → Contains xs x × (p x ≡ true)
+Contains-from_filter p [] x c = absurd (has-nil x c)
+Contains-from_filter p (y ∷ xs) x c = by (λ h. Contains-from_filter p xs x h) (p y) refl c
+  where
+    by : (Contains (filter p xs) x → Contains xs x × (p x ≡ true)) → (b : Bool) → p y ≡ b → Contains (cond b (y ∷ filter p xs) (filter p xs)) x → Contains (y ∷ xs) x × (p x ≡ true)
+    by more true e h =
+        elim (has-cases y (filter p xs) x h) [
+          | inl f ↦ (subst (λ z. Contains (y ∷ xs) z) f (has-head y xs), ap p (sym f) ∙ e)
+          | inr g ↦ let (has, t) = more g in (has-cons y xs x has, t)
+        ]
+    by more false e h = let (has, t) = more h in (has-cons y xs x has, t)

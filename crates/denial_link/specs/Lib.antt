@@ -1,0 +1,5 @@
+pub mod Order
+pub mod Keys
+pub mod Revived
+pub mod Needed
+pub mod Links

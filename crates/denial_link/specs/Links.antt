@@ -1,0 +1,46 @@
+-- What a denial names: the first thing that is missing.
+--     IsReached anchors said subject p      some part of the subject speaks for p
+--     Lacks Reached p k      the first part of p that is not reached while all that stands directly under it is: its place in pre-order
+--     IsFirstLink anchors certs moment subject list right link      what a denial names
+use Rattle.std.specs.Prelude.{◌≡◌, ℕ, ◌+◌, ◌++◌, List, ◌∷◌, Some, slice_get, Contains, All, sum_by}
+use Rattle.prin_term.specs.declared.term.Anchor.{Anchor}
+use Rattle.prin_term.specs.Principal.{Principal, operands, subterms, node_count}
+use Rattle.prin_term.specs.View.{Grant}
+use Rattle.stmt_codec.specs.Certificates.{Certificate}
+use Rattle.taos_calculus.specs.Rules.{Claim}
+use Rattle.taos_calculus.specs.Monitor.{HasRight, MaySpeak, FirstEntry}
+use Rattle.denial_link.specs.declared.link.Link.{Link}
+use Rattle.denial_link.specs.declared.link.Link.TheVariants.{Expired, Missing, NoEntry}
+use Rattle.denial_link.specs.Needed.{IsNeeded}
+use Rattle.denial_link.specs.Revived.{claims}
+
+abbrev pub IsReached : List Anchor → List Claim → Principal → Principal → Type 0
+IsReached anchors said subject p = (s : Principal) × Contains (subterms subject) s × MaySpeak anchors said s p
+
+-- p itself is not reached: the walk goes to the first operand that is not, and ends where there is none
+pub data Lacks (Reached : Principal → Type 0) : Principal → ℕ → Type 0 where
+  here : {p : Principal} → All Reached (operands p) → Lacks Reached p 0
+  below : {p q : Principal} {k n : ℕ} (front rest : List Principal) →
+      operands p ≡ front ++ q ∷ rest → All Reached front → (Reached q → ⊥) → Lacks Reached q k →
+      n ≡ 1 + sum_by node_count front + k → Lacks Reached p n
+
+-- no entry has the right and this too
+abbrev pub NoEntryWith : List Grant → ℕ → (Grant → Type 0) → Type 0
+NoEntryWith list right P = (k : ℕ) (e : Grant) → slice_get list k ≡ Some e → HasRight e right → P e → ⊥
+
+-- where nothing is granted
+pub data IsFirstLink (anchors : List Anchor) (certs : List Certificate) (moment : ℕ) (subject : Principal)
+    (list : List Grant) (right : ℕ) : Link → Type 0 where
+  -- no entry has the right
+  no_entry : NoEntryWith list right (λ e. Unit {0}) → IsFirstLink anchors certs moment subject list right NoEntry
+  -- all certificates together would do for some entry with the right: the first of these, and the certificate that is needed
+  expired : {k c : ℕ} (e : Grant) →
+      FirstEntry list right (λ g. MaySpeak anchors (claims certs) subject g.who) k e →
+      IsNeeded anchors certs moment subject e.who c →
+      IsFirstLink anchors certs moment subject list right (Expired k c)
+  -- they would do for none: the first entry with the right, and the first part of it that lacks
+  missing : {k n : ℕ} (e : Grant) →
+      FirstEntry list right (λ g. Unit {0}) k e →
+      NoEntryWith list right (λ g. MaySpeak anchors (claims certs) subject g.who) →
+      Lacks (IsReached anchors (claims certs) subject) e.who n →
+      IsFirstLink anchors certs moment subject list right (Missing k n)

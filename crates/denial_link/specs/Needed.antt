@@ -1,0 +1,18 @@
+-- The first certificate that has ended and would have been enough.
+--     IsNeeded anchors certs moment subject who c      the live certificates and those that have ended up to c are enough, and no fewer are
+use Rattle.std.specs.Prelude.{◌≡◌, ℕ, ◌+◌, ◌≤◌, List, Some, slice_get, take}
+use Rattle.prin_term.specs.declared.term.Anchor.{Anchor}
+use Rattle.prin_term.specs.Principal.{Principal}
+use Rattle.stmt_codec.specs.Certificates.{Certificate}
+use Rattle.taos_calculus.specs.Monitor.{MaySpeak}
+use Rattle.denial_link.specs.Order.{DeadInOrder}
+use Rattle.denial_link.specs.Revived.{claims, revived}
+
+-- the n before c in the order are not enough with the live ones, and with c they are
+pub record IsNeeded (anchors : List Anchor) (certs : List Certificate) (moment : ℕ) (subject who : Principal) (c : ℕ) : Type 0 where
+  pub n : ℕ
+  pub places : List ℕ
+  pub in_order : DeadInOrder certs moment places
+  pub enough : MaySpeak anchors (claims (revived certs moment (take (n + 1) places))) subject who
+  pub no_fewer : (m : ℕ) → m ≤ n → MaySpeak anchors (claims (revived certs moment (take m places))) subject who → ⊥
+  pub stands : slice_get places n ≡ Some c

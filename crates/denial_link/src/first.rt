@@ -1,0 +1,97 @@
+//! The first missing or expired link.
+
+ghost use Rattle.std.specs.Prelude.{◌≡◌, ◌≤◌, ℕ, true, map, length, replicate, slice_get, Some, MatchOption};
+ghost use Rattle.prin_term.specs.View.{Grant, grant, principal};
+ghost use Rattle.stmt_codec.specs.Certificates.{certificate, live};
+ghost use Rattle.taos_calculus.specs.Monitor.{FirstEntry, Grants};
+ghost use Rattle.taos_calculus.specs.Question.{IsAskable, IsTermOf, MayAnswer, question_of};
+ghost use Rattle.denial_link.specs.Revived.{claims};
+ghost use Rattle.denial_link.specs.Links.{IsFirstLink, NoEntryWith};
+
+use crate::link::Link;
+use crate::part::lacking;
+use crate::revive::first_needed;
+use prin_term::{Anchor, Entry, Term};
+use std::sync::Arc;
+use stmt_codec::Cert;
+use taos_calculus::{Decide, MAX_CERTS};
+
+// The first entry with the right.
+fn first_with(list: &[Entry], right: u8) -> Option<u8>
+    requires { length list.now ≤ 8 }
+    ensures { MatchOption result (NoEntryWith (map grant list.now) right (λ e. Unit {0}))
+        (λ k. (e : Grant) × FirstEntry (map grant list.now) right (λ g. Unit {0}) k e) }
+{
+    for place in 0..list.len() {
+        if list[place].rights & right != 0 {
+            return Some(place as u8);
+        }
+    }
+    None
+}
+
+// The first entry with the right for whom the subject speaks.
+fn first_derivable<D: Decide>(
+    bench: &mut D,
+    subject: &Term,
+    list: &[Entry],
+    right: u8,
+) -> Option<u8>
+    requires few { length list.now ≤ 8 }
+    requires asking { IsTermOf (D.question bench.old) (principal subject.now) }
+    requires asked { (k : ℕ) (e : Grant) → slice_get (map grant list.now) k ≡ Some e
+        → IsTermOf (D.question bench.old) e.who }
+    ensures found { MatchOption result
+        (NoEntryWith (map grant list.now) right
+        (λ e. MayAnswer (D.question bench.old) (principal subject.now) e.who))
+        (λ k. (e : Grant) × FirstEntry (map grant list.now) right
+        (λ g. MayAnswer (D.question bench.old) (principal subject.now) g.who) k e) }
+    ensures same { D.question bench.new ≡ D.question bench.old }
+{
+    for place in 0..list.len() {
+        let entry = &list[place];
+        if entry.rights & right != 0 && bench.derives(subject, &entry.who) {
+            return Some(place as u8);
+        }
+    }
+    None
+}
+
+/// What is missing where nothing is granted: that an entry has the right; or, where the certificates
+/// that have ended would do, the first of these that is needed; or the first part of the first
+/// entry with the right that nobody whom the subject names speaks for. Takes no memory. A
+/// certificate is named by its place in `certs`, a part by its place in the entry, in pre-order.
+pub fn first_link<D: Decide>(
+    bench: &mut D,
+    anchors: &[Anchor],
+    certs: &[Arc<Cert>],
+    moment: u64,
+    subject: &Term,
+    list: &[Entry],
+    right: u8,
+) -> Link
+    requires askable { IsAskable anchors.now (map (λ c. certificate c.value.body) certs.now)
+        (replicate (length certs.now) true) (principal subject.now) (map grant list.now) }
+    requires denied { Grants anchors.now
+        (claims (live (map (λ c. certificate c.value.body) certs.now) moment))
+        (principal subject.now) (map grant list.now) right → ⊥ }
+    ensures { IsFirstLink anchors.now (map (λ c. certificate c.value.body) certs.now) moment
+        (principal subject.now) (map grant list.now) right result }
+{
+    let Some(first) = first_with(list, right) else {
+        return Link::NoEntry;
+    };
+    let all = [true; MAX_CERTS];
+    bench.begin(anchors, certs, &all[..certs.len()], subject, list);
+    match first_derivable(bench, subject, list, right) {
+        Some(entry) => {
+            let who = &list[entry as usize].who;
+            let cert = first_needed(bench, anchors, certs, moment, subject, list, who);
+            Link::Expired { entry, cert }
+        }
+        None => {
+            let node = lacking(bench, subject, &list[first as usize].who);
+            Link::Missing { entry: first, node }
+        }
+    }
+}

@@ -1,0 +1,16 @@
+//! The first missing or expired link of a request that is denied.
+#![tactic(auto)]
+
+mod first;
+mod laws;
+mod link;
+mod order;
+mod part;
+mod revive;
+
+pub use first::first_link;
+pub use laws::one_first_link;
+pub use link::Link;
+
+#[cfg(test)]
+mod tests;

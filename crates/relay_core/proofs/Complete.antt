@@ -1,0 +1,70 @@
+-- An input of whole frames is answered to its end.
+use Rattle.std.proofs.Common.{◌≡◌, ℕ, ◌^◌, ◌<◌, ◌≤◌, List, [], ◌++◌, length, All, None, Some, refl, sym, ap, subst, ◌∙◌, append_assoc, append-nil, arith, inl, inr, length-append}
+use Rattle.std.specs.Prelude.{Option}
+use Rattle.std.specs.Int.{w32, to_be_bytes}
+use Rattle.std.specs.Io.KnownBytes.{Consumes, IsAtEnd}
+use Rattle.keyed_seal.specs.Keys.{Entries}
+use Rattle.frame_link.specs.Faults.{Rose}
+use Rattle.frame_link.specs.Frames.{framed, in_word, IsTooLong, Splits}
+use Rattle.frame_link.proofs.Splits.{split_once, frames_all}
+use Rattle.frame_link.specs.declared.outcome.Outcome.{Outcome}
+use Rattle.frame_link.specs.declared.outcome.Outcome.TheVariants.{End, Truncated, TooLong, ReadFault, WriteFault, ClockFault, Spent, NoMemory}
+use Rattle.relay_core.specs.Served.{frames_of, IsServed, HasCauses, StandsStill, IsComplete}
+
+-- what is left behind the bytes that were taken
+left_behind : (xs read : List ℕ) (after : Option (List ℕ)) → Consumes (Some xs) after read → (ys : List ℕ) × (after ≡ Some ys) × (xs ≡ read ++ ys)
+left_behind xs read None took = absurd took
+left_behind xs read (Some ys) took = (ys, refl, took)
+
+-- all was taken
+all_taken : (xs read : List ℕ) (after : Option (List ℕ)) → Consumes (Some xs) after read → IsAtEnd after → xs ≡ read
+all_taken xs read None took at_end = absurd took
+all_taken xs read (Some ys) took at_end = took ∙ ap (λ (l : List ℕ). read ++ l) at_end ∙ append-nil read
+
+still : (before now : ℕ) → StandsStill before now → Rose before now → ⊥
+still before now s rose = omega (arith, s.0, s.1, rose)
+
+whole_split : (payloads : List (List ℕ)) → All (λ p. length p ≤ 65536) payloads → Splits 65536 (framed payloads) payloads []
+whole_split payloads within = record { whole = sym (append-nil (framed payloads)); each = within; no_more = inl (in_word (omega arith)) }
+
+small : 65536 < 2 ^ 32
+small = omega arith
+
+-- a length above the limit stays one, whatever follows
+too_long_on : (rest more : List ℕ) → IsTooLong 65536 rest → IsTooLong 65536 (rest ++ more)
+too_long_on rest more long = record { length_word = long.length_word; behind = long.behind ++ more; above = long.above; fits = long.fits; text = ap (λ (l : List ℕ). l ++ more) long.text ∙ append_assoc (to_be_bytes w32 long.length_word) long.behind more }
+
+-- a length word above the limit is no part of a frame
+is_long : (n : ℕ) (rest : List ℕ) → rest ≡ to_be_bytes w32 n → 65536 < n → n < 2 ^ 32 → IsTooLong 65536 rest
+is_long n rest is above fits = record { length_word = n; behind = []; above = above; fits = fits; text = is ∙ sym (append-nil (to_be_bytes w32 n)) }
+
+pub is_complete : (issuers nodes : Entries) (limit : ℕ) (in0 in1 out0 out1 : Option (List ℕ)) (i0 i1 o0 o1 : ℕ) (outcome : Outcome) → IsServed issuers nodes limit in0 in1 out0 out1 outcome → HasCauses i0 i1 o0 o1 outcome → IsComplete limit in0 i0 i1 o0 o1 outcome
+is_complete issuers nodes limit in0 in1 out0 out1 i0 i1 o0 o1 (End n) c h payloads told within few si so =
+    let frames = frames_of c.turns in
+    let took = subst (λ x. Consumes x in1 c.taken) told c.took in
+    let all : framed payloads ≡ c.taken = all_taken (framed payloads) c.taken in1 took c.ended.2 in
+    let same = split_once 65536 c.taken payloads frames [] c.rest small (subst (λ (l : List ℕ). Splits 65536 l payloads []) all (whole_split payloads within)) c.splits in
+    inl (ap End (c.ended.1 ∙ ap length (sym same.0)))
+is_complete issuers nodes limit in0 in1 out0 out1 i0 i1 o0 o1 (Truncated have) c h payloads told within few si so =
+    let frames = frames_of c.turns in
+    let took = subst (λ x. Consumes x in1 c.taken) told c.took in
+    let all : framed payloads ≡ c.taken = all_taken (framed payloads) c.taken in1 took c.ended.3 in
+    let same = split_once 65536 c.taken payloads frames [] c.rest small (subst (λ (l : List ℕ). Splits 65536 l payloads []) all (whole_split payloads within)) c.splits in
+    absurd (omega (arith, c.ended.1, c.ended.2, ap length same.1))
+is_complete issuers nodes limit in0 in1 out0 out1 i0 i1 o0 o1 (TooLong n) c h payloads told within few si so =
+    let frames = frames_of c.turns in
+    let behind = left_behind (framed payloads) c.taken in1 (subst (λ x. Consumes x in1 c.taken) told c.took) in
+    let whole : framed payloads ≡ framed frames ++ (c.rest ++ behind.0) = behind.2 ∙ ap (λ (l : List ℕ). l ++ behind.0) c.splits.whole ∙ append_assoc (framed frames) c.rest behind.0 in
+    let split : Splits 65536 (framed payloads) frames (c.rest ++ behind.0) = record { whole = whole; each = c.splits.each; no_more = inr (too_long_on c.rest behind.0 (is_long n c.rest c.ended.0 c.ended.1 c.ended.2)) } in
+    let same = split_once 65536 (framed payloads) payloads frames [] (c.rest ++ behind.0) small (whole_split payloads within) split in
+    absurd (omega (arith, ap length same.1, length-append c.rest behind.0, ap length c.ended.0))
+is_complete issuers nodes limit in0 in1 out0 out1 i0 i1 o0 o1 (Spent n) c h payloads told within few si so =
+    let frames = frames_of c.turns in
+    let behind = left_behind (framed payloads) c.taken in1 (subst (λ x. Consumes x in1 c.taken) told c.took) in
+    let whole : framed payloads ≡ framed frames ++ (c.rest ++ behind.0) = behind.2 ∙ ap (λ (l : List ℕ). l ++ behind.0) c.splits.whole ∙ append_assoc (framed frames) c.rest behind.0 in
+    let none : c.rest ++ behind.0 ≡ [] = frames_all 65536 payloads frames (c.rest ++ behind.0) small within c.splits.each (omega (arith, few, c.ended.1, c.ended.2)) whole in
+    absurd (omega (arith, ap length none, length-append c.rest behind.0, c.ended.0))
+is_complete issuers nodes limit in0 in1 out0 out1 i0 i1 o0 o1 ReadFault c h payloads told within few si so = absurd (still i0 i1 si h.1)
+is_complete issuers nodes limit in0 in1 out0 out1 i0 i1 o0 o1 WriteFault c h payloads told within few si so = absurd (still o0 o1 so h.2)
+is_complete issuers nodes limit in0 in1 out0 out1 i0 i1 o0 o1 ClockFault c h payloads told within few si so = absurd h
+is_complete issuers nodes limit in0 in1 out0 out1 i0 i1 o0 o1 NoMemory c h payloads told within few si so = inr refl

@@ -1,0 +1,7 @@
+pub mod Resealing
+pub mod Plans
+pub mod Messages
+pub mod Asked
+pub mod Links
+pub mod Served
+pub mod Serving

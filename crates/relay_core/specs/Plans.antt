@@ -1,0 +1,6 @@
+-- The calls of a relay in memory, and those that fail.
+use Rattle.frame_link.specs.Plan.{Plan}
+use Rattle.relay_core.specs.declared.mem.MemRelay.{MemRelay}
+
+abbrev pub plan : MemRelay → Plan
+plan r = record { calls = r.calls; fails = r.fails.items; faults = r.faults }

@@ -1,0 +1,116 @@
+//! A link that speaks frames with a relay.
+
+ghost use Rattle.std.specs.Prelude.{◌≡◌, ◌≤◌, [], length, IfOk, Option, None, MatchResult};
+ghost use Rattle.frame_link.specs.Faults.{HasCause};
+ghost use Rattle.frame_link.specs.Plan.{counted};
+ghost use Rattle.frame_link.specs.Relay.{AnswersAs};
+ghost use Rattle.relay_core.specs.Messages.{asking};
+ghost use Rattle.relay_core.specs.Links.{Asks};
+
+use crate::exchange::ask;
+use crate::message::MAX_FRAME;
+use arrayvec::ArrayVec;
+use frame_link::{Failed, FrameBuf, RelayAnswer, RelayLink, Sink, Source};
+use std::alloc::{AllocError, Global};
+use std::marker::Model;
+
+/// Asks a relay by a frame of the output for each call, and reads the answer as a frame of the input. Contracts see
+/// both, and how often a call has failed.
+#[derive(Drop)]
+pub struct LinkRelay<I, O> {
+    input: I,
+    output: O,
+    room: Vec<u8>,
+    buf: FrameBuf,
+    faults: u64,
+}
+
+impl<I, O> Model for LinkRelay<I, O> {
+    ghost use Rattle.std.specs.Prelude.{◌≡◌, ◌≤◌, length};
+    ghost use Rattle.relay_core.specs.declared.message.TheConstants.{MAX_FRAME};
+    ghost use Rattle.relay_core.specs.Links.{Link};
+
+    ghost Value = { Link I O };
+
+    ghost view = { λ l. record { input = l.input; output = l.output; faults = l.faults } };
+
+    ghost invariant = { λ l. (MAX_FRAME ≤ length l.room.items) × (l.buf.limit ≡ MAX_FRAME) };
+}
+
+// Zeros.
+fn room_of(alloc: Global, len: usize) -> Result<Vec<u8>, AllocError>
+    ensures { IfOk result (λ room. length room.items ≡ len) }
+{
+    vec![in alloc; 0; len]
+}
+
+impl<I: Source + Drop, O: Sink + Drop> LinkRelay<I, O> {
+    /// A link over an input and an output. All its memory is taken here.
+    pub fn new(alloc: Global, input: I, output: O) -> Result<LinkRelay<I, O>, AllocError>
+        ensures { IfOk result
+            (λ l. l ≡ record { input = input; output = output; faults = 0 }) }
+    {
+        let room = room_of(alloc, MAX_FRAME as usize)?;
+        let buf = FrameBuf::new(alloc, MAX_FRAME)?;
+        Ok(LinkRelay {
+            input,
+            output,
+            room,
+            buf,
+            faults: 0,
+        })
+    }
+
+    /// Gives the input and the output back.
+    pub fn into_parts(self) -> (I, O)
+        ensures { result ≡ (self.input, self.output) }
+    {
+        (self.input, self.output)
+    }
+
+    /// How often a call has failed.
+    pub fn faults(&self) -> u64
+        ensures { result ≡ self.now.faults }
+    {
+        self.faults
+    }
+}
+
+impl<I: Source + Drop, O: Sink + Drop> RelayLink for LinkRelay<I, O> {
+    ghost says = { λ _. None };
+
+    ghost faults = { λ l. l.faults };
+
+    fn reseal(
+        &mut self,
+        node: u32,
+        sealed: &[u8],
+        out: &mut ArrayVec<u8, 2048>,
+    ) -> Result<RelayAnswer, Failed>
+        requires { length sealed.now ≤ 65531 }
+        ensures asks { Asks (asking node sealed.now)
+            (I.left self.old.input) (I.left self.new.input)
+            (O.written self.old.output) (O.written self.new.output)
+            (I.faults self.old.input) (I.faults self.new.input)
+            (O.faults self.old.output) (O.faults self.new.output) result out.new.items }
+        ensures count { MatchResult result (λ _. self.new.faults ≡ self.old.faults)
+            (λ _. self.new.faults ≡ counted self.old.faults) }
+        ensures answer { AnswersAs None node sealed.now result out.new.items }
+        ensures cause { HasCause self.old.faults self.new.faults result }
+    {
+        out.clear();
+        let asked = ask(
+            &mut self.input,
+            &mut self.output,
+            &mut self.room,
+            &mut self.buf,
+            node,
+            sealed,
+            out,
+        );
+        if asked.is_err() {
+            self.faults = self.faults.saturating_add(1);
+        }
+        asked
+    }
+}

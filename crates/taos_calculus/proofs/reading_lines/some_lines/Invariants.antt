@@ -1,0 +1,11 @@
+use Rattle.std.proofs.Common.{◌≤◌, [], length}
+use Rattle.prin_term.specs.Readers.{items_behind}
+use Rattle.prin_term.proofs.Loops.{IsSoFar}
+use Rattle.taos_calculus.specs.ProofReading.{line_at}
+use Rattle.taos_calculus.proofs.reading_lines.some_lines.Given as goal
+
+abbrev pub invariant-loop : goal.invariant-loop
+invariant-loop l = record {
+  so_far : IsSoFar (λ _. line_at l.bytes l.nodes) l.count l.counter l.lines.items l.next (items_behind (λ _. line_at l.bytes l.nodes) l.count [] l.at);
+  within : l.next ≤ length l.bytes;
+}

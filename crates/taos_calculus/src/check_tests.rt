@@ -1,0 +1,308 @@
+use super::*;
+use prin_term::{Anchor, Statement, Term};
+use std::sync::Arc;
+use std::test::Fail;
+use stmt_codec::{Cert, CertBody};
+
+const ANCHORS: [Anchor; 2] = [Anchor { key: 1, name: 10 }, Anchor { key: 2, name: 20 }];
+
+// Lines and steps, by their numbers.
+macro_rules! speaks {
+    ($left:expr, $right:expr, $step:expr) => {
+        Line { fact: Fact::Speaks { left: $left, right: $right }, step: $step }
+    };
+}
+
+macro_rules! says {
+    ($who:expr, $left:expr, $right:expr, $step:expr) => {
+        Line { fact: Fact::Says { who: $who, left: $left, right: $right }, step: $step }
+    };
+}
+
+macro_rules! two {
+    ($rule:ident, $first:expr, $second:expr) => {
+        Step::$rule { first: $first, second: $second }
+    };
+}
+
+macro_rules! said {
+    ($cite:expr) => {
+        Step::Said { cite: $cite }
+    };
+}
+
+macro_rules! lift {
+    ($says:expr, $speaks:expr) => {
+        Step::Lift { says: $says, speaks: $speaks }
+    };
+}
+
+macro_rules! hand_off {
+    ($says:expr) => {
+        Step::HandOff { says: $says }
+    };
+}
+
+macro_rules! delegate {
+    ($says:expr) => {
+        Step::Delegate { says: $says }
+    };
+}
+
+macro_rules! same {
+    ($number:expr) => {
+        speaks!($number, $number, Step::Same)
+    };
+}
+
+const FIRST_ANCHOR: Step = Step::Anchor { index: 0 };
+
+const UNDER_ROLE: Step = Step::RoleUnder { first: 0 };
+
+const ANCHORED: Line = speaks!(0, 1, FIRST_ANCHOR);
+
+// What is shown, a table, lines over it that follow, one more that does, and one that does not.
+const CASES: [(&str, &[Node], &[Line], Line, Line); 16] = [
+    (
+        "same",
+        &[Node::Key(1), Node::Key(2)],
+        &[same!(0), same!(1)],
+        same!(0),
+        speaks!(0, 1, Step::Same),
+    ),
+    (
+        "chain",
+        &[Node::Key(1), Node::Name(10)],
+        &[ANCHORED, same!(1)],
+        speaks!(0, 1, two!(Chain, 0, 1)),
+        speaks!(0, 1, two!(Chain, 1, 0)),
+    ),
+    (
+        "chain by itself",
+        &[Node::Key(1), Node::Name(10)],
+        &[ANCHORED, same!(1)],
+        speaks!(0, 1, two!(Chain, 0, 1)),
+        speaks!(0, 1, two!(Chain, 0, 2)),
+    ),
+    (
+        "left",
+        &[Node::Key(1), Node::Key(2), Node::And(0, 1)],
+        &[same!(2)],
+        speaks!(2, 0, Step::Left),
+        speaks!(2, 1, Step::Left),
+    ),
+    (
+        "right",
+        &[Node::Key(1), Node::Key(2), Node::And(0, 1)],
+        &[same!(2)],
+        speaks!(2, 1, Step::Right),
+        speaks!(2, 0, Step::Right),
+    ),
+    (
+        "both",
+        &[Node::Key(1), Node::Name(10), Node::And(1, 0)],
+        &[ANCHORED, same!(0)],
+        speaks!(0, 2, two!(Both, 0, 1)),
+        speaks!(0, 2, two!(Both, 0, 0)),
+    ),
+    (
+        "quote",
+        &[
+            Node::Key(1),
+            Node::Name(10),
+            Node::Quote(0, 0),
+            Node::Quote(1, 0),
+        ],
+        &[ANCHORED, same!(0)],
+        speaks!(2, 3, two!(Quote, 0, 1)),
+        speaks!(2, 3, two!(Quote, 0, 0)),
+    ),
+    (
+        "for",
+        &[
+            Node::Key(1),
+            Node::Name(10),
+            Node::For(0, 0),
+            Node::For(1, 0),
+        ],
+        &[ANCHORED, same!(0)],
+        speaks!(2, 3, two!(For, 0, 1)),
+        speaks!(2, 3, two!(For, 0, 0)),
+    ),
+    (
+        "role",
+        &[Node::Key(1), Node::AsRole(0, 5)],
+        &[same!(1)],
+        speaks!(0, 1, Step::Role),
+        speaks!(1, 0, Step::Role),
+    ),
+    (
+        "role under a role",
+        &[
+            Node::Key(1),
+            Node::Name(10),
+            Node::AsRole(0, 5),
+            Node::AsRole(1, 5),
+            Node::AsRole(1, 6),
+        ],
+        &[ANCHORED, same!(2), same!(3), same!(4)],
+        speaks!(2, 3, UNDER_ROLE),
+        speaks!(2, 4, UNDER_ROLE),
+    ),
+    (
+        "anchor",
+        &[Node::Key(1), Node::Name(10), Node::Name(20)],
+        &[same!(0), same!(1), same!(2)],
+        ANCHORED,
+        speaks!(0, 2, FIRST_ANCHOR),
+    ),
+    (
+        "said",
+        &[Node::Key(1), Node::Key(2), Node::Name(10)],
+        &[],
+        says!(0, 1, 2, said!(0)),
+        says!(0, 1, 2, said!(1)),
+    ),
+    (
+        "lift",
+        &[Node::Key(1), Node::Name(10), Node::Key(2)],
+        &[ANCHORED, says!(0, 2, 1, said!(0))],
+        says!(1, 2, 1, lift!(1, 0)),
+        says!(2, 2, 1, lift!(1, 0)),
+    ),
+    (
+        "hand-off",
+        &[Node::Key(1), Node::Name(10), Node::Key(2)],
+        &[
+            ANCHORED,
+            says!(0, 2, 1, said!(0)),
+            says!(1, 2, 1, lift!(1, 0)),
+        ],
+        speaks!(2, 1, hand_off!(2)),
+        speaks!(2, 1, hand_off!(1)),
+    ),
+    (
+        "join",
+        &[
+            Node::Key(1),
+            Node::Key(2),
+            Node::Name(10),
+            Node::Key(3),
+            Node::And(0, 3),
+        ],
+        &[says!(0, 1, 2, said!(0)), says!(3, 1, 2, said!(1))],
+        says!(4, 1, 2, two!(Join, 0, 1)),
+        says!(4, 1, 2, two!(Join, 0, 0)),
+    ),
+    (
+        "delegate",
+        &[
+            Node::Key(4),
+            Node::Key(5),
+            Node::Quote(1, 0),
+            Node::For(1, 0),
+        ],
+        &[says!(0, 2, 3, said!(2)), same!(0)],
+        speaks!(2, 3, delegate!(0)),
+        speaks!(2, 3, delegate!(1)),
+    ),
+];
+
+fn cert_of(rt: &HostRuntime, issuer: u32, left: Term, right: Term) -> Result<Arc<Cert>, Fail> {
+    let body = CertBody {
+        issuer,
+        quoted: None,
+        statement: Statement { left, right },
+        until: 2000,
+        serial: 1,
+    };
+    Ok(Arc::new(rt.alloc(), Cert::of(rt.alloc(), body)?)?)
+}
+
+// Key 1 and key 3 hand name 10 to key 2, and key 4 delegates to key 5.
+fn certs(rt: &HostRuntime) -> Result<Vec<Arc<Cert>>, Fail> {
+    let alloc = rt.alloc();
+    let quoting = Term::Quote(
+        Box::new(alloc, Term::Key(5))?,
+        Box::new(alloc, Term::Key(4))?,
+    );
+    let acting = Term::For(
+        Box::new(alloc, Term::Key(5))?,
+        Box::new(alloc, Term::Key(4))?,
+    );
+    let mut certs = Vec::new(alloc);
+    certs.push(cert_of(rt, 1, Term::Key(2), Term::Name(10))?)?;
+    certs.push(cert_of(rt, 3, Term::Key(2), Term::Name(10))?)?;
+    certs.push(cert_of(rt, 4, quoting, acting)?)?;
+    Ok(certs)
+}
+
+fn bad_line(certs: &[Arc<Cert>], proof: &Proof) -> Option<usize> {
+    match check_proof(&ANCHORS, certs, proof) {
+        Ok(_) => None,
+        Err(bad) => Some(bad.line as usize),
+    }
+}
+
+// The first bad line of these and one more, and how many they are.
+fn bad_behind(
+    rt: &HostRuntime,
+    certs: &[Arc<Cert>],
+    nodes: &[Node],
+    front: &[Line],
+    last: Line,
+) -> Result<(Option<usize>, usize), Fail> {
+    let mut lines = front.to_vec(rt.alloc())?;
+    lines.push(last)?;
+    let count = lines.len();
+    let proof = Proof::from_parts(nodes.to_vec(rt.alloc())?, lines).ok_or("no proof")?;
+    Ok((bad_line(certs, &proof), count))
+}
+
+// All follow where the first bad line is none, or is behind a Says.
+fn is_good(last: Line, bad: Option<usize>, count: usize) -> bool {
+    match last.fact {
+        Fact::Speaks { .. } => bad.is_none(),
+        Fact::Says { .. } => bad == Some(count),
+    }
+}
+
+#[test]
+fn each_rule_gives_what_it_is_for_and_no_more(rt: HostRuntime) -> Result<(), Fail> {
+    let certs = certs(&rt)?;
+    for (what, nodes, front, right, wrong) in CASES {
+        let (bad, count) = bad_behind(&rt, &certs, nodes, front, right)?;
+        assert!(rt; is_good(right, bad, count), "{what}");
+        let (bad, _) = bad_behind(&rt, &certs, nodes, front, wrong)?;
+        assert_eq!(rt; bad, Some(front.len()), "{what}");
+    }
+    Ok(())
+}
+
+#[test]
+fn no_lines_conclude_nothing(rt: HostRuntime) -> Result<(), Fail> {
+    let alloc = rt.alloc();
+    let proof = Proof::from_parts(Vec::new(alloc), Vec::new(alloc)).ok_or("no proof")?;
+    assert_eq!(rt; bad_line(&[], &proof), Some(0));
+    Ok(())
+}
+
+// The hand-off of a name by four lines, spelled, with the number of its anchor.
+fn hand_off(anchor: u8) -> [u8; 61] {
+    [
+        0, 3, 1, 0, 0, 0, 1, 2, 0, 0, 0, 10, 1, 0, 0, 0, 2, 0, 0, 0, 4, 9, 0, 0, 0, 1, 0, anchor,
+        10, 0, 0, 0, 2, 0, 1, 0, 0, 11, 0, 1, 0, 2, 0, 1, 0, 0, 0, 1, 0, 0, 0, 0, 13, 0, 2, 0, 1,
+        0, 0, 0, 2,
+    ]
+}
+
+#[test]
+fn a_hand_off_concludes_what_it_hands_off(rt: HostRuntime) -> Result<(), Fail> {
+    let certs = certs(&rt)?;
+    let proof = read_proof(rt.alloc(), &hand_off(0))?;
+    let concluded = check_proof(&ANCHORS, &certs, &proof);
+    assert_eq!(rt; concluded, Ok(Conclusion { left: 2, right: 1 }));
+    let proof = read_proof(rt.alloc(), &hand_off(1))?;
+    assert_eq!(rt; bad_line(&certs, &proof), Some(0));
+    Ok(())
+}

@@ -1,0 +1,33 @@
+-- How a run ended, as its exit status.
+--     status_of ending      the exit status
+use Rattle.std.specs.Prelude.{ℕ}
+use Rattle.frame_link.specs.declared.outcome.Outcome.{Outcome}
+use Rattle.frame_link.specs.declared.outcome.Outcome.TheVariants.{End, Truncated, TooLong, ReadFault, WriteFault, ClockFault, Spent, NoMemory}
+use Rattle.taos_node.specs.declared.ending.FileFault.{FileFault}
+use Rattle.taos_node.specs.declared.ending.FileFault.TheVariants as fault
+use Rattle.taos_node.specs.declared.ending.FileFault.TheVariants.{Malformed, TooLarge, Unbuilt}
+use Rattle.taos_node.specs.declared.ending.Ending.{Ending}
+use Rattle.taos_node.specs.declared.ending.Ending.TheVariants.{Usage, File, Served}
+
+-- where no connection was served, for the file's sake
+abbrev pub file_status : FileFault → ℕ
+file_status (Malformed offset) = 2
+file_status TooLarge = 2
+file_status fault.ReadFault = 3
+file_status fault.NoMemory = 6
+file_status Unbuilt = 99
+
+abbrev pub served_status : Outcome → ℕ
+served_status (End frames) = 0
+served_status ReadFault = 3
+served_status WriteFault = 4
+served_status ClockFault = 5
+served_status NoMemory = 6
+served_status (Truncated have) = 7
+served_status (TooLong n) = 8
+served_status (Spent frames) = 10
+
+abbrev pub status_of : Ending → ℕ
+status_of Usage = 1
+status_of (File fault) = file_status fault
+status_of (Served outcome) = served_status outcome

@@ -1,0 +1,41 @@
+-- The note of an ending: one line, but none for success.
+--     note_of ending      its bytes
+--     IsNoted ..      it was written, or a proper front of it where the notes failed
+use Rattle.std.specs.Prelude.{◌≡◌, ℕ, ◌<◌, ◌≤◌, List, [], ◌++◌, length, Option, codes, decimal}
+use Rattle.std.specs.Io.KnownBytes.{Appends}
+use Rattle.frame_link.specs.declared.outcome.Outcome.{Outcome}
+use Rattle.frame_link.specs.declared.outcome.Outcome.TheVariants.{End, Truncated, TooLong, ReadFault, WriteFault, ClockFault, Spent, NoMemory}
+use Rattle.frame_link.specs.Faults.{Rose}
+use Rattle.taos_node.specs.declared.ending.FileFault.{FileFault}
+use Rattle.taos_node.specs.declared.ending.FileFault.TheVariants as fault
+use Rattle.taos_node.specs.declared.ending.FileFault.TheVariants.{Malformed, TooLarge, Unbuilt}
+use Rattle.taos_node.specs.declared.ending.Ending.{Ending}
+use Rattle.taos_node.specs.declared.ending.Ending.TheVariants.{Usage, File, Served}
+
+abbrev pub file_note : FileFault → List ℕ
+file_note (Malformed offset) = codes "taos: node file: byte " ++ decimal offset ++ codes ": malformed\n"
+file_note TooLarge = codes "taos: node file: line 0: limit\n"
+file_note fault.ReadFault = codes "taos: read fault\n"
+file_note fault.NoMemory = codes "taos: no memory\n"
+file_note Unbuilt = codes "taos: not built\n"
+
+abbrev pub served_note : Outcome → List ℕ
+served_note (End frames) = []
+served_note ReadFault = codes "taos: read fault\n"
+served_note WriteFault = codes "taos: write fault\n"
+served_note ClockFault = codes "taos: clock fault\n"
+served_note NoMemory = codes "taos: no memory\n"
+served_note (Truncated have) = codes "taos: input ends inside a frame, " ++ decimal have ++ codes " bytes kept\n"
+served_note (TooLong n) = codes "taos: frame too long: " ++ decimal n ++ codes "\n"
+served_note (Spent frames) = codes "taos: frames spent: " ++ decimal frames ++ codes "\n"
+
+abbrev pub note_of : Ending → List ℕ
+note_of Usage = codes "taos: usage\n"
+note_of (File fault) = file_note fault
+note_of (Served outcome) = served_note outcome
+
+-- what was told of the notes, and how often they had failed, before and after
+pub data IsNoted (before after : Option (List ℕ)) (faults0 faults1 : ℕ) (note : List ℕ) : Type 0 where
+  whole : faults1 ≡ faults0 → Appends before after note → IsNoted before after faults0 faults1 note
+  cut : (part more : List ℕ) → note ≡ part ++ more → 0 < length more → faults0 ≤ faults1 → Rose faults0 faults1 → Appends before after part →
+      IsNoted before after faults0 faults1 note

@@ -1,0 +1,89 @@
+//! How a run ended, and the exit status that tells it.
+
+ghost use Rattle.std.specs.Prelude.{◌≡◌};
+ghost use Rattle.taos_node.specs.Ending.{file_status, served_status, status_of};
+
+use frame_link::Outcome;
+
+/// Why a file opens no node that is served.
+#[derive(Clone, Copy, Debug, PartialEq, Eq)]
+pub enum FileFault {
+    /// A read failed.
+    ReadFault,
+    /// Its byte at the offset can't stand there, or is lacking.
+    Malformed { offset: usize },
+    /// It has too many bytes.
+    TooLarge,
+    /// It opens a node that is not built yet.
+    Unbuilt,
+    /// Memory was refused.
+    NoMemory,
+}
+
+/// How a run ended.
+#[derive(Clone, Copy, Debug, PartialEq, Eq)]
+pub enum Ending {
+    /// The words are no command.
+    Usage,
+    /// The file was not served.
+    File(FileFault),
+    /// A connection was served.
+    Served(Outcome),
+}
+
+const USAGE: u8 = 1;
+
+const NODE_FILE: u8 = 2;
+
+const READ_FAULT: u8 = 3;
+
+const WRITE_FAULT: u8 = 4;
+
+const CLOCK_FAULT: u8 = 5;
+
+const MEMORY: u8 = 6;
+
+const TRUNCATED: u8 = 7;
+
+const TOO_LONG: u8 = 8;
+
+const SPENT: u8 = 10;
+
+const UNBUILT: u8 = 99;
+
+fn file_status(fault: FileFault) -> u8
+    ensures { result ≡ file_status fault }
+{
+    match fault {
+        FileFault::ReadFault => READ_FAULT,
+        FileFault::Malformed { .. } | FileFault::TooLarge => NODE_FILE,
+        FileFault::Unbuilt => UNBUILT,
+        FileFault::NoMemory => MEMORY,
+    }
+}
+
+fn served_status(outcome: Outcome) -> u8
+    ensures { result ≡ served_status outcome }
+{
+    match outcome {
+        Outcome::End { .. } => 0,
+        Outcome::Truncated { .. } => TRUNCATED,
+        Outcome::TooLong { .. } => TOO_LONG,
+        Outcome::ReadFault => READ_FAULT,
+        Outcome::WriteFault => WRITE_FAULT,
+        Outcome::ClockFault => CLOCK_FAULT,
+        Outcome::Spent { .. } => SPENT,
+        Outcome::NoMemory => MEMORY,
+    }
+}
+
+/// The exit status of an ending.
+pub fn status_of(ending: Ending) -> u8
+    ensures { result ≡ status_of ending }
+{
+    match ending {
+        Ending::Usage => USAGE,
+        Ending::File(fault) => file_status(fault),
+        Ending::Served(outcome) => served_status(outcome),
+    }
+}

@@ -1,0 +1,92 @@
+//! The one line that tells an ending in words.
+
+ghost use Rattle.std.specs.Prelude.{◌≡◌, ◌≤◌, ◌++◌, length, decimal};
+ghost use Rattle.taos_node.specs.Ending.{status_of};
+ghost use Rattle.taos_node.specs.Notes.{file_note, served_note, note_of, IsNoted};
+
+use crate::ending::{Ending, FileFault};
+use arrayvec::ArrayVec;
+use frame_link::{Outcome, Sink, pour};
+use itoa::Buffer;
+
+// A note has no more bytes than this.
+const ROOM: usize = 96;
+
+fn plain(text: &[u8]) -> ArrayVec<u8, ROOM>
+    requires { length text.now ≤ ROOM }
+    ensures { result.items ≡ text.now }
+{
+    let mut line = ArrayVec::new();
+    line.try_extend_from_slice(text).unwrap();
+    line
+}
+
+// A number between two texts.
+fn numbered(front: &[u8], number: u64, back: &[u8]) -> ArrayVec<u8, ROOM>
+    requires front { length front.now ≤ 40 }
+    requires back { length back.now ≤ 16 }
+    ensures { result.items ≡ front.now ++ decimal number ++ back.now }
+{
+    let mut digits = Buffer::new();
+    let mut line = ArrayVec::new();
+    line.try_extend_from_slice(front).unwrap();
+    line.try_extend_from_slice(digits.format(number).as_bytes())
+        .unwrap();
+    line.try_extend_from_slice(back).unwrap();
+    line
+}
+
+fn of_file(fault: FileFault) -> ArrayVec<u8, ROOM>
+    ensures { result.items ≡ file_note fault }
+{
+    match fault {
+        FileFault::ReadFault => plain(b"taos: read fault\n"),
+        FileFault::Malformed { offset } => {
+            numbered(b"taos: node file: byte ", offset as u64, b": malformed\n")
+        }
+        FileFault::TooLarge => plain(b"taos: node file: line 0: limit\n"),
+        FileFault::Unbuilt => plain(b"taos: not built\n"),
+        FileFault::NoMemory => plain(b"taos: no memory\n"),
+    }
+}
+
+fn of_served(outcome: Outcome) -> ArrayVec<u8, ROOM>
+    ensures { result.items ≡ served_note outcome }
+{
+    match outcome {
+        Outcome::End { .. } => plain(b""),
+        Outcome::Truncated { have } => {
+            numbered(b"taos: input ends inside a frame, ", have, b" bytes kept\n")
+        }
+        Outcome::TooLong { length } => numbered(b"taos: frame too long: ", length as u64, b"\n"),
+        Outcome::ReadFault => plain(b"taos: read fault\n"),
+        Outcome::WriteFault => plain(b"taos: write fault\n"),
+        Outcome::ClockFault => plain(b"taos: clock fault\n"),
+        Outcome::Spent { frames } => numbered(b"taos: frames spent: ", frames, b"\n"),
+        Outcome::NoMemory => plain(b"taos: no memory\n"),
+    }
+}
+
+fn note_of(ending: Ending) -> ArrayVec<u8, ROOM>
+    ensures { result.items ≡ note_of ending }
+{
+    match ending {
+        Ending::Usage => plain(b"taos: usage\n"),
+        Ending::File(fault) => of_file(fault),
+        Ending::Served(outcome) => of_served(outcome),
+    }
+}
+
+/// Writes the note of an ending. Where the notes fail, it is cut or missing, and nothing else comes
+/// of that.
+pub fn tell<N: Sink>(notes: &mut N, ending: Ending)
+    ensures told { IsNoted (N.written notes.old) (N.written notes.new)
+        (N.faults notes.old) (N.faults notes.new) (note_of ending) }
+    // Success has no note.
+    ensures silent { status_of ending ≡ 0 → notes.new ≡ notes.old }
+{
+    let note = note_of(ending);
+    if !note.is_empty() {
+        let _ = pour(notes, &note);
+    }
+}

@@ -1,0 +1,104 @@
+-- How long the bytes of replies are at most.
+use Rattle.std.proofs.Common.{◌≡◌, ℕ, ◌+◌, ◌*◌, ◌<◌, ◌≤◌, ◌^◌, List, [], ◌∷◌, ◌++◌, length, map, Bool, Option, Some, None, ap, arith, length-append}
+use Rattle.std.specs.Prelude.{IfSome}
+use Rattle.std.specs.Int.{w16, w32, w64, to_be_bytes}
+use Rattle.std.specs.List.{flat_map}
+use Rattle.std.specs.declared.sync.Arc.{Arc}
+use Rattle.std.specs.Arc.{arc_value}
+use Rattle.std.proofs.lemmas.List.Concat.{flat_map-cons}
+use Rattle.stmt_codec.specs.declared.cert.Cert.{Cert}
+use Rattle.prin_term.specs.Principal.{Principal, Key, Name, And, Quoting, InRole, For, node_count, spelling as term_spelling}
+use Rattle.prin_term.specs.Steps.{counted, optional}
+use Rattle.taos_calculus.specs.Rules.{Line}
+use Rattle.taos_wire.specs.Reply.{Reply, Granted, Denied, Malformed, UnknownChannel, BadSeal, Replayed, CertRefused, ChannelFull, RelayFailed, UnknownObject, JournalFull, NoMemory, CommonsFull, NotHeld, Unbuilt, LinkSent, Expired, Missing, NoEntry, Untold, FitsReply, FitsLink, link_bytes, flag, cert_bytes, cited_bytes, proof_bytes, granted_bytes, status_of, fields_of, answered_bytes, reply_text, seal_of, sent, spelling}
+use Rattle.taos_wire.specs.View.{cited}
+use Rattle.taos_wire.proofs.Seals.{length-seal_of}
+use Rattle.stmt_codec.specs.Certificates.{Certificate, body_spelling, IsSmall, IsWithinLimits}
+
+pub term_short : (t : Principal) → length (term_spelling t) ≤ node_count t * 5
+term_short (Key k) = omega arith
+term_short (Name n) = omega arith
+term_short (And a b) = omega (arith, term_short a, term_short b, length-append (term_spelling a) (term_spelling b))
+term_short (Quoting a b) = omega (arith, term_short a, term_short b, length-append (term_spelling a) (term_spelling b))
+term_short (InRole a r) = omega (arith, term_short a, length-append (term_spelling a) (to_be_bytes w32 r))
+term_short (For a b) = omega (arith, term_short a, term_short b, length-append (term_spelling a) (term_spelling b))
+
+optional_short : (o : Option Principal) → IfSome o IsSmall → length (optional term_spelling o) ≤ 321
+optional_short None fits = omega arith
+optional_short (Some t) fits = omega (arith, term_short t, fits.0)
+
+-- six pieces
+length-six : (a b c d e f : List ℕ) → length (a ++ b ++ c ++ d ++ e ++ f) ≡ length a + length b + length c + length d + length e + length f
+length-six a b c d e f =
+    omega (arith, length-append (a ++ b ++ c ++ d ++ e) f, length-append (a ++ b ++ c ++ d) e, length-append (a ++ b ++ c) d, length-append (a ++ b) c, length-append a b)
+
+pub body_short : (c : Certificate) → IsWithinLimits c → length (body_spelling c) < 1024
+body_short c fits =
+    let whole = length-six (1 ∷ [] ++ to_be_bytes w32 c.issuer) (optional term_spelling c.quoted) (term_spelling c.left) (term_spelling c.right) (to_be_bytes w64 c.until) (to_be_bytes w64 c.serial) in
+    omega (arith, whole, optional_short c.quoted fits.quoted_fits, term_short c.left, term_short c.right, fits.left_fits.0, fits.right_fits.0)
+
+cert_short : (c : Certificate) → IsWithinLimits c → length (cert_bytes c) < 1026
+unfolding cert_bytes
+cert_short c fits = omega (arith, body_short c fits, length-append (to_be_bytes w16 (length (body_spelling c))) (body_spelling c))
+
+pub certs_short : {Z : Type 0} (certs : List (Arc Cert Z)) → length (flat_map cert_bytes (map cited certs)) ≤ length certs * 1026
+certs_short [] = omega arith
+certs_short (c ∷ certs) =
+    omega (arith, ap length (flat_map-cons cert_bytes (cited c) (map cited certs)), length-append (cert_bytes (cited c)) (flat_map cert_bytes (map cited certs)), certs_short certs, cert_short (cited c) (arc_value c).limits)
+
+-- a grant's fields
+pub granted_short : {Z : Type 0} (kept : Bool) (entry shard place : ℕ) (proof : List Line) (certs : List (Arc Cert Z)) (result : List ℕ)
+    → length (proof_bytes proof) < 2 ^ 25 + 4 → length certs ≤ 64 → length result < 2 ^ 16
+    → length (granted_bytes kept entry shard place proof (map cited certs) result) < 2 ^ 25 + 2 ^ 17 + 2 ^ 16
+granted_short kept entry shard place proof certs result p few r =
+    let front = flag kept ∷ entry ∷ to_be_bytes w32 shard ++ to_be_bytes w64 place in
+    omega (arith, p, few, r, certs_short certs, length-append front (proof_bytes proof), length-append (front ++ proof_bytes proof) (cited_bytes (map cited certs)), length-append (front ++ proof_bytes proof ++ cited_bytes (map cited certs)) (counted w16 result), length-append (to_be_bytes w16 (length result)) result)
+
+-- a reply to which its text's length is known
+pub text_short : (channel seq : ℕ) (r : Reply) → length (fields_of r) < 2 ^ 25 + 2 ^ 17 + 2 ^ 16 → length (reply_text channel seq r) < 2 ^ 25 + 2 ^ 18
+unfolding reply_text
+text_short channel seq r lt = omega (arith, lt, length-append (answered_bytes channel seq) (status_of r ∷ fields_of r))
+
+pub spelling_short : (key : Option (List ℕ)) (channel seq : ℕ) (r : Reply) → length (reply_text channel seq r) < 2 ^ 25 + 2 ^ 18 → length (spelling (sent key channel seq r)) < 2 ^ 26
+spelling_short key channel seq r lt = omega (arith, lt, length-append (reply_text channel seq r) (seal_of key (reply_text channel seq r)), length-seal_of key (reply_text channel seq r))
+
+-- ---- all but grants
+
+link_short : (l : LinkSent) → FitsLink l → length (link_bytes l) ≤ 82
+link_short (Expired entry digest) fits = omega (arith, fits.1.0)
+link_short (Missing entry part) fits = omega (arith, term_short part, fits.1.nodes_fit)
+link_short NoEntry fits = omega arith
+link_short Untold fits = omega arith
+
+small_fields : (r : Reply) → FitsReply r → 0 < status_of r → length (fields_of r) ≤ 94
+small_fields (Granted kept entry shard place proof certs result) fits lt = absurd (omega (arith, lt))
+small_fields (Denied shard place l) fits lt = omega (arith, link_short l fits.2, length-append (to_be_bytes w32 shard ++ to_be_bytes w64 place) (link_bytes l))
+small_fields (Malformed offset) fits lt = omega arith
+small_fields (UnknownChannel number) fits lt = omega arith
+small_fields BadSeal fits lt = omega arith
+small_fields (Replayed last) fits lt = omega arith
+small_fields (CertRefused index code) fits lt = omega arith
+small_fields (ChannelFull held) fits lt = omega arith
+small_fields (RelayFailed index) fits lt = omega arith
+small_fields (UnknownObject number) fits lt = omega arith
+small_fields (JournalFull which number len) fits lt = omega arith
+small_fields NoMemory fits lt = omega arith
+small_fields (CommonsFull held shard) fits lt = omega arith
+small_fields (NotHeld digest) fits lt = omega (arith, fits.0)
+small_fields Unbuilt fits lt = omega arith
+
+pub denied_short : (r : Reply) (shard place : ℕ) (l : LinkSent) → r ≡ Denied shard place l → FitsReply r → length (fields_of r) < 2 ^ 25 + 2 ^ 17 + 2 ^ 16
+denied_short r shard place l is fits =
+    let named : status_of r ≡ 1 = ap status_of is in
+    omega (arith, small_fields r fits (omega (arith, named)))
+
+pub small_reply : (key : Option (List ℕ)) (channel seq : ℕ) (r : Reply) → FitsReply r → 0 < status_of r → length (spelling (sent key channel seq r)) ≤ 256
+unfolding reply_text
+small_reply key channel seq r fits lt =
+    omega (arith, small_fields r fits lt, length-append (answered_bytes channel seq) (status_of r ∷ fields_of r), length-append (reply_text channel seq r) (seal_of key (reply_text channel seq r)), length-seal_of key (reply_text channel seq r))
+
+pub missing_short : (key : List ℕ) (channel seq shard place entry : ℕ) (part : Principal) → node_count part ≤ 16 → length (spelling (sent (Some key) channel seq (Denied shard place (Missing entry part)))) ≤ 256
+unfolding reply_text
+missing_short key channel seq shard place entry part few =
+    let r = Denied shard place (Missing entry part) in
+    omega (arith, few, term_short part, length-append (reply_text channel seq r) (seal_of (Some key) (reply_text channel seq r)), length-seal_of (Some key) (reply_text channel seq r))

@@ -1,0 +1,203 @@
+-- Replies as values, and the bytes of each.
+--     Reply, LinkSent      what is answered; what a denial names
+--     reply_text channel seq r      its one spelling behind a channel and a number, up to the tag
+--     FitsReply r      it is within the limits
+--     SpellsReply channel seq r bytes      the bytes are those of the reply, under some tag
+--     Sent      a reply with the channel and the number that it answers, and the key that seals it
+--     sealed key request r, unsealed r      the reply to a request; the one before a seal is checked
+--     spelling s      its bytes, with their tag
+use Rattle.std.specs.Prelude.{◌≡◌, ℕ, ◌<◌, ◌≤◌, ◌^◌, Bool, true, false, List, [], ◌∷◌, ◌++◌, length, All, Option, Some, None, replicate}
+use Rattle.std.specs.List.{flat_map}
+use Rattle.std.specs.Int.{w16, w32, w64, to_be_bytes}
+use Rattle.keyed_seal.specs.Tag.{tag_of}
+use Rattle.object_core.specs.Operation.{IsByte, IsDigest}
+use Rattle.prin_term.specs.declared.limits.TheConstants.{ENTRY_NODES}
+use Rattle.prin_term.specs.Principal.{Principal, spelling as term_spelling}
+use Rattle.prin_term.specs.Refusal.{FitsLimits}
+use Rattle.prin_term.specs.Steps.{counted}
+use Rattle.stmt_codec.specs.Certificates.{Certificate, body_spelling, HasBodySpelling, IsWithinLimits}
+use Rattle.taos_calculus.specs.Rules.{Line}
+use Rattle.taos_calculus.specs.Spelling.{proof_spelling}
+use Rattle.taos_calculus.specs.Spells.{FitsProof}
+use Rattle.taos_calculus.specs.Tables.{Parts, lines_of}
+use Rattle.taos_wire.specs.declared.reply.TheConstants.{MAX_CITED}
+use Rattle.taos_wire.specs.Request.{Request, IsTag}
+
+-- what a denial names: an entry, and the certificate that ended too early or the part that nobody
+-- speaks for; or that no entry has the right; or nothing
+pub data LinkSent : Type 0 where
+  Expired : (entry : ℕ) (digest : List ℕ) → LinkSent
+  Missing : (entry : ℕ) (part : Principal) → LinkSent
+  NoEntry : LinkSent
+  Untold : LinkSent
+
+pub data Reply : Type 0 where
+  Granted : (kept : Bool) (entry shard place : ℕ) (proof : List Line) (certs : List Certificate) (result : List ℕ) → Reply
+  Denied : (shard place : ℕ) (link : LinkSent) → Reply
+  Malformed : (offset : ℕ) → Reply
+  UnknownChannel : (number : ℕ) → Reply
+  BadSeal : Reply
+  Replayed : (last : ℕ) → Reply
+  CertRefused : (index code : ℕ) → Reply
+  ChannelFull : (held : ℕ) → Reply
+  RelayFailed : (index : ℕ) → Reply
+  UnknownObject : (number : ℕ) → Reply
+  JournalFull : (which number len : ℕ) → Reply
+  NoMemory : Reply
+  CommonsFull : (held shard : ℕ) → Reply
+  NotHeld : (digest : List ℕ) → Reply
+  -- in place of all that is not built yet
+  Unbuilt : Reply
+
+-- ---- bytes
+
+abbrev pub flag : Bool → ℕ
+flag true = 1
+flag false = 0
+
+-- the byte that names a link, and what the link says besides
+abbrev pub link_bytes : LinkSent → List ℕ
+link_bytes (Expired entry digest) = 1 ∷ entry ∷ digest
+link_bytes (Missing entry part) = 2 ∷ entry ∷ term_spelling part
+link_bytes NoEntry = 3 ∷ []
+link_bytes Untold = 0 ∷ []
+
+-- a body behind its length
+unfoldable pub cert_bytes : Certificate → List ℕ
+cert_bytes c = counted w16 (body_spelling c)
+
+-- certificates behind their count
+abbrev pub cited_bytes : List Certificate → List ℕ
+cited_bytes certs = length certs ∷ flat_map cert_bytes certs
+
+-- a proof behind its length
+unfoldable pub proof_bytes : List Line → List ℕ
+proof_bytes proof = counted w32 (proof_spelling proof)
+
+abbrev pub granted_bytes : Bool → ℕ → ℕ → ℕ → List Line → List Certificate → List ℕ → List ℕ
+granted_bytes kept entry shard place proof certs result =
+    flag kept ∷ entry ∷ to_be_bytes w32 shard ++ to_be_bytes w64 place ++ proof_bytes proof ++ cited_bytes certs ++ counted w16 result
+
+abbrev pub status_of : Reply → ℕ
+status_of (Granted kept entry shard place proof certs result) = 0
+status_of (Denied shard place link) = 1
+status_of (Malformed offset) = 2
+status_of (UnknownChannel number) = 3
+status_of BadSeal = 4
+status_of (Replayed last) = 5
+status_of (CertRefused index code) = 6
+status_of (ChannelFull held) = 7
+status_of (RelayFailed index) = 8
+status_of (UnknownObject number) = 9
+status_of (JournalFull which number len) = 10
+status_of NoMemory = 11
+status_of (CommonsFull held shard) = 12
+status_of (NotHeld digest) = 13
+status_of Unbuilt = 255
+
+-- what it says besides its status
+abbrev pub fields_of : Reply → List ℕ
+fields_of (Granted kept entry shard place proof certs result) = granted_bytes kept entry shard place proof certs result
+fields_of (Denied shard place link) = to_be_bytes w32 shard ++ to_be_bytes w64 place ++ link_bytes link
+fields_of (Malformed offset) = to_be_bytes w32 offset
+fields_of (UnknownChannel number) = to_be_bytes w32 number
+fields_of BadSeal = []
+fields_of (Replayed last) = to_be_bytes w64 last
+fields_of (CertRefused index code) = index ∷ code ∷ []
+fields_of (ChannelFull held) = held ∷ []
+fields_of (RelayFailed index) = index ∷ []
+fields_of (UnknownObject number) = to_be_bytes w32 number
+fields_of (JournalFull which number len) = which ∷ to_be_bytes w32 number ++ to_be_bytes w64 len
+fields_of NoMemory = []
+fields_of (CommonsFull held shard) = held ∷ to_be_bytes w32 shard
+fields_of (NotHeld digest) = digest
+fields_of Unbuilt = []
+
+-- the version, the channel and the number that are answered
+abbrev pub answered_bytes : ℕ → ℕ → List ℕ
+answered_bytes channel seq = 4 ∷ to_be_bytes w32 channel ++ to_be_bytes w64 seq
+
+unfoldable pub reply_text : ℕ → ℕ → Reply → List ℕ
+reply_text channel seq r = answered_bytes channel seq ++ status_of r ∷ fields_of r
+
+-- ---- limits
+
+-- the lines that the parts of a proof mean, whose table is the canonical one
+pub record IsProof (lines : List Line) : Type 0 where
+  pub parts : Parts
+  pub limits : FitsProof parts
+  pub meaning : lines_of parts ≡ lines
+
+pub record FitsCited (c : Certificate) : Type 0 where
+  pub numbers : HasBodySpelling c
+  pub limits : IsWithinLimits c
+
+abbrev pub FitsLink : LinkSent → Type 0
+FitsLink (Expired entry digest) = IsByte entry × IsDigest digest
+FitsLink (Missing entry part) = IsByte entry × FitsLimits ENTRY_NODES part
+FitsLink NoEntry = Unit {0}
+FitsLink Untold = Unit {0}
+
+pub record FitsGranted (entry shard place : ℕ) (proof : List Line) (certs : List Certificate) (result : List ℕ) : Type 0 where
+  pub entry_fits : IsByte entry
+  pub shard_fits : shard < 2 ^ 32
+  pub place_fits : place < 2 ^ 64
+  pub proof_fits : IsProof proof
+  pub few_certs : length certs ≤ MAX_CITED
+  pub certs_fit : All FitsCited certs
+  pub result_fits : (length result < 2 ^ 16) × All IsByte result
+
+abbrev pub FitsReply : Reply → Type 0
+FitsReply (Granted kept entry shard place proof certs result) = FitsGranted entry shard place proof certs result
+FitsReply (Denied shard place link) = (shard < 2 ^ 32) × (place < 2 ^ 64) × FitsLink link
+FitsReply (Malformed offset) = offset < 2 ^ 32
+FitsReply (UnknownChannel number) = number < 2 ^ 32
+FitsReply BadSeal = Unit {0}
+FitsReply (Replayed last) = last < 2 ^ 64
+FitsReply (CertRefused index code) = IsByte index × IsByte code
+FitsReply (ChannelFull held) = IsByte held
+FitsReply (RelayFailed index) = IsByte index
+FitsReply (UnknownObject number) = number < 2 ^ 32
+FitsReply (JournalFull which number len) = (which ≤ 1) × (number < 2 ^ 32) × (len < 2 ^ 64)
+FitsReply NoMemory = Unit {0}
+FitsReply (CommonsFull held shard) = IsByte held × (shard < 2 ^ 32)
+FitsReply (NotHeld digest) = IsDigest digest
+FitsReply Unbuilt = Unit {0}
+
+pub record SpellsReply (channel seq : ℕ) (r : Reply) (bytes : List ℕ) : Type 0 where
+  pub channel_fits : channel < 2 ^ 32
+  pub seq_fits : seq < 2 ^ 64
+  pub limits : FitsReply r
+  pub tag : List ℕ
+  pub is_tag : IsTag tag
+  pub text : bytes ≡ reply_text channel seq r ++ tag
+
+-- ---- seals
+
+-- the key that seals it, if it is sealed
+pub record Sent : Type 0 where
+  pub key : Option (List ℕ)
+  pub channel : ℕ
+  pub seq : ℕ
+  pub reply : Reply
+
+abbrev pub sent : Option (List ℕ) → ℕ → ℕ → Reply → Sent
+sent key channel seq reply = record { key = key; channel = channel; seq = seq; reply = reply }
+
+abbrev pub sealed : List ℕ → Request → Reply → Sent
+sealed key r reply = sent (Some key) r.channel r.seq reply
+
+-- before the seal is checked nothing of the request is believed
+abbrev pub unsealed : Reply → Sent
+unsealed reply = sent None 0 0 reply
+
+-- the tag under the key, or 32 zeros
+abbrev pub seal_of : Option (List ℕ) → List ℕ → List ℕ
+seal_of (Some key) text = tag_of key text
+seal_of None text = replicate 32 0
+
+abbrev pub under_seal : Option (List ℕ) → List ℕ → List ℕ
+under_seal key text = text ++ seal_of key text
+
+abbrev pub spelling : Sent → List ℕ
+spelling s = under_seal s.key (reply_text s.channel s.seq s.reply)

@@ -1,0 +1,119 @@
+-- Reading a reply from left to right, with the first fault that is met. It is pinned from both sides by
+-- SpellsReply (Reply.antt), which does not read: see the clauses of read_reply.
+--     reply_of bytes      the channel, the number and the reply that the bytes spell, or the fault
+use Rattle.std.specs.Prelude.{ℕ, ◌+◌, Bool, ◌||◌, List, length, take, Result, Ok, Err, nat_le, nat_lt, ◌==◌, if◌then◌else◌}
+use Rattle.std.specs.Int.{w16}
+use Rattle.prin_term.specs.declared.limits.TheConstants.{ENTRY_NODES}
+use Rattle.prin_term.specs.Readers.{followed, passing, made, given, counted}
+use Rattle.prin_term.specs.Steps.{◌>>=◌, with_fault, bytes_at, counted_at}
+use Rattle.stmt_codec.specs.Certificates.{Certificate}
+use Rattle.stmt_codec.specs.Reading.{body_at}
+use Rattle.taos_calculus.specs.ProofReading.{proof_filling}
+use Rattle.taos_calculus.specs.Rules.{Line}
+use Rattle.taos_calculus.specs.Tables.{lines_of}
+use Rattle.taos_wire.specs.declared.fault.WireFault.{WireFault}
+use Rattle.taos_wire.specs.declared.fault.WireFault.TheVariants as faults
+use Rattle.taos_wire.specs.declared.reply.TheConstants.{MAX_CITED}
+use Rattle.taos_wire.specs.Fields.{WireReader, ended, seen_as_body, seen_as_proof, u8_in, u16_in, u32_in, u64_in, within, term_in}
+use Rattle.taos_wire.specs.Reply.{Reply, Granted, Denied, Malformed, UnknownChannel, BadSeal, Replayed, CertRefused, ChannelFull, RelayFailed, UnknownObject, JournalFull, NoMemory, CommonsFull, NotHeld, Unbuilt, LinkSent, Expired, Missing, NoEntry, Untold}
+use Rattle.taos_wire.specs.RequestReading.{tag_at}
+
+-- the version, the channel and the number that are answered
+unfoldable pub answered_at : List ℕ → WireReader (ℕ × ℕ)
+answered_at bytes =
+    made (λ x. x.1)
+    (followed (within 4 4 (u8_in bytes))
+    (λ _. followed (u32_in bytes) (λ _. u64_in bytes)))
+
+-- a shard, and a place of its journal
+unfoldable pub place_at : List ℕ → WireReader (ℕ × ℕ)
+place_at bytes = followed (u32_in bytes) (λ _. u64_in bytes)
+
+-- ---- a grant
+
+-- a length, and a proof that fills it
+unfoldable pub proof_at : List ℕ → WireReader (List Line)
+proof_at bytes =
+    made (λ x. lines_of x.1)
+    (followed (u32_in bytes) (λ n at. with_fault seen_as_proof (proof_filling bytes n at)))
+
+-- so many bytes stand there, and spell a body; faults are told by their offsets in all of the bytes
+unfoldable pub body_filling : List ℕ → ℕ → WireReader Certificate
+body_filling bytes n at = do
+  text ← bytes_at (ended bytes) n bytes at
+  c ← with_fault seen_as_body (body_at (take (at + n) bytes) at)
+  if nat_lt c.1 (at + n) then Err (faults.Malformed c.1) else Ok (c.0, text.1)
+
+-- a length, and a body that fills it
+unfoldable pub cert_at : List ℕ → WireReader Certificate
+cert_at bytes = made (λ x. x.1) (followed (u16_in bytes) (λ n. body_filling bytes n))
+
+unfoldable pub cited_at : List ℕ → WireReader (List Certificate)
+cited_at bytes = counted MAX_CITED faults.Malformed (u8_in bytes) (λ _. cert_at bytes)
+
+unfoldable pub granted_at : List ℕ → WireReader Reply
+granted_at bytes =
+    made (λ x. Granted (x.0 == 1) x.1.0 x.1.1.0.0 x.1.1.0.1 x.1.1.1.0 x.1.1.1.1.0 x.1.1.1.1.1)
+    (followed (within 0 1 (u8_in bytes))
+    (λ _. followed (u8_in bytes)
+    (λ _. followed (place_at bytes)
+    (λ _. followed (proof_at bytes)
+    (λ _. followed (cited_at bytes)
+    (λ _. counted_at (ended bytes) w16 bytes))))))
+
+-- ---- a denial
+
+-- the link that a byte names
+unfoldable pub named_at : List ℕ → ℕ → WireReader LinkSent
+named_at bytes kind at =
+    if kind == 0 then given Untold at
+    else (if kind == 1 then made (λ x. Expired x.0 x.1) (followed (u8_in bytes) (λ _. bytes_at (ended bytes) 32 bytes)) at
+    else (if kind == 2 then made (λ x. Missing x.0 x.1) (followed (u8_in bytes) (λ _. term_in ENTRY_NODES bytes)) at
+    else given NoEntry at))
+
+unfoldable pub link_at : List ℕ → WireReader LinkSent
+link_at bytes = made (λ x. x.1) (followed (within 0 3 (u8_in bytes)) (λ kind. named_at bytes kind))
+
+unfoldable pub denied_at : List ℕ → WireReader Reply
+denied_at bytes = made (λ x. Denied x.0.0 x.0.1 x.1) (followed (place_at bytes) (λ _. link_at bytes))
+
+-- ---- the whole
+
+abbrev pub is_status : ℕ → Bool
+is_status s = nat_le s 13 || s == 255
+
+-- the fields that a status has
+unfoldable pub fields_at : List ℕ → ℕ → WireReader Reply
+fields_at bytes status at =
+    if status == 0 then granted_at bytes at
+    else (if status == 1 then denied_at bytes at
+    else (if status == 2 then made Malformed (u32_in bytes) at
+    else (if status == 3 then made UnknownChannel (u32_in bytes) at
+    else (if status == 4 then given BadSeal at
+    else (if status == 5 then made Replayed (u64_in bytes) at
+    else (if status == 6 then made (λ x. CertRefused x.0 x.1) (followed (u8_in bytes) (λ _. u8_in bytes)) at
+    else (if status == 7 then made ChannelFull (u8_in bytes) at
+    else (if status == 8 then made RelayFailed (u8_in bytes) at
+    else (if status == 9 then made UnknownObject (u32_in bytes) at
+    else (if status == 10 then made (λ x. JournalFull x.0 x.1.0 x.1.1) (followed (within 0 1 (u8_in bytes)) (λ _. place_at bytes)) at
+    else (if status == 11 then given NoMemory at
+    else (if status == 12 then made (λ x. CommonsFull x.0 x.1) (followed (u8_in bytes) (λ _. u32_in bytes)) at
+    else (if status == 13 then made NotHeld (bytes_at (ended bytes) 32 bytes) at
+    else given Unbuilt at)))))))))))))
+
+unfoldable pub status_at : List ℕ → WireReader Reply
+status_at bytes = made (λ x. x.1) (followed (passing is_status faults.Malformed (u8_in bytes)) (λ status. fields_at bytes status))
+
+-- the channel, the number and the reply; and the tag
+unfoldable pub reply_at : List ℕ → WireReader ((ℕ × ℕ × Reply) × List ℕ)
+reply_at bytes =
+    made (λ x. ((x.0.0, x.0.1, x.1.0), x.1.1))
+    (followed (answered_at bytes)
+    (λ _. followed (status_at bytes)
+    (λ _. tag_at bytes)))
+
+-- nothing stands behind the tag
+unfoldable pub reply_of : List ℕ → Result (ℕ × ℕ × Reply) WireFault
+reply_of bytes = do
+  x ← reply_at bytes 0
+  if nat_lt x.1 (length bytes) then Err (faults.Malformed x.1) else Ok x.0.0

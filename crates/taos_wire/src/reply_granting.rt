@@ -1,0 +1,127 @@
+//! Writing the fields of a grant.
+
+ghost use Rattle.std.specs.Prelude.{◌≡◌, ◌++◌, ◌+◌, ◌<◌, ◌≤◌, ◌^◌, List, ℕ, drop, take, length, map, vec_capacity, OnOk, OnErr};
+ghost use Rattle.std.specs.List.{flat_map};
+ghost use Rattle.stmt_codec.specs.Certificates.{certificate};
+ghost use Rattle.taos_calculus.specs.Tables.{lines_of};
+ghost use Rattle.taos_wire.specs.Reply.{cert_bytes, cited_bytes, flag, granted_bytes, proof_bytes};
+ghost use Rattle.taos_wire.specs.View.{cited};
+
+use crate::reply::MAX_CITED;
+use crate::reply_writing::place_of;
+use crate::writing::push_counted;
+use std::alloc::AllocError;
+use std::sync::Arc;
+use stmt_codec::{Cert, write_body};
+use taos_calculus::{Proof, write_proof};
+
+fn flag_of(kept: bool) -> u8
+    ensures { result ≡ flag kept }
+{
+    if kept { 1 } else { 0 }
+}
+
+// The fields of a grant.
+pub(crate) fn push_granted(
+    out: &mut Vec<u8>,
+    kept: bool,
+    entry: u8,
+    shard: u32,
+    place: u64,
+    proof: &Proof,
+    certs: &[Arc<Cert>],
+    content: &[u8],
+) -> Result<(), AllocError>
+    requires few_certs { length certs.now ≤ MAX_CITED }
+    requires short { length content.now < 2 ^ 16 }
+    ensures ok { OnOk result (out.new.items ≡ out.old.items ++ granted_bytes kept entry shard place
+        (lines_of proof.now) (map cited certs.now) content.now) }
+    ensures err { OnErr result ((more : List ℕ) × (out.new.items ≡ out.old.items ++ more)) }
+    ensures capacity { vec_capacity out.old ≤ vec_capacity out.new }
+    ensures room { OnErr result (vec_capacity out.old < length out.old.items
+        + length (granted_bytes kept entry shard place (lines_of proof.now) (map cited certs.now)
+        content.now)) }
+    ensures short { OnOk result (length (granted_bytes kept entry shard place (lines_of proof.now)
+        (map cited certs.now) content.now) < 2 ^ 25 + 2 ^ 17 + 2 ^ 16) }
+{
+    out.extend_from_slice(&[flag_of(kept), entry])?;
+    out.extend_from_slice(&place_of(shard, place))?;
+    push_proof(out, proof)?;
+    push_cited(out, certs)?;
+    push_counted(out, content)
+}
+
+// Writes bytes over those that stand at `start`.
+fn fill(out: &mut Vec<u8>, start: usize, bytes: &[u8])
+    requires within { start + length bytes.now ≤ length out.old.items }
+    ensures items { out.new.items ≡ take start out.old.items ++ bytes.now
+        ++ drop (start + length bytes.now) out.old.items }
+    ensures capacity { vec_capacity out.new ≡ vec_capacity out.old }
+{
+    out[start..start + bytes.len()].copy_from_slice(bytes);
+}
+
+// A proof behind its length.
+#[tactic(auto, unfolding(crate::specs::Reply::proof_bytes))]
+fn push_proof(out: &mut Vec<u8>, proof: &Proof) -> Result<(), AllocError>
+    ensures ok { OnOk result (out.new.items ≡ out.old.items ++ proof_bytes (lines_of proof.now)) }
+    ensures err { OnErr result ((more : List ℕ) × (out.new.items ≡ out.old.items ++ more)) }
+    ensures capacity { vec_capacity out.old ≤ vec_capacity out.new }
+    ensures room { OnErr result
+        (vec_capacity out.old < length out.old.items + length (proof_bytes (lines_of proof.now))) }
+    ensures short { OnOk result (length (proof_bytes (lines_of proof.now)) < 2 ^ 25 + 4) }
+{
+    let start = out.len();
+    out.extend_from_slice(&[0; 4])?;
+    let text = out.len();
+    write_proof(out, proof)?;
+    let len = (out.len() - text) as u32;
+    fill(out, start, &len.to_be_bytes());
+    Ok(())
+}
+
+// Certificates behind their count.
+fn push_cited(out: &mut Vec<u8>, certs: &[Arc<Cert>]) -> Result<(), AllocError>
+    requires few { length certs.now < 256 }
+    ensures ok { OnOk result (out.new.items ≡ out.old.items ++ cited_bytes (map cited certs.now)) }
+    ensures err { OnErr result ((more : List ℕ) × (out.new.items ≡ out.old.items ++ more)) }
+    ensures capacity { vec_capacity out.old ≤ vec_capacity out.new }
+    ensures room { OnErr result
+        (vec_capacity out.old < length out.old.items + length (cited_bytes (map cited certs.now))) }
+{
+    out.push(certs.len() as u8)?;
+    push_bodies(out, certs)
+}
+
+fn push_bodies(out: &mut Vec<u8>, certs: &[Arc<Cert>]) -> Result<(), AllocError>
+    ensures ok { OnOk result
+        (out.new.items ≡ out.old.items ++ flat_map cert_bytes (map cited certs.now)) }
+    ensures err { OnErr result ((more : List ℕ) × (out.new.items ≡ out.old.items ++ more)) }
+    ensures capacity { vec_capacity out.old ≤ vec_capacity out.new }
+    ensures room { OnErr result (vec_capacity out.old
+        < length out.old.items + length (flat_map cert_bytes (map cited certs.now))) }
+{
+    for cert in certs {
+        push_cert(out, cert)?;
+    }
+    Ok(())
+}
+
+// A certificate's body behind its length.
+#[tactic(auto, unfolding(crate::specs::Reply::cert_bytes))]
+fn push_cert(out: &mut Vec<u8>, cert: &Cert) -> Result<(), AllocError>
+    ensures ok { OnOk result
+        (out.new.items ≡ out.old.items ++ cert_bytes (certificate cert.now.body)) }
+    ensures err { OnErr result ((more : List ℕ) × (out.new.items ≡ out.old.items ++ more)) }
+    ensures capacity { vec_capacity out.old ≤ vec_capacity out.new }
+    ensures room { OnErr result (vec_capacity out.old
+        < length out.old.items + length (cert_bytes (certificate cert.now.body))) }
+{
+    let start = out.len();
+    out.extend_from_slice(&[0; 2])?;
+    let text = out.len();
+    write_body(out, &cert.body)?;
+    let len = (out.len() - text) as u16;
+    fill(out, start, &len.to_be_bytes());
+    Ok(())
+}
