@@ -79,7 +79,7 @@ moved-same (Step.Join i j) = refl
 moved-same (Step.HandOff i) = refl
 moved-same (Step.Delegate i) = refl
 
-none_in : (k : ℕ) → Contains [] k → ⊥
+pub none_in : (k : ℕ) → Contains [] k → ⊥
 none_in k c = let h : c.0 < 0 = c.1 in omega arith
 
 pub cites_nothing : (step : Step) → ((c : ℕ) → step ≡ Step.Said c → ⊥) → (k : ℕ) → Contains (cites_of step) k → ⊥

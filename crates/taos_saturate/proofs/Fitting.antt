@@ -76,3 +76,10 @@ module _ (nodes : List Node) (table : IsNodeTable nodes) where
       let all : All In (qs ++ ps) = All-append In qs ps (lines_in lines below) (All-flat_map In post_order (terms_of (judgement (named nodes) f)) (terms_in f h)) in
       let is : met (principals_of new) ps ≡ met [] (qs ++ ps) = ap (λ (t : List Principal). met t ps) c.grown ∙ sym (met-append [] qs ps) in
       omega (arith, ap length is, met_few [] (qs ++ ps) (principals_of nodes) all, length-principals_of nodes, few)
+
+  -- the table of all lines is no larger
+  pub carried_fits : (used : List ℕ) (lines : List Line) (new : List Node) (out : List Line) → length nodes ≤ 1296 → All (λ (l : Line). IsBelow (length nodes) l.fact) lines →
+      CarriesLines nodes used lines new out → length new ≤ 1296
+  carried_fits used lines new out few below c =
+      let qs : List Principal = flat_map post_order (flat_map (λ (l : Line). terms_of (judgement (named nodes) l.fact)) lines) in
+      omega (arith, ap length c.grown, met_few [] qs (principals_of nodes) (lines_in lines below), length-principals_of nodes, length-principals_of new, few)

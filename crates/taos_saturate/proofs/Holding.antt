@@ -1,7 +1,8 @@
 -- A question that is taken in is ready to be decided.
-use Rattle.std.proofs.Common.{◌≡◌, ℕ, zero, suc, ◌+◌, ◌<◌, ◌≤◌, ◌^◌, Bool, true, false, List, [], ◌∷◌, Option, Some, None, slice_get, length, map, refl, sym, ap, ap₂, subst, ◌∙◌, arith, All}
+use Rattle.std.proofs.Common.{◌≡◌, ℕ, zero, suc, ◌+◌, ◌*◌, ◌<◌, ◌≤◌, ◌^◌, Bool, true, false, List, [], ◌∷◌, Option, Some, None, slice_get, length, map, refl, sym, ap, ap₂, subst, ◌∙◌, arith, All}
 use Rattle.std.specs.Prelude.{option_map}
 use Rattle.std.proofs.lemmas.List.{length-map}
+use Rattle.std.proofs.lemmas.Nat.{mul-le}
 use Rattle.std.proofs.lemmas.Option.{none-some, same_Some, slice_get-map}
 use Rattle.prin_term.specs.declared.term.Entry.{Entry}
 use Rattle.prin_term.specs.Principal.{Principal, Key, Name, And, Quoting, InRole, For, node_count}
@@ -27,6 +28,10 @@ subject_few _ h = absurd h
 
 pub few_mapped : {X Y : Type 0} (f : X → Y) (xs : List X) (n : ℕ) → length (map f xs) ≤ n → length xs ≤ n
 few_mapped f xs n h = omega (arith, h, length-map xs f)
+
+-- the cells of the largest table
+pub cells_few : (w n l : ℕ) → l ≡ w * (w + n) → w ≤ 1296 → n ≤ 64 → l ≤ 1762560
+cells_few w n l e h k = omega (arith, e, mul-le w (w + n) 1296 1360 h (omega (arith, h, k)))
 
 pub map_who : (list : List Entry) → map (λ (e : Entry). principal e.who) list ≡ map (λ (g : Grant). g.who) (map grant list)
 map_who [] = refl

@@ -20,3 +20,4 @@ pub mod CarriedLines
 pub mod Fitting
 pub mod Proving
 pub mod Tidying
+pub mod Handing

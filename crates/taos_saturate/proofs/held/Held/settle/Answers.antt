@@ -1,6 +1,8 @@
 use Rattle.std.proofs.Common.{◌≡◌, ◌<◌, ◌≤◌, ℕ, length, ap, arith, sym, subst, All}
 use Rattle.std.specs.Prelude.{vec_capacity}
-use Rattle.taos_saturate.proofs.Holding.{ready_new}
+use Rattle.std.proofs.lemmas.List.{length-map}
+use Rattle.taos_saturate.specs.Gathering.{statement_of}
+use Rattle.taos_saturate.proofs.Holding.{ready_new, cells_few}
 use Rattle.taos_saturate.proofs.held.Held.settle.Goals as goal
 
 pub saturate-requires-clause-ready : goal.saturate-requires-clause-ready
@@ -11,6 +13,10 @@ saturate-requires-clause-ready c =
 pub returns-clause-held : goal.returns-clause-held
 returns-clause-held c =
     let g = c.saturate.ensures.grown in
+    let wide : c.saturate.new.self.found.width ≤ 1296 = omega (arith, g.ready.width_is, ap (λ v. length v.items) g.table.nodes, c.requires.gathered.few) in
+    let stated : length c.saturate.new.self.found.statements.items ≤ 64 =
+        omega (arith, ap (λ v. length v.items) g.statements, ap (λ v. length v.items) c.restart.ensures.statements, ap length c.requires.gathered.stated,
+        length-map c.args.self.now.table.cited.items statement_of, c.requires.gathered.few_cited) in
     record {
       reserved = record {
         nodes = rw g.table.nodes c.requires.reserved.nodes;
@@ -23,7 +29,7 @@ returns-clause-held c =
       };
       good = record { ready = g.ready; sound = g.sound; full = c.saturate.ensures.full; anchored = rw (g.table.nodes, g.table.anchors) c.requires.gathered.anchored };
       few_nodes = rw g.table.nodes c.requires.gathered.few;
-      few_cells = ?;
+      few_cells = cells_few _ _ _ g.ready.found.index.sized wide stated;
       few_cited = rw g.table.cited c.requires.gathered.few_cited;
       subject_in = rw g.table.nodes c.requires.gathered.subject_in;
       list_in = rw g.table.nodes c.requires.gathered.list_in;
