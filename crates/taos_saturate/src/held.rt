@@ -12,6 +12,7 @@ ghost use Rattle.taos_saturate.specs.Held.{IsReserved, IsGathered, IsHeld, ArePl
 
 use crate::citing::cites_in;
 use crate::extract::extract;
+use crate::found::Found;
 use crate::gather::{state_all, take_anchors, take_certs, take_list, take_term};
 use crate::retable::carry_lines;
 use crate::saturation::{Cited, Saturation};
@@ -19,7 +20,7 @@ use prin_term::{Anchor, Entry, Term};
 use std::alloc::{AllocError, Global};
 use std::sync::Arc;
 use stmt_codec::Cert;
-use taos_calculus::{Proof, Taken};
+use taos_calculus::{MAX_ANCHORS, MAX_CERTS, MAX_ENTRIES, MAX_LINES, MAX_NODES, Proof, Taken};
 
 /// The saturated table, with the numbers of who asks and of who is on the list.
 #[derive(Drop)]
@@ -30,6 +31,33 @@ pub struct Held {
 }
 
 impl Held {
+    /// Room for the largest question.
+    pub fn reserve(alloc: Global) -> Result<Held, AllocError>
+        ensures { IfOk result (λ h. IsReserved h) }
+    {
+        let nodes = Vec::with_capacity(alloc, MAX_NODES)?;
+        let anchors = Vec::with_capacity(alloc, MAX_ANCHORS)?;
+        let cited = Vec::with_capacity(alloc, MAX_CERTS)?;
+        let list = Vec::with_capacity(alloc, MAX_ENTRIES)?;
+        let found = Found {
+            width: 0,
+            statements: Vec::with_capacity(alloc, MAX_CERTS)?,
+            numbers: Vec::with_capacity(alloc, MAX_LINES)?,
+            lines: Vec::with_capacity(alloc, MAX_LINES)?,
+        };
+        let table = Saturation {
+            nodes,
+            anchors,
+            cited,
+            found,
+        };
+        Ok(Held {
+            table,
+            subject: 0,
+            list,
+        })
+    }
+
     // Nothing is held, and all room is kept.
     fn forget(&mut self)
         requires reserved { IsReserved self.old }

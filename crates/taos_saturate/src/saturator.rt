@@ -1,14 +1,19 @@
 //! The decider, seen by what it was asked.
 
-ghost use Rattle.std.specs.Prelude.{◌≡◌, ◌≢◌, ◌↔◌, ℕ, ◌<◌, ◌^◌, IsTrue, IfOk, MatchOption, length, map};
+ghost use Rattle.std.specs.Prelude.{◌≡◌, ◌≢◌, ◌↔◌, ℕ, ◌<◌, ◌^◌, IsTrue, IfOk, MatchOption, [], length, map};
+ghost use Rattle.prin_term.specs.Principal.{Key};
 ghost use Rattle.prin_term.specs.View.{principal};
-ghost use Rattle.taos_calculus.specs.Tables.{IsNodeTable, named, shape, OperandsBelow};
-ghost use Rattle.taos_calculus.specs.Question.{IsTermOf, MayAnswer};
+ghost use Rattle.taos_calculus.specs.Tables.{IsNodeTable, lines_of, named, shape, OperandsBelow};
+ghost use Rattle.taos_calculus.specs.Question.{question_of, IsProofOf, IsTermOf, MayAnswer};
+ghost use Rattle.taos_saturate.specs.Held.{IsHeld, seen};
 
 use crate::held::Held;
-use prin_term::Term;
+use prin_term::{Anchor, Entry, Term};
+use std::alloc::{AllocError, Global};
 use std::marker::Model;
-use taos_calculus::Node;
+use std::sync::Arc;
+use stmt_codec::Cert;
+use taos_calculus::{Decide, Node, Taken};
 
 // The node of a number.
 fn node_at(nodes: &[Node], id: u16) -> Node
@@ -69,6 +74,26 @@ fn find(nodes: &[Node], term: &Term) -> Option<u16>
     None
 }
 
+// A proof of `left => right`, which is derivable.
+fn proof_for(
+    held: &Held,
+    alloc: Global,
+    left: &Term,
+    right: &Term,
+) -> Result<Taken, AllocError>
+    requires held { IsHeld held.now }
+    requires left_in { IsTermOf (seen held.now) (principal left.now) }
+    requires right_in { IsTermOf (seen held.now) (principal right.now) }
+    requires derivable { MayAnswer (seen held.now) (principal left.now) (principal right.now) }
+    ensures { IfOk result (λ t. IsProofOf (seen held.now) (principal left.now)
+        (principal right.now) (lines_of t.proof) t.cites.items) }
+{
+    let i = find(&held.table.nodes, left).unwrap();
+    let j = find(&held.table.nodes, right).unwrap();
+    let number = held.table.speaks(i, j).unwrap();
+    held.proof_of(alloc, i, j, number)
+}
+
 /// A decider that has looked at all pairs of the terms that it was asked about.
 #[derive(Drop)]
 pub struct Saturator {
@@ -91,6 +116,15 @@ impl Model for Saturator {
 }
 
 impl Saturator {
+    /// A decider with room for the largest question. The key 0 is asked about, of which nothing is known.
+    pub fn reserve(alloc: Global) -> Result<Saturator, AllocError>
+        ensures { IfOk result (λ s. s ≡ question_of [] [] [] (Key 0) []) }
+    {
+        let mut held = Held::reserve(alloc)?;
+        held.begin(&[], &[], &[], &Term::Key(0), &[]);
+        Ok(Saturator { held })
+    }
+
     // Whether `left => right` is among the facts.
     fn knows(&self, left: &Term, right: &Term) -> bool
         requires left_in { IsTermOf self.now (principal left.now) }
@@ -107,5 +141,30 @@ impl Saturator {
             },
             None => false,
         }
+    }
+}
+
+impl Decide for Saturator {
+    ghost use Rattle.taos_calculus.specs.Question.{Question};
+
+    ghost question = { λ s. s };
+
+    fn begin(
+        &mut self,
+        anchors: &[Anchor],
+        certs: &[Arc<Cert>],
+        chosen: &[bool],
+        subject: &Term,
+        list: &[Entry],
+    ) {
+        self.held.begin(anchors, certs, chosen, subject, list);
+    }
+
+    fn derives(&mut self, left: &Term, right: &Term) -> bool {
+        self.knows(left, right)
+    }
+
+    fn take_proof(&mut self, alloc: Global, left: &Term, right: &Term) -> Result<Taken, AllocError> {
+        proof_for(&self.held, alloc, left, right)
     }
 }
