@@ -1,6 +1,6 @@
 -- What a held decider knows of the terms of its question.
-use Rattle.std.proofs.Common.{◌≡◌, ◌↔◌, ◌⊎◌, inl, inr, ℕ, ◌<◌, List, [], ◌∷◌, ◌++◌, length, map, refl, sym, ap, subst, ◌∙◌, All, Contains, lit<}
-use Rattle.std.specs.Prelude.{Any}
+use Rattle.std.proofs.Common.{◌≡◌, ◌↔◌, ◌⊎◌, inl, inr, ℕ, ◌<◌, List, [], ◌∷◌, ◌++◌, Option, Some, None, length, map, refl, sym, ap, subst, ◌∙◌, All, Contains, lit<}
+use Rattle.std.specs.Prelude.{Any, MatchOption, IsSome}
 use Rattle.std.proofs.lemmas.List.Elements.{All-cons, All-append, All-weaker, All-map, All-contains}
 use Rattle.prin_term.specs.Principal.{Principal, Key, Name, And, Quoting, InRole, For, subterms, operands}
 use Rattle.taos_calculus.specs.declared.line.Fact.{Fact}
@@ -15,6 +15,11 @@ use Rattle.taos_saturate.specs.Gathering.{chosen_by}
 use Rattle.taos_saturate.specs.Held.{IsHeld, seen}
 use Rattle.taos_saturate.specs.Saturating.{IsNumber, IsKnown, claims_in, claim_by}
 use Rattle.taos_saturate.proofs.Deciding.{good_decides}
+
+-- what is not none is some
+pub some_if : {X : Type 0} (o : Option X) (N : Type 0) (S : X → Type 0) → MatchOption o N S → (N → ⊥) → IsSome o
+some_if None N S m h = absurd (h m)
+some_if (Some x) N S m h = refl
 
 claims-map : (p : ℕ → Principal) (cited : List Cited) → map (λ (x : ℕ × Claim). x.1) (map (chosen_by p) cited) ≡ map (claim_by p) cited
 claims-map p [] = refl
