@@ -10,7 +10,7 @@ use Rattle.taos_calculus.specs.declared.line.Fact.{Fact}
 use Rattle.taos_calculus.specs.Rules.{SpeaksFor, Says}
 use Rattle.taos_calculus.specs.Canonical.{post_order}
 use Rattle.stmt_codec.specs.Distinct.{met}
-use Rattle.taos_calculus.specs.Tables.{shape, IsNodeTable, IsBelow, named, principals_of}
+use Rattle.taos_calculus.specs.Tables.{shape, IsNodeTable, named, principals_of}
 use Rattle.taos_calculus.proofs.Naming.{named_reads}
 use Rattle.stmt_codec.proofs.Firsts.{met-append}
 use Rattle.taos_saturate.specs.Interning.{Fits, TakesIn, node_pair}

@@ -1,10 +1,8 @@
 -- Lines carried over, one line more.
-use Rattle.std.proofs.Common.{◌≡◌, ◌⊎◌, inl, inr, ℕ, zero, suc, ◌+◌, ◌<◌, ◌≤◌, List, [], ◌∷◌, ◌++◌, Some, slice_get, get_or, length, refl, sym, ap, ap₂, subst, ◌∙◌, arith, All, Contains, lit<}
+use Rattle.std.proofs.Common.{◌≡◌, ◌⊎◌, inl, inr, ℕ, ◌<◌, ◌≤◌, List, [], ◌∷◌, ◌++◌, Some, slice_get, get_or, length, sym, ap, ap₂, subst, ◌∙◌, arith}
 use Rattle.std.specs.List.{flat_map}
 use Rattle.std.proofs.lemmas.List.{append-nil, length-append, get_or_append_left}
 use Rattle.std.proofs.lemmas.List.Concat.{flat_map-append}
-use Rattle.std.proofs.lemmas.List.Elements.{All-nil, All-cons, All-append, All-weaker, All-contains}
-use Rattle.std.proofs.lemmas.Option.{none-some, same_Some}
 use Rattle.prin_term.specs.Principal.{Principal, Key}
 use Rattle.taos_calculus.specs.declared.line.Node.{Node}
 use Rattle.taos_calculus.specs.declared.line.Fact.{Fact}
@@ -13,13 +11,12 @@ use Rattle.taos_calculus.specs.declared.line.Step.{Step}
 use Rattle.taos_calculus.specs.Rules.{SpeaksFor, Says}
 use Rattle.taos_calculus.specs.Canonical.{post_order, terms_of}
 use Rattle.stmt_codec.specs.Distinct.{met}
-use Rattle.taos_calculus.specs.Tables.{IsNodeTable, IsBelow, judgement, named, principals_of}
+use Rattle.taos_calculus.specs.Tables.{IsBelow, judgement, named, principals_of}
 use Rattle.taos_calculus.proofs.Building.{slice_get-front, slice_get-back}
 use Rattle.taos_calculus.proofs.Naming.{length-principals_of}
 use Rattle.stmt_codec.proofs.Firsts.{met-append, met-grows}
 use Rattle.taos_saturate.specs.Citing.{IsRecited}
-use Rattle.taos_saturate.specs.Carrying.{FactFits, CarriesFact, IsCarriedLine, CarriesLines}
-use Rattle.taos_saturate.proofs.Few.{met_few}
+use Rattle.taos_saturate.specs.Carrying.{CarriesFact, IsCarriedLine, CarriesLines}
 use Rattle.taos_saturate.proofs.Interned.{pushed_at}
 
 -- a table that has grown keeps the principals of its numbers

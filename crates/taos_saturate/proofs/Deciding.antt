@@ -1,21 +1,18 @@
 -- A saturation that is full knows what is derivable, and no more.
-use Rattle.std.proofs.Common.{◌≡◌, ◌↔◌, ℕ, List, [], ◌∷◌, ◌++◌, Some, slice_get, length, map, ◌∙◌, ap, refl, subst, All, Contains, get_or}
+use Rattle.std.proofs.Common.{◌≡◌, ◌↔◌, ℕ, List, [], ◌∷◌, ◌++◌, Some, slice_get, length, map, ◌∙◌, ap, All, Contains, get_or}
 use Rattle.std.proofs.lemmas.List.Elements.{All-nil, All-cons, All-push, All-map}
 use Rattle.std.proofs.lemmas.Option.{slice_get_within, get_or_from_slice_get, slice_get-get_or}
-use Rattle.prin_term.specs.declared.term.Anchor.{Anchor}
-use Rattle.prin_term.specs.Principal.{Principal, Key, Name}
+use Rattle.prin_term.specs.Principal.{Principal}
 use Rattle.taos_calculus.specs.declared.line.Step.{Step}
 use Rattle.taos_calculus.specs.declared.line.Fact.{Fact}
 use Rattle.taos_calculus.specs.declared.line.Line.{Line}
-use Rattle.taos_calculus.specs.Rules.{Claim, Judgement, SpeaksFor, line, Derivable}
+use Rattle.taos_calculus.specs.Rules.{Claim, SpeaksFor, line, Derivable}
 use Rattle.taos_calculus.specs.Tables.{IsBelow, judgement, named, principals_of}
 use Rattle.taos_calculus.specs.Tidy.{DerivableWithin}
 use Rattle.taos_calculus.specs.Numbered.{Gives, EachGives, IsClosed, facts_at, chain, lift}
 use Rattle.taos_saturate.specs.declared.saturation.Saturation.{Saturation}
-use Rattle.taos_saturate.specs.declared.saturation.Cited.{Cited}
-use Rattle.taos_saturate.specs.declared.found.Pair.{Pair}
 use Rattle.taos_saturate.specs.Finding.{pair}
-use Rattle.taos_saturate.specs.Saturating.{IsReady, IsSound, IsFull, IsGood, IsNumber, IsKnown, GivesIn, facts_of, claims_in, claim_by}
+use Rattle.taos_saturate.specs.Saturating.{IsReady, IsSound, IsFull, IsGood, IsNumber, IsKnown, GivesIn, facts_of, claims_in}
 use Rattle.taos_calculus.proofs.Induction.{All-at}
 use Rattle.taos_calculus.proofs.Building.{within_saturated}
 use Rattle.taos_calculus.proofs.Staying.{Any, within_any}

@@ -1,10 +1,10 @@
 -- How many principals a table takes in.
-use Rattle.std.proofs.Common.{◌≡◌, ◌≢◌, ◌⊎◌, inl, inr, ℕ, zero, suc, ◌+◌, ◌<◌, ◌≤◌, Bool, true, false, not, cond, List, [], ◌∷◌, ◌++◌, length, get_or, refl, sym, ap, subst, ◌∙◌, arith, All, Contains}
+use Rattle.std.proofs.Common.{◌≡◌, ◌≢◌, ℕ, zero, suc, ◌+◌, ◌<◌, ◌≤◌, Bool, true, false, not, cond, List, [], ◌∷◌, ◌++◌, length, get_or, refl, sym, ap, subst, arith, All, Contains}
 use Rattle.std.specs.Prelude.{filter}
 use Rattle.std.proofs.lemmas.List.{length-append}
 use Rattle.std.proofs.lemmas.List.Elements.{All-nil, All-cons, All-append, All-weaker, All-filter, All-contains, Contains-append_left, Contains-append_right, Contains-push}
 use Rattle.std.proofs.lemmas.List.Sums.{length-filter, count_by-le-length}
-use Rattle.std.proofs.lemmas.Bool.{cases_Bool, false_from_ne_true}
+use Rattle.std.proofs.lemmas.Bool.{false_from_ne_true}
 use Rattle.prin_term.specs.Principal.{Principal, Key, Name, And, Quoting, InRole, For, subterms, node_count}
 use Rattle.stmt_codec.specs.Certificates.{Certificate, speaker_of, IsWithinLimits, distinct_subterms}
 use Rattle.stmt_codec.proofs.Members.{members_same}
@@ -12,7 +12,7 @@ use Rattle.stmt_codec.specs.Distinct.{same_principal, first_of_each}
 use Rattle.taos_calculus.specs.Canonical.{post_order}
 use Rattle.stmt_codec.specs.Distinct.{met}
 use Rattle.stmt_codec.proofs.Same.{same_principal-true, same_principal-itself}
-use Rattle.stmt_codec.proofs.Firsts.{is_new, met-is, met-append}
+use Rattle.stmt_codec.proofs.Firsts.{is_new, met-is}
 use Rattle.taos_calculus.proofs.Distinct.{Apart, Apart-filter, Apart-first_of_each}
 
 here : {X : Type 0} (x : X) (xs : List X) → Contains (x ∷ xs) x

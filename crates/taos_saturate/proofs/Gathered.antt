@@ -1,11 +1,11 @@
 -- What stays where a table of nodes widens, and what comes in.
-use Rattle.std.proofs.Common.{◌≡◌, ◌⊎◌, inl, inr, ℕ, zero, suc, ◌+◌, ◌*◌, ◌<◌, ◌≤◌, Bool, true, false, List, [], ◌∷◌, ◌++◌, Some, slice_get, get_or, length, map, take, refl, sym, ap, ap₂, subst, ◌∙◌, arith, All, Contains, append_assoc, add-one}
-use Rattle.std.proofs.lemmas.List.{get_or_append_left, get_or_default, length-append, append-nil, map-append, length-map}
-use Rattle.std.proofs.lemmas.List.Elements.{All-nil, All-cons, All-head, All-tail, All-push, All-weaker, Contains-append_left}
-use Rattle.std.proofs.lemmas.Option.{none-some, same_Some, slice_get-map, slice_get-get_or, slice_get_within, get_or_from_slice_get}
+use Rattle.std.proofs.Common.{◌≡◌, inl, inr, ℕ, zero, suc, ◌+◌, ◌<◌, ◌≤◌, Bool, true, false, List, [], ◌∷◌, ◌++◌, Some, slice_get, get_or, length, map, take, refl, sym, ap, ap₂, subst, ◌∙◌, arith, All, Contains, append_assoc, add-one}
+use Rattle.std.proofs.lemmas.List.{get_or_append_left, get_or_default, length-append, append-nil, map-append}
+use Rattle.std.proofs.lemmas.List.Elements.{All-nil, All-head, All-tail, All-push, All-weaker, Contains-append_left}
+use Rattle.std.proofs.lemmas.Option.{none-some, same_Some, slice_get-map, slice_get-get_or}
 use Rattle.std.specs.Prelude.{option_map}
 use Rattle.prin_term.specs.declared.term.Anchor.{Anchor}
-use Rattle.prin_term.specs.Principal.{Principal, Key, Name, node_count}
+use Rattle.prin_term.specs.Principal.{Principal, Key, Name}
 use Rattle.taos_calculus.specs.declared.line.Node.{Node}
 use Rattle.taos_calculus.specs.Question.{picked, claim_of}
 use Rattle.taos_calculus.specs.Rules.{Claim}

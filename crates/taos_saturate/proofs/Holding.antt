@@ -1,11 +1,11 @@
 -- A question that is taken in is ready to be decided.
-use Rattle.std.proofs.Common.{◌≡◌, ℕ, zero, suc, ◌+◌, ◌*◌, ◌<◌, ◌≤◌, ◌^◌, Bool, true, false, List, [], ◌∷◌, Option, Some, None, slice_get, length, map, refl, sym, ap, ap₂, subst, ◌∙◌, arith, All}
+use Rattle.std.proofs.Common.{◌≡◌, ℕ, zero, suc, ◌+◌, ◌*◌, ◌<◌, ◌≤◌, Bool, true, false, List, [], ◌∷◌, Some, slice_get, length, map, refl, ap, subst, ◌∙◌, arith}
 use Rattle.std.specs.Prelude.{option_map}
 use Rattle.std.proofs.lemmas.List.{length-map}
 use Rattle.std.proofs.lemmas.Nat.{mul-le}
 use Rattle.std.proofs.lemmas.Option.{none-some, same_Some, slice_get-map}
 use Rattle.prin_term.specs.declared.term.Entry.{Entry}
-use Rattle.prin_term.specs.Principal.{Principal, Key, Name, And, Quoting, InRole, For, node_count}
+use Rattle.prin_term.specs.Principal.{Principal, Key, Quoting, node_count}
 use Rattle.prin_term.specs.View.{Grant, grant, principal}
 use Rattle.taos_calculus.specs.Question.{picked, IsSubject}
 use Rattle.taos_calculus.proofs.Induction.{All-at}
@@ -13,9 +13,8 @@ use Rattle.taos_calculus.proofs.Asking.{IsPicked, picked-at}
 use Rattle.taos_saturate.specs.declared.found.Pair.{Pair}
 use Rattle.taos_saturate.specs.declared.found.Found.{Found}
 use Rattle.taos_saturate.specs.declared.saturation.Cited.{Cited}
-use Rattle.taos_saturate.specs.declared.saturation.Saturation.{Saturation}
 use Rattle.taos_saturate.specs.declared.held.Held.{Held}
-use Rattle.taos_saturate.specs.Finding.{IsFound, pair}
+use Rattle.taos_saturate.specs.Finding.{IsFound}
 use Rattle.taos_saturate.specs.Gathering.{CitedIn, statement_of}
 use Rattle.taos_saturate.specs.Held.{IsGathered}
 use Rattle.taos_saturate.specs.Saturating.{IsReady}

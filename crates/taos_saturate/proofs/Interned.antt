@@ -1,10 +1,10 @@
 -- A table of nodes with one node more, and with a principal more.
-use Rattle.std.proofs.Common.{◌≡◌, ◌⊎◌, inl, inr, ℕ, zero, suc, ◌+◌, ◌<◌, ◌≤◌, true, false, List, [], ◌∷◌, ◌++◌, Some, slice_get, get_or, length, refl, sym, ap, ap₂, subst, ◌∙◌, arith, Contains}
+use Rattle.std.proofs.Common.{◌≡◌, ◌⊎◌, inl, inr, ℕ, zero, suc, ◌+◌, ◌<◌, ◌≤◌, true, false, List, [], ◌∷◌, ◌++◌, Some, slice_get, get_or, length, refl, sym, ap, ap₂, subst, ◌∙◌, arith}
 use Rattle.std.specs.List.{list_any}
-use Rattle.std.proofs.lemmas.List.{get_or_append_left, get_or_default, length-append, append-nil}
+use Rattle.std.proofs.lemmas.List.{get_or_append_left, get_or_default, length-append}
 use Rattle.std.proofs.lemmas.List.Folds.{list_any_at}
 use Rattle.std.proofs.Math.Seq.{get_or-append_seam}
-use Rattle.std.proofs.lemmas.Bool.{false_from_ne_true, cases_lt}
+use Rattle.std.proofs.lemmas.Bool.{false_from_ne_true}
 use Rattle.std.proofs.lemmas.Map.Views.{Contains-from_any}
 use Rattle.std.proofs.lemmas.Option.{none-some, same_Some, slice_get-get_or, slice_get_within}
 use Rattle.prin_term.specs.Kind.{Kind, And, Quoting, For, pair}
@@ -14,12 +14,10 @@ use Rattle.stmt_codec.specs.Distinct.{same_principal}
 use Rattle.taos_calculus.specs.Canonical.{post_order}
 use Rattle.stmt_codec.specs.Distinct.{met}
 use Rattle.taos_calculus.specs.Tables.{shape, OperandsBelow, IsNodeTable, grown, principals_of, named}
-use Rattle.taos_calculus.proofs.Building.{slice_get-front, slice_get-back}
 use Rattle.stmt_codec.proofs.Firsts.{met-there, met-new, met-append, met-grows}
 use Rattle.taos_calculus.proofs.Naming.{named_reads, named_apart, operands_below, length-principals_of}
 use Rattle.stmt_codec.proofs.Same.{same_principal-true, same_principal-itself}
 use Rattle.taos_saturate.specs.Interning.{IsRoomy, Fits, TakesIn, node_pair}
-use Rattle.taos_saturate.proofs.Adding.{below_or_not, same_or_not}
 
 -- nodes of one shape are one
 shape_apart : (nodes : List Node) (table : IsNodeTable nodes) (a b : Node) → OperandsBelow (length nodes) a → OperandsBelow (length nodes) b →

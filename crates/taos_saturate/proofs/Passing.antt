@@ -1,12 +1,12 @@
 -- What a row knows, and what passes through it.
-use Rattle.std.proofs.Common.{◌≡◌, ◌≢◌, ℕ, ◌+◌, ◌*◌, ◌<◌, Some, slice_get, slice_index, length, refl, sym, ◌∙◌, subst, arith}
-use Rattle.std.proofs.lemmas.Option.{same_Some, slice_get_within}
+use Rattle.std.proofs.Common.{◌≡◌, ◌≢◌, ℕ, ◌+◌, ◌*◌, ◌<◌, Some, slice_get, slice_index, refl, sym, ◌∙◌, subst}
+use Rattle.std.proofs.lemmas.Option.{same_Some}
 use Rattle.taos_calculus.specs.declared.line.Step.{Step}
 use Rattle.taos_calculus.specs.declared.line.Fact.{Fact}
 use Rattle.taos_calculus.specs.Numbered.{chain, lift}
 use Rattle.taos_saturate.specs.declared.found.Pair.{Pair}
 use Rattle.taos_saturate.specs.declared.saturation.Saturation.{Saturation}
-use Rattle.taos_saturate.specs.Finding.{IsCell, of_speaks, of_says, IsFirstOf, pair, Covers, IsGap}
+use Rattle.taos_saturate.specs.Finding.{of_speaks, of_says, IsFirstOf, Covers, IsGap}
 use Rattle.taos_saturate.specs.Saturating.{facts_of, IsNumber, IsReady, IsKnown, IsNew, ChainFull, LiftFull}
 use Rattle.taos_saturate.proofs.Adding.{empty_cell, set_cell, cell_known}
 use Rattle.taos_saturate.proofs.Steps.{speaks_in, new_speaks, new_says}

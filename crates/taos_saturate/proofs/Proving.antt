@@ -1,26 +1,23 @@
 -- The lines that are carried over are a proof without waste.
-use Rattle.std.proofs.Common.{◌≡◌, ◌≢◌, ℕ, zero, suc, ◌+◌, ◌-◌, ◌<◌, ◌≤◌, List, [], ◌∷◌, ◌++◌, Some, slice_get, get_or, length, map, refl, sym, ap, ap₂, subst, ◌∙◌, arith, All, Contains}
-use Rattle.std.specs.Prelude.{AllPairs, option_map}
+use Rattle.std.proofs.Common.{◌≡◌, ℕ, zero, suc, ◌+◌, ◌<◌, ◌≤◌, List, [], ◌∷◌, ◌++◌, Some, slice_get, get_or, length, map, refl, sym, ap, ap₂, subst, ◌∙◌, arith, All}
 use Rattle.std.specs.List.{flat_map}
-use Rattle.std.proofs.lemmas.List.{length-map, map-append}
-use Rattle.std.proofs.lemmas.Option.{none-some, same_Some, slice_get-map, slice_get-get_or, slice_get_within, get_or_from_slice_get}
+use Rattle.std.proofs.lemmas.List.{map-append}
+use Rattle.std.proofs.lemmas.Option.{same_Some, slice_get-get_or, slice_get_within}
 use Rattle.prin_term.specs.declared.term.Anchor.{Anchor}
 use Rattle.prin_term.specs.Principal.{Principal}
 use Rattle.taos_calculus.specs.declared.line.Node.{Node}
 use Rattle.taos_calculus.specs.declared.line.Fact.{Fact}
 use Rattle.taos_calculus.specs.declared.line.Line.{Line}
-use Rattle.taos_calculus.specs.declared.line.Step.{Step}
-use Rattle.taos_calculus.specs.Rules.{Claim, Judgement, SpeaksFor, EachFollows, Follows, last_fact, Line as Meaning, line}
+use Rattle.taos_calculus.specs.Rules.{Claim, Judgement, EachFollows, Follows, last_fact, Line as Meaning, line}
 use Rattle.stmt_codec.specs.Distinct.{first_of_each}
-use Rattle.taos_calculus.specs.Canonical.{IsCanonical, terms_of, post_order, canonical_table}
+use Rattle.taos_calculus.specs.Canonical.{terms_of, post_order, canonical_table}
 use Rattle.taos_calculus.specs.Limits.{IsProofParts}
 use Rattle.taos_calculus.specs.Tables.{IsNodeTable, IsBelow, judgement, meaning, named, principals_of, parts_of, lines_of}
-use Rattle.taos_calculus.specs.Tidy.{premises_of, cites_of, moved}
+use Rattle.taos_calculus.specs.Tidy.{moved}
 use Rattle.taos_calculus.specs.Numbered.{Gives, EachGives}
 use Rattle.stmt_codec.proofs.Firsts.{first_of_each-met}
 use Rattle.taos_calculus.proofs.Numbers.{gives-follows}
 use Rattle.taos_calculus.proofs.NumberedMoving.{gives_moved}
-use Rattle.taos_saturate.specs.Citing.{IsRecited}
 use Rattle.taos_saturate.specs.Carrying.{IsCarriedLine, CarriesLines}
 
 -- lists whose elements go together

@@ -1,11 +1,11 @@
 -- What a held decider knows of the terms of its question.
-use Rattle.std.proofs.Common.{◌≡◌, ◌↔◌, ◌⊎◌, inl, inr, ℕ, ◌<◌, List, [], ◌∷◌, ◌++◌, Option, Some, None, length, map, refl, sym, ap, subst, ◌∙◌, All, Contains, lit<}
-use Rattle.std.specs.Prelude.{Any, MatchOption, IsSome}
+use Rattle.std.proofs.Common.{◌≡◌, ◌↔◌, inl, inr, ℕ, ◌<◌, List, [], ◌∷◌, ◌++◌, Option, Some, None, length, map, refl, ap, subst, All, lit<}
+use Rattle.std.specs.Prelude.{MatchOption, IsSome}
 use Rattle.std.proofs.lemmas.List.Elements.{All-cons, All-append, All-weaker, All-map, All-contains}
 use Rattle.prin_term.specs.Principal.{Principal, Key, Name, And, Quoting, InRole, For, subterms, operands}
 use Rattle.taos_calculus.specs.declared.line.Fact.{Fact}
 use Rattle.taos_calculus.specs.Question.{Question, claims_of, IsTermOf, MayAnswer}
-use Rattle.taos_calculus.specs.Rules.{Claim, SpeaksFor, Derivable}
+use Rattle.taos_calculus.specs.Rules.{Claim}
 use Rattle.taos_calculus.specs.Tables.{named}
 use Rattle.taos_calculus.proofs.Induction.{All-one}
 use Rattle.taos_calculus.proofs.Numbers.{Numbered, numbered_operands}

@@ -1,5 +1,5 @@
 -- What is known of the facts of a saturation, and what a step that gives a fact rests on.
-use Rattle.std.proofs.Common.{◌≡◌, ℕ, ◌⊎◌, inl, inr, zero, suc, ◌+◌, ◌*◌, ◌<◌, ◌≤◌, [], ◌∷◌, List, Option, Some, None, MatchOption, slice_get, length, refl, sym, ◌∙◌, ap, arith}
+use Rattle.std.proofs.Common.{◌≡◌, ℕ, ◌⊎◌, inl, inr, zero, suc, ◌+◌, ◌*◌, ◌<◌, [], ◌∷◌, List, Option, Some, None, MatchOption, slice_get, refl, sym, ◌∙◌, ap, arith}
 use Rattle.std.proofs.lemmas.Option.{same_Some, none-some, slice_get-map}
 use Rattle.taos_saturate.proofs.Adding.{same_or_not}
 use Rattle.taos_calculus.specs.declared.line.Step.{Step}

@@ -1,5 +1,5 @@
 -- A proof that is handed out, with its certificates.
-use Rattle.std.proofs.Common.{◌≡◌, ◌≢◌, ℕ, zero, suc, ◌+◌, ◌-◌, ◌<◌, ◌≤◌, List, [], ◌∷◌, ◌++◌, Some, slice_get, get_or, length, map, refl, sym, ap, ap₂, subst, ◌∙◌, arith, All, Contains, lit<}
+use Rattle.std.proofs.Common.{◌≡◌, ◌≢◌, ℕ, suc, ◌+◌, ◌-◌, ◌<◌, List, [], ◌∷◌, Some, slice_get, get_or, length, map, refl, sym, ap, subst, ◌∙◌, arith, All, Contains, lit<}
 use Rattle.std.specs.Prelude.{AllPairs, option_map}
 use Rattle.std.proofs.lemmas.List.{length-map, get_or-map}
 use Rattle.std.proofs.lemmas.Option.{same_Some, slice_get-map, slice_get-get_or, get_or_from_slice_get}
@@ -9,18 +9,17 @@ use Rattle.taos_calculus.specs.declared.line.Fact.{Fact}
 use Rattle.taos_calculus.specs.declared.line.Line.{Line}
 use Rattle.taos_calculus.specs.declared.line.Step.{Step}
 use Rattle.taos_calculus.specs.Question.{AreCited, no_cite, a_cite, IsProofOf}
-use Rattle.taos_calculus.specs.Rules.{Claim, Judgement, SpeaksFor, Says, last_fact, Line as Meaning}
+use Rattle.taos_calculus.specs.Rules.{Claim, Judgement, SpeaksFor, last_fact, Line as Meaning}
 use Rattle.taos_calculus.specs.Tables.{IsNodeTable, IsBelow, judgement, meaning, named, parts_of, lines_of}
-use Rattle.taos_calculus.specs.Tidy.{premises_of, cites_of, moved, IsTidy}
-use Rattle.taos_calculus.specs.Numbered.{facts_at}
+use Rattle.taos_calculus.specs.Tidy.{premises_of, cites_of, moved}
 use Rattle.taos_calculus.proofs.Naming.{named_apart}
 use Rattle.taos_saturate.specs.declared.held.Held.{Held}
 use Rattle.taos_saturate.specs.declared.saturation.Cited.{Cited}
 use Rattle.taos_saturate.specs.Citing.{IsCite, UsedBelow}
-use Rattle.taos_saturate.specs.Carrying.{IsCarriedLine, CarriesLines}
+use Rattle.taos_saturate.specs.Carrying.{CarriesLines}
 use Rattle.taos_saturate.specs.Gathering.{chosen_by, cited_or, place_at}
-use Rattle.taos_saturate.specs.Held.{IsHeld, ArePlacesApart, seen}
-use Rattle.taos_saturate.specs.Saturating.{claim_by, claims_in, IsNumber}
+use Rattle.taos_saturate.specs.Held.{IsHeld, seen}
+use Rattle.taos_saturate.specs.Saturating.{claim_by, claims_in}
 use Rattle.taos_saturate.specs.Taking.{IsTakenFor}
 use Rattle.taos_saturate.proofs.Cited.{said_cites}
 use Rattle.taos_saturate.proofs.Proving.{old_line, all_follow, last_at}

@@ -7,14 +7,14 @@
 --     IsNew s line      a line that may come next
 --     IsFull s      no step gives anything new
 --     IsGood s      it is full, and so knows all that is derivable about its table
-use Rattle.std.specs.Prelude.{◌≡◌, ◌↔◌, ℕ, ◌<◌, ◌≤◌, ◌^◌, List, [], ◌∷◌, ◌++◌, Some, slice_get, length, map, Contains, vec_capacity}
+use Rattle.std.specs.Prelude.{◌≡◌, ℕ, ◌<◌, ◌≤◌, ◌^◌, List, [], Some, slice_get, length, map, Contains, vec_capacity}
 use Rattle.prin_term.specs.declared.term.Anchor.{Anchor}
 use Rattle.prin_term.specs.Principal.{Principal, Key, Name}
 use Rattle.taos_calculus.specs.declared.line.Step.{Step}
 use Rattle.taos_calculus.specs.declared.line.Fact.{Fact}
 use Rattle.taos_calculus.specs.declared.line.Line.{Line}
 use Rattle.taos_calculus.specs.declared.line.Node.{Node}
-use Rattle.taos_calculus.specs.Rules.{Claim, SpeaksFor, Derivable}
+use Rattle.taos_calculus.specs.Rules.{Claim}
 use Rattle.taos_calculus.specs.Tables.{named, principals_of, IsBelow, IsNodeTable}
 use Rattle.taos_calculus.specs.Numbered.{Gives, EachGives}
 use Rattle.taos_saturate.specs.declared.found.Pair.{Pair}

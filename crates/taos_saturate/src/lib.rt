@@ -1,8 +1,8 @@
 //! A decider that goes over all pairs of terms.
 #![tactic(auto)]
 
-mod extract;
 mod citing;
+mod extract;
 mod found;
 mod gaps;
 mod gather;

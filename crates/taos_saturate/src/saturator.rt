@@ -75,12 +75,7 @@ fn find(nodes: &[Node], term: &Term) -> Option<u16>
 }
 
 // A proof of `left => right`, which is derivable.
-fn proof_for(
-    held: &Held,
-    alloc: Global,
-    left: &Term,
-    right: &Term,
-) -> Result<Taken, AllocError>
+fn proof_for(held: &Held, alloc: Global, left: &Term, right: &Term) -> Result<Taken, AllocError>
     requires held { IsHeld held.now }
     requires left_in { IsTermOf (seen held.now) (principal left.now) }
     requires right_in { IsTermOf (seen held.now) (principal right.now) }
@@ -164,7 +159,12 @@ impl Decide for Saturator {
         self.knows(left, right)
     }
 
-    fn take_proof(&mut self, alloc: Global, left: &Term, right: &Term) -> Result<Taken, AllocError> {
+    fn take_proof(
+        &mut self,
+        alloc: Global,
+        left: &Term,
+        right: &Term,
+    ) -> Result<Taken, AllocError> {
         proof_for(&self.held, alloc, left, right)
     }
 }

@@ -1,4 +1,4 @@
-use Rattle.std.proofs.Common.{below_more, length, arith, le_refl}
+use Rattle.std.proofs.Common.{below_more, arith}
 use Rattle.taos_saturate.proofs.Cited.{LacksCite, lacks_at, no_cite_at_all}
 use Rattle.taos_saturate.proofs.citing.is_cited.Goals as goal
 

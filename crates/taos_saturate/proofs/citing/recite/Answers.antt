@@ -1,6 +1,4 @@
-use Rattle.std.proofs.Common.{◌≡◌, ℕ, sym, subst, lit<, refl}
-use Rattle.taos_calculus.specs.declared.line.Step.{Step}
-use Rattle.taos_saturate.specs.Citing.{IsRecited}
+use Rattle.std.proofs.Common.{lit<, refl}
 use Rattle.taos_saturate.proofs.Cited.{recited_said, recited_same, moved-same, cites_nothing}
 use Rattle.taos_saturate.proofs.citing.recite.Goals as goal
 

@@ -1,8 +1,7 @@
-use Rattle.std.proofs.Common.{◌≡◌, ◌+◌, ◌*◌, ◌<◌, ◌≤◌, ◌∷◌, ◌++◌, [], List, Bool, cond, true, length, get_or, take, ap, subst, sym, ◌∙◌, arith}
-use Rattle.std.specs.Prelude.{is_ok, vec_capacity}
+use Rattle.std.proofs.Common.{◌≡◌, ◌+◌, ◌*◌, ◌<◌, ◌∷◌, ◌++◌, [], List, Bool, cond, true, length, get_or, ap, sym, ◌∙◌, arith}
+use Rattle.std.specs.Prelude.{is_ok}
 use Rattle.std.proofs.lemmas.List.{take_more}
 use Rattle.prin_term.specs.declared.term.Anchor.{Anchor}
-use Rattle.taos_saturate.specs.Saturating.{AreAnchored}
 use Rattle.taos_saturate.proofs.Gathered.{widens_then, widens_anchored, anchored_more}
 use Rattle.taos_saturate.proofs.gather.take_anchors.Goals as goal
 

@@ -1,4 +1,4 @@
-use Rattle.std.proofs.Common.{◌≡◌, ◌+◌, ◌<◌, ◌≤◌, ◌∷◌, ◌++◌, [], ℕ, List, Bool, cond, true, false, Some, slice_get, get_or, length, ap, subst, sym, ◌∙◌, arith}
+use Rattle.std.proofs.Common.{◌≡◌, ◌∷◌, ◌++◌, [], List, Bool, cond, true, false, Some, ap, ◌∙◌, arith}
 use Rattle.std.proofs.Common.{Global}
 use Rattle.std.specs.declared.sync.Arc.{Arc}
 use Rattle.stmt_codec.specs.declared.cert.Cert.{Cert}
@@ -7,7 +7,6 @@ use Rattle.taos_calculus.specs.Question.{claim_of}
 use Rattle.std.specs.Prelude.{is_ok}
 use Rattle.std.proofs.lemmas.Option.{slice_get-get_or}
 use Rattle.taos_saturate.specs.declared.saturation.Cited.{Cited}
-use Rattle.taos_saturate.specs.Gathering.{Gathers}
 use Rattle.taos_saturate.proofs.Gathered.{gathers_skip, gathers_step, mapped_at}
 use Rattle.taos_saturate.proofs.gather.take_at.Goals as goal
 

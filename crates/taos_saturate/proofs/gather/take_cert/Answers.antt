@@ -1,14 +1,13 @@
-use Rattle.std.proofs.Common.{◌≡◌, ◌≤◌, ◌+◌, ◌++◌, List, length, ap, sym, subst, ◌∙◌, arith}
+use Rattle.std.proofs.Common.{◌≤◌, ◌+◌, ◌++◌, length, sym, subst, ◌∙◌}
 use Rattle.prin_term.specs.Principal.{Principal}
 use Rattle.prin_term.specs.View.{principal}
-use Rattle.stmt_codec.specs.Certificates.{certificate, speaker_of}
+use Rattle.stmt_codec.specs.Certificates.{certificate}
 use Rattle.taos_calculus.specs.Canonical.{post_order}
 use Rattle.stmt_codec.specs.Distinct.{met}
 use Rattle.taos_calculus.specs.Tables.{principals_of}
 use Rattle.taos_saturate.specs.Interning.{Fits}
 use Rattle.taos_saturate.proofs.Few.{cert_few}
 use Rattle.taos_saturate.proofs.Interned.{fits_front, fits_next}
-use Rattle.taos_calculus.proofs.Naming.{length-principals_of}
 use Rattle.taos_saturate.proofs.Gathered.{cert_fits, second_fits, all_taken, three_within, three_named, widens_taken}
 use Rattle.taos_saturate.proofs.gather.take_cert.Goals as goal
 

@@ -1,4 +1,4 @@
-use Rattle.std.proofs.Common.{◌≡◌, ◌*◌, ◌≤◌, take, map, length}
+use Rattle.std.proofs.Common.{◌*◌, ◌≤◌, take, map, length}
 use Rattle.std.specs.Prelude.{vec_capacity}
 use Rattle.stmt_codec.specs.Certificates.{certificate}
 use Rattle.taos_calculus.specs.Question.{claim_of, picked}

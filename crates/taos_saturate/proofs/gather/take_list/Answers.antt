@@ -1,5 +1,5 @@
 use Rattle.std.proofs.Common.{◌≡◌, ◌+◌, ◌*◌, ◌<◌, ◌≤◌, ◌∷◌, ◌++◌, [], ℕ, List, Bool, cond, true, length, get_or, take, map, ap, ap₂, subst, sym, ◌∙◌, arith, All}
-use Rattle.std.specs.Prelude.{is_ok, vec_capacity}
+use Rattle.std.specs.Prelude.{is_ok}
 use Rattle.std.proofs.lemmas.List.{take_more, map-append, length-map, length-append, get_or-map}
 use Rattle.std.proofs.lemmas.List.Elements.{All-push}
 use Rattle.prin_term.specs.declared.term.Entry.{Entry}

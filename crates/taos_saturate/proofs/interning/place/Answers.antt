@@ -1,4 +1,4 @@
-use Rattle.std.proofs.Common.{◌≡◌, ◌+◌, ◌-◌, ◌<◌, ◌≤◌, ◌∷◌, ◌++◌, [], List, Bool, cond, true, length, arith, ap, subst, sym, ◌∙◌}
+use Rattle.std.proofs.Common.{◌≡◌, ◌-◌, ◌∷◌, ◌++◌, [], List, Bool, cond, true, length, arith, ap, subst}
 use Rattle.std.specs.Prelude.{is_ok}
 use Rattle.std.proofs.lemmas.List.{length-append}
 use Rattle.std.proofs.lemmas.Option.{slice_get_within}
@@ -21,15 +21,27 @@ overflow_cast-result c =
 pub unwrap-requires : goal.unwrap-requires
 unwrap-requires c =
     let none = rw c.deref.ensures.value at c.in-None.ensures in
-    c.push.ensures.succeeds (omega (arith, c.requires.fits, c.requires.roomy.room, c.args.nodes.now.ok.0,
-    met_longer c.args.nodes.now.items c.requires.roomy.table c.args.node c.requires.operands none))
+    c.push.ensures.succeeds (omega (
+      arith,
+      c.requires.fits,
+      c.requires.roomy.room,
+      c.args.nodes.now.ok.0,
+      met_longer c.args.nodes.now.items c.requires.roomy.table c.args.node c.requires.operands none,
+    ))
 
 pub overflow_cast-result-in-None : goal.overflow_cast-result-in-None
 overflow_cast-result-in-None c =
     let none = rw c.deref.ensures.value at c.in-None.ensures in
     let items = longer (is_ok c.push.result) (c.args.nodes.now.items ++ c.args.node ∷ []) c.push.new.self.items c.args.nodes.now.items c.push.ensures.items (ap is_ok c.unwrap.ensures) in
-    omega (arith, c.len.ensures, c.push.new.self.ok.0, ap length items, length-append c.args.nodes.now.items (c.args.node ∷ []), c.requires.fits,
-    met_longer c.args.nodes.now.items c.requires.roomy.table c.args.node c.requires.operands none)
+    omega (
+      arith,
+      c.len.ensures,
+      c.push.new.self.ok.0,
+      ap length items,
+      length-append c.args.nodes.now.items (c.args.node ∷ []),
+      c.requires.fits,
+      met_longer c.args.nodes.now.items c.requires.roomy.table c.args.node c.requires.operands none,
+    )
 
 pub returns-in-Some-clause-taken : goal.returns-in-Some-clause-taken
 returns-in-Some-clause-taken c =

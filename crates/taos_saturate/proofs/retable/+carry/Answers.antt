@@ -1,4 +1,4 @@
-use Rattle.std.proofs.Common.{◌≡◌, ◌+◌, ◌<◌, ◌∷◌, [], List, get_or, refl, ap, subst, sym, inl, inr, ◌∙◌, length, arith}
+use Rattle.std.proofs.Common.{◌∷◌, [], List, get_or, refl, subst, sym, length, arith}
 use Rattle.std.specs.Prelude.{vec_capacity}
 use Rattle.prin_term.specs.Kind.{pair}
 use Rattle.prin_term.specs.Principal.{Principal, InRole}
@@ -14,9 +14,19 @@ pub carry-x-requires : goal.carry-x-requires
 carry-x-requires t c =
     let at = role_at c.args.nodes.now c.requires.table c.args.id c.requires.id_in c.in-AsRole.a c.in-AsRole.role c.in-AsRole.is in
     let fits : Fits c.args.new.now.items (post_order (InRole (named c.args.nodes.now c.in-AsRole.a) c.in-AsRole.role))
-    = subst (λ (p : Principal). Fits c.args.new.now.items (post_order p)) at.named_is c.requires.fits in
-    (omega (arith, at.a_low), (c.requires.table, (omega (arith, at.a_low, c.requires.id_in), (c.requires.roomy,
-    fits_front c.args.new.now.items (post_order (named c.args.nodes.now c.in-AsRole.a)) (InRole (named c.args.nodes.now c.in-AsRole.a) c.in-AsRole.role ∷ []) fits))))
+    = subst (λ (p : Principal). Fits c.args.new.now.items (post_order p)) at.named_is c.requires.fits in (
+      omega (arith, at.a_low),
+      (
+        c.requires.table,
+        (
+          omega (arith, at.a_low, c.requires.id_in),
+          (
+            c.requires.roomy,
+            fits_front c.args.new.now.items (post_order (named c.args.nodes.now c.in-AsRole.a)) (InRole (named c.args.nodes.now c.in-AsRole.a) c.in-AsRole.role ∷ []) fits,
+          ),
+        ),
+      ),
+    )
 
 pub place-requires-in-AsRole-clause-fits : goal.place-requires-in-AsRole-clause-fits
 place-requires-in-AsRole-clause-fits t c =
@@ -38,18 +48,37 @@ pub carry-x-requires-in-And : goal.carry-x-requires-in-And
 carry-x-requires-in-And t c =
     let at = pair_at c.args.nodes.now c.requires.table c.args.id c.requires.id_in c.in-And.a c.in-And.b c.in-And.node c.in-And.node-is c.in-And.is in
     let fits : Fits c.args.new.now.items (post_order (pair at.kind (named c.args.nodes.now c.in-And.a) (named c.args.nodes.now c.in-And.b)))
-    = subst (λ (p : Principal). Fits c.args.new.now.items (post_order p)) at.named_is c.requires.fits in
-    (omega (arith, at.a_low), (c.requires.table, (omega (arith, at.a_low, c.requires.id_in), (c.requires.roomy,
-    pair_first c.args.new.now.items at.kind (named c.args.nodes.now c.in-And.a) (named c.args.nodes.now c.in-And.b) fits))))
+    = subst (λ (p : Principal). Fits c.args.new.now.items (post_order p)) at.named_is c.requires.fits in (
+      omega (arith, at.a_low),
+      (
+        c.requires.table,
+        (
+          omega (arith, at.a_low, c.requires.id_in),
+          (
+            c.requires.roomy,
+            pair_first c.args.new.now.items at.kind (named c.args.nodes.now c.in-And.a) (named c.args.nodes.now c.in-And.b) fits,
+          ),
+        ),
+      ),
+    )
 
 pub carry-y-requires : goal.carry-y-requires
 carry-y-requires t c =
     let at = pair_at c.args.nodes.now c.requires.table c.args.id c.requires.id_in c.in-And.a c.in-And.b c.in-And.node c.in-And.node-is c.in-And.is in
     let fits : Fits c.args.new.now.items (post_order (pair at.kind (named c.args.nodes.now c.in-And.a) (named c.args.nodes.now c.in-And.b)))
-    = subst (λ (p : Principal). Fits c.args.new.now.items (post_order p)) at.named_is c.requires.fits in
-    (omega (arith, at.b_low), (c.requires.table, (omega (arith, at.b_low, c.requires.id_in), (
-    roomy_next c.args.new.now.items c.carry-x-in-And.new.new.items (vec_capacity c.args.new.now) (vec_capacity c.carry-x-in-And.new.new) (post_order (named c.args.nodes.now c.in-And.a)) (named c.args.nodes.now c.in-And.a) c.carry-x-in-And.result c.requires.roomy c.carry-x-in-And.ensures.taken c.carry-x-in-And.ensures.capacity,
-    pair_second c.args.new.now.items c.carry-x-in-And.new.new.items at.kind (named c.args.nodes.now c.in-And.a) (named c.args.nodes.now c.in-And.b) c.carry-x-in-And.result c.carry-x-in-And.ensures.taken fits))))
+    = subst (λ (p : Principal). Fits c.args.new.now.items (post_order p)) at.named_is c.requires.fits in (
+      omega (arith, at.b_low),
+      (
+        c.requires.table,
+        (
+          omega (arith, at.b_low, c.requires.id_in),
+          (
+            roomy_next c.args.new.now.items c.carry-x-in-And.new.new.items (vec_capacity c.args.new.now) (vec_capacity c.carry-x-in-And.new.new) (post_order (named c.args.nodes.now c.in-And.a)) (named c.args.nodes.now c.in-And.a) c.carry-x-in-And.result c.requires.roomy c.carry-x-in-And.ensures.taken c.carry-x-in-And.ensures.capacity,
+            pair_second c.args.new.now.items c.carry-x-in-And.new.new.items at.kind (named c.args.nodes.now c.in-And.a) (named c.args.nodes.now c.in-And.b) c.carry-x-in-And.result c.carry-x-in-And.ensures.taken fits,
+          ),
+        ),
+      ),
+    )
 
 pub place-requires-in-And-clause-operands : goal.place-requires-in-And-clause-operands
 place-requires-in-And-clause-operands t c =

@@ -1,10 +1,8 @@
-use Rattle.std.proofs.Common.{◌≡◌, List, subst, sym}
 use Rattle.std.specs.List.{flat_map}
 use Rattle.taos_calculus.specs.declared.line.Fact.{Fact}
 use Rattle.taos_calculus.specs.Canonical.{post_order, terms_of}
 use Rattle.taos_calculus.specs.Tables.{judgement, named}
 use Rattle.taos_saturate.specs.Interning.{Fits}
-use Rattle.taos_saturate.specs.Carrying.{CarriesFact}
 use Rattle.taos_saturate.proofs.Carried.{speaks_first, speaks_second, says_first, says_second, says_third, carries_speaks, carries_says}
 use Rattle.taos_saturate.proofs.retable.carry_fact.Goals as goal
 

@@ -1,5 +1,4 @@
-use Rattle.std.proofs.Common.{◌≡◌, ◌+◌, ◌<◌, ◌≤◌, ◌∷◌, ◌++◌, [], ℕ, List, Some, slice_get, get_or, length, take, ap, ap₂, subst, sym, ◌∙◌, arith, All}
-use Rattle.std.specs.Prelude.{vec_capacity}
+use Rattle.std.proofs.Common.{◌≡◌, ◌<◌, ℕ, List, Some, slice_get, get_or, length, take, arith, All}
 use Rattle.std.proofs.lemmas.List.{take_more}
 use Rattle.std.proofs.lemmas.List.Elements.{All-take}
 use Rattle.std.proofs.lemmas.Option.{slice_get-get_or}
@@ -7,7 +6,6 @@ use Rattle.taos_calculus.specs.declared.line.Fact.{Fact}
 use Rattle.taos_calculus.specs.declared.line.Line.{Line}
 use Rattle.taos_calculus.specs.declared.line.Step.{Step}
 use Rattle.taos_calculus.specs.Tables.{IsBelow}
-use Rattle.taos_saturate.specs.Carrying.{CarriesLines}
 use Rattle.taos_saturate.proofs.CarriedLines.{carries_more}
 use Rattle.taos_saturate.proofs.Fitting.{next_fits}
 use Rattle.taos_saturate.proofs.retable.carry_lines.Goals as goal

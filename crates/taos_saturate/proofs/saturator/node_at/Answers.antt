@@ -1,7 +1,6 @@
 use Rattle.std.proofs.Common.{length}
 use Rattle.std.proofs.lemmas.Option.{slice_get-get_or}
 use Rattle.taos_calculus.specs.declared.line.Node.{Node}
-use Rattle.taos_calculus.specs.Tables.{OperandsBelow}
 use Rattle.taos_calculus.proofs.Naming.{named_reads, operands_below}
 use Rattle.taos_saturate.proofs.saturator.node_at.Goals as goal
 

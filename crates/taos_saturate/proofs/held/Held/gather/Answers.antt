@@ -1,8 +1,5 @@
-use Rattle.std.proofs.Common.{◌≡◌, ◌+◌, ◌*◌, ◌<◌, ◌≤◌, ℕ, List, length, map, ap, arith, sym, subst, ◌∙◌, All, le_refl}
-use Rattle.std.specs.Prelude.{vec_capacity}
-use Rattle.std.proofs.lemmas.List.{length-map}
+use Rattle.std.proofs.Common.{◌≤◌, length, ap, arith, ◌∙◌, le_refl}
 use Rattle.prin_term.specs.View.{grant, principal}
-use Rattle.taos_calculus.specs.Question.{picked}
 use Rattle.taos_saturate.proofs.Gathered.{widens_then, widens_length, widens_named, widens_anchored, widens_gathers}
 use Rattle.taos_saturate.proofs.Holding.{subject_few, few_mapped, map_who, picked-apart}
 use Rattle.taos_saturate.proofs.held.Held.gather.Goals as goal

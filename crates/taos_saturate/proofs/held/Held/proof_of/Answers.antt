@@ -1,5 +1,3 @@
-use Rattle.std.proofs.Common.{◌≡◌, length, map, ap, sym, ◌∙◌, arith}
-use Rattle.taos_calculus.specs.Tables.{lines_of, parts_of}
 use Rattle.taos_saturate.specs.Saturating.{claims_in}
 use Rattle.taos_saturate.proofs.Handing.{lines_below, have_places, used_within, handed_parts, handed_proof}
 use Rattle.taos_saturate.proofs.Taking.{in_order}

@@ -1,5 +1,4 @@
-use Rattle.std.proofs.Common.{◌≡◌, ◌<◌, ◌≤◌, ℕ, length, ap, arith, sym, subst, All}
-use Rattle.std.specs.Prelude.{vec_capacity}
+use Rattle.std.proofs.Common.{◌≤◌, length, ap, arith}
 use Rattle.std.proofs.lemmas.List.{length-map}
 use Rattle.taos_saturate.specs.Gathering.{statement_of}
 use Rattle.taos_saturate.proofs.Holding.{ready_new, cells_few}
@@ -15,8 +14,14 @@ returns-clause-held c =
     let g = c.saturate.ensures.grown in
     let wide : c.saturate.new.self.found.width ≤ 1296 = omega (arith, g.ready.width_is, ap (λ v. length v.items) g.table.nodes, c.requires.gathered.few) in
     let stated : length c.saturate.new.self.found.statements.items ≤ 64 =
-        omega (arith, ap (λ v. length v.items) g.statements, ap (λ v. length v.items) c.restart.ensures.statements, ap length c.requires.gathered.stated,
-        length-map c.args.self.now.table.cited.items statement_of, c.requires.gathered.few_cited) in
+    omega (
+      arith,
+      ap (λ v. length v.items) g.statements,
+      ap (λ v. length v.items) c.restart.ensures.statements,
+      ap length c.requires.gathered.stated,
+      length-map c.args.self.now.table.cited.items statement_of,
+      c.requires.gathered.few_cited,
+    ) in
     record {
       reserved = record {
         nodes = rw g.table.nodes c.requires.reserved.nodes;

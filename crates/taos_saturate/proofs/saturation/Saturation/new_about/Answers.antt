@@ -1,6 +1,4 @@
-use Rattle.std.proofs.Common.{◌≡◌, Some, slice_get}
-use Rattle.taos_saturate.specs.declared.found.Pair.{Pair}
-use Rattle.taos_saturate.specs.Saturating.{SaysFull, LiftFull, IsNew}
+use Rattle.taos_saturate.specs.Saturating.{IsNew}
 use Rattle.taos_saturate.proofs.Steps.{for_none}
 use Rattle.taos_saturate.proofs.saturation.Saturation.new_about.Goals as goal
 

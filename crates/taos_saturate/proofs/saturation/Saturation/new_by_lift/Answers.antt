@@ -1,4 +1,4 @@
-use Rattle.taos_saturate.proofs.Passing.{lift_none, lift_covered, says_gap_known, lift_new}
+use Rattle.taos_saturate.proofs.Passing.{lift_covered, says_gap_known, lift_new}
 use Rattle.taos_saturate.proofs.saturation.Saturation.new_by_lift.Goals as goal
 
 pub returns-in-Some-speaks : goal.returns-in-Some-speaks

@@ -1,4 +1,4 @@
-use Rattle.std.proofs.Common.{below_more, ◌<◌, ℕ, arith}
+use Rattle.std.proofs.Common.{below_more, arith}
 use Rattle.taos_saturate.specs.Saturating.{SpeaksFull, ChainFull}
 use Rattle.taos_saturate.proofs.saturation.Saturation.new_in_row.Goals as goal
 

@@ -1,4 +1,4 @@
-use Rattle.std.proofs.Common.{◌≡◌, ℕ, ◌<◌, Some, slice_get, length, below_more, arith}
+use Rattle.std.proofs.Common.{◌≡◌, ℕ, ◌<◌, Some, slice_get, below_more, arith}
 use Rattle.std.proofs.lemmas.Option.{slice_get_within}
 use Rattle.taos_saturate.specs.declared.found.Pair.{Pair}
 use Rattle.taos_saturate.specs.Saturating.{IsNumber, SpeaksFull, ChainFull, SaysFull, LiftFull}
