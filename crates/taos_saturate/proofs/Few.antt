@@ -15,7 +15,7 @@ use Rattle.stmt_codec.proofs.Same.{same_principal-true, same_principal-itself}
 use Rattle.stmt_codec.proofs.Firsts.{is_new, met-is}
 use Rattle.taos_calculus.proofs.Distinct.{Apart, Apart-filter, Apart-first_of_each}
 
-here : {X : Type 0} (x : X) (xs : List X) → Contains (x ∷ xs) x
+pub here : {X : Type 0} (x : X) (xs : List X) → Contains (x ∷ xs) x
 here x xs = Contains-append_left (x ∷ []) xs x (Contains-push [] x)
 
 there : {X : Type 0} (x : X) (xs : List X) (y : X) → Contains xs y → Contains (x ∷ xs) y

@@ -14,5 +14,9 @@ mod saturate;
 mod saturation;
 mod saturator;
 mod search;
+mod sweep;
 
 pub use saturator::Saturator;
+
+#[cfg(test)]
+mod tests;

@@ -93,8 +93,8 @@ impl Saturation {
         None
     }
 
-    // A new fact between these, or through the second.
-    fn new_between(&self, left: u16, right: u16) -> Option<Line>
+    /// A new fact between these, or through the second.
+    pub fn new_between(&self, left: u16, right: u16) -> Option<Line>
         requires ready { IsReady self.now }
         requires left_in { IsNumber self.now left }
         requires right_in { IsNumber self.now right }
@@ -109,8 +109,8 @@ impl Saturation {
         }
     }
 
-    // A new fact about who says the statement at this place: this one, or one for whom it speaks.
-    fn new_about(&self, who: u16, place: usize) -> Option<Line>
+    /// A new fact about who says the statement at this place: this one, or one for whom it speaks.
+    pub fn new_about(&self, who: u16, place: usize) -> Option<Line>
         requires ready { IsReady self.now }
         requires who_in { IsNumber self.now who }
         requires place_in { place < length self.now.found.statements.items }

@@ -9,8 +9,8 @@ use crate::saturation::Saturation;
 use taos_calculus::{Fact, Line, Step};
 
 impl Saturation {
-    // One line more.
-    fn add(&mut self, line: Line)
+    /// One line more.
+    pub fn add(&mut self, line: Line)
         requires ready { IsReady self.old }
         requires sound { IsSound self.old }
         requires new { IsNew self.old line }
@@ -29,6 +29,7 @@ impl Saturation {
     {
         while let Some(line) = self.new_line() {
             self.add(line);
+            self.sweep();
         }
     }
 }
