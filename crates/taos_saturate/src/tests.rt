@@ -149,21 +149,30 @@ fn a_hand_off_needs_authority_and_is_proved_by_four_lines(rt: HostRuntime) -> Re
     Ok(())
 }
 
+// Key 15, which quotes bob, asks about the machine for bob.
+fn log_in(
+    rt: &HostRuntime,
+    decider: &mut Saturator,
+    certs: &[Arc<Cert>],
+    chosen: &[bool],
+) -> Result<Option<Taken>, Fail> {
+    let alloc = rt.alloc();
+    let subject = channel(alloc, 15, Some(30))?;
+    let who = pair!(For, alloc, machine(alloc)?, Term::Name(30));
+    ask(rt, decider, certs, chosen, &subject, who)
+}
+
 #[test]
 fn a_login_needs_each_of_its_certificates(rt: HostRuntime) -> Result<(), Fail> {
     let alloc = rt.alloc();
     let mut decider = Saturator::reserve(alloc)?;
     let certs = login(alloc)?;
-    let subject = channel(alloc, 15, Some(30))?;
-    let who = pair!(For, alloc, machine(alloc)?, Term::Name(30));
-    let taken = ask(&rt, &mut decider, &certs, &[true; 4], &subject, who)?;
-    let taken = taken.ok_or("denied")?;
+    let taken = log_in(&rt, &mut decider, &certs, &[true; 4])?.ok_or("denied")?;
     assert_eq!(rt; taken.cites.as_slice(), [0u16, 1, 2, 3].as_slice());
     for missing in 0..4 {
         let mut chosen = [true; 4];
         chosen[missing] = false;
-        let who = pair!(For, alloc, machine(alloc)?, Term::Name(30));
-        let taken = ask(&rt, &mut decider, &certs, &chosen, &subject, who)?;
+        let taken = log_in(&rt, &mut decider, &certs, &chosen)?;
         assert!(rt; taken.is_none(), "without {missing}");
     }
     Ok(())

@@ -1,4 +1,4 @@
-use Rattle.std.proofs.Common.{◌≡◌, [], ◌++◌, inr, refl, Contains, lit<}
+use Rattle.std.proofs.Common.{[], ◌++◌, inr, refl, Contains, lit<}
 use Rattle.prin_term.specs.Principal.{Principal, Key, Name, And, Quoting, InRole, For, subterms}
 use Rattle.prin_term.specs.View.{principal}
 use Rattle.taos_saturate.proofs.Few.{here}
