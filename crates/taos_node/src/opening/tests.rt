@@ -123,10 +123,9 @@ const SIXTEEN: &str = "05 03030303030303 0100000001 0100000001 0100000001 010000
     0100000001 0100000001 0100000001 00000002";
 
 // Where the small opening, up to a place and with other bytes from there on, is refused.
-fn refused_from(alloc: Global, at: usize, tail: &[&str]) -> Result<Option<usize>, AllocError>
-    requires { at ≤ 64 }
-{
-    let bytes = with_tail(alloc, &SMALL[..at], &spelled(alloc, tail)?)?;
+fn refused_from(alloc: Global, at: usize, tail: &[&str]) -> Result<Option<usize>, Fail> {
+    let front = SMALL.get(..at).ok_or("a place in the opening")?;
+    let bytes = with_tail(alloc, front, &spelled(alloc, tail)?)?;
     Ok(refused_at(alloc, &bytes))
 }
 
