@@ -136,8 +136,8 @@ impl Saturation {
         None
     }
 
-    // A new fact about who says the statement at this place.
-    fn new_in_statement(&self, place: usize) -> Option<Line>
+    /// A new fact about who says the statement at this place.
+    pub fn new_in_statement(&self, place: usize) -> Option<Line>
         requires ready { IsReady self.now }
         requires place_in { place < length self.now.found.statements.items }
         ensures { MatchOption result ((w : ℕ) → IsNumber self.now w → (p : Pair) → slice_get self.now.found.statements.items place ≡ Some p → SaysFull self.now w p × LiftFull self.now w p) (IsNew self.now) }

@@ -1,9 +1,10 @@
 //! Adding lines by going over all pairs once.
 
-ghost use Rattle.std.specs.Prelude.{◌≡◌, ◌<◌, length};
-ghost use Rattle.taos_saturate.specs.Saturating.{IsReady, IsNumber, IsSound, IsGrown};
+ghost use Rattle.std.specs.Prelude.{◌<◌, IfSome, length};
+ghost use Rattle.taos_saturate.specs.Saturating.{IsReady, IsNew, IsNumber, IsSound, IsGrown};
 
 use crate::saturation::Saturation;
+use taos_calculus::Line;
 
 impl Saturation {
     // The lines between these, and those through the second.
@@ -44,7 +45,7 @@ impl Saturation {
         }
     }
 
-    // The lines about who says the statement at this place.
+    // The lines about who says the statement at this place, and what is handed off by it.
     fn sweep_statement(&mut self, place: usize)
         requires ready { IsReady self.old }
         requires sound { IsSound self.old }
@@ -53,6 +54,44 @@ impl Saturation {
     {
         for k in 0..self.nodes.len() {
             self.add_about(k as u16, place);
+        }
+        let statement = self.found.statement(place);
+        self.add_between(statement.left, statement.right);
+    }
+
+    // The lines about who says each statement.
+    fn sweep_statements(&mut self)
+        requires ready { IsReady self.old }
+        requires sound { IsSound self.old }
+        ensures { IsGrown self.old self.new }
+    {
+        for place in 0..self.found.statements.len() {
+            self.sweep_statement(place);
+        }
+    }
+
+    // A new fact about who says some statement.
+    fn new_said(&self) -> Option<Line>
+        requires { IsReady self.now }
+        ensures { IfSome result (λ line. IsNew self.now line) }
+    {
+        for place in 0..self.found.statements.len() {
+            if let Some(line) = self.new_in_statement(place) {
+                return Some(line);
+            }
+        }
+        None
+    }
+
+    // There are far fewer statements than pairs, so that these come again until they give nothing new.
+    fn settle_statements(&mut self)
+        requires ready { IsReady self.old }
+        requires sound { IsSound self.old }
+        ensures { IsGrown self.old self.new }
+    {
+        while let Some(line) = self.new_said() {
+            self.add(line);
+            self.sweep_statements();
         }
     }
 
@@ -65,8 +104,7 @@ impl Saturation {
         for k in 0..self.nodes.len() {
             self.sweep_row(k as u16);
         }
-        for place in 0..self.found.statements.len() {
-            self.sweep_statement(place);
-        }
+        self.sweep_statements();
+        self.settle_statements();
     }
 }

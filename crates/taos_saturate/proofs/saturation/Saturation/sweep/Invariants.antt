@@ -3,6 +3,3 @@ use Rattle.taos_saturate.proofs.saturation.Saturation.sweep.Given as goal
 
 abbrev pub invariant-loop-k : goal.invariant-loop-k
 invariant-loop-k l = IsGrown l.fn.self l.self
-
-abbrev pub invariant-loop-place : goal.invariant-loop-place
-invariant-loop-place l = IsGrown l.fn.self l.self
