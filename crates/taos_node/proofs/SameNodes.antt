@@ -1,8 +1,7 @@
 -- Two openings in which each look-up finds the same have the same courses.
-use Rattle.std.proofs.Common.{◌≡◌, ◌≤◌, ℕ, List, [], ◌∷◌, length, Some, Result, Ok, Err, true, false, Bool, cond, sym, ap, subst, ◌∙◌, arith, inl, inr}
-use Rattle.std.specs.Prelude.{Option, All, IfOk, find, slice_index_or}
-use Rattle.std.proofs.lemmas.List.Elements.{All-head, All-tail, Contains-get_or}
-use Rattle.std.proofs.lemmas.Option.{none-some, same_Some}
+use Rattle.std.proofs.Common.{◌≡◌, ℕ, List, [], length, Some, sym, ap, subst, ◌∙◌, arith, inl, inr}
+use Rattle.std.specs.Prelude.{Option, All, slice_index_or}
+use Rattle.std.proofs.lemmas.List.Elements.{Contains-get_or}
 use Rattle.object_core.specs.Operation.{right_of}
 use Rattle.prin_term.specs.declared.term.Anchor.{Anchor}
 use Rattle.prin_term.specs.View.{Grant}
@@ -12,11 +11,10 @@ use Rattle.taos_calculus.specs.Rules.{SpeaksFor, Proves}
 use Rattle.taos_calculus.specs.Monitor.{FirstEntry, Grants, MaySpeak}
 use Rattle.taos_wire.specs.Request.{Request, subject_of}
 use Rattle.node_file.specs.declared.opening.Opening as code
-use Rattle.node_file.specs.declared.opening.OpeningFault.{OpeningFault}
 use Rattle.prin_term.specs.Principal.{Principal, Key, Name, And, Quoting, InRole, For}
 use Rattle.taos_calculus.specs.Atoms.{IsAtom}
 use Rattle.taos_node.specs.Command.{IsUnbuiltOpening}
-use Rattle.node_file.specs.Opening.{Opening, ObjectPlan, Spells, FitsOpening, FitsObject, plan_of}
+use Rattle.node_file.specs.Opening.{Opening, ObjectPlan, plan_of}
 use Rattle.node_file.specs.OpeningView.{Represents}
 use Rattle.taos_wire.specs.Reply.{Sent}
 use Rattle.taos_node.specs.Meaning.{opening, IsServable, SameNode}
