@@ -16,7 +16,7 @@ use Rattle.taos_node.specs.Deciding.{GivesAtom, NamesAtom, IsFirst, IsNotFor}
 pub stands_at : (list : List Entry) (place : ℕ) (e : Entry) → place < length list → e ≡ slice_index_or list place e → slice_get (map grant list) place ≡ Some (grant e)
 stands_at list place e within is = slice_get-map grant list place ∙ ap (option_map grant) (slice_get_read list (length list) place e refl within is)
 
-same_grant : (list : List Entry) (place : ℕ) (e : Entry) (g : Grant) → place < length list → e ≡ slice_index_or list place e → slice_get (map grant list) place ≡ Some g → grant e ≡ g
+pub same_grant : (list : List Entry) (place : ℕ) (e : Entry) (g : Grant) → place < length list → e ≡ slice_index_or list place e → slice_get (map grant list) place ≡ Some g → grant e ≡ g
 same_grant list place e g within is stands = same_Some (grant e) g (sym (stands_at list place e within is) ∙ stands)
 
 -- an entry without the right is not for the key
