@@ -5,3 +5,6 @@ pub mod Rows
 pub mod Places
 pub mod Stores
 pub mod Journaling
+pub mod Channels
+pub mod Changing
+pub mod Bringing

@@ -36,11 +36,11 @@ filter_named f r (n ∷ ns) = filter_one f r n ns (f n) refl (filter_named f r n
 
 -- ---- as many certificates as names
 
-count_one : (f : Name → Option Certificate) (n : Name) (ns : List Name) (o : Option Certificate) → f n ≡ o → IsSome o → length (filter_map f ns) ≡ length ns → length (filter_map f (n ∷ ns)) ≡ length (n ∷ ns)
+count_one : {X : Type 0} (f : X → Option Certificate) (n : X) (ns : List X) (o : Option Certificate) → f n ≡ o → IsSome o → length (filter_map f ns) ≡ length ns → length (filter_map f (n ∷ ns)) ≡ length (n ∷ ns)
 count_one f n ns None e some rest = absurd cc
 count_one f n ns (Some c) e some rest = rw e (omega (arith, rest))
 
-pub count_named : (f : Name → Option Certificate) (ns : List Name) → All (λ n. IsSome (f n)) ns → length (filter_map f ns) ≡ length ns
+pub count_named : {X : Type 0} (f : X → Option Certificate) (ns : List X) → All (λ n. IsSome (f n)) ns → length (filter_map f ns) ≡ length ns
 count_named f [] all = refl
 count_named f (n ∷ ns) all = count_one f n ns (f n) refl (All-head (λ n. IsSome (f n)) n ns all) (count_named f ns (All-tail (λ n. IsSome (f n)) n ns all))
 
@@ -95,7 +95,7 @@ pub certs_brought : (commons : List Certificate) (journal : List Entry) (e : Ent
 certs_brought commons journal e [] = refl
 certs_brought commons journal e (p ∷ ps) = rw (named_last commons journal e p) (rw (certs_brought commons journal e ps) refl)
 
-is_there : {X : Type 0} (xs : List X) (i : ℕ) → i < length xs → IsSome (slice_get xs i)
+pub is_there : {X : Type 0} (xs : List X) (i : ℕ) → i < length xs → IsSome (slice_get xs i)
 is_there [] i lt = absurd (omega (arith, lt))
 is_there (x ∷ xs) zero lt = search rules
 is_there (x ∷ xs) (suc i) lt = is_there xs i (omega (arith, lt))
