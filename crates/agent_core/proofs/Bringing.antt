@@ -11,7 +11,7 @@ use Rattle.agent_core.specs.Held.{newly}
 use Rattle.agent_core.specs.State.{Plan, State, Event, Holds, Answer, Plain, next}
 use Rattle.agent_core.specs.Journals.{Entry}
 use Rattle.agent_core.specs.Kept.{IsStore}
-use Rattle.agent_core.specs.Names.{named, certs_named, AreNames, brought, brought_by}
+use Rattle.agent_core.specs.Names.{named, certs_named, AreNames, name_in, brought_by}
 use Rattle.agent_core.proofs.NamesLeft.{count_named, is_there, certs_brought, are_brought, journal_names_more, named_more, names_more}
 use Rattle.agent_core.proofs.Journaling.{store_more}
 
@@ -22,15 +22,15 @@ count_places certs places within = count_named (slice_get certs) places (All-wea
 -- ---- names with those that the last entry brought
 
 module _ (commons : List Certificate) (journal : List Entry) (e : Entry) (names : List Name) (places : List ℕ) where
-  pub certs_joined : AreNames commons journal names → certs_named commons (journal ++ e ∷ []) (names ++ map (brought (length journal)) places) ≡ certs_named commons journal names ++ filter_map (slice_get (brought_by e.event)) places
+  pub certs_joined : AreNames commons journal names → certs_named commons (journal ++ e ∷ []) (names ++ map (name_in (length journal)) places) ≡ certs_named commons journal names ++ filter_map (slice_get (brought_by e.event)) places
   certs_joined all =
-      filter_map-append (named commons (journal ++ e ∷ [])) names (map (brought (length journal)) places) ∙
+      filter_map-append (named commons (journal ++ e ∷ [])) names (map (name_in (length journal)) places) ∙
       ap₂ (λ (xs ys : List Certificate). xs ++ ys)
       (named_more (named commons journal) (named commons (journal ++ e ∷ [])) (journal_names_more commons journal (e ∷ [])) names all) (certs_brought commons journal e places)
 
-  pub names_joined : AreNames commons journal names → All (λ p. p < length (brought_by e.event)) places → AreNames commons (journal ++ e ∷ []) (names ++ map (brought (length journal)) places)
+  pub names_joined : AreNames commons journal names → All (λ p. p < length (brought_by e.event)) places → AreNames commons (journal ++ e ∷ []) (names ++ map (name_in (length journal)) places)
   names_joined all within =
-      All-append (λ n. IsSome (named commons (journal ++ e ∷ []) n)) names (map (brought (length journal)) places)
+      All-append (λ n. IsSome (named commons (journal ++ e ∷ []) n)) names (map (name_in (length journal)) places)
       (names_more (named commons journal) (named commons (journal ++ e ∷ [])) (journal_names_more commons journal (e ∷ [])) names all) (are_brought commons journal e places within)
 
 -- ---- certificates that are held in common
@@ -61,11 +61,11 @@ module _ (plan : Plan) (journal : List Entry) (s : State) (store : Store) (is : 
       (le-ltb 32 (length s.commons + length (newly s.commons certs)) (omega (arith, le, new_count, held_count))) ∙
       ap (λ n. (held_more s (newly s.commons certs), Plain (Told.Held n))) new_count
 
-  pub commons_held : (e : Entry) (after : Store) → brought_by e.event ≡ certs → after.commons.items ≡ store.commons.items ++ map (brought (length journal)) places →
+  pub commons_held : (e : Entry) (after : Store) → brought_by e.event ≡ certs → after.commons.items ≡ store.commons.items ++ map (name_in (length journal)) places →
       after.clock ≡ store.clock → after.swept ≡ store.swept → after.rows ≡ store.rows → IsStore plan (journal ++ e ∷ []) (held_more s (newly s.commons certs)) after
   commons_held e after brings commons clock swept rows =
       let more = store_more plan journal (e ∷ []) s store is in
-      let there : certs_named plan.commons (journal ++ e ∷ []) (store.commons.items ++ map (brought (length journal)) places) ≡ s.commons ++ newly s.commons certs =
+      let there : certs_named plan.commons (journal ++ e ∷ []) (store.commons.items ++ map (name_in (length journal)) places) ≡ s.commons ++ newly s.commons certs =
           certs_joined plan.commons journal e store.commons.items places is.commons_names ∙
           ap₂ (λ (xs ys : List Certificate). xs ++ ys) is.commons_are (ap (λ (cs : List Certificate). filter_map (slice_get cs) places) brings ∙ news) in
       let valid = names_joined plan.commons journal e store.commons.items places is.commons_names (subst (λ (cs : List Certificate). All (λ p. p < length cs) places) (sym brings) within) in

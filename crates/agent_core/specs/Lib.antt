@@ -7,3 +7,4 @@ pub mod Plans
 pub mod Names
 pub mod Kept
 pub mod Letting
+pub mod Looking

@@ -28,5 +28,5 @@ abbrev pub AreNames : List Certificate → List Entry → List Name → Type 0
 AreNames commons journal names = All (λ n. IsSome (named commons journal n)) names
 
 -- the certificate at a place of what an entry brought
-abbrev pub brought : ℕ → ℕ → Name
-brought entry place = Brought entry place
+abbrev pub name_in : ℕ → ℕ → Name
+name_in entry place = Brought entry place

@@ -2,6 +2,7 @@
 #![tactic(auto)]
 
 mod append;
+mod asking;
 mod event;
 mod forgetting;
 mod letting;
@@ -13,6 +14,7 @@ mod plain;
 mod plan;
 mod removal;
 mod row;
+mod snapshot;
 mod store;
 mod told;
 
