@@ -8,3 +8,6 @@ pub mod Journaling
 pub mod Channels
 pub mod Changing
 pub mod Bringing
+pub mod Judging
+pub mod Looks
+pub mod Snapshots

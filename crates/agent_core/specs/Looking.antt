@@ -26,6 +26,8 @@ pub record IsLook (plan : Plan) (journal : List Entry) (s : State) (store : Stor
   pub own_are : certs_named plan.commons journal look.own.items ≡ (swept plan.keep look.moment s).own a.channel
   pub own_names : AreNames plan.commons journal look.own.items
   pub shared_left : look.shared.items ≡ filter (name_stays plan.commons journal (Ended plan.keep look.moment)) store.commons.items
+  pub shared_are : certs_named plan.commons journal look.shared.items ≡ (swept plan.keep look.moment s).commons
+  pub shared_names : AreNames plan.commons journal look.shared.items
   pub new_are : filter_map (slice_get a.presented) look.new.items ≡ brought (swept plan.keep look.moment s) a
   pub new_within : All (λ i. i < length a.presented) look.new.items
 
