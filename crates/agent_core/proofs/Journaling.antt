@@ -86,6 +86,7 @@ module _ (plan : Plan) (before : Vec ShardEntry Global) (store : Store) (kept : 
     store_is = subst (λ journal. IsStore plan journal (state_after plan journal) store') (sym adds_entry)
         (subst (λ s. IsStore plan (map entry_of before.items ++ entry_of e ∷ []) s store') (sym (state_from-push plan _ (map entry_of before.items) (entry_of e))) is);
     swept_within = omega (arith, swept, ap (λ (es : List ShardEntry). length es) added, length-append before.items (e ∷ []));
+    within = omega (arith, room, ap (λ (es : List ShardEntry). length es) added, length-append before.items (e ∷ []));
     room = omega (arith, kept.room, capacity);
   }
 

@@ -11,3 +11,5 @@ pub mod Bringing
 pub mod Judging
 pub mod Looks
 pub mod Snapshots
+pub mod Opening
+pub mod Stepping

@@ -1,5 +1,6 @@
 -- The journal of a shard: what its entries make of the state, and which entry may come next.
 --     Entry      an event, and what was told of it
+--     ShardSeen      a shard: its plan and its journal
 --     Stands journal place before e      the entry stands at the place, behind these
 --     Begins front journal      the journal begins with these
 --     state_after plan journal      the plain state behind these entries
@@ -35,6 +36,11 @@ pub record Stands {E : Type 0} (journal : List E) (place : ℕ) (before : List E
 pub record Begins {E : Type 0} (front journal : List E) : Type 0 where
   pub rest : List E
   pub is : journal ≡ front ++ rest
+
+-- what contracts see of a shard, and nothing else
+pub record ShardSeen : Type 0 where
+  pub plan : Plan
+  pub journal : List Entry
 
 -- ---- what the entries make of the state
 

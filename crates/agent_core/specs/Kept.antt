@@ -3,12 +3,15 @@
 --     row_certs plan journal clock swept row      the own certificates that a row stands for
 --     IsStore plan journal s store      what is kept stands for the state
 --     IsKept plan entries store      it stands for the state behind the entries, which are legal and have room
+--     AreNew rows count, first_names count      the rows and the names of commons at opening
 --     Tells plan before event told after store      an event is told at once, and journaled
 use Rattle.std.specs.Prelude.{◌≡◌, ℕ, ◌≤◌, Bool, false, not, ◌==◌, if◌then◌else◌, List, [], ◌∷◌, ◌++◌, length, map, Option, None, Some, slice_get, filter, bytes_eq, vec_capacity}
 use Rattle.std.specs.declared.alloc.Global.{Global}
 use Rattle.std.specs.declared.vec.Vec.{Vec}
 use Rattle.stmt_codec.specs.Certificates.{Certificate, digest_of}
+use Rattle.std.specs.List.{range_with_len}
 use Rattle.agent_core.specs.declared.name.Name.{Name}
+use Rattle.agent_core.specs.declared.name.Name.TheVariants.{Common}
 use Rattle.agent_core.specs.declared.event.ShardEntry.{ShardEntry}
 use Rattle.agent_core.specs.declared.removal.Removal.{Removal}
 use Rattle.agent_core.specs.declared.removal.Removal.TheVariants.{Ended, Named}
@@ -62,6 +65,7 @@ pub record IsKept (plan : Plan) (entries : Vec ShardEntry Global) (store : Store
   pub legal : IsLegalJournal plan (map entry_of entries.items)
   pub store_is : IsStore plan (map entry_of entries.items) (state_after plan (map entry_of entries.items)) store
   pub swept_within : store.swept ≤ length entries.items
+  pub within : length entries.items ≤ plan.limit
   pub room : plan.limit ≤ vec_capacity entries
 
 -- an event is told at once, and journaled
@@ -69,3 +73,14 @@ pub record Tells (plan : Plan) (before : Vec ShardEntry Global) (event : Event) 
   pub adds : map entry_of after.items ≡ map entry_of before.items ++ entry event told ∷ []
   pub plain : (next plan (state_after plan (map entry_of before.items)) event).1 ≡ Plain told
   pub kept : IsKept plan after store
+
+-- ---- a shard that was opened
+
+-- a row for each channel, without number and certificate
+pub record AreNew (rows : List Row) (count : ℕ) : Type 0 where
+  pub long : length rows ≡ count
+  pub blank : (i : ℕ) (row : Row) → slice_get rows i ≡ Some row → (row.last ≡ 0) × (row.swept ≡ 0) × (row.own.items ≡ [])
+
+-- the names of the first commons
+abbrev pub first_names : ℕ → List Name
+first_names count = map (λ place. Common place) (range_with_len 0 count)

@@ -8,3 +8,4 @@ pub mod Names
 pub mod Kept
 pub mod Letting
 pub mod Looking
+pub mod Answers

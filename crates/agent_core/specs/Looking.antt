@@ -1,7 +1,8 @@
 -- What an Ask finds.
 --     IsLook plan journal s store a look      what its channel and the commons hold at its moment, and what it brings
---     Misses plan before a moment certs after store      it is to be judged, and journaled
---     AsksTo plan before a answer after store      what is answered
+--     IsTaken s a      its number is new, and what it brings fits
+--     Takes plan before a after store      it is to be judged, and journaled
+--     Answered plan before event answer after store      what stands behind an answer to an event
 use Rattle.std.specs.Prelude.{◌≡◌, ℕ, ◌+◌, ◌<◌, ◌≤◌, max, List, [], ◌∷◌, ◌++◌, length, map, filter, slice_get, filter_map, Some, All}
 use Rattle.std.specs.declared.alloc.Global.{Global}
 use Rattle.std.specs.declared.vec.Vec.{Vec}
@@ -14,7 +15,7 @@ use Rattle.agent_core.specs.declared.store.Store.{Store}
 use Rattle.agent_core.specs.declared.told.Told.{Told}
 use Rattle.agent_core.specs.declared.told.Answer.{Answer}
 use Rattle.agent_core.specs.declared.told.Answer.TheVariants as answer
-use Rattle.agent_core.specs.State.{Plan, State, Ask, Asks, swept, brought}
+use Rattle.agent_core.specs.State.{Plan, State, Ask, Event, Asks, swept, brought}
 use Rattle.agent_core.specs.Journals.{Entry, entry, state_after, IsJudged}
 use Rattle.agent_core.specs.Kept.{name_stays, IsKept, Tells}
 use Rattle.agent_core.specs.Names.{certs_named, AreNames}
@@ -41,12 +42,20 @@ pub record Takes (plan : Plan) (before : Vec ShardEntry Global) (a : Ask) (after
   pub adds : map entry_of after.items ≡ map entry_of before.items ++ entry (Asks a) Told.Miss ∷ []
   pub kept : IsKept plan after store
 
-pub record Misses (plan : Plan) (before : Vec ShardEntry Global) (a : Ask) (moment : ℕ) (certs : List Certificate) (after : Vec ShardEntry Global) (store : Store) : Type 0 where
-  pub takes : Takes plan before a after store
-  pub judged : IsJudged plan (map entry_of before.items) a moment certs
+-- the event is an Ask that is to be judged by these
+pub record Misses (plan : Plan) (before : Vec ShardEntry Global) (event : Event) (moment : ℕ) (certs : List Certificate) (after : Vec ShardEntry Global) (store : Store) : Type 0 where
+  pub ask : Ask
+  pub is : event ≡ Asks ask
+  pub takes : Takes plan before ask after store
+  pub judged : IsJudged plan (map entry_of before.items) ask moment certs
 
-abbrev pub AsksTo : Plan → Vec ShardEntry Global → Ask → Answer → Vec ShardEntry Global → Store → Type 0
-AsksTo plan before a (answer.Replayed last) after store = Tells plan before (Asks a) (Told.Replayed last) after store
-AsksTo plan before a (answer.Full held) after store = Tells plan before (Asks a) (Told.Full held) after store
-AsksTo plan before a (answer.Miss snapshot) after store = Misses plan before a snapshot.moment (certificates snapshot.certs.items) after store
-AsksTo plan before a _ after store = ⊥
+-- no proof is kept, and the journal was not full
+abbrev pub Answered : Plan → Vec ShardEntry Global → Event → Answer → Vec ShardEntry Global → Store → Type 0
+Answered plan before event (answer.Replayed last) after store = Tells plan before event (Told.Replayed last) after store
+Answered plan before event (answer.Full held) after store = Tells plan before event (Told.Full held) after store
+Answered plan before event (answer.Hit entry cached) after store = ⊥
+Answered plan before event (answer.Miss snapshot) after store = Misses plan before event snapshot.moment (certificates snapshot.certs.items) after store
+Answered plan before event (answer.Held added) after store = Tells plan before event (Told.Held added) after store
+Answered plan before event (answer.CommonsFull held) after store = Tells plan before event (Told.CommonsFull held) after store
+Answered plan before event (answer.Removed count) after store = Tells plan before event (Told.Removed count) after store
+Answered plan before event (answer.JournalFull n) after store = ⊥

@@ -2,7 +2,7 @@
 
 ghost use Rattle.std.specs.Prelude.{◌≡◌, ◌+◌, ◌<◌, ◌≤◌, length, map, Contains, IfOk, OnErr};
 ghost use Rattle.agent_core.specs.Kept.{IsKept, IsStore, Tells};
-ghost use Rattle.agent_core.specs.Looking.{IsLook, IsTaken, Takes, AsksTo};
+ghost use Rattle.agent_core.specs.Looking.{IsLook, IsTaken, Takes, Answered};
 ghost use Rattle.agent_core.specs.Plans.{IsPlan};
 ghost use Rattle.agent_core.specs.State.{Asks, Plain, asking, swept};
 ghost use Rattle.agent_core.specs.Journals.{state_after, told_at, IsMeant};
@@ -145,8 +145,8 @@ pub(crate) fn ask(
     requires room { length entries.old.items < plan.now.limit }
     requires meant { IsMeant (plan_of plan.now) (Asks (ask_of asked.value)) }
     requires few { length asked.value.presented.items ≤ 16 }
-    ensures answered { IfOk result (λ answer. AsksTo (plan_of plan.now) entries.old
-        (ask_of asked.value) answer entries.new store.new) }
+    ensures answered { IfOk result (λ answer. Answered (plan_of plan.now) entries.old
+        (Asks (ask_of asked.value)) answer entries.new store.new) }
     ensures unchanged { OnErr result ((entries.new ≡ entries.old) × (store.new ≡ store.old)) }
     ensures wanted { OnErr result (told_at (plan_of plan.now) (map entry_of entries.old.items)
         (Asks (ask_of asked.value)) ≡ Told.Miss) }

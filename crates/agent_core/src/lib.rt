@@ -1,6 +1,7 @@
 //! Shards: a machine that answers events, each of which it journals.
 #![tactic(auto)]
 
+mod answering;
 mod append;
 mod asking;
 mod event;
@@ -14,6 +15,7 @@ mod plain;
 mod plan;
 mod removal;
 mod row;
+mod shard;
 mod snapshot;
 mod store;
 mod told;
@@ -21,4 +23,5 @@ mod told;
 pub use event::{Ask, Event, ShardEntry};
 pub use limits::{MAX_CHANNELS, MAX_COMMONS, MAX_JOURNAL, MAX_OWN, MAX_PRESENTED};
 pub use plan::ShardPlan;
+pub use shard::Shard;
 pub use told::{Answer, Snapshot, Told};

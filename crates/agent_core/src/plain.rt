@@ -1,6 +1,6 @@
 //! Events that take no memory: what is held in common, and what is let go.
 
-ghost use Rattle.std.specs.Prelude.{◌≡◌, ◌+◌, ◌≤◌, ◌<◌, ◌++◌, length, map, [], All, filter_map, slice_get};
+ghost use Rattle.std.specs.Prelude.{◌≡◌, ◌+◌, ◌≤◌, ◌<◌, ◌++◌, length, map, [], IfOk, IfErr};
 ghost use Rattle.agent_core.specs.declared.told.Told.TheVariants as told;
 ghost use Rattle.agent_core.specs.Kept.{IsKept, Tells};
 ghost use Rattle.agent_core.specs.State.{Holds, Discards, Forgets, Expires};
@@ -59,32 +59,33 @@ pub(crate) fn expire(
     count
 }
 
-/// Holds certificates in common, and says what is told of it.
+/// Holds certificates in common, and says how many are new; or, where there would be too many, how many
+/// there are.
 pub(crate) fn hold(
     plan: &ShardPlan,
     entries: &mut Vec<ShardEntry>,
     store: &mut Store,
     certs: Arc<Vec<Arc<Cert>>>,
-) -> Told
+) -> Result<u8, u8>
     requires kept { IsKept (plan_of plan.now) entries.old store.old }
     requires room { length entries.old.items < plan.now.limit }
     requires few { length certs.value.items ≤ 16 }
-    ensures { Tells (plan_of plan.now) entries.old (Holds (certificates certs.value.items)) result
-        entries.new store.new }
+    ensures added { IfOk result (λ added. Tells (plan_of plan.now) entries.old
+        (Holds (certificates certs.value.items)) (told.Held added) entries.new store.new) }
+    ensures full { IfErr result (λ held. Tells (plan_of plan.now) entries.old
+        (Holds (certificates certs.value.items)) (told.CommonsFull held) entries.new store.new) }
 {
     let none = Names::new();
     let new = new_of(&plan.commons, entries, &none, &store.commons, &certs);
     let held = store.commons.len();
     if held + new.len() > MAX_COMMONS {
-        let told = Told::CommonsFull { held: held as u8 };
-        append(entries, Event::Hold(certs), told);
-        return told;
+        let held = held as u8;
+        append(entries, Event::Hold(certs), Told::CommonsFull { held });
+        return Err(held);
     }
-    let told = Told::Held {
-        added: new.len() as u8,
-    };
+    let added = new.len() as u8;
     let entry = entries.len() as u32;
-    append(entries, Event::Hold(certs), told);
+    append(entries, Event::Hold(certs), Told::Held { added });
     name_all(&mut store.commons, entry, &new);
-    told
+    Ok(added)
 }

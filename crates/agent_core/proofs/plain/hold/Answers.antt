@@ -14,8 +14,8 @@ use Rattle.agent_core.proofs.Places.{certificate_count}
 use Rattle.agent_core.proofs.Journaling.{store_more, tells_more}
 use Rattle.agent_core.proofs.plain.hold.Goals as goal
 
-pub returns-then-held-len-gt-MAX_COMMONS : goal.returns-then-held-len-gt-MAX_COMMONS
-returns-then-held-len-gt-MAX_COMMONS c =
+pub returns-then-held-len-gt-MAX_COMMONS-clause-full : goal.returns-then-held-len-gt-MAX_COMMONS-clause-full
+returns-then-held-len-gt-MAX_COMMONS-clause-full c =
     let plan = plan_of c.args.plan.now in
     let journal = map entry_of c.args.entries.now.items in
     let s : State = state_after plan journal in
@@ -29,21 +29,21 @@ returns-then-held-len-gt-MAX_COMMONS c =
     ap (λ n. (s, Plain (Told.CommonsFull n))) (sym c.len-held.ensures.value))
     (store_more plan journal (entry_of e ∷ []) s c.args.store.now c.requires.kept.store_is) (omega (arith, c.requires.kept.swept_within))
 
-pub returns : goal.returns
-returns c =
+pub returns-clause-added : goal.returns-clause-added
+returns-clause-added c =
     let plan = plan_of c.args.plan.now in
     let journal = map entry_of c.args.entries.now.items in
     let s : State = state_after plan journal in
     let certs = certificates c.args.certs.value.items in
     let found = rw (c.deref.ensures.value, c.deref-2.ensures.value, c.deref-4.ensures.value, c.deref-3.ensures, c.new-none.ensures) at c.new_of-new.ensures.value in
     let within = rw (c.deref-4.ensures.value, c.deref-3.ensures, sym (certificate_count c.args.certs.value.items)) at c.new_of-new.ensures.within in
-    let e : ShardEntry = record { event = code.Hold c.args.certs; told = Told.Held c.len-2.result } in
+    let e : ShardEntry = record { event = code.Hold c.args.certs; told = Told.Held c.len-added.result } in
     let number : c.len-entry.result ≡ length journal = c.len-entry.ensures ∙ c.args.entries.now.ok.0 ∙ sym (length-map c.args.entries.now.items entry_of) in
     tells_more plan c.args.entries.now c.args.store.now c.requires.kept e c.append-2.new.entries c.requires.room c.append-2.ensures.added c.append-2.ensures.capacity
     (record { clock = c.args.store.now.clock; swept = c.args.store.now.swept; commons = c.name_all.new.names; rows = c.args.store.now.rows })
     (held_more s (newly s.commons certs)) (Holds certs) refl tt
     (commons_fit plan journal s c.args.store.now c.requires.kept.store_is certs c.new_of-new.result.items found within (omega (arith, c.if-held-len-gt-MAX_COMMONS.false, c.len-held.ensures.value, c.len.ensures.value)) ∙
-    ap (λ n. (held_more s (newly s.commons certs), Plain (Told.Held n))) (sym c.len-2.ensures.value))
+    ap (λ n. (held_more s (newly s.commons certs), Plain (Told.Held n))) (sym c.len-added.ensures.value))
     (commons_held plan journal s c.args.store.now c.requires.kept.store_is certs c.new_of-new.result.items found within (entry_of e)
     (record { clock = c.args.store.now.clock; swept = c.args.store.now.swept; commons = c.name_all.new.names; rows = c.args.store.now.rows }) refl
     (c.name_all.ensures ∙ ap (λ n. c.args.store.now.commons.items ++ map (name_in n) c.new_of-new.result.items) number) refl refl refl)
