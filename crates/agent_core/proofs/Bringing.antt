@@ -1,5 +1,5 @@
 -- Certificates that an event brings, and that are held from then on.
-use Rattle.std.proofs.Common.{◌≡◌, ℕ, ◌+◌, ◌<◌, ◌≤◌, Bool, true, false, cond, List, [], ◌∷◌, ◌++◌, length, map, All, IsSome, Some, refl, sym, ap, ap₂, ◌∙◌, subst, arith}
+use Rattle.std.proofs.Common.{◌≡◌, ℕ, ◌+◌, ◌<◌, ◌≤◌, cond, List, [], ◌∷◌, ◌++◌, length, map, All, IsSome, Some, sym, ap, ap₂, ◌∙◌, subst, arith}
 use Rattle.std.specs.List.{slice_get, filter_map}
 use Rattle.std.proofs.lemmas.Bool.{lt-ltb, le-ltb}
 use Rattle.std.proofs.lemmas.List.Elements.{All-append, All-weaker, filter_map-append}
@@ -8,7 +8,7 @@ use Rattle.agent_core.specs.declared.name.Name.{Name}
 use Rattle.agent_core.specs.declared.store.Store.{Store}
 use Rattle.agent_core.specs.declared.told.Told.{Told}
 use Rattle.agent_core.specs.Held.{newly}
-use Rattle.agent_core.specs.State.{Plan, State, Event, Holds, Answer, Plain, next}
+use Rattle.agent_core.specs.State.{Plan, State, Holds, Plain, next}
 use Rattle.agent_core.specs.Journals.{Entry}
 use Rattle.agent_core.specs.Kept.{IsStore}
 use Rattle.agent_core.specs.Names.{named, certs_named, AreNames, name_in, brought_by}
@@ -66,8 +66,8 @@ module _ (plan : Plan) (journal : List Entry) (s : State) (store : Store) (is : 
   commons_held e after brings commons clock swept rows =
       let more = store_more plan journal (e ∷ []) s store is in
       let there : certs_named plan.commons (journal ++ e ∷ []) (store.commons.items ++ map (name_in (length journal)) places) ≡ s.commons ++ newly s.commons certs =
-          certs_joined plan.commons journal e store.commons.items places is.commons_names ∙
-          ap₂ (λ (xs ys : List Certificate). xs ++ ys) is.commons_are (ap (λ (cs : List Certificate). filter_map (slice_get cs) places) brings ∙ news) in
+      certs_joined plan.commons journal e store.commons.items places is.commons_names ∙
+      ap₂ (λ (xs ys : List Certificate). xs ++ ys) is.commons_are (ap (λ (cs : List Certificate). filter_map (slice_get cs) places) brings ∙ news) in
       let valid = names_joined plan.commons journal e store.commons.items places is.commons_names (subst (λ (cs : List Certificate). All (λ p. p < length cs) places) (sym brings) within) in
       record {
         clock_is = clock ∙ is.clock_is;

@@ -1,5 +1,5 @@
 -- One row is changed, or all are swept without being looked at.
-use Rattle.std.proofs.Common.{◌≡◌, ◌⊎◌, ℕ, ◌+◌, ◌-◌, ◌<◌, ◌≤◌, Bool, true, false, cond, not, List, [], ◌∷◌, length, get_or, set, filter, Some, Contains, inl, inr, refl, sym, ap, ◌∙◌, subst, arith}
+use Rattle.std.proofs.Common.{◌≡◌, ◌⊎◌, ℕ, ◌-◌, ◌<◌, ◌≤◌, Bool, true, false, cond, List, [], ◌∷◌, length, get_or, set, filter, Some, Contains, inl, inr, refl, sym, ap, ◌∙◌, subst, arith}
 use Rattle.std.specs.List.{slice_get}
 use Rattle.std.specs.List.Sorted.{IsStrictlyIncreasing}
 use Rattle.std.proofs.lemmas.Bool.{cases_lt}
@@ -7,11 +7,10 @@ use Rattle.std.proofs.lemmas.Bool.Decides.{nat_tests}
 use Rattle.std.proofs.lemmas.List.{length-set}
 use Rattle.std.proofs.lemmas.Option.{slice_get_read, slice_get_within}
 use Rattle.stmt_codec.specs.Certificates.{Certificate}
-use Rattle.agent_core.specs.declared.removal.Removal.{Removal}
 use Rattle.agent_core.specs.declared.removal.Removal.TheVariants.{Ended}
 use Rattle.agent_core.specs.declared.store.Row.{Row}
 use Rattle.agent_core.specs.declared.store.Store.{Store}
-use Rattle.agent_core.specs.State.{Plan, State, keeping, is_gone, forgetting, at_channel, held_count}
+use Rattle.agent_core.specs.State.{Plan, State, keeping, forgetting, at_channel, held_count}
 use Rattle.agent_core.specs.Journals.{Entry}
 use Rattle.agent_core.specs.Kept.{stays, row_certs, name_stays, IsRow, IsStore}
 use Rattle.agent_core.specs.Names.{named, certs_named, AreNames}

@@ -1,19 +1,18 @@
 -- One more entry: what is kept stands for the state behind it.
-use Rattle.std.proofs.Common.{◌≡◌, ℕ, ◌+◌, ◌<◌, ◌≤◌, List, [], ◌∷◌, ◌++◌, length, map, refl, sym, ap, ◌∙◌, subst, arith, vec_capacity, ◌⊎◌, inl, inr, length-append, append_assoc}
+use Rattle.std.proofs.Common.{◌≡◌, ℕ, ◌+◌, ◌<◌, ◌≤◌, List, [], ◌∷◌, ◌++◌, length, map, refl, sym, ap, ◌∙◌, subst, arith, vec_capacity, ◌⊎◌, inl, inr, length-append}
 use Rattle.std.specs.declared.alloc.Global.{Global}
 use Rattle.std.specs.declared.vec.Vec.{Vec}
 use Rattle.std.proofs.lemmas.List.{map_push, length-map}
 use Rattle.stmt_codec.specs.Certificates.{Certificate}
 use Rattle.agent_core.specs.declared.event.ShardEntry.{ShardEntry}
-use Rattle.agent_core.specs.declared.told.Told.{Told}
 use Rattle.agent_core.specs.declared.store.Row.{Row}
 use Rattle.agent_core.specs.declared.store.Store.{Store}
 use Rattle.agent_core.specs.State.{Plan, State, Event, Answer, Plain, next}
 use Rattle.agent_core.specs.Journals.{Entry, entry, state_from, state_after, told_of, told_at, IsMeant, MayFollow, IsLegalJournal}
-use Rattle.agent_core.specs.Kept.{row_certs, IsRow, IsStore, IsKept, Tells, stays}
-use Rattle.agent_core.specs.Names.{named, certs_named, AreNames}
+use Rattle.agent_core.specs.Kept.{row_certs, IsRow, IsStore, IsKept, Tells}
+use Rattle.agent_core.specs.Names.{named, AreNames}
 use Rattle.agent_core.specs.Views.{entry_of}
-use Rattle.agent_core.proofs.NamesLeft.{Extends, journal_names_more, names_more, named_more}
+use Rattle.agent_core.proofs.NamesLeft.{journal_names_more, names_more, named_more}
 
 -- ---- the state behind one entry more
 

@@ -1,7 +1,6 @@
 -- The three ends of an Ask at a state that was swept for it.
-use Rattle.std.proofs.Common.{◌≡◌, ℕ, ◌+◌, ◌<◌, ◌≤◌, Bool, true, false, cond, List, ◌++◌, length, max, refl, sym, ap, ◌∙◌, arith, nat_le, nat_lt}
+use Rattle.std.proofs.Common.{◌≡◌, ℕ, ◌+◌, ◌<◌, ◌≤◌, cond, ◌++◌, length, max, sym, ap, ◌∙◌, arith, nat_lt}
 use Rattle.std.proofs.lemmas.Bool.{le-leb, lt-leb, lt-ltb, le-ltb}
-use Rattle.stmt_codec.specs.Certificates.{Certificate}
 use Rattle.agent_core.specs.declared.told.Told.{Told}
 use Rattle.agent_core.specs.State.{Plan, State, Ask, Asks, Answer, Judged, Plain, asking, taking, brought, swept, next}
 use Rattle.agent_core.specs.Looking.{IsTaken}

@@ -1,15 +1,14 @@
 -- What follows from what an Ask finds.
-use Rattle.std.proofs.Common.{◌≡◌, ℕ, ◌+◌, ◌<◌, ◌≤◌, List, [], ◌∷◌, ◌++◌, length, get_or, set, map, filter, max, All, Some, IsSome, refl, sym, ap, ap₂, ◌∙◌, subst, arith}
+use Rattle.std.proofs.Common.{◌≡◌, ℕ, ◌<◌, List, [], ◌∷◌, ◌++◌, length, get_or, set, map, All, refl, sym, ap, ap₂, ◌∙◌, subst, arith}
 use Rattle.std.specs.List.{slice_get, filter_map}
 use Rattle.std.specs.List.Sorted.{IsStrictlyIncreasing}
 use Rattle.stmt_codec.specs.Certificates.{Certificate}
 use Rattle.agent_core.specs.declared.asking.Look.{Look}
-use Rattle.agent_core.specs.declared.removal.Removal.TheVariants.{Ended}
 use Rattle.agent_core.specs.declared.store.Row.{Row}
 use Rattle.agent_core.specs.declared.store.Store.{Store}
-use Rattle.agent_core.specs.State.{Plan, State, Ask, Asks, Answer, Judged, asking, taking, brought, swept, at_channel, next}
+use Rattle.agent_core.specs.State.{Plan, State, Ask, Asks, Answer, Judged, asking, taking, brought, swept, next}
 use Rattle.agent_core.specs.Journals.{Entry}
-use Rattle.agent_core.specs.Kept.{stays, IsRow, IsStore}
+use Rattle.agent_core.specs.Kept.{IsRow, IsStore}
 use Rattle.agent_core.specs.Looking.{IsLook, IsTaken}
 use Rattle.agent_core.specs.Names.{named, certs_named, AreNames, name_in, brought_by}
 use Rattle.agent_core.proofs.Bringing.{count_places, certs_joined, names_joined}
@@ -49,8 +48,8 @@ module _ (plan : Plan) (journal : List Entry) (s : State) (store : Store) (is : 
     row_taken : IsRow plan (journal ++ e ∷ []) look.moment stamp row' ((taking now_state a).last a.channel) ((taking now_state a).own a.channel)
     row_taken =
         let there : certs_named plan.commons (journal ++ e ∷ []) (look.own.items ++ map (name_in (length journal)) look.new.items) ≡ now_state.own a.channel ++ brought now_state a =
-            certs_joined plan.commons journal e look.own.items look.new.items l.own_names ∙
-            ap₂ (λ (xs ys : List Certificate). xs ++ ys) l.own_are (ap (λ (cs : List Certificate). filter_map (slice_get cs) look.new.items) brings ∙ l.new_are) in
+        certs_joined plan.commons journal e look.own.items look.new.items l.own_names ∙
+        ap₂ (λ (xs ys : List Certificate). xs ++ ys) l.own_are (ap (λ (cs : List Certificate). filter_map (slice_get cs) look.new.items) brings ∙ l.new_are) in
         let valid = names_joined plan.commons journal e look.own.items look.new.items l.own_names (subst (λ (cs : List Certificate). All (λ p. p < length cs) look.new.items) (sym brings) l.new_within) in
         record {
           last_is = last ∙ sym (here_changed a.channel a.seq now_state.last);
@@ -67,8 +66,8 @@ module _ (plan : Plan) (journal : List Entry) (s : State) (store : Store) (is : 
     store_taken swept_store after less up clock stamp_is commons rows clock_same swept_same commons_same set_row =
         let was = store_more plan journal (e ∷ []) now_state swept_store (swept_now stamp swept_store less clock stamp_is commons rows) in
         let changed : IsRow plan (journal ++ e ∷ []) swept_store.clock swept_store.swept row' ((taking now_state a).last a.channel) ((taking now_state a).own a.channel) =
-            subst (λ n. IsRow plan (journal ++ e ∷ []) swept_store.clock n row' ((taking now_state a).last a.channel) ((taking now_state a).own a.channel)) (sym stamp_is)
-            (subst (λ n. IsRow plan (journal ++ e ∷ []) n stamp row' ((taking now_state a).last a.channel) ((taking now_state a).own a.channel)) (sym clock) row_taken) in
+        subst (λ n. IsRow plan (journal ++ e ∷ []) swept_store.clock n row' ((taking now_state a).last a.channel) ((taking now_state a).own a.channel)) (sym stamp_is)
+        (subst (λ n. IsRow plan (journal ++ e ∷ []) n stamp row' ((taking now_state a).last a.channel) ((taking now_state a).own a.channel)) (sym clock) row_taken) in
         row_changed plan (journal ++ e ∷ []) now_state (taking now_state a) swept_store after was up look.place a.channel row' l.here
         (set_row ∙ ap (λ v. set v.items look.place row') (sym rows)) clock_same swept_same changed
         (λ c ne. sym (there_kept a.channel a.seq now_state.last c ne)) (λ c ne. sym (there_kept a.channel (now_state.own a.channel ++ brought now_state a) now_state.own c ne))

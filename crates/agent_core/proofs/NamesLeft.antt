@@ -1,13 +1,13 @@
 -- Names, and the certificates that they name.
-use Rattle.std.proofs.Common.{◌≡◌, ℕ, zero, suc, rules, ◌+◌, ◌<◌, ◌≤◌, Bool, true, false, List, [], ◌∷◌, ◌++◌, length, filter, map, Option, Some, None, IsSome, All, cond, refl, sym, ap, ap₂, ◌∙◌, subst, arith}
+use Rattle.std.proofs.Common.{◌≡◌, ℕ, zero, suc, rules, ◌<◌, Bool, true, false, List, [], ◌∷◌, ◌++◌, length, filter, map, Option, Some, None, IsSome, All, cond, refl, sym, ap, ap₂, ◌∙◌, subst, arith}
 use Rattle.std.specs.List.{slice_get, filter_map, cons_option}
-use Rattle.std.proofs.lemmas.List.Elements.{All-head, All-tail, All-nil, All-cons, All-filter, filter_map-append}
+use Rattle.std.proofs.lemmas.List.Elements.{All-head, All-tail, All-nil, All-cons}
 use Rattle.stmt_codec.specs.Certificates.{Certificate}
 use Rattle.agent_core.specs.declared.name.Name.{Name}
 use Rattle.agent_core.specs.declared.name.Name.TheVariants.{Common, Brought}
 use Rattle.agent_core.specs.declared.removal.Removal.{Removal}
 use Rattle.agent_core.specs.Journals.{Entry}
-use Rattle.agent_core.specs.Kept.{stays, stays_if_named, name_stays}
+use Rattle.agent_core.specs.Kept.{stays, stays_if_named}
 use Rattle.agent_core.specs.Names.{named, certs_named, AreNames, brought_by}
 
 -- ---- a filter of names is a filter of what they name

@@ -1,5 +1,5 @@
 -- A shard that was opened stands for the opening state.
-use Rattle.std.proofs.Common.{◌≡◌, ℕ, zero, suc, ◌+◌, ◌<◌, ◌≤◌, List, [], ◌∷◌, ◌++◌, length, get_or, map, take, All, Option, Some, IsSome, append_assoc, refl, sym, ap, ap₂, ◌∙◌, subst, arith, vec_capacity}
+use Rattle.std.proofs.Common.{◌≡◌, ◌<◌, ◌≤◌, List, [], ◌∷◌, ◌++◌, length, map, Option, Some, IsSome, append_assoc, refl, sym, ap, ap₂, ◌∙◌, subst, arith, vec_capacity}
 use Rattle.std.specs.List.{slice_get, filter_map, range_with_len, cons_option}
 use Rattle.std.specs.declared.alloc.Global.{Global}
 use Rattle.std.specs.declared.vec.Vec.{Vec}
@@ -7,14 +7,12 @@ use Rattle.std.proofs.lemmas.List.{length_push}
 use Rattle.std.proofs.lemmas.List.FromFn.{length-map-range_with_len, get_or-map-range_with_len}
 use Rattle.stmt_codec.specs.Certificates.{Certificate}
 use Rattle.agent_core.specs.declared.event.ShardEntry.{ShardEntry}
-use Rattle.agent_core.specs.declared.name.Name.{Name}
 use Rattle.agent_core.specs.declared.name.Name.TheVariants.{Common}
-use Rattle.agent_core.specs.declared.store.Row.{Row}
 use Rattle.agent_core.specs.declared.store.Store.{Store}
 use Rattle.agent_core.specs.Plans.{IsPlan}
-use Rattle.agent_core.specs.State.{Plan, State, opened}
+use Rattle.agent_core.specs.State.{Plan, opened}
 use Rattle.agent_core.specs.Journals.{Entry, IsLegalJournal, state_after}
-use Rattle.agent_core.specs.Kept.{AreNew, first_names, IsRow, IsStore, IsKept}
+use Rattle.agent_core.specs.Kept.{AreNew, first_names, IsStore, IsKept}
 use Rattle.agent_core.specs.Names.{named, certs_named, AreNames}
 use Rattle.agent_core.specs.Views.{entry_of}
 use Rattle.agent_core.proofs.NamesLeft.{is_there}

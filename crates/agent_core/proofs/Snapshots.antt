@@ -1,5 +1,5 @@
 -- Handles that are gathered, one after another.
-use Rattle.std.proofs.Common.{◌≡◌, ℕ, ◌+◌, ◌<◌, List, [], ◌∷◌, ◌++◌, length, get_or, take, Option, Some, refl, sym, ap, ap₂, ◌∙◌, append_assoc, Global}
+use Rattle.std.proofs.Common.{◌≡◌, ℕ, ◌+◌, ◌<◌, List, [], ◌∷◌, ◌++◌, length, get_or, take, Option, Some, sym, ap, ap₂, ◌∙◌, append_assoc, Global}
 use Rattle.std.specs.List.{filter_map, cons_option}
 use Rattle.std.specs.declared.sync.Arc.{Arc}
 use Rattle.std.proofs.lemmas.List.{take_more, map_push}

@@ -1,5 +1,5 @@
 -- From what an event did to the parts of a shard to what a step promises.
-use Rattle.std.proofs.Common.{◌≡◌, ℕ, List, [], ◌∷◌, ◌++◌, length, map, refl, sym, ap, ◌∙◌, subst}
+use Rattle.std.proofs.Common.{ℕ, List, [], ◌∷◌, ◌++◌, length, map, sym, ap, ◌∙◌, subst}
 use Rattle.std.specs.declared.alloc.Global.{Global}
 use Rattle.std.specs.declared.vec.Vec.{Vec}
 use Rattle.std.proofs.lemmas.List.{length-map}
@@ -10,11 +10,11 @@ use Rattle.agent_core.specs.declared.told.Told.{Told}
 use Rattle.agent_core.specs.declared.told.Answer.{Answer}
 use Rattle.agent_core.specs.declared.told.Answer.TheVariants as answer
 use Rattle.agent_core.specs.Answers.{Stepped}
-use Rattle.agent_core.specs.State.{Plan, Event, Asks}
-use Rattle.agent_core.specs.Journals.{Entry, entry}
+use Rattle.agent_core.specs.State.{Plan, Event}
+use Rattle.agent_core.specs.Journals.{entry}
 use Rattle.agent_core.specs.Kept.{Tells}
 use Rattle.agent_core.specs.Looking.{Misses, Answered}
-use Rattle.agent_core.specs.Steps.{StepAnswer, Miss, Other, Steps, IsAnswer, miss, other}
+use Rattle.agent_core.specs.Steps.{Miss, Other, Steps, IsAnswer, miss, other}
 use Rattle.agent_core.specs.Views.{certificates, entry_of}
 
 module _ (plan : Plan) (before : Vec ShardEntry Global) (event : Event) (after : Vec ShardEntry Global) (store : Store) where

@@ -1,9 +1,8 @@
 -- What is kept, and how each event changes what it stands for.
-use Rattle.std.proofs.Common.{◌≡◌, ℕ, zero, suc, ◌+◌, ◌-◌, ◌<◌, ◌≤◌, Bool, true, false, not, List, [], ◌∷◌, length, get_or, filter, map, sum_by, Option, Some, IsSome, All, refl, sym, ap, ◌∙◌, subst, arith}
-use Rattle.std.specs.List.{slice_get, filter_map}
+use Rattle.std.proofs.Common.{◌≡◌, ℕ, suc, ◌+◌, ◌-◌, ◌<◌, List, [], ◌∷◌, length, get_or, filter, sum_by, Some, All, refl, sym, ap, ◌∙◌, subst, arith}
+use Rattle.std.specs.List.{slice_get}
 use Rattle.std.proofs.lemmas.List.Sums.{sum_by-cons}
-use Rattle.std.proofs.lemmas.Option.{slice_get-get_or, slice_get_within, get_or_from_slice_get}
-use Rattle.agent_core.specs.declared.name.Name.{Name}
+use Rattle.std.proofs.lemmas.Option.{slice_get-get_or, slice_get_within}
 use Rattle.agent_core.specs.declared.removal.Removal.{Removal}
 use Rattle.agent_core.specs.declared.store.Row.{Row}
 use Rattle.agent_core.specs.declared.store.Store.{Store}
@@ -11,9 +10,8 @@ use Rattle.agent_core.specs.State.{Plan, State, keeping, held_count}
 use Rattle.agent_core.specs.Journals.{Entry}
 use Rattle.agent_core.specs.Kept.{stays, row_certs, name_stays, IsRow, IsStore}
 use Rattle.agent_core.specs.Letting.{LetsGo, certs_in, certs_left}
-use Rattle.agent_core.specs.Names.{named, certs_named, AreNames}
-use Rattle.agent_core.proofs.NamesLeft.{count_named}
-use Rattle.agent_core.proofs.Rows.{left_named, left_names, left_count, left_short, row_fresh}
+use Rattle.agent_core.specs.Names.{named, AreNames}
+use Rattle.agent_core.proofs.Rows.{left_named, left_names, left_count, row_fresh}
 
 sums_alike : {X Y : Type 0} (f : X → ℕ) (g : Y → ℕ) (xs : List X) (ys : List Y) → length xs ≡ length ys → ((i : ℕ) (x : X) (y : Y) → slice_get xs i ≡ Some x → slice_get ys i ≡ Some y → f x ≡ g y) → sum_by f xs ≡ sum_by g ys
 sums_alike f g [] [] e same = refl

@@ -16,7 +16,7 @@ use Rattle.agent_core.specs.declared.told.Told.{Told}
 use Rattle.agent_core.specs.declared.told.Answer.{Answer}
 use Rattle.agent_core.specs.declared.told.Answer.TheVariants as answer
 use Rattle.agent_core.specs.State.{Plan, State, Ask, Event, Asks, swept, brought}
-use Rattle.agent_core.specs.Journals.{Entry, entry, state_after, IsJudged}
+use Rattle.agent_core.specs.Journals.{Entry, entry, IsJudged}
 use Rattle.agent_core.specs.Kept.{name_stays, IsKept, Tells}
 use Rattle.agent_core.specs.Names.{certs_named, AreNames}
 use Rattle.agent_core.specs.Views.{certificates, entry_of}

@@ -7,7 +7,7 @@ use Rattle.std.specs.Prelude.{ℕ, List, [], Option, IsSome, slice_get, option_a
 use Rattle.stmt_codec.specs.Certificates.{Certificate}
 use Rattle.agent_core.specs.declared.name.Name.{Name}
 use Rattle.agent_core.specs.declared.name.Name.TheVariants.{Common, Brought}
-use Rattle.agent_core.specs.State.{Ask, Event, Asks, Holds, Discards, Forgets, Expires}
+use Rattle.agent_core.specs.State.{Event, Asks, Holds, Discards, Forgets, Expires}
 use Rattle.agent_core.specs.Journals.{Entry}
 
 abbrev pub brought_by : Event → List Certificate

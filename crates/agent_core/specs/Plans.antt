@@ -1,6 +1,6 @@
 -- What a shard may be opened with.
 --     IsPlan plan      its channels ascend, and it is within the limits
-use Rattle.std.specs.Prelude.{ℕ, ◌≤◌, length}
+use Rattle.std.specs.Prelude.{◌≤◌, length}
 use Rattle.std.specs.List.Sorted.{IsStrictlyIncreasing}
 use Rattle.agent_core.specs.declared.limits.TheConstants.{MAX_CHANNELS, MAX_COMMONS, MAX_JOURNAL}
 use Rattle.agent_core.specs.State.{Plan}

@@ -50,6 +50,8 @@ pub(crate) fn cert_named<'a>(
 {
     match name {
         Name::Common(place) => &commons[place as usize],
-        Name::Brought { entry, place } => &brought_by(&entries[entry as usize].event)[place as usize],
+        Name::Brought { entry, place } => &brought_by(
+            &entries[entry as usize].event,
+        )[place as usize],
     }
 }

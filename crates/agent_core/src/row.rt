@@ -25,7 +25,13 @@ pub(crate) fn place_of(channels: &[u32], channel: u32) -> Option<usize>
 }
 
 /// Lets go of what the sweeps since the row was swept let go of.
-pub(crate) fn settle(plan: &ShardPlan, entries: &[ShardEntry], clock: u64, swept: u64, row: &mut Row)
+pub(crate) fn settle(
+    plan: &ShardPlan,
+    entries: &[ShardEntry],
+    clock: u64,
+    swept: u64,
+    row: &mut Row,
+)
     requires { AreNames (plan_of plan.now).commons (map entry_of entries.now) row.old.own.items }
     ensures last { row.new.last ≡ row.old.last }
     ensures swept { row.new.swept ≡ swept }

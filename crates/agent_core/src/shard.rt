@@ -125,13 +125,7 @@ impl Shard {
         if place == self.plan.limit {
             return Ok((place, Answer::JournalFull { length: place }));
         }
-        let answer = answer_to(
-            alloc,
-            &self.plan,
-            &mut self.entries,
-            &mut self.store,
-            event,
-        )?;
+        let answer = answer_to(alloc, &self.plan, &mut self.entries, &mut self.store, event)?;
         Ok((place, answer))
     }
 }

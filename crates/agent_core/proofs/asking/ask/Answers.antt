@@ -1,13 +1,9 @@
 -- the Ask ends as its number and what it brings say
-use Rattle.std.proofs.Common.{◌≡◌, ℕ, ◌+◌, ◌<◌, ◌≤◌, ◌++◌, length, map, List, Result, Ok, Err, OnErr, refl, sym, ap, ◌∙◌, arith}
-use Rattle.std.proofs.lemmas.List.{length-map}
+use Rattle.std.proofs.Common.{map, List, Result, Ok, Err, OnErr, refl, sym, ap, ◌∙◌, arith}
 use Rattle.agent_core.specs.declared.event.Ask.{Ask as AskValue}
-use Rattle.agent_core.specs.declared.store.Store.{Store}
-use Rattle.agent_core.specs.declared.asking.Look.{Look}
-use Rattle.agent_core.specs.State.{Plan, State, Ask, Asks, Answer, swept, next}
+use Rattle.agent_core.specs.State.{Plan, State, Ask, Answer, swept}
 use Rattle.agent_core.specs.Journals.{Entry, state_after, told_of}
-use Rattle.agent_core.specs.Kept.{IsStore}
-use Rattle.agent_core.specs.Looking.{IsLook, IsTaken}
+use Rattle.agent_core.specs.Looking.{IsTaken}
 use Rattle.agent_core.specs.Views.{ask_of, certificates, entry_of, plan_of}
 use Rattle.agent_core.proofs.Judging.{replayed, full, taken}
 use Rattle.agent_core.proofs.Looks.{last_at, own_count, new_count, asked_now, judged_now}

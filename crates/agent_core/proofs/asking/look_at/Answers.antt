@@ -1,7 +1,5 @@
 -- what is found is what the row and the commons stand for, swept
-use Rattle.std.proofs.Common.{◌≡◌, ◌≤◌, ℕ, map, filter, max, Some, length, ◌∙◌, sym, ap, ap₂, arith, List, ◌++◌}
-use Rattle.std.specs.List.{slice_get}
-use Rattle.std.proofs.lemmas.Bool.{some_since}
+use Rattle.std.proofs.Common.{◌≤◌, map, filter, ◌∙◌, sym, ap, ap₂, arith, List, ◌++◌}
 use Rattle.stmt_codec.specs.Certificates.{Certificate}
 use Rattle.agent_core.specs.declared.removal.Removal.TheVariants.{Ended}
 use Rattle.agent_core.specs.Held.{newly}
@@ -51,14 +49,14 @@ returns c =
     let row = c.index-row.result.now in
     let at = row_found plan journal s c.args.store.now c.requires.store c.unwrap-place.result c.args.asked.now.channel row here c.index-row.ensures in
     let was : IsRow plan journal c.args.store.now.clock c.args.store.now.swept row (s.last c.args.asked.now.channel) (s.own c.args.asked.now.channel) =
-        c.requires.store.rows_are c.unwrap-place.result row c.args.asked.now.channel at here in
+    c.requires.store.rows_are c.unwrap-place.result row c.args.asked.now.channel at here in
     let left = rw c.deref-2.ensures.value at c.left_of-own.ensures in
     let common = rw c.deref-3.ensures.value at c.left_of-shared.ensures in
     let later : c.args.store.now.clock ≤ c.max-moment.result = omega (arith, c.max-moment.ensures) in
     let own_are = left_named (named plan.commons journal) (Ended plan.keep c.max-moment.result) row.own.items c.left_of-own.result.items left ∙
-        sym (swept_later plan journal c.args.store.now.clock c.args.store.now.swept c.max-moment.result row later) ∙ ap (filter (stays (Ended plan.keep c.max-moment.result))) was.own_is in
+    sym (swept_later plan journal c.args.store.now.clock c.args.store.now.swept c.max-moment.result row later) ∙ ap (filter (stays (Ended plan.keep c.max-moment.result))) was.own_is in
     let shared_are = left_named (named plan.commons journal) (Ended plan.keep c.max-moment.result) c.args.store.now.commons.items c.left_of-shared.result.items common ∙
-        ap (filter (stays (Ended plan.keep c.max-moment.result))) c.requires.store.commons_are in
+    ap (filter (stays (Ended plan.keep c.max-moment.result))) c.requires.store.commons_are in
     let new_are = rw (c.deref-4.ensures.value, c.deref-5.ensures.value) at c.new_of-new.ensures.value in
     let within = rw (c.deref-5.ensures.value, sym (certificate_count c.args.asked.now.presented.items)) at c.new_of-new.ensures.within in
     record {

@@ -1,5 +1,5 @@
 -- the Ask's row gets its number and what it brings
-use Rattle.std.proofs.Common.{◌≡◌, ℕ, ◌+◌, ◌<◌, ◌≤◌, [], ◌∷◌, ◌++◌, length, map, List, refl, sym, ap, ◌∙◌, subst, arith}
+use Rattle.std.proofs.Common.{◌≡◌, ◌+◌, [], ◌∷◌, ◌++◌, length, map, List, refl, sym, ap, ◌∙◌, subst, arith}
 use Rattle.std.specs.Vec.{with_item}
 use Rattle.std.proofs.lemmas.List.{length-map}
 use Rattle.agent_core.specs.declared.event.Ask.{Ask as AskValue}
@@ -32,11 +32,11 @@ returns c =
     let long : c.len.result ≡ length c.args.entries.now.items = c.len.ensures ∙ c.args.entries.now.ok.0 in
     let number : c.len-entry.result ≡ length journal = c.len-entry.ensures ∙ c.args.entries.now.ok.0 ∙ sym (length-map c.args.entries.now.items entry_of) in
     let nexts : next plan s (Asks a) ≡ (taking now a, Judged now.clock ((now.own a.channel ++ brought now a) ++ now.commons)) =
-        asked_now plan journal s c.args.store.now c.requires.kept.store_is a c.args.look c.requires.look ∙ taken now a c.requires.judged in
+    asked_now plan journal s c.args.store.now c.requires.kept.store_is a c.args.look c.requires.look ∙ taken now a c.requires.judged in
     let is : IsStore plan (journal ++ entry_of e ∷ []) (taking now a) after =
-        store_taken plan journal s c.args.store.now c.requires.kept.store_is a c.args.look c.requires.look (entry_of e) refl row (c.len.result + 1) (ap (λ (x : AskValue). x.seq) c.deref.ensures) refl
-        (c.name_all.ensures ∙ ap (λ n. c.args.look.own.items ++ map (name_in n) c.args.look.new.items) number) swept_store after
-        (omega (arith, long, c.requires.kept.swept_within)) c.requires.kept.planned.ascending refl refl refl refl refl refl refl refl in
+    store_taken plan journal s c.args.store.now c.requires.kept.store_is a c.args.look c.requires.look (entry_of e) refl row (c.len.result + 1) (ap (λ (x : AskValue). x.seq) c.deref.ensures) refl
+    (c.name_all.ensures ∙ ap (λ n. c.args.look.own.items ++ map (name_in n) c.args.look.new.items) number) swept_store after
+    (omega (arith, long, c.requires.kept.swept_within)) c.requires.kept.planned.ascending refl refl refl refl refl refl refl refl in
     record {
       adds = adds_entry plan c.args.entries.now c.args.store.now c.requires.kept e c.append.new.entries c.requires.room c.append.ensures.added c.append.ensures.capacity;
       kept = kept_more plan c.args.entries.now c.args.store.now c.requires.kept e c.append.new.entries c.requires.room c.append.ensures.added c.append.ensures.capacity

@@ -1,10 +1,10 @@
 -- the channel's certificates are let go
-use Rattle.std.proofs.Common.{◌≡◌, ◌+◌, ◌≤◌, ℕ, [], ◌∷◌, length, map, refl, sym, ap, arith}
+use Rattle.std.proofs.Common.{ℕ, [], ◌∷◌, map, refl, sym, ap, arith}
 use Rattle.agent_core.specs.declared.event.Event.TheVariants as code
 use Rattle.agent_core.specs.declared.event.ShardEntry.{ShardEntry}
 use Rattle.agent_core.specs.declared.told.Told.{Told}
 use Rattle.agent_core.specs.State.{State, Forgets, Plain, forgetting}
-use Rattle.agent_core.specs.Journals.{Entry, state_after}
+use Rattle.agent_core.specs.Journals.{state_after}
 use Rattle.agent_core.specs.Views.{entry_of, plan_of}
 use Rattle.agent_core.proofs.Journaling.{store_more, tells_more}
 use Rattle.agent_core.proofs.forgetting.forget.Goals as goal

@@ -1,12 +1,7 @@
 -- the channel's row is emptied, where it has one
-use Rattle.std.proofs.Common.{◌≡◌, map, refl, sym, ap, ◌∙◌, subst, length, Some, ◌<◌, arith}
-use Rattle.std.specs.List.{slice_get}
-use Rattle.std.proofs.lemmas.Option.{slice_get_read, slice_get_within}
-use Rattle.agent_core.specs.declared.store.Row.{Row}
-use Rattle.agent_core.specs.State.{State}
+use Rattle.std.proofs.Common.{map, refl}
 use Rattle.agent_core.specs.Journals.{state_after}
-use Rattle.agent_core.specs.Names.{AreNames}
-use Rattle.agent_core.specs.Views.{certificates, entry_of, plan_of}
+use Rattle.agent_core.specs.Views.{entry_of, plan_of}
 use Rattle.agent_core.proofs.Changing.{row_found, forgotten, count_forgotten, nothing_forgotten, none_counted}
 use Rattle.std.specs.Vec.{with_item}
 use Rattle.agent_core.proofs.forgetting.let_go_of_channel.Goals as goal

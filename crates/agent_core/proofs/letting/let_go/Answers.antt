@@ -1,13 +1,11 @@
 -- the commons and the rows let them go, and the counts add up
-use Rattle.std.proofs.Common.{◌≡◌, ℕ, ◌+◌, Some, map, filter, refl, ap, ◌∙◌, length, arith, subst, sym, All, List}
+use Rattle.std.proofs.Common.{◌≡◌, ℕ, ◌+◌, Some, map, refl, ap, ◌∙◌, length, arith, subst, sym, All, List}
 use Rattle.std.specs.List.{slice_get}
 use Rattle.agent_core.specs.declared.store.Row.{Row}
-use Rattle.agent_core.specs.declared.store.Store.{Store}
 use Rattle.agent_core.specs.Journals.{state_after}
 use Rattle.agent_core.specs.Letting.{LetsGo}
 use Rattle.std.specs.Vec.{with_items}
 use Rattle.std.proofs.lemmas.List.{with_items_is}
-use Rattle.agent_core.specs.Kept.{name_stays}
 use Rattle.agent_core.specs.Names.{named, AreNames}
 use Rattle.agent_core.specs.Views.{certificates, entry_of, plan_of}
 use Rattle.agent_core.proofs.Rows.{left_short}
@@ -47,7 +45,7 @@ returns-clause-count c =
     let kept = rw c.deref.ensures.value at c.left_of-store.ensures in
     let own = rw c.deref_mut.ensures.value at c.let_go_of_rows-own.ensures.count in
     let count = let_count (plan_of c.args.plan.now) (map entry_of c.args.entries.now) (state_after (plan_of c.args.plan.now) (map entry_of c.args.entries.now)) c.args.store.now c.requires.store
-        c.args.removal.now c.args.moment (length c.args.entries.now + 1)
-        (record { clock = c.args.moment; swept = length c.args.entries.now + 1; commons = c.left_of-store.result; rows = with_items c.args.store.now.rows c.let_go_of_rows-own.new.rows })
-        kept (long c) (rows_let c) c.let_go_of_rows-own.result own in
+    c.args.removal.now c.args.moment (length c.args.entries.now + 1)
+    (record { clock = c.args.moment; swept = length c.args.entries.now + 1; commons = c.left_of-store.result; rows = with_items c.args.store.now.rows c.let_go_of_rows-own.new.rows })
+    kept (long c) (rows_let c) c.let_go_of_rows-own.result own in
     omega (arith, count, c.len.ensures.value, c.len-before.ensures.value)

@@ -1,4 +1,4 @@
-use Rattle.std.proofs.Common.{◌≡◌, ◌+◌, ◌*◌, ◌<◌, ◌≤◌, ℕ, length, map, take, Some}
+use Rattle.std.proofs.Common.{◌≡◌, ◌+◌, ◌*◌, ◌<◌, ◌≤◌, ℕ, map, take, Some}
 use Rattle.std.specs.List.{slice_get}
 use Rattle.agent_core.specs.declared.store.Row.{Row}
 use Rattle.agent_core.specs.Letting.{LetsGo, certs_in, certs_left}

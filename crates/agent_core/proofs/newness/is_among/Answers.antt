@@ -1,5 +1,5 @@
 -- the certificate of a name is what it stands for
-use Rattle.std.proofs.Common.{◌≡◌, ◌<◌, length, map, ◌∙◌, sym, ap, true, false, arith}
+use Rattle.std.proofs.Common.{◌<◌, length, map, ◌∙◌, sym, ap, arith}
 use Rattle.stmt_codec.specs.declared.cert.Cert.{Cert}
 use Rattle.stmt_codec.specs.Certificates.{certificate}
 use Rattle.stmt_codec.specs.Equality.{same_certificate}

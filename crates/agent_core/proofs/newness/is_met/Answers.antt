@@ -1,5 +1,5 @@
 -- a certificate that was met stands at its place
-use Rattle.std.proofs.Common.{◌≡◌, ◌<◌, length, get_or, ◌∙◌, sym, ap, true, false, subst, arith}
+use Rattle.std.proofs.Common.{◌<◌, length, get_or, ◌∙◌, sym, ap, arith}
 use Rattle.std.specs.List.{slice_get}
 use Rattle.stmt_codec.specs.declared.cert.Cert.{Cert}
 use Rattle.stmt_codec.specs.Certificates.{certificate}

@@ -1,10 +1,10 @@
 -- a certificate that is new goes to the end
-use Rattle.std.proofs.Common.{◌≡◌, ◌<◌, ◌+◌, ◌≤◌, [], ◌∷◌, ◌++◌, ℕ, List, Bool, true, false, cond, not, All, Some, length, take, map, ◌∙◌, sym, ap, subst, arith, length-append}
+use Rattle.std.proofs.Common.{◌≡◌, ◌<◌, [], ◌∷◌, ◌++◌, ℕ, List, cond, not, Some, length, map, ◌∙◌, sym, ap, arith, length-append}
 use Rattle.std.specs.List.{slice_get, filter_map}
 use Rattle.std.proofs.lemmas.List.Elements.{All-push, All-same, filter_map-append}
 use Rattle.stmt_codec.specs.declared.cert.Cert.{Cert}
 use Rattle.stmt_codec.specs.Certificates.{Certificate, certificate}
-use Rattle.agent_core.specs.Held.{among, newly}
+use Rattle.agent_core.specs.Held.{among}
 use Rattle.agent_core.specs.Names.{certs_named}
 use Rattle.agent_core.specs.Views.{certificates, entry_of}
 use Rattle.agent_core.proofs.Among.{newly_more, found_at}
@@ -19,7 +19,7 @@ loop-place-preserved c =
     let here : slice_get certs c.loop-place.place ≡ Some (certificate c.index-presented-place.result.value.body) = certificate_at c.args.presented.now c.loop-place.place c.index-presented-place.result c.index-presented-place.is (omega arith) in
     let news : List Certificate = filter_map (slice_get certs) c.loop-place.places.items in
     let test : c.is_new.result ≡ not (among (held ++ news) (certificate c.index-presented-place.result.value.body)) =
-        c.is_new.ensures ∙ ap (λ (x : Cert). not (among (held ++ news) (certificate x.body))) c.deref.ensures in
+    c.is_new.ensures ∙ ap (λ (x : Cert). not (among (held ++ news) (certificate x.body))) c.deref.ensures in
     let more = newly_more held certs news c.loop-place.place (certificate c.index-presented-place.result.value.body) c.is_new.result here c.loop-place.invariant.value test in
     elim c.if-is_new.branch [
       | then-is_new w ↦

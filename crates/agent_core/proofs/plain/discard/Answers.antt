@@ -1,11 +1,11 @@
 -- the certificates of the digest are let go at the clock's own moment
-use Rattle.std.proofs.Common.{◌≡◌, ◌+◌, ◌≤◌, ℕ, [], ◌∷◌, length, map, refl, sym, ap₂, arith}
+use Rattle.std.proofs.Common.{ℕ, [], ◌∷◌, map, refl, sym, ap₂, arith}
 use Rattle.agent_core.specs.declared.event.Event.TheVariants as code
 use Rattle.agent_core.specs.declared.event.ShardEntry.{ShardEntry}
 use Rattle.agent_core.specs.declared.removal.Removal.TheVariants.{Named}
 use Rattle.agent_core.specs.declared.told.Told.{Told}
 use Rattle.agent_core.specs.State.{State, Discards, Plain, keeping}
-use Rattle.agent_core.specs.Journals.{Entry, state_after}
+use Rattle.agent_core.specs.Journals.{state_after}
 use Rattle.agent_core.specs.Kept.{stays}
 use Rattle.agent_core.specs.Views.{entry_of, plan_of}
 use Rattle.agent_core.proofs.Journaling.{store_more, tells_more}

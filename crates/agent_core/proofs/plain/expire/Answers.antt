@@ -1,11 +1,11 @@
 -- the certificates that are gone at the later of clock and reading are let go
-use Rattle.std.proofs.Common.{◌≡◌, ◌+◌, ◌-◌, ◌≤◌, ℕ, [], ◌∷◌, length, map, max, refl, sym, ap, ap₂, ◌∙◌, arith}
+use Rattle.std.proofs.Common.{◌≡◌, ◌-◌, ℕ, [], ◌∷◌, map, max, refl, sym, ap, ◌∙◌, arith}
 use Rattle.agent_core.specs.declared.event.Event.TheVariants as code
 use Rattle.agent_core.specs.declared.event.ShardEntry.{ShardEntry}
 use Rattle.agent_core.specs.declared.removal.Removal.TheVariants.{Ended}
 use Rattle.agent_core.specs.declared.told.Told.{Told}
 use Rattle.agent_core.specs.State.{State, Expires, Plain, keeping, held_count}
-use Rattle.agent_core.specs.Journals.{Entry, state_after}
+use Rattle.agent_core.specs.Journals.{state_after}
 use Rattle.agent_core.specs.Kept.{stays}
 use Rattle.agent_core.specs.Views.{entry_of, plan_of}
 use Rattle.agent_core.proofs.Journaling.{store_more, tells_more}

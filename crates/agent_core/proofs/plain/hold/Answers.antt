@@ -1,11 +1,11 @@
 -- the certificates that are new are held in common, where there is room
-use Rattle.std.proofs.Common.{◌≡◌, ◌+◌, ◌<◌, ◌≤◌, ℕ, [], ◌∷◌, ◌++◌, length, map, All, refl, sym, ap, ◌∙◌, subst, arith}
+use Rattle.std.proofs.Common.{◌≡◌, [], ◌∷◌, ◌++◌, length, map, refl, sym, ap, ◌∙◌, arith}
 use Rattle.std.proofs.lemmas.List.{length-map}
 use Rattle.agent_core.specs.declared.event.Event.TheVariants as code
 use Rattle.agent_core.specs.declared.event.ShardEntry.{ShardEntry}
 use Rattle.agent_core.specs.declared.told.Told.{Told}
 use Rattle.agent_core.specs.State.{State, Holds, Plain}
-use Rattle.agent_core.specs.Journals.{Entry, state_after}
+use Rattle.agent_core.specs.Journals.{state_after}
 use Rattle.agent_core.specs.Views.{certificates, entry_of, plan_of}
 use Rattle.agent_core.specs.Held.{newly}
 use Rattle.agent_core.specs.Names.{name_in}

@@ -2,7 +2,7 @@
 use Rattle.std.proofs.Common.{◌≡◌, map, ap, length, ◌∙◌, refl, arith, filter}
 use Rattle.agent_core.specs.Kept.{stays, name_stays}
 use Rattle.agent_core.specs.Names.{named}
-use Rattle.agent_core.specs.Views.{certificates, entry_of, plan_of}
+use Rattle.agent_core.specs.Views.{certificates, entry_of}
 use Rattle.agent_core.proofs.Rows.{left_named, left_names, left_short, left_count}
 use Rattle.agent_core.proofs.row.let_go_of.Goals as goal
 

@@ -1,5 +1,5 @@
 -- as many names as places
-use Rattle.std.proofs.Common.{◌≡◌, sym, ap, length, List, ◌∙◌, ◌++◌, ◌∷◌, [], arith}
+use Rattle.std.proofs.Common.{sym, ap, length, List, ◌∙◌, ◌++◌, ◌∷◌, [], arith}
 use Rattle.std.proofs.lemmas.List.FromFn.{length-map-range_with_len, map-range_with_len_more}
 use Rattle.agent_core.specs.declared.name.Name.{Name}
 use Rattle.agent_core.specs.declared.name.Name.TheVariants.{Common}

@@ -1,5 +1,5 @@
 -- one more handle is one more certificate
-use Rattle.std.proofs.Common.{◌≡◌, ◌<◌, length, get_or, ap, arith}
+use Rattle.std.proofs.Common.{◌<◌, length, get_or, ap, arith}
 use Rattle.std.specs.List.{slice_get}
 use Rattle.stmt_codec.specs.declared.cert.Cert.{Cert}
 use Rattle.stmt_codec.specs.Certificates.{certificate}

@@ -1,6 +1,5 @@
 -- one more handle is one more certificate
-use Rattle.std.proofs.Common.{◌≡◌, ◌<◌, ◌++◌, ◌∷◌, [], length, map, take, ◌∙◌, sym, ap, arith, Some, Global}
-use Rattle.std.specs.declared.sync.Arc.{Arc}
+use Rattle.std.proofs.Common.{◌<◌, length, map, ap, arith}
 use Rattle.stmt_codec.specs.declared.cert.Cert.{Cert}
 use Rattle.stmt_codec.specs.Certificates.{certificate}
 use Rattle.agent_core.specs.Names.{named}

@@ -1,5 +1,5 @@
 -- One more certificate makes the least end the lesser of the two.
-use Rattle.std.proofs.Common.{◌≡◌, ◌<◌, length, arith, ap, Global}
+use Rattle.std.proofs.Common.{◌<◌, length, arith, ap, Global}
 use Rattle.std.specs.declared.sync.Arc.{Arc}
 use Rattle.stmt_codec.specs.declared.cert.Cert.{Cert}
 use Rattle.stmt_codec.specs.Certificates.{certificate}
