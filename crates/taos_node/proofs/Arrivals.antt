@@ -8,7 +8,7 @@ use Rattle.taos_wire.specs.declared.fault.WireFault.{WireFault}
 use Rattle.taos_wire.specs.declared.fault.WireFault.TheVariants as wire
 use Rattle.taos_wire.specs.Request.{Request, Spells, IsSealed, subject_of}
 use Rattle.taos_wire.specs.RequestReading.{request_of}
-use Rattle.taos_node.specs.Opening.{Opening, ObjectPlan, plan_of}
+use Rattle.node_file.specs.Opening.{Opening, ObjectPlan, plan_of}
 use Rattle.taos_wire.specs.Reply.{Malformed, BadSeal, UnknownObject, sealed, unsealed}
 use Rattle.taos_node.specs.Course.{IsUnbuilt, IsAsked, HasArrived, Course, malformed, bad_seal, unknown_object}
 use Rattle.taos_node.specs.Deciding.{read_right}

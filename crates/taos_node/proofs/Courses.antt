@@ -14,7 +14,8 @@ use Rattle.taos_calculus.specs.Rules.{Line, line, SpeaksFor, Proves, Follows, sa
 use Rattle.taos_calculus.proofs.Atoms.{atom_is_decided}
 use Rattle.taos_calculus.proofs.Induction.{All-at}
 use Rattle.taos_wire.specs.Request.{Request}
-use Rattle.taos_node.specs.Opening.{Opening, ObjectPlan, IsPlainObject}
+use Rattle.node_file.specs.Opening.{Opening, ObjectPlan}
+use Rattle.taos_node.specs.Meaning.{IsPlainObject}
 use Rattle.taos_wire.specs.Reply.{Granted, Denied, NoMemory, Untold, Sent, sealed, spelling}
 use Rattle.taos_node.specs.Course.{IsUnbuilt, Arrival, HasArrived, Course, granted, denied, unruled}
 use Rattle.taos_node.specs.Deciding.{read_right, GivesAtom, IsFirst, IsNotFor}

@@ -1,9 +1,3 @@
-pub mod OpeningFields
-pub mod OpeningCommons
-pub mod OpeningObjects
-pub mod OpeningLaws
-pub mod Lookups
-pub mod Whole
 pub mod Entries
 pub mod Listed
 pub mod Courses

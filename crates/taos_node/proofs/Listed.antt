@@ -1,42 +1,22 @@
--- Looking up an object by its number.
-use Rattle.std.proofs.Common.{◌≡◌, ℕ, List, [], ◌∷◌, map, length, Some, None, true, false, Bool, refl, ap, sym, subst, ◌∙◌, arith, inl, inr}
-use Rattle.std.specs.Prelude.{Option, option_map, ◌==◌, cond, All, Contains, IfSome}
+-- Objects whose lists name keys and names alone.
+use Rattle.std.proofs.Common.{◌≡◌, ℕ, List, ◌∷◌, map, length, Some, None, refl, ap, sym, subst, ◌∙◌, arith, inl, inr}
+use Rattle.std.specs.Prelude.{Option, option_map, All, Contains, IfSome}
 use Rattle.std.specs.BTreeMap.{get}
 use Rattle.std.specs.Ordering.{is_eq, nat_cmp}
-use Rattle.std.specs.Map.{lookup}
-use Rattle.std.specs.Cmp.{unsigned_tied}
-use Rattle.std.proofs.lemmas.Cmp.{nat_eq_equiv}
-use Rattle.std.proofs.lemmas.Bool.{eqb-true}
 use Rattle.std.proofs.lemmas.List.{length-map}
 use Rattle.std.proofs.lemmas.List.Elements.{All-cons, All-contains}
 use Rattle.std.proofs.lemmas.Map.Entries.{All-lookup}
 use Rattle.std.proofs.lemmas.Option.{none-some, same_Some}
 use Rattle.prin_term.specs.View.{Grant, grant}
 use Rattle.taos_calculus.specs.Atoms.{IsAtom}
-use Rattle.taos_node.specs.declared.opening.Opening as code
-use Rattle.taos_node.specs.declared.opening.ObjectPlan.{ObjectPlan}
+use Rattle.node_file.specs.declared.opening.Opening as code
+use Rattle.node_file.specs.declared.opening.ObjectPlan.{ObjectPlan}
 use Rattle.taos_node.specs.Command.{HasCompound, IsUnbuiltOpening}
-use Rattle.taos_node.specs.OpeningView.{common}
-use Rattle.taos_node.specs.Opening as plain
-use Rattle.taos_node.specs.Opening.{plan_of}
+use Rattle.node_file.specs.OpeningView.{common}
+use Rattle.node_file.specs.Opening as plain
+use Rattle.node_file.specs.Opening.{plan_of}
 use Rattle.taos_node.specs.Meaning.{object, opening}
-
-abbrev pub listed : List (ℕ × ObjectPlan) → List plain.ObjectPlan
-listed entries = map (λ e. object e.0 e.1) entries
-
-step : (b : Bool) (e : ℕ × ObjectPlan) (number : ℕ) (rest : Option plain.ObjectPlan) (found : Option ObjectPlan) → b ≡ (e.0 == number) → rest ≡ option_map (object number) found →
-    cond b (Some (object e.0 e.1)) rest ≡ option_map (object number) (cond b (Some e.1) found)
-step true e number rest found is same = ap (λ (n : ℕ). Some (object n e.1)) (eqb-true e.0 number (sym is))
-step false e number rest found is same = same
-
--- the map's look-up, as the list's
-pub plan_of-listed : (entries : List (ℕ × ObjectPlan)) (number : ℕ) → plan_of (listed entries) number ≡ option_map (object number) (lookup (λ k. is_eq (nat_cmp number k)) entries)
-plan_of-listed [] number = refl
-plan_of-listed (e ∷ entries) number =
-    step (e.0 == number) e number (plan_of (listed entries) number) (lookup (λ k. is_eq (nat_cmp number k)) entries) refl (plan_of-listed entries number)
-    ∙ ap (λ (b : Bool). option_map (object number) (cond b (Some e.1) (lookup (λ k. is_eq (nat_cmp number k)) entries))) (sym (unsigned_tied number e.0 ∙ nat_eq_equiv.symm number e.0))
-
--- ---- objects whose lists name keys and names alone
+use Rattle.node_file.proofs.Listed.{plan_of-listed}
 
 abbrev pub PlanNamesAtoms : ObjectPlan → Type 0
 PlanNamesAtoms p = All (λ g. IsAtom g.who) (map grant p.list.items)

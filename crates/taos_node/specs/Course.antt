@@ -12,7 +12,7 @@ use Rattle.taos_calculus.specs.Monitor.{FirstEntry, Grants, MaySpeak}
 use Rattle.taos_wire.specs.declared.fault.WireFault.TheVariants as wire
 use Rattle.taos_wire.specs.Request.{Request, Spells, IsSealed, subject_of}
 use Rattle.taos_wire.specs.RequestReading.{request_of}
-use Rattle.taos_node.specs.Opening.{Opening, ObjectPlan, plan_of}
+use Rattle.node_file.specs.Opening.{Opening, ObjectPlan, plan_of}
 use Rattle.taos_wire.specs.Reply.{Reply, Granted, Denied, Malformed, UnknownChannel, BadSeal, UnknownObject, NoMemory, Unbuilt, Untold, Sent, sealed, unsealed}
 
 -- it quotes somebody, or its operation is not Read, or it presents a certificate

@@ -6,7 +6,7 @@ use Rattle.prin_term.specs.View.{Grant}
 use Rattle.taos_calculus.specs.Rules.{Line, SpeaksFor, Proves}
 use Rattle.taos_calculus.specs.Monitor.{FirstEntry, Grants, MaySpeak}
 use Rattle.taos_wire.specs.Request.{Request, subject_of}
-use Rattle.taos_node.specs.Opening.{ObjectPlan}
+use Rattle.node_file.specs.Opening.{ObjectPlan}
 use Rattle.taos_wire.specs.Reply.{Granted, Denied, NoMemory, Untold, sealed, spelling}
 
 -- a grant of the first entry that is derivable, with a proof; a denial where none is; or want of memory

@@ -4,7 +4,7 @@ ghost use Rattle.std.specs.Prelude.{◌≡◌, ◌↔◌, ◌<◌, ◌≤◌, �
 ghost use Rattle.object_core.specs.Operation as math;
 ghost use Rattle.object_core.specs.View.{operation};
 ghost use Rattle.taos_wire.specs.View.{request};
-ghost use Rattle.taos_node.specs.Opening.{IsPlainObject};
+ghost use Rattle.taos_node.specs.Meaning.{IsPlainObject};
 ghost use Rattle.taos_wire.specs.Reply.{sealed, unsealed};
 ghost use Rattle.taos_node.specs.Course.{Course, HasArrived, IsAsked, IsUnbuilt};
 ghost use Rattle.taos_node.specs.Meaning.{opening, object, refusal, IsServable};
@@ -12,10 +12,10 @@ ghost use Rattle.taos_node.specs.Ruling.{IsRuled};
 ghost use Rattle.taos_node.specs.Serving.{Answers, AnswersCause};
 
 use crate::decide::{first_reader, proof_by};
-use crate::opening::{ObjectPlan, Opening};
 use crate::reply::{Refusal, ReplyBuf};
 use frame_link::{Clock, Failed};
 use keyed_seal::Sealer;
+use node_file::{ObjectPlan, Opening};
 use object_core::Op;
 use std::alloc::{AllocError, Global};
 use taos_wire::{Request, WireFault, read_request, sealed_with};

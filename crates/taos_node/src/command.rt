@@ -7,11 +7,12 @@ ghost use Rattle.taos_node.specs.Run.{IsConnection, HasCauses, IsComplete};
 ghost use Rattle.taos_node.specs.Ending.{status_of};
 ghost use Rattle.taos_node.specs.Command.{IsRun, IsUnbuiltOpening, Runs, Ends, FileReads, FileGives, FileHasCause, FileDecides, EndsWell, TellsFaults, told_by_first, faults_of_first};
 
+use crate::built::is_built;
 use crate::connection::serve_connection;
 use crate::ending::{Ending, FileFault, status_of};
 use crate::note::tell;
-use crate::opening::{Opening, OpeningFault, read_opening};
 use frame_link::{Clock, Door, Failed, Outcome, RelayLink, Sink, Source, fill};
+use node_file::{Opening, OpeningFault, read_opening};
 use std::alloc::{AllocError, Global};
 use std::sync::Wait;
 use std::thread::Threads;
@@ -87,7 +88,7 @@ fn opening_of<F: Source>(alloc: Global, file: &mut F) -> Result<Opening, FileFau
     ensures cause { FileHasCause (F.faults file.old) (F.faults file.new) result }
 {
     let opening = file_opening(alloc, file)?;
-    if opening.is_built() {
+    if is_built(&opening) {
         Ok(opening)
     } else {
         Err(FileFault::Unbuilt)

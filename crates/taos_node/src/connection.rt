@@ -6,11 +6,11 @@ ghost use Rattle.taos_node.specs.Serving.{Turns, TurnsCause, Serves};
 ghost use Rattle.taos_node.specs.Run.{IsConnection, HasCauses, IsComplete};
 
 use crate::answering::{Handled, answer};
-use crate::opening::Opening;
 use crate::reply::ReplyBuf;
 use frame_link::{
     Clock, Failed, FrameBuf, Next, Outcome, Put, Sink, Source, next_frame, put_frame,
 };
+use node_file::Opening;
 use std::alloc::{AllocError, Global};
 
 /// The most bytes of a request.

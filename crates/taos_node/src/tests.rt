@@ -1,8 +1,9 @@
 ghost use Rattle.std.specs.Prelude.{IfOk};
-ghost use Rattle.taos_node.specs.Command.{IsUnbuiltOpening};
+ghost use Rattle.node_file.specs.Meaning.{FitsByNumber};
 ghost use Rattle.taos_node.specs.Meaning.{opening, IsServable};
 
 use super::*;
+use crate::built::is_built;
 use frame_link::{ClosedDoor, MemClock, MemSink, MemSource, NoRelay};
 use std::alloc::{AllocError, Global};
 use std::sync::Wait;
@@ -116,10 +117,10 @@ fn node_file(alloc: Global, list: &str) -> Result<Vec<u8>, AllocError> {
 
 // The opening, where it is built.
 fn built(node: Opening) -> Result<Opening, Fail>
-    requires { (IsUnbuiltOpening (opening node) → ⊥) → IsServable (opening node) }
+    requires { FitsByNumber (opening node) }
     ensures { IfOk result (λ node. IsServable (opening node)) }
 {
-    if node.is_built() {
+    if is_built(&node) {
         Ok(node)
     } else {
         Err("not built".into())

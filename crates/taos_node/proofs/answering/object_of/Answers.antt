@@ -5,7 +5,7 @@ use Rattle.taos_wire.specs.View.{request}
 use Rattle.taos_node.specs.Course.{unbuilt}
 use Rattle.taos_node.specs.Meaning.{object, opening}
 use Rattle.taos_node.proofs.Arrivals.{has_arrived, has_no_object}
-use Rattle.taos_node.proofs.Listed.{plan_of-listed}
+use Rattle.node_file.proofs.Listed.{plan_of-listed}
 use Rattle.taos_node.proofs.answering.object_of.Goals as goal
 
 pub returns-then-is_unbuilt-clause-refused : goal.returns-then-is_unbuilt-clause-refused
