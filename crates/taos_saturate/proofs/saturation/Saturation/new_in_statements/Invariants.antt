@@ -1,10 +1,7 @@
 use Rattle.std.proofs.Common.{◌≡◌, ℕ, ◌<◌, Some, slice_get}
 use Rattle.taos_saturate.specs.declared.found.Pair.{Pair}
-use Rattle.taos_saturate.specs.Saturating.{IsNumber, SpeaksFull, ChainFull, SaysFull, LiftFull}
-use Rattle.taos_saturate.proofs.saturation.Saturation.new_line.Given as goal
-
-abbrev pub invariant-loop-k : goal.invariant-loop-k
-invariant-loop-k l = (m : ℕ) → m < l.k → (r : ℕ) → IsNumber l.self r → SpeaksFull l.self m r × ChainFull l.self m r
+use Rattle.taos_saturate.specs.Saturating.{IsNumber, SaysFull, LiftFull}
+use Rattle.taos_saturate.proofs.saturation.Saturation.new_in_statements.Given as goal
 
 abbrev pub invariant-loop-place : goal.invariant-loop-place
 invariant-loop-place l =
