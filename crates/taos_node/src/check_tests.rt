@@ -20,6 +20,9 @@ const UNSEALED: [&str; 2] = [
     NO_SEAL,
 ];
 
+// The same without the tag.
+const CUT_REQUEST: [&str; 1] = ["00000034 03 00000001 0000000000000001 00 01 00000005 00"];
+
 // Channel 9 reads object 5.
 const BY_NINE: [&str; 2] = [
     "00000034 03 00000009 0000000000000001 00 01 00000005 00",
@@ -67,6 +70,8 @@ const GRANT: [&str; 3] = [
     ANCHORED,
     "9058a1dc9eadc41ae129b82395520916c6563d31621c79d20cf4fbe10e23ab90",
 ];
+
+const CUT_REPLY: [&str; 2] = [ENTRY_ZERO, ANCHORED];
 
 // By four lines: anchor 0, the certificate, lifted to name 10, handed off.
 const HAND_OFF: [&str; 7] = [
@@ -144,146 +149,103 @@ fn source_of(alloc: Global, bytes: &[u8], fails: &[u64]) -> Result<MemSource, Al
     Ok(MemSource::new(bytes.to_vec(alloc)?, Vec::new(alloc), fails.to_vec(alloc)?))
 }
 
-// What is written for the frames, and how that ended.
-fn checked(alloc: Global, list: &str, frames: &[&[&str]]) -> Result<(CheckEnd, Vec<u8>), Fail> {
+// What is written for the two frames, and how that ended.
+fn checked(
+    alloc: Global,
+    list: &str,
+    request: &[&str],
+    reply: &[&str],
+) -> Result<(CheckEnd, Vec<u8>), Fail> {
     let node = node_of(alloc, list)?;
-    let mut input = Vec::new(alloc);
-    for frame in frames {
-        input.append(&mut spelled(alloc, frame)?)?;
-    }
+    let mut input = spelled(alloc, request)?;
+    input.append(&mut spelled(alloc, reply)?)?;
     let mut source = source_of(alloc, &input, &[])?;
     let mut sink = MemSink::new(alloc, 100, Vec::new(alloc))?;
     let end = check_connection(alloc, &node, &mut source, &mut sink);
     Ok((end, sink.written().to_vec(alloc)?))
 }
 
-// All rights to name 10.
+// All rights to name 10, and the right to read alone.
 const FOR_ALICE: &str = "01 0f 020000000a";
+
+const READ_ALONE: &str = "01 01 020000000a";
 
 #[test]
 fn a_grant_is_counted(rt: HostRuntime) -> Result<(), Fail> {
-    let cases: [(&str, &[&str], &[&str], CheckEnd, &[u8]); 2] = [
-        (
-            "the anchored read",
-            &BY_ONE,
-            &GRANT,
-            CheckEnd::Done(Finding::Granted {
-                entry: 0,
-                lines: 1,
-                certs: 0,
-            }),
-            b"granted entry 0 lines 1 certificates 0\n",
-        ),
-        (
-            "the hand-off",
-            &BY_TWO,
-            &HAND_OFF,
-            CheckEnd::Done(Finding::Granted {
-                entry: 0,
-                lines: 4,
-                certs: 1,
-            }),
-            b"granted entry 0 lines 4 certificates 1\n",
-        ),
-    ];
-    for (name, request, reply, end, line) in cases {
-        let found = checked(rt.alloc(), FOR_ALICE, &[request, reply])?;
-        assert_eq!(rt; found.0, end, "{name}");
-        assert_eq!(rt; found.1.as_slice(), line, "{name}");
-    }
+    let (end, line) = checked(rt.alloc(), FOR_ALICE, &BY_ONE, &GRANT)?;
+    let granted = Finding::Granted {
+        entry: 0,
+        lines: 1,
+        certs: 0,
+    };
+    assert_eq!(rt; end, CheckEnd::Done(granted));
+    assert_eq!(rt; finding_status(granted), 0);
+    let wanted = b"granted entry 0 lines 1 certificates 0\n";
+    assert_eq!(rt; line.as_slice(), wanted.as_slice());
+
+    let (end, line) = checked(rt.alloc(), FOR_ALICE, &BY_TWO, &HAND_OFF)?;
+    let granted = Finding::Granted {
+        entry: 0,
+        lines: 4,
+        certs: 1,
+    };
+    assert_eq!(rt; end, CheckEnd::Done(granted));
+    let wanted = b"granted entry 0 lines 4 certificates 1\n";
+    assert_eq!(rt; line.as_slice(), wanted.as_slice());
     Ok(())
 }
 
 #[test]
 fn each_word_is_the_first_that_holds(rt: HostRuntime) -> Result<(), Fail> {
-    let all = FOR_ALICE;
-    let read = "01 01 020000000a";
-    let cases: [(&str, &[&[&str]], &str, &[u8]); 19] = [
-        (all, &[], "no frame", b"refused: request\n"),
-        (all, &[&BY_ONE[..1]], "a cut request", b"refused: request\n"),
+    let cases: [(&str, &[&str], &[&str], &[u8]); 19] = [
+        ("no frame", &[], &[], b"refused: request\n"),
+        ("a cut request", &CUT_REQUEST, &[], b"refused: request\n"),
+        ("a longer one", &["00010001"], &GRANT, b"refused: request\n"),
+        ("no request", &GRANT, &GRANT, b"refused: request\n"),
+        ("channel 9", &BY_NINE, &GRANT, b"refused: channel\n"),
+        ("another tag", &UNSEALED, &GRANT, b"refused: request-seal\n"),
+        ("no second frame", &BY_ONE, &[], b"refused: reply\n"),
+        ("a cut reply", &BY_ONE, &CUT_REPLY, b"refused: reply\n"),
+        ("a longer one", &BY_ONE, &["04000001"], b"refused: reply\n"),
+        ("no reply", &BY_ONE, &BY_ONE, b"refused: reply\n"),
+        ("to channel 2", &BY_ONE, &TO_TWO, b"refused: echo\n"),
         (
-            all,
-            &[&["00010001"], &GRANT],
-            "a longer request",
-            b"refused: request\n",
-        ),
-        (
-            all,
-            &[&GRANT, &GRANT],
-            "a reply in its place",
-            b"refused: request\n",
-        ),
-        (all, &[&BY_NINE, &GRANT], "channel 9", b"refused: channel\n"),
-        (
-            all,
-            &[&UNSEALED, &GRANT],
-            "another tag",
-            b"refused: request-seal\n",
-        ),
-        (all, &[&BY_ONE], "no second frame", b"refused: reply\n"),
-        (
-            all,
-            &[&BY_ONE, &GRANT[..2]],
-            "a cut reply",
-            b"refused: reply\n",
-        ),
-        (
-            all,
-            &[&BY_ONE, &["04000001"]],
-            "a longer reply",
-            b"refused: reply\n",
-        ),
-        (
-            all,
-            &[&BY_ONE, &BY_ONE],
-            "a request in its place",
-            b"refused: reply\n",
-        ),
-        (all, &[&BY_ONE, &TO_TWO], "to channel 2", b"refused: echo\n"),
-        (
-            all,
-            &[&BY_ONE, &TO_ANOTHER_REQUEST],
             "to request 2",
+            &BY_ONE,
+            &TO_ANOTHER_REQUEST,
             b"refused: echo\n",
         ),
         (
-            all,
-            &[&BY_ONE, &UNDER_ANOTHER_KEY],
             "key 2",
+            &BY_ONE,
+            &UNDER_ANOTHER_KEY,
             b"refused: reply-seal\n",
         ),
-        (all, &[&BY_ONE, &DENIED], "a denial", b"refused: status\n"),
-        (all, &[&OF_SIX, &GRANT], "object 6", b"refused: object\n"),
-        (all, &[&BY_ONE, &ENTRY_ONE], "entry 1", b"refused: entry\n"),
-        (
-            read,
-            &[&WRITE, &GRANT],
-            "no right to write",
-            b"refused: entry\n",
-        ),
-        (
-            all,
-            &[&BY_ONE, &BY_ANOTHER_ANCHOR],
-            "anchor 1",
-            b"refused: proof\n",
-        ),
-        (
-            all,
-            &[&BY_ONE, &FOR_ITSELF],
-            "itself",
-            b"refused: conclusion\n",
-        ),
+        ("a denial", &BY_ONE, &DENIED, b"refused: status\n"),
+        ("object 6", &OF_SIX, &GRANT, b"refused: object\n"),
+        ("entry 1", &BY_ONE, &ENTRY_ONE, b"refused: entry\n"),
+        ("anchor 1", &BY_ONE, &BY_ANOTHER_ANCHOR, b"refused: proof\n"),
+        ("for itself", &BY_ONE, &FOR_ITSELF, b"refused: conclusion\n"),
+        ("quoting", &QUOTING, &GRANT, b"refused: conclusion\n"),
     ];
-    for (list, frames, name, line) in cases {
-        let (end, written) = checked(rt.alloc(), list, frames)?;
+    for (name, request, reply, line) in cases {
+        let (end, written) = checked(rt.alloc(), FOR_ALICE, request, reply)?;
         assert_eq!(rt; written.as_slice(), line, "{name}");
         let CheckEnd::Done(finding) = end else {
             return Err("it failed".into());
         };
         assert_eq!(rt; finding_status(finding), 11, "{name}");
     }
-    let (_, written) = checked(rt.alloc(), all, &[&QUOTING, &GRANT])?;
-    assert_eq!(rt; written.as_slice(), b"refused: conclusion\n".as_slice());
+    Ok(())
+}
+
+#[test]
+fn an_entry_needs_the_right(rt: HostRuntime) -> Result<(), Fail> {
+    let (_, line) = checked(rt.alloc(), READ_ALONE, &WRITE, &GRANT)?;
+    assert_eq!(rt; line.as_slice(), b"refused: entry\n".as_slice());
+    let (_, line) = checked(rt.alloc(), FOR_ALICE, &WRITE, &GRANT)?;
+    let granted = b"granted entry 0 lines 1 certificates 0\n";
+    assert_eq!(rt; line.as_slice(), granted.as_slice());
     Ok(())
 }
 
