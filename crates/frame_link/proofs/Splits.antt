@@ -9,18 +9,18 @@ use Rattle.std.proofs.lemmas.List.Elements.{All-nil, All-cons, All-head, All-tai
 use Rattle.frame_link.specs.Frames.{frame, framed, IsPart, in_word, in_payload, IsTooLong, Splits}
 
 -- a number of four bytes is read in one way
-word_once : (m n : ℕ) (a b : List ℕ) → m < 2 ^ 32 → n < 2 ^ 32 → to_be_bytes w32 m ++ a ≡ to_be_bytes w32 n ++ b → (m ≡ n) × (a ≡ b)
+pub word_once : (m n : ℕ) (a b : List ℕ) → m < 2 ^ 32 → n < 2 ^ 32 → to_be_bytes w32 m ++ a ≡ to_be_bytes w32 n ++ b → (m ≡ n) × (a ≡ b)
 word_once m n a b lm ln e =
     let front : to_be_bytes w32 m ≡ to_be_bytes w32 n = ap (take 4) e in
     (sym (from_be_bytes-to_be_bytes_4 m lm) ∙ ap (from_be_bytes w32) front ∙ from_be_bytes-to_be_bytes_4 n ln, ap (drop 4) e)
 
-same_front : (a b x y : List ℕ) → length a ≡ length b → a ++ x ≡ b ++ y → (a ≡ b) × (x ≡ y)
+pub same_front : (a b x y : List ℕ) → length a ≡ length b → a ++ x ≡ b ++ y → (a ≡ b) × (x ≡ y)
 same_front a b x y len e =
     let front : a ≡ b = sym (take_at a x (length b) len) ∙ ap (take (length b)) e ∙ take_at b y (length b) refl in
     (front, sym (drop_at a x (length b) len) ∙ ap (drop (length b)) e ∙ drop_at b y (length b) refl)
 
 -- what has no whole frame does not begin with one
-no_frame : (limit : ℕ) (payload more rest : List ℕ) → limit < 2 ^ 32 → length payload ≤ limit → IsPart limit rest ⊎ IsTooLong limit rest → rest ≡ frame payload ++ more → ⊥
+pub no_frame : (limit : ℕ) (payload more rest : List ℕ) → limit < 2 ^ 32 → length payload ≤ limit → IsPart limit rest ⊎ IsTooLong limit rest → rest ≡ frame payload ++ more → ⊥
 no_frame limit payload more rest small fits (inl (in_word short)) e =
     let len = ap length e ∙ length-append (frame payload) more ∙ ap (λ k. k + length more) (length-append (to_be_bytes w32 (length payload)) payload) in omega (arith, len)
 no_frame limit payload more rest small fits (inl (in_payload n front le below short text)) e =

@@ -10,3 +10,4 @@ pub mod Commands
 pub mod Notes
 pub mod Looked
 pub mod OneFinding
+pub mod OneInput

@@ -1,11 +1,13 @@
 //! The command that looks over a request and its reply.
 
-ghost use Rattle.std.specs.Prelude.{◌≡◌, IfErr, IfOk, MatchResult, length};
+ghost use Rattle.std.specs.Prelude.{◌≡◌, List, ℕ, Option, Some, IfErr, IfOk, MatchResult, length};
 ghost use Rattle.std.specs.Int.{w32, to_be_bytes};
 ghost use Rattle.std.specs.Option.{option_copied, option_map};
 ghost use Rattle.taos_wire.specs.View.{text_of};
 ghost use Rattle.node_file.specs.Meaning.{opening};
-ghost use Rattle.taos_node.specs.Findings.{CheckCauses, Checks, HaltCauses, Halts, HaltsAt, TakesFrame, TakesFrames};
+ghost use Rattle.taos_node.specs.Findings.{CheckCauses, Checks, HaltCauses, Halts, HaltsAt, Shows, TakesFrame, TakesFrames};
+ghost use Rattle.node_file.specs.Opening.{Opening as Node};
+ghost use Rattle.taos_node.specs.declared.finding.Finding.{Finding as Found};
 
 use crate::checking::check_frames;
 use crate::connection::MAX_REQUEST;
@@ -143,3 +145,9 @@ pub fn check_connection<I: Source, O: Sink>(
         Err(Failed) => CheckEnd::WriteFault,
     }
 }
+
+/// An input that tells its bytes shows one finding.
+pub fn one_check()
+    ensures { (o : Node) (bytes : List ℕ) (x y : Option (List ℕ)) (a b : Found)
+        → Shows o (Some bytes) x a → Shows o (Some bytes) y b → a ≡ b }
+{}

@@ -14,7 +14,7 @@ mod note;
 mod reply;
 
 pub use answering::{Handled, answer};
-pub use check::{CheckEnd, MAX_REPLY, check_connection};
+pub use check::{CheckEnd, MAX_REPLY, check_connection, one_check};
 pub use checking::{check_frames, one_finding};
 pub use command::{Lane, MAX_FILE, MAX_FRAMES, taos};
 pub use connection::{MAX_REQUEST, serve_connection};
