@@ -30,8 +30,9 @@ fn first_with(list: &[Entry], right: u8) -> Option<u8>
     None
 }
 
-// The first entry with the right for whom the subject speaks.
-fn first_derivable<D: Decide>(
+/// The first entry with the right for whom the subject speaks, by what `bench` was asked last: its
+/// place in the list. Takes no memory.
+pub fn first_derivable<D: Decide>(
     bench: &mut D,
     subject: &Term,
     list: &[Entry],

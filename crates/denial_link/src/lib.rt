@@ -8,7 +8,7 @@ mod order;
 mod part;
 mod revive;
 
-pub use first::first_link;
+pub use first::{first_derivable, first_link};
 pub use laws::one_first_link;
 pub use link::Link;
 

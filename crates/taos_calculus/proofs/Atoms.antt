@@ -28,10 +28,9 @@ pub at-Contains : {X : Type 0} (xs : List X) (x : X) → Contains xs x → (i : 
 at-Contains xs x c = (c.0, slice_get-get_or xs c.0 x c.1 ∙ (let e = c.2 in cc))
 
 module _ (anchors : List Anchor) where
-  atoms_are_a_table : IsTable IsAtom anchors []
+  atoms_are_a_table : IsTable IsAtom []
   atoms_are_a_table = record {
     operands_in = operands_in;
-    anchors_in = λ i anchor e. (tt, tt);
     claims_in = λ i claim e. absurd (none-some claim e);
   }
     where

@@ -1,6 +1,7 @@
 -- A saturated set of facts over a table has each derivable fact within the table.
 --
--- A principal x, in the table or not, reaches the members of the table that are forced on it by its parts and by known facts.
+-- A principal x, in the table or not, reaches the members of the table that are forced on it by its parts, by anchors and by known
+-- facts.
 -- Each rule keeps this: where `a => b`, what b reaches is reached by a; where `a says s`, whatever a reaches is known to say s.
 use Rattle.std.proofs.Common.{◌≡◌, ℕ, List, [], ◌∷◌, slice_get, Some, refl, Contains, lit<}
 use Rattle.std.proofs.lemmas.List.Elements.{All-nil}
@@ -11,18 +12,19 @@ use Rattle.taos_calculus.specs.Rules.{Claim, Judgement, SpeaksFor, Says, line, F
 use Rattle.taos_calculus.specs.Saturation.{IsWithin, IsTable, IsSaturated, HasEveryFact}
 use Rattle.taos_calculus.proofs.Induction.{All-at, All-one, All-two, IsKept, rule_induction}
 
-data Reaches (U : Principal → Type 0) (Known : Judgement → Type 0) : Principal → Principal → Type 0 where
-  itself : {x : Principal} → U x → Reaches U Known x x
-  onward : {x u v : Principal} → Reaches U Known x u → Known (SpeaksFor u v) → U v → Reaches U Known x v
-  to_both : {x u v : Principal} → Reaches U Known x u → Reaches U Known x v → U (And u v) → Reaches U Known x (And u v)
-  by_left : {a b v : Principal} → Reaches U Known a v → Reaches U Known (And a b) v
-  by_right : {a b v : Principal} → Reaches U Known b v → Reaches U Known (And a b) v
-  by_quoting : {a b u v : Principal} → Reaches U Known a u → Reaches U Known b v → U (Quoting u v) → Reaches U Known (Quoting a b) (Quoting u v)
-  by_for : {a b u v : Principal} → Reaches U Known a u → Reaches U Known b v → U (For u v) → Reaches U Known (For a b) (For u v)
-  by_role : {a u : Principal} {r : ℕ} → Reaches U Known a u → U (InRole u r) → Reaches U Known (InRole a r) (InRole u r)
+data Reaches (U : Principal → Type 0) (Known : Judgement → Type 0) (anchors : List Anchor) : Principal → Principal → Type 0 where
+  itself : {x : Principal} → U x → Reaches U Known anchors x x
+  onward : {x u v : Principal} → Reaches U Known anchors x u → Known (SpeaksFor u v) → U v → Reaches U Known anchors x v
+  to_both : {x u v : Principal} → Reaches U Known anchors x u → Reaches U Known anchors x v → U (And u v) → Reaches U Known anchors x (And u v)
+  by_left : {a b v : Principal} → Reaches U Known anchors a v → Reaches U Known anchors (And a b) v
+  by_right : {a b v : Principal} → Reaches U Known anchors b v → Reaches U Known anchors (And a b) v
+  by_quoting : {a b u v : Principal} → Reaches U Known anchors a u → Reaches U Known anchors b v → U (Quoting u v) → Reaches U Known anchors (Quoting a b) (Quoting u v)
+  by_for : {a b u v : Principal} → Reaches U Known anchors a u → Reaches U Known anchors b v → U (For u v) → Reaches U Known anchors (For a b) (For u v)
+  by_role : {a u : Principal} {r : ℕ} → Reaches U Known anchors a u → U (InRole u r) → Reaches U Known anchors (InRole a r) (InRole u r)
+  by_anchor : {v : Principal} (anchor : Anchor) (i : ℕ) → slice_get anchors i ≡ Some anchor → Reaches U Known anchors (Name anchor.name) v → Reaches U Known anchors (Key anchor.key) v
 
 module _ (U : Principal → Type 0) (Known : Judgement → Type 0) (anchors : List Anchor) (claims : List Claim)
-    (table : IsTable U anchors claims) (saturated : IsSaturated U Known anchors claims) where
+    (table : IsTable U claims) (saturated : IsSaturated U Known anchors claims) where
   -- the operands of a member
   and_left : (a b : Principal) → U (And a b) → U a
   and_left a b u = table.operands_in (And a b) u 0 a (lit< tt)
@@ -91,9 +93,10 @@ module _ (U : Principal → Type 0) (Known : Judgement → Type 0) (anchors : Li
   knows_role_under a b r k u w =
       known_1 (SpeaksFor a b) (SpeaksFor (InRole a r) (InRole b r)) (Step.RoleUnder 0) k (role_under refl) (u, w)
 
-  knows_anchor : (i : ℕ) (anchor : Anchor) → slice_get anchors i ≡ Some anchor → Known (SpeaksFor (Key anchor.key) (Name anchor.name))
-  knows_anchor i anchor e =
-      known_0 (SpeaksFor (Key anchor.key) (Name anchor.name)) (Step.Anchor i) (anchored e) (table.anchors_in i anchor e)
+  knows_anchor : (i : ℕ) (anchor : Anchor) → slice_get anchors i ≡ Some anchor → U (Key anchor.key) → U (Name anchor.name) →
+      Known (SpeaksFor (Key anchor.key) (Name anchor.name))
+  knows_anchor i anchor e u w =
+      known_0 (SpeaksFor (Key anchor.key) (Name anchor.name)) (Step.Anchor i) (anchored e) (u, w)
 
   knows_said : (i : ℕ) (claim : Claim) → slice_get claims i ≡ Some claim → Known (Says claim.speaker claim.left claim.right)
   knows_said i claim e =
@@ -116,7 +119,7 @@ module _ (U : Principal → Type 0) (Known : Judgement → Type 0) (anchors : Li
       known_1 (Says a (Quoting b a) (For b a)) (SpeaksFor (Quoting b a) (For b a)) (Step.Delegate 0) k (delegate refl) (u, w)
 
   -- what is reached is in the table
-  reached_in : {x v : Principal} → Reaches U Known x v → U v
+  reached_in : {x v : Principal} → Reaches U Known anchors x v → U v
   reached_in (itself u) = u
   reached_in (onward r k u) = u
   reached_in (to_both r s u) = u
@@ -125,9 +128,16 @@ module _ (U : Principal → Type 0) (Known : Judgement → Type 0) (anchors : Li
   reached_in (by_quoting r s u) = u
   reached_in (by_for r s u) = u
   reached_in (by_role r u) = u
+  reached_in (by_anchor anchor i e r) = reached_in r
+
+  -- a name that reaches anything is in the table
+  name_in : {n : ℕ} {v : Principal} → Reaches U Known anchors (Name n) v → U (Name n)
+  name_in (itself u) = u
+  name_in (onward r k u) = name_in r
+  name_in (to_both r s u) = name_in r
 
   -- a member of the table is known to speak for what it reaches
-  reached_known : {x v : Principal} → Reaches U Known x v → U x → Known (SpeaksFor x v)
+  reached_known : {x v : Principal} → Reaches U Known anchors x v → U x → Known (SpeaksFor x v)
   reached_known {x} (itself w) u = knows_same x u
   reached_known {x} (onward {u = y} {v = v} r k w) u = knows_chain x y v (reached_known r u) k u w
   reached_known {x} (to_both {u = y} {v = z} r s w) u = knows_both y z x (reached_known r u) (reached_known s u) u w
@@ -143,11 +153,14 @@ module _ (U : Principal → Type 0) (Known : Judgement → Type 0) (anchors : Li
       knows_for a y b z (reached_known r (for_left a b u)) (reached_known s (for_right a b u)) u w
   reached_known (by_role {a} {u = y} {r = n} r w) u =
       knows_role_under a y n (reached_known r (role_holder a n u)) u w
+  reached_known (by_anchor {v} anchor i e r) u =
+      let w : U (Name anchor.name) = name_in r in
+      knows_chain (Key anchor.key) (Name anchor.name) v (knows_anchor i anchor e u w) (reached_known r w) u (reached_in r)
 
   -- what a judgement means for the table
   abbrev Means : Judgement → Type 0
-  Means (SpeaksFor a b) = (v : Principal) → Reaches U Known b v → Reaches U Known a v
-  Means (Says a l r) = U l × U r × ((v : Principal) → Reaches U Known a v → Known (Says v l r))
+  Means (SpeaksFor a b) = (v : Principal) → Reaches U Known anchors b v → Reaches U Known anchors a v
+  Means (Says a l r) = U l × U r × ((v : Principal) → Reaches U Known anchors a v → Known (Says v l r))
 
   -- a member of the table that is known to speak for another reaches what that one reaches
   known_means : (a b : Principal) → Known (SpeaksFor a b) → U a → U b → Means (SpeaksFor a b)
@@ -167,7 +180,7 @@ module _ (U : Principal → Type 0) (Known : Judgement → Type 0) (anchors : Li
   means_right a b v r = by_right r
 
   means_both : {a b v : Principal} (c : Principal) → Means (SpeaksFor c a) → Means (SpeaksFor c b) →
-      Reaches U Known (And a b) v → Reaches U Known c v
+      Reaches U Known anchors (And a b) v → Reaches U Known anchors c v
   means_both {a} {b} c m n (itself u) =
       to_both (m a (itself (and_left a b u))) (n b (itself (and_right a b u))) u
   means_both c m n (onward r k u) = onward (means_both c m n r) k u
@@ -176,7 +189,7 @@ module _ (U : Principal → Type 0) (Known : Judgement → Type 0) (anchors : Li
   means_both c m n (by_right {v = y} r) = n y r
 
   means_quoting : {a' b' v : Principal} (a b : Principal) → Means (SpeaksFor a a') → Means (SpeaksFor b b') →
-      Reaches U Known (Quoting a' b') v → Reaches U Known (Quoting a b) v
+      Reaches U Known anchors (Quoting a' b') v → Reaches U Known anchors (Quoting a b) v
   means_quoting {a'} {b'} a b m n (itself u) =
       by_quoting (m a' (itself (quoting_left a' b' u))) (n b' (itself (quoting_right a' b' u))) u
   means_quoting a b m n (onward r k u) = onward (means_quoting a b m n r) k u
@@ -184,30 +197,28 @@ module _ (U : Principal → Type 0) (Known : Judgement → Type 0) (anchors : Li
   means_quoting a b m n (by_quoting {u = y} {v = z} r s u) = by_quoting (m y r) (n z s) u
 
   means_for : {a' b' v : Principal} (a b : Principal) → Means (SpeaksFor a a') → Means (SpeaksFor b b') →
-      Reaches U Known (For a' b') v → Reaches U Known (For a b) v
+      Reaches U Known anchors (For a' b') v → Reaches U Known anchors (For a b) v
   means_for {a'} {b'} a b m n (itself u) =
       by_for (m a' (itself (for_left a' b' u))) (n b' (itself (for_right a' b' u))) u
   means_for a b m n (onward r k u) = onward (means_for a b m n r) k u
   means_for a b m n (to_both r s u) = to_both (means_for a b m n r) (means_for a b m n s) u
   means_for a b m n (by_for {u = y} {v = z} r s u) = by_for (m y r) (n z s) u
 
-  means_role : {a v : Principal} {n : ℕ} → Reaches U Known (InRole a n) v → Reaches U Known a v
+  means_role : {a v : Principal} {n : ℕ} → Reaches U Known anchors (InRole a n) v → Reaches U Known anchors a v
   means_role {a} {n = n} (itself u) = onward (itself (role_holder a n u)) (knows_role a n u) u
   means_role (onward r k u) = onward (means_role r) k u
   means_role (to_both r s u) = to_both (means_role r) (means_role s) u
   means_role {n = n} (by_role {u = y} r u) = onward r (knows_role y n u) u
 
   means_role_under : {b v : Principal} {n : ℕ} (a : Principal) → Means (SpeaksFor a b) →
-      Reaches U Known (InRole b n) v → Reaches U Known (InRole a n) v
+      Reaches U Known anchors (InRole b n) v → Reaches U Known anchors (InRole a n) v
   means_role_under {b} {n = n} a m (itself u) = by_role (m b (itself (role_holder b n u))) u
   means_role_under a m (onward r k u) = onward (means_role_under a m r) k u
   means_role_under a m (to_both r s u) = to_both (means_role_under a m r) (means_role_under a m s) u
   means_role_under a m (by_role {u = y} r u) = by_role (m y r) u
 
   means_anchored : (i : ℕ) (anchor : Anchor) → slice_get anchors i ≡ Some anchor → Means (SpeaksFor (Key anchor.key) (Name anchor.name))
-  means_anchored i anchor e =
-      let u : U (Key anchor.key) × U (Name anchor.name) = table.anchors_in i anchor e in
-      known_means (Key anchor.key) (Name anchor.name) (knows_anchor i anchor e) u.0 u.1
+  means_anchored i anchor e v r = by_anchor anchor i e r
 
   means_said : (i : ℕ) (claim : Claim) → slice_get claims i ≡ Some claim → Means (Says claim.speaker claim.left claim.right)
   means_said i claim e =
@@ -218,7 +229,7 @@ module _ (U : Principal → Type 0) (Known : Judgement → Type 0) (anchors : Li
   means_lift a b l r m n = (m.0, m.1, λ v s. m.2 v (n v s))
 
   joined : {a b v : Principal} (l r : Principal) → Means (Says a l r) → Means (Says b l r) →
-      Reaches U Known (And a b) v → Known (Says v l r)
+      Reaches U Known anchors (And a b) v → Known (Says v l r)
   joined {a} {b} l r m n (itself u) =
       knows_join a b l r (m.2 a (itself (and_left a b u))) (n.2 b (itself (and_right a b u))) u m.0 m.1
   joined l r m n (onward {u = y} {v = z} s k u) = knows_lift y z l r (joined l r m n s) k u m.0 m.1

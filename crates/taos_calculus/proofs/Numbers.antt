@@ -344,18 +344,15 @@ module _ (nodes : List Node) (table : IsNodeTable nodes) (anchors : List Anchor)
   numbered_operands (For a b) (i, h, e) =
       let s : ForAt i a b = for_at i a b h e in All-two Numbered a b (s.x, s.x_in, s.left_is) (s.y, s.y_in, s.right_is)
 
-  -- the principals of the anchors and the claims are members
+  -- the principals of the claims are members
   pub record HoldsAll : Type 0 where
-    pub keys_in : (i : ℕ) (anchor : Anchor) → slice_get anchors i ≡ Some anchor → Contains (principals_of nodes) (Key anchor.key)
-    pub names_in : (i : ℕ) (anchor : Anchor) → slice_get anchors i ≡ Some anchor → Contains (principals_of nodes) (Name anchor.name)
     pub speakers_in : (i : ℕ) (claim : Claim) → slice_get claims i ≡ Some claim → Contains (principals_of nodes) claim.speaker
     pub lefts_in : (i : ℕ) (claim : Claim) → slice_get claims i ≡ Some claim → Contains (principals_of nodes) claim.left
     pub rights_in : (i : ℕ) (claim : Claim) → slice_get claims i ≡ Some claim → Contains (principals_of nodes) claim.right
 
-  numbered_table : HoldsAll → IsTable Numbered anchors claims
+  numbered_table : HoldsAll → IsTable Numbered claims
   numbered_table holds = record {
     operands_in = numbered_operands;
-    anchors_in = λ i anchor e. (member_number (Key anchor.key) (holds.keys_in i anchor e), member_number (Name anchor.name) (holds.names_in i anchor e));
     claims_in = λ i claim e. (
       member_number claim.speaker (holds.speakers_in i claim e),
       member_number claim.left (holds.lefts_in i claim e),

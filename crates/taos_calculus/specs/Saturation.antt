@@ -1,20 +1,19 @@
 -- Why a search among finitely many principals misses nothing.
 --     IsWithin U fact      the fact's principals all satisfy U
---     IsTable U anchors claims      U holds of the principals of the anchors and the certificates, and with a principal of its operands
+--     IsTable U claims      U holds of the principals of the certificates, and with a principal of its operands; the anchors need not be in it
 --     IsSaturated U Known anchors claims      what follows from known facts by one rule is known, as far as U goes
 --     HasEveryFact      a saturated set over a table holds each derivable fact within the table, whatever the derivation names
 use Rattle.std.specs.Prelude.{◌≡◌, ℕ, List, Some, slice_get, All, Contains}
 use Rattle.prin_term.specs.declared.term.Anchor.{Anchor}
-use Rattle.prin_term.specs.Principal.{Principal, Key, Name, operands}
+use Rattle.prin_term.specs.Principal.{Principal, operands}
 use Rattle.taos_calculus.specs.Rules.{Claim, Judgement, SpeaksFor, Says, Line, Follows, Derivable}
 
 abbrev pub IsWithin : (Principal → Type 0) → Judgement → Type 0
 IsWithin U (SpeaksFor a b) = U a × U b
 IsWithin U (Says a l r) = U a × U l × U r
 
-pub record IsTable (U : Principal → Type 0) (anchors : List Anchor) (claims : List Claim) : Type 0 where
+pub record IsTable (U : Principal → Type 0) (claims : List Claim) : Type 0 where
   pub operands_in : (p : Principal) → U p → All U (operands p)
-  pub anchors_in : (i : ℕ) (anchor : Anchor) → slice_get anchors i ≡ Some anchor → U (Key anchor.key) × U (Name anchor.name)
   pub claims_in : (i : ℕ) (claim : Claim) → slice_get claims i ≡ Some claim → U claim.speaker × U claim.left × U claim.right
 
 abbrev pub IsSaturated : (Principal → Type 0) → (Judgement → Type 0) → List Anchor → List Claim → Type 0
@@ -24,6 +23,6 @@ IsSaturated U Known anchors claims =
 
 abbrev pub HasEveryFact : List Anchor → List Claim → List Principal → List Judgement → Type 0
 HasEveryFact anchors claims table known =
-    IsTable (Contains table) anchors claims →
+    IsTable (Contains table) claims →
     IsSaturated (Contains table) (Contains known) anchors claims →
     (fact : Judgement) → IsWithin (Contains table) fact → Derivable anchors claims fact → Contains known fact

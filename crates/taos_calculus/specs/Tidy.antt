@@ -68,7 +68,7 @@ pub record IsTidy (lines : List Line) (cites : List ℕ) : Type 0 where
 -- what is derivable and within the table has a derivation within the table
 abbrev pub StaysWithin : List Anchor → List Claim → List Principal → Type 0
 StaysWithin anchors claims table =
-    IsTable (Contains table) anchors claims →
+    IsTable (Contains table) claims →
     (fact : Judgement) → IsWithin (Contains table) fact → Derivable anchors claims fact → DerivableWithin (Contains table) anchors claims fact
 
 -- which certificates there are counts, and not their order

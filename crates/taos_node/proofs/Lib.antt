@@ -4,8 +4,10 @@ pub mod OpeningObjects
 pub mod OpeningLaws
 pub mod Lookups
 pub mod Whole
-pub mod Entries
 pub mod Listed
+pub mod Presenting
+pub mod Ruled
+pub mod Denials
 pub mod Courses
 pub mod Steps
 pub mod Connections

@@ -9,9 +9,9 @@ use Rattle.keyed_seal.specs.Keys.{key_of}
 use Rattle.taos_node.specs.declared.opening.Opening.{Opening}
 use Rattle.taos_node.specs.declared.reply.Refusal.{Refusal}
 use Rattle.taos_node.specs.declared.reply.Refusal.TheVariants as code
-use Rattle.taos_wire.specs.Reply.{Reply, Malformed, UnknownChannel, BadSeal, UnknownObject, NoMemory, Unbuilt}
+use Rattle.taos_wire.specs.Reply.{Reply, Malformed, UnknownChannel, BadSeal, CertRefused, UnknownObject, NoMemory, Unbuilt}
 use Rattle.taos_node.specs.Opening as plain
-use Rattle.taos_node.specs.Opening.{plan_of, IsPlainObject}
+use Rattle.taos_node.specs.Opening.{plan_of, FitsObject}
 use Rattle.taos_node.specs.OpeningView.{common}
 pub use Rattle.taos_node.specs.OpeningView.{plan as object}
 
@@ -19,6 +19,7 @@ abbrev pub refusal : Refusal → Reply
 refusal (code.Malformed offset) = Malformed offset
 refusal (code.UnknownChannel number) = UnknownChannel number
 refusal code.BadSeal = BadSeal
+refusal (code.CertRefused index why) = CertRefused index why
 refusal (code.UnknownObject number) = UnknownObject number
 refusal code.NoMemory = NoMemory
 refusal code.Unbuilt = Unbuilt
@@ -38,9 +39,10 @@ opening node = record {
 
 pub record IsServable (o : plain.Opening) : Type 0 where
   pub few_anchors : length o.anchors ≤ 64
-  pub objects : (number : ℕ) (p : plain.ObjectPlan) → plan_of o.objects number ≡ Some p → IsPlainObject p
+  pub objects : (number : ℕ) (p : plain.ObjectPlan) → plan_of o.objects number ≡ Some p → FitsObject p
 
 pub record SameNode (a b : plain.Opening) : Type 0 where
+  pub relay_key : a.relay_key ≡ b.relay_key
   pub channels : (number : ℕ) → key_of a.channels number ≡ key_of b.channels number
   pub anchors : a.anchors ≡ b.anchors
   pub objects : (number : ℕ) → plan_of a.objects number ≡ plan_of b.objects number

@@ -15,6 +15,7 @@ use frame_link::{Clock, Door, Failed, Outcome, RelayLink, Sink, Source, fill};
 use std::alloc::{AllocError, Global};
 use std::sync::Wait;
 use std::thread::Threads;
+use taos_saturate::Saturator;
 
 // What a lane holds while its worker runs. Nothing yet.
 #[derive(Drop)]
@@ -100,7 +101,7 @@ fn is_run(words: &[String]) -> bool
     words.len() == 1 && words[0].as_str() == "run"
 }
 
-// Serves the connection of the first lane.
+// Serves the connection of the first lane. The decider's room is taken before the first frame.
 fn serve<I: Source, O: Sink, C: Clock, R: RelayLink, D: Door>(
     alloc: Global,
     node: &Opening,
@@ -120,8 +121,19 @@ fn serve<I: Source, O: Sink, C: Clock, R: RelayLink, D: Door>(
         (I.faults input.old) (I.faults input.new) (O.faults output.old) (O.faults output.new)
         (faults_of_first C.faults lanes.old) (faults_of_first C.faults lanes.new) result }
 {
+    let Ok(mut bench) = Saturator::reserve(alloc) else {
+        return Outcome::NoMemory;
+    };
     let lane = &mut lanes[0];
-    serve_connection(alloc, node, MAX_FRAMES, input, output, &mut lane.clock)
+    serve_connection(
+        alloc,
+        node,
+        MAX_FRAMES,
+        input,
+        output,
+        &mut lane.clock,
+        &mut bench,
+    )
 }
 
 // Does the work, and tells nobody how it ended.

@@ -2,13 +2,15 @@
 #![tactic(auto)]
 
 mod answering;
+mod asking;
 mod command;
 mod connection;
-mod decide;
 mod ending;
 mod note;
 mod opening;
+mod presented;
 mod reply;
+mod ruling;
 
 pub use answering::{Handled, answer};
 pub use command::{Lane, MAX_FILE, MAX_FRAMES, taos};

@@ -90,8 +90,6 @@ module _ (s : Saturation) (good : IsGood s) where
 
   holds_all : HoldsAll s.nodes.items good.ready.table s.anchors.items (claims_in s)
   holds_all = record {
-    keys_in = good.anchored.keys_in;
-    names_in = good.anchored.names_in;
     speakers_in = λ i claim e. (claimed i claim e).0;
     lefts_in = λ i claim e. (claimed i claim e).1;
     rights_in = λ i claim e. (claimed i claim e).2;

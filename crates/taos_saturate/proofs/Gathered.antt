@@ -17,7 +17,7 @@ use Rattle.stmt_codec.proofs.Firsts.{met-grows, met-append}
 use Rattle.taos_saturate.specs.declared.saturation.Cited.{Cited}
 use Rattle.taos_saturate.specs.Gathering.{Widens, CitedIn, chosen_by, Gathers}
 use Rattle.taos_saturate.specs.Interning.{IsRoomy, Fits, TakesIn}
-use Rattle.taos_saturate.specs.Saturating.{AreAnchored, claim_by}
+use Rattle.taos_saturate.specs.Saturating.{claim_by}
 use Rattle.stmt_codec.specs.Certificates.{Certificate, speaker_of, IsWithinLimits}
 use Rattle.taos_saturate.proofs.Interned.{pushed_at, length_grown, named_stays, fits_next}
 use Rattle.taos_saturate.proofs.Few.{cert_few}
@@ -62,12 +62,6 @@ module _ (old new : List Node) (n : ℕ) (w : Widens old new n) where
   pub widens_roomy : (c d : ℕ) → IsRoomy old c → c ≤ d → IsRoomy new d
   widens_roomy c d r h = record { table = w.table; room = omega (arith, r.room, h) }
 
-  pub widens_anchored : (anchors : List Anchor) → AreAnchored old anchors → AreAnchored new anchors
-  widens_anchored anchors a = record {
-    keys_in = λ i anchor e. widens_contains (Key anchor.key) (a.keys_in i anchor e);
-    names_in = λ i anchor e. widens_contains (Name anchor.name) (a.names_in i anchor e);
-  }
-
   cited_still : (c : Cited) → CitedIn (length old) c → CitedIn (length new) c
   cited_still c h = record { speaker = omega (arith, h.speaker, widens_length); left = omega (arith, h.left, widens_length); right = omega (arith, h.right, widens_length) }
 
@@ -94,16 +88,6 @@ pub number_contained : (nodes : List Node) (i : ℕ) (p : Principal) → i < len
 number_contained nodes i p h e =
     let fits : i < length (principals_of nodes) = omega (arith, h, length-principals_of nodes) in
     (i, fits, sym (get_or_default (principals_of nodes) i (Key 0) p fits) ∙ e)
-
-pub anchored_none : (nodes : List Node) → AreAnchored nodes []
-anchored_none nodes = record { keys_in = λ i anchor e. absurd (none-some anchor e); names_in = λ i anchor e. absurd (none-some anchor e) }
-
-pub anchored_more : (nodes : List Node) (anchors : List Anchor) (a : Anchor) → AreAnchored nodes anchors →
-    Contains (principals_of nodes) (Key a.key) → Contains (principals_of nodes) (Name a.name) → AreAnchored nodes (anchors ++ a ∷ [])
-anchored_more nodes anchors a h k n = record {
-  keys_in = λ i anchor e. elim (pushed_at anchors a anchor i e) [ inl f ↦ h.keys_in i anchor f | inr q ↦ subst (λ (x : Anchor). Contains (principals_of nodes) (Key x.key)) q.1 k ];
-  names_in = λ i anchor e. elim (pushed_at anchors a anchor i e) [ inl f ↦ h.names_in i anchor f | inr q ↦ subst (λ (x : Anchor). Contains (principals_of nodes) (Name x.name)) q.1 n ];
-}
 
 pub gathers_none : (nodes : List Node) → Gathers nodes [] []
 gathers_none nodes = record { cited_in = All-nil (CitedIn (length nodes)); chosen_is = refl }

@@ -11,7 +11,7 @@ use Rattle.taos_calculus.specs.Rules.{Claim}
 use Rattle.taos_calculus.specs.Tables.{IsNodeTable, named}
 use Rattle.taos_saturate.specs.declared.held.Held.{Held}
 use Rattle.taos_saturate.specs.Gathering.{CitedIn, chosen_by, statement_of}
-use Rattle.taos_saturate.specs.Saturating.{AreAnchored, IsGood}
+use Rattle.taos_saturate.specs.Saturating.{IsGood}
 
 pub record IsReserved (h : Held) : Type 0 where
   pub nodes : MAX_NODES ≤ vec_capacity h.table.nodes
@@ -38,7 +38,6 @@ pub record IsGathered (h : Held) : Type 0 where
   pub table : IsNodeTable h.table.nodes.items
   pub few : length h.table.nodes.items ≤ MAX_NODES
   pub few_anchors : length h.table.anchors.items ≤ MAX_ANCHORS
-  pub anchored : AreAnchored h.table.nodes.items h.table.anchors.items
   pub cited_in : All (CitedIn (length h.table.nodes.items)) h.table.cited.items
   pub few_cited : length h.table.cited.items ≤ MAX_CERTS
   pub stated : h.table.found.statements.items ≡ map statement_of h.table.cited.items

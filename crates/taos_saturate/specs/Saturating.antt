@@ -131,13 +131,7 @@ pub record IsGrown (s t : Saturation) : Type 0 where
   pub lines_kept : vec_capacity s.found.lines ≤ vec_capacity t.found.lines
   pub numbers_kept : vec_capacity s.found.numbers ≤ vec_capacity t.found.numbers
 
--- the keys and names of the anchors stand in the table
-pub record AreAnchored (nodes : List Node) (anchors : List Anchor) : Type 0 where
-  pub keys_in : (i : ℕ) (anchor : Anchor) → slice_get anchors i ≡ Some anchor → Contains (principals_of nodes) (Key anchor.key)
-  pub names_in : (i : ℕ) (anchor : Anchor) → slice_get anchors i ≡ Some anchor → Contains (principals_of nodes) (Name anchor.name)
-
 pub record IsGood (s : Saturation) : Type 0 where
   pub ready : IsReady s
   pub sound : IsSound s
   pub full : IsFull s
-  pub anchored : AreAnchored s.nodes.items s.anchors.items

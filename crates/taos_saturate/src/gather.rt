@@ -1,15 +1,15 @@
 //! Taking a question into a table of nodes.
 
-ghost use Rattle.std.specs.Prelude.{◌≡◌, ℕ, ◌+◌, ◌*◌, ◌<◌, ◌≤◌, [], All, Contains, length, map, take, vec_capacity};
-ghost use Rattle.prin_term.specs.Principal.{Key, Name, node_count};
+ghost use Rattle.std.specs.Prelude.{◌≡◌, ℕ, ◌+◌, ◌*◌, ◌<◌, ◌≤◌, [], All, length, map, take, vec_capacity};
+ghost use Rattle.prin_term.specs.Principal.{node_count};
 ghost use Rattle.prin_term.specs.View.{grant, principal};
 ghost use Rattle.stmt_codec.specs.Certificates.{certificate};
 ghost use Rattle.taos_calculus.specs.declared.proof.TheConstants.{MAX_NODES};
 ghost use Rattle.taos_calculus.specs.Question.{claim_of, picked};
-ghost use Rattle.taos_calculus.specs.Tables.{named, principals_of};
+ghost use Rattle.taos_calculus.specs.Tables.{named};
 ghost use Rattle.taos_saturate.specs.Gathering.{Widens, CitedIn, Gathers, statement_of};
 ghost use Rattle.taos_saturate.specs.Interning.{IsRoomy};
-ghost use Rattle.taos_saturate.specs.Saturating.{AreAnchored, claim_by};
+ghost use Rattle.taos_saturate.specs.Saturating.{claim_by};
 
 use crate::found::Pair;
 use crate::interning::intern;
@@ -31,34 +31,14 @@ pub fn take_term(nodes: &mut Vec<Node>, term: &Term) -> u16
     intern(nodes, term)
 }
 
-fn take_anchor(nodes: &mut Vec<Node>, anchor: Anchor)
-    requires roomy { IsRoomy nodes.old.items (vec_capacity nodes.old) }
-    requires room { length nodes.old.items + 2 ≤ MAX_NODES }
-    ensures widens { Widens nodes.old.items nodes.new.items 2 }
-    ensures key { Contains (principals_of nodes.new.items) (Key anchor.key) }
-    ensures name { Contains (principals_of nodes.new.items) (Name anchor.name) }
-    ensures capacity { vec_capacity nodes.old ≤ vec_capacity nodes.new }
-{
-    let key = Term::Key(anchor.key);
-    take_term(nodes, &key);
-    let name = Term::Name(anchor.name);
-    take_term(nodes, &name);
-}
-
-/// Takes in the keys and names of the anchors.
-pub fn take_anchors(nodes: &mut Vec<Node>, kept: &mut Vec<Anchor>, anchors: &[Anchor])
-    requires roomy { IsRoomy nodes.old.items (vec_capacity nodes.old) }
-    requires room { length nodes.old.items + 2 * length anchors.now ≤ MAX_NODES }
+/// Keeps the anchors. Their keys and names are taken in only as far as they are named elsewhere.
+pub fn keep_anchors(kept: &mut Vec<Anchor>, anchors: &[Anchor])
     requires none { kept.old.items ≡ [] }
-    requires kept_room { length anchors.now ≤ vec_capacity kept.old }
-    ensures widens { Widens nodes.old.items nodes.new.items (2 * length anchors.now) }
+    requires room { length anchors.now ≤ vec_capacity kept.old }
     ensures kept { kept.new.items ≡ anchors.now }
-    ensures anchored { AreAnchored nodes.new.items anchors.now }
-    ensures capacity { vec_capacity nodes.old ≤ vec_capacity nodes.new }
-    ensures kept_capacity { vec_capacity kept.old ≤ vec_capacity kept.new }
+    ensures capacity { vec_capacity kept.old ≤ vec_capacity kept.new }
 {
     for i in 0..anchors.len() {
-        take_anchor(nodes, anchors[i]);
         kept.push(anchors[i]).unwrap();
     }
 }

@@ -13,7 +13,7 @@ ghost use Rattle.taos_saturate.specs.Held.{IsReserved, IsGathered, IsHeld, ArePl
 use crate::citing::cites_in;
 use crate::extract::extract;
 use crate::found::Found;
-use crate::gather::{state_all, take_anchors, take_certs, take_list, take_term};
+use crate::gather::{keep_anchors, state_all, take_certs, take_list, take_term};
 use crate::retable::carry_lines;
 use crate::saturation::{Cited, Saturation};
 use prin_term::{Anchor, Entry, Term};
@@ -99,7 +99,7 @@ impl Held {
             (map grant list.now) }
         ensures apart { ArePlacesApart (seen self.new).chosen }
     {
-        take_anchors(&mut self.table.nodes, &mut self.table.anchors, anchors);
+        keep_anchors(&mut self.table.anchors, anchors);
         take_certs(&mut self.table.nodes, &mut self.table.cited, certs, chosen);
         self.subject = take_term(&mut self.table.nodes, subject);
         take_list(&mut self.table.nodes, &mut self.list, list);

@@ -1,16 +1,15 @@
 use Rattle.std.proofs.Common.{◌≤◌, length, ap, arith, ◌∙◌, le_refl}
 use Rattle.prin_term.specs.View.{grant, principal}
-use Rattle.taos_saturate.proofs.Gathered.{widens_then, widens_length, widens_named, widens_anchored, widens_gathers}
+use Rattle.taos_saturate.proofs.Gathered.{widens_then, widens_length, widens_named, widens_gathers}
 use Rattle.taos_saturate.proofs.Holding.{subject_few, few_mapped, map_who, picked-apart}
 use Rattle.taos_saturate.proofs.held.Held.gather.Goals as goal
 
 pub returns-clause-gathered : goal.returns-clause-gathered
 returns-clause-gathered c =
-    let w1 = c.take_anchors.ensures.widens in
     let w2 = c.take_certs.ensures.widens in
     let w3 = c.take_term-self.ensures.widens in
     let w4 = c.take_list.ensures.widens in
-    let n1 = c.take_anchors.new.nodes.items in
+    let n1 = c.args.self.now.table.nodes.items in
     let n2 = c.take_certs.new.nodes.items in
     let n3 = c.take_term-self.new.nodes.items in
     let n4 = c.take_list.new.nodes.items in
@@ -22,9 +21,8 @@ returns-clause-gathered c =
     let none = ap length c.requires.nodes in
     record {
       table = w4.table;
-      few = omega (arith, w1.few, w234.few, c.requires.askable.anchors_fit, none);
-      few_anchors = omega (arith, ap length c.take_anchors.ensures.kept, c.requires.askable.anchors_fit);
-      anchored = rw c.take_anchors.ensures.kept (widens_anchored n1 n4 1168 w234 c.args.anchors.now c.take_anchors.ensures.anchored);
+      few = omega (arith, w234.few, none);
+      few_anchors = omega (arith, ap length c.keep_anchors.ensures.kept, c.requires.askable.anchors_fit);
       cited_in = (widens_gathers n2 n4 144 w34 c.take_certs.new.cited.items _ c.take_certs.ensures.gathers).cited_in;
       few_cited = omega (arith, c.take_certs.ensures.cited_few, certs');
       stated = rw c.deref.ensures.value at c.state_all.ensures.stated;
@@ -41,7 +39,7 @@ returns-clause-seen_is c =
     let chosen = (widens_gathers n2 n4 _ w34 c.take_certs.new.cited.items _ c.take_certs.ensures.gathers).chosen_is in
     let subject = widens_named n3 n4 _ c.take_list.ensures.widens c.take_term-self.result c.take_term-self.ensures.within ∙ c.take_term-self.ensures.named_is in
     let list = c.take_list.ensures.named_are ∙ map_who c.args.list.now in
-    λ k. record { anchors = c.take_anchors.ensures.kept k; chosen = chosen k; subject = subject k; list = list k }
+    λ k. record { anchors = c.keep_anchors.ensures.kept k; chosen = chosen k; subject = subject k; list = list k }
 
 pub returns-clause-apart : goal.returns-clause-apart
 returns-clause-apart c =

@@ -32,7 +32,7 @@ returns-clause-held c =
         lines = omega (arith, c.requires.reserved.lines, c.restart.ensures.lines_kept, g.lines_kept);
         list = c.requires.reserved.list;
       };
-      good = record { ready = g.ready; sound = g.sound; full = c.saturate.ensures.full; anchored = rw (g.table.nodes, g.table.anchors) c.requires.gathered.anchored };
+      good = record { ready = g.ready; sound = g.sound; full = c.saturate.ensures.full };
       few_nodes = rw g.table.nodes c.requires.gathered.few;
       few_cells = cells_few _ _ _ g.ready.found.index.sized wide stated;
       few_cited = rw g.table.cited c.requires.gathered.few_cited;
