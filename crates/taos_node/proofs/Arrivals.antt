@@ -16,7 +16,7 @@ use Rattle.taos_wire.specs.RequestReading.{request_of}
 use Rattle.taos_wire.specs.Reply.{Malformed, BadSeal, unsealed}
 use Rattle.taos_node.specs.declared.asking.Asking.{Asking}
 use Rattle.taos_node.specs.Asking.{IsServed, certs_of, content_of, list_of}
-use Rattle.taos_node.specs.Opening.{Opening, ObjectPlan, FitsObject}
+use Rattle.node_file.specs.Opening.{Opening, ObjectPlan, FitsObject}
 use Rattle.taos_node.specs.Presented.{AreOpened}
 use Rattle.taos_node.specs.Course.{IsUnbuilt, Course, malformed, bad_seal}
 use Rattle.taos_node.proofs.Presenting.{opened_count}

@@ -5,9 +5,9 @@ use Rattle.std.specs.Io.KnownBytes.{Consumes, IsAtEnd}
 use Rattle.std.proofs.lemmas.List.{length-append}
 use Rattle.frame_link.specs.declared.outcome.Outcome.{Outcome}
 use Rattle.frame_link.specs.declared.outcome.Outcome.TheVariants.{End, Truncated, TooLong, ReadFault, WriteFault, ClockFault, Spent, NoMemory}
-use Rattle.taos_node.specs.declared.opening.Opening as code
-use Rattle.taos_node.specs.Opening.{Opening, Spells}
-use Rattle.taos_node.specs.OpeningView.{Represents}
+use Rattle.node_file.specs.declared.opening.Opening as code
+use Rattle.node_file.specs.Opening.{Opening, Spells}
+use Rattle.node_file.specs.OpeningView.{Represents}
 use Rattle.taos_node.specs.Meaning.{opening}
 use Rattle.taos_node.specs.Run.{IsConnection, IsComplete, HasCauses}
 use Rattle.std.specs.Prelude.{String}
@@ -18,9 +18,10 @@ use Rattle.taos_node.specs.declared.ending.FileFault.TheVariants.{Malformed, Too
 use Rattle.taos_node.specs.declared.ending.Ending.TheVariants.{Served}
 use Rattle.taos_node.specs.Ending.{file_status, served_status}
 use Rattle.taos_node.specs.Command.{IsRun, IsOpeningFile, IsUnbuiltOpening, Opens, IsMalformed, IsTooLarge, FileFails, FaultHasCause, Runs, FileDecides, EndsWell, TellsFaults, max_file, max_frames}
-use Rattle.taos_node.proofs.OpeningLaws.{opening_again, spelled_once}
+use Rattle.node_file.proofs.OpeningLaws.{opening_again, spelled_once}
 use Rattle.taos_node.proofs.Complete.{left_behind, all_taken, still}
-use Rattle.taos_node.proofs.SameNodes.{same_node, connection_at}
+use Rattle.node_file.proofs.Listed.{same_node}
+use Rattle.taos_node.proofs.SameNodes.{connection_at}
 
 -- what a file tells is what was read to its end
 pub told_is : (file0 file1 : Option (List ℕ)) (bytes read : List ℕ) → Consumes file0 file1 read → IsAtEnd file1 → file0 ≡ Some bytes → bytes ≡ read

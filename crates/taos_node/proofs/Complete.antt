@@ -6,7 +6,7 @@ use Rattle.std.specs.Io.KnownBytes.{Consumes, IsAtEnd}
 use Rattle.frame_link.specs.Faults.{Rose}
 use Rattle.frame_link.specs.Frames.{framed, in_word, IsTooLong, Splits}
 use Rattle.frame_link.proofs.Splits.{split_once, frames_all}
-use Rattle.taos_node.specs.Opening.{Opening}
+use Rattle.node_file.specs.Opening.{Opening}
 use Rattle.frame_link.specs.declared.outcome.Outcome.{Outcome}
 use Rattle.frame_link.specs.declared.outcome.Outcome.TheVariants.{End, Truncated, TooLong, ReadFault, WriteFault, ClockFault, Spent, NoMemory}
 use Rattle.taos_node.specs.Run.{max_request, IsConnection, HasCauses, StandsStill, IsComplete}

@@ -9,7 +9,7 @@ use Rattle.std.proofs.lemmas.List.Elements.{All-nil, All-push}
 use Rattle.frame_link.specs.declared.outcome.Outcome.{Outcome}
 use Rattle.frame_link.specs.declared.outcome.Outcome.TheVariants.{End, Truncated, TooLong, ReadFault, WriteFault, ClockFault, Spent, NoMemory}
 use Rattle.frame_link.specs.Frames.{frame, framed, IsPart, in_word, IsTooLong, Splits}
-use Rattle.taos_node.specs.Opening.{Opening}
+use Rattle.node_file.specs.Opening.{Opening}
 use Rattle.taos_wire.specs.Reply.{spelling}
 use Rattle.taos_node.specs.Run.{max_request, Turn, IsCourse, frames_of, readings_of, replies_of, Gave, AreTurns, EndsAs, IsWritten, IsConnection}
 use Rattle.taos_node.specs.Serving.{Progress, EndsInReply, EndsAtClock, Serves}

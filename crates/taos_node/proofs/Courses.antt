@@ -10,7 +10,7 @@ use Rattle.taos_wire.specs.Request.{Request, subject_of}
 use Rattle.taos_wire.specs.Reply.{Reply, NoMemory, Sent, sealed, sent, spelling}
 use Rattle.taos_node.specs.declared.asking.Asking.{Asking}
 use Rattle.taos_node.specs.Asking.{StandsFor, certs_of, content_of, list_of}
-use Rattle.taos_node.specs.Opening.{Opening}
+use Rattle.node_file.specs.Opening.{Opening}
 use Rattle.taos_node.specs.Course.{Arrival, HasArrived, Course, ruled, unruled}
 use Rattle.taos_node.specs.Meaning.{object}
 use Rattle.taos_node.specs.Ruling.{IsAnswered, IsRuled, Leaves}

@@ -1,10 +1,3 @@
-pub mod OpeningFields
-pub mod OpeningCommons
-pub mod OpeningObjects
-pub mod OpeningLaws
-pub mod Lookups
-pub mod Whole
-pub mod Listed
 pub mod Presenting
 pub mod Ruled
 pub mod Denials

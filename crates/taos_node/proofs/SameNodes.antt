@@ -1,45 +1,22 @@
 -- Two openings in which each look-up finds the same have the same courses.
-use Rattle.std.proofs.Common.{◌≡◌, ◌≤◌, ℕ, List, [], ◌∷◌, length, Some, Result, Ok, Err, true, false, Bool, cond, sym, ap, subst, ◌∙◌, arith, inl, inr}
-use Rattle.std.specs.Prelude.{Option, All, IfOk, find, slice_index_or}
-use Rattle.std.proofs.lemmas.List.Elements.{All-head, All-tail, Contains-get_or}
-use Rattle.std.proofs.lemmas.Option.{none-some, same_Some}
+use Rattle.std.proofs.Common.{◌≡◌, ℕ, List, length, sym, ap, subst, ◌∙◌, arith, inl, inr}
+use Rattle.std.specs.Prelude.{Option, slice_index_or}
 use Rattle.object_core.specs.Operation.{right_of}
 use Rattle.prin_term.specs.declared.term.Anchor.{Anchor}
-use Rattle.prin_term.specs.View.{Grant}
 use Rattle.frame_link.specs.declared.outcome.Outcome.{Outcome}
 use Rattle.frame_link.specs.declared.outcome.Outcome.TheVariants.{End, Truncated, TooLong, ReadFault, WriteFault, ClockFault, Spent, NoMemory}
-use Rattle.taos_calculus.specs.Rules.{SpeaksFor, Proves}
-use Rattle.taos_calculus.specs.Monitor.{FirstEntry, Grants, MaySpeak}
+use Rattle.stmt_codec.specs.Certificates.{Certificate}
 use Rattle.taos_wire.specs.Request.{Request, subject_of}
-use Rattle.taos_node.specs.declared.opening.Opening as code
-use Rattle.taos_node.specs.declared.opening.OpeningFault.{OpeningFault}
-use Rattle.prin_term.specs.Principal.{Principal, Key, Name, And, Quoting, InRole, For}
-use Rattle.taos_calculus.specs.Atoms.{IsAtom}
-use Rattle.taos_node.specs.Command.{IsUnbuiltOpening}
-use Rattle.taos_node.specs.Opening.{Opening, ObjectPlan, Spells, FitsOpening, FitsObject, plan_of}
-use Rattle.taos_node.specs.OpeningView.{Represents}
 use Rattle.taos_wire.specs.Reply.{Sent}
-use Rattle.taos_node.specs.Meaning.{opening, IsServable, SameNode}
-use Rattle.taos_node.specs.Course.{IsAsked, IsBuilt, HasArrived, Arrival, Course, malformed, unknown_channel, bad_seal, unbuilt, unknown_object, granted, denied, unread, unasked, unruled}
+use Rattle.node_file.specs.declared.opening.Opening as code
+use Rattle.node_file.specs.Opening.{Opening, ObjectPlan}
+use Rattle.node_file.specs.OpeningView.{Represents}
+use Rattle.taos_node.specs.Command.{IsUnbuiltOpening}
+use Rattle.taos_node.specs.Meaning.{opening, SameNode}
+use Rattle.taos_node.specs.Presented.{AreOpened, IsFirstRefused}
+use Rattle.taos_node.specs.Ruling.{IsRuled}
+use Rattle.taos_node.specs.Course.{IsAsked, IsBuilt, IsOpened, HasArrived, Arrival, Course, malformed, unknown_channel, bad_seal, unbuilt, cert_refused, unknown_object, ruled, unread, unasked, unruled}
 use Rattle.taos_node.specs.Run.{Turn, AreTurns, IsConnection}
-use Rattle.taos_node.proofs.Listed.{plan_of-listed}
-
-pub same_node : (node : code.Opening) (o : Opening) → Represents node o → SameNode (opening node) o
-same_node node o r = record {
-  relay_key = r.relay_key;
-  channels = r.channels.each;
-  anchors = r.anchors;
-  objects = λ n. plan_of-listed node.objects.entries n ∙ r.objects.each n;
-}
-
-found_at : {A : Type 0} (P : A → Type 0) (test : A → Bool) (y : A) (xs : List A) (x : A) (b : Bool) → All P (y ∷ xs) → cond b (Some y) (find test xs) ≡ Some x → (find test xs ≡ Some x → P x) → P x
-found_at P test y xs x true all is later = subst P (same_Some y x is) (All-head P y xs all)
-found_at P test y xs x false all is later = later is
-
--- what is found passes what all do
-found_all : {A : Type 0} (P : A → Type 0) (test : A → Bool) (xs : List A) (x : A) → All P xs → find test xs ≡ Some x → P x
-found_all P test [] x all is = absurd (none-some x is)
-found_all P test (y ∷ xs) x all is = found_at P test y xs x (test y) all is (λ e. found_all P test xs x (All-tail P y xs all) e)
 
 -- ---- what is built
 
@@ -53,17 +30,6 @@ unbuilt_there node o r = unbuilt_by (opening node) o r.shards (ap length r.commo
 
 pub unbuilt_here : (node : code.Opening) (o : Opening) → Represents node o → IsUnbuiltOpening o → IsUnbuiltOpening (opening node)
 unbuilt_here node o r = unbuilt_by o (opening node) (sym r.shards) (ap length (sym r.commons))
-
-pub is_servable : (node : code.Opening) (o : Opening) → Represents node o → FitsOpening o → IsServable (opening node)
-is_servable node o r fits = record {
-  few_anchors = subst (λ (l : List Anchor). length l ≤ 64) (sym r.anchors) fits.few_anchors;
-  objects = λ n p is. found_all FitsObject _ o.objects p fits.objects (sym ((same_node node o r).objects n) ∙ is);
-}
-
-pub are_servable : (bytes : List ℕ) (r : Result code.Opening OpeningFault) → IfOk r (λ x. (o : Opening) × Spells o bytes × Represents x o)
-    → IfOk r (λ x. IsServable (opening x))
-are_servable bytes (Ok x) found = is_servable x found.0 found.2 found.1.0
-are_servable bytes (Err e) found = tt
 
 flipped : (a b : Opening) → SameNode a b → SameNode b a
 flipped a b same = record { relay_key = sym same.relay_key; channels = λ n. sym (same.channels n); anchors = sym same.anchors; objects = λ n. sym (same.objects n) }

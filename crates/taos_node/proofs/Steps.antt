@@ -11,7 +11,7 @@ use Rattle.frame_link.specs.declared.frame.Next.TheVariants as next
 use Rattle.frame_link.specs.Frames.{frame, framed}
 use Rattle.frame_link.specs.Next as link
 use Rattle.frame_link.specs.Readings.{Shows, ShowsKnown}
-use Rattle.taos_node.specs.Opening.{Opening}
+use Rattle.node_file.specs.Opening.{Opening}
 use Rattle.taos_wire.specs.Reply.{spelling}
 use Rattle.taos_node.specs.Run.{max_request, Turn, IsCourse, frames_of, readings_of, replies_of, Gave}
 use Rattle.taos_node.specs.Serving.{Takes, IsUnanswered, Progress, EndsWith, EndsAtClock}

@@ -13,7 +13,7 @@ use Rattle.taos_calculus.specs.Question.{IsSubject, Question, question_of}
 use Rattle.taos_wire.specs.Request.{Request, subject_of}
 use Rattle.taos_wire.specs.View.{cited as shared}
 use Rattle.taos_node.specs.declared.asking.Asking.{Asking}
-use Rattle.taos_node.specs.Opening.{Opening}
+use Rattle.node_file.specs.Opening.{Opening}
 use Rattle.taos_node.specs.Course.{HasArrived}
 use Rattle.taos_node.specs.Meaning.{object}
 use Rattle.taos_node.specs.Ruling.{marks_of}

@@ -20,11 +20,11 @@ use Rattle.taos_node.specs.declared.ending.Ending.TheVariants.{Usage, File, Serv
 use Rattle.taos_node.specs.Ending.{status_of}
 use Rattle.taos_node.specs.Notes.{note_of, IsNoted}
 use Rattle.taos_node.specs.declared.command.Lane.{Lane}
-use Rattle.taos_node.specs.declared.opening.Opening as code
-use Rattle.taos_node.specs.declared.opening.OpeningFault.TheVariants.{Byte}
-use Rattle.taos_node.specs.OpeningReading.{opening_of}
-use Rattle.taos_node.specs.OpeningView.{Represents}
-use Rattle.taos_node.specs.Opening.{Opening, Spells}
+use Rattle.node_file.specs.declared.opening.Opening as code
+use Rattle.node_file.specs.declared.opening.OpeningFault.TheVariants.{Byte}
+use Rattle.node_file.specs.OpeningReading.{opening_of}
+use Rattle.node_file.specs.OpeningView.{Represents}
+use Rattle.node_file.specs.Opening.{Opening, Spells}
 use Rattle.taos_node.specs.Run.{IsConnection, StandsStill, max_request}
 
 abbrev pub IsRun : List (String Global) → Type 0

@@ -10,7 +10,7 @@ use Rattle.stmt_codec.specs.Certificates.{Certificate}
 use Rattle.taos_wire.specs.declared.fault.WireFault.TheVariants as wire
 use Rattle.taos_wire.specs.Request.{Request, Spells, IsSealed, subject_of}
 use Rattle.taos_wire.specs.RequestReading.{request_of}
-use Rattle.taos_node.specs.Opening.{Opening, ObjectPlan, plan_of}
+use Rattle.node_file.specs.Opening.{Opening, ObjectPlan, plan_of}
 use Rattle.taos_wire.specs.Reply.{Reply, Malformed, UnknownChannel, BadSeal, CertRefused, UnknownObject, NoMemory, Unbuilt, Sent, sealed, unsealed}
 use Rattle.taos_node.specs.Presented.{IsIssued, AreOpened, IsFirstRefused}
 use Rattle.taos_node.specs.Ruling.{IsRuled}

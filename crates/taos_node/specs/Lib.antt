@@ -1,4 +1,3 @@
-pub mod Opening
 pub mod Course
 pub mod Run
 pub mod Meaning
@@ -9,5 +8,3 @@ pub mod Serving
 pub mod Ending
 pub mod Notes
 pub mod Command
-pub mod OpeningReading
-pub mod OpeningView

@@ -13,7 +13,7 @@ use Rattle.frame_link.specs.declared.outcome.Outcome.TheVariants.{End, Truncated
 use Rattle.frame_link.specs.Faults.{Rose}
 use Rattle.frame_link.specs.Frames.{frame, framed, IsPart, Splits}
 use Rattle.frame_link.specs.Readings.{ShowsKnown}
-use Rattle.taos_node.specs.Opening.{Opening}
+use Rattle.node_file.specs.Opening.{Opening}
 use Rattle.taos_wire.specs.Reply.{Sent, spelling}
 use Rattle.taos_node.specs.Course.{Arrival, Course}
 

@@ -13,7 +13,7 @@ use Rattle.taos_node.specs.declared.answering.Handled.{Handled}
 use Rattle.taos_node.specs.declared.answering.Handled.TheVariants as handled
 use Rattle.taos_node.specs.declared.connection.Turned.{Turned}
 use Rattle.taos_node.specs.declared.connection.Turned.TheVariants as turned
-use Rattle.taos_node.specs.Opening.{Opening}
+use Rattle.node_file.specs.Opening.{Opening}
 use Rattle.taos_wire.specs.Reply.{Sent, spelling}
 use Rattle.taos_node.specs.Course.{Arrival, Course}
 use Rattle.taos_node.specs.Run.{max_request, Turn, IsCourse, frames_of, readings_of, replies_of, Gave}

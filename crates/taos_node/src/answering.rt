@@ -4,11 +4,11 @@ ghost use Rattle.std.specs.Prelude.{◌<◌, ◌^◌, [], IfErr, IfOk, length};
 ghost use Rattle.taos_wire.specs.View.{request};
 ghost use Rattle.taos_wire.specs.Reply.{unsealed};
 ghost use Rattle.taos_node.specs.Course.{Course, IsAsked};
-ghost use Rattle.taos_node.specs.Meaning.{opening, refusal, IsServable};
+ghost use Rattle.taos_node.specs.Meaning.{opening, refusal, FitsByNumber};
 ghost use Rattle.taos_node.specs.Serving.{Answers, AnswersCause};
 
 use crate::asking::arrive;
-use crate::opening::Opening;
+use node_file::Opening;
 use crate::reply::{Refusal, ReplyBuf};
 use crate::ruling::rule;
 use frame_link::Clock;
@@ -68,7 +68,7 @@ pub fn answer<C: Clock, D: Decide>(
     bench: &mut D,
     out: &mut ReplyBuf,
 ) -> Handled
-    requires node { IsServable (opening node.now) }
+    requires node { FitsByNumber (opening node.now) }
     requires short { length payload.now < 2 ^ 32 }
     ensures steps { Answers (opening node.now) payload.now
         (C.readings clock.old) (C.readings clock.new) out.new result }

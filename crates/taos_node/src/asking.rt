@@ -10,9 +10,9 @@ ghost use Rattle.taos_wire.specs.Reply.{sealed};
 ghost use Rattle.taos_wire.specs.View.{request};
 ghost use Rattle.taos_node.specs.Asking.{IsServed, StandsFor};
 ghost use Rattle.taos_node.specs.Course.{Course, IsAsked, IsUnbuilt};
-ghost use Rattle.taos_node.specs.Meaning.{opening, refusal, IsServable};
+ghost use Rattle.taos_node.specs.Meaning.{opening, refusal, FitsByNumber};
 
-use crate::opening::{ObjectPlan, Opening};
+use node_file::{ObjectPlan, Opening};
 use crate::presented::{has_issued, open_all};
 use crate::reply::Refusal;
 use object_core::{Op, right_of};
@@ -62,7 +62,7 @@ fn subject_of(alloc: Global, channel: u32, quoted: Option<Term>) -> Result<Term,
 
 /// What a sealed request asks of its object; or what is answered under the same key.
 pub fn arrive<'a>(alloc: Global, node: &'a Opening, asked: Request) -> Result<Asking<'a>, Refusal>
-    requires { IsServable (opening node.now) }
+    requires { FitsByNumber (opening node.now) }
     ensures arrived { IfOk result (λ a. (payload key : List ℕ)
         → IsAsked (opening node.now) payload (request asked) key
         → StandsFor (opening node.now) payload key (request asked) a × IsServed a) }

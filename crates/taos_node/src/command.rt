@@ -2,7 +2,7 @@
 
 ghost use Rattle.std.specs.Prelude.{◌≡◌, ◌⊎◌, ◌↔◌, ◌<◌, ◌≤◌, length, IsTrue, IfOk};
 ghost use Rattle.frame_link.specs.Faults.{Rose};
-ghost use Rattle.taos_node.specs.Meaning.{opening, IsServable};
+ghost use Rattle.taos_node.specs.Meaning.{opening, FitsByNumber};
 ghost use Rattle.taos_node.specs.Run.{IsConnection, HasCauses, IsComplete};
 ghost use Rattle.taos_node.specs.Ending.{status_of};
 ghost use Rattle.taos_node.specs.Command.{IsRun, IsUnbuiltOpening, Runs, Ends, FileReads, FileGives, FileHasCause, FileDecides, EndsWell, TellsFaults, told_by_first, faults_of_first};
@@ -10,8 +10,8 @@ ghost use Rattle.taos_node.specs.Command.{IsRun, IsUnbuiltOpening, Runs, Ends, F
 use crate::connection::serve_connection;
 use crate::ending::{Ending, FileFault, status_of};
 use crate::note::tell;
-use crate::opening::{Opening, OpeningFault, read_opening};
 use frame_link::{Clock, Door, Failed, Outcome, RelayLink, Sink, Source, fill};
+use node_file::{Opening, OpeningFault, read_opening};
 use std::alloc::{AllocError, Global};
 use std::sync::Wait;
 use std::thread::Threads;
@@ -61,8 +61,7 @@ fn zeros(alloc: Global, len: usize) -> Result<Vec<u8>, AllocError>
 // The opening that a file spells.
 fn file_opening<F: Source>(alloc: Global, file: &mut F) -> Result<Opening, FileFault>
     ensures reads { FileReads (F.left file.old) (F.left file.new) result }
-    ensures servable { IfOk result
-        (λ node. (IsUnbuiltOpening (opening node) → ⊥) → IsServable (opening node)) }
+    ensures servable { IfOk result (λ node. FitsByNumber (opening node)) }
     ensures cause { FileHasCause (F.faults file.old) (F.faults file.new) result }
 {
     let Ok(mut room) = zeros(alloc, MAX_FILE + 1) else {
@@ -81,14 +80,21 @@ fn file_opening<F: Source>(alloc: Global, file: &mut F) -> Result<Opening, FileF
     }
 }
 
+// Whether what an opening asks for is built: one shard, and no certificates in common.
+fn is_built(node: &Opening) -> bool
+    ensures { IsTrue result ↔ ¬ (IsUnbuiltOpening (opening node.now)) }
+{
+    node.shards == 1 && node.commons.is_empty()
+}
+
 // The same, where it is built.
 fn opening_of<F: Source>(alloc: Global, file: &mut F) -> Result<Opening, FileFault>
     ensures gives { FileGives (F.left file.old) (F.left file.new) result }
-    ensures servable { IfOk result (λ node. IsServable (opening node)) }
+    ensures servable { IfOk result (λ node. FitsByNumber (opening node)) }
     ensures cause { FileHasCause (F.faults file.old) (F.faults file.new) result }
 {
     let opening = file_opening(alloc, file)?;
-    if opening.is_built() {
+    if is_built(&opening) {
         Ok(opening)
     } else {
         Err(FileFault::Unbuilt)
@@ -110,7 +116,7 @@ fn serve<I: Source, O: Sink, C: Clock, R: RelayLink, D: Door>(
     lanes: &mut [Lane<C, R, D>],
 ) -> Outcome
     requires some { 0 < length lanes.old }
-    requires node { IsServable (opening node.now) }
+    requires node { FitsByNumber (opening node.now) }
     ensures connection { IsConnection (opening node.now) MAX_FRAMES
         (I.left input.old) (I.left input.new) (O.written output.old) (O.written output.new)
         (told_by_first C.readings lanes.old) (told_by_first C.readings lanes.new) result }

@@ -1,16 +1,16 @@
 //! A connection: one reply frame for each request frame, in order.
 
 ghost use Rattle.std.specs.Prelude.{◌≡◌, ◌≤◌, IfOk, length};
-ghost use Rattle.taos_node.specs.Meaning.{opening, IsServable};
+ghost use Rattle.taos_node.specs.Meaning.{opening, FitsByNumber};
 ghost use Rattle.taos_node.specs.Serving.{Turns, TurnsCause, Serves};
 ghost use Rattle.taos_node.specs.Run.{IsConnection, HasCauses, IsComplete};
 
 use crate::answering::{Handled, answer};
-use crate::opening::Opening;
 use crate::reply::ReplyBuf;
 use frame_link::{
     Clock, Failed, FrameBuf, Next, Outcome, Put, Sink, Source, next_frame, put_frame,
 };
+use node_file::Opening;
 use std::alloc::{AllocError, Global};
 use taos_calculus::Decide;
 
@@ -35,7 +35,7 @@ fn turn<O: Sink, C: Clock, D: Decide>(
     clock: &mut C,
     bench: &mut D,
 ) -> Turned
-    requires node { IsServable (opening node.now) }
+    requires node { FitsByNumber (opening node.now) }
     requires short { length payload.now ≤ MAX_REQUEST }
     ensures steps { Turns (opening node.now) payload.now
         (O.written output.old) (O.written output.new) (C.readings clock.old) (C.readings clock.new)
@@ -69,7 +69,7 @@ fn serve_frames<I: Source, O: Sink, C: Clock, D: Decide>(
     clock: &mut C,
     bench: &mut D,
 ) -> Outcome
-    requires { IsServable (opening node.now) }
+    requires { FitsByNumber (opening node.now) }
     ensures served { Serves (opening node.now) frames (I.left input.old) (I.left input.new)
         (O.written output.old) (O.written output.new) (C.readings clock.old) (C.readings clock.new)
         result }
@@ -121,7 +121,7 @@ pub fn serve_connection<I: Source, O: Sink, C: Clock, D: Decide>(
     clock: &mut C,
     bench: &mut D,
 ) -> Outcome
-    requires { IsServable (opening node.now) }
+    requires { FitsByNumber (opening node.now) }
     ensures connection { IsConnection (opening node.now) frames
         (I.left input.old) (I.left input.new) (O.written output.old) (O.written output.new)
         (C.readings clock.old) (C.readings clock.new) result }

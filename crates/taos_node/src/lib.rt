@@ -1,4 +1,4 @@
-//! The node: its opening, the course of a request, connections, and the top call.
+//! The node: the course of a request, connections, and the top call.
 #![tactic(auto)]
 
 mod answering;
@@ -7,7 +7,6 @@ mod command;
 mod connection;
 mod ending;
 mod note;
-mod opening;
 mod presented;
 mod reply;
 mod ruling;
@@ -17,8 +16,8 @@ pub use command::{Lane, MAX_FILE, MAX_FRAMES, taos};
 pub use connection::{MAX_REQUEST, serve_connection};
 pub use ending::{Ending, FileFault, status_of};
 pub use frame_link::Outcome;
+pub use node_file::{ObjectPlan, Opening, OpeningFault, one_opening, read_opening};
 pub use note::tell;
-pub use opening::{ObjectPlan, Opening, OpeningFault, one_opening, read_opening};
 pub use reply::{Refusal, ReplyBuf};
 
 #[cfg(test)]

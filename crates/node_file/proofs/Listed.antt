@@ -1,0 +1,64 @@
+-- What the program's opening holds, by its numbers.
+use Rattle.std.proofs.Common.{◌≡◌, ◌≤◌, ℕ, List, [], ◌∷◌, map, length, Some, Result, Ok, Err, true, false, Bool, refl, ap, sym, subst, ◌∙◌}
+use Rattle.std.specs.Prelude.{Option, option_map, ◌==◌, cond, All, IfOk, find}
+use Rattle.std.specs.Ordering.{is_eq, nat_cmp}
+use Rattle.std.specs.Map.{lookup}
+use Rattle.std.specs.Cmp.{unsigned_tied}
+use Rattle.std.proofs.lemmas.Cmp.{nat_eq_equiv}
+use Rattle.std.proofs.lemmas.Bool.{eqb-true}
+use Rattle.std.proofs.lemmas.List.Elements.{All-head, All-tail}
+use Rattle.std.proofs.lemmas.Option.{none-some, same_Some}
+use Rattle.prin_term.specs.declared.term.Anchor.{Anchor}
+use Rattle.node_file.specs.declared.opening.Opening as code
+use Rattle.node_file.specs.declared.opening.ObjectPlan.{ObjectPlan}
+use Rattle.node_file.specs.declared.opening.OpeningFault.{OpeningFault}
+use Rattle.node_file.specs.declared.opening.TheConstants.{MAX_ANCHORS}
+use Rattle.node_file.specs.Opening as plain
+use Rattle.node_file.specs.Opening.{Opening, Spells, FitsOpening, FitsObject, plan_of}
+use Rattle.node_file.specs.OpeningView.{Represents}
+use Rattle.node_file.specs.Meaning.{object, opening, FitsByNumber, SameNode}
+
+abbrev pub listed : List (ℕ × ObjectPlan) → List plain.ObjectPlan
+listed entries = map (λ e. object e.0 e.1) entries
+
+step : (b : Bool) (e : ℕ × ObjectPlan) (number : ℕ) (rest : Option plain.ObjectPlan) (found : Option ObjectPlan) → b ≡ (e.0 == number) → rest ≡ option_map (object number) found →
+    cond b (Some (object e.0 e.1)) rest ≡ option_map (object number) (cond b (Some e.1) found)
+step true e number rest found is same = ap (λ (n : ℕ). Some (object n e.1)) (eqb-true e.0 number (sym is))
+step false e number rest found is same = same
+
+-- the map's look-up, as the list's
+pub plan_of-listed : (entries : List (ℕ × ObjectPlan)) (number : ℕ) → plan_of (listed entries) number ≡ option_map (object number) (lookup (λ k. is_eq (nat_cmp number k)) entries)
+plan_of-listed [] number = refl
+plan_of-listed (e ∷ entries) number =
+    step (e.0 == number) e number (plan_of (listed entries) number) (lookup (λ k. is_eq (nat_cmp number k)) entries) refl (plan_of-listed entries number)
+    ∙ ap (λ (b : Bool). option_map (object number) (cond b (Some e.1) (lookup (λ k. is_eq (nat_cmp number k)) entries))) (sym (unsigned_tied number e.0 ∙ nat_eq_equiv.symm number e.0))
+
+-- ---- what the opening stands for
+
+pub same_node : (node : code.Opening) (o : Opening) → Represents node o → SameNode (opening node) o
+same_node node o r = record {
+  relay_key = r.relay_key;
+  channels = r.channels.each;
+  anchors = r.anchors;
+  objects = λ n. plan_of-listed node.objects.entries n ∙ r.objects.each n;
+}
+
+found_at : {A : Type 0} (P : A → Type 0) (test : A → Bool) (y : A) (xs : List A) (x : A) (b : Bool) → All P (y ∷ xs) → cond b (Some y) (find test xs) ≡ Some x → (find test xs ≡ Some x → P x) → P x
+found_at P test y xs x true all is later = subst P (same_Some y x is) (All-head P y xs all)
+found_at P test y xs x false all is later = later is
+
+-- what is found passes what all do
+found_all : {A : Type 0} (P : A → Type 0) (test : A → Bool) (xs : List A) (x : A) → All P xs → find test xs ≡ Some x → P x
+found_all P test [] x all is = absurd (none-some x is)
+found_all P test (y ∷ xs) x all is = found_at P test y xs x (test y) all is (λ e. found_all P test xs x (All-tail P y xs all) e)
+
+fits_by_number : (node : code.Opening) (o : Opening) → Represents node o → FitsOpening o → FitsByNumber (opening node)
+fits_by_number node o r fits = record {
+  few_anchors = subst (λ (l : List Anchor). length l ≤ MAX_ANCHORS) (sym r.anchors) fits.few_anchors;
+  objects = λ n p is. found_all FitsObject _ o.objects p fits.objects (sym ((same_node node o r).objects n) ∙ is);
+}
+
+pub all_fit : (bytes : List ℕ) (r : Result code.Opening OpeningFault) → IfOk r (λ x. (o : Opening) × Spells o bytes × Represents x o)
+    → IfOk r (λ x. FitsByNumber (opening x))
+all_fit bytes (Ok x) found = fits_by_number x found.0 found.2 found.1.0
+all_fit bytes (Err e) found = tt

@@ -1,0 +1,118 @@
+-- Look-ups by number, in a list and in what the program keeps in its place.
+use Rattle.std.proofs.Common.{◌≡◌, ℕ, ◌+◌, Bool, true, false, cond, eqb, not, ◌||◌, List, [], ◌∷◌, ◌++◌, Option, Some, None, Ok, Err, refl, sym, ap, ◌∙◌, arith, inl, inr, length-append}
+use Rattle.std.specs.Prelude.{find}
+use Rattle.std.specs.BTreeMap.{BTreeMap, get, btree_map_len, Updates}
+use Rattle.std.specs.List.{list_any}
+use Rattle.std.specs.Option.{is_some, option_map}
+use Rattle.std.specs.Ordering.{nat_cmp}
+use Rattle.std.specs.Int.{w32}
+use Rattle.std.proofs.lemmas.Bool.{cases_eq}
+use Rattle.std.proofs.lemmas.Bool.Decides.{nat_tests}
+use Rattle.keyed_seal.specs.Keys.{Keys, AddsKey}
+use Rattle.prin_term.specs.Steps.{number_at}
+use Rattle.node_file.specs.declared.opening.ObjectPlan as code
+use Rattle.node_file.specs.declared.opening.OpeningFault.TheVariants.{Byte}
+use Rattle.node_file.specs.Opening.{ObjectPlan, key_of}
+use Rattle.node_file.specs.OpeningReading.{ended, new_channel_at, new_object_at}
+use Rattle.node_file.specs.OpeningView.{HoldsKeys, HoldsPlans, plan}
+
+-- ---- the first that passes a test
+
+some_by : {A : Type 0} (x : A) (r : Option A) (rest : Bool) (b : Bool) → is_some r ≡ rest → is_some (cond b (Some x) r) ≡ (b || rest)
+some_by x r rest true e = refl
+some_by x r rest false e = e
+
+pub is_some-find : {A : Type 0} (test : A → Bool) (xs : List A) → is_some (find test xs) ≡ list_any test xs
+is_some-find test [] = refl
+is_some-find test (x ∷ xs) = some_by x (find test xs) (list_any test xs) (test x) (is_some-find test xs)
+
+find_past : {A : Type 0} (x : A) (r s : Option A) (b : Bool) → r ≡ s → cond b (Some x) r ≡ cond b (Some x) s
+find_past x r s true e = refl
+find_past x r s false e = e
+
+-- one more item that does not pass
+pub find-push_other : {A : Type 0} (test : A → Bool) (xs : List A) (x : A) → test x ≡ false → find test (xs ++ x ∷ []) ≡ find test xs
+find-push_other test [] x other = rw other refl
+find-push_other test (y ∷ xs) x other = find_past y (find test (xs ++ x ∷ [])) (find test xs) (test y) (find-push_other test xs x other)
+
+find_here : {A : Type 0} (y x : A) (r : Option A) (rest b : Bool) → (b || rest) ≡ false → (rest ≡ false → r ≡ Some x) → cond b (Some y) r ≡ Some x
+find_here y x r rest true e later = absurd cc
+find_here y x r rest false e later = later e
+
+-- one more item that is the first to pass
+pub find-push_here : {A : Type 0} (test : A → Bool) (xs : List A) (x : A) → list_any test xs ≡ false → test x ≡ true → find test (xs ++ x ∷ []) ≡ Some x
+find-push_here test [] x none here = rw here refl
+find-push_here test (y ∷ xs) x none here = find_here y x (find test (xs ++ x ∷ [])) (list_any test xs) (test y) none (λ later. find-push_here test xs x later here)
+
+pub some_map : {A B : Type 0} (f : A → B) (o : Option A) → is_some (option_map f o) ≡ is_some o
+some_map f None = refl
+some_map f (Some x) = refl
+
+turned : {A : Type 0} (b : Bool) (x y : A) → cond (not b) x y ≡ cond b y x
+turned true x y = refl
+turned false x y = refl
+
+-- ---- channels
+
+pub is_some-key_of : (keys : List (ℕ × List ℕ)) (n : ℕ) → is_some (key_of keys n) ≡ list_any (λ (k : ℕ × List ℕ). eqb k.0 n) keys
+is_some-key_of [] n = refl
+is_some-key_of (k ∷ keys) n = some_by k.1 (key_of keys n) (list_any (λ (k : ℕ × List ℕ). eqb k.0 n) keys) (eqb k.0 n) (is_some-key_of keys n)
+
+-- one more key, of another number
+pub key_of-push_other : (keys : List (ℕ × List ℕ)) (number : ℕ) (key : List ℕ) (n : ℕ) → eqb number n ≡ false → key_of (keys ++ (number, key) ∷ []) n ≡ key_of keys n
+key_of-push_other [] number key n other = rw other refl
+key_of-push_other (k ∷ keys) number key n other = find_past k.1 (key_of (keys ++ (number, key) ∷ []) n) (key_of keys n) (eqb k.0 n) (key_of-push_other keys number key n other)
+
+-- one more key, the first of its number
+pub key_of-push_here : (keys : List (ℕ × List ℕ)) (number : ℕ) (key : List ℕ) (n : ℕ) → list_any (λ (k : ℕ × List ℕ). eqb k.0 n) keys ≡ false → eqb number n ≡ true → key_of (keys ++ (number, key) ∷ []) n ≡ Some key
+key_of-push_here [] number key n none here = rw here refl
+key_of-push_here (k ∷ keys) number key n none here = find_here k.1 key (key_of (keys ++ (number, key) ∷ []) n) (list_any (λ (k : ℕ × List ℕ). eqb k.0 n) keys) (eqb k.0 n) none (λ later. key_of-push_here keys number key n later here)
+
+-- the number of a channel is refused where the table has it
+pub channel_number : (bytes : List ℕ) (before : List (ℕ × List ℕ)) (at : ℕ) (table : Keys) (x : ℕ × ℕ) (b : Bool) → HoldsKeys table before → number_at (ended bytes) w32 bytes at ≡ Ok x → is_some (key_of table.entries x.0) ≡ b
+    → new_channel_at bytes before at ≡ cond b (Err (Byte at)) (Ok x)
+unfolding new_channel_at
+channel_number bytes before at table x b held read is =
+    let there : list_any (λ (k : ℕ × List ℕ). eqb k.0 x.0) before ≡ b = sym (is_some-key_of before x.0) ∙ ap is_some (sym (held.each x.0)) ∙ is in
+    rw (read, there) (turned b (Ok x) (Err (Byte at)))
+
+pub adds_key : (old new : Keys) (keys : List (ℕ × List ℕ)) (number : ℕ) (key : List ℕ) → HoldsKeys old keys → key_of old.entries number ≡ None → AddsKey old new number key → HoldsKeys new (keys ++ (number, key) ∷ [])
+adds_key old new keys number key held is_new adds = record {
+  each = λ n. elim (cases_eq n number) [
+    | inl same ↦
+        let none : list_any (λ (k : ℕ × List ℕ). eqb k.0 n) keys ≡ false = sym (is_some-key_of keys n) ∙ ap is_some (sym (held.each n) ∙ ap (key_of old.entries) same ∙ is_new) in
+        let here : eqb number n ≡ true = grind (arith, nat_tests, same) in
+        ap (key_of new.entries) same ∙ adds.this_key ∙ sym (key_of-push_here keys number key n none here)
+    | inr other ↦
+        let there : eqb number n ≡ false = grind (arith, nat_tests, other) in
+        adds.other_keys n other ∙ held.each n ∙ sym (key_of-push_other keys number key n there)
+  ];
+  count = omega (arith, adds.count, held.count, length-append keys ((number, key) ∷ []));
+}
+
+-- ---- objects
+
+-- the number of an object is refused where the map has it
+pub object_number : (bytes : List ℕ) (before : List ObjectPlan) (at : ℕ) (plans : BTreeMap ℕ code.ObjectPlan) (x : ℕ × ℕ) (b : Bool) → HoldsPlans plans before → number_at (ended bytes) w32 bytes at ≡ Ok x → is_some (get nat_cmp plans x.0) ≡ b
+    → new_object_at bytes before at ≡ cond b (Err (Byte at)) (Ok x)
+unfolding new_object_at
+object_number bytes before at plans x b held read is =
+    let there : list_any (λ (p : ObjectPlan). eqb p.number x.0) before ≡ b = sym (is_some-find (λ (p : ObjectPlan). eqb p.number x.0) before) ∙ ap is_some (sym (held.each x.0)) ∙ some_map (plan x.0) (get nat_cmp plans x.0) ∙ is in
+    rw (read, there) (turned b (Ok x) (Err (Byte at)))
+
+pub adds_plan : (old new : BTreeMap ℕ code.ObjectPlan) (plans : List ObjectPlan) (number : ℕ) (p : code.ObjectPlan) → HoldsPlans old plans → get nat_cmp old number ≡ None → Updates nat_cmp old new number (Some p) → btree_map_len new ≡ btree_map_len old + 1
+    → HoldsPlans new (plans ++ plan number p ∷ [])
+adds_plan old new plans number p held is_new updates one_more = record {
+  each = λ n. elim (cases_eq n number) [
+    | inl same ↦
+        let none : list_any (λ (q : ObjectPlan). eqb q.number n) plans ≡ false = sym (is_some-find (λ (q : ObjectPlan). eqb q.number n) plans) ∙ ap is_some (sym (held.each n) ∙ ap (option_map (plan n)) (ap (get nat_cmp old) same ∙ is_new)) in
+        let here : eqb number n ≡ true = grind (arith, nat_tests, same) in
+        let found : get nat_cmp new n ≡ Some p = ap (get nat_cmp new) same ∙ updates.1 in
+        let seen : option_map (plan n) (get nat_cmp new n) ≡ Some (plan n p) = ap (option_map (plan n)) found in
+        seen ∙ ap (λ (k : ℕ). Some (plan k p)) same ∙ sym (find-push_here (λ (q : ObjectPlan). eqb q.number n) plans (plan number p) none here)
+    | inr other ↦
+        let there : eqb number n ≡ false = grind (arith, nat_tests, other) in
+        ap (option_map (plan n)) (updates.2 n (grind (arith, nat_tests, other))) ∙ held.each n ∙ sym (find-push_other (λ (q : ObjectPlan). eqb q.number n) plans (plan number p) there)
+  ];
+  count = omega (arith, one_more, held.count, length-append plans (plan number p ∷ []));
+}

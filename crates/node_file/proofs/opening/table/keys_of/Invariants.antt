@@ -1,0 +1,16 @@
+use Rattle.std.proofs.Common.{◌≡◌, ◌≤◌, ℕ, List, [], length}
+use Rattle.node_file.specs.OpeningReading.{channel_at}
+use Rattle.node_file.specs.OpeningView.{HoldsKeys}
+use Rattle.prin_term.specs.Readers.{items_behind}
+use Rattle.prin_term.proofs.Loops.{IsSoFar}
+use Rattle.node_file.proofs.opening.table.keys_of.Given as goal
+
+abbrev pub invariant-loop : goal.invariant-loop
+invariant-loop l = record {
+  before : List (ℕ × List ℕ);
+  held : HoldsKeys l.table before;
+  so_far : IsSoFar (channel_at l.bytes) l.count l.counter before l.next (items_behind (channel_at l.bytes) l.count [] l.at);
+  within : l.next ≤ length l.bytes;
+  filled : length l.table.entries ≡ l.counter;
+  room : l.table.room ≡ l.count;
+}

@@ -1,0 +1,4 @@
+pub mod Opening
+pub mod OpeningReading
+pub mod OpeningView
+pub mod Meaning

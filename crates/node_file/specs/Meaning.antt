@@ -1,0 +1,36 @@
+-- What the program's opening means.
+--     object number p      the object of a number
+--     opening node      the opening that the program holds: its channels and objects by ascending number
+--     FitsByNumber o      what is looked up in it is within the limits
+--     SameNode a b      two openings in which each look-up finds the same
+use Rattle.std.specs.Prelude.{◌≡◌, ℕ, ◌≤◌, map, length, Some}
+use Rattle.keyed_seal.specs.Keys.{key_of}
+use Rattle.node_file.specs.declared.opening.Opening.{Opening}
+use Rattle.node_file.specs.declared.opening.TheConstants.{MAX_ANCHORS}
+use Rattle.node_file.specs.Opening as plain
+use Rattle.node_file.specs.Opening.{FitsObject, plan_of}
+use Rattle.node_file.specs.OpeningView.{common}
+pub use Rattle.node_file.specs.OpeningView.{plan as object}
+
+abbrev pub opening : Opening → plain.Opening
+opening node = record {
+  node = node.node;
+  relay_key = node.relay_key;
+  shards = node.shards;
+  keep = node.keep;
+  limit = node.limit;
+  channels = node.channels.entries;
+  anchors = node.anchors.items;
+  commons = map common node.commons.items;
+  objects = map (λ e. object e.0 e.1) node.objects.entries;
+}
+
+pub record FitsByNumber (o : plain.Opening) : Type 0 where
+  pub few_anchors : length o.anchors ≤ MAX_ANCHORS
+  pub objects : (number : ℕ) (p : plain.ObjectPlan) → plan_of o.objects number ≡ Some p → FitsObject p
+
+pub record SameNode (a b : plain.Opening) : Type 0 where
+  pub relay_key : a.relay_key ≡ b.relay_key
+  pub channels : (number : ℕ) → key_of a.channels number ≡ key_of b.channels number
+  pub anchors : a.anchors ≡ b.anchors
+  pub objects : (number : ℕ) → plan_of a.objects number ≡ plan_of b.objects number

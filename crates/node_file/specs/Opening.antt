@@ -1,0 +1,115 @@
+-- What a node is opened with, and the bytes of its binary form.
+--     ObjectPlan      a guarded object: its number, its content and its access list
+--     Opening      a node: its relay key, its shards, its channels' keys, its anchors, the certificates that it holds in common, and its objects
+--     opening_bytes o      its one spelling, the lists in their order
+--     FitsOpening o      its numbers are within the limits, and nothing stands twice
+--     Spells o bytes      the bytes are those of an opening within the limits
+--     key_of keys number, plan_of objects number      the channel's key, the object of a number
+use Rattle.std.specs.Prelude.{◌≡◌, ◌≢◌, ℕ, ◌+◌, ◌*◌, ◌^◌, ◌<◌, ◌≤◌, ◌==◌, List, ◌∷◌, ◌++◌, length, All, AllPairs, Option, find}
+use Rattle.std.specs.List.{flat_map}
+use Rattle.std.specs.Int.{w16, w32, w64, to_be_bytes}
+pub use Rattle.keyed_seal.specs.Keys.{key_of}
+use Rattle.object_core.specs.Operation.{IsByte, IsContent, IsAccessList}
+use Rattle.prin_term.specs.declared.term.Anchor.{Anchor}
+use Rattle.prin_term.specs.Steps.{counted}
+use Rattle.prin_term.specs.View.{Grant}
+use Rattle.sealed_cert.specs.declared.kind.TheConstants.{RELAYED}
+use Rattle.sealed_cert.specs.Seals.{sealed}
+use Rattle.stmt_codec.specs.Certificates.{Certificate, HasBodySpelling, IsWithinLimits}
+use Rattle.node_file.specs.declared.opening.TheConstants.{MAX_SHARDS, MAX_KEEP, MAX_LIMIT, MAX_CHANNELS, MAX_ANCHORS, MAX_COMMONS, MAX_OBJECTS, MAX_ROOM}
+use Rattle.taos_wire.specs.Request.{grant_bytes}
+
+pub record ObjectPlan : Type 0 where
+  pub number : ℕ
+  pub content : List ℕ
+  pub list : List Grant
+
+-- a channel is its number with its key
+pub record Opening : Type 0 where
+  pub node : ℕ
+  pub relay_key : List ℕ
+  pub shards : ℕ
+  pub keep : ℕ
+  pub limit : ℕ
+  pub channels : List (ℕ × List ℕ)
+  pub anchors : List Anchor
+  pub commons : List Certificate
+  pub objects : List ObjectPlan
+
+-- ---- bytes
+
+abbrev pub channel_bytes : ℕ × List ℕ → List ℕ
+channel_bytes c = to_be_bytes w32 c.0 ++ c.1
+
+abbrev pub anchor_bytes : Anchor → List ℕ
+anchor_bytes a = to_be_bytes w32 a.key ++ to_be_bytes w32 a.name
+
+-- a certificate under the relay's seal for this node, behind its length
+abbrev pub common_bytes : List ℕ → Certificate → List ℕ
+common_bytes relay_key c = counted w16 (sealed RELAYED relay_key c)
+
+-- the number, the content behind its length, and the entries behind their count
+abbrev pub object_bytes : ObjectPlan → List ℕ
+object_bytes p = to_be_bytes w32 p.number ++ counted w16 p.content ++ length p.list ∷ flat_map grant_bytes p.list
+
+-- the mark, the node's own fields, and four lists behind their counts
+abbrev pub opening_bytes : Opening → List ℕ
+opening_bytes o =
+    0 ∷ 1 ∷ to_be_bytes w32 o.node ++ o.relay_key ++ to_be_bytes w32 o.shards ++ to_be_bytes w64 o.keep ++ to_be_bytes w64 o.limit
+    ++ to_be_bytes w16 (length o.channels) ++ flat_map channel_bytes o.channels
+    ++ length o.anchors ∷ flat_map anchor_bytes o.anchors
+    ++ length o.commons ∷ flat_map (common_bytes o.relay_key) o.commons
+    ++ to_be_bytes w16 (length o.objects) ++ flat_map object_bytes o.objects
+
+-- ---- limits
+
+-- 32 bytes
+abbrev pub IsKey : List ℕ → Type 0
+IsKey key = (length key ≡ 32) × All IsByte key
+
+abbrev pub IsChannel : ℕ × List ℕ → Type 0
+IsChannel c = (c.0 < 2 ^ 32) × IsKey c.1
+
+abbrev pub IsAnchor : Anchor → Type 0
+IsAnchor a = (a.key < 2 ^ 32) × (a.name < 2 ^ 32)
+
+-- its numbers fit their fields, and its terms are within the limits
+abbrev pub IsCommon : Certificate → Type 0
+IsCommon c = HasBodySpelling c × IsWithinLimits c
+
+pub record FitsObject (p : ObjectPlan) : Type 0 where
+  pub number : p.number < 2 ^ 32
+  pub content : IsContent p.content
+  pub list : IsAccessList p.list
+
+-- the journals of all shards and objects have room for this many entries
+abbrev pub journal_room : Opening → ℕ
+journal_room o = (o.shards + length o.objects) * o.limit
+
+pub record FitsOpening (o : Opening) : Type 0 where
+  pub node : o.node < 2 ^ 32
+  pub relay_key : IsKey o.relay_key
+  pub shards : (1 ≤ o.shards) × (o.shards ≤ MAX_SHARDS)
+  pub keep : (1 ≤ o.keep) × (o.keep ≤ MAX_KEEP)
+  pub limit : (1 ≤ o.limit) × (o.limit ≤ MAX_LIMIT)
+  pub few_channels : length o.channels ≤ MAX_CHANNELS
+  pub channels : All IsChannel o.channels
+  pub each_channel_once : AllPairs (λ c d. c.0 ≢ d.0) o.channels
+  pub few_anchors : length o.anchors ≤ MAX_ANCHORS
+  pub anchors : All IsAnchor o.anchors
+  pub each_anchor_once : AllPairs (λ a b. a ≢ b) o.anchors
+  pub few_commons : length o.commons ≤ MAX_COMMONS
+  pub commons : All IsCommon o.commons
+  pub each_common_once : AllPairs (λ c d. c ≢ d) o.commons
+  pub few_objects : length o.objects ≤ MAX_OBJECTS
+  pub objects : All FitsObject o.objects
+  pub each_object_once : AllPairs (λ p q. p.number ≢ q.number) o.objects
+  pub room : journal_room o ≤ MAX_ROOM
+
+abbrev pub Spells : Opening → List ℕ → Type 0
+Spells o bytes = FitsOpening o × (bytes ≡ opening_bytes o)
+
+-- ---- what is looked up
+
+abbrev pub plan_of : List ObjectPlan → ℕ → Option ObjectPlan
+plan_of objects number = find (λ (p : ObjectPlan). p.number == number) objects

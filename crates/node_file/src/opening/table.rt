@@ -1,0 +1,139 @@
+//! The channels and the anchors of an opening.
+
+ghost use Rattle.std.specs.Prelude.{◌≡◌, ◌≤◌, ℕ, List, [], length, IfOk, None};
+ghost use Rattle.keyed_seal.specs.Keys.{key_of};
+ghost use Rattle.prin_term.specs.Steps.{Gives};
+ghost use Rattle.node_file.specs.declared.opening.OpeningFault.TheVariants.{NoMemory};
+ghost use Rattle.node_file.specs.OpeningReading.{new_channel_at, channel_at, channels_at, anchor_at, anchors_at};
+ghost use Rattle.node_file.specs.OpeningView.{Agrees, HoldsKeys, WithEnd};
+ghost use Rattle.prin_term.specs.Readers.{items_behind};
+
+use crate::opening::field::{ended, u8_count, u16_count};
+use crate::opening::{MAX_ANCHORS, MAX_CHANNELS, OpeningFault};
+use keyed_seal::KeyTable;
+use prin_term::Anchor;
+use prin_term::fields::{array_at, u32_at};
+use std::alloc::Global;
+
+// The number of a channel that is not there yet.
+#[tactic(auto, unfolding(crate::specs::OpeningReading::new_channel_at))]
+fn number_of(bytes: &[u8], at: usize, table: &KeyTable) -> Result<(u32, usize), OpeningFault>
+    requires { at ≤ length bytes.now }
+    ensures value { (before : List (ℕ × List ℕ)) → HoldsKeys table.now before
+        → result ≡ new_channel_at bytes.now before at }
+    ensures is_new { IfOk result (λ x. key_of table.now.entries x.0 ≡ None) }
+    ensures within { IfOk result (λ x. x.1 ≤ length bytes.now) }
+{
+    let (number, next) = u32_at(bytes, at, ended(bytes))?;
+    if table.get(number).is_some() {
+        return Err(OpeningFault::Byte { offset: at });
+    }
+    Ok((number, next))
+}
+
+// A channel that is not there yet.
+#[tactic(auto, unfolding(crate::specs::OpeningReading::channel_at))]
+fn channel_of(
+    bytes: &[u8],
+    at: usize,
+    table: &KeyTable,
+) -> Result<(u32, [u8; 32], usize), OpeningFault>
+    requires { at ≤ length bytes.now }
+    ensures value { (before : List (ℕ × List ℕ)) → HoldsKeys table.now before
+        → Gives NoMemory (λ x. ((x.0, x.1), x.2)) result (channel_at bytes.now before at) }
+    ensures is_new { IfOk result (λ x. key_of table.now.entries x.0 ≡ None) }
+    ensures within { IfOk result (λ x. x.2 ≤ length bytes.now) }
+{
+    let (number, next) = number_of(bytes, at, table)?;
+    let (key, next) = array_at::<32, _>(bytes, next, ended(bytes))?;
+    Ok((number, key, next))
+}
+
+// So many channels.
+fn keys_of(
+    alloc: Global,
+    bytes: &[u8],
+    at: usize,
+    count: u16,
+) -> Result<(KeyTable, usize), OpeningFault>
+    requires { at ≤ length bytes.now }
+    ensures value { Agrees (WithEnd HoldsKeys) result
+        (items_behind (channel_at bytes.now) count [] at) }
+    ensures within { IfOk result (λ x. x.1 ≤ length bytes.now) }
+{
+    let mut table = KeyTable::new(alloc, count as usize)?;
+    let mut next = at;
+    for _ in 0..count {
+        let (number, key, after) = channel_of(bytes, next, &table)?;
+        table.add(number, key).unwrap();
+        next = after;
+    }
+    Ok((table, next))
+}
+
+#[tactic(auto, unfolding(crate::specs::OpeningReading::channels_at))]
+pub(super) fn channels_of(
+    alloc: Global,
+    bytes: &[u8],
+    at: usize,
+) -> Result<(KeyTable, usize), OpeningFault>
+    requires { at ≤ length bytes.now }
+    ensures value { Agrees (WithEnd HoldsKeys) result (channels_at bytes.now at) }
+    ensures within { IfOk result (λ x. x.1 ≤ length bytes.now) }
+{
+    let (count, next) = u16_count(bytes, at, MAX_CHANNELS)?;
+    keys_of(alloc, bytes, next, count)
+}
+
+// An anchor that is not among those before.
+#[tactic(auto, unfolding(crate::specs::OpeningReading::anchor_at))]
+fn anchor_of(bytes: &[u8], at: usize, before: &[Anchor]) -> Result<(Anchor, usize), OpeningFault>
+    requires { at ≤ length bytes.now }
+    ensures value { result ≡ anchor_at bytes.now before.now at }
+    ensures within { IfOk result (λ x. x.1 ≤ length bytes.now) }
+{
+    let (key, next) = u32_at(bytes, at, ended(bytes))?;
+    let (name, next) = u32_at(bytes, next, ended(bytes))?;
+    let anchor = Anchor { key, name };
+    if before.contains(&anchor) {
+        Err(OpeningFault::Byte { offset: at })
+    } else {
+        Ok((anchor, next))
+    }
+}
+
+// So many anchors.
+fn names_of(
+    alloc: Global,
+    bytes: &[u8],
+    at: usize,
+    count: u8,
+) -> Result<(Vec<Anchor>, usize), OpeningFault>
+    requires { at ≤ length bytes.now }
+    ensures value { Gives NoMemory (λ x. (x.0.items, x.1)) result
+        (items_behind (anchor_at bytes.now) count [] at) }
+    ensures within { IfOk result (λ x. x.1 ≤ length bytes.now) }
+{
+    let mut anchors = Vec::with_capacity(alloc, count as usize)?;
+    let mut next = at;
+    for _ in 0..count {
+        let (anchor, after) = anchor_of(bytes, next, &anchors)?;
+        anchors.push(anchor)?;
+        next = after;
+    }
+    Ok((anchors, next))
+}
+
+#[tactic(auto, unfolding(crate::specs::OpeningReading::anchors_at))]
+pub(super) fn anchors_of(
+    alloc: Global,
+    bytes: &[u8],
+    at: usize,
+) -> Result<(Vec<Anchor>, usize), OpeningFault>
+    requires { at ≤ length bytes.now }
+    ensures value { Gives NoMemory (λ x. (x.0.items, x.1)) result (anchors_at bytes.now at) }
+    ensures within { IfOk result (λ x. x.1 ≤ length bytes.now) }
+{
+    let (count, next) = u8_count(bytes, at, MAX_ANCHORS)?;
+    names_of(alloc, bytes, next, count)
+}
