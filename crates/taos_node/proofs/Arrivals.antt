@@ -13,12 +13,15 @@ use Rattle.taos_wire.specs.declared.fault.WireFault.{WireFault}
 use Rattle.taos_wire.specs.declared.fault.WireFault.TheVariants as wire
 use Rattle.taos_wire.specs.Request.{Request, FitsRequest, Spells, IsSealed, subject_of}
 use Rattle.taos_wire.specs.RequestReading.{request_of}
-use Rattle.taos_wire.specs.Reply.{Malformed, BadSeal, unsealed}
+use Rattle.taos_wire.specs.Reply.{Malformed, BadSeal, sealed, unsealed}
+use Rattle.taos_node.specs.declared.reply.Refusal.{Refusal}
+use Rattle.taos_node.specs.declared.reply.Refusal.TheVariants as refusals
+use Rattle.taos_node.specs.Meaning.{refusal}
 use Rattle.taos_node.specs.declared.asking.Asking.{Asking}
 use Rattle.taos_node.specs.Asking.{IsServed, certs_of, content_of, list_of}
 use Rattle.node_file.specs.Opening.{Opening, ObjectPlan, FitsObject}
-use Rattle.taos_node.specs.Presented.{AreOpened}
-use Rattle.taos_node.specs.Course.{IsUnbuilt, Course, malformed, bad_seal}
+use Rattle.taos_node.specs.Presented.{AreOpened, IsNoneOpened}
+use Rattle.taos_node.specs.Course.{IsUnbuilt, IsAsked, Course, malformed, bad_seal, cert_refused, unasked}
 use Rattle.taos_node.proofs.Presenting.{opened_count}
 
 -- a payload that was refused as no request
@@ -48,3 +51,13 @@ is_served r a texts key p fits same opened count subject object list content = r
 
 pub is_built : (r : Request) (refused : Bool) → (IsUnbuilt r → refused ≡ true) → refused ≡ false → IsUnbuilt r → ⊥
 is_built r refused unbuilt isnt is = let bad : true ≡ false = sym (unbuilt is) ∙ isnt in absurd cc
+
+-- a certificate that opens to none, or no memory for those that do
+pub not_opened : (o : Opening) (r : Request) (f : Refusal) → (IsUnbuilt r → ⊥) → IsNoneOpened o.relay_key r.certs f → (payload key : List ℕ) → IsAsked o payload r key → Course o payload [] (sealed key r (refusal f))
+not_opened o r (refusals.CertRefused index code) built first payload key asked = cert_refused (record { asked = asked; built = built }) first
+not_opened o r refusals.NoMemory built first payload key asked = unasked asked
+not_opened o r (refusals.Malformed offset) built first payload key asked = absurd first
+not_opened o r (refusals.UnknownChannel number) built first payload key asked = absurd first
+not_opened o r refusals.BadSeal built first payload key asked = absurd first
+not_opened o r (refusals.UnknownObject number) built first payload key asked = absurd first
+not_opened o r refusals.Unbuilt built first payload key asked = absurd first

@@ -1,3 +1,4 @@
+pub mod Loops
 pub mod Presenting
 pub mod Ruled
 pub mod Denials

@@ -1,13 +1,17 @@
 -- Certificates that are opened one by one, and what the first that opens to none is.
-use Rattle.std.proofs.Common.{◌≡◌, ◌≢◌, ◌⊎◌, ℕ, suc, ◌+◌, ◌-◌, ◌<◌, Bool, true, false, cond, List, [], ◌∷◌, ◌++◌, length, take, drop, map, Option, Some, None, Result, Ok, Err, refl, sym, ap, subst, ◌∙◌, inl, inr, arith, get_or}
-use Rattle.std.specs.Prelude.{nat_lt, ◌==◌, if◌then◌else◌}
+use Rattle.std.proofs.Common.{◌≡◌, ◌≢◌, ◌⊎◌, ℕ, suc, ◌+◌, ◌-◌, ◌<◌, ◌≤◌, Bool, true, false, cond, List, [], ◌∷◌, ◌++◌, length, take, drop, map, Option, Some, None, Result, Ok, Err, refl, sym, ap, subst, ◌∙◌, append_assoc, inl, inr, arith, get_or}
+use Rattle.std.specs.Prelude.{Any, Vec, nat_lt, ◌==◌, if◌then◌else◌}
+use Rattle.std.specs.declared.alloc.Global.{Global}
+use Rattle.std.specs.declared.sync.Arc.{Arc}
 use Rattle.std.specs.Str.{bytes_eq}
-use Rattle.std.proofs.lemmas.Bool.{cases_Bool, false≢true}
+use Rattle.std.proofs.lemmas.Bool.{cases_Bool, cases_lt, false≢true}
 use Rattle.std.proofs.lemmas.Slice.Eq.{bytes_eq-Decides}
+use Rattle.std.proofs.lemmas.List.{get_or-map, get_or_default, length-map, length-take-le, map-append, map_push, take-append-drop, take_more}
 use Rattle.keyed_seal.specs.Tag.{tag_of}
 use Rattle.prin_term.specs.Steps.{◌>>=◌, byte_at, with_fault}
 use Rattle.prin_term.proofs.Results.{bind_err, err_is, chosen, chosen_err, refused_err, with_fault_err}
 use Rattle.prin_term.proofs.FieldLaws.{IsBytes}
+use Rattle.stmt_codec.specs.declared.cert.Cert.{Cert}
 use Rattle.stmt_codec.specs.Certificates.{Certificate}
 use Rattle.stmt_codec.specs.Reading.{body_at}
 use Rattle.stmt_codec.specs.declared.fault.BodyFault.{BodyFault}
@@ -18,16 +22,19 @@ use Rattle.sealed_cert.specs.Seals.{sealed_text, Spells, Opens}
 use Rattle.sealed_cert.specs.Refusals.{seen_as, kind_at, ends_in_tag, carried, is_tagged, checked, opened}
 use Rattle.sealed_cert.proofs.Opened.{IsCarried, carried_takes, opened_again, front_is}
 use Rattle.sealed_cert.proofs.Judged.{relayed_bad}
-use Rattle.taos_node.specs.Presented.{AreOpened, none_more, one_more, IsRefused, malformed, bad_seal, IsFirstRefused}
+use Rattle.taos_wire.specs.View.{text_of, cited as shared}
+use Rattle.taos_node.specs.declared.reply.Refusal.{Refusal}
+use Rattle.taos_node.specs.declared.reply.Refusal.TheVariants as refusals
+use Rattle.taos_node.specs.Presented.{IsIssued, AreOpened, none_more, one_more, IsRefused, malformed, bad_seal, IsOneRefused, IsNoneOpened, refused_as}
 
 pub opened_count : (key : List ℕ) (texts : List (List ℕ)) (certs : List Certificate) → AreOpened key texts certs → length certs ≡ length texts
 opened_count key texts certs none_more = refl
-opened_count key texts certs (one_more {text} {c} {others} {rest} opens more) = ap suc (opened_count key others rest more)
+opened_count key texts certs (one_more {texts = others} {certs = rest} opens more) = ap suc (opened_count key others rest more)
 
 -- one more at the end
 pub opened_on : (key : List ℕ) (texts : List (List ℕ)) (certs : List Certificate) (text : List ℕ) (c : Certificate) → AreOpened key texts certs → Opens key text c → AreOpened key (texts ++ text ∷ []) (certs ++ c ∷ [])
 opened_on key texts certs text c none_more opens = one_more opens none_more
-opened_on key texts certs text c (one_more {first} {d} {others} {rest} here more) opens = one_more here (opened_on key others rest text c more opens)
+opened_on key texts certs text c (one_more {text = first} {c = d} {texts = others} {certs = rest} here more) opens = one_more here (opened_on key others rest text c more opens)
 
 -- ---- bytes whose form is wrong are not said to have a wrong seal
 
@@ -92,14 +99,86 @@ is_badly_sealed key bytes fits e = elim (bind_err (carried 2 1 bytes) (checked k
 
 judged : (key bytes tag : List ℕ) (c : Certificate) → Spells 2 bytes c tag → (opened key bytes ≡ Ok c) ⊎ (opened key bytes ≡ Err BadSeal)
 judged key bytes tag c is = elim (cases_Bool (bytes_eq tag (tag_of key (sealed_text 2 c)))) [
-  | inl yes ↦
-      let same = (bytes_eq-Decides tag (tag_of key (sealed_text 2 c))).0 yes in
+  | inl alike ↦
+      let same = (bytes_eq-Decides tag (tag_of key (sealed_text 2 c))).0 alike in
       inl (opened_again key bytes c (record { text = is.text ∙ ap (λ (l : List ℕ). sealed_text 2 c ++ l) same; numbers = is.numbers; limits = is.limits }))
-  | inr no ↦ inr (relayed_bad key bytes tag c is (λ same. false≢true (sym no ∙ (bytes_eq-Decides tag (tag_of key (sealed_text 2 c))).1 same)))
+  | inr unlike ↦ inr (relayed_bad key bytes tag c is (λ same. false≢true (sym unlike ∙ (bytes_eq-Decides tag (tag_of key (sealed_text 2 c))).1 same)))
 ]
 
-pub is_no_cert : (key bytes : List ℕ) (f : SealFault) → opened key bytes ≡ Err f → (f ≢ BadSeal) → IsRefused key bytes 1
+not_both : {A E : Type 0} (r : Result A E) (a : A) (f : E) → r ≡ Ok a → r ≡ Err f → ⊥
+not_both (Ok b) a f p q = cc
+not_both (Err g) a f p q = cc
+
+is_no_cert : (key bytes : List ℕ) (f : SealFault) → opened key bytes ≡ Err f → (f ≢ BadSeal) → IsRefused key bytes 1
 is_no_cert key bytes f e other = malformed (λ c tag is. elim (judged key bytes tag c is) [
-  | inl opens ↦ let bad : Ok {E = SealFault} c ≡ Err f = sym opens ∙ e in absurd cc
+  | inl opens ↦ not_both (opened key bytes) c f opens e
   | inr sealed ↦ other (err_is Certificate f BadSeal (sym e ∙ sealed))
 ])
+
+given_fault : (key bytes : List ℕ) (f : SealFault) → (f ≢ NoMemory) → (f ≡ NoMemory) ⊎ (opened key bytes ≡ Err f) → opened key bytes ≡ Err f
+given_fault key bytes f other (inl want) = absurd (other want)
+given_fault key bytes f other (inr e) = e
+
+-- the refusal says why
+pub is_one_refused : (key bytes : List ℕ) (index : ℕ) (f : SealFault) → IsBytes bytes → (f ≡ NoMemory) ⊎ (opened key bytes ≡ Err f) → IsOneRefused key index bytes (refused_as index f)
+is_one_refused key bytes index (Malformed o) fits e = (refl, is_no_cert key bytes (Malformed o) (given_fault key bytes (Malformed o) (λ x. cc) e) (λ x. cc))
+is_one_refused key bytes index (UnknownIssuer i) fits e = (refl, is_no_cert key bytes (UnknownIssuer i) (given_fault key bytes (UnknownIssuer i) (λ x. cc) e) (λ x. cc))
+is_one_refused key bytes index BadSeal fits e = (refl, is_badly_sealed key bytes fits (given_fault key bytes BadSeal (λ x. cc) e))
+is_one_refused key bytes index (WrongKind k) fits e = (refl, is_no_cert key bytes (WrongKind k) (given_fault key bytes (WrongKind k) (λ x. cc) e) (λ x. cc))
+is_one_refused key bytes index NoMemory fits e = tt
+
+-- ---- one after the other
+
+-- of those up to a place
+pub opened_up_to : (key : List ℕ) (texts : List (Vec ℕ Global)) (place : ℕ) (d : Vec ℕ Global) (certs : List (Arc Cert Global)) (c : Arc Cert Global) → place < length texts →
+    AreOpened key (map text_of (take place texts)) (map shared certs) → Opens key (text_of (get_or texts place d)) (shared c) →
+    AreOpened key (map text_of (take (place + 1) texts)) (map shared (certs ++ c ∷ []))
+opened_up_to key texts place d certs c lt before here =
+    let front : map text_of (take (place + 1) texts) ≡ map text_of (take place texts) ++ text_of (get_or texts place d) ∷ [] =
+    ap (map text_of) (take_more texts place d lt) ∙ map_push text_of (take place texts) (get_or texts place d) in
+    subst (λ (l : List (List ℕ)). AreOpened key l (map shared (certs ++ c ∷ []))) (sym front)
+    (subst (AreOpened key (map text_of (take place texts) ++ text_of (get_or texts place d) ∷ [])) (sym (map_push shared certs c))
+    (opened_on key (map text_of (take place texts)) (map shared certs) (text_of (get_or texts place d)) (shared c) before here))
+
+pub first_refused : (key : List ℕ) (texts : List (Vec ℕ Global)) (place : ℕ) (d : Vec ℕ Global) (certs : List (Arc Cert Global)) (f : Refusal) → place < length texts →
+    AreOpened key (map text_of (take place texts)) (map shared certs) → IsOneRefused key place (text_of (get_or texts place d)) f → IsNoneOpened key (map text_of texts) f
+first_refused key texts place d certs (refusals.CertRefused index code) lt before (at, why) = record {
+  front = map text_of (take place texts);
+  text = text_of (get_or texts place d);
+  rest = map text_of (drop (place + 1) texts);
+  whole = ap (map text_of) (sym (take-append-drop (place + 1) texts) ∙ ap (λ (l : List (Vec ℕ Global)). l ++ drop (place + 1) texts) (take_more texts place d lt))
+      ∙ map-append text_of (take place texts ++ get_or texts place d ∷ []) (drop (place + 1) texts)
+      ∙ ap (λ (l : List (List ℕ)). l ++ map text_of (drop (place + 1) texts)) (map_push text_of (take place texts) (get_or texts place d))
+      ∙ append_assoc (map text_of (take place texts)) (text_of (get_or texts place d) ∷ []) (map text_of (drop (place + 1) texts));
+  place = length-map (take place texts) text_of ∙ length-take-le place texts (omega arith) ∙ sym at;
+  certs = map shared certs;
+  before = before;
+  refused = why;
+}
+first_refused key texts place d certs refusals.NoMemory lt before why = tt
+first_refused key texts place d certs (refusals.Malformed o) lt before why = absurd why
+first_refused key texts place d certs (refusals.UnknownChannel n) lt before why = absurd why
+first_refused key texts place d certs refusals.BadSeal lt before why = absurd why
+first_refused key texts place d certs (refusals.UnknownObject n) lt before why = absurd why
+first_refused key texts place d certs refusals.Unbuilt lt before why = absurd why
+
+-- none of those before the place is under its issuer's own seal
+abbrev pub NoneIssued : List (Vec ℕ Global) → ℕ → Type 0
+NoneIssued texts n = (k : ℕ) (d : Vec ℕ Global) → k < n → IsIssued (text_of (get_or texts k d)) → ⊥
+
+pub is_any_issued : (texts : List (Vec ℕ Global)) (place : ℕ) (d : Vec ℕ Global) → place < length texts → IsIssued (text_of (get_or texts place d)) → Any IsIssued (map text_of texts)
+is_any_issued texts place d lt is =
+    let text : List ℕ = text_of (get_or texts place d) in
+    (place, text, omega (arith, lt, length-map texts text_of), get_or-map text_of texts place d text lt, is)
+
+pub is_none_issued : (texts : List (Vec ℕ Global)) (n : ℕ) → length texts ≤ n → NoneIssued texts n → Any IsIssued (map text_of texts) → ⊥
+is_none_issued [] n all none (k, text, lt, at, is) = omega (arith, lt)
+is_none_issued (first ∷ texts) n all none (k, text, lt, at, is) =
+    let within : k < length (first ∷ texts) = omega (arith, lt, length-map (first ∷ texts) text_of) in
+    none k first (omega (arith, within, all)) (subst IsIssued (sym at ∙ get_or-map text_of (first ∷ texts) k first text within) is)
+
+pub none_before : (texts : List (Vec ℕ Global)) (n : ℕ) (e : Vec ℕ Global) → n < length texts → NoneIssued texts n → (IsIssued (text_of (get_or texts n e)) → ⊥) → NoneIssued texts (n + 1)
+none_before texts n e within none here k d lt is = elim (cases_lt k n) [
+  | inl before ↦ none k d before is
+  | inr past ↦ let at : k ≡ n = omega (arith, lt, past) in here (subst IsIssued (ap (λ (i : ℕ). text_of (get_or texts i d)) at ∙ ap text_of (get_or_default texts n d e within)) is)
+]

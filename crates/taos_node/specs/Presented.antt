@@ -4,8 +4,11 @@
 --     IsRefused key text code      bytes that open to none: no certificate is spelled so, or it has another tag
 --     IsFirstRefused key texts index code      the first of them that opens to none
 --     IsOneRefused, IsNoneOpened ..      the same, as the refusal that says so, unless memory was refused
+--     refused_as index fault      the refusal of a fault of opening
 use Rattle.std.specs.Prelude.{◌≡◌, ◌≢◌, ℕ, List, [], ◌∷◌, ◌++◌, length}
 use Rattle.keyed_seal.specs.Tag.{tag_of}
+use Rattle.sealed_cert.specs.declared.fault.SealFault.{SealFault}
+use Rattle.sealed_cert.specs.declared.fault.SealFault.TheVariants as faults
 use Rattle.sealed_cert.specs.declared.kind.TheConstants.{ISSUED, RELAYED}
 use Rattle.sealed_cert.specs.Seals.{sealed_text, Spells, Opens}
 use Rattle.stmt_codec.specs.Certificates.{Certificate}
@@ -45,3 +48,8 @@ abbrev pub IsNoneOpened : List ℕ → List (List ℕ) → Refusal → Type 0
 IsNoneOpened key texts (refusals.CertRefused index code) = IsFirstRefused key texts index code
 IsNoneOpened key texts refusals.NoMemory = Unit {0}
 IsNoneOpened key texts _ = ⊥
+
+abbrev pub refused_as : ℕ → SealFault → Refusal
+refused_as index faults.NoMemory = refusals.NoMemory
+refused_as index faults.BadSeal = refusals.CertRefused index BAD_SEAL
+refused_as index _ = refusals.CertRefused index MALFORMED

@@ -8,11 +8,11 @@ ghost use Rattle.taos_node.specs.Meaning.{opening, refusal, FitsByNumber};
 ghost use Rattle.taos_node.specs.Serving.{Answers, AnswersCause};
 
 use crate::asking::arrive;
-use node_file::Opening;
 use crate::reply::{Refusal, ReplyBuf};
 use crate::ruling::rule;
 use frame_link::Clock;
 use keyed_seal::Sealer;
+use node_file::Opening;
 use std::alloc::Global;
 use taos_calculus::Decide;
 use taos_wire::{Request, WireFault, read_request, sealed_with};

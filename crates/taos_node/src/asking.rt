@@ -1,20 +1,21 @@
 //! What a request asks of its object.
 
-ghost use Rattle.std.specs.Prelude.{◌≡◌, ◌↔◌, IfErr, IfOk, IsTrue, ℕ, List};
+ghost use Rattle.std.specs.Prelude.{◌≡◌, ◌↔◌, [], IfErr, IfOk, IsTrue, ℕ, List};
 ghost use Rattle.std.specs.Option.{option_map};
 ghost use Rattle.object_core.specs.Operation as math;
 ghost use Rattle.object_core.specs.View.{operation};
 ghost use Rattle.prin_term.specs.View.{principal};
 ghost use Rattle.stmt_codec.specs.Certificates.{key_quoting};
 ghost use Rattle.taos_wire.specs.Reply.{sealed};
+ghost use Rattle.taos_wire.specs.Request.{FitsRequest};
 ghost use Rattle.taos_wire.specs.View.{request};
 ghost use Rattle.taos_node.specs.Asking.{IsServed, StandsFor};
 ghost use Rattle.taos_node.specs.Course.{Course, IsAsked, IsUnbuilt};
 ghost use Rattle.taos_node.specs.Meaning.{opening, refusal, FitsByNumber};
 
-use node_file::{ObjectPlan, Opening};
 use crate::presented::{has_issued, open_all};
 use crate::reply::Refusal;
+use node_file::{ObjectPlan, Opening};
 use object_core::{Op, right_of};
 use prin_term::Term;
 use std::alloc::{AllocError, Global};
@@ -62,7 +63,8 @@ fn subject_of(alloc: Global, channel: u32, quoted: Option<Term>) -> Result<Term,
 
 /// What a sealed request asks of its object; or what is answered under the same key.
 pub fn arrive<'a>(alloc: Global, node: &'a Opening, asked: Request) -> Result<Asking<'a>, Refusal>
-    requires { FitsByNumber (opening node.now) }
+    requires node { FitsByNumber (opening node.now) }
+    requires limits { FitsRequest (request asked) }
     ensures arrived { IfOk result (λ a. (payload key : List ℕ)
         → IsAsked (opening node.now) payload (request asked) key
         → StandsFor (opening node.now) payload key (request asked) a × IsServed a) }

@@ -1,5 +1,6 @@
 //! The top call: the words, the file, and then the work.
 
+ghost use Rattle.std.specs.Bool.{OnFalse, OnTrue};
 ghost use Rattle.std.specs.Prelude.{◌≡◌, ◌⊎◌, ◌↔◌, ◌<◌, ◌≤◌, length, IsTrue, IfOk};
 ghost use Rattle.frame_link.specs.Faults.{Rose};
 ghost use Rattle.taos_node.specs.Meaning.{opening, FitsByNumber};
@@ -15,6 +16,7 @@ use node_file::{Opening, OpeningFault, read_opening};
 use std::alloc::{AllocError, Global};
 use std::sync::Wait;
 use std::thread::Threads;
+use taos_calculus::Decide;
 use taos_saturate::Saturator;
 
 // What a lane holds while its worker runs. Nothing yet.
@@ -82,7 +84,8 @@ fn file_opening<F: Source>(alloc: Global, file: &mut F) -> Result<Opening, FileF
 
 // Whether what an opening asks for is built: one shard, and no certificates in common.
 fn is_built(node: &Opening) -> bool
-    ensures { IsTrue result ↔ ¬ (IsUnbuiltOpening (opening node.now)) }
+    ensures built { OnTrue result (IsUnbuiltOpening (opening node.now) → ⊥) }
+    ensures unbuilt { OnFalse result (IsUnbuiltOpening (opening node.now)) }
 {
     node.shards == 1 && node.commons.is_empty()
 }
@@ -107,8 +110,41 @@ fn is_run(words: &[String]) -> bool
     words.len() == 1 && words[0].as_str() == "run"
 }
 
-// Serves the connection of the first lane. The decider's room is taken before the first frame.
-fn serve<I: Source, O: Sink, C: Clock, R: RelayLink, D: Door>(
+// Serves the connection of the first lane.
+fn serve<I: Source, O: Sink, C: Clock, R: RelayLink, D: Door, B: Decide>(
+    alloc: Global,
+    node: &Opening,
+    input: &mut I,
+    output: &mut O,
+    lanes: &mut [Lane<C, R, D>],
+    bench: &mut B,
+) -> Outcome
+    requires some { 0 < length lanes.old }
+    requires node { FitsByNumber (opening node.now) }
+    ensures connection { IsConnection (opening node.now) MAX_FRAMES
+        (I.left input.old) (I.left input.new) (O.written output.old) (O.written output.new)
+        (told_by_first C.readings lanes.old) (told_by_first C.readings lanes.new) result }
+    ensures causes { HasCauses (I.faults input.old) (I.faults input.new)
+        (O.faults output.old) (O.faults output.new)
+        (faults_of_first C.faults lanes.old) (faults_of_first C.faults lanes.new) result }
+    ensures complete { IsComplete MAX_FRAMES (I.left input.old)
+        (I.faults input.old) (I.faults input.new) (O.faults output.old) (O.faults output.new)
+        (faults_of_first C.faults lanes.old) (faults_of_first C.faults lanes.new) result }
+{
+    let lane = &mut lanes[0];
+    serve_connection(
+        alloc,
+        node,
+        MAX_FRAMES,
+        input,
+        output,
+        &mut lane.clock,
+        bench,
+    )
+}
+
+// The same, with a decider whose room is taken before the first frame.
+fn decide_and_serve<I: Source, O: Sink, C: Clock, R: RelayLink, D: Door>(
     alloc: Global,
     node: &Opening,
     input: &mut I,
@@ -127,19 +163,10 @@ fn serve<I: Source, O: Sink, C: Clock, R: RelayLink, D: Door>(
         (I.faults input.old) (I.faults input.new) (O.faults output.old) (O.faults output.new)
         (faults_of_first C.faults lanes.old) (faults_of_first C.faults lanes.new) result }
 {
-    let Ok(mut bench) = Saturator::reserve(alloc) else {
-        return Outcome::NoMemory;
-    };
-    let lane = &mut lanes[0];
-    serve_connection(
-        alloc,
-        node,
-        MAX_FRAMES,
-        input,
-        output,
-        &mut lane.clock,
-        &mut bench,
-    )
+    match Saturator::reserve(alloc) {
+        Ok(mut bench) => serve(alloc, node, input, output, lanes, &mut bench),
+        Err(AllocError) => Outcome::NoMemory,
+    }
 }
 
 // Does the work, and tells nobody how it ended.
@@ -178,7 +205,7 @@ fn run<F: Source, I: Source, O: Sink, C: Clock, R: RelayLink, D: Door>(
         return Ending::Usage;
     }
     match opening_of(alloc, file) {
-        Ok(node) => Ending::Served(serve(alloc, &node, input, output, lanes)),
+        Ok(node) => Ending::Served(decide_and_serve(alloc, &node, input, output, lanes)),
         Err(fault) => Ending::File(fault),
     }
 }

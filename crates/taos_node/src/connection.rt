@@ -88,15 +88,7 @@ fn serve_frames<I: Source, O: Sink, C: Clock, D: Decide>(
             Next::TooLong { length } => return Outcome::TooLong { length },
             Next::ReadFault => return Outcome::ReadFault,
         }
-        match turn(
-            alloc,
-            node,
-            buf.payload(),
-            &mut reply,
-            output,
-            clock,
-            bench,
-        ) {
+        match turn(alloc, node, buf.payload(), &mut reply, output, clock, bench) {
             Turned::Replied => {}
             Turned::WriteFault => return Outcome::WriteFault,
             Turned::ClockFault => return Outcome::ClockFault,

@@ -17,7 +17,9 @@ use std::marker::Model;
 use std::sync::Arc;
 use stmt_codec::Cert;
 use taos_calculus::Proof;
-use taos_wire::{LinkSent, MAX_CITED, Reply, write_granted_with, write_missing_with, write_reply_with};
+use taos_wire::{
+    LinkSent, MAX_CITED, Reply, write_granted_with, write_missing_with, write_reply_with,
+};
 
 /// Every reply but a grant fits this many bytes.
 pub const REPLY_ROOM: usize = 256;
@@ -148,14 +150,7 @@ impl ReplyBuf {
     }
 
     /// Leaves a denial that names a part of an entry, which is lent.
-    pub fn leave_missing(
-        &mut self,
-        sealer: &Sealer,
-        channel: u32,
-        seq: u64,
-        entry: u8,
-        part: &Term,
-    )
+    pub fn leave_missing(&mut self, sealer: &Sealer, channel: u32, seq: u64, entry: u8, part: &Term)
         requires limits { FitsLimits ENTRY_NODES (principal part.now) }
         ensures reply { self.new ≡ spelling (sent (Some sealer.now) channel seq
             (Denied 0 0 (Missing entry (principal part.now)))) }

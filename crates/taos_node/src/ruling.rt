@@ -1,7 +1,7 @@
 //! The ruling on a request that came to its object.
 
 ghost use Rattle.std.specs.Prelude.{◌≡◌, ◌≤◌, ◌<◌, ℕ, List, All, IfOk, MatchOption, Some, length, map, slice_get};
-ghost use Rattle.prin_term.specs.declared.term.Anchor.Anchor as MathAnchor;
+ghost use Rattle.prin_term.specs.declared.term.Anchor.{Anchor as MathAnchor};
 ghost use Rattle.prin_term.specs.View.{Grant, principal};
 ghost use Rattle.stmt_codec.specs.Certificates.{live};
 ghost use Rattle.taos_calculus.specs.Monitor.{FirstEntry, Grants, MaySpeak};
@@ -47,7 +47,8 @@ fn certs_at(
 {
     let mut cited = Vec::with_capacity(alloc, places.len())?;
     for k in 0..places.len() {
-        cited.push(certs[places[k] as usize].clone()?)?;
+        let place = places[k] as usize;
+        cited.push(Arc::try_clone(&certs[place])?)?;
     }
     Ok(cited)
 }
@@ -82,6 +83,7 @@ fn proof_for<D: Decide>(
     asking: &Asking,
     entry: u8,
 ) -> Result<(Proof, Vec<Arc<Cert>>), AllocError>
+    requires served { IsServed asking.now }
     requires asked { (anchors : List MathAnchor) × (moment : ℕ)
         × (D.question bench.old ≡ question_at anchors asking.now moment) }
     requires derivable { (g : Grant) × (slice_get (list_of asking.now) entry ≡ Some g)
@@ -118,7 +120,13 @@ fn deny<D: Decide>(
 {
     let list = &asking.plan.list;
     let link = first_link(
-        bench, anchors, &asking.certs, moment, &asking.subject, list, asking.right,
+        bench,
+        anchors,
+        &asking.certs,
+        moment,
+        &asking.subject,
+        list,
+        asking.right,
     );
     match link {
         Link::NoEntry => {
