@@ -10,3 +10,5 @@ pub mod Arrivals
 pub mod SameNodes
 pub mod Commands
 pub mod Notes
+pub mod Looked
+pub mod OneFinding

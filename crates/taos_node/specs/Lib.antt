@@ -8,3 +8,5 @@ pub mod Serving
 pub mod Ending
 pub mod Notes
 pub mod Command
+pub mod Checking
+pub mod Findings

@@ -21,3 +21,4 @@ pub mod Fitting
 pub mod Proving
 pub mod Tidying
 pub mod Handing
+pub mod Chaining

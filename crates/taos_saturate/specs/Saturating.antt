@@ -100,6 +100,10 @@ abbrev pub ChainFull : Saturation → ℕ → ℕ → Type 0
 ChainFull s l m = (i j r : ℕ) →
     slice_get (facts_of s) i ≡ Some (Fact.Speaks l m) → slice_get (facts_of s) j ≡ Some (Fact.Speaks m r) → IsKnown s (Fact.Speaks l r)
 
+-- what this line gives by a chain is known, unless it comes by a chain itself
+abbrev pub LineFull : Saturation → ℕ → Type 0
+LineFull s k = (line : Line) (l m : ℕ) → slice_get s.found.lines.items k ≡ Some line → line.fact ≡ Fact.Speaks l m → IsNoChain line.step → ChainFull s l m
+
 -- for whom w speaks, they are known to say what w says
 abbrev pub LiftFull : Saturation → ℕ → Pair → Type 0
 LiftFull s w p = (i j b : ℕ) →

@@ -126,6 +126,14 @@ impl Found {
         }
     }
 
+    /// The line of a number.
+    pub fn line(&self, number: usize) -> Line
+        requires { number < length self.now.lines.items }
+        ensures { slice_get self.now.lines.items number ≡ Some result }
+    {
+        self.lines[number]
+    }
+
     /// The statement at a place.
     pub fn statement(&self, place: usize) -> Pair
         requires { place < length self.now.statements.items }

@@ -14,6 +14,8 @@ use crate::citing::cites_in;
 use crate::extract::extract;
 use crate::found::Found;
 use crate::gather::{keep_anchors, state_all, take_certs, take_list, take_term};
+use crate::marks::Marks;
+use crate::parents::Parents;
 use crate::retable::carry_lines;
 use crate::saturation::{Cited, Saturation};
 use prin_term::{Anchor, Entry, Term};
@@ -50,6 +52,8 @@ impl Held {
             anchors,
             cited,
             found,
+            marks: Marks::reserve(alloc)?,
+            parents: Parents::reserve(alloc)?,
         };
         Ok(Held {
             table,

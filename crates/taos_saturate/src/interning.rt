@@ -13,8 +13,8 @@ ghost use Rattle.taos_saturate.specs.Interning.{IsRoomy, TakesIn, Fits, node_pai
 use prin_term::Term;
 use taos_calculus::Node;
 
-// The number of a node.
-fn find(nodes: &[Node], node: Node) -> Option<usize>
+/// The number of a node.
+pub fn find(nodes: &[Node], node: Node) -> Option<usize>
     ensures { MatchOption result ((i : ℕ) → slice_get nodes.now i ≡ Some node → ⊥) (λ i. slice_get nodes.now i ≡ Some node) }
 {
     for i in 0..nodes.len() {

@@ -3,18 +3,22 @@
 
 mod citing;
 mod extract;
+mod follow;
 mod found;
 mod gaps;
 mod gather;
 mod held;
 mod interning;
 mod look;
+mod marks;
+mod parents;
+mod pass;
 mod retable;
 mod saturate;
 mod saturation;
 mod saturator;
 mod search;
-mod sweep;
+mod seed;
 
 pub use saturator::Saturator;
 

@@ -3,7 +3,7 @@
 ghost use Rattle.std.specs.Prelude.{◌≡◌, ℕ, ◌<◌, Some, MatchOption, slice_get, length};
 ghost use Rattle.taos_calculus.specs.declared.line.Fact.{Fact};
 ghost use Rattle.taos_saturate.specs.declared.found.Pair.{Pair};
-ghost use Rattle.taos_saturate.specs.Saturating.{IsReady, IsNumber, IsNew, SpeaksFull, SaysFull, ChainFull, LiftFull, IsFull};
+ghost use Rattle.taos_saturate.specs.Saturating.{IsReady, IsSound, IsNumber, IsNew, SpeaksFull, SaysFull, ChainFull, LineFull, LiftFull, IsFull};
 
 use crate::saturation::Saturation;
 use taos_calculus::{Fact, Line, Step};
@@ -93,24 +93,8 @@ impl Saturation {
         None
     }
 
-    /// A new fact between these, or through the second.
-    pub fn new_between(&self, left: u16, right: u16) -> Option<Line>
-        requires ready { IsReady self.now }
-        requires left_in { IsNumber self.now left }
-        requires right_in { IsNumber self.now right }
-        ensures { MatchOption result (SpeaksFull self.now left right × ChainFull self.now left right) (IsNew self.now) }
-    {
-        match self.new_speaks(left, right) {
-            Some(step) => Some(Line {
-                fact: Fact::Speaks { left, right },
-                step,
-            }),
-            None => self.new_by_chain(left, right),
-        }
-    }
-
-    /// A new fact about who says the statement at this place: this one, or one for whom it speaks.
-    pub fn new_about(&self, who: u16, place: usize) -> Option<Line>
+    // A new fact about who says the statement at this place: this one, or one for whom it speaks.
+    fn new_about(&self, who: u16, place: usize) -> Option<Line>
         requires ready { IsReady self.now }
         requires who_in { IsNumber self.now who }
         requires place_in { place < length self.now.found.statements.items }
@@ -122,22 +106,70 @@ impl Saturation {
         }
     }
 
-    // A new fact about what the left one speaks for.
+    // A new fact about what the left one speaks for, by no chain.
     fn new_in_row(&self, left: u16) -> Option<Line>
         requires ready { IsReady self.now }
         requires left_in { IsNumber self.now left }
-        ensures { MatchOption result ((r : ℕ) → IsNumber self.now r → SpeaksFull self.now left r × ChainFull self.now left r) (IsNew self.now) }
+        ensures { MatchOption result ((r : ℕ) → IsNumber self.now r → SpeaksFull self.now left r) (IsNew self.now) }
     {
         for k in 0..self.nodes.len() {
-            if let Some(line) = self.new_between(left, k as u16) {
+            let right = k as u16;
+            if let Some(step) = self.new_speaks(left, right) {
+                return Some(Line {
+                    fact: Fact::Speaks { left, right },
+                    step,
+                });
+            }
+        }
+        None
+    }
+
+    // A new fact by no chain about who speaks for whom.
+    fn new_in_rows(&self) -> Option<Line>
+        requires { IsReady self.now }
+        ensures { MatchOption result ((l r : ℕ) → IsNumber self.now l → IsNumber self.now r → SpeaksFull self.now l r) (IsNew self.now) }
+    {
+        for k in 0..self.nodes.len() {
+            let left = k as u16;
+            if let Some(line) = self.new_in_row(left) {
                 return Some(line);
             }
         }
         None
     }
 
-    /// A new fact about who says the statement at this place.
-    pub fn new_in_statement(&self, place: usize) -> Option<Line>
+    // A new fact by a chain that begins with this line. A line that comes by a chain itself needs no look, since what
+    // follows through it follows through the lines that it comes from.
+    fn new_by_line(&self, number: usize) -> Option<Line>
+        requires ready { IsReady self.now }
+        requires number_in { number < length self.now.found.lines.items }
+        ensures { MatchOption result (LineFull self.now number) (IsNew self.now) }
+    {
+        let line = self.found.line(number);
+        match line.step {
+            Step::Chain { .. } => None,
+            _ => match line.fact {
+                Fact::Speaks { left, right } => self.new_by_chain(left, right),
+                Fact::Says { .. } => None,
+            },
+        }
+    }
+
+    // A new fact by a chain.
+    fn new_in_lines(&self) -> Option<Line>
+        requires { IsReady self.now }
+        ensures { MatchOption result ((k : ℕ) → k < length self.now.found.lines.items → LineFull self.now k) (IsNew self.now) }
+    {
+        for number in 0..self.found.lines.len() {
+            if let Some(line) = self.new_by_line(number) {
+                return Some(line);
+            }
+        }
+        None
+    }
+
+    // A new fact about who says the statement at this place.
+    fn new_in_statement(&self, place: usize) -> Option<Line>
         requires ready { IsReady self.now }
         requires place_in { place < length self.now.found.statements.items }
         ensures { MatchOption result ((w : ℕ) → IsNumber self.now w → (p : Pair) → slice_get self.now.found.statements.items place ≡ Some p → SaysFull self.now w p × LiftFull self.now w p) (IsNew self.now) }
@@ -150,22 +182,31 @@ impl Saturation {
         None
     }
 
-    /// A line that may come next.
-    pub fn new_line(&self) -> Option<Line>
+    // A new fact about who says what.
+    fn new_in_statements(&self) -> Option<Line>
         requires { IsReady self.now }
-        ensures { MatchOption result (IsFull self.now) (IsNew self.now) }
+        ensures { MatchOption result ((k w : ℕ) (p : Pair) → slice_get self.now.found.statements.items k ≡ Some p → IsNumber self.now w → SaysFull self.now w p × LiftFull self.now w p) (IsNew self.now) }
     {
-        for k in 0..self.nodes.len() {
-            let left = k as u16;
-            if let Some(line) = self.new_in_row(left) {
-                return Some(line);
-            }
-        }
         for place in 0..self.found.statements.len() {
             if let Some(line) = self.new_in_statement(place) {
                 return Some(line);
             }
         }
         None
+    }
+
+    /// A line that may come next.
+    pub fn new_line(&self) -> Option<Line>
+        requires ready { IsReady self.now }
+        requires sound { IsSound self.now }
+        ensures { MatchOption result (IsFull self.now) (IsNew self.now) }
+    {
+        if let Some(line) = self.new_in_rows() {
+            return Some(line);
+        }
+        if let Some(line) = self.new_in_lines() {
+            return Some(line);
+        }
+        self.new_in_statements()
     }
 }

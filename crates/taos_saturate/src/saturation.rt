@@ -6,6 +6,8 @@ ghost use Rattle.taos_calculus.specs.Tables.{OperandsBelow};
 ghost use Rattle.taos_saturate.specs.Saturating.{facts_of, IsReady, IsNumber, IsSaying};
 
 use crate::found::Found;
+use crate::marks::Marks;
+use crate::parents::Parents;
 use prin_term::Anchor;
 use taos_calculus::{Fact, Node};
 
@@ -27,13 +29,15 @@ impl Cited {
     }
 }
 
-/// The table, and the facts that were found.
+/// The table, and the facts that were found. The marks and the parents tell where to look for more.
 #[derive(Drop)]
 pub struct Saturation {
     pub nodes: Vec<Node>,
     pub anchors: Vec<Anchor>,
     pub cited: Vec<Cited>,
     pub found: Found,
+    pub marks: Marks,
+    pub parents: Parents,
 }
 
 impl Saturation {

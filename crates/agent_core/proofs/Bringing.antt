@@ -1,0 +1,79 @@
+-- Certificates that an event brings, and that are held from then on.
+use Rattle.std.proofs.Common.{◌≡◌, ℕ, ◌+◌, ◌<◌, ◌≤◌, cond, List, [], ◌∷◌, ◌++◌, length, map, All, IsSome, Some, sym, ap, ap₂, ◌∙◌, subst, arith}
+use Rattle.std.specs.List.{slice_get, filter_map}
+use Rattle.std.proofs.lemmas.Bool.{lt-ltb, le-ltb}
+use Rattle.std.proofs.lemmas.List.Elements.{All-append, All-weaker, filter_map-append}
+use Rattle.stmt_codec.specs.Certificates.{Certificate}
+use Rattle.agent_core.specs.declared.name.Name.{Name}
+use Rattle.agent_core.specs.declared.store.Store.{Store}
+use Rattle.agent_core.specs.declared.told.Told.{Told}
+use Rattle.agent_core.specs.Held.{newly}
+use Rattle.agent_core.specs.State.{Plan, State, Holds, Plain, next}
+use Rattle.agent_core.specs.Journals.{Entry}
+use Rattle.agent_core.specs.Kept.{IsStore}
+use Rattle.agent_core.specs.Names.{named, certs_named, AreNames, name_in, brought_by}
+use Rattle.agent_core.proofs.NamesLeft.{count_named, is_there, certs_brought, are_brought, journal_names_more, named_more, names_more}
+use Rattle.agent_core.proofs.Journaling.{store_more}
+
+-- as many certificates as places
+pub count_places : (certs : List Certificate) (places : List ℕ) → All (λ i. i < length certs) places → length (filter_map (slice_get certs) places) ≡ length places
+count_places certs places within = count_named (slice_get certs) places (All-weaker (λ i. i < length certs) (λ i. IsSome (slice_get certs i)) (λ i lt. is_there certs i lt) places within)
+
+-- ---- names with those that the last entry brought
+
+module _ (commons : List Certificate) (journal : List Entry) (e : Entry) (names : List Name) (places : List ℕ) where
+  pub certs_joined : AreNames commons journal names → certs_named commons (journal ++ e ∷ []) (names ++ map (name_in (length journal)) places) ≡ certs_named commons journal names ++ filter_map (slice_get (brought_by e.event)) places
+  certs_joined all =
+      filter_map-append (named commons (journal ++ e ∷ [])) names (map (name_in (length journal)) places) ∙
+      ap₂ (λ (xs ys : List Certificate). xs ++ ys)
+      (named_more (named commons journal) (named commons (journal ++ e ∷ [])) (journal_names_more commons journal (e ∷ [])) names all) (certs_brought commons journal e places)
+
+  pub names_joined : AreNames commons journal names → All (λ p. p < length (brought_by e.event)) places → AreNames commons (journal ++ e ∷ []) (names ++ map (name_in (length journal)) places)
+  names_joined all within =
+      All-append (λ n. IsSome (named commons (journal ++ e ∷ []) n)) names (map (name_in (length journal)) places)
+      (names_more (named commons journal) (named commons (journal ++ e ∷ [])) (journal_names_more commons journal (e ∷ [])) names all) (are_brought commons journal e places within)
+
+-- ---- certificates that are held in common
+
+abbrev pub held_more : State → List Certificate → State
+held_more s new = record { clock = s.clock; last = s.last; own = s.own; commons = s.commons ++ new }
+
+module _ (plan : Plan) (journal : List Entry) (s : State) (store : Store) (is : IsStore plan journal s store) (certs : List Certificate) (places : List ℕ)
+    (found : filter_map (slice_get certs) places ≡ newly (certs_named plan.commons journal store.commons.items) certs) (within : All (λ i. i < length certs) places) where
+  news : filter_map (slice_get certs) places ≡ newly s.commons certs
+  news = found ∙ ap (λ (held : List Certificate). newly held certs) is.commons_are
+
+  new_count : length (newly s.commons certs) ≡ length places
+  new_count = sym (ap (λ (cs : List Certificate). length cs) news) ∙ count_places certs places within
+
+  held_count : length s.commons ≡ length store.commons.items
+  held_count = sym (ap (λ (cs : List Certificate). length cs) is.commons_are) ∙ count_named (named plan.commons journal) store.commons.items is.commons_names
+
+  pub commons_full : 32 < length store.commons.items + length places → next plan s (Holds certs) ≡ (s, Plain (Told.CommonsFull (length store.commons.items)))
+  commons_full lt =
+      ap (λ b. cond b (s, Plain (Told.CommonsFull (length s.commons))) (held_more s (newly s.commons certs), Plain (Told.Held (length (newly s.commons certs)))))
+      (lt-ltb 32 (length s.commons + length (newly s.commons certs)) (omega (arith, lt, new_count, held_count))) ∙
+      ap (λ n. (s, Plain (Told.CommonsFull n))) held_count
+
+  pub commons_fit : length store.commons.items + length places ≤ 32 → next plan s (Holds certs) ≡ (held_more s (newly s.commons certs), Plain (Told.Held (length places)))
+  commons_fit le =
+      ap (λ b. cond b (s, Plain (Told.CommonsFull (length s.commons))) (held_more s (newly s.commons certs), Plain (Told.Held (length (newly s.commons certs)))))
+      (le-ltb 32 (length s.commons + length (newly s.commons certs)) (omega (arith, le, new_count, held_count))) ∙
+      ap (λ n. (held_more s (newly s.commons certs), Plain (Told.Held n))) new_count
+
+  pub commons_held : (e : Entry) (after : Store) → brought_by e.event ≡ certs → after.commons.items ≡ store.commons.items ++ map (name_in (length journal)) places →
+      after.clock ≡ store.clock → after.swept ≡ store.swept → after.rows ≡ store.rows → IsStore plan (journal ++ e ∷ []) (held_more s (newly s.commons certs)) after
+  commons_held e after brings commons clock swept rows =
+      let more = store_more plan journal (e ∷ []) s store is in
+      let there : certs_named plan.commons (journal ++ e ∷ []) (store.commons.items ++ map (name_in (length journal)) places) ≡ s.commons ++ newly s.commons certs =
+      certs_joined plan.commons journal e store.commons.items places is.commons_names ∙
+      ap₂ (λ (xs ys : List Certificate). xs ++ ys) is.commons_are (ap (λ (cs : List Certificate). filter_map (slice_get cs) places) brings ∙ news) in
+      let valid = names_joined plan.commons journal e store.commons.items places is.commons_names (subst (λ (cs : List Certificate). All (λ p. p < length cs) places) (sym brings) within) in
+      record {
+        clock_is = clock ∙ is.clock_is;
+        commons_are = subst (λ ns. certs_named plan.commons (journal ++ e ∷ []) ns ≡ s.commons ++ newly s.commons certs) (sym commons) there;
+        commons_names = subst (AreNames plan.commons (journal ++ e ∷ [])) (sym commons) valid;
+        row_count = ap (λ v. length v.items) rows ∙ is.row_count;
+        rows_are = λ i row c at channel.
+            rw (clock, swept) (more.rows_are i row c (subst (λ v. slice_get v.items i ≡ Some row) rows at) channel);
+      }

@@ -1,0 +1,101 @@
+-- One more entry: what is kept stands for the state behind it.
+use Rattle.std.proofs.Common.{◌≡◌, ℕ, ◌+◌, ◌<◌, ◌≤◌, List, [], ◌∷◌, ◌++◌, length, map, refl, sym, ap, ◌∙◌, subst, arith, vec_capacity, ◌⊎◌, inl, inr, length-append}
+use Rattle.std.specs.declared.alloc.Global.{Global}
+use Rattle.std.specs.declared.vec.Vec.{Vec}
+use Rattle.std.proofs.lemmas.List.{map_push, length-map}
+use Rattle.stmt_codec.specs.Certificates.{Certificate}
+use Rattle.agent_core.specs.declared.event.ShardEntry.{ShardEntry}
+use Rattle.agent_core.specs.declared.store.Row.{Row}
+use Rattle.agent_core.specs.declared.store.Store.{Store}
+use Rattle.agent_core.specs.State.{Plan, State, Event, Answer, Plain, next}
+use Rattle.agent_core.specs.Journals.{Entry, entry, state_from, state_after, told_of, told_at, IsMeant, MayFollow, IsLegalJournal}
+use Rattle.agent_core.specs.Kept.{row_certs, IsRow, IsStore, IsKept, Tells}
+use Rattle.agent_core.specs.Names.{named, AreNames}
+use Rattle.agent_core.specs.Views.{entry_of}
+use Rattle.agent_core.proofs.NamesLeft.{journal_names_more, names_more, named_more}
+
+-- ---- the state behind one entry more
+
+state_from-push : (plan : Plan) (s : State) (journal : List Entry) (e : Entry) → state_from plan s (journal ++ e ∷ []) ≡ (next plan (state_from plan s journal) e.event).0
+state_from-push plan s [] e = refl
+state_from-push plan s (x ∷ journal) e = state_from-push plan (next plan s x.event).0 journal e
+
+-- ---- legal journals
+
+-- a list that ends with e, cut at an entry: the entry is e, or stands before it
+cut_last : (before journal rest : List Entry) (e x : Entry) → journal ++ e ∷ [] ≡ before ++ x ∷ rest → ((journal ≡ before) × (e ≡ x)) ⊎ ((rest' : List Entry) × (journal ≡ before ++ x ∷ rest'))
+cut_last [] [] rest e x eq = inl (refl, cc)
+cut_last [] (y ∷ journal) rest e x eq = let same : y ≡ x = cc in inr (journal, ap (λ z. z ∷ journal) same)
+cut_last (b ∷ before) [] rest e x eq = absurd (no before cc)
+  where
+    no : (before : List Entry) → [] ≡ before ++ x ∷ rest → ⊥
+    no [] h = cc
+    no (c ∷ cs) h = cc
+cut_last (b ∷ before) (y ∷ journal) rest e x eq =
+    let heads : y ≡ b = cc in
+    let tails : journal ++ e ∷ [] ≡ before ++ x ∷ rest = cc in
+    elim (cut_last before journal rest e x tails) [
+      | inl w ↦ inl (ap (λ zs. y ∷ zs) w.0 ∙ ap (λ z. z ∷ before) heads, w.1)
+      | inr w ↦ inr (w.0, ap (λ zs. y ∷ zs) w.1 ∙ ap (λ z. z ∷ (before ++ x ∷ w.0)) heads)
+    ]
+
+pub legal_more : (plan : Plan) (journal : List Entry) (e : Entry) → IsLegalJournal plan journal → MayFollow plan journal e → IsLegalJournal plan (journal ++ e ∷ [])
+legal_more plan journal e legal may before x rest eq =
+    elim (cut_last before journal rest e x eq) [
+      | inl w ↦ subst (λ y. MayFollow plan before y) w.1 (subst (λ zs. MayFollow plan zs e) w.0 may)
+      | inr w ↦ legal before x w.0 w.1
+    ]
+
+-- ---- what is kept
+
+row_certs_more : (plan : Plan) (journal more : List Entry) (clock swept : ℕ) (row : Row) → AreNames plan.commons journal row.own.items → row_certs plan (journal ++ more) clock swept row ≡ row_certs plan journal clock swept row
+row_certs_more plan journal more clock swept row names =
+    rw (named_more (named plan.commons journal) (named plan.commons (journal ++ more)) (journal_names_more plan.commons journal more) row.own.items names) refl
+
+pub row_more : (plan : Plan) (journal more : List Entry) (clock swept : ℕ) (row : Row) (last : ℕ) (own : List Certificate) → IsRow plan journal clock swept row last own → IsRow plan (journal ++ more) clock swept row last own
+row_more plan journal more clock swept row last own is = record {
+  last_is = is.last_is;
+  own_is = row_certs_more plan journal more clock swept row is.names ∙ is.own_is;
+  names = names_more (named plan.commons journal) (named plan.commons (journal ++ more)) (journal_names_more plan.commons journal more) row.own.items is.names;
+  swept_before = is.swept_before;
+}
+
+pub store_more : (plan : Plan) (journal more : List Entry) (s : State) (store : Store) → IsStore plan journal s store → IsStore plan (journal ++ more) s store
+store_more plan journal more s store is = record {
+  clock_is = is.clock_is;
+  commons_are = named_more (named plan.commons journal) (named plan.commons (journal ++ more)) (journal_names_more plan.commons journal more) store.commons.items is.commons_names ∙ is.commons_are;
+  commons_names = names_more (named plan.commons journal) (named plan.commons (journal ++ more)) (journal_names_more plan.commons journal more) store.commons.items is.commons_names;
+  row_count = is.row_count;
+  rows_are = λ i row c at channel. row_more plan journal more store.clock store.swept row (s.last c) (s.own c) (is.rows_are i row c at channel);
+}
+
+module _ (plan : Plan) (before : Vec ShardEntry Global) (store : Store) (kept : IsKept plan before store) (e : ShardEntry) (after : Vec ShardEntry Global)
+    (room : length before.items < plan.limit) (added : after.items ≡ before.items ++ e ∷ []) (capacity : vec_capacity before ≤ vec_capacity after) where
+  pub adds_entry : map entry_of after.items ≡ map entry_of before.items ++ entry_of e ∷ []
+  adds_entry = ap (map entry_of) added ∙ map_push entry_of before.items e
+
+  -- the state's next one is what is kept afterwards
+  pub kept_more : (store' : Store) → IsMeant plan (entry_of e).event → e.told ≡ told_at plan (map entry_of before.items) (entry_of e).event →
+      IsStore plan (map entry_of before.items ++ entry_of e ∷ []) (next plan (state_after plan (map entry_of before.items)) (entry_of e).event).0 store' → store'.swept ≤ length before.items + 1 →
+      IsKept plan after store'
+  kept_more store' meant tells is swept = record {
+    planned = kept.planned;
+    legal = subst (IsLegalJournal plan) (sym adds_entry) (legal_more plan (map entry_of before.items) (entry_of e) kept.legal
+        (record { room = omega (arith, room, length-map before.items entry_of); meant = meant; tells = tells }));
+    store_is = subst (λ journal. IsStore plan journal (state_after plan journal) store') (sym adds_entry)
+        (subst (λ s. IsStore plan (map entry_of before.items ++ entry_of e ∷ []) s store') (sym (state_from-push plan _ (map entry_of before.items) (entry_of e))) is);
+    swept_within = omega (arith, swept, ap (λ (es : List ShardEntry). length es) added, length-append before.items (e ∷ []));
+    within = omega (arith, room, ap (λ (es : List ShardEntry). length es) added, length-append before.items (e ∷ []));
+    room = omega (arith, kept.room, capacity);
+  }
+
+  -- what is told at once
+  pub tells_more : (store' : Store) (s : State) (event : Event) → (entry_of e).event ≡ event → IsMeant plan event → next plan (state_after plan (map entry_of before.items)) event ≡ (s, Plain e.told) →
+      IsStore plan (map entry_of before.items ++ entry_of e ∷ []) s store' → store'.swept ≤ length before.items + 1 → Tells plan before event e.told after store'
+  tells_more store' s event event_is meant nexts is swept = record {
+    adds = adds_entry ∙ ap (λ x. map entry_of before.items ++ entry x e.told ∷ []) event_is;
+    plain = ap (λ (r : State × Answer). r.1) nexts;
+    kept = kept_more store' (subst (IsMeant plan) (sym event_is) meant)
+        (ap told_of (sym (ap (λ (x : Event). (next plan (state_after plan (map entry_of before.items)) x).1) event_is ∙ ap (λ (r : State × Answer). r.1) nexts)))
+        (subst (λ t. IsStore plan (map entry_of before.items ++ entry_of e ∷ []) t store') (sym (ap (λ (x : Event). (next plan (state_after plan (map entry_of before.items)) x).0) event_is ∙ ap (λ (r : State × Answer). r.0) nexts)) is) swept;
+  }

@@ -1,0 +1,15 @@
+pub mod NamesLeft
+pub mod Among
+pub mod Searching
+pub mod Rows
+pub mod Places
+pub mod Stores
+pub mod Journaling
+pub mod Channels
+pub mod Changing
+pub mod Bringing
+pub mod Judging
+pub mod Looks
+pub mod Snapshots
+pub mod Opening
+pub mod Stepping

@@ -1,0 +1,71 @@
+-- A shard that was opened stands for the opening state.
+use Rattle.std.proofs.Common.{◌≡◌, ◌<◌, ◌≤◌, List, [], ◌∷◌, ◌++◌, length, map, Option, Some, IsSome, append_assoc, refl, sym, ap, ap₂, ◌∙◌, subst, arith, vec_capacity}
+use Rattle.std.specs.List.{slice_get, filter_map, range_with_len, cons_option}
+use Rattle.std.specs.declared.alloc.Global.{Global}
+use Rattle.std.specs.declared.vec.Vec.{Vec}
+use Rattle.std.proofs.lemmas.List.{length_push}
+use Rattle.std.proofs.lemmas.List.FromFn.{length-map-range_with_len, get_or-map-range_with_len}
+use Rattle.stmt_codec.specs.Certificates.{Certificate}
+use Rattle.agent_core.specs.declared.event.ShardEntry.{ShardEntry}
+use Rattle.agent_core.specs.declared.name.Name.TheVariants.{Common}
+use Rattle.agent_core.specs.declared.store.Store.{Store}
+use Rattle.agent_core.specs.Plans.{IsPlan}
+use Rattle.agent_core.specs.State.{Plan, opened}
+use Rattle.agent_core.specs.Journals.{Entry, IsLegalJournal, state_after}
+use Rattle.agent_core.specs.Kept.{AreNew, first_names, IsStore, IsKept}
+use Rattle.agent_core.specs.Names.{named, certs_named, AreNames}
+use Rattle.agent_core.specs.Views.{entry_of}
+use Rattle.agent_core.proofs.NamesLeft.{is_there}
+use Rattle.agent_core.proofs.Rows.{row_fresh}
+
+slice_at : {X : Type 0} (front : List X) (x : X) (rest : List X) → slice_get (front ++ x ∷ rest) (length front) ≡ Some x
+slice_at [] x rest = refl
+slice_at (y ∷ front) x rest = slice_at front x rest
+
+-- names of the places from one on are the certificates from there on
+names_from : (commons front rest : List Certificate) (journal : List Entry) → commons ≡ front ++ rest → filter_map (named commons journal) (map (λ place. Common place) (range_with_len (length front) (length rest))) ≡ rest
+names_from commons front [] journal e = refl
+names_from commons front (c ∷ rest) journal e =
+    let here : slice_get commons (length front) ≡ Some c = ap (λ (cs : List Certificate). slice_get cs (length front)) e ∙ slice_at front c rest in
+    ap₂ (λ (o : Option Certificate) (cs : List Certificate). cons_option o cs) here
+    (ap (λ n. filter_map (named commons journal) (map (λ place. Common place) (range_with_len n (length rest)))) (sym (length_push front c)) ∙
+    names_from commons (front ++ c ∷ []) rest journal (e ∙ sym (append_assoc front (c ∷ []) rest)))
+
+pub first_named : (commons : List Certificate) (journal : List Entry) → certs_named commons journal (first_names (length commons)) ≡ commons
+first_named commons journal = names_from commons [] commons journal refl
+
+pub first_are_names : (commons : List Certificate) (journal : List Entry) → AreNames commons journal (first_names (length commons))
+first_are_names commons journal = λ k d lt.
+    let within : k < length commons = omega (arith, lt, length-map-range_with_len (λ place. Common place) 0 (length commons)) in
+    subst (λ n. IsSome (named commons journal n)) (sym (get_or-map-range_with_len (λ place. Common place) 0 (length commons) k k d within (omega arith))) (is_there commons k within)
+
+no_entry : (before : List Entry) (e : Entry) (rest : List Entry) → [] ≡ before ++ e ∷ rest → ⊥
+no_entry [] e rest h = cc
+no_entry (b ∷ before) e rest h = cc
+
+pub opened_kept : (plan : Plan) (entries : Vec ShardEntry Global) (store : Store) → IsPlan plan → entries.items ≡ [] → plan.limit ≤ vec_capacity entries →
+    store.clock ≡ 0 → store.swept ≡ 0 → store.commons.items ≡ first_names (length plan.commons) → AreNew store.rows.items (length plan.channels) → IsKept plan entries store
+opened_kept plan entries store planned none room clock swept commons rows =
+    let names : AreNames plan.commons [] store.commons.items = subst (AreNames plan.commons []) (sym commons) (first_are_names plan.commons []) in
+    let is : IsStore plan [] (opened plan) store = record {
+      clock_is = clock;
+      commons_are = ap (certs_named plan.commons []) commons ∙ first_named plan.commons [];
+      commons_names = names;
+      row_count = rows.long;
+      rows_are = λ i row c at there.
+          let (last, stamp, own) = rows.blank i row at in
+          record {
+            last_is = last;
+            own_is = row_fresh plan [] store.clock store.swept row (stamp ∙ sym swept) ∙ ap (certs_named plan.commons []) own;
+            names = subst (AreNames plan.commons []) (sym own) (λ k d lt. absurd (omega (arith, lt)));
+            swept_before = omega (arith, stamp);
+          };
+    } in
+    record {
+      planned = planned;
+      legal = subst (λ (es : List ShardEntry). IsLegalJournal plan (map entry_of es)) (sym none) (λ before e rest eq. absurd (no_entry before e rest eq));
+      store_is = subst (λ (es : List ShardEntry). IsStore plan (map entry_of es) (state_after plan (map entry_of es)) store) (sym none) is;
+      swept_within = omega (arith, swept);
+      within = omega (arith, ap (λ (es : List ShardEntry). length es) none);
+      room = room;
+    }

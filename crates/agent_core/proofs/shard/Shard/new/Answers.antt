@@ -1,0 +1,15 @@
+-- what is kept at opening stands for the opening state
+use Rattle.std.proofs.Common.{◌∙◌, sym, ap, refl, subst}
+use Rattle.agent_core.specs.declared.store.Store.{Store}
+use Rattle.agent_core.specs.Kept.{AreNew, first_names}
+use Rattle.agent_core.specs.Views.{plan_of}
+use Rattle.agent_core.proofs.Opening.{opened_kept}
+use Rattle.agent_core.proofs.Places.{certificate_count}
+use Rattle.agent_core.proofs.shard.Shard.new.Goals as goal
+
+pub invariant_of-result : goal.invariant_of-result
+invariant_of-result c =
+    let store : Store = record { clock = 0; swept = 0; commons = c.names_of.result; rows = c.in_ok-rows.rows } in
+    opened_kept (plan_of c.args.plan) c.in_ok-entries.entries store c.requires c.in_ok-entries.ensures.items c.in_ok-entries.ensures.capacity refl refl
+    (c.names_of.ensures ∙ ap first_names (c.len-2.ensures ∙ c.args.plan.commons.ok.0 ∙ sym (certificate_count c.args.plan.commons.items)))
+    (subst (AreNew c.in_ok-rows.rows.items) (c.len.ensures ∙ c.args.plan.channels.ok.0) c.in_ok-rows.ensures)

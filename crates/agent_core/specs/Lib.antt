@@ -1,0 +1,11 @@
+pub mod Held
+pub mod State
+pub mod Journals
+pub mod Steps
+pub mod Views
+pub mod Plans
+pub mod Names
+pub mod Kept
+pub mod Letting
+pub mod Looking
+pub mod Answers

@@ -1,0 +1,119 @@
+-- A shard's plain state, and how each event changes it.
+--     Plan      what a shard is opened with
+--     State      its clock, the last number and the own certificates of each channel, and the commons
+--     Ask, Event      what happens to it
+--     Answer      what is to be judged, at which moment; or what is told at once
+--     next plan state event      the next state, and the answer
+use Rattle.std.specs.Prelude.{ℕ, ◌+◌, ◌-◌, max, Bool, not, ◌&&◌, ◌==◌, nat_lt, nat_le, if◌then◌else◌, List, [], ◌++◌, length, filter, sum_by, bytes_eq}
+use Rattle.prin_term.specs.declared.term.Anchor.{Anchor}
+use Rattle.prin_term.specs.Principal.{Principal}
+use Rattle.prin_term.specs.View.{Grant}
+use Rattle.stmt_codec.specs.Certificates.{Certificate, digest_of}
+use Rattle.agent_core.specs.declared.limits.TheConstants.{MAX_OWN, MAX_COMMONS}
+use Rattle.agent_core.specs.declared.told.Told.{Told}
+use Rattle.agent_core.specs.Held.{newly}
+
+-- it is one of so many shards; certificates that ended are kept for so long; the journal has at most so many entries
+pub record Plan : Type 0 where
+  pub number : ℕ
+  pub shards : ℕ
+  pub anchors : List Anchor
+  pub channels : List ℕ
+  pub commons : List Certificate
+  pub keep : ℕ
+  pub limit : ℕ
+
+pub record State : Type 0 where
+  pub clock : ℕ
+  pub last : ℕ → ℕ
+  pub own : ℕ → List Certificate
+  pub commons : List Certificate
+
+-- who asks, on which channel and under which number, for a right on an access list; what the clock read; what is presented
+pub record Ask : Type 0 where
+  pub channel : ℕ
+  pub seq : ℕ
+  pub reading : ℕ
+  pub subject : Principal
+  pub list : List Grant
+  pub right : ℕ
+  pub presented : List Certificate
+
+pub data Event : Type 0 where
+  Asks : Ask → Event
+  Holds : List Certificate → Event
+  Discards : (digest : List ℕ) → Event
+  Forgets : (channel : ℕ) → Event
+  Expires : (reading : ℕ) → Event
+
+pub data Answer : Type 0 where
+  Judged : (moment : ℕ) → List Certificate → Answer
+  Plain : Told → Answer
+
+-- at opening nothing is held but the plan's commons
+abbrev pub opened : Plan → State
+opened plan = record { clock = 0; last = λ c. 0; own = λ c. []; commons = plan.commons }
+
+-- how many certificates the shard holds: each copy counts
+abbrev pub held_count : Plan → State → ℕ
+held_count plan s = length s.commons + sum_by (λ c. length (s.own c)) plan.channels
+
+-- the value at one channel changed
+abbrev pub at_channel : {X : Type 0} → ℕ → X → (ℕ → X) → ℕ → X
+at_channel channel x f c = if c == channel then x else f c
+
+-- the state at this moment, of which only the certificates that pass stay
+abbrev pub keeping : (Certificate → Bool) → ℕ → State → State
+keeping passes moment s = record { clock = moment; last = s.last; own = λ c. filter passes (s.own c); commons = filter passes s.commons }
+
+-- the certificate ended at the moment or before, and as long ago as the plan keeps it
+abbrev pub is_gone : ℕ → ℕ → Certificate → Bool
+is_gone keep moment c = nat_le c.until moment && nat_le keep (moment - c.until)
+
+-- the certificates that are gone at the moment are let go
+abbrev pub swept : ℕ → ℕ → State → State
+swept keep moment s = keeping (λ c. not (is_gone keep moment c)) moment s
+
+-- the clock does not go back
+abbrev pub moment_of : State → ℕ → ℕ
+moment_of s reading = max s.clock reading
+
+-- ---- an Ask
+
+-- the presented certificates that the channel does not hold yet
+abbrev pub brought : State → Ask → List Certificate
+brought s a = newly (s.own a.channel ++ s.commons) a.presented
+
+-- its number is the channel's last one, and what is presented is held from now on
+abbrev pub taking : State → Ask → State
+taking s a = record { clock = s.clock; last = at_channel a.channel a.seq s.last; own = at_channel a.channel (s.own a.channel ++ brought s a) s.own; commons = s.commons }
+
+-- at a state that was swept for it
+abbrev pub asking : State → Ask → State × Answer
+asking s a =
+    if nat_le a.seq (s.last a.channel) then (s, Plain (Told.Replayed (s.last a.channel)))
+    else (if nat_lt MAX_OWN (length (s.own a.channel) + length (brought s a)) then (s, Plain (Told.Full (length (s.own a.channel))))
+    else (taking s a, Judged s.clock ((s.own a.channel ++ brought s a) ++ s.commons)))
+
+-- ---- what is held in common
+
+abbrev pub holding : State → List Certificate → State × Answer
+holding s new =
+    if nat_lt MAX_COMMONS (length s.commons + length new) then (s, Plain (Told.CommonsFull (length s.commons)))
+    else (record { clock = s.clock; last = s.last; own = s.own; commons = s.commons ++ new }, Plain (Told.Held (length new)))
+
+-- ---- what is let go
+
+-- the certificates that are fewer are counted
+abbrev pub removing : Plan → State → State → State × Answer
+removing plan s t = (t, Plain (Told.Removed (held_count plan s - held_count plan t)))
+
+abbrev pub forgetting : ℕ → State → State
+forgetting channel s = record { clock = s.clock; last = s.last; own = at_channel channel [] s.own; commons = s.commons }
+
+abbrev pub next : Plan → State → Event → State × Answer
+next plan s (Asks a) = asking (swept plan.keep (moment_of s a.reading) s) a
+next plan s (Holds certs) = holding s (newly s.commons certs)
+next plan s (Discards digest) = removing plan s (keeping (λ c. not (bytes_eq (digest_of c) digest)) s.clock s)
+next plan s (Forgets channel) = removing plan s (forgetting channel s)
+next plan s (Expires reading) = removing plan s (swept plan.keep (moment_of s reading) s)

@@ -1,0 +1,52 @@
+-- What the program's plans, events and answers mean, wherever their parts lie in memory.
+--     certificates certs      the certificates of a list of handles
+--     plan_of, ask_of, event_of, entry_of      the plan, the Ask, the event, the entry of a journal
+use Rattle.std.specs.Prelude.{List, map}
+use Rattle.std.specs.declared.alloc.Global.{Global}
+use Rattle.std.specs.Arc.{arc_value}
+use Rattle.std.specs.declared.sync.Arc.{Arc}
+use Rattle.prin_term.specs.View.{principal, grant}
+use Rattle.stmt_codec.specs.declared.cert.Cert.{Cert}
+use Rattle.stmt_codec.specs.Certificates.{Certificate, certificate}
+use Rattle.agent_core.specs.declared.plan.ShardPlan.{ShardPlan}
+use Rattle.agent_core.specs.declared.event.Ask.{Ask as AskValue}
+use Rattle.agent_core.specs.declared.event.Event.{Event as EventValue}
+use Rattle.agent_core.specs.declared.event.Event.TheVariants as code
+use Rattle.agent_core.specs.declared.event.ShardEntry.{ShardEntry}
+use Rattle.agent_core.specs.State.{Plan, Ask, Event, Asks, Holds, Discards, Forgets, Expires}
+use Rattle.agent_core.specs.Journals.{Entry}
+
+abbrev pub certificates : List (Arc Cert Global) → List Certificate
+certificates certs = map (λ (c : Arc Cert Global). certificate c.value.body) certs
+
+abbrev pub plan_of : ShardPlan → Plan
+plan_of p = record {
+  number = p.number;
+  shards = p.shards;
+  anchors = (arc_value p.anchors).items;
+  channels = p.channels.items;
+  commons = certificates p.commons.items;
+  keep = p.keep;
+  limit = p.limit;
+}
+
+abbrev pub ask_of : AskValue → Ask
+ask_of a = record {
+  channel = a.channel;
+  seq = a.seq;
+  reading = a.reading;
+  subject = principal a.subject;
+  list = map grant (arc_value a.list).items;
+  right = a.right;
+  presented = certificates a.presented.items;
+}
+
+abbrev pub event_of : EventValue → Event
+event_of (code.Ask a) = Asks (ask_of (arc_value a))
+event_of (code.Hold certs) = Holds (certificates (arc_value certs).items)
+event_of (code.Discard digest) = Discards digest
+event_of (code.Forget channel) = Forgets channel
+event_of (code.Expire reading) = Expires reading
+
+abbrev pub entry_of : ShardEntry → Entry
+entry_of e = record { event = event_of e.event; told = e.told }

@@ -1,0 +1,43 @@
+//! What happens to a shard, and the entry that its journal has of it.
+
+use crate::told::Told;
+use prin_term::{Entry, Term};
+use std::sync::Arc;
+use stmt_codec::Cert;
+
+/// A channel asks for a right on an access list, and presents certificates.
+#[derive(Debug, Drop)]
+pub struct Ask {
+    pub channel: u32,
+    /// The request's number, which has to be above all earlier ones of its channel.
+    pub seq: u64,
+    /// What the clock read.
+    pub reading: u64,
+    /// The channel's key, alone or quoting another principal.
+    pub subject: Term,
+    pub list: Arc<Vec<Entry>>,
+    pub right: u8,
+    pub presented: Vec<Arc<Cert>>,
+}
+
+#[derive(Debug, Drop)]
+pub enum Event {
+    Ask(Arc<Ask>),
+    /// These are held in common.
+    Hold(Arc<Vec<Arc<Cert>>>),
+    /// The certificates of this digest are let go.
+    Discard([u8; 32]),
+    /// The channel's own certificates are let go.
+    Forget(u32),
+    /// The clock read this: certificates that ended long enough ago are let go.
+    Expire(u64),
+}
+
+/// An entry of a shard's journal.
+#[derive(Debug, Drop)]
+pub struct ShardEntry {
+    pub event: Event,
+    pub told: Told,
+}
+
+const _: () = prove!(size_of::<ShardEntry>() <= 256);

@@ -1,0 +1,131 @@
+//! The machine: events in, answers out, a journal of both.
+
+ghost use Rattle.std.specs.Prelude.{◌≡◌, ◌<◌, ◌≤◌, [], map, length, IfOk, OnErr};
+ghost use Rattle.agent_core.specs.Plans.{IsPlan};
+ghost use Rattle.agent_core.specs.Views.{event_of, plan_of, entry_of};
+ghost use Rattle.agent_core.specs.Journals.{IsMeant, IsLegalJournal, told_at};
+ghost use Rattle.agent_core.specs.Answers.{FitsEvent, Stepped};
+ghost use Rattle.agent_core.specs.Kept.{AreNew, first_names};
+ghost use Rattle.agent_core.specs.declared.told.Told.{Told as ToldValue};
+
+use crate::answering::answer_to;
+use crate::event::{Event, ShardEntry};
+use crate::name::{Name, Names};
+use crate::plan::ShardPlan;
+use crate::store::{Row, Store};
+use crate::told::Answer;
+use std::alloc::{AllocError, Global};
+use std::marker::Model;
+
+/// A shard. A contract sees its plan and its journal: all else follows from these.
+#[derive(Drop)]
+pub struct Shard {
+    plan: ShardPlan,
+    entries: Vec<ShardEntry>,
+    store: Store,
+}
+
+impl Model for Shard {
+    ghost use Rattle.std.specs.Prelude.{map};
+    ghost use Rattle.std.specs.Coded.{codes};
+    ghost use Rattle.prin_term.specs.Codes.{principal_code};
+    ghost use Rattle.agent_core.specs.Journals.{ShardSeen};
+    ghost use Rattle.agent_core.specs.Kept.{IsKept};
+    ghost use Rattle.agent_core.specs.Views.{entry_of, plan_of};
+
+    ghost Value = { ShardSeen };
+
+    ghost coded = { Prim.hlevel (codes, principal_code) };
+
+    ghost view = { λ s. record { plan = plan_of s.plan; journal = map entry_of s.entries.items } };
+
+    ghost invariant = { λ s. IsKept (plan_of s.plan) s.entries s.store };
+}
+
+// The names of the plan's commons.
+fn names_of(count: usize) -> Names
+    requires { count ≤ 32 }
+    ensures { result.items ≡ first_names count }
+{
+    let mut names = Names::new();
+    for place in 0..count {
+        names.push(Name::Common(place as u8));
+    }
+    names
+}
+
+// A row for each channel, without a certificate.
+fn rows_for(alloc: Global, count: usize) -> Result<Vec<Row>, AllocError>
+    ensures { IfOk result (λ rows. AreNew rows.items count) }
+{
+    let mut rows = Vec::with_capacity(alloc, count)?;
+    for i in 0..count {
+        rows.push(Row {
+            last: 0,
+            swept: 0,
+            own: Names::new(),
+        })?;
+    }
+    Ok(rows)
+}
+
+impl Shard {
+    /// A shard of this plan, with an empty journal. All its memory is taken here, but for what an
+    /// Ask hands out.
+    pub fn new(alloc: Global, plan: ShardPlan) -> Result<Shard, AllocError>
+        requires { IsPlan (plan_of plan) }
+        ensures { IfOk result (λ s. s ≡ record { plan = plan_of plan; journal = [] }) }
+    {
+        let entries = Vec::with_capacity(alloc, plan.limit as usize)?;
+        let rows = rows_for(alloc, plan.channels.len())?;
+        let store = Store {
+            clock: 0,
+            swept: 0,
+            commons: names_of(plan.commons.len()),
+            rows,
+        };
+        Ok(Shard {
+            plan,
+            entries,
+            store,
+        })
+    }
+
+    /// What it was opened with.
+    pub fn plan(&self) -> &ShardPlan
+        ensures value { plan_of result.now ≡ self.now.plan }
+        ensures planned { IsPlan self.now.plan }
+    {
+        &self.plan
+    }
+
+    /// The events and what was told of each, in their order.
+    pub fn journal(&self) -> &[ShardEntry]
+        ensures value { map entry_of result.now ≡ self.now.journal }
+        ensures legal { IsLegalJournal self.now.plan self.now.journal }
+    {
+        &self.entries
+    }
+
+    /// Answers an event, and journals it at the place that comes with the answer. Only an Ask that is
+    /// to be judged takes memory. Nothing is done at a full journal.
+    pub fn step(&mut self, alloc: Global, event: Event) -> Result<(u64, Answer), AllocError>
+        requires meant { IsMeant self.old.plan (event_of event) }
+        requires fits { FitsEvent (event_of event) }
+        ensures answered { IfOk result (λ r. Stepped self.old.plan self.old.journal (event_of event)
+            self.new.journal r.0 r.1) }
+        ensures plan { self.new.plan ≡ self.old.plan }
+
+        ensures wanted { OnErr result (told_at self.old.plan self.old.journal (event_of event)
+            ≡ ToldValue.Miss) }
+        ensures room { OnErr result (length self.old.journal < self.old.plan.limit) }
+        ensures unchanged { OnErr result (self.new ≡ self.old) }
+    {
+        let place = self.entries.len() as u64;
+        if place == self.plan.limit {
+            return Ok((place, Answer::JournalFull { length: place }));
+        }
+        let answer = answer_to(alloc, &self.plan, &mut self.entries, &mut self.store, event)?;
+        Ok((place, answer))
+    }
+}

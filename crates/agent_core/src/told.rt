@@ -1,0 +1,45 @@
+//! What a shard tells of an event.
+
+use proof_cache::Cached;
+use std::sync::Arc;
+use stmt_codec::Cert;
+
+/// What a journal has of an answer.
+#[derive(Clone, Copy, Debug, PartialEq, Eq)]
+pub enum Told {
+    /// The number is not above the channel's last one.
+    Replayed { last: u64 },
+    /// The channel would hold too many certificates; it holds so many.
+    Full { held: u8 },
+    /// A proof that is kept serves this entry of the list.
+    Hit { entry: u8 },
+    /// The Ask is to be judged.
+    Miss,
+    /// So many certificates are new in common.
+    Held { added: u8 },
+    /// There would be too many in common; there are so many.
+    CommonsFull { held: u8 },
+    /// So many certificates were let go; each copy counts.
+    Removed { count: u32 },
+}
+
+/// What an Ask is judged by: the certificates of its channel and those in common, and its moment.
+#[derive(Debug, Drop)]
+pub struct Snapshot {
+    pub moment: u64,
+    pub certs: Vec<Arc<Cert>>,
+}
+
+/// What a step answers. What is told has the sense that `Told` gives it.
+#[derive(Debug, Drop)]
+pub enum Answer {
+    Replayed { last: u64 },
+    Full { held: u8 },
+    Hit { entry: u8, cached: Arc<Cached> },
+    Miss(Snapshot),
+    Held { added: u8 },
+    CommonsFull { held: u8 },
+    Removed { count: u32 },
+    /// The journal has as many entries as its plan allows, and the event was none.
+    JournalFull { length: u64 },
+}

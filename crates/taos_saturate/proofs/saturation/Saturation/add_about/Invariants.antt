@@ -1,9 +1,0 @@
-use Rattle.taos_saturate.specs.Finding.{room}
-use Rattle.taos_saturate.specs.Saturating.{IsGrown}
-use Rattle.taos_saturate.proofs.saturation.Saturation.add_about.Given as goal
-
-abbrev pub invariant-loop-line : goal.invariant-loop-line
-invariant-loop-line l = IsGrown l.fn.self l.self
-
-abbrev pub decreases-loop-line : goal.decreases-loop-line
-decreases-loop-line l = room l.self.found
