@@ -1,5 +1,5 @@
 -- What is known of a request that is built, and of one that is not.
-use Rattle.std.proofs.Common.{◌≡◌, ◌⊎◌, ℕ, Bool, true, false, List, [], length, Some, None, Err, refl, sym, ap, subst, ◌∙◌, arith, inl, inr}
+use Rattle.std.proofs.Common.{◌≡◌, ◌⊎◌, ℕ, Bool, true, false, List, [], length, Some, None, Err, sym, ap, subst, ◌∙◌, arith, inl, inr}
 use Rattle.std.specs.Prelude.{Option, IfSome}
 use Rattle.keyed_seal.specs.Keys.{key_of}
 use Rattle.object_core.specs.Operation.{IsAccessList, IsContent}

@@ -1,17 +1,17 @@
 -- The course of a request, from what was done for it.
-use Rattle.std.proofs.Common.{◌≡◌, ◌<◌, ◌^◌, ℕ, List, [], ◌∷◌, length, Some, refl, sym, ap, ap₂, subst, ◌∙◌, inl, inr}
-use Rattle.std.specs.Prelude.{Option, ◌⊎◌}
+use Rattle.std.proofs.Common.{◌≡◌, ◌<◌, ◌^◌, ℕ, List, [], ◌∷◌, length, Some, sym, ap₂, subst, ◌∙◌, inl, inr}
+use Rattle.std.specs.Prelude.{Option}
 use Rattle.std.proofs.KnownBytes.{Keeps-refl}
 use Rattle.object_core.specs.Operation.{right_of}
 use Rattle.prin_term.specs.Principal.{Principal}
 use Rattle.prin_term.specs.View.{principal}
 use Rattle.frame_link.specs.Readings.{ShowsKnown}
-use Rattle.taos_wire.specs.Request.{Request, subject_of}
-use Rattle.taos_wire.specs.Reply.{Reply, NoMemory, Sent, sealed, sent, spelling}
+use Rattle.taos_wire.specs.Request.{Request}
+use Rattle.taos_wire.specs.Reply.{Reply, Sent, sealed, sent, spelling}
 use Rattle.taos_node.specs.declared.asking.Asking.{Asking}
 use Rattle.taos_node.specs.Asking.{StandsFor, certs_of, content_of, list_of}
 use Rattle.node_file.specs.Opening.{Opening}
-use Rattle.taos_node.specs.Course.{Arrival, HasArrived, Course, ruled, unruled}
+use Rattle.taos_node.specs.Course.{Arrival, Course, ruled, unruled}
 use Rattle.taos_node.specs.Meaning.{object}
 use Rattle.taos_node.specs.Ruling.{IsAnswered, IsRuled, Leaves}
 use Rattle.taos_node.specs.Serving.{Takes}

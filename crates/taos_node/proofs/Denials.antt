@@ -1,6 +1,6 @@
 -- What a denial tells is there: the certificate that ended, and the part of an entry.
 use Rattle.std.proofs.Common.{◌≡◌, ℕ, zero, suc, ◌+◌, ◌<◌, ◌≤◌, List, [], ◌∷◌, ◌++◌, length, get_or, map, Contains, Option, None, Some, slice_get, Global, refl, sym, ap, subst, ◌∙◌, ◌^◌, inl, inr, arith, append-nil, length-append}
-use Rattle.std.specs.Prelude.{All, IsSome, max, option_map, slice_index, sum_by}
+use Rattle.std.specs.Prelude.{All, IsSome, option_map, slice_index, sum_by}
 use Rattle.std.specs.Int.{bytes_high_first, byte_at, to_be_bytes, w32}
 use Rattle.sha2.specs.Sha256.{digest_bytes, sha256}
 use Rattle.sha2.proofs.Facts256.{length-sha256}

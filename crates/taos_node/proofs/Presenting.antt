@@ -1,5 +1,5 @@
 -- Certificates that are opened one by one, and what the first that opens to none is.
-use Rattle.std.proofs.Common.{◌≡◌, ◌≢◌, ◌⊎◌, ℕ, suc, ◌+◌, ◌-◌, ◌<◌, ◌≤◌, Bool, true, false, cond, List, [], ◌∷◌, ◌++◌, length, take, drop, map, Option, Some, None, Result, Ok, Err, refl, sym, ap, subst, ◌∙◌, append_assoc, inl, inr, arith, get_or}
+use Rattle.std.proofs.Common.{◌≡◌, ◌≢◌, ◌⊎◌, ℕ, suc, ◌+◌, ◌-◌, ◌<◌, ◌≤◌, true, false, cond, List, [], ◌∷◌, ◌++◌, length, take, drop, map, Result, Ok, Err, refl, sym, ap, subst, ◌∙◌, append_assoc, inl, inr, arith, get_or}
 use Rattle.std.specs.Prelude.{Any, Vec, nat_lt, ◌==◌, if◌then◌else◌}
 use Rattle.std.specs.declared.alloc.Global.{Global}
 use Rattle.std.specs.declared.sync.Arc.{Arc}
@@ -8,7 +8,7 @@ use Rattle.std.proofs.lemmas.Bool.{cases_Bool, cases_lt, false≢true}
 use Rattle.std.proofs.lemmas.Slice.Eq.{bytes_eq-Decides}
 use Rattle.std.proofs.lemmas.List.{get_or-map, get_or_default, length-map, length-take-le, map-append, map_push, take-append-drop, take_more}
 use Rattle.keyed_seal.specs.Tag.{tag_of}
-use Rattle.prin_term.specs.Steps.{◌>>=◌, byte_at, with_fault}
+use Rattle.prin_term.specs.Steps.{byte_at, with_fault}
 use Rattle.prin_term.proofs.Results.{bind_err, err_is, chosen, chosen_err, refused_err, with_fault_err}
 use Rattle.prin_term.proofs.FieldLaws.{IsBytes}
 use Rattle.stmt_codec.specs.declared.cert.Cert.{Cert}

@@ -7,7 +7,7 @@
 --     IsRuled ..      a grant of the first entry that is derivable, with a proof; or a denial
 --     IsAnswered ..      that, or want of memory
 --     Leaves channel seq key bytes Holds      the bytes of a reply of which this holds
-use Rattle.std.specs.Prelude.{◌≡◌, ◌⊎◌, ℕ, ◌<◌, ◌^◌, Bool, false, List, Option, Some, length, map, All, nat_lt, slice_get}
+use Rattle.std.specs.Prelude.{◌≡◌, ◌⊎◌, ℕ, ◌<◌, ◌^◌, Bool, false, List, Some, length, map, All, nat_lt, slice_get}
 use Rattle.prin_term.specs.declared.term.Anchor.{Anchor}
 use Rattle.prin_term.specs.Principal.{Principal, subterms}
 use Rattle.prin_term.specs.View.{Grant}

@@ -2,7 +2,6 @@
 use Rattle.std.proofs.Common.{List, ℕ, take, drop, length, arith, subst, ◌≡◌, ◌∙◌}
 use Rattle.std.proofs.lemmas.List.{length-take, take-append-le, take_all}
 use Rattle.node_file.specs.Opening.{Spells}
-use Rattle.taos_node.specs.Meaning.{opening}
 use Rattle.taos_node.proofs.Commands.{file_opens}
 use Rattle.taos_node.proofs.command.file_opening.Goals as goal
 

@@ -1,5 +1,5 @@
 -- One certificate more, or the first that opens to none.
-use Rattle.std.proofs.Common.{ℕ, ◌+◌, List, get_or, length, map, take, sym, ap, subst, ◌∙◌, arith}
+use Rattle.std.proofs.Common.{ℕ, ◌+◌, List, get_or, length, map, take, sym, ap, subst, ◌∙◌}
 use Rattle.std.specs.declared.alloc.Global.{Global}
 use Rattle.std.specs.declared.sync.Arc.{Arc}
 use Rattle.std.proofs.lemmas.Bool.{eqb-true}

@@ -1,5 +1,3 @@
-use Rattle.std.proofs.Common.{sym, ◌∙◌}
-use Rattle.taos_node.proofs.Loops.{map_whole}
 use Rattle.taos_node.proofs.Ruled.{place_more}
 use Rattle.taos_node.proofs.ruling.certs_at.Goals as goal
 

@@ -1,6 +1,5 @@
 use Rattle.std.proofs.Common.{sym, ap, map, slice_get, ◌∙◌}
-use Rattle.prin_term.specs.View.{Grant, grant, principal}
-use Rattle.taos_calculus.specs.Question.{IsTermOf}
+use Rattle.prin_term.specs.View.{grant, principal}
 use Rattle.denial_link.proofs.Entries.{entry_is_term}
 use Rattle.taos_node.specs.Asking.{certs_of, list_of}
 use Rattle.taos_node.specs.Ruling.{marks_of}

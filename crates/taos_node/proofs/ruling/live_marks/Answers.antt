@@ -1,4 +1,4 @@
-use Rattle.std.proofs.Common.{Global, map, nat_lt, sym, ◌∙◌}
+use Rattle.std.proofs.Common.{Global, nat_lt, sym, ◌∙◌}
 use Rattle.std.specs.declared.sync.Arc.{Arc}
 use Rattle.std.proofs.lemmas.Simd.{map-map}
 use Rattle.stmt_codec.specs.declared.cert.Cert.{Cert}

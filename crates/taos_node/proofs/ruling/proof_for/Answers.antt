@@ -3,7 +3,6 @@ use Rattle.std.proofs.Common.{List, ℕ, length, map, Some, slice_get, arith, sy
 use Rattle.std.specs.declared.sync.Arc.{Arc}
 use Rattle.std.proofs.lemmas.Option.{same_Some, slice_get_within}
 use Rattle.std.proofs.lemmas.List.{length-map}
-use Rattle.prin_term.specs.Principal.{Principal}
 use Rattle.prin_term.specs.View.{Grant, grant, principal}
 use Rattle.stmt_codec.specs.declared.cert.Cert.{Cert}
 use Rattle.taos_calculus.specs.Question.{IsProofOf, MayAnswer}
