@@ -1,5 +1,8 @@
 pub mod Entries
-pub mod Listed
+pub mod Loops
+pub mod Presenting
+pub mod Ruled
+pub mod Denials
 pub mod Courses
 pub mod Steps
 pub mod Connections
@@ -8,3 +11,5 @@ pub mod Arrivals
 pub mod SameNodes
 pub mod Commands
 pub mod Notes
+pub mod Looked
+pub mod OneFinding
