@@ -14,3 +14,5 @@ pub mod Notes
 pub mod Looked
 pub mod OneFinding
 pub mod OneInput
+pub mod SameFindings
+pub mod CheckCommands

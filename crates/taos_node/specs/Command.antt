@@ -1,11 +1,12 @@
 -- The top call: the words, the file, and then the work.
---     IsRun words      the one command line
+--     IsRun words, IsCheck words      the two command lines; IsCommand words, either
 --     IsOpeningFile o bytes      a file that opens the node
 --     IsUnbuiltOpening o      an opening that reads, and is not served yet
 --     Runs ..      what is done, by how it ends
 --     Ends ..      the same, with the status and the note that tell it
---     FileDecides ..      which files are refused
+--     FileDecides ..      which files are refused; FileChecks .., the same for a check
 --     EndsWell ..      an input of whole frames is answered to its end
+--     ChecksWell ..      a check comes to its end
 --     TellsFaults ..      a fault is not passed over
 use Rattle.std.specs.Prelude.{◌≡◌, ◌≢◌, ◌⊎◌, ℕ, ◌<◌, ◌≤◌, List, [], ◌∷◌, length, All, Option, Some, None, Result, Ok, Err, codes, string_bytes, String}
 use Rattle.std.specs.Io.KnownBytes.{Keeps, Consumes, IsAtEnd}
@@ -16,7 +17,8 @@ use Rattle.taos_node.specs.declared.ending.FileFault.{FileFault}
 use Rattle.taos_node.specs.declared.ending.FileFault.TheVariants as fault
 use Rattle.taos_node.specs.declared.ending.FileFault.TheVariants.{Malformed, TooLarge, Unbuilt}
 use Rattle.taos_node.specs.declared.ending.Ending.{Ending}
-use Rattle.taos_node.specs.declared.ending.Ending.TheVariants.{Usage, File, Served}
+use Rattle.taos_node.specs.declared.ending.Ending.TheVariants.{Usage, File, Served, Checked}
+use Rattle.taos_node.specs.declared.check.CheckEnd.{CheckEnd}
 use Rattle.taos_node.specs.Ending.{status_of}
 use Rattle.taos_node.specs.Notes.{note_of, IsNoted}
 use Rattle.taos_node.specs.declared.command.Lane.{Lane}
@@ -26,11 +28,20 @@ use Rattle.node_file.specs.OpeningReading.{opening_of}
 use Rattle.node_file.specs.OpeningView.{Represents}
 use Rattle.node_file.specs.Opening.{Opening, Spells}
 use Rattle.taos_node.specs.Run.{IsConnection, StandsStill, max_request}
+use Rattle.taos_node.specs.Findings.{Checks}
 
 abbrev pub IsRun : List (String Global) → Type 0
 IsRun [] = ⊥
 IsRun (word ∷ []) = string_bytes word ≡ codes "run"
 IsRun (word ∷ other ∷ words) = ⊥
+
+abbrev pub IsCheck : List (String Global) → Type 0
+IsCheck [] = ⊥
+IsCheck (word ∷ []) = string_bytes word ≡ codes "check"
+IsCheck (word ∷ other ∷ words) = ⊥
+
+abbrev pub IsCommand : List (String Global) → Type 0
+IsCommand words = IsRun words ⊎ IsCheck words
 
 -- the most bytes of a file
 abbrev pub max_file : ℕ
@@ -82,14 +93,22 @@ pub record Untouched (in0 in1 out0 out1 clock0 clock1 : Option (List ℕ)) : Typ
   pub output : Keeps out0 out1
   pub clock : Keeps clock0 clock1
 
--- What is done, by how it ends. Other words do nothing. A file that is malformed or too large, or fails, or opens a node that
--- is not built, and one for which memory is refused, leaves the rest untouched; and every other opens a node that serves the
--- connection.
+-- a request and its reply were looked over, by the node that the file opens
+pub record LooksOver (file0 file1 in0 in1 out0 out1 : Option (List ℕ)) (end : CheckEnd) : Type 0 where
+  pub node : Opening
+  pub opens : Opens file0 file1 node
+  pub checks : Checks node in0 in1 out0 out1 end
+
+-- What is done, by how it ends. Other words do nothing. A file that is malformed or too large, or fails, and one for which
+-- memory is refused, leaves the rest untouched, and so does one for `run` that opens a node that is not built; every other
+-- opens a node that serves the connection, or by which a request and its reply are looked over, and then the clock is not read.
 abbrev pub Runs : List (String Global) → Option (List ℕ) → Option (List ℕ) → Option (List ℕ) → Option (List ℕ) → Option (List ℕ) → Option (List ℕ) → Option (List ℕ) → Option (List ℕ) → Ending → Type 0
-Runs words file0 file1 in0 in1 out0 out1 clock0 clock1 Usage = (IsRun words → ⊥) × Keeps file0 file1 × Untouched in0 in1 out0 out1 clock0 clock1
-Runs words file0 file1 in0 in1 out0 out1 clock0 clock1 (File fault) = IsRun words × FileFails file0 file1 fault × Untouched in0 in1 out0 out1 clock0 clock1
+Runs words file0 file1 in0 in1 out0 out1 clock0 clock1 Usage = (IsCommand words → ⊥) × Keeps file0 file1 × Untouched in0 in1 out0 out1 clock0 clock1
+Runs words file0 file1 in0 in1 out0 out1 clock0 clock1 (File fault) =
+    IsCommand words × (fault ≡ Unbuilt → IsRun words) × FileFails file0 file1 fault × Untouched in0 in1 out0 out1 clock0 clock1
 Runs words file0 file1 in0 in1 out0 out1 clock0 clock1 (Served outcome) =
     IsRun words × ((o : Opening) × Opens file0 file1 o × (IsUnbuiltOpening o → ⊥) × IsConnection o max_frames in0 in1 out0 out1 clock0 clock1 outcome)
+Runs words file0 file1 in0 in1 out0 out1 clock0 clock1 (Checked end) = IsCheck words × LooksOver file0 file1 in0 in1 out0 out1 end × Keeps clock0 clock1
 
 -- How it ended, with what was done: the status and the note, with its number, tell that ending.
 pub record Ends (words : List (String Global)) (file0 file1 in0 in1 out0 out1 clock0 clock1 notes0 notes1 : Option (List ℕ)) (n0 n1 status : ℕ) : Type 0 where
@@ -105,6 +124,12 @@ pub record FileDecides (file0 : Option (List ℕ)) (f0 f1 : ℕ) (status : ℕ) 
   pub refuses : (bytes : List ℕ) → file0 ≡ Some bytes → ((o : Opening) → IsOpeningFile o bytes → ⊥) → StandsStill f0 f1 → (status ≡ 2) ⊎ (status ≡ 6)
   pub serves : (bytes : List ℕ) (o : Opening) → file0 ≡ Some bytes → IsOpeningFile o bytes → (IsUnbuiltOpening o → ⊥) → status ≢ 99
   pub lacks : (bytes : List ℕ) (o : Opening) → file0 ≡ Some bytes → IsOpeningFile o bytes → IsUnbuiltOpening o → StandsStill f0 f1 → (status ≡ 99) ⊎ (status ≡ 6)
+
+-- For a check a file that opens no node is refused, and every other is not, whatever it asks for.
+pub record FileChecks (file0 : Option (List ℕ)) (f0 f1 : ℕ) (status : ℕ) : Type 0 where
+  pub opens : (bytes : List ℕ) (o : Opening) → file0 ≡ Some bytes → IsOpeningFile o bytes → status ≢ 2
+  pub refuses : (bytes : List ℕ) → file0 ≡ Some bytes → ((o : Opening) → IsOpeningFile o bytes → ⊥) → StandsStill f0 f1 → (status ≡ 2) ⊎ (status ≡ 6)
+  pub serves : status ≢ 99
 
 -- what the clock of the first lane tells, and how often it failed
 abbrev pub told_by_first : {C R D I O : Type 0} → (C → Option (List ℕ)) → List (Lane C R D I O) → Option (List ℕ)
@@ -123,6 +148,12 @@ EndsWell file0 f0 f1 in0 i0 i1 o0 o1 c0 c1 status =
     (frames : List (List ℕ)) → in0 ≡ Some (framed frames) → All (λ p. length p ≤ max_request) frames → length frames ≤ max_frames →
     StandsStill f0 f1 → StandsStill i0 i1 → StandsStill o0 o1 → StandsStill c0 c1 → (status ≡ 0) ⊎ (status ≡ 6)
 
+-- Where the file opens a node and no count rises, a check finds something, or memory was refused.
+abbrev pub ChecksWell : Option (List ℕ) → ℕ → ℕ → ℕ → ℕ → ℕ → ℕ → ℕ → Type 0
+ChecksWell file0 f0 f1 i0 i1 o0 o1 status =
+    (bytes : List ℕ) (o : Opening) → file0 ≡ Some bytes → IsOpeningFile o bytes →
+    StandsStill f0 f1 → StandsStill i0 i1 → StandsStill o0 o1 → (status ≡ 0) ⊎ ((status ≡ 11) ⊎ (status ≡ 6))
+
 -- a count that rose is answered, by its status
 pub record TellsFaults (file0 file1 in0 in1 out0 out1 clock0 clock1 status : ℕ) : Type 0 where
   pub file : file0 < file1 → status ≡ 3
@@ -139,6 +170,13 @@ FileReads file0 file1 (Err fault) = FileFails file0 file1 fault
 abbrev pub FileGives : Option (List ℕ) → Option (List ℕ) → Result code.Opening FileFault → Type 0
 FileGives file0 file1 (Ok node) = (o : Opening) × Opens file0 file1 o × Represents node o × (IsUnbuiltOpening o → ⊥)
 FileGives file0 file1 (Err fault) = FileFails file0 file1 fault
+
+-- what a check does, by how it ends
+abbrev pub ChecksFile : Option (List ℕ) → Option (List ℕ) → Option (List ℕ) → Option (List ℕ) → Option (List ℕ) → Option (List ℕ) → Ending → Type 0
+ChecksFile file0 file1 in0 in1 out0 out1 (Checked end) = LooksOver file0 file1 in0 in1 out0 out1 end
+ChecksFile file0 file1 in0 in1 out0 out1 (File fault) = (fault ≢ Unbuilt) × FileFails file0 file1 fault × Keeps in0 in1 × Keeps out0 out1
+ChecksFile file0 file1 in0 in1 out0 out1 Usage = ⊥
+ChecksFile file0 file1 in0 in1 out0 out1 (Served outcome) = ⊥
 
 abbrev pub FaultHasCause : ℕ → ℕ → FileFault → Type 0
 FaultHasCause f0 f1 (Malformed offset) = f1 ≡ f0

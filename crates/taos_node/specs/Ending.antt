@@ -7,7 +7,10 @@ use Rattle.taos_node.specs.declared.ending.FileFault.{FileFault}
 use Rattle.taos_node.specs.declared.ending.FileFault.TheVariants as fault
 use Rattle.taos_node.specs.declared.ending.FileFault.TheVariants.{Malformed, TooLarge, Unbuilt}
 use Rattle.taos_node.specs.declared.ending.Ending.{Ending}
-use Rattle.taos_node.specs.declared.ending.Ending.TheVariants.{Usage, File, Served}
+use Rattle.taos_node.specs.declared.ending.Ending.TheVariants.{Usage, File, Served, Checked}
+use Rattle.taos_node.specs.declared.check.CheckEnd.{CheckEnd}
+use Rattle.taos_node.specs.declared.check.CheckEnd.TheVariants as ends
+use Rattle.taos_node.specs.Findings.{finding_status}
 
 -- where no connection was served, for the file's sake
 abbrev pub file_status : FileFault → ℕ
@@ -27,7 +30,14 @@ served_status (Truncated have) = 7
 served_status (TooLong n) = 8
 served_status (Spent frames) = 10
 
+abbrev pub checked_status : CheckEnd → ℕ
+checked_status (ends.Done finding) = finding_status finding
+checked_status ends.ReadFault = 3
+checked_status ends.WriteFault = 4
+checked_status ends.NoMemory = 6
+
 abbrev pub status_of : Ending → ℕ
 status_of Usage = 1
 status_of (File fault) = file_status fault
 status_of (Served outcome) = served_status outcome
+status_of (Checked end) = checked_status end

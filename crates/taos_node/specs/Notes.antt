@@ -1,4 +1,4 @@
--- The note of an ending: one line, but none for success.
+-- The note of an ending: one line, but none for success, nor where a check found anything.
 --     note_of ending      its bytes
 --     IsNoted ..      it was written, or a proper front of it where the notes failed
 use Rattle.std.specs.Prelude.{◌≡◌, ℕ, ◌<◌, ◌≤◌, List, [], ◌++◌, length, Option, codes, decimal}
@@ -10,7 +10,9 @@ use Rattle.taos_node.specs.declared.ending.FileFault.{FileFault}
 use Rattle.taos_node.specs.declared.ending.FileFault.TheVariants as fault
 use Rattle.taos_node.specs.declared.ending.FileFault.TheVariants.{Malformed, TooLarge, Unbuilt}
 use Rattle.taos_node.specs.declared.ending.Ending.{Ending}
-use Rattle.taos_node.specs.declared.ending.Ending.TheVariants.{Usage, File, Served}
+use Rattle.taos_node.specs.declared.ending.Ending.TheVariants.{Usage, File, Served, Checked}
+use Rattle.taos_node.specs.declared.check.CheckEnd.{CheckEnd}
+use Rattle.taos_node.specs.declared.check.CheckEnd.TheVariants as ends
 
 abbrev pub file_note : FileFault → List ℕ
 file_note (Malformed offset) = codes "taos: node file: byte " ++ decimal offset ++ codes ": malformed\n"
@@ -29,10 +31,17 @@ served_note (Truncated have) = codes "taos: input ends inside a frame, " ++ deci
 served_note (TooLong n) = codes "taos: frame too long: " ++ decimal n ++ codes "\n"
 served_note (Spent frames) = codes "taos: frames spent: " ++ decimal frames ++ codes "\n"
 
+abbrev pub checked_note : CheckEnd → List ℕ
+checked_note (ends.Done finding) = []
+checked_note ends.ReadFault = codes "taos: read fault\n"
+checked_note ends.WriteFault = codes "taos: write fault\n"
+checked_note ends.NoMemory = codes "taos: no memory\n"
+
 abbrev pub note_of : Ending → List ℕ
 note_of Usage = codes "taos: usage\n"
 note_of (File fault) = file_note fault
 note_of (Served outcome) = served_note outcome
+note_of (Checked end) = checked_note end
 
 -- what was told of the notes, and how often they had failed, before and after
 pub data IsNoted (before after : Option (List ℕ)) (faults0 faults1 : ℕ) (note : List ℕ) : Type 0 where

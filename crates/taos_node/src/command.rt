@@ -1,13 +1,14 @@
 //! The top call: the words, the file, and then the work.
 
 ghost use Rattle.std.specs.Bool.{OnFalse, OnTrue};
-ghost use Rattle.std.specs.Prelude.{◌≡◌, ◌⊎◌, ◌↔◌, ◌<◌, ◌≤◌, length, IsTrue, IfOk};
+ghost use Rattle.std.specs.Prelude.{◌≡◌, ◌≢◌, ◌⊎◌, ◌↔◌, ◌<◌, ◌≤◌, ℕ, length, IsTrue, IfErr, IfOk};
 ghost use Rattle.frame_link.specs.Faults.{Rose};
 ghost use Rattle.taos_node.specs.Meaning.{opening, FitsByNumber};
 ghost use Rattle.taos_node.specs.Run.{IsConnection, HasCauses, IsComplete};
 ghost use Rattle.taos_node.specs.Ending.{status_of};
-ghost use Rattle.taos_node.specs.Command.{IsRun, IsUnbuiltOpening, Runs, Ends, FileReads, FileGives, FileHasCause, FileDecides, EndsWell, TellsFaults, told_by_first, faults_of_first};
+ghost use Rattle.taos_node.specs.Command.{ChecksFile, ChecksWell, FileChecks, IsCheck, IsCommand, IsRun, IsUnbuiltOpening, Runs, Ends, FileReads, FileGives, FileHasCause, FileDecides, EndsWell, TellsFaults, told_by_first, faults_of_first};
 
+use crate::check::check_connection;
 use crate::connection::serve_connection;
 use crate::ending::{Ending, FileFault, status_of};
 use crate::note::tell;
@@ -64,6 +65,7 @@ fn zeros(alloc: Global, len: usize) -> Result<Vec<u8>, AllocError>
 fn file_opening<F: Source>(alloc: Global, file: &mut F) -> Result<Opening, FileFault>
     ensures reads { FileReads (F.left file.old) (F.left file.new) result }
     ensures servable { IfOk result (λ node. FitsByNumber (opening node)) }
+    ensures known { IfErr result (λ fault. fault ≢ FileFault.Unbuilt) }
     ensures cause { FileHasCause (F.faults file.old) (F.faults file.new) result }
 {
     let Ok(mut room) = zeros(alloc, MAX_FILE + 1) else {
@@ -169,6 +171,43 @@ fn decide_and_serve<I: Source, O: Sink, C: Clock, R: RelayLink, D: Door>(
     }
 }
 
+fn is_check(words: &[String]) -> bool
+    ensures { IsTrue result ↔ IsCheck words.now }
+{
+    words.len() == 1 && words[0].as_str() == "check"
+}
+
+// Looks over a request and its reply by the node that a file opens.
+fn check_file<F: Source, I: Source, O: Sink>(
+    alloc: Global,
+    file: &mut F,
+    input: &mut I,
+    output: &mut O,
+) -> Ending
+    ensures command { status_of result ≢ 1 }
+    ensures file { FileChecks (F.left file.old)
+        (F.faults file.old) (F.faults file.new) (status_of result) }
+    ensures checks { ChecksFile (F.left file.old) (F.left file.new)
+        (I.left input.old) (I.left input.new) (O.written output.old) (O.written output.new)
+        result }
+    ensures complete { ChecksWell (F.left file.old) (F.faults file.old) (F.faults file.new)
+        (I.faults input.old) (I.faults input.new) (O.faults output.old) (O.faults output.new)
+        (status_of result) }
+    ensures read_fault { status_of result ≡ 3 → Rose (F.faults file.old) (F.faults file.new)
+        ⊎ Rose (I.faults input.old) (I.faults input.new) }
+    ensures write_fault { status_of result ≡ 4
+        → Rose (O.faults output.old) (O.faults output.new) }
+    ensures no_clock { status_of result ≢ 5 }
+    ensures told { (clock : ℕ) → TellsFaults (F.faults file.old) (F.faults file.new)
+        (I.faults input.old) (I.faults input.new) (O.faults output.old) (O.faults output.new)
+        clock clock (status_of result) }
+{
+    match file_opening(alloc, file) {
+        Ok(node) => Ending::Checked(check_connection(alloc, &node, input, output)),
+        Err(fault) => Ending::File(fault),
+    }
+}
+
 // Does the work, and tells nobody how it ended.
 fn run<F: Source, I: Source, O: Sink, C: Clock, R: RelayLink, D: Door>(
     alloc: Global,
@@ -179,7 +218,12 @@ fn run<F: Source, I: Source, O: Sink, C: Clock, R: RelayLink, D: Door>(
     lanes: &mut [Lane<C, R, D>],
 ) -> Ending
     requires some { 0 < length lanes.old }
-    ensures usage { (status_of result ≡ 1) ↔ ¬ (IsRun words.now) }
+    ensures usage { (status_of result ≡ 1) ↔ ¬ (IsCommand words.now) }
+    ensures checked { IsCheck words.now → FileChecks (F.left file.old)
+        (F.faults file.old) (F.faults file.new) (status_of result) }
+    ensures checks_well { IsCheck words.now → ChecksWell (F.left file.old)
+        (F.faults file.old) (F.faults file.new) (I.faults input.old) (I.faults input.new)
+        (O.faults output.old) (O.faults output.new) (status_of result) }
     ensures file { IsRun words.now → FileDecides (F.left file.old)
         (F.faults file.old) (F.faults file.new) (status_of result) }
     ensures runs { Runs words.now (F.left file.old) (F.left file.new)
@@ -201,6 +245,9 @@ fn run<F: Source, I: Source, O: Sink, C: Clock, R: RelayLink, D: Door>(
         (faults_of_first C.faults lanes.old) (faults_of_first C.faults lanes.new)
         (status_of result) }
 {
+    if is_check(words) {
+        return check_file(alloc, file, input, output);
+    }
     if !is_run(words) {
         return Ending::Usage;
     }
@@ -210,9 +257,11 @@ fn run<F: Source, I: Source, O: Sink, C: Clock, R: RelayLink, D: Door>(
     }
 }
 
-/// Does all that the program does, and answers its exit status. `run` is the one command line: the
-/// file is read to a node's opening, and each request frame of the input is answered by one reply
-/// frame of the output, with the first lane's clock. A note tells how it ended.
+/// Does all that the program does, and answers its exit status. The words `run` and `check` are the
+/// two command lines, and both read the file to a node's opening. By `run` each request frame of
+/// the input is answered by one reply frame of the output, with the first lane's clock. By `check`
+/// the frames of a request and its reply are looked over, and one line of the output says what is
+/// found. A note tells how it ended.
 pub fn taos<
     W: Threads + Wait + Sync,
     F: Source,
@@ -236,12 +285,14 @@ pub fn taos<
     requires few { length lanes.old ≤ 16 }
 
     // The words decide status 1, and the file statuses 2 and 99.
-    ensures usage { (result ≡ 1) ↔ ¬ (IsRun words.now) }
+    ensures usage { (result ≡ 1) ↔ ¬ (IsCommand words.now) }
+    ensures checked { IsCheck words.now → FileChecks (F.left file.old)
+        (F.faults file.old) (F.faults file.new) result }
     ensures file { IsRun words.now → FileDecides (F.left file.old)
         (F.faults file.old) (F.faults file.new) result }
 
-    // Every whole frame has its course, the bytes that are written are the replies, and the note
-    // tells how it ended.
+    // Every whole frame has its course, and the bytes that are written are the replies; or the line is
+    // written of what a request and its reply show. The note tells how it ended.
     ensures run { Ends words.now (F.left file.old) (F.left file.new)
         (I.left input.old) (I.left input.new) (O.written output.old) (O.written output.new)
         (told_by_first C.readings lanes.old) (told_by_first C.readings lanes.new)
@@ -251,6 +302,10 @@ pub fn taos<
         (F.faults file.old) (F.faults file.new) (I.left input.old)
         (I.faults input.old) (I.faults input.new) (O.faults output.old) (O.faults output.new)
         (faults_of_first C.faults lanes.old) (faults_of_first C.faults lanes.new) result }
+
+    ensures checks_well { IsCheck words.now → ChecksWell (F.left file.old)
+        (F.faults file.old) (F.faults file.new) (I.faults input.old) (I.faults input.new)
+        (O.faults output.old) (O.faults output.new) result }
 
     // A fault is answered only where its count rose.
     ensures read_fault { result ≡ 3 → Rose (F.faults file.old) (F.faults file.new)
@@ -264,8 +319,8 @@ pub fn taos<
         (I.faults input.old) (I.faults input.new) (O.faults output.old) (O.faults output.new)
         (faults_of_first C.faults lanes.old) (faults_of_first C.faults lanes.new) result }
 
-    // Success has no note.
-    ensures silent { result ≡ 0 → notes.new ≡ notes.old }
+    // Success has no note, nor what a check refused.
+    ensures silent { (result ≡ 0) ⊎ (result ≡ 11) → notes.new ≡ notes.old }
 {
     let ending = run(alloc, words, file, input, output, lanes);
     tell(notes, ending);

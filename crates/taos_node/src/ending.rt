@@ -1,8 +1,10 @@
 //! How a run ended, and the exit status that tells it.
 
 ghost use Rattle.std.specs.Prelude.{◌≡◌};
-ghost use Rattle.taos_node.specs.Ending.{file_status, served_status, status_of};
+ghost use Rattle.taos_node.specs.Ending.{checked_status, file_status, served_status, status_of};
 
+use crate::check::CheckEnd;
+use crate::finding::finding_status;
 use frame_link::Outcome;
 
 /// Why a file opens no node that is served.
@@ -29,6 +31,8 @@ pub enum Ending {
     File(FileFault),
     /// A connection was served.
     Served(Outcome),
+    /// A request and its reply were looked over.
+    Checked(CheckEnd),
 }
 
 const USAGE: u8 = 1;
@@ -77,6 +81,17 @@ fn served_status(outcome: Outcome) -> u8
     }
 }
 
+fn checked_status(end: CheckEnd) -> u8
+    ensures { result ≡ checked_status end }
+{
+    match end {
+        CheckEnd::Done(finding) => finding_status(finding),
+        CheckEnd::ReadFault => READ_FAULT,
+        CheckEnd::WriteFault => WRITE_FAULT,
+        CheckEnd::NoMemory => MEMORY,
+    }
+}
+
 /// The exit status of an ending.
 pub fn status_of(ending: Ending) -> u8
     ensures { result ≡ status_of ending }
@@ -85,5 +100,6 @@ pub fn status_of(ending: Ending) -> u8
         Ending::Usage => USAGE,
         Ending::File(fault) => file_status(fault),
         Ending::Served(outcome) => served_status(outcome),
+        Ending::Checked(end) => checked_status(end),
     }
 }

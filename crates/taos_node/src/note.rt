@@ -1,9 +1,10 @@
 //! The one line that tells an ending in words.
 
-ghost use Rattle.std.specs.Prelude.{◌≡◌, ◌≤◌, ◌++◌, length, decimal};
+ghost use Rattle.std.specs.Prelude.{◌≡◌, ◌⊎◌, ◌≤◌, ◌++◌, length, decimal};
 ghost use Rattle.taos_node.specs.Ending.{status_of};
-ghost use Rattle.taos_node.specs.Notes.{file_note, served_note, note_of, IsNoted};
+ghost use Rattle.taos_node.specs.Notes.{checked_note, file_note, served_note, note_of, IsNoted};
 
+use crate::check::CheckEnd;
 use crate::ending::{Ending, FileFault};
 use arrayvec::ArrayVec;
 use frame_link::{Outcome, Sink, pour};
@@ -67,6 +68,17 @@ fn of_served(outcome: Outcome) -> ArrayVec<u8, ROOM>
     }
 }
 
+fn of_checked(end: CheckEnd) -> ArrayVec<u8, ROOM>
+    ensures { result.items ≡ checked_note end }
+{
+    match end {
+        CheckEnd::Done(_) => plain(b""),
+        CheckEnd::ReadFault => plain(b"taos: read fault\n"),
+        CheckEnd::WriteFault => plain(b"taos: write fault\n"),
+        CheckEnd::NoMemory => plain(b"taos: no memory\n"),
+    }
+}
+
 fn note_of(ending: Ending) -> ArrayVec<u8, ROOM>
     ensures { result.items ≡ note_of ending }
 {
@@ -74,6 +86,7 @@ fn note_of(ending: Ending) -> ArrayVec<u8, ROOM>
         Ending::Usage => plain(b"taos: usage\n"),
         Ending::File(fault) => of_file(fault),
         Ending::Served(outcome) => of_served(outcome),
+        Ending::Checked(end) => of_checked(end),
     }
 }
 
@@ -82,8 +95,8 @@ fn note_of(ending: Ending) -> ArrayVec<u8, ROOM>
 pub fn tell<N: Sink>(notes: &mut N, ending: Ending)
     ensures told { IsNoted (N.written notes.old) (N.written notes.new)
         (N.faults notes.old) (N.faults notes.new) (note_of ending) }
-    // Success has no note.
-    ensures silent { status_of ending ≡ 0 → notes.new ≡ notes.old }
+    // Success has no note, nor what a check refused.
+    ensures silent { (status_of ending ≡ 0) ⊎ (status_of ending ≡ 11) → notes.new ≡ notes.old }
 {
     let note = note_of(ending);
     if !note.is_empty() {
