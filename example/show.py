@@ -239,12 +239,12 @@ def reply(payload, keys):
         said = refusal(status, fields)
     fields.end()
     if (channel, seq, sealed) == (0, 0, bytes(TAG)) and (status in UNSEALED or status == NO_MEMORY):
-        return f"{said}; not sealed", True
+        return f"{said}\n    not sealed", True
     if status in UNSEALED:
-        return f"{said}; SEALED, WHICH IT SHOULD NOT BE", False
+        return f"{said}\n    SEALED, WHICH IT SHOULD NOT BE", False
     if channel in keys and hmac.compare_digest(sealed, hmac.new(keys[channel], text, hashlib.sha256).digest()):
-        return f"{said}; the tag checks under the key of channel {channel}", True
-    return f"{said}; THE TAG DOES NOT CHECK under the key of channel {channel}", False
+        return f"{said}\n    the tag checks under the key of channel {channel}", True
+    return f"{said}\n    THE TAG DOES NOT CHECK under the key of channel {channel}", False
 
 
 def show(opening, asked, replied):
