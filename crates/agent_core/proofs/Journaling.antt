@@ -16,7 +16,7 @@ use Rattle.agent_core.proofs.NamesLeft.{journal_names_more, names_more, named_mo
 
 -- ---- the state behind one entry more
 
-state_from-push : (plan : Plan) (s : State) (journal : List Entry) (e : Entry) → state_from plan s (journal ++ e ∷ []) ≡ (next plan (state_from plan s journal) e.event).0
+pub state_from-push : (plan : Plan) (s : State) (journal : List Entry) (e : Entry) → state_from plan s (journal ++ e ∷ []) ≡ (next plan (state_from plan s journal) e.event).0
 state_from-push plan s [] e = refl
 state_from-push plan s (x ∷ journal) e = state_from-push plan (next plan s x.event).0 journal e
 

@@ -13,3 +13,6 @@ pub mod Looks
 pub mod Snapshots
 pub mod Opening
 pub mod Stepping
+pub mod Making
+pub mod Few
+pub mod Marks

@@ -9,3 +9,5 @@ pub mod Kept
 pub mod Letting
 pub mod Looking
 pub mod Answers
+pub mod Judged
+pub mod Laws

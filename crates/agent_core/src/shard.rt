@@ -1,6 +1,6 @@
 //! The machine: events in, answers out, a journal of both.
 
-ghost use Rattle.std.specs.Prelude.{◌≡◌, ◌<◌, ◌≤◌, [], map, length, IfOk, OnErr};
+ghost use Rattle.std.specs.Prelude.{◌≡◌, ◌↔◌, IsTrue, ◌<◌, ◌≤◌, [], map, length, IfOk, OnErr};
 ghost use Rattle.agent_core.specs.Plans.{IsPlan};
 ghost use Rattle.agent_core.specs.Views.{event_of, plan_of, entry_of};
 ghost use Rattle.agent_core.specs.Journals.{IsMeant, IsLegalJournal, told_at};
@@ -10,6 +10,7 @@ ghost use Rattle.agent_core.specs.declared.told.Told.{Told as ToldValue};
 
 use crate::answering::answer_to;
 use crate::event::{Event, ShardEntry};
+use crate::meant::is_taken;
 use crate::name::{Name, Names};
 use crate::plan::ShardPlan;
 use crate::store::{Row, Store};
@@ -105,6 +106,15 @@ impl Shard {
         ensures legal { IsLegalJournal self.now.plan self.now.journal }
     {
         &self.entries
+    }
+
+    /// Whether `step` takes the event: an Ask's subject speaks on its channel, which is the shard's, and
+    /// an event brings few certificates.
+    pub fn takes(&self, event: &Event) -> bool
+        ensures { IsTrue result ↔ (IsMeant self.now.plan (event_of event.now)
+            × FitsEvent (event_of event.now)) }
+    {
+        is_taken(&self.plan, event)
     }
 
     /// Answers an event, and journals it at the place that comes with the answer. Only an Ask that is

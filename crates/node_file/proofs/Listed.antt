@@ -37,6 +37,7 @@ plan_of-listed (e ∷ entries) number =
 
 pub same_node : (node : code.Opening) (o : Opening) → Represents node o → SameNode (opening node) o
 same_node node o r = record {
+  relay_key = r.relay_key;
   channels = r.channels.each;
   anchors = r.anchors;
   objects = λ n. plan_of-listed node.objects.entries n ∙ r.objects.each n;

@@ -30,6 +30,7 @@ pub record FitsByNumber (o : plain.Opening) : Type 0 where
   pub objects : (number : ℕ) (p : plain.ObjectPlan) → plan_of o.objects number ≡ Some p → FitsObject p
 
 pub record SameNode (a b : plain.Opening) : Type 0 where
+  pub relay_key : a.relay_key ≡ b.relay_key
   pub channels : (number : ℕ) → key_of a.channels number ≡ key_of b.channels number
   pub anchors : a.anchors ≡ b.anchors
   pub objects : (number : ℕ) → plan_of a.objects number ≡ plan_of b.objects number

@@ -1,39 +1,28 @@
 -- What is known of a request that is built, and of one that is not.
-use Rattle.std.proofs.Common.{◌≡◌, ◌≢◌, ◌⊎◌, ℕ, Bool, true, false, List, [], Some, None, Err, refl, sym, ap, ◌∙◌, inl, inr}
-use Rattle.std.specs.Prelude.{Option}
+use Rattle.std.proofs.Common.{◌≡◌, ◌⊎◌, ℕ, Bool, true, false, List, [], length, Some, None, Err, sym, ap, subst, ◌∙◌, arith, inl, inr}
+use Rattle.std.specs.Prelude.{Option, IfSome}
 use Rattle.keyed_seal.specs.Keys.{key_of}
-use Rattle.object_core.specs.Operation.{Op, Read, Write, SetList, Hold, Discard, Forget, Sweep, right_of}
-use Rattle.prin_term.specs.Principal.{Principal, Key}
+use Rattle.object_core.specs.Operation.{IsAccessList, IsContent}
+use Rattle.prin_term.specs.declared.limits.TheConstants.{QUOTED_NODES}
+use Rattle.prin_term.specs.Principal.{Principal}
+use Rattle.prin_term.specs.Refusal.{FitsLimits}
+use Rattle.prin_term.specs.View.{principal}
+use Rattle.stmt_codec.specs.Certificates.{key_quoting}
+use Rattle.taos_calculus.specs.Question.{IsSubject}
 use Rattle.taos_wire.specs.declared.fault.WireFault.{WireFault}
 use Rattle.taos_wire.specs.declared.fault.WireFault.TheVariants as wire
-use Rattle.taos_wire.specs.Request.{Request, Spells, IsSealed, subject_of}
+use Rattle.taos_wire.specs.Request.{Request, FitsRequest, Spells, IsSealed, subject_of}
 use Rattle.taos_wire.specs.RequestReading.{request_of}
-use Rattle.node_file.specs.Opening.{Opening, ObjectPlan, plan_of}
-use Rattle.taos_wire.specs.Reply.{Malformed, BadSeal, UnknownObject, sealed, unsealed}
-use Rattle.taos_node.specs.Course.{IsUnbuilt, IsAsked, HasArrived, Course, malformed, bad_seal, unknown_object}
-use Rattle.taos_node.specs.Deciding.{read_right}
-
-none_quoted : (quoted : Option Principal) → (quoted ≢ None → ⊥) → quoted ≡ None
-none_quoted None built = refl
-none_quoted (Some who) built = absurd (built (λ e. cc))
-
-is_read : (op : Op) → (op ≢ Read → ⊥) → op ≡ Read
-is_read Read built = refl
-is_read (Write content) built = absurd (built (λ e. cc))
-is_read (SetList list) built = absurd (built (λ e. cc))
-is_read Hold built = absurd (built (λ e. cc))
-is_read (Discard digest) built = absurd (built (λ e. cc))
-is_read (Forget channel) built = absurd (built (λ e. cc))
-is_read Sweep built = absurd (built (λ e. cc))
-
--- it quotes nobody
-pub speaks_itself : (r : Request) → (IsUnbuilt r → ⊥) → subject_of r ≡ Key r.channel
-speaks_itself r built =
-    ap (λ (quoted : Option Principal). subject_of (record { channel = r.channel; seq = r.seq; quoted = quoted; object = r.object; op = r.op; certs = r.certs })) (none_quoted r.quoted (λ some. built (inl some)))
-
--- and asks for no other right
-pub only_reads : (r : Request) → (IsUnbuilt r → ⊥) → right_of r.op ≡ read_right
-only_reads r built = ap right_of (is_read r.op (λ other. built (inr (inl other))))
+use Rattle.taos_wire.specs.Reply.{Malformed, BadSeal, sealed, unsealed}
+use Rattle.taos_node.specs.declared.reply.Refusal.{Refusal}
+use Rattle.taos_node.specs.declared.reply.Refusal.TheVariants as refusals
+use Rattle.taos_node.specs.Meaning.{refusal}
+use Rattle.taos_node.specs.declared.asking.Asking.{Asking}
+use Rattle.taos_node.specs.Asking.{IsServed, certs_of, content_of, list_of}
+use Rattle.node_file.specs.Opening.{Opening, ObjectPlan, FitsObject}
+use Rattle.taos_node.specs.Presented.{AreOpened, IsNoneOpened}
+use Rattle.taos_node.specs.Course.{IsUnbuilt, IsAsked, Course, malformed, bad_seal, cert_refused, unasked}
+use Rattle.taos_node.proofs.Presenting.{opened_count}
 
 -- a payload that was refused as no request
 pub is_malformed : (o : Opening) (payload : List ℕ) (offset : ℕ) (f : WireFault) → f ≡ wire.Malformed offset → ((r : Request) → Spells r payload → f ≡ wire.NoMemory) → (f ≡ wire.NoMemory) ⊎ (request_of payload ≡ Err f) →
@@ -46,10 +35,29 @@ pub has_bad_seal : (o : Opening) (payload : List ℕ) (r : Request) (key : List 
     Course o payload [] (unsealed BadSeal)
 has_bad_seal o payload r key right spelled keyed sealed wrong = bad_seal r key spelled (sym keyed) (λ is. let bad : true ≡ false = sym (sealed is) ∙ wrong in absurd cc)
 
-pub has_arrived : (o : Opening) (r : Request) (object : ObjectPlan) (refused : Bool) → (IsUnbuilt r → refused ≡ true) → refused ≡ false → plan_of o.objects r.object ≡ Some object →
-    (payload key : List ℕ) → IsAsked o payload r key → HasArrived o payload r key object
-has_arrived o r object refused unbuilt isnt there payload key asked = record { taken = record { asked = asked; built = λ is. let bad : true ≡ false = sym (unbuilt is) ∙ isnt in absurd cc }; there = there }
+-- who asks is a key, or a key that quotes a small term
+subject_fits : (channel : ℕ) (quoted : Option Principal) → IfSome quoted (FitsLimits QUOTED_NODES) → IsSubject (key_quoting channel quoted)
+subject_fits channel None fits = tt
+subject_fits channel (Some who) fits = fits.nodes_fit
 
-pub has_no_object : (o : Opening) (r : Request) (refused : Bool) → (IsUnbuilt r → refused ≡ true) → refused ≡ false → plan_of o.objects r.object ≡ None →
-    (payload key : List ℕ) → IsAsked o payload r key → Course o payload [] (sealed key r (UnknownObject r.object))
-has_no_object o r refused unbuilt isnt none payload key asked = unknown_object (record { asked = asked; built = λ is. let bad : true ≡ false = sym (unbuilt is) ∙ isnt in absurd cc }) none
+pub is_served : (r : Request) (a : Asking) (texts : List (List ℕ)) (key : List ℕ) (p : ObjectPlan) → FitsRequest r → r.certs ≡ texts → AreOpened key texts (certs_of a) → length a.certs.items ≡ length (certs_of a) →
+    principal a.subject ≡ subject_of r → FitsObject p → p.list ≡ list_of a → p.content ≡ content_of a → IsServed a
+is_served r a texts key p fits same opened count subject object list content = record {
+  few_certs = omega (arith, fits.few_certs, ap length same, opened_count key texts (certs_of a) opened, count);
+  subject = subst IsSubject (sym subject) (subject_fits r.channel r.quoted fits.quoted);
+  list = subst IsAccessList list object.list;
+  content = subst IsContent content object.content;
+}
+
+pub is_built : (r : Request) (refused : Bool) → (IsUnbuilt r → refused ≡ true) → refused ≡ false → IsUnbuilt r → ⊥
+is_built r refused unbuilt isnt is = let bad : true ≡ false = sym (unbuilt is) ∙ isnt in absurd cc
+
+-- a certificate that opens to none, or no memory for those that do
+pub not_opened : (o : Opening) (r : Request) (f : Refusal) → (IsUnbuilt r → ⊥) → IsNoneOpened o.relay_key r.certs f → (payload key : List ℕ) → IsAsked o payload r key → Course o payload [] (sealed key r (refusal f))
+not_opened o r (refusals.CertRefused index code) built first payload key asked = cert_refused (record { asked = asked; built = built }) first
+not_opened o r refusals.NoMemory built first payload key asked = unasked asked
+not_opened o r (refusals.Malformed offset) built first payload key asked = absurd first
+not_opened o r (refusals.UnknownChannel number) built first payload key asked = absurd first
+not_opened o r refusals.BadSeal built first payload key asked = absurd first
+not_opened o r (refusals.UnknownObject number) built first payload key asked = absurd first
+not_opened o r refusals.Unbuilt built first payload key asked = absurd first

@@ -1,5 +1,8 @@
 pub mod Entries
-pub mod Listed
+pub mod Loops
+pub mod Presenting
+pub mod Ruled
+pub mod Denials
 pub mod Courses
 pub mod Steps
 pub mod Connections

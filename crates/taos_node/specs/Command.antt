@@ -7,7 +7,7 @@
 --     FileDecides ..      which files are refused
 --     EndsWell ..      an input of whole frames is answered to its end
 --     TellsFaults ..      a fault is not passed over
-use Rattle.std.specs.Prelude.{◌≡◌, ◌≢◌, ◌⊎◌, ℕ, ◌<◌, ◌≤◌, List, [], ◌∷◌, length, All, Contains, Option, Some, None, Result, Ok, Err, codes, string_bytes, String}
+use Rattle.std.specs.Prelude.{◌≡◌, ◌≢◌, ◌⊎◌, ℕ, ◌<◌, ◌≤◌, List, [], ◌∷◌, length, All, Option, Some, None, Result, Ok, Err, codes, string_bytes, String}
 use Rattle.std.specs.Io.KnownBytes.{Keeps, Consumes, IsAtEnd}
 use Rattle.std.specs.declared.alloc.Global.{Global}
 use Rattle.frame_link.specs.Frames.{framed}
@@ -24,9 +24,7 @@ use Rattle.node_file.specs.declared.opening.Opening as code
 use Rattle.node_file.specs.declared.opening.OpeningFault.TheVariants.{Byte}
 use Rattle.node_file.specs.OpeningReading.{opening_of}
 use Rattle.node_file.specs.OpeningView.{Represents}
-use Rattle.prin_term.specs.View.{Grant}
-use Rattle.taos_calculus.specs.Atoms.{IsAtom}
-use Rattle.node_file.specs.Opening.{Opening, ObjectPlan, Spells, plan_of}
+use Rattle.node_file.specs.Opening.{Opening, Spells}
 use Rattle.taos_node.specs.Run.{IsConnection, StandsStill, max_request}
 
 abbrev pub IsRun : List (String Global) → Type 0
@@ -45,18 +43,9 @@ max_frames = 1000000
 abbrev pub IsOpeningFile : Opening → List ℕ → Type 0
 IsOpeningFile o bytes = Spells o bytes × (length bytes ≤ max_file)
 
--- an object whose list has an entry that is no key and no name
-pub record HasCompound (o : Opening) : Type 0 where
-  pub number : ℕ
-  pub object : ObjectPlan
-  pub there : plan_of o.objects number ≡ Some object
-  pub entry : Grant
-  pub listed : Contains object.list entry
-  pub compound : IsAtom entry.who → ⊥
-
--- other than one shard, certificates in common, or such an entry
+-- other than one shard, or certificates in common
 abbrev pub IsUnbuiltOpening : Opening → Type 0
-IsUnbuiltOpening o = (o.shards ≢ 1) ⊎ ((0 < length o.commons) ⊎ HasCompound o)
+IsUnbuiltOpening o = (o.shards ≢ 1) ⊎ (0 < length o.commons)
 
 -- the file was read to its end, and opens the node
 pub record Opens (file0 file1 : Option (List ℕ)) (o : Opening) : Type 0 where

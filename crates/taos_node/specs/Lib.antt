@@ -1,8 +1,9 @@
 pub mod Course
 pub mod Run
 pub mod Meaning
-pub mod Deciding
+pub mod Presented
 pub mod Ruling
+pub mod Asking
 pub mod Serving
 pub mod Ending
 pub mod Notes

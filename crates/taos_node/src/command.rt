@@ -1,13 +1,13 @@
 //! The top call: the words, the file, and then the work.
 
+ghost use Rattle.std.specs.Bool.{OnFalse, OnTrue};
 ghost use Rattle.std.specs.Prelude.{◌≡◌, ◌⊎◌, ◌↔◌, ◌<◌, ◌≤◌, length, IsTrue, IfOk};
 ghost use Rattle.frame_link.specs.Faults.{Rose};
-ghost use Rattle.taos_node.specs.Meaning.{opening, IsServable};
+ghost use Rattle.taos_node.specs.Meaning.{opening, FitsByNumber};
 ghost use Rattle.taos_node.specs.Run.{IsConnection, HasCauses, IsComplete};
 ghost use Rattle.taos_node.specs.Ending.{status_of};
 ghost use Rattle.taos_node.specs.Command.{IsRun, IsUnbuiltOpening, Runs, Ends, FileReads, FileGives, FileHasCause, FileDecides, EndsWell, TellsFaults, told_by_first, faults_of_first};
 
-use crate::built::is_built;
 use crate::connection::serve_connection;
 use crate::ending::{Ending, FileFault, status_of};
 use crate::note::tell;
@@ -16,6 +16,8 @@ use node_file::{Opening, OpeningFault, read_opening};
 use std::alloc::{AllocError, Global};
 use std::sync::Wait;
 use std::thread::Threads;
+use taos_calculus::Decide;
+use taos_saturate::Saturator;
 
 // What a lane holds while its worker runs. Nothing yet.
 #[derive(Drop)]
@@ -61,8 +63,7 @@ fn zeros(alloc: Global, len: usize) -> Result<Vec<u8>, AllocError>
 // The opening that a file spells.
 fn file_opening<F: Source>(alloc: Global, file: &mut F) -> Result<Opening, FileFault>
     ensures reads { FileReads (F.left file.old) (F.left file.new) result }
-    ensures servable { IfOk result
-        (λ node. (IsUnbuiltOpening (opening node) → ⊥) → IsServable (opening node)) }
+    ensures servable { IfOk result (λ node. FitsByNumber (opening node)) }
     ensures cause { FileHasCause (F.faults file.old) (F.faults file.new) result }
 {
     let Ok(mut room) = zeros(alloc, MAX_FILE + 1) else {
@@ -81,10 +82,18 @@ fn file_opening<F: Source>(alloc: Global, file: &mut F) -> Result<Opening, FileF
     }
 }
 
+// Whether what an opening asks for is built: one shard, and no certificates in common.
+fn is_built(node: &Opening) -> bool
+    ensures built { OnTrue result (IsUnbuiltOpening (opening node.now) → ⊥) }
+    ensures unbuilt { OnFalse result (IsUnbuiltOpening (opening node.now)) }
+{
+    node.shards == 1 && node.commons.is_empty()
+}
+
 // The same, where it is built.
 fn opening_of<F: Source>(alloc: Global, file: &mut F) -> Result<Opening, FileFault>
     ensures gives { FileGives (F.left file.old) (F.left file.new) result }
-    ensures servable { IfOk result (λ node. IsServable (opening node)) }
+    ensures servable { IfOk result (λ node. FitsByNumber (opening node)) }
     ensures cause { FileHasCause (F.faults file.old) (F.faults file.new) result }
 {
     let opening = file_opening(alloc, file)?;
@@ -102,15 +111,16 @@ fn is_run(words: &[String]) -> bool
 }
 
 // Serves the connection of the first lane.
-fn serve<I: Source, O: Sink, C: Clock, R: RelayLink, D: Door>(
+fn serve<I: Source, O: Sink, C: Clock, R: RelayLink, D: Door, B: Decide>(
     alloc: Global,
     node: &Opening,
     input: &mut I,
     output: &mut O,
     lanes: &mut [Lane<C, R, D>],
+    bench: &mut B,
 ) -> Outcome
     requires some { 0 < length lanes.old }
-    requires node { IsServable (opening node.now) }
+    requires node { FitsByNumber (opening node.now) }
     ensures connection { IsConnection (opening node.now) MAX_FRAMES
         (I.left input.old) (I.left input.new) (O.written output.old) (O.written output.new)
         (told_by_first C.readings lanes.old) (told_by_first C.readings lanes.new) result }
@@ -122,7 +132,41 @@ fn serve<I: Source, O: Sink, C: Clock, R: RelayLink, D: Door>(
         (faults_of_first C.faults lanes.old) (faults_of_first C.faults lanes.new) result }
 {
     let lane = &mut lanes[0];
-    serve_connection(alloc, node, MAX_FRAMES, input, output, &mut lane.clock)
+    serve_connection(
+        alloc,
+        node,
+        MAX_FRAMES,
+        input,
+        output,
+        &mut lane.clock,
+        bench,
+    )
+}
+
+// The same, with a decider whose room is taken before the first frame.
+fn decide_and_serve<I: Source, O: Sink, C: Clock, R: RelayLink, D: Door>(
+    alloc: Global,
+    node: &Opening,
+    input: &mut I,
+    output: &mut O,
+    lanes: &mut [Lane<C, R, D>],
+) -> Outcome
+    requires some { 0 < length lanes.old }
+    requires node { FitsByNumber (opening node.now) }
+    ensures connection { IsConnection (opening node.now) MAX_FRAMES
+        (I.left input.old) (I.left input.new) (O.written output.old) (O.written output.new)
+        (told_by_first C.readings lanes.old) (told_by_first C.readings lanes.new) result }
+    ensures causes { HasCauses (I.faults input.old) (I.faults input.new)
+        (O.faults output.old) (O.faults output.new)
+        (faults_of_first C.faults lanes.old) (faults_of_first C.faults lanes.new) result }
+    ensures complete { IsComplete MAX_FRAMES (I.left input.old)
+        (I.faults input.old) (I.faults input.new) (O.faults output.old) (O.faults output.new)
+        (faults_of_first C.faults lanes.old) (faults_of_first C.faults lanes.new) result }
+{
+    match Saturator::reserve(alloc) {
+        Ok(mut bench) => serve(alloc, node, input, output, lanes, &mut bench),
+        Err(AllocError) => Outcome::NoMemory,
+    }
 }
 
 // Does the work, and tells nobody how it ended.
@@ -161,7 +205,7 @@ fn run<F: Source, I: Source, O: Sink, C: Clock, R: RelayLink, D: Door>(
         return Ending::Usage;
     }
     match opening_of(alloc, file) {
-        Ok(node) => Ending::Served(serve(alloc, &node, input, output, lanes)),
+        Ok(node) => Ending::Served(decide_and_serve(alloc, &node, input, output, lanes)),
         Err(fault) => Ending::File(fault),
     }
 }

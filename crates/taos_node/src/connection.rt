@@ -1,7 +1,7 @@
 //! A connection: one reply frame for each request frame, in order.
 
 ghost use Rattle.std.specs.Prelude.{◌≡◌, ◌≤◌, IfOk, length};
-ghost use Rattle.taos_node.specs.Meaning.{opening, IsServable};
+ghost use Rattle.taos_node.specs.Meaning.{opening, FitsByNumber};
 ghost use Rattle.taos_node.specs.Serving.{Turns, TurnsCause, Serves};
 ghost use Rattle.taos_node.specs.Run.{IsConnection, HasCauses, IsComplete};
 
@@ -12,6 +12,7 @@ use frame_link::{
 };
 use node_file::Opening;
 use std::alloc::{AllocError, Global};
+use taos_calculus::Decide;
 
 /// The most bytes of a request.
 pub const MAX_REQUEST: u32 = 65_536;
@@ -25,15 +26,16 @@ pub enum Turned {
 }
 
 // Answers one request by one frame.
-fn turn<O: Sink, C: Clock>(
+fn turn<O: Sink, C: Clock, D: Decide>(
     alloc: Global,
     node: &Opening,
     payload: &[u8],
     reply: &mut ReplyBuf,
     output: &mut O,
     clock: &mut C,
+    bench: &mut D,
 ) -> Turned
-    requires node { IsServable (opening node.now) }
+    requires node { FitsByNumber (opening node.now) }
     requires short { length payload.now ≤ MAX_REQUEST }
     ensures steps { Turns (opening node.now) payload.now
         (O.written output.old) (O.written output.new) (C.readings clock.old) (C.readings clock.new)
@@ -41,7 +43,7 @@ fn turn<O: Sink, C: Clock>(
     ensures cause { TurnsCause (O.faults output.old) (O.faults output.new)
         (C.faults clock.old) (C.faults clock.new) result }
 {
-    match answer(alloc, node, payload, clock, reply) {
+    match answer(alloc, node, payload, clock, bench, reply) {
         Handled::ClockFault => Turned::ClockFault,
         Handled::Replied => match put_frame(output, reply.bytes()) {
             Put::Done => Turned::Replied,
@@ -58,15 +60,16 @@ fn room_of(alloc: Global) -> Result<(FrameBuf, ReplyBuf), AllocError>
 }
 
 // The loop, with what stands between two frames.
-fn serve_frames<I: Source, O: Sink, C: Clock>(
+fn serve_frames<I: Source, O: Sink, C: Clock, D: Decide>(
     alloc: Global,
     node: &Opening,
     frames: u64,
     input: &mut I,
     output: &mut O,
     clock: &mut C,
+    bench: &mut D,
 ) -> Outcome
-    requires { IsServable (opening node.now) }
+    requires { FitsByNumber (opening node.now) }
     ensures served { Serves (opening node.now) frames (I.left input.old) (I.left input.new)
         (O.written output.old) (O.written output.new) (C.readings clock.old) (C.readings clock.new)
         result }
@@ -85,7 +88,7 @@ fn serve_frames<I: Source, O: Sink, C: Clock>(
             Next::TooLong { length } => return Outcome::TooLong { length },
             Next::ReadFault => return Outcome::ReadFault,
         }
-        match turn(alloc, node, buf.payload(), &mut reply, output, clock) {
+        match turn(alloc, node, buf.payload(), &mut reply, output, clock, bench) {
             Turned::Replied => {}
             Turned::WriteFault => return Outcome::WriteFault,
             Turned::ClockFault => return Outcome::ClockFault,
@@ -100,16 +103,17 @@ fn serve_frames<I: Source, O: Sink, C: Clock>(
 }
 
 /// Serves a connection: each request frame of the input, at most so many, is answered by one reply
-/// frame of the output, before the next is read.
-pub fn serve_connection<I: Source, O: Sink, C: Clock>(
+/// frame of the output, before the next is read. `bench` decides, whatever it was asked before.
+pub fn serve_connection<I: Source, O: Sink, C: Clock, D: Decide>(
     alloc: Global,
     node: &Opening,
     frames: u64,
     input: &mut I,
     output: &mut O,
     clock: &mut C,
+    bench: &mut D,
 ) -> Outcome
-    requires { IsServable (opening node.now) }
+    requires { FitsByNumber (opening node.now) }
     ensures connection { IsConnection (opening node.now) frames
         (I.left input.old) (I.left input.new) (O.written output.old) (O.written output.new)
         (C.readings clock.old) (C.readings clock.new) result }
@@ -120,5 +124,5 @@ pub fn serve_connection<I: Source, O: Sink, C: Clock>(
         (I.faults input.old) (I.faults input.new) (O.faults output.old) (O.faults output.new)
         (C.faults clock.old) (C.faults clock.new) result }
 {
-    serve_frames(alloc, node, frames, input, output, clock)
+    serve_frames(alloc, node, frames, input, output, clock, bench)
 }

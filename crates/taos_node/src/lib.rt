@@ -2,16 +2,17 @@
 #![tactic(auto)]
 
 mod answering;
-mod built;
+mod asking;
 mod check;
 mod checking;
 mod command;
 mod connection;
-mod decide;
 mod ending;
 mod finding;
 mod note;
+mod presented;
 mod reply;
+mod ruling;
 
 pub use answering::{Handled, answer};
 pub use check::{CheckEnd, MAX_REPLY, check_connection};

@@ -1,17 +1,25 @@
 //! Room for a reply.
 
-ghost use Rattle.std.specs.Prelude.{◌≡◌, ◌<◌, ◌^◌, ◌⊎◌, [], Some, length, IfOk, false};
+ghost use Rattle.std.specs.Prelude.{◌≡◌, ◌<◌, ◌≤◌, ◌^◌, ◌⊎◌, [], Some, length, map, IfOk, false};
 ghost use Rattle.std.specs.Option.{option_copied};
 ghost use Rattle.taos_calculus.specs.Tables.{lines_of};
-ghost use Rattle.taos_wire.specs.Reply.{Denied, FitsReply, Granted, NoMemory, Untold, sent, spelling, status_of, unsealed};
-ghost use Rattle.taos_wire.specs.View.{reply};
+ghost use Rattle.prin_term.specs.Refusal.{FitsLimits};
+ghost use Rattle.prin_term.specs.View.{principal};
+ghost use Rattle.taos_wire.specs.Reply.{Denied, FitsLink, FitsReply, Granted, Missing, NoMemory, sent, spelling, status_of, unsealed};
+ghost use Rattle.taos_wire.specs.View.{reply, cited as cited_of, link as link_of};
+ghost use Rattle.taos_node.specs.declared.reply.Refusal.TheVariants as refusals;
 ghost use Rattle.taos_node.specs.Meaning.{refusal};
 
 use keyed_seal::Sealer;
-use std::alloc::{AllocError, Global};
+use prin_term::{ENTRY_NODES, Term};
+use std::alloc::{AllocError, AllocFailed, Global};
 use std::marker::Model;
+use std::sync::Arc;
+use stmt_codec::Cert;
 use taos_calculus::Proof;
-use taos_wire::{LinkSent, Reply, write_granted_with, write_reply_with};
+use taos_wire::{
+    LinkSent, MAX_CITED, Reply, write_granted_with, write_missing_with, write_reply_with,
+};
 
 /// Every reply but a grant fits this many bytes.
 pub const REPLY_ROOM: usize = 256;
@@ -25,12 +33,30 @@ pub enum Refusal {
     UnknownChannel { number: u32 },
     /// The tag is not that of the channel's key.
     BadSeal,
+    /// The certificate of this index opens to none; the code says why.
+    CertRefused { index: u8, code: u8 },
     /// The node has no such object.
     UnknownObject { number: u32 },
     /// Memory was refused.
     NoMemory,
     /// What it asks is not built yet.
     Unbuilt,
+}
+
+impl From<AllocError> for Refusal {
+    ghost from_gives = { λ _ e. e ≡ refusals.NoMemory };
+
+    fn from(_e: AllocError) -> Refusal {
+        Refusal::NoMemory
+    }
+}
+
+impl<T: Drop> From<AllocFailed<T>> for Refusal {
+    ghost from_gives = { λ _ e. e ≡ refusals.NoMemory };
+
+    fn from(_e: AllocFailed<T>) -> Refusal {
+        Refusal::NoMemory
+    }
 }
 
 /// Room for one reply, which is taken once. A contract sees the reply that was left there last.
@@ -56,6 +82,7 @@ fn reply_of(why: Refusal) -> Reply
         Refusal::Malformed { offset } => Reply::Malformed { offset },
         Refusal::UnknownChannel { number } => Reply::UnknownChannel { number },
         Refusal::BadSeal => Reply::BadSeal,
+        Refusal::CertRefused { index, code } => Reply::CertRefused { index, code },
         Refusal::UnknownObject { number } => Reply::UnknownObject { number },
         Refusal::NoMemory => Reply::NoMemory,
         Refusal::Unbuilt => Reply::Unbuilt,
@@ -107,21 +134,34 @@ impl ReplyBuf {
         self.leave(Some(sealer), channel, seq, &reply_of(why));
     }
 
-    /// Leaves a denial.
-    pub fn leave_denied(&mut self, sealer: &Sealer, channel: u32, seq: u64)
+    /// Leaves a denial whose link names no part.
+    pub fn leave_denied(&mut self, sealer: &Sealer, channel: u32, seq: u64, link: LinkSent)
+        requires limits { FitsLink (link_of link) }
         ensures reply { self.new
-            ≡ spelling (sent (Some sealer.now) channel seq (Denied 0 0 Untold)) }
+            ≡ spelling (sent (Some sealer.now) channel seq (Denied 0 0 (link_of link))) }
         ensures short { length self.new < 2 ^ 32 }
     {
         let denial = Reply::Denied {
             shard: 0,
             place: 0,
-            link: LinkSent::Untold,
+            link,
         };
         self.leave(Some(sealer), channel, seq, &denial);
     }
 
-    /// Leaves a grant of an entry, with the content that was read; or the reply of want of memory.
+    /// Leaves a denial that names a part of an entry, which is lent.
+    pub fn leave_missing(&mut self, sealer: &Sealer, channel: u32, seq: u64, entry: u8, part: &Term)
+        requires limits { FitsLimits ENTRY_NODES (principal part.now) }
+        ensures reply { self.new ≡ spelling (sent (Some sealer.now) channel seq
+            (Denied 0 0 (Missing entry (principal part.now)))) }
+        ensures short { length self.new < 2 ^ 32 }
+    {
+        self.bytes.clear();
+        write_missing_with(&mut self.bytes, sealer, channel, seq, 0, 0, entry, part).unwrap();
+    }
+
+    /// Leaves a grant of an entry by the cited certificates, with the content that was read; or the
+    /// reply of want of memory.
     pub fn leave_granted(
         &mut self,
         sealer: &Sealer,
@@ -129,28 +169,20 @@ impl ReplyBuf {
         seq: u64,
         entry: u8,
         proof: &Proof,
+        cited: &[Arc<Cert>],
         content: &[u8],
     )
-        requires { length content.now < 2 ^ 16 }
+        requires few { length cited.now ≤ MAX_CITED }
+        requires short { length content.now < 2 ^ 16 }
         ensures reply { (self.new ≡ spelling (sent (Some sealer.now) channel seq
-            (Granted false entry 0 0 (lines_of proof.now) [] content.now)))
+            (Granted false entry 0 0 (lines_of proof.now) (map cited_of cited.now) content.now)))
             ⊎ (self.new ≡ spelling (sent (Some sealer.now) channel seq NoMemory)) }
         ensures short { length self.new < 2 ^ 32 }
     {
         self.bytes.clear();
         let out = &mut self.bytes;
         let written = write_granted_with(
-            out,
-            sealer,
-            channel,
-            seq,
-            false,
-            entry,
-            0,
-            0,
-            proof,
-            &[],
-            content,
+            out, sealer, channel, seq, false, entry, 0, 0, proof, cited, content,
         );
         if written.is_err() {
             self.leave_refused(sealer, channel, seq, Refusal::NoMemory);

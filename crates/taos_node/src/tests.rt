@@ -1,7 +1,3 @@
-ghost use Rattle.std.specs.Prelude.{IfOk};
-ghost use Rattle.node_file.specs.Meaning.{FitsByNumber};
-ghost use Rattle.taos_node.specs.Meaning.{opening, IsServable};
-
 use super::*;
 use crate::built::is_built;
 use frame_link::{ClosedDoor, MemClock, MemSink, MemSource, NoRelay};
@@ -9,6 +5,7 @@ use std::alloc::{AllocError, Global};
 use std::sync::Wait;
 use std::test::Fail;
 use std::thread::Threads;
+use taos_saturate::Saturator;
 
 // Bytes are written in hexadecimal digits. The fields are those of the formats, laid out by hand;
 // the tags are those that `hmac` and `hashlib` of Python make of them, where the key of channel n is
@@ -113,18 +110,6 @@ fn node_file(alloc: Global, list: &str) -> Result<Vec<u8>, AllocError> {
     spell(&mut bytes, "00 0001 00000005 0005 68656c6c6f")?;
     spell(&mut bytes, list)?;
     Ok(bytes)
-}
-
-// The opening, where it is built.
-fn built(node: Opening) -> Result<Opening, Fail>
-    requires { FitsByNumber (opening node) }
-    ensures { IfOk result (λ node. IsServable (opening node)) }
-{
-    if is_built(&node) {
-        Ok(node)
-    } else {
-        Err("not built".into())
-    }
 }
 
 // What stands round a run.
@@ -528,14 +513,23 @@ fn three(alloc: Global) -> Result<(Vec<u8>, Vec<u8>), AllocError> {
 #[test]
 fn frames_in_pieces_of_every_size_have_the_same_replies(rt: HostRuntime) -> Result<(), Fail> {
     let alloc = rt.alloc();
-    let node = built(read_opening(alloc, &node_file(alloc, FOR_ALICE)?)?)?;
+    let node = read_opening(alloc, &node_file(alloc, FOR_ALICE)?)?;
+    let mut bench = Saturator::reserve(alloc)?;
     let (bytes, wanted) = three(alloc)?;
     for size in 1..=bytes.len() {
         let pieces = vec![in alloc; size; 200]?;
         let mut input = MemSource::new(bytes.to_vec(alloc)?, pieces, Vec::new(alloc));
         let mut output = sink_of(alloc, &[])?;
         let mut clock = clock_of(alloc, &[])?;
-        let ended = serve_connection(alloc, &node, 9, &mut input, &mut output, &mut clock);
+        let ended = serve_connection(
+            alloc,
+            &node,
+            9,
+            &mut input,
+            &mut output,
+            &mut clock,
+            &mut bench,
+        );
         assert_eq!(rt; ended, Outcome::End { frames: 3 }, "in {size}s");
         assert_eq!(rt; output.written(), wanted.as_slice(), "in {size}s");
     }
@@ -643,7 +637,8 @@ fn each_reading_may_fail(rt: HostRuntime) -> Result<(), Fail> {
 #[test]
 fn frames_behind_the_last_are_not_answered(rt: HostRuntime) -> Result<(), Fail> {
     let alloc = rt.alloc();
-    let node = built(read_opening(alloc, &node_file(alloc, FOR_ALICE)?)?)?;
+    let node = read_opening(alloc, &node_file(alloc, FOR_ALICE)?)?;
+    let mut bench = Saturator::reserve(alloc)?;
     let wanted = spelled(alloc, &GRANT)?;
     let once = spelled(alloc, &BY_ONE)?;
     let mut twice = spelled(alloc, &BY_ONE)?;
@@ -656,7 +651,15 @@ fn frames_behind_the_last_are_not_answered(rt: HostRuntime) -> Result<(), Fail> 
         let mut input = source_of(alloc, bytes, &[])?;
         let mut output = sink_of(alloc, &[])?;
         let mut clock = clock_of(alloc, &[])?;
-        let ended = serve_connection(alloc, &node, 1, &mut input, &mut output, &mut clock);
+        let ended = serve_connection(
+            alloc,
+            &node,
+            1,
+            &mut input,
+            &mut output,
+            &mut clock,
+            &mut bench,
+        );
         assert_eq!(rt; ended, outcome);
         assert_eq!(rt; output.written(), wanted.as_slice(), "{outcome:?}");
     }

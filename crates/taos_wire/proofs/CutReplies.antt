@@ -10,7 +10,7 @@ use Rattle.prin_term.proofs.Results.{with_fault_ok}
 use Rattle.taos_calculus.proofs.CutProofs as proofs
 use Rattle.taos_wire.specs.declared.fault.WireFault.TheVariants as faults
 use Rattle.taos_wire.specs.Fields.{ended, seen_as, seen_as_proof, u8_in, u32_in, u64_in}
-use Rattle.taos_wire.specs.Reply.{Reply, Malformed, UnknownChannel, BadSeal, Replayed, ChannelFull, RelayFailed, UnknownObject, NoMemory, NotHeld, Unbuilt, NoEntry, Untold, SpellsReply}
+use Rattle.taos_wire.specs.Reply.{Reply, Malformed, UnknownChannel, BadSeal, Replayed, ChannelFull, RelayFailed, UnknownObject, NoMemory, NotHeld, Unbuilt, NoEntry, SpellsReply}
 use Rattle.taos_wire.specs.ReplyReading.{answered_at, place_at, proof_at, cert_at, cited_at, granted_at, named_at, link_at, denied_at, fields_at, status_at, reply_at, reply_of}
 use Rattle.taos_wire.proofs.CutRequests.{in_bytes, tag_cut}
 use Rattle.taos_wire.proofs.Fillings.{filling_cut}
@@ -68,10 +68,9 @@ module _ (front more : List ℕ) (ok : IsBytes (front ++ more)) where
   named_cut : (kind : ℕ) → Cuts front (ended front) (named_at front kind) (named_at (front ++ more) kind)
   unfolding named_at
   named_cut kind =
-      cuts_if (eqb kind 0) _ _ _ _ (cuts_given front (ended front) Untold)
-      (cuts_if (eqb kind 1) _ _ _ _ (cuts_made _ (cuts_followed byte_cut (λ _. cuts_bytes (ended front) (ended (front ++ more)) front more 32)))
+      cuts_if (eqb kind 1) _ _ _ _ (cuts_made _ (cuts_followed byte_cut (λ _. cuts_bytes (ended front) (ended (front ++ more)) front more 32)))
       (cuts_if (eqb kind 2) _ _ _ _ (cuts_made _ (cuts_followed byte_cut (λ _. cuts_term seen_as _ front more ok)))
-      (cuts_given front (ended front) NoEntry)))
+      (cuts_given front (ended front) NoEntry))
 
   denied_cut : Cuts front (ended front) (denied_at front) (denied_at (front ++ more))
   unfolding denied_at link_at

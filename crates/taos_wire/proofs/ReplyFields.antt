@@ -26,7 +26,7 @@ use Rattle.taos_wire.specs.declared.fault.WireFault.{WireFault}
 use Rattle.taos_wire.specs.declared.fault.WireFault.TheVariants as faults
 use Rattle.taos_wire.specs.declared.reply.TheConstants.{MAX_CITED}
 use Rattle.taos_wire.specs.Fields.{WireReader, ended, seen_as, seen_as_proof, u8_in, u32_in, u64_in, within, term_in}
-use Rattle.taos_wire.specs.Reply.{Reply, Granted, Denied, Malformed, UnknownChannel, BadSeal, Replayed, CertRefused, ChannelFull, RelayFailed, UnknownObject, JournalFull, NoMemory, CommonsFull, NotHeld, Unbuilt, LinkSent, Expired, Missing, NoEntry, Untold, flag, link_bytes, cert_bytes, cited_bytes, proof_bytes, granted_bytes, status_of, fields_of, answered_bytes, IsProof, FitsCited, FitsLink, FitsReply, FitsGranted}
+use Rattle.taos_wire.specs.Reply.{Reply, Granted, Denied, Malformed, UnknownChannel, BadSeal, Replayed, CertRefused, ChannelFull, RelayFailed, UnknownObject, JournalFull, NoMemory, CommonsFull, NotHeld, Unbuilt, LinkSent, Expired, Missing, NoEntry, flag, link_bytes, cert_bytes, cited_bytes, proof_bytes, granted_bytes, status_of, fields_of, answered_bytes, IsProof, FitsCited, FitsLink, FitsReply, FitsGranted}
 use Rattle.taos_wire.specs.ReplyReading.{answered_at, place_at, proof_at, cert_at, cited_at, granted_at, named_at, link_at, denied_at, is_status, fields_at, status_at}
 use Rattle.taos_wire.proofs.Fillings.{reads_filling}
 use Rattle.taos_wire.proofs.Operations.{Anyhow, reads_u8, reads_u16, reads_u32, reads_u64, reads_u8_in}
@@ -77,28 +77,24 @@ abbrev link_kind : LinkSent → ℕ
 link_kind (Expired entry digest) = 1
 link_kind (Missing entry part) = 2
 link_kind NoEntry = 3
-link_kind Untold = 0
 
 abbrev link_fields : LinkSent → List ℕ
 link_fields (Expired entry digest) = entry ∷ digest
 link_fields (Missing entry part) = entry ∷ term_spelling part
 link_fields NoEntry = []
-link_fields Untold = []
 
 link_is : (l : LinkSent) → link_bytes l ≡ link_kind l ∷ link_fields l
 link_is (Expired entry digest) = refl
 link_is (Missing entry part) = refl
 link_is NoEntry = refl
-link_is Untold = refl
 
 abbrev IsKind : ℕ → LinkSent → Type 0
 IsKind kind l = FitsLink l × (link_kind l ≡ kind)
 
-kind_within : (l : LinkSent) → (0 ≤ link_kind l) × (link_kind l ≤ 3)
+kind_within : (l : LinkSent) → (1 ≤ link_kind l) × (link_kind l ≤ 3)
 kind_within (Expired entry digest) = (omega arith, omega arith)
 kind_within (Missing entry part) = (omega arith, omega arith)
 kind_within NoEntry = (omega arith, omega arith)
-kind_within Untold = (omega arith, omega arith)
 
 -- ---- a grant
 
@@ -263,29 +259,27 @@ module _ (bytes : List ℕ) where
   reads_missing : Reads bytes (followed (u8_in bytes) (λ _. term_in ENTRY_NODES bytes)) (λ p. (p.0 ∷ []) ++ term_spelling p.1) (λ p. (p.0 < 256) × FitsLimits ENTRY_NODES p.1)
   reads_missing = reads_followed (reads_u8 bytes) (λ _ _. reads_term seen_as ENTRY_NODES bytes)
 
-  named_takes : (kind : ℕ) → kind ≤ 3 → Takes bytes (named_at bytes kind) link_fields (IsKind kind)
+  named_takes : (kind : ℕ) → 1 ≤ kind → kind ≤ 3 → Takes bytes (named_at bytes kind) link_fields (IsKind kind)
   unfolding named_at
-  named_takes kind le =
-      takes_if bytes (eqb kind 0) (given Untold) _ link_fields (IsKind kind) (λ zero. takes_given bytes Untold link_fields (IsKind kind) refl (tt, sym (eqb-true kind 0 zero))) (λ not_zero.
+  named_takes kind some le =
       takes_if bytes (eqb kind 1) (made (λ (x : ℕ × List ℕ). Expired x.0 x.1) (followed (u8_in bytes) (λ _. bytes_at (ended bytes) 32 bytes))) _ link_fields (IsKind kind)
       (λ one. takes_made (λ (x : ℕ × List ℕ). Expired x.0 x.1) link_fields (IsKind kind) reads_expired (λ x is. ((is, sym (eqb-true kind 1 one)), refl))) (λ not_one.
       takes_if bytes (eqb kind 2) (made (λ (x : ℕ × Principal). Missing x.0 x.1) (followed (u8_in bytes) (λ _. term_in ENTRY_NODES bytes))) (given NoEntry) link_fields (IsKind kind)
       (λ two. takes_made (λ (x : ℕ × Principal). Missing x.0 x.1) link_fields (IsKind kind) reads_missing (λ x is. ((is, sym (eqb-true kind 2 two)), refl))) (λ not_two.
-      takes_given bytes NoEntry link_fields (IsKind kind) refl (tt, omega (arith, le, eqb-false _ _ not_zero, eqb-false _ _ not_one, eqb-false _ _ not_two)))))
+      takes_given bytes NoEntry link_fields (IsKind kind) refl (tt, omega (arith, some, le, eqb-false _ _ not_one, eqb-false _ _ not_two))))
 
   named_again : (l : LinkSent) (at : ℕ) (rest : List ℕ) → FitsLink l → drop at bytes ≡ link_fields l ++ rest → named_at bytes (link_kind l) at ≡ Ok (l, at + length (link_fields l))
   unfolding named_at
   named_again (Expired entry digest) at rest fits e = again_made (λ (x : ℕ × List ℕ). Expired x.0 x.1) reads_expired at (entry, digest) rest fits e
   named_again (Missing entry part) at rest fits e = again_made (λ (x : ℕ × Principal). Missing x.0 x.1) reads_missing at (entry, part) rest fits e
   named_again NoEntry at rest fits e = again_given NoEntry at
-  named_again Untold at rest fits e = again_given Untold at
 
   reads_link : Reads bytes (link_at bytes) link_bytes FitsLink
   unfolding link_at
   reads_link =
       reads_made (λ (x : ℕ × LinkSent). x.1) (λ (l : LinkSent). (link_kind l, l)) link_bytes FitsLink
-      (reads_followed (reads_u8_in bytes 0 3 (omega arith)) (λ kind low_high. record {
-        takes = named_takes kind low_high.1;
+      (reads_followed (reads_u8_in bytes 1 3 (omega arith)) (λ kind low_high. record {
+        takes = named_takes kind low_high.0 low_high.1;
         again = λ at l rest is e. subst (λ (k : ℕ). named_at bytes k at ≡ Ok (l, at + length (link_fields l))) is.1 (named_again l at rest is.0 e);
       }))
       (λ x is. (is.1.0, ap (λ (k : ℕ). k ∷ link_fields x.1) (sym is.1.1) ∙ sym (link_is x.1)))

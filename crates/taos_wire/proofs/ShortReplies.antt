@@ -10,7 +10,7 @@ use Rattle.stmt_codec.specs.declared.cert.Cert.{Cert}
 use Rattle.prin_term.specs.Principal.{Principal, Key, Name, And, Quoting, InRole, For, node_count, spelling as term_spelling}
 use Rattle.prin_term.specs.Steps.{counted, optional}
 use Rattle.taos_calculus.specs.Rules.{Line}
-use Rattle.taos_wire.specs.Reply.{Reply, Granted, Denied, Malformed, UnknownChannel, BadSeal, Replayed, CertRefused, ChannelFull, RelayFailed, UnknownObject, JournalFull, NoMemory, CommonsFull, NotHeld, Unbuilt, LinkSent, Expired, Missing, NoEntry, Untold, FitsReply, FitsLink, link_bytes, flag, cert_bytes, cited_bytes, proof_bytes, granted_bytes, status_of, fields_of, answered_bytes, reply_text, seal_of, sent, spelling}
+use Rattle.taos_wire.specs.Reply.{Reply, Granted, Denied, Malformed, UnknownChannel, BadSeal, Replayed, CertRefused, ChannelFull, RelayFailed, UnknownObject, JournalFull, NoMemory, CommonsFull, NotHeld, Unbuilt, LinkSent, Expired, Missing, NoEntry, FitsReply, FitsLink, link_bytes, flag, cert_bytes, cited_bytes, proof_bytes, granted_bytes, status_of, fields_of, answered_bytes, reply_text, seal_of, sent, spelling}
 use Rattle.taos_wire.specs.View.{cited}
 use Rattle.taos_wire.proofs.Seals.{length-seal_of}
 use Rattle.stmt_codec.specs.Certificates.{Certificate, body_spelling, IsSmall, IsWithinLimits}
@@ -68,7 +68,6 @@ link_short : (l : LinkSent) → FitsLink l → length (link_bytes l) ≤ 82
 link_short (Expired entry digest) fits = omega (arith, fits.1.0)
 link_short (Missing entry part) fits = omega (arith, term_short part, fits.1.nodes_fit)
 link_short NoEntry fits = omega arith
-link_short Untold fits = omega arith
 
 small_fields : (r : Reply) → FitsReply r → 0 < status_of r → length (fields_of r) ≤ 94
 small_fields (Granted kept entry shard place proof certs result) fits lt = absurd (omega (arith, lt))

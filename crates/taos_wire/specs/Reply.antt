@@ -24,12 +24,11 @@ use Rattle.taos_wire.specs.declared.reply.TheConstants.{MAX_CITED}
 use Rattle.taos_wire.specs.Request.{Request, IsTag}
 
 -- what a denial names: an entry, and the certificate that ended too early or the part that nobody
--- speaks for; or that no entry has the right; or nothing
+-- speaks for; or that no entry has the right
 pub data LinkSent : Type 0 where
   Expired : (entry : ℕ) (digest : List ℕ) → LinkSent
   Missing : (entry : ℕ) (part : Principal) → LinkSent
   NoEntry : LinkSent
-  Untold : LinkSent
 
 pub data Reply : Type 0 where
   Granted : (kept : Bool) (entry shard place : ℕ) (proof : List Line) (certs : List Certificate) (result : List ℕ) → Reply
@@ -60,7 +59,6 @@ abbrev pub link_bytes : LinkSent → List ℕ
 link_bytes (Expired entry digest) = 1 ∷ entry ∷ digest
 link_bytes (Missing entry part) = 2 ∷ entry ∷ term_spelling part
 link_bytes NoEntry = 3 ∷ []
-link_bytes Untold = 0 ∷ []
 
 -- a body behind its length
 unfoldable pub cert_bytes : Certificate → List ℕ
@@ -136,7 +134,6 @@ abbrev pub FitsLink : LinkSent → Type 0
 FitsLink (Expired entry digest) = IsByte entry × IsDigest digest
 FitsLink (Missing entry part) = IsByte entry × FitsLimits ENTRY_NODES part
 FitsLink NoEntry = Unit {0}
-FitsLink Untold = Unit {0}
 
 pub record FitsGranted (entry shard place : ℕ) (proof : List Line) (certs : List Certificate) (result : List ℕ) : Type 0 where
   pub entry_fits : IsByte entry

@@ -15,7 +15,7 @@ use Rattle.taos_wire.specs.declared.fault.WireFault.{WireFault}
 use Rattle.taos_wire.specs.declared.fault.WireFault.TheVariants as faults
 use Rattle.taos_wire.specs.declared.reply.TheConstants.{MAX_CITED}
 use Rattle.taos_wire.specs.Fields.{WireReader, ended, seen_as_body, seen_as_proof, u8_in, u16_in, u32_in, u64_in, within, term_in}
-use Rattle.taos_wire.specs.Reply.{Reply, Granted, Denied, Malformed, UnknownChannel, BadSeal, Replayed, CertRefused, ChannelFull, RelayFailed, UnknownObject, JournalFull, NoMemory, CommonsFull, NotHeld, Unbuilt, LinkSent, Expired, Missing, NoEntry, Untold}
+use Rattle.taos_wire.specs.Reply.{Reply, Granted, Denied, Malformed, UnknownChannel, BadSeal, Replayed, CertRefused, ChannelFull, RelayFailed, UnknownObject, JournalFull, NoMemory, CommonsFull, NotHeld, Unbuilt, LinkSent, Expired, Missing, NoEntry}
 use Rattle.taos_wire.specs.RequestReading.{tag_at}
 
 -- the version, the channel and the number that are answered
@@ -66,13 +66,12 @@ granted_at bytes =
 -- the link that a byte names
 unfoldable pub named_at : List ℕ → ℕ → WireReader LinkSent
 named_at bytes kind at =
-    if kind == 0 then given Untold at
-    else (if kind == 1 then made (λ x. Expired x.0 x.1) (followed (u8_in bytes) (λ _. bytes_at (ended bytes) 32 bytes)) at
+    if kind == 1 then made (λ x. Expired x.0 x.1) (followed (u8_in bytes) (λ _. bytes_at (ended bytes) 32 bytes)) at
     else (if kind == 2 then made (λ x. Missing x.0 x.1) (followed (u8_in bytes) (λ _. term_in ENTRY_NODES bytes)) at
-    else given NoEntry at))
+    else given NoEntry at)
 
 unfoldable pub link_at : List ℕ → WireReader LinkSent
-link_at bytes = made (λ x. x.1) (followed (within 0 3 (u8_in bytes)) (λ kind. named_at bytes kind))
+link_at bytes = made (λ x. x.1) (followed (within 1 3 (u8_in bytes)) (λ kind. named_at bytes kind))
 
 unfoldable pub denied_at : List ℕ → WireReader Reply
 denied_at bytes = made (λ x. Denied x.0.0 x.0.1 x.1) (followed (place_at bytes) (λ _. link_at bytes))

@@ -17,7 +17,7 @@ use Rattle.taos_wire.specs.declared.reply.Reply as code_reply
 use Rattle.taos_wire.specs.declared.reply.Reply.TheVariants as replies
 use Rattle.taos_wire.specs.declared.reply.LinkSent as code_link
 use Rattle.taos_wire.specs.declared.reply.LinkSent.TheVariants as links
-use Rattle.taos_wire.specs.Reply.{Reply, Granted, Denied, Malformed, UnknownChannel, BadSeal, Replayed, CertRefused, ChannelFull, RelayFailed, UnknownObject, JournalFull, NoMemory, CommonsFull, NotHeld, Unbuilt, LinkSent, Expired, Missing, NoEntry, Untold}
+use Rattle.taos_wire.specs.Reply.{Reply, Granted, Denied, Malformed, UnknownChannel, BadSeal, Replayed, CertRefused, ChannelFull, RelayFailed, UnknownObject, JournalFull, NoMemory, CommonsFull, NotHeld, Unbuilt, LinkSent, Expired, Missing, NoEntry}
 use Rattle.taos_wire.specs.Request.{Request}
 
 abbrev pub text_of : {Z : Type 0} → Vec ℕ Z → List ℕ
@@ -40,7 +40,6 @@ abbrev pub link : code_link.LinkSent → LinkSent
 link (links.Expired entry digest) = Expired entry digest
 link (links.Missing entry part) = Missing entry (principal part)
 link links.NoEntry = NoEntry
-link links.Untold = Untold
 
 abbrev pub reply : code_reply.Reply → Reply
 reply (replies.Granted kept entry shard place proof certs result) = Granted kept entry shard place (lines_of (arc_value proof)) (map cited certs.items) result.items

@@ -17,8 +17,6 @@ pub enum LinkSent {
     Missing { entry: u8, part: Term },
     /// No entry has the right.
     NoEntry,
-    /// What stands in the way is not told.
-    Untold,
 }
 
 /// What a node answers. A shard and a place are those of the journal entry that the answer was

@@ -56,7 +56,6 @@ fn named_of(
     ensures within { IfOk result (λ x. x.1 ≤ length bytes.now) }
 {
     match kind {
-        0 => Ok((LinkSent::Untold, at)),
         1 => {
             let (entry, next) = u8_at(bytes, at, ended(bytes))?;
             let (digest, next) = array_at::<32, _>(bytes, next, ended(bytes))?;
@@ -77,7 +76,7 @@ fn link_of(alloc: Global, bytes: &[u8], at: usize) -> Result<(LinkSent, usize), 
     ensures value { Gives NoMemory (λ x. (link x.0, x.1)) result (link_at bytes.now at) }
     ensures within { IfOk result (λ x. x.1 ≤ length bytes.now) }
 {
-    let (kind, next) = byte_within(bytes, at, 0, 3)?;
+    let (kind, next) = byte_within(bytes, at, 1, 3)?;
     named_of(alloc, bytes, next, kind)
 }
 

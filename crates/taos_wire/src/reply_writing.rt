@@ -275,10 +275,6 @@ fn push_link(out: &mut Vec<u8>, named: &LinkSent) -> Result<(), AllocError>
             out.push(3)?;
             Ok(())
         }
-        LinkSent::Untold => {
-            out.push(0)?;
-            Ok(())
-        }
     }
 }
 

@@ -1,30 +1,20 @@
 -- The course that was taken.
+use Rattle.std.proofs.Common.{List, subst}
+use Rattle.prin_term.specs.declared.term.Anchor.{Anchor}
+use Rattle.prin_term.specs.View.{principal}
 use Rattle.taos_wire.specs.View.{request}
-use Rattle.taos_wire.specs.Reply.{sealed}
-use Rattle.taos_node.specs.Meaning.{object, opening, refusal}
-use Rattle.taos_node.proofs.Courses.{is_refused, is_ruled, arrived}
+use Rattle.taos_node.specs.Asking.{certs_of, content_of, list_of}
+use Rattle.taos_node.specs.Meaning.{opening}
+use Rattle.taos_node.specs.Ruling.{IsAnswered, Leaves}
+use Rattle.taos_node.proofs.Courses.{is_ruled}
 use Rattle.taos_node.proofs.answering.answer.Goals as goal
-
-pub returns-in-Err-object_of-clause-steps : goal.returns-in-Err-object_of-clause-steps
-returns-in-Err-object_of-clause-steps g c =
-    is_refused (opening c.args.node.now) c.args.payload.now c.leave_refused.new.self (sealed c.in-Ok.found.1.now (request c.in-Ok.found.0) (refusal c.in-Err-object_of.refusal)) (g.C.Clock.readings c.args.clock.now)
-    (c.in-Err-object_of.ensures.refused c.args.payload.now c.in-Ok.found.1.now c.in-Ok.ensures.asked) c.leave_refused.ensures.reply c.leave_refused.ensures.short
-
-pub returns-in-Err-now-clause-steps : goal.returns-in-Err-now-clause-steps
-returns-in-Err-now-clause-steps g c = (
-  arrived (opening c.args.node.now) c.args.payload.now (request c.in-Ok.found.0) c.in-Ok.found.1.now (object c.in-Ok.found.0.object c.in-Ok-object_of.plan.now)
-      (c.in-Ok-object_of.ensures.arrived c.args.payload.now c.in-Ok.found.1.now c.in-Ok.ensures.asked),
-  c.in-Err-now.ensures.reading,
-)
-
-pub rule-requires-clause-built : goal.rule-requires-clause-built
-rule-requires-clause-built g c = (c.in-Ok-object_of.ensures.arrived c.args.payload.now c.in-Ok.found.1.now c.in-Ok.ensures.asked).taken.built
-
-pub rule-requires-clause-plain : goal.rule-requires-clause-plain
-rule-requires-clause-plain g c =
-    c.requires.node.objects c.in-Ok.found.0.object (object c.in-Ok.found.0.object c.in-Ok-object_of.plan.now) (c.in-Ok-object_of.ensures.arrived c.args.payload.now c.in-Ok.found.1.now c.in-Ok.ensures.asked).there
 
 pub returns-clause-steps : goal.returns-clause-steps
 returns-clause-steps g c =
-    is_ruled (opening c.args.node.now) c.args.payload.now c.rule.new.out (request c.in-Ok.found.0) c.in-Ok.found.1.now (object c.in-Ok.found.0.object c.in-Ok-object_of.plan.now) (g.C.Clock.readings c.args.clock.now) (g.C.Clock.readings c.now.new.self)
-    c.in_default.field-0 (c.in-Ok-object_of.ensures.arrived c.args.payload.now c.in-Ok.found.1.now c.in-Ok.ensures.asked) c.in_default.ensures.reading c.rule.ensures
+    let key = c.in-Ok.found.1.now in
+    let payload = c.args.payload.now in
+    let a = c.in-Ok-arrive.asking in
+    let reading = c.in-Ok-now.moment in
+    let stands = (c.in-Ok-arrive.ensures.arrived payload key c.in-Ok.ensures.asked).0 in
+    let left = subst (λ (l : List Anchor). Leaves a.channel a.seq key c.rule.new.out (IsAnswered l (certs_of a) reading (principal a.subject) a.right (list_of a) (content_of a))) c.deref.ensures.value c.rule.ensures in
+    is_ruled (opening c.args.node.now) payload key (request c.in-Ok.found.0) a stands reading c.rule.new.out (g.C.Clock.readings c.args.clock.now) (g.C.Clock.readings c.now.new.self) c.in-Ok-now.ensures.reading left

@@ -13,7 +13,7 @@ use Rattle.node_file.specs.Meaning.{object}
 use Rattle.node_file.specs.Meaning.{opening}
 use Rattle.node_file.proofs.Listed.{plan_of-listed}
 use Rattle.taos_node.specs.Checking.{no_object}
-use Rattle.taos_node.proofs.Entries.{stands_at}
+use Rattle.denial_link.proofs.Places.{entry_at}
 use Rattle.taos_node.proofs.Looked.{no_such_entry, no_right}
 use Rattle.taos_node.proofs.checking.entry_of.Goals as goal
 
@@ -46,6 +46,6 @@ returns-clause-stands c = λ q p lines certs granted.
         grant = granted;
         there = plan_of-listed c.args.node.now.objects.entries c.args.asked.now.object ∙ ap (option_map (object c.args.asked.now.object)) (sym c.in-Some.ensures.value);
       };
-      listed = subst (λ (l : List Entry). slice_get (map grant l) c.args.place ≡ Some (grant e)) c.deref.ensures.value (stands_at c.deref.result.now c.args.place e (ltb-true _ _ (sym c.in-Some-get.ensures.lookup.0)) c.in-Some-get.ensures.lookup.1);
+      listed = subst (λ (l : List Entry). slice_get (map grant l) c.args.place ≡ Some (grant e)) c.deref.ensures.value (entry_at c.deref.result.now c.args.place e c.in-Some-get.ensures.lookup.1 (ltb-true _ _ (sym c.in-Some-get.ensures.lookup.0)));
       has_right = λ none. c.if-entry-right_of-eq0.false (ap (λ (n : ℕ). bit_and e.rights n) (c.right_of.ensures ∙ ap (λ (op : Op). right_of (operation op)) c.deref-2.ensures) ∙ none);
     }

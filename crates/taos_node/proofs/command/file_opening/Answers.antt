@@ -2,9 +2,7 @@
 use Rattle.std.proofs.Common.{List, ℕ, take, drop, length, arith, subst, ◌≡◌, ◌∙◌}
 use Rattle.std.proofs.lemmas.List.{length-take, take-append-le, take_all}
 use Rattle.node_file.specs.Opening.{Spells}
-use Rattle.taos_node.specs.Meaning.{opening}
 use Rattle.taos_node.proofs.Commands.{file_opens}
-use Rattle.taos_node.proofs.SameNodes.{is_servable}
 use Rattle.taos_node.proofs.command.file_opening.Goals as goal
 
 pub returns-in-Ok-read_opening-clause-reads : goal.returns-in-Ok-read_opening-clause-reads
@@ -18,7 +16,3 @@ returns-in-Ok-read_opening-clause-reads g c =
           (omega (arith, length-take c.in-Ok-fill.len c.fill.new.room)),
       found.2,
     )
-
--- what is read and built can be served
-pub returns-in-Ok-read_opening-clause-servable : goal.returns-in-Ok-read_opening-clause-servable
-returns-in-Ok-read_opening-clause-servable g c = is_servable (opening c.in-Ok-read_opening.opening) c.in-Ok-read_opening.ensures.fits

@@ -5,9 +5,9 @@ use Rattle.taos_node.proofs.command.opening_of.Goals as goal
 pub returns-then-is_built-clause-gives : goal.returns-then-is_built-clause-gives
 returns-then-is_built-clause-gives g c =
     let reads = c.in_ok-opening.ensures.reads in
-    (reads.0, reads.1, reads.2, λ unbuilt. c.if-is_built.ensures.yes (unbuilt_here c.in_ok-opening.opening reads.0 reads.2 unbuilt))
+    (reads.0, reads.1, reads.2, λ unbuilt. c.if-is_built.ensures.built (unbuilt_here c.in_ok-opening.opening reads.0 reads.2 unbuilt))
 
 pub returns-else-is_built-clause-gives : goal.returns-else-is_built-clause-gives
 returns-else-is_built-clause-gives g c =
     let reads = c.in_ok-opening.ensures.reads in
-    (reads.0, reads.1, unbuilt_there c.in_ok-opening.opening reads.0 reads.2 c.if-is_built.ensures.no)
+    (reads.0, reads.1, unbuilt_there c.in_ok-opening.opening reads.0 reads.2 c.if-is_built.ensures.unbuilt)

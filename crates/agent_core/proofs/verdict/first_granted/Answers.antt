@@ -1,0 +1,17 @@
+-- the decider was asked about the live certificates
+use Rattle.std.proofs.Common.{Bool, List, ap, ◌∙◌, map}
+use Rattle.prin_term.specs.View.{grant, principal}
+use Rattle.taos_calculus.specs.Question.{question_of}
+use Rattle.denial_link.proofs.Entries.{entry_is_term}
+use Rattle.agent_core.specs.Views.{certificates}
+use Rattle.agent_core.proofs.Marks.{found_live}
+use Rattle.agent_core.proofs.verdict.first_granted.Goals as goal
+
+pub first_derivable-requires-clause-asked : goal.first_derivable-requires-clause-asked
+first_derivable-requires-clause-asked g c =
+    entry_is_term c.args.anchors.now (certificates c.args.certs.now) (principal c.args.subject.now) (map grant c.args.list.now) (g.D.Decide.question c.begin.new.self) _ c.begin.ensures
+
+pub returns : goal.returns
+returns g c =
+    let asked = c.begin.ensures ∙ ap (λ (marks : List Bool). question_of c.args.anchors.now (certificates c.args.certs.now) marks (principal c.args.subject.now) (map grant c.args.list.now)) (c.deref.ensures.0 ∙ c.marks_of-marks.ensures) in
+    found_live c.args.anchors.now (certificates c.args.certs.now) c.args.moment (principal c.args.subject.now) (map grant c.args.list.now) c.args.right (g.D.Decide.question c.begin.new.self) asked c.first_derivable.result c.first_derivable.ensures.found

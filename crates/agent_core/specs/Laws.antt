@@ -1,0 +1,67 @@
+-- What the definitions of a shard imply. Each of these is the contract of a function that does nothing.
+--     FrontIsLegal      a beginning of a legal journal is legal
+--     OneMoreIsLegal      a legal journal stays legal with an entry that may follow it
+--     LegalIsAllowed      a journal is legal exactly where each entry may follow those before it, one after another
+--     JournalIsLegal      the journal that a shard makes of events is legal, where each is meant and there is room
+--     HasOneJournal      and no other journal of these events is
+--     HoldsFew, JudgesFew      how many certificates are held and judged by
+--     OneVerdict      no Ask is both granted and denied
+--     JudgedIsVerdict      what is found on what an Ask is judged by is its verdict
+use Rattle.std.specs.Prelude.{◌≡◌, ℕ, ◌+◌, ◌≤◌, ◌↔◌, List, [], ◌∷◌, ◌++◌, length, map}
+use Rattle.stmt_codec.specs.Certificates.{Certificate}
+use Rattle.denial_link.specs.declared.link.Link.{Link}
+use Rattle.agent_core.specs.declared.limits.TheConstants.{MAX_OWN, MAX_COMMONS}
+use Rattle.agent_core.specs.State.{Plan, State, Ask, Event, opened, next}
+use Rattle.agent_core.specs.declared.verdict.Finding.{Finding}
+use Rattle.agent_core.specs.Judged.{Judges, verdict_of}
+use Rattle.agent_core.specs.Journals.{Entry, entry, state_after, told_of, IsMeant, MayFollow, IsLegalJournal, IsJudged, IsVerdict, Granted, Denied}
+
+-- the journal that a shard makes of events, one after another
+abbrev pub journal_from : Plan → State → List Event → List Entry
+journal_from plan s [] = []
+journal_from plan s (e ∷ es) = entry e (told_of (next plan s e).1) ∷ journal_from plan (next plan s e).0 es
+
+abbrev pub journal_of : Plan → List Event → List Entry
+journal_of plan events = journal_from plan (opened plan) events
+
+module _ (plan : Plan) where
+  abbrev pub FrontIsLegal : Type 0
+  FrontIsLegal = (front more : List Entry) → IsLegalJournal plan (front ++ more) → IsLegalJournal plan front
+
+  abbrev pub OneMoreIsLegal : Type 0
+  OneMoreIsLegal = (journal : List Entry) (e : Entry) → IsLegalJournal plan journal → MayFollow plan journal e → IsLegalJournal plan (journal ++ e ∷ [])
+
+  -- as a turn cell says it of its journal
+  abbrev pub AllMayFollow : List Entry → List Entry → Type 0
+  AllMayFollow before [] = Unit {0}
+  AllMayFollow before (e ∷ es) = MayFollow plan before e × AllMayFollow (before ++ e ∷ []) es
+
+  abbrev pub LegalIsAllowed : Type 0
+  LegalIsAllowed = (journal : List Entry) → IsLegalJournal plan journal ↔ AllMayFollow [] journal
+
+  abbrev pub AreMeant : List Event → Type 0
+  AreMeant [] = Unit {0}
+  AreMeant (e ∷ es) = IsMeant plan e × AreMeant es
+
+  abbrev pub JournalIsLegal : Type 0
+  JournalIsLegal = (events : List Event) → length events ≤ plan.limit → AreMeant events → IsLegalJournal plan (journal_of plan events)
+
+  abbrev pub HasOneJournal : Type 0
+  HasOneJournal = (journal : List Entry) → IsLegalJournal plan journal → journal ≡ journal_of plan (map (λ (e : Entry). e.event) journal)
+
+  -- neither a channel nor the commons hold more than they may
+  abbrev pub HoldsFew : Type 0
+  HoldsFew = length plan.commons ≤ MAX_COMMONS → (journal : List Entry) →
+      ((c : ℕ) → length ((state_after plan journal).own c) ≤ MAX_OWN) × (length (state_after plan journal).commons ≤ MAX_COMMONS)
+
+  abbrev pub JudgesFew : Type 0
+  JudgesFew = length plan.commons ≤ MAX_COMMONS → (before : List Entry) (a : Ask) (moment : ℕ) (certs : List Certificate) →
+      IsJudged plan before a moment certs → length certs ≤ MAX_OWN + MAX_COMMONS
+
+  -- what an Ask is judged by is one moment and one list
+  abbrev pub OneVerdict : Type 0
+  OneVerdict = (before : List Entry) (a : Ask) (link : Link) → IsVerdict plan before a Granted → IsVerdict plan before a (Denied link) → ⊥
+
+  abbrev pub JudgedIsVerdict : Type 0
+  JudgedIsVerdict = (before : List Entry) (a : Ask) (moment : ℕ) (certs : List Certificate) (finding : Finding) →
+      IsJudged plan before a moment certs → Judges plan.anchors certs moment a.subject a.list a.right finding → IsVerdict plan before a (verdict_of finding)

@@ -1,0 +1,42 @@
+//! Laws of shards, each the contract of a function that does nothing.
+
+ghost use Rattle.agent_core.specs.State.{Plan};
+ghost use Rattle.agent_core.specs.Laws.{FrontIsLegal, OneMoreIsLegal, LegalIsAllowed, JournalIsLegal};
+ghost use Rattle.agent_core.specs.Laws.{HasOneJournal, HoldsFew, JudgesFew, OneVerdict, JudgedIsVerdict};
+
+/// A beginning of a legal journal is legal.
+pub fn fronts_are_legal()
+    ensures { (plan : Plan) → FrontIsLegal plan }
+{}
+
+/// A legal journal stays legal with an entry that may follow it.
+pub fn one_more_is_legal()
+    ensures { (plan : Plan) → OneMoreIsLegal plan }
+{}
+
+/// A journal is legal exactly where each entry is allowed behind those before it.
+pub fn legal_is_allowed()
+    ensures { (plan : Plan) → LegalIsAllowed plan }
+{}
+
+/// What a shard makes of events that are meant is a legal journal, and the only one of these events.
+pub fn events_have_one_journal()
+    ensures legal { (plan : Plan) → JournalIsLegal plan }
+    ensures one { (plan : Plan) → HasOneJournal plan }
+{}
+
+/// How many certificates a shard holds at most, and an Ask is judged by.
+pub fn shards_hold_few()
+    ensures held { (plan : Plan) → HoldsFew plan }
+    ensures judged { (plan : Plan) → JudgesFew plan }
+{}
+
+/// No Ask is both granted and denied.
+pub fn verdicts_differ()
+    ensures { (plan : Plan) → OneVerdict plan }
+{}
+
+/// What is found on what an Ask is judged by is its verdict.
+pub fn findings_are_verdicts()
+    ensures { (plan : Plan) → JudgedIsVerdict plan }
+{}

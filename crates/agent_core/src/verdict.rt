@@ -1,0 +1,100 @@
+//! The verdict on an Ask that is to be judged.
+
+ghost use Rattle.std.specs.Prelude.{◌≡◌, ◌≤◌, ℕ, true, map, length, replicate, MatchOption};
+ghost use Rattle.prin_term.specs.View.{Grant, grant, principal};
+ghost use Rattle.stmt_codec.specs.Certificates.{certificate, live};
+ghost use Rattle.taos_calculus.specs.Monitor.{FirstEntry, MaySpeak};
+ghost use Rattle.taos_calculus.specs.Question.{IsAskable};
+ghost use Rattle.denial_link.specs.Revived.{claims};
+ghost use Rattle.denial_link.specs.Links.{NoEntryWith};
+ghost use Rattle.agent_core.specs.Views.{certificates};
+ghost use Rattle.agent_core.specs.Judged.{live_marks, Judges};
+
+use crate::event::Ask;
+use crate::told::Snapshot;
+use arrayvec::ArrayVec;
+use denial_link::{Link, first_derivable, first_link};
+use prin_term::{Anchor, Entry, Term};
+use std::sync::Arc;
+use stmt_codec::Cert;
+use taos_calculus::{Decide, MAX_CERTS};
+
+/// What was found about a request: the first entry that grants it, or what a denial names.
+#[derive(Clone, Copy, Debug, PartialEq, Eq)]
+pub enum Finding {
+    Granted { entry: u8 },
+    Denied(Link),
+}
+
+// Which certificates are live.
+fn marks_of(certs: &[Arc<Cert>], moment: u64) -> ArrayVec<bool, MAX_CERTS>
+    requires { length certs.now ≤ MAX_CERTS }
+    ensures { result.items ≡ live_marks (certificates certs.now) moment }
+{
+    let mut marks = ArrayVec::new();
+    for cert in certs {
+        marks.push(cert.is_live(moment));
+    }
+    marks
+}
+
+// The first entry with the right for whom the subject speaks, by the live certificates.
+fn first_granted<D: Decide>(
+    bench: &mut D,
+    anchors: &[Anchor],
+    certs: &[Arc<Cert>],
+    moment: u64,
+    subject: &Term,
+    list: &[Entry],
+    right: u8,
+) -> Option<u8>
+    requires { IsAskable anchors.now (certificates certs.now)
+        (replicate (length certs.now) true) (principal subject.now) (map grant list.now) }
+    ensures { MatchOption result
+        (NoEntryWith (map grant list.now) right (λ e. MaySpeak anchors.now
+        (claims (live (certificates certs.now) moment)) (principal subject.now) e.who))
+        (λ k. (e : Grant) × FirstEntry (map grant list.now) right (λ g. MaySpeak anchors.now
+        (claims (live (certificates certs.now) moment)) (principal subject.now) g.who) k e) }
+{
+    let marks = marks_of(certs, moment);
+    bench.begin(anchors, certs, &marks, subject, list);
+    first_derivable(bench, subject, list, right)
+}
+
+/// Judges an Ask by what it was handed out: the monitor's verdict on the live certificates, and what is
+/// missing where it grants nothing. Takes no memory.
+pub fn judge<D: Decide>(
+    bench: &mut D,
+    anchors: &[Anchor],
+    snapshot: &Snapshot,
+    asked: &Ask,
+) -> Finding
+    requires { IsAskable anchors.now (certificates snapshot.now.certs.items)
+        (replicate (length snapshot.now.certs.items) true) (principal asked.now.subject)
+        (map grant asked.now.list.value.items) }
+    ensures { Judges anchors.now (certificates snapshot.now.certs.items) snapshot.now.moment
+        (principal asked.now.subject) (map grant asked.now.list.value.items) asked.now.right result }
+{
+    let certs = &snapshot.certs;
+    let moment = snapshot.moment;
+    match first_granted(
+        bench,
+        anchors,
+        certs,
+        moment,
+        &asked.subject,
+        &asked.list,
+        asked.right,
+    ) {
+        Some(entry) => Finding::Granted { entry },
+        None => Finding::Denied(first_link(
+            bench,
+            anchors,
+            certs,
+            moment,
+            &asked.subject,
+            &asked.list,
+            asked.right,
+        )),
+    }
+}
