@@ -6,6 +6,7 @@ mod append;
 mod asking;
 mod event;
 mod forgetting;
+mod grant;
 mod laws;
 mod letting;
 mod limits;
@@ -24,6 +25,7 @@ mod told;
 mod verdict;
 
 pub use event::{Ask, Event, ShardEntry};
+pub use grant::proof_for;
 pub use laws::{
     events_have_one_journal, findings_are_verdicts, fronts_are_legal, legal_is_allowed,
     one_more_is_legal, shards_hold_few, verdicts_differ,
