@@ -14,7 +14,7 @@ use Rattle.agent_core.specs.declared.limits.TheConstants.{MAX_OWN, MAX_COMMONS}
 use Rattle.agent_core.specs.State.{Plan, State, Ask, Event, opened, next}
 use Rattle.agent_core.specs.declared.verdict.Finding.{Finding}
 use Rattle.agent_core.specs.Judged.{Judges, verdict_of}
-use Rattle.agent_core.specs.Journals.{Entry, entry, state_after, told_of, IsMeant, MayFollow, IsLegalJournal, IsJudged, IsVerdict, Granted, Denied}
+use Rattle.agent_core.specs.Journals.{Entry, entry, state_after, told_of, told_at, IsMeant, MayFollow, IsLegalJournal, IsJudged, IsVerdict, Granted, Denied}
 
 -- the journal that a shard makes of events, one after another
 abbrev pub journal_from : Plan → State → List Event → List Entry
@@ -39,12 +39,13 @@ module _ (plan : Plan) where
   abbrev pub LegalIsAllowed : Type 0
   LegalIsAllowed = (journal : List Entry) → IsLegalJournal plan journal ↔ AllMayFollow [] journal
 
-  abbrev pub AreMeant : List Event → Type 0
-  AreMeant [] = Unit {0}
-  AreMeant (e ∷ es) = IsMeant plan e × AreMeant es
+  -- each event is meant behind what the shard made of those before it
+  abbrev pub AreMeant : List Entry → List Event → Type 0
+  AreMeant before [] = Unit {0}
+  AreMeant before (e ∷ es) = IsMeant plan before e × AreMeant (before ++ entry e (told_at plan before e) ∷ []) es
 
   abbrev pub JournalIsLegal : Type 0
-  JournalIsLegal = (events : List Event) → length events ≤ plan.limit → AreMeant events → IsLegalJournal plan (journal_of plan events)
+  JournalIsLegal = (events : List Event) → length events ≤ plan.limit → AreMeant [] events → IsLegalJournal plan (journal_of plan events)
 
   abbrev pub HasOneJournal : Type 0
   HasOneJournal = (journal : List Entry) → IsLegalJournal plan journal → journal ≡ journal_of plan (map (λ (e : Entry). e.event) journal)
