@@ -10,18 +10,22 @@ import struct
 
 NODE, SHARDS, KEEP, JOURNAL_LIMIT = 7, 1, 3600, 16_384
 CHANNELS = [1, 2]
-ANCHORS = [(1, 10)]
+ANCHORS = [(1, 10), (3, 30)]
 READ, ALL_RIGHTS = 1, 15
 KEY, NAME = 1, 2
 # number: content, access list of (rights, key or name, number)
 OBJECTS = {5: (b"hello", [(ALL_RIGHTS, NAME, 10)])}
+# issuer, until, serial: that issuer says that key 2 speaks for name 10, until that second since 1970
+BY_ONE, BY_THREE, ENDED = (1, 2**40, 1), (3, 2**40, 2), (1, 1000, 3)
 
-# channel, number in the channel's order, object, whether the tag is turned
+# channel, number in the channel's order, object, certificates, whether the tag is turned
 REQUESTS = [
-    (1, 1, 5, False),  # key 1 is anchored to name 10, which is listed
-    (2, 1, 5, False),  # key 2 is anchored to no name
-    (1, 2, 5, True),  # nobody sealed this
-    (1, 3, 6, False),  # no such object
+    (1, 1, 5, [], False),  # key 1 is anchored to name 10, which is listed
+    (2, 1, 5, [BY_ONE], False),  # and may hand that off to key 2
+    (2, 2, 5, [BY_THREE], False),  # which key 3 may not
+    (2, 3, 5, [ENDED], False),  # nor for longer than it said
+    (1, 2, 5, [], True),  # nobody sealed this
+    (1, 3, 6, [], False),  # no such object
 ]
 
 
@@ -52,8 +56,17 @@ def opening():
     return out
 
 
-def request(channel, seq, obj, turned):
-    text = struct.pack(">BIQBBIB", 3, channel, seq, 0, READ, obj, 0)
+def certificate(issuer, until, serial):
+    text = struct.pack(">BBIB", 2, 1, issuer, 0)
+    text += struct.pack(">BIBI", KEY, 2, NAME, 10) + struct.pack(">QQ", until, serial)
+    return text + tag(key(NODE), text)
+
+
+def request(channel, seq, obj, certificates, turned):
+    text = struct.pack(">BIQBBIB", 3, channel, seq, 0, READ, obj, len(certificates))
+    for each in certificates:
+        sealed = certificate(*each)
+        text += struct.pack(">H", len(sealed)) + sealed
     seal = bytearray(tag(key(channel), text))
     if turned:
         seal[-1] ^= 1

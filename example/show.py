@@ -12,7 +12,6 @@ import hmac
 import sys
 
 ATOMS = {1: "key", 2: "name"}
-SAME, ANCHOR = 1, 9
 TAG = 32
 
 
@@ -54,43 +53,119 @@ def channel_keys(opening):
     return {fields.number(4): fields.take(32) for _ in range(count)}
 
 
-def request(payload):
-    """A plain request in words, or how long another payload is."""
-    if len(payload) != 20 + TAG:
-        return f"a payload of {len(payload)} bytes"
-    fields = Bytes(payload)
-    version, channel, seq = fields.number(1), fields.number(4), fields.number(8)
-    quoted, operation, number, certificates = (fields.number(width) for width in (1, 1, 4, 1))
-    if (version, quoted, operation, certificates) != (3, 0, 1, 0):
-        return "a request of another form"
-    return f"channel {channel}, number {seq}: read object {number}"
+PAIRS = {3: "and", 4: "|", 6: "for"}
 
 
-def node(fields):
+def term(fields):
+    """A principal as it is spelled in requests, certificates and links."""
     kind = fields.number(1)
-    if kind not in ATOMS:
-        raise ValueError(f"a node of kind {kind}")
-    return f"{ATOMS[kind]} {fields.number(4)}"
+    if kind in ATOMS:
+        return f"{ATOMS[kind]} {fields.number(4)}"
+    if kind in PAIRS:
+        left, right = term(fields), term(fields)
+        return f"({left} {PAIRS[kind]} {right})"
+    if kind == 5:
+        left = term(fields)
+        return f"({left} as role {fields.number(4)})"
+    raise ValueError(f"a term of kind {kind}")
+
+
+def body(fields):
+    """What a certificate says, behind its length."""
+    said = Bytes(fields.take(fields.number(2)))
+    return statement(said)
+
+
+def statement(said):
+    if said.number(1) != 1:
+        raise ValueError("a certificate of another version")
+    issuer = f"key {said.number(4)}"
+    if said.number(1):
+        issuer = f"{issuer} | {term(said)}"
+    left, right = term(said), term(said)
+    until = said.number(8)
+    return f"{issuer} says {left} => {right} until {until}"
+
+
+def certificate(fields):
+    """What a presented certificate says, whoever sealed it."""
+    sealed = fields.take(fields.number(2))
+    return statement(Bytes(sealed[1:-TAG]))
+
+
+def request(payload):
+    """A Read in words, or how long another payload is."""
+    try:
+        fields = Bytes(payload[:-TAG])
+        version, channel, seq = fields.number(1), fields.number(4), fields.number(8)
+        quoted = f" quoting {term(fields)}" if fields.number(1) else ""
+        operation, number = fields.number(1), fields.number(4)
+        if (version, operation) != (3, 1):
+            return "a request of another form"
+        shown = [certificate(fields) for _ in range(fields.number(1))]
+    except ValueError:
+        return f"a payload of {len(payload)} bytes"
+    by = "".join(f"\n    presents: {each}" for each in shown)
+    return f"channel {channel}{quoted}, number {seq}: read object {number}{by}"
+
+
+def node(fields, nodes):
+    kind = fields.number(1)
+    if kind in ATOMS:
+        return f"{ATOMS[kind]} {fields.number(4)}"
+    if kind in PAIRS:
+        left, right = nodes[fields.number(2)], nodes[fields.number(2)]
+        return f"({left} {PAIRS[kind]} {right})"
+    if kind == 5:
+        left = nodes[fields.number(2)]
+        return f"({left} as role {fields.number(4)})"
+    raise ValueError(f"a node of kind {kind}")
+
+
+# Each rule: its name, whether its fact is a statement of somebody, how many lines it names, and
+# whether it names an anchor or a certificate.
+RULES = {
+    1: ("same", False, 0, ""),
+    2: ("chain", False, 2, ""),
+    3: ("left", False, 0, ""),
+    4: ("right", False, 0, ""),
+    5: ("both", False, 2, ""),
+    6: ("quote", False, 2, ""),
+    7: ("for", False, 2, ""),
+    8: ("role", False, 0, ""),
+    9: ("anchor", False, 0, "anchor"),
+    10: ("said", True, 0, "certificate"),
+    11: ("lift", True, 2, ""),
+    12: ("join", True, 2, ""),
+    13: ("hand-off", False, 1, ""),
+    14: ("delegate", False, 1, ""),
+    15: ("role under", False, 1, ""),
+}
 
 
 def line(fields, nodes):
-    rule, left, right = fields.number(1), fields.number(2), fields.number(2)
-    if rule == SAME:
-        by = "same"
-    elif rule == ANCHOR:
-        by = f"anchor {fields.number(2)}"
-    else:
+    rule = fields.number(1)
+    if rule not in RULES:
         raise ValueError(f"a line by rule {rule}")
-    if max(left, right) >= len(nodes):
-        raise ValueError("a line names a node that is not there")
-    return f"{nodes[left]} => {nodes[right]} by {by}"
+    name, says, premises, what = RULES[rule]
+    who = f"{nodes[fields.number(2)]} says " if says else ""
+    left, right = nodes[fields.number(2)], nodes[fields.number(2)]
+    numbers = [f"line {fields.number(4)}" for _ in range(premises)]
+    if what:
+        numbers.append(f"{what} {fields.number(2)}" if what != name else str(fields.number(2)))
+    by = f"{name} {', '.join(numbers)}".strip()
+    return f"{who}{left} => {right} by {by}"
 
 
 def proof(data):
-    """The lines of a proof over keys and names, the only ones that are made yet."""
-    fields = Bytes(data)
-    nodes = [node(fields) for _ in range(fields.number(2))]
-    lines = [line(fields, nodes) for _ in range(fields.number(4))]
+    """The lines of a proof."""
+    fields, nodes = Bytes(data), []
+    try:
+        for _ in range(fields.number(2)):
+            nodes.append(node(fields, nodes))
+        lines = [line(fields, nodes) for _ in range(fields.number(4))]
+    except IndexError:
+        raise ValueError("a proof names a node that is not there") from None
     fields.end()
     return lines
 
@@ -101,17 +176,27 @@ def grant(fields):
     fields.zero(4, "the shard")
     fields.zero(8, "the place")
     lines = proof(fields.take(fields.number(4)))
-    fields.zero(1, "the count of certificates")
+    cited = [body(fields) for _ in range(fields.number(1))]
     content = fields.take(fields.number(2)).decode("utf-8", "backslashreplace")
-    plural = "line" if len(lines) == 1 else "lines"
-    return f'grant: entry {entry}, proof of {len(lines)} {plural}: {"; ".join(lines)}, content "{content}"'
+    said = [f'grant: entry {entry}, content "{content}"']
+    said += [f"    certificate {number}: {each}" for number, each in enumerate(cited)]
+    said += [f"    line {number}: {each}" for number, each in enumerate(lines)]
+    return "\n    ".join(said)
 
 
 def denial(fields):
     fields.zero(4, "the shard")
     fields.zero(8, "the place")
-    fields.zero(1, "the link")
-    return "denial"
+    link = fields.number(1)
+    if link == 1:
+        entry, digest = fields.number(1), fields.take(32).hex()
+        return f"denial: entry {entry} would be reached but for the certificate of digest {digest[:16]}.., which has ended"
+    if link == 2:
+        entry = fields.number(1)
+        return f"denial: of entry {entry} nobody reaches {term(fields)}"
+    if link == 3:
+        return "denial: no entry has the right"
+    raise ValueError(f"a link of kind {link}")
 
 
 # What each refusal says: its name, and the width of the number behind it.
@@ -119,6 +204,7 @@ REFUSALS = {
     2: ("malformed, at byte", 4),
     3: ("unknown channel", 4),
     4: ("bad seal", 0),
+    6: ("certificate refused, at its index and for the code", 2),
     9: ("unknown object", 4),
     11: ("no memory", 0),
     255: ("not built", 0),
@@ -131,6 +217,8 @@ def refusal(status, fields):
     if status not in REFUSALS:
         raise ValueError(f"a reply of status {status}")
     name, width = REFUSALS[status]
+    if status == 6:
+        return f"refusal: {name} {fields.number(1)}, {fields.number(1)}"
     return f"refusal: {name} {fields.number(width)}" if width else f"refusal: {name}"
 
 
@@ -151,12 +239,12 @@ def reply(payload, keys):
         said = refusal(status, fields)
     fields.end()
     if (channel, seq, sealed) == (0, 0, bytes(TAG)) and (status in UNSEALED or status == NO_MEMORY):
-        return f"{said}; not sealed", True
+        return f"{said}\n    not sealed", True
     if status in UNSEALED:
-        return f"{said}; SEALED, WHICH IT SHOULD NOT BE", False
+        return f"{said}\n    SEALED, WHICH IT SHOULD NOT BE", False
     if channel in keys and hmac.compare_digest(sealed, hmac.new(keys[channel], text, hashlib.sha256).digest()):
-        return f"{said}; the tag checks under the key of channel {channel}", True
-    return f"{said}; THE TAG DOES NOT CHECK under the key of channel {channel}", False
+        return f"{said}\n    the tag checks under the key of channel {channel}", True
+    return f"{said}\n    THE TAG DOES NOT CHECK under the key of channel {channel}", False
 
 
 def show(opening, asked, replied):

@@ -1,5 +1,5 @@
 -- How much a shard holds, and by how much an Ask is judged.
-use Rattle.std.proofs.Common.{◌≡◌, ℕ, suc, ◌+◌, ◌≤◌, Bool, not, ◌==◌, nat_le, nat_lt, List, [], ◌∷◌, ◌++◌, length, filter, sym, ◌∙◌, ap, subst₂, arith, length-append, bytes_eq}
+use Rattle.std.proofs.Common.{◌≡◌, ℕ, suc, ◌+◌, ◌≤◌, Bool, not, ◌==◌, nat_le, nat_lt, List, [], ◌∷◌, ◌++◌, length, filter, refl, append-nil, sym, ◌∙◌, ap, subst₂, arith, length-append, bytes_eq}
 use Rattle.std.proofs.lemmas.Bool.{cond_both, ltb-false}
 use Rattle.stmt_codec.specs.Certificates.{Certificate, digest_of, live}
 use Rattle.taos_calculus.specs.Monitor.{Grants}
@@ -7,7 +7,8 @@ use Rattle.denial_link.specs.Revived.{claims}
 use Rattle.agent_core.specs.Held.{newly}
 use Rattle.agent_core.specs.State.{Plan, State, Ask, Event, Asks, Holds, Discards, Forgets, Expires, Answer, Judged, opened, keeping, is_gone, swept, brought, taking, asking, holding, forgetting, next, moment_of}
 use Rattle.agent_core.specs.Journals.{Entry, state_from, state_after, granted, denied}
-use Rattle.agent_core.specs.Laws.{HoldsFew, JudgesFew, OneVerdict, JudgedIsVerdict}
+use Rattle.agent_core.specs.Laws.{HoldsFew, JudgesFew, OneVerdict, JudgedIsVerdict, MeantStays, StepsAlone}
+use Rattle.agent_core.proofs.Journaling.{meant_on}
 use Rattle.agent_core.specs.declared.verdict.Finding.TheVariants as finding
 
 shorter : {X : Type 0} (p : X → Bool) (xs : List X) → length (filter p xs) ≤ length xs
@@ -94,3 +95,17 @@ pub judged_verdict : (plan : Plan) → JudgedIsVerdict plan
 judged_verdict plan before a moment certs (finding.Granted place) j (e, first) =
     granted j (record { place = place; entry = e; stands = first.stands; has_right = first.has_right; speaks = first.holds })
 judged_verdict plan before a moment certs (finding.Denied link) j (not_granted, first) = denied j not_granted first
+
+-- ---- steps
+
+pub meant_stays : (plan : Plan) → MeantStays plan
+meant_stays plan xs ys event begins meant = meant_on plan xs ys event meant
+
+pub steps_alone : (plan : Plan) → StepsAlone plan
+steps_alone plan alone journal later own event place answer steps = record {
+  before = journal;
+  goes_on = record { rest = []; is = sym (append-nil journal) };
+  undisturbed = λ e. refl;
+  steps = steps;
+  owned = refl;
+}

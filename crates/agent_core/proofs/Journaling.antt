@@ -7,7 +7,7 @@ use Rattle.stmt_codec.specs.Certificates.{Certificate}
 use Rattle.agent_core.specs.declared.event.ShardEntry.{ShardEntry}
 use Rattle.agent_core.specs.declared.store.Row.{Row}
 use Rattle.agent_core.specs.declared.store.Store.{Store}
-use Rattle.agent_core.specs.State.{Plan, State, Event, Answer, Plain, next}
+use Rattle.agent_core.specs.State.{Plan, State, Event, Asks, Answer, Plain, next}
 use Rattle.agent_core.specs.Journals.{Entry, entry, state_from, state_after, told_of, told_at, IsMeant, MayFollow, IsLegalJournal}
 use Rattle.agent_core.specs.Kept.{row_certs, IsRow, IsStore, IsKept, Tells}
 use Rattle.agent_core.specs.Names.{named, AreNames}
@@ -19,6 +19,11 @@ use Rattle.agent_core.proofs.NamesLeft.{journal_names_more, names_more, named_mo
 pub state_from-push : (plan : Plan) (s : State) (journal : List Entry) (e : Entry) → state_from plan s (journal ++ e ∷ []) ≡ (next plan (state_from plan s journal) e.event).0
 state_from-push plan s [] e = refl
 state_from-push plan s (x ∷ journal) e = state_from-push plan (next plan s x.event).0 journal e
+
+-- what an event has to be stays so when the journal goes on
+pub meant_on : (plan : Plan) (xs ys : List Entry) (e : Event) → IsMeant plan xs e → IsMeant plan ys e
+meant_on plan xs ys (Asks a) m = m
+meant_on plan xs ys _ m = tt
 
 -- ---- legal journals
 
@@ -75,7 +80,7 @@ module _ (plan : Plan) (before : Vec ShardEntry Global) (store : Store) (kept : 
   adds_entry = ap (map entry_of) added ∙ map_push entry_of before.items e
 
   -- the state's next one is what is kept afterwards
-  pub kept_more : (store' : Store) → IsMeant plan (entry_of e).event → e.told ≡ told_at plan (map entry_of before.items) (entry_of e).event →
+  pub kept_more : (store' : Store) → IsMeant plan (map entry_of before.items) (entry_of e).event → e.told ≡ told_at plan (map entry_of before.items) (entry_of e).event →
       IsStore plan (map entry_of before.items ++ entry_of e ∷ []) (next plan (state_after plan (map entry_of before.items)) (entry_of e).event).0 store' → store'.swept ≤ length before.items + 1 →
       IsKept plan after store'
   kept_more store' meant tells is swept = record {
@@ -90,12 +95,12 @@ module _ (plan : Plan) (before : Vec ShardEntry Global) (store : Store) (kept : 
   }
 
   -- what is told at once
-  pub tells_more : (store' : Store) (s : State) (event : Event) → (entry_of e).event ≡ event → IsMeant plan event → next plan (state_after plan (map entry_of before.items)) event ≡ (s, Plain e.told) →
+  pub tells_more : (store' : Store) (s : State) (event : Event) → (entry_of e).event ≡ event → IsMeant plan (map entry_of before.items) event → next plan (state_after plan (map entry_of before.items)) event ≡ (s, Plain e.told) →
       IsStore plan (map entry_of before.items ++ entry_of e ∷ []) s store' → store'.swept ≤ length before.items + 1 → Tells plan before event e.told after store'
   tells_more store' s event event_is meant nexts is swept = record {
     adds = adds_entry ∙ ap (λ x. map entry_of before.items ++ entry x e.told ∷ []) event_is;
     plain = ap (λ (r : State × Answer). r.1) nexts;
-    kept = kept_more store' (subst (IsMeant plan) (sym event_is) meant)
+    kept = kept_more store' (subst (IsMeant plan (map entry_of before.items)) (sym event_is) meant)
         (ap told_of (sym (ap (λ (x : Event). (next plan (state_after plan (map entry_of before.items)) x).1) event_is ∙ ap (λ (r : State × Answer). r.1) nexts)))
         (subst (λ t. IsStore plan (map entry_of before.items ++ entry_of e ∷ []) t store') (sym (ap (λ (x : Event). (next plan (state_after plan (map entry_of before.items)) x).0) event_is ∙ ap (λ (r : State × Answer). r.0) nexts)) is) swept;
   }

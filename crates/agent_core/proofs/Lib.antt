@@ -16,3 +16,4 @@ pub mod Stepping
 pub mod Making
 pub mod Few
 pub mod Marks
+pub mod Citing

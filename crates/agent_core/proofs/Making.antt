@@ -36,7 +36,7 @@ module _ (plan : Plan) where
       ap (λ s. (before ++ made before e ∷ []) ++ journal_from plan s es) (sym (state_from-push plan (opened plan) before (made before e)))
 
   legal_onward : (before : List Entry) (events : List Event) → IsLegalJournal plan before → length before + length events ≤ plan.limit →
-      AreMeant plan events → IsLegalJournal plan (before ++ onward before events)
+      AreMeant plan before events → IsLegalJournal plan (before ++ onward before events)
   legal_onward before [] legal room meant = subst (IsLegalJournal plan) (sym (append-nil before)) legal
   legal_onward before (e ∷ es) legal room meant =
       let may : MayFollow plan before (made before e) = record { room = omega arith; meant = meant.0; tells = refl } in

@@ -43,7 +43,7 @@ module _ (anchors : List Anchor) (certs : List Certificate) (moment : ℕ) (subj
   forth : (who : Principal) → MayAnswer q subject who → MaySpeak anchors (claims (live certs moment)) subject who
   forth who m = subst (λ (cs : List Claim). MaySpeak anchors cs subject who) (picked_live 0 certs moment) (subst (λ (x : Question). MayAnswer x subject who) asked m)
 
-  backward : (who : Principal) → MaySpeak anchors (claims (live certs moment)) subject who → MayAnswer q subject who
+  pub backward : (who : Principal) → MaySpeak anchors (claims (live certs moment)) subject who → MayAnswer q subject who
   backward who m = subst (λ (x : Question). MayAnswer x subject who) (sym asked) (subst (λ (cs : List Claim). MaySpeak anchors cs subject who) (sym (picked_live 0 certs moment)) m)
 
   pub none_live : NoEntryWith list right (λ e. MayAnswer q subject e.who) → NoEntryWith list right (λ e. MaySpeak anchors (claims (live certs moment)) subject e.who)

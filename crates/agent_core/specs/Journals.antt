@@ -5,7 +5,7 @@
 --     Begins front journal      the journal begins with these
 --     state_after plan journal      the plain state behind these entries
 --     told_at plan before event      what is told of an event behind these entries
---     IsMeant plan event      what an event has to be, whoever brings it
+--     IsMeant plan before event      what an event behind these entries has to be, whoever brings it
 --     MayFollow plan before e      the entry may follow these
 --     IsLegalJournal plan journal      each entry may follow those before it
 --     IsJudged plan before ask moment certs      the certificates that an Ask behind these entries is judged by, and the moment
@@ -68,13 +68,13 @@ abbrev pub IsOn : ℕ → Principal → Type 0
 IsOn channel subject = channel_of subject ≡ Some channel
 
 -- an Ask is on a channel of the plan, and its subject speaks on it
-abbrev pub IsMeant : Plan → Event → Type 0
-IsMeant plan (Asks a) = IsOn a.channel a.subject × Contains plan.channels a.channel
-IsMeant plan _ = Unit {0}
+abbrev pub IsMeant : Plan → List Entry → Event → Type 0
+IsMeant plan before (Asks a) = IsOn a.channel a.subject × Contains plan.channels a.channel
+IsMeant plan before _ = Unit {0}
 
 pub record MayFollow (plan : Plan) (before : List Entry) (e : Entry) : Type 0 where
   pub room : length before < plan.limit
-  pub meant : IsMeant plan e.event
+  pub meant : IsMeant plan before e.event
   pub tells : e.told ≡ told_at plan before e.event
 
 abbrev pub IsLegalJournal : Plan → List Entry → Type 0

@@ -2,6 +2,7 @@
 --     live_marks certs moment      which certificates are live
 --     Judges anchors certs moment subject list right finding      what is found is the monitor's verdict
 --     verdict_of finding      the verdict that it is
+--     IsGrant finding      it grants
 use Rattle.std.specs.Prelude.{ℕ, Bool, List, map, nat_lt}
 use Rattle.prin_term.specs.declared.term.Anchor.{Anchor}
 use Rattle.prin_term.specs.Principal.{Principal}
@@ -27,3 +28,7 @@ Judges anchors certs moment subject list right (finding.Denied link) =
 abbrev pub verdict_of : Finding → Verdict
 verdict_of (finding.Granted place) = Granted
 verdict_of (finding.Denied link) = Denied link
+
+abbrev pub IsGrant : Finding → Type 0
+IsGrant (finding.Granted place) = Unit {0}
+IsGrant (finding.Denied link) = ⊥

@@ -6,15 +6,18 @@
 --     HasOneJournal      and no other journal of these events is
 --     HoldsFew, JudgesFew      how many certificates are held and judged by
 --     OneVerdict      no Ask is both granted and denied
+--     MeantStays      what an event has to be stays so when the journal goes on
+--     StepsAlone      a step of a shard is one among others of which there are none
 --     JudgedIsVerdict      what is found on what an Ask is judged by is its verdict
-use Rattle.std.specs.Prelude.{◌≡◌, ℕ, ◌+◌, ◌≤◌, ◌↔◌, List, [], ◌∷◌, ◌++◌, length, map}
+use Rattle.std.specs.Prelude.{◌≡◌, ℕ, Bool, ◌+◌, ◌≤◌, ◌↔◌, List, [], ◌∷◌, ◌++◌, length, map}
 use Rattle.stmt_codec.specs.Certificates.{Certificate}
 use Rattle.denial_link.specs.declared.link.Link.{Link}
 use Rattle.agent_core.specs.declared.limits.TheConstants.{MAX_OWN, MAX_COMMONS}
 use Rattle.agent_core.specs.State.{Plan, State, Ask, Event, opened, next}
 use Rattle.agent_core.specs.declared.verdict.Finding.{Finding}
 use Rattle.agent_core.specs.Judged.{Judges, verdict_of}
-use Rattle.agent_core.specs.Journals.{Entry, entry, state_after, told_of, IsMeant, MayFollow, IsLegalJournal, IsJudged, IsVerdict, Granted, Denied}
+use Rattle.agent_core.specs.Steps.{StepAnswer, Steps, StepsTo}
+use Rattle.agent_core.specs.Journals.{Entry, entry, Begins, state_after, told_of, told_at, IsMeant, MayFollow, IsLegalJournal, IsJudged, IsVerdict, Granted, Denied}
 
 -- the journal that a shard makes of events, one after another
 abbrev pub journal_from : Plan → State → List Event → List Entry
@@ -39,12 +42,13 @@ module _ (plan : Plan) where
   abbrev pub LegalIsAllowed : Type 0
   LegalIsAllowed = (journal : List Entry) → IsLegalJournal plan journal ↔ AllMayFollow [] journal
 
-  abbrev pub AreMeant : List Event → Type 0
-  AreMeant [] = Unit {0}
-  AreMeant (e ∷ es) = IsMeant plan e × AreMeant es
+  -- each event is meant behind what the shard made of those before it
+  abbrev pub AreMeant : List Entry → List Event → Type 0
+  AreMeant before [] = Unit {0}
+  AreMeant before (e ∷ es) = IsMeant plan before e × AreMeant (before ++ entry e (told_at plan before e) ∷ []) es
 
   abbrev pub JournalIsLegal : Type 0
-  JournalIsLegal = (events : List Event) → length events ≤ plan.limit → AreMeant events → IsLegalJournal plan (journal_of plan events)
+  JournalIsLegal = (events : List Event) → length events ≤ plan.limit → AreMeant [] events → IsLegalJournal plan (journal_of plan events)
 
   abbrev pub HasOneJournal : Type 0
   HasOneJournal = (journal : List Entry) → IsLegalJournal plan journal → journal ≡ journal_of plan (map (λ (e : Entry). e.event) journal)
@@ -65,3 +69,10 @@ module _ (plan : Plan) where
   abbrev pub JudgedIsVerdict : Type 0
   JudgedIsVerdict = (before : List Entry) (a : Ask) (moment : ℕ) (certs : List Certificate) (finding : Finding) →
       IsJudged plan before a moment certs → Judges plan.anchors certs moment a.subject a.list a.right finding → IsVerdict plan before a (verdict_of finding)
+
+  abbrev pub MeantStays : Type 0
+  MeantStays = (xs ys : List Entry) (event : Event) → Begins xs ys → IsMeant plan xs event → IsMeant plan ys event
+
+  abbrev pub StepsAlone : Type 0
+  StepsAlone = (alone : Bool) (journal later : List Entry) (own : List ℕ) (event : Event) (place : ℕ) (answer : StepAnswer) →
+      Steps plan journal event later place answer → StepsTo plan alone journal own event later (own ++ place ∷ []) place answer

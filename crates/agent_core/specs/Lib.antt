@@ -10,4 +10,5 @@ pub mod Letting
 pub mod Looking
 pub mod Answers
 pub mod Judged
+pub mod Granted
 pub mod Laws

@@ -27,7 +27,8 @@ pub(crate) fn answer_to(
 ) -> Result<Answer, AllocError>
     requires kept { IsKept (plan_of plan.now) entries.old store.old }
     requires room { length entries.old.items < plan.now.limit }
-    requires meant { IsMeant (plan_of plan.now) (event_of event) }
+    requires meant { IsMeant (plan_of plan.now) (map entry_of entries.old.items)
+        (event_of event) }
     requires fits { FitsEvent (event_of event) }
     ensures answered { IfOk result (λ answer. Answered (plan_of plan.now) entries.old
         (event_of event) answer entries.new store.new) }

@@ -75,7 +75,8 @@ fn refuse(
 )
     requires kept { IsKept (plan_of plan.now) entries.old store.old }
     requires room { length entries.old.items < plan.now.limit }
-    requires meant { IsMeant (plan_of plan.now) (Asks (ask_of asked.value)) }
+    requires meant { IsMeant (plan_of plan.now) (map entry_of entries.old.items)
+        (Asks (ask_of asked.value)) }
     requires look { IsLook (plan_of plan.now) (map entry_of entries.old.items)
         (state_after (plan_of plan.now) (map entry_of entries.old.items)) store.old
         (ask_of asked.value) look }
@@ -101,7 +102,8 @@ fn take(
 )
     requires kept { IsKept (plan_of plan.now) entries.old store.old }
     requires room { length entries.old.items < plan.now.limit }
-    requires meant { IsMeant (plan_of plan.now) (Asks (ask_of asked.value)) }
+    requires meant { IsMeant (plan_of plan.now) (map entry_of entries.old.items)
+        (Asks (ask_of asked.value)) }
     requires look { IsLook (plan_of plan.now) (map entry_of entries.old.items)
         (state_after (plan_of plan.now) (map entry_of entries.old.items)) store.old
         (ask_of asked.value) look }
@@ -143,7 +145,8 @@ pub(crate) fn ask(
 ) -> Result<Answer, AllocError>
     requires kept { IsKept (plan_of plan.now) entries.old store.old }
     requires room { length entries.old.items < plan.now.limit }
-    requires meant { IsMeant (plan_of plan.now) (Asks (ask_of asked.value)) }
+    requires meant { IsMeant (plan_of plan.now) (map entry_of entries.old.items)
+        (Asks (ask_of asked.value)) }
     requires few { length asked.value.presented.items ≤ 16 }
     ensures answered { IfOk result (λ answer. Answered (plan_of plan.now) entries.old
         (Asks (ask_of asked.value)) answer entries.new store.new) }

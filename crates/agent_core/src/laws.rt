@@ -3,6 +3,7 @@
 ghost use Rattle.agent_core.specs.State.{Plan};
 ghost use Rattle.agent_core.specs.Laws.{FrontIsLegal, OneMoreIsLegal, LegalIsAllowed, JournalIsLegal};
 ghost use Rattle.agent_core.specs.Laws.{HasOneJournal, HoldsFew, JudgesFew, OneVerdict, JudgedIsVerdict};
+ghost use Rattle.agent_core.specs.Laws.{MeantStays, StepsAlone};
 
 /// A beginning of a legal journal is legal.
 pub fn fronts_are_legal()
@@ -39,4 +40,14 @@ pub fn verdicts_differ()
 /// What is found on what an Ask is judged by is its verdict.
 pub fn findings_are_verdicts()
     ensures { (plan : Plan) → JudgedIsVerdict plan }
+{}
+
+/// What an event has to be stays so when the journal goes on.
+pub fn what_is_meant_stays()
+    ensures { (plan : Plan) → MeantStays plan }
+{}
+
+/// A step of a shard is one among others, of which there are none.
+pub fn steps_may_be_alone()
+    ensures { (plan : Plan) → StepsAlone plan }
 {}

@@ -6,6 +6,7 @@ mod append;
 mod asking;
 mod event;
 mod forgetting;
+mod grant;
 mod laws;
 mod letting;
 mod limits;
@@ -24,9 +25,10 @@ mod told;
 mod verdict;
 
 pub use event::{Ask, Event, ShardEntry};
+pub use grant::proof_for;
 pub use laws::{
     events_have_one_journal, findings_are_verdicts, fronts_are_legal, legal_is_allowed,
-    one_more_is_legal, shards_hold_few, verdicts_differ,
+    one_more_is_legal, shards_hold_few, steps_may_be_alone, verdicts_differ, what_is_meant_stays,
 };
 pub use limits::{MAX_CHANNELS, MAX_COMMONS, MAX_JOURNAL, MAX_OWN, MAX_PRESENTED};
 pub use plan::ShardPlan;

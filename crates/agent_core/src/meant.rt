@@ -1,6 +1,6 @@
 //! What an event has to be.
 
-ghost use Rattle.std.specs.Prelude.{◌≡◌, ◌↔◌, IsTrue, Contains};
+ghost use Rattle.std.specs.Prelude.{◌≡◌, ◌↔◌, IsTrue, Contains, []};
 ghost use Rattle.std.specs.List.Sorted.{IsStrictlyIncreasing};
 ghost use Rattle.prin_term.specs.Principal.{Key};
 ghost use Rattle.prin_term.specs.View.{principal};
@@ -49,7 +49,7 @@ fn has_channel(channels: &[u32], channel: u32) -> bool
 /// Whether the event is one that a shard of this plan takes.
 pub(crate) fn is_taken(plan: &ShardPlan, event: &Event) -> bool
     requires { IsStrictlyIncreasing (plan_of plan.now).channels }
-    ensures { IsTrue result ↔ (IsMeant (plan_of plan.now) (event_of event.now)
+    ensures { IsTrue result ↔ (IsMeant (plan_of plan.now) [] (event_of event.now)
         × FitsEvent (event_of event.now)) }
 {
     match event {

@@ -111,7 +111,7 @@ impl Shard {
     /// Whether `step` takes the event: an Ask's subject speaks on its channel, which is the shard's, and
     /// an event brings few certificates.
     pub fn takes(&self, event: &Event) -> bool
-        ensures { IsTrue result ↔ (IsMeant self.now.plan (event_of event.now)
+        ensures { IsTrue result ↔ (IsMeant self.now.plan self.now.journal (event_of event.now)
             × FitsEvent (event_of event.now)) }
     {
         is_taken(&self.plan, event)
@@ -120,7 +120,7 @@ impl Shard {
     /// Answers an event, and journals it at the place that comes with the answer. Only an Ask that is
     /// to be judged takes memory. Nothing is done at a full journal.
     pub fn step(&mut self, alloc: Global, event: Event) -> Result<(u64, Answer), AllocError>
-        requires meant { IsMeant self.old.plan (event_of event) }
+        requires meant { IsMeant self.old.plan self.old.journal (event_of event) }
         requires fits { FitsEvent (event_of event) }
         ensures answered { IfOk result (λ r. Stepped self.old.plan self.old.journal (event_of event)
             self.new.journal r.0 r.1) }

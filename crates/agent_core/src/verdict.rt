@@ -4,11 +4,11 @@ ghost use Rattle.std.specs.Prelude.{◌≡◌, ◌≤◌, ℕ, true, map, length
 ghost use Rattle.prin_term.specs.View.{Grant, grant, principal};
 ghost use Rattle.stmt_codec.specs.Certificates.{certificate, live};
 ghost use Rattle.taos_calculus.specs.Monitor.{FirstEntry, MaySpeak};
-ghost use Rattle.taos_calculus.specs.Question.{IsAskable};
+ghost use Rattle.taos_calculus.specs.Question.{IsAskable, question_of};
 ghost use Rattle.denial_link.specs.Revived.{claims};
 ghost use Rattle.denial_link.specs.Links.{NoEntryWith};
 ghost use Rattle.agent_core.specs.Views.{certificates};
-ghost use Rattle.agent_core.specs.Judged.{live_marks, Judges};
+ghost use Rattle.agent_core.specs.Judged.{live_marks, IsGrant, Judges};
 
 use crate::event::Ask;
 use crate::told::Snapshot;
@@ -50,11 +50,13 @@ fn first_granted<D: Decide>(
 ) -> Option<u8>
     requires { IsAskable anchors.now (certificates certs.now)
         (replicate (length certs.now) true) (principal subject.now) (map grant list.now) }
-    ensures { MatchOption result
+    ensures found { MatchOption result
         (NoEntryWith (map grant list.now) right (λ e. MaySpeak anchors.now
         (claims (live (certificates certs.now) moment)) (principal subject.now) e.who))
         (λ k. (e : Grant) × FirstEntry (map grant list.now) right (λ g. MaySpeak anchors.now
         (claims (live (certificates certs.now) moment)) (principal subject.now) g.who) k e) }
+    ensures asked { D.question bench.new ≡ question_of anchors.now (certificates certs.now)
+        (live_marks (certificates certs.now) moment) (principal subject.now) (map grant list.now) }
 {
     let marks = marks_of(certs, moment);
     bench.begin(anchors, certs, &marks, subject, list);
@@ -72,8 +74,14 @@ pub fn judge<D: Decide>(
     requires { IsAskable anchors.now (certificates snapshot.now.certs.items)
         (replicate (length snapshot.now.certs.items) true) (principal asked.now.subject)
         (map grant asked.now.list.value.items) }
-    ensures { Judges anchors.now (certificates snapshot.now.certs.items) snapshot.now.moment
+    ensures verdict { Judges anchors.now (certificates snapshot.now.certs.items) snapshot.now.moment
         (principal asked.now.subject) (map grant asked.now.list.value.items) asked.now.right result }
+
+    // Where it grants, the decider stays asked about the live certificates.
+    ensures asked { IsGrant result → D.question bench.new ≡ question_of anchors.now
+        (certificates snapshot.now.certs.items)
+        (live_marks (certificates snapshot.now.certs.items) snapshot.now.moment)
+        (principal asked.now.subject) (map grant asked.now.list.value.items) }
 {
     let certs = &snapshot.certs;
     let moment = snapshot.moment;

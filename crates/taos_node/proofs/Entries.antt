@@ -13,4 +13,3 @@ same_grant list place e g within is stands = same_Some (grant e) g (sym (entry_a
 
 pub place_within : (list : List Entry) (place : ℕ) (g : Grant) → slice_get (map grant list) place ≡ Some g → place < length list
 place_within list place g stands = omega (arith, slice_get_within (map grant list) place g stands, length-map list grant)
-

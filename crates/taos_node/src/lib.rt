@@ -29,4 +29,6 @@ pub use reply::{Refusal, ReplyBuf};
 #[cfg(test)]
 mod check_tests;
 #[cfg(test)]
+mod presented_tests;
+#[cfg(test)]
 mod tests;

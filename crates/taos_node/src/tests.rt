@@ -1,5 +1,4 @@
 use super::*;
-use crate::built::is_built;
 use frame_link::{ClosedDoor, MemClock, MemSink, MemSource, NoRelay};
 use std::alloc::{AllocError, Global};
 use std::sync::Wait;
@@ -31,10 +30,10 @@ const GRANT: [&str; 4] = [
     "9058a1dc9eadc41ae129b82395520916c6563d31621c79d20cf4fbe10e23ab90",
 ];
 
-// Channel 2 is denied.
+// Channel 2 is denied: nothing that it names speaks for name 10, which is all of entry 0.
 const DENIAL: [&str; 2] = [
-    "0000003b 04 00000002 0000000000000001 01 00000000 0000000000000000 00",
-    "9eebd119d6f7ae800bd3b8f0dde9a690d08a318a2a02fdaecd78e9a2a1295328",
+    "00000041 04 00000002 0000000000000001 01 00000000 0000000000000000 02 00 020000000a",
+    "ca9ec729e1a302501893407664fde3b1634e8b6a66d9ab2464b43afc2b584365",
 ];
 
 // No request has no bytes.
@@ -95,7 +94,7 @@ fn small_file(alloc: Global) -> Result<Vec<u8>, AllocError> {
 }
 
 // Six channels, five anchors, and object 5 with this access list.
-fn node_file(alloc: Global, list: &str) -> Result<Vec<u8>, AllocError> {
+pub(crate) fn node_file(alloc: Global, list: &str) -> Result<Vec<u8>, AllocError> {
     let mut bytes = head_of(alloc)?;
     spell(&mut bytes, "0006")?;
     for number in [1, 2, 3, 4, 15, 18] {
@@ -114,12 +113,12 @@ fn node_file(alloc: Global, list: &str) -> Result<Vec<u8>, AllocError> {
 
 // What stands round a run.
 #[derive(Drop)]
-struct Outside {
-    file: MemSource,
-    input: MemSource,
-    output: MemSink,
-    notes: MemSink,
-    lanes: [Lane<MemClock, NoRelay, ClosedDoor<MemSource, MemSink>>; 1],
+pub(crate) struct Outside {
+    pub file: MemSource,
+    pub input: MemSource,
+    pub output: MemSink,
+    pub notes: MemSink,
+    pub lanes: [Lane<MemClock, NoRelay, ClosedDoor<MemSource, MemSink>>; 1],
 }
 
 fn source_of(alloc: Global, bytes: &[u8], fails: &[u64]) -> Result<MemSource, AllocError> {
@@ -136,7 +135,7 @@ fn clock_of(alloc: Global, fails: &[u64]) -> Result<MemClock, AllocError> {
 }
 
 // Nothing fails.
-fn around_of(alloc: Global, file: &[u8], input: &[u8]) -> Result<Outside, AllocError> {
+pub(crate) fn around_of(alloc: Global, file: &[u8], input: &[u8]) -> Result<Outside, AllocError> {
     let clock = clock_of(alloc, &[])?;
     Ok(Outside {
         file: source_of(alloc, file, &[])?,
@@ -147,7 +146,7 @@ fn around_of(alloc: Global, file: &[u8], input: &[u8]) -> Result<Outside, AllocE
     })
 }
 
-fn call<W: Threads + Wait + Sync>(
+pub(crate) fn call<W: Threads + Wait + Sync>(
     rt: &W,
     alloc: Global,
     words: &[&str],
@@ -196,15 +195,15 @@ fn replied<W: Threads + Wait + Sync>(
 
 #[test]
 fn a_request_has_its_reply(rt: HostRuntime) -> Result<(), Fail> {
-    let cases: [(&str, &str, &[&str], &[&str]); 5] = [
+    let cases: [(&str, &str, &[&str], &[&str]); 6] = [
         ("the anchored read", FOR_ALICE, &BY_ONE, &GRANT),
         (
             "an empty list",
             "00",
             &BY_ONE,
             &[
-                "0000003b 04 00000001 0000000000000001 01 00000000 0000000000000000 00",
-                "b38908478c6108a7edbc44654ad35e4fcfdb27ebc087e5aa7b06911d3a2593d2",
+                "0000003b 04 00000001 0000000000000001 01 00000000 0000000000000000 03",
+                "1ad73897a7ab6004dcfd2171e3a1d5fc9153feeef1b5fa09000c2356bb995d27",
             ],
         ),
         ("no anchor", FOR_ALICE, &BY_TWO, &DENIAL),
@@ -216,6 +215,25 @@ fn a_request_has_its_reply(rt: HostRuntime) -> Result<(), Fail> {
                 "00000058 04 00000002 0000000000000001 00 00 00 00000000 0000000000000000",
                 "00000010 0001 0100000002 00000001 01 0000 0000 00 0005 68656c6c6f",
                 "3f18020f12ef974cde2b1b046729a8c545cdc949ecc422bba1914c18890909a9",
+            ],
+        ),
+        (
+            "a hand-off, by four lines",
+            FOR_ALICE,
+            &[
+                "00000077 03 00000002 0000000000000001 00 01 00000005 01 0041 02",
+                "01 00000001 00 0100000002 020000000a 00000000000007d0 0000000000000001",
+                "22f512cd8f27327c1e0e348919e951e406ff1789829adff76908eeb41ce4f867",
+                "e8f16b337bfea2653fed8affce642af059547369a4cb1f1618609b96acadfca6",
+            ],
+            &[
+                "000000a7 04 00000002 0000000000000001 00 00 00 00000000 0000000000000000",
+                "0000003d 0003 0100000001 020000000a 0100000002 00000004 09 0000 0001 0000",
+                "0a 0000 0002 0001 0000 0b 0001 0002 0001 00000001 00000000",
+                "0d 0002 0001 00000002 01 0020",
+                "01 00000001 00 0100000002 020000000a 00000000000007d0 0000000000000001",
+                "0005 68656c6c6f",
+                "4931a0ac87a6d10681fc4f5988fe2e4f037b98d350484ecacb4546f03492b343",
             ],
         ),
         (
@@ -241,7 +259,7 @@ fn a_request_has_its_reply(rt: HostRuntime) -> Result<(), Fail> {
 
 #[test]
 fn each_refusal_has_its_reply(rt: HostRuntime) -> Result<(), Fail> {
-    let cases: [(&str, &[&str], &[&str]); 10] = [
+    let cases: [(&str, &[&str], &[&str]); 8] = [
         ("an empty payload", &["00000000"], &MALFORMED),
         (
             "a byte behind the tag",
@@ -271,32 +289,16 @@ fn each_refusal_has_its_reply(rt: HostRuntime) -> Result<(), Fail> {
         (
             "a turned tag of a request that is not built",
             &[
-                "00000039 03 00000001 0000000000000001 01 020000001e 01 00000005 00",
-                "2077822346d90e8079b989c53fccfcb6b8017be6a1c42eae9c55c9418d3c1812",
+                "00000039 03 00000001 0000000000000001 00 02 00000005 0003 6e6577 00",
+                "6446071b6cb71d5ee3309f661b6b0819dd66e4290dc50b6f669f8a5969598ce2",
             ],
             &["0000002e 04 00000000 0000000000000000 04", NO_SEAL],
-        ),
-        (
-            "channel 1 quoting name 30",
-            &[
-                "00000039 03 00000001 0000000000000001 01 020000001e 01 00000005 00",
-                "2077822346d90e8079b989c53fccfcb6b8017be6a1c42eae9c55c9418d3c1813",
-            ],
-            &UNBUILT,
         ),
         (
             "a Write of `new`",
             &[
                 "00000039 03 00000001 0000000000000001 00 02 00000005 0003 6e6577 00",
                 "6446071b6cb71d5ee3309f661b6b0819dd66e4290dc50b6f669f8a5969598ce3",
-            ],
-            &UNBUILT,
-        ),
-        (
-            "a certificate of one byte",
-            &[
-                "00000037 03 00000001 0000000000000001 00 01 00000005 01 0001 02",
-                "704502d6286bab0b9830766cf5ca3e1962f9d15a3576346e3279edfc46044f94",
             ],
             &UNBUILT,
         ),
@@ -385,18 +387,14 @@ fn a_file_that_opens_no_node_is_refused(rt: HostRuntime) -> Result<(), Fail> {
 
 #[test]
 fn an_opening_that_is_not_built_is_answered_so(rt: HostRuntime) -> Result<(), Fail> {
-    // Two shards; a certificate in common; an entry for name 10 in role 1.
+    // Two shards; a certificate in common.
     let shards = "00000002 0000000000000e10 0000000000004000 0000 00 00 0000";
     let common = [
         "00000001 0000000000000e10 0000000000004000 0000 00 01",
         "0041 02 01 00000001 00 0100000002 020000000a 00000000000007d0 0000000000000001",
         "22f512cd8f27327c1e0e348919e951e406ff1789829adff76908eeb41ce4f867 0000",
     ];
-    let compound = [
-        "00000001 0000000000000e10 0000000000004000 0000 00 00",
-        "0001 00000005 0000 01 01 05 020000000a 00000001",
-    ];
-    let cases: [&[&str]; 3] = [&[shards], &common, &compound];
+    let cases: [&[&str]; 2] = [&[shards], &common];
     for tail in cases {
         let mut file = spelled(rt.alloc(), &["0001 00000007"])?;
         file.extend_from_slice(&[7; 32])?;
@@ -536,7 +534,7 @@ fn frames_in_pieces_of_every_size_have_the_same_replies(rt: HostRuntime) -> Resu
     Ok(())
 }
 
-// The replies are of 99, 63 and 54 bytes. An empty frame has one read, and each other two.
+// The replies are of 99, 69 and 54 bytes. An empty frame has one read, and each other two.
 #[test]
 fn each_read_may_fail(rt: HostRuntime) -> Result<(), Fail> {
     let file = node_file(rt.alloc(), FOR_ALICE)?;
@@ -546,9 +544,9 @@ fn each_read_may_fail(rt: HostRuntime) -> Result<(), Fail> {
         (1, 3, 0),
         (2, 3, 99),
         (3, 3, 99),
-        (4, 3, 162),
-        (5, 3, 216),
-        (6, 0, 216),
+        (4, 3, 168),
+        (5, 3, 222),
+        (6, 0, 222),
     ] {
         let mut around = around_of(rt.alloc(), &file, &input)?;
         around.input = source_of(rt.alloc(), &input, &[at])?;
@@ -581,7 +579,7 @@ fn each_read_may_fail(rt: HostRuntime) -> Result<(), Fail> {
 fn each_write_may_fail(rt: HostRuntime) -> Result<(), Fail> {
     let file = node_file(rt.alloc(), FOR_ALICE)?;
     let (input, wanted) = three(rt.alloc())?;
-    for (at, status, len) in [(0, 4, 0), (1, 4, 99), (2, 4, 162), (3, 0, 216)] {
+    for (at, status, len) in [(0, 4, 0), (1, 4, 99), (2, 4, 168), (3, 0, 222)] {
         let mut around = around_of(rt.alloc(), &file, &input)?;
         around.output = sink_of(rt.alloc(), &[at])?;
         assert_eq!(rt;
@@ -616,7 +614,7 @@ fn a_full_output_has_a_front_of_the_reply(rt: HostRuntime) -> Result<(), Fail> {
 fn each_reading_may_fail(rt: HostRuntime) -> Result<(), Fail> {
     let file = node_file(rt.alloc(), FOR_ALICE)?;
     let (input, wanted) = three(rt.alloc())?;
-    for (at, status, len) in [(0, 5, 0), (1, 5, 99), (2, 0, 216)] {
+    for (at, status, len) in [(0, 5, 0), (1, 5, 99), (2, 0, 222)] {
         let mut around = around_of(rt.alloc(), &file, &input)?;
         let clock = clock_of(rt.alloc(), &[at])?;
         around.lanes = [Lane::of(clock, NoRelay::new(), ClosedDoor::new())];

@@ -1,4 +1,4 @@
-//! A decider that goes over all pairs of terms.
+//! A decider that finds all that is derivable about the terms of a question.
 #![tactic(auto)]
 
 mod citing;

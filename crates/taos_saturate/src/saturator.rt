@@ -89,7 +89,7 @@ fn proof_for(held: &Held, alloc: Global, left: &Term, right: &Term) -> Result<Ta
     held.proof_of(alloc, i, j, number)
 }
 
-/// A decider that has looked at all pairs of the terms that it was asked about.
+/// A decider that knows all that is derivable about the terms that it was asked about.
 #[derive(Drop)]
 pub struct Saturator {
     held: Held,

@@ -11,7 +11,12 @@ pub first_derivable-requires-clause-asked : goal.first_derivable-requires-clause
 first_derivable-requires-clause-asked g c =
     entry_is_term c.args.anchors.now (certificates c.args.certs.now) (principal c.args.subject.now) (map grant c.args.list.now) (g.D.Decide.question c.begin.new.self) _ c.begin.ensures
 
-pub returns : goal.returns
-returns g c =
+pub returns-clause-found : goal.returns-clause-found
+returns-clause-found g c =
     let asked = c.begin.ensures ∙ ap (λ (marks : List Bool). question_of c.args.anchors.now (certificates c.args.certs.now) marks (principal c.args.subject.now) (map grant c.args.list.now)) (c.deref.ensures.0 ∙ c.marks_of-marks.ensures) in
     found_live c.args.anchors.now (certificates c.args.certs.now) c.args.moment (principal c.args.subject.now) (map grant c.args.list.now) c.args.right (g.D.Decide.question c.begin.new.self) asked c.first_derivable.result c.first_derivable.ensures.found
+
+pub returns-clause-asked : goal.returns-clause-asked
+returns-clause-asked g c =
+    c.first_derivable.ensures.same ∙ c.begin.ensures ∙
+    ap (λ (marks : List Bool). question_of c.args.anchors.now (certificates c.args.certs.now) marks (principal c.args.subject.now) (map grant c.args.list.now)) (c.deref.ensures.0 ∙ c.marks_of-marks.ensures)

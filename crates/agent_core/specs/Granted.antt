@@ -1,0 +1,31 @@
+-- The proof of a grant.
+--     IsGrantedEntry anchors certs moment subject list entry      by the live certificates the subject speaks for the entry
+--     IsProofFor anchors certs moment subject list entry c      a proof of it without waste, which cites live certificates alone
+use Rattle.std.specs.Prelude.{◌≡◌, ℕ, ◌<◌, List, length, Some, slice_get, All}
+use Rattle.prin_term.specs.declared.term.Anchor.{Anchor}
+use Rattle.prin_term.specs.Principal.{Principal}
+use Rattle.prin_term.specs.View.{Grant}
+use Rattle.stmt_codec.specs.Certificates.{Certificate, live}
+use Rattle.taos_calculus.specs.Rules.{SpeaksFor, Proves}
+use Rattle.taos_calculus.specs.Monitor.{MaySpeak}
+use Rattle.taos_calculus.specs.Tidy.{IsTidy}
+use Rattle.denial_link.specs.Revived.{at_places, claims}
+use Rattle.proof_cache.specs.Cached.{Cached, lease_of}
+
+pub record IsGrantedEntry (anchors : List Anchor) (certs : List Certificate) (moment : ℕ) (subject : Principal) (list : List Grant) (entry : ℕ) : Type 0 where
+  pub grant : Grant
+  pub stands : slice_get list entry ≡ Some grant
+  pub speaks : MaySpeak anchors (claims (live certs moment)) subject grant.who
+
+pub record IsProofFor (anchors : List Anchor) (certs : List Certificate) (moment : ℕ) (subject : Principal) (list : List Grant) (entry : ℕ) (c : Cached) : Type 0 where
+  pub grant : Grant
+  pub stands : slice_get list entry ≡ Some grant
+  pub subject_is : c.subject ≡ subject
+  pub who_is : c.who ≡ grant.who
+  pub places : List ℕ
+  pub inside : All (λ i. i < length certs) places
+  pub cites_are : c.cites ≡ at_places certs places
+  pub alive : All (λ (x : Certificate). moment < x.until) c.cites
+  pub proves : Proves anchors (claims c.cites) c.proof (SpeaksFor c.subject c.who)
+  pub tidy : IsTidy c.proof places
+  pub lease_is : c.lease ≡ lease_of c.cites
