@@ -1,10 +1,13 @@
 use crate::check::{CheckEnd, check_connection};
+use crate::command::{Lane, taos};
 use crate::finding::{Finding, finding_status};
 use crate::tests::spelled;
-use frame_link::{MemSink, MemSource, Source};
+use frame_link::{ClosedDoor, MemClock, MemSink, MemSource, NoRelay, Source};
 use node_file::{Opening, read_opening};
 use std::alloc::{AllocError, Global};
+use std::sync::Wait;
 use std::test::Fail;
+use std::thread::Threads;
 
 // The key of channel n is 32 bytes of n; tags are those that Python's `hmac` makes.
 
@@ -134,12 +137,13 @@ const FOR_ITSELF: [&str; 3] = [
 
 const NO_SEAL: &str = "0000000000000000000000000000000000000000000000000000000000000000";
 
-// Node 7: channels 1 and 2, the anchors of key 1 to name 10 and of key 3 to name 30, and object 5
-// with this list.
-fn node_of(alloc: Global, list: &str) -> Result<Opening, Fail> {
+// Node 7 with so many shards: channels 1 and 2, the anchors of key 1 to name 10 and of key 3 to name
+// 30, and object 5 with this list.
+fn file_of(alloc: Global, shards: u8, list: &str) -> Result<Vec<u8>, AllocError> {
     let mut bytes = spelled(alloc, &["0001 00000007"])?;
     bytes.extend_from_slice(&[7; 32])?;
-    let head = "00000001 0000000000000e10 0000000000004000 0002";
+    bytes.extend_from_slice(&[0, 0, 0, shards])?;
+    let head = "0000000000000e10 0000000000004000 0002";
     bytes.append(&mut spelled(alloc, &[head])?)?;
     for number in [1, 2] {
         bytes.extend_from_slice(&[0, 0, 0, number])?;
@@ -148,7 +152,11 @@ fn node_of(alloc: Global, list: &str) -> Result<Opening, Fail> {
     let anchors = "02 00000001 0000000a 00000003 0000001e 00";
     let object = "0001 00000005 0005 68656c6c6f";
     bytes.append(&mut spelled(alloc, &[anchors, object, list])?)?;
-    Ok(read_opening(alloc, &bytes)?)
+    Ok(bytes)
+}
+
+fn node_of(alloc: Global, list: &str) -> Result<Opening, Fail> {
+    Ok(read_opening(alloc, &file_of(alloc, 1, list)?)?)
 }
 
 fn source_of(alloc: Global, bytes: &[u8], fails: &[u64]) -> Result<MemSource, AllocError> {
@@ -306,5 +314,72 @@ fn each_fault_ends_a_check(rt: HostRuntime) -> Result<(), Fail> {
     let end = check_connection(alloc, &node, &mut source, &mut sink);
     assert_eq!(rt; end, CheckEnd::WriteFault);
     assert_eq!(rt; sink.written(), b"granted en".as_slice());
+    Ok(())
+}
+
+// What the program answers and writes, to the output and to the notes.
+fn called<W: Threads + Wait + Sync>(
+    rt: &W,
+    alloc: Global,
+    word: &str,
+    file: &[u8],
+    reply: &[&str],
+) -> Result<(u8, Vec<u8>, Vec<u8>), AllocError> {
+    let mut words = Vec::new(alloc);
+    words.push(String::from_str(alloc, word)?)?;
+    let mut bytes = spelled(alloc, &BY_ONE)?;
+    bytes.append(&mut spelled(alloc, reply)?)?;
+    let mut file = source_of(alloc, file, &[])?;
+    let mut input = source_of(alloc, &bytes, &[])?;
+    let mut output = MemSink::new(alloc, 100, Vec::new(alloc))?;
+    let mut notes = MemSink::new(alloc, 100, Vec::new(alloc))?;
+    let clock = MemClock::new(Vec::new(alloc), Vec::new(alloc));
+    let door: ClosedDoor<MemSource, MemSink> = ClosedDoor::new();
+    let mut lanes = [Lane::of(clock, NoRelay::new(), door)];
+    let status = taos(
+        rt,
+        alloc,
+        &words,
+        &mut file,
+        &mut input,
+        &mut output,
+        &mut notes,
+        &mut lanes,
+    );
+    Ok((
+        status,
+        output.written().to_vec(alloc)?,
+        notes.written().to_vec(alloc)?,
+    ))
+}
+
+// By a node of two shards, which would not be served.
+#[test]
+fn the_program_looks_over_a_request_and_its_reply(rt: HostRuntime) -> Result<(), Fail> {
+    let alloc = rt.alloc();
+    let file = file_of(alloc, 2, FOR_ALICE)?;
+    let (status, line, note) = called(&rt, alloc, "check", &file, &GRANT)?;
+    assert_eq!(rt; status, 0);
+    let granted = b"granted entry 0 lines 1 certificates 0\n";
+    assert_eq!(rt; line.as_slice(), granted.as_slice());
+    assert!(rt; note.is_empty());
+
+    let (status, line, note) = called(&rt, alloc, "check", &file, &DENIED)?;
+    assert_eq!(rt; status, 11);
+    assert_eq!(rt; line.as_slice(), b"refused: status\n".as_slice());
+    assert!(rt; note.is_empty());
+
+    let (status, line, note) = called(&rt, alloc, "check", &[], &GRANT)?;
+    assert_eq!(rt; status, 2);
+    assert!(rt; line.is_empty());
+    assert_eq!(rt;
+        note.as_slice(),
+        b"taos: node file: byte 0: malformed\n".as_slice()
+    );
+
+    let (status, line, note) = called(&rt, alloc, "checks", &file, &GRANT)?;
+    assert_eq!(rt; status, 1);
+    assert!(rt; line.is_empty());
+    assert_eq!(rt; note.as_slice(), b"taos: usage\n".as_slice());
     Ok(())
 }
