@@ -2,10 +2,12 @@
 """Prints requests and the replies to them.
 
     show.py OPENING REQUESTS REPLIES
+    show.py pair NUMBER REQUESTS REPLIES
 
 The opening gives the channels' keys: each reply's tag is computed again under the key of the
 channel that it names. Ends with status 0 where each request has its reply, each reply reads as
-docs/FORMATS.md says, and each tag checks.
+docs/FORMATS.md says, and each tag checks. By `pair` the frames of the request of that number, counted
+from 1, and of its reply are written as they are, for `check`.
 """
 import hashlib
 import hmac
@@ -259,16 +261,24 @@ def show(opening, asked, replied):
     return 0 if all_check else 1
 
 
+def pair(number, asked, replied):
+    for found in (frames(asked), frames(replied)):
+        payload = found[int(number) - 1]
+        sys.stdout.buffer.write(len(payload).to_bytes(4, "big") + payload)
+    return 0
+
+
 def main(words):
-    if len(words) != 3:
+    wanted, count = (pair, 2) if words[:1] == ["pair"] and len(words) == 4 else (show, 3)
+    if wanted is show and len(words) != 3:
         print(__doc__, end="", file=sys.stderr)
         return 2
     contents = []
-    for word in words:
+    for word in words[-count:]:
         with open(word, "rb") as file:
             contents.append(file.read())
     try:
-        return show(*contents)
+        return wanted(*words[1:-count], *contents)
     except ValueError as fault:
         print(f"show.py: {fault}", file=sys.stderr)
         return 1

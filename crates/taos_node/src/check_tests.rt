@@ -246,7 +246,7 @@ fn what_is_wrong_with_the_reply_is_named(rt: HostRuntime) -> Result<(), Fail> {
         ("a longer one", &LONGER_REPLY, "refused: reply\n"),
         ("no reply", &BY_ONE, "refused: reply\n"),
         ("to channel 2", &TO_TWO, "refused: echo\n"),
-        ("to request 2", &TO_ANOTHER_REQUEST, "refused: echo\n"),
+        ("to another request", &TO_ANOTHER_REQUEST, "refused: echo\n"),
         ("key 2", &UNDER_ANOTHER_KEY, "refused: reply-seal\n"),
         ("a denial", &DENIED, "refused: status\n"),
         ("entry 1", &ENTRY_ONE, "refused: entry\n"),
