@@ -333,7 +333,7 @@ fn called<W: Threads + Wait + Sync>(
     let mut input = source_of(alloc, &bytes, &[])?;
     let mut output = MemSink::new(alloc, 100, Vec::new(alloc))?;
     let mut notes = MemSink::new(alloc, 100, Vec::new(alloc))?;
-    let clock = MemClock::new(Vec::new(alloc), Vec::new(alloc));
+    let clock = MemClock::new(vec![in alloc; 1000]?, Vec::new(alloc));
     let door: ClosedDoor<MemSource, MemSink> = ClosedDoor::new();
     let mut lanes = [Lane::of(clock, NoRelay::new(), door)];
     let status = taos(
