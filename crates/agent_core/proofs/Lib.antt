@@ -17,3 +17,7 @@ pub mod Making
 pub mod Few
 pub mod Marks
 pub mod Citing
+pub mod Onward
+pub mod Asks
+pub mod OneOwner
+pub mod LinkPlaces

@@ -1,7 +1,9 @@
 -- What a step of the program answers.
 --     FitsEvent event      it brings few certificates
---     Stepped plan journal event later place answer      what stands behind an answer
-use Rattle.std.specs.Prelude.{◌≡◌, ℕ, ◌≤◌, List, length}
+--     OfAnswer Handed Full answer      this holds of what is handed out or told; or that, of a full journal
+--     Stepped plan journal event later place answer      what stands behind an answer, where nobody else steps the shard
+--     SteppedTo plan alone seen own event later own' place answer      and where others may
+use Rattle.std.specs.Prelude.{◌≡◌, ℕ, ◌≤◌, Bool, List, length}
 use Rattle.std.specs.Arc.{arc_value}
 use Rattle.proof_cache.specs.Cached.{cached}
 use Rattle.proof_cache.specs.declared.cached.Cached.{Cached as CachedValue}
@@ -11,7 +13,7 @@ use Rattle.agent_core.specs.declared.told.Answer.{Answer}
 use Rattle.agent_core.specs.declared.told.Answer.TheVariants as answer
 use Rattle.agent_core.specs.State.{Plan, Event, Asks, Holds, Discards, Forgets, Expires}
 use Rattle.agent_core.specs.Journals.{Entry}
-use Rattle.agent_core.specs.Steps.{Hit, Miss, Other, Steps}
+use Rattle.agent_core.specs.Steps.{StepAnswer, Hit, Miss, Other, Steps, StepsTo, StepRefused}
 use Rattle.agent_core.specs.Views.{certificates}
 
 abbrev pub FitsEvent : Event → Type 0
@@ -21,13 +23,23 @@ FitsEvent (Discards digest) = Unit {0}
 FitsEvent (Forgets channel) = Unit {0}
 FitsEvent (Expires reading) = Unit {0}
 
+abbrev pub OfAnswer : (StepAnswer → Type 0) → (ℕ → Type 0) → Answer → Type 0
+OfAnswer Handed Full (answer.Replayed last) = Handed (Other (Told.Replayed last))
+OfAnswer Handed Full (answer.Full held) = Handed (Other (Told.Full held))
+OfAnswer Handed Full (answer.Hit entry c) = Handed (Hit entry (cached (arc_value {X = CachedValue} c)))
+OfAnswer Handed Full (answer.Miss snapshot) = Handed (Miss snapshot.moment (certificates snapshot.certs.items))
+OfAnswer Handed Full (answer.Held added) = Handed (Other (Told.Held added))
+OfAnswer Handed Full (answer.CommonsFull held) = Handed (Other (Told.CommonsFull held))
+OfAnswer Handed Full (answer.Removed count) = Handed (Other (Told.Removed count))
+OfAnswer Handed Full (answer.JournalFull n) = Full n
+
 -- at a full journal nothing is done; else there is one entry more, and the answer is what was told of it
 abbrev pub Stepped : Plan → List Entry → Event → List Entry → ℕ → Answer → Type 0
-Stepped plan journal event later place (answer.Replayed last) = Steps plan journal event later place (Other (Told.Replayed last))
-Stepped plan journal event later place (answer.Full held) = Steps plan journal event later place (Other (Told.Full held))
-Stepped plan journal event later place (answer.Hit entry c) = Steps plan journal event later place (Hit entry (cached (arc_value {X = CachedValue} c)))
-Stepped plan journal event later place (answer.Miss snapshot) = Steps plan journal event later place (Miss snapshot.moment (certificates snapshot.certs.items))
-Stepped plan journal event later place (answer.Held added) = Steps plan journal event later place (Other (Told.Held added))
-Stepped plan journal event later place (answer.CommonsFull held) = Steps plan journal event later place (Other (Told.CommonsFull held))
-Stepped plan journal event later place (answer.Removed count) = Steps plan journal event later place (Other (Told.Removed count))
-Stepped plan journal event later place (answer.JournalFull n) = (later ≡ journal) × (length journal ≡ plan.limit) × (n ≡ plan.limit) × (place ≡ plan.limit)
+Stepped plan journal event later place answer =
+    OfAnswer (Steps plan journal event later place)
+    (λ n. (later ≡ journal) × (length journal ≡ plan.limit) × (n ≡ plan.limit) × (place ≡ plan.limit)) answer
+
+abbrev pub SteppedTo : Plan → Bool → List Entry → List ℕ → Event → List Entry → List ℕ → ℕ → Answer → Type 0
+SteppedTo plan alone seen own event later own' place answer =
+    OfAnswer (StepsTo plan alone seen own event later own' place)
+    (λ n. StepRefused plan alone seen own later own' × (length later ≡ plan.limit) × (n ≡ plan.limit) × (place ≡ plan.limit)) answer

@@ -9,9 +9,15 @@
 --     MeantStays      what an event has to be stays so when the journal goes on
 --     StepsAlone      a step of a shard is one among others of which there are none
 --     JudgedIsVerdict      what is found on what an Ask is judged by is its verdict
+--     AsksAreVerdicts      an ask that is granted or denied has this verdict behind its place
+--     AskStays      how an Ask ended in a journal it ended in each that begins with it
 use Rattle.std.specs.Prelude.{◌≡◌, ℕ, Bool, ◌+◌, ◌≤◌, ◌↔◌, List, [], ◌∷◌, ◌++◌, length, map}
 use Rattle.stmt_codec.specs.Certificates.{Certificate}
 use Rattle.denial_link.specs.declared.link.Link.{Link}
+use Rattle.proof_cache.specs.Cached.{Cached}
+use Rattle.agent_core.specs.declared.asked.Denial.{Denial}
+use Rattle.agent_core.specs.declared.told.Told.{Told}
+use Rattle.agent_core.specs.Asked.{IsGrantedAt, IsDeniedAt, IsTold}
 use Rattle.agent_core.specs.declared.limits.TheConstants.{MAX_OWN, MAX_COMMONS}
 use Rattle.agent_core.specs.State.{Plan, State, Ask, Event, opened, next}
 use Rattle.agent_core.specs.declared.verdict.Finding.{Finding}
@@ -76,3 +82,14 @@ module _ (plan : Plan) where
   abbrev pub StepsAlone : Type 0
   StepsAlone = (alone : Bool) (journal later : List Entry) (own : List ℕ) (event : Event) (place : ℕ) (answer : StepAnswer) →
       Steps plan journal event later place answer → StepsTo plan alone journal own event later (own ++ place ∷ []) place answer
+
+  abbrev pub AsksAreVerdicts : Type 0
+  AsksAreVerdicts = (journal : List Entry) (a : Ask) (place : ℕ) →
+      ((e : ℕ) (c : Cached) (g : IsGrantedAt plan journal a place e c) → IsVerdict plan g.before a Granted) ×
+      ((denial : Denial) (d : IsDeniedAt plan journal a place denial) → IsVerdict plan d.before a (Denied d.link))
+
+  abbrev pub AskStays : Type 0
+  AskStays = (xs ys : List Entry) (a : Ask) (place : ℕ) → Begins xs ys →
+      ((e : ℕ) (c : Cached) → IsGrantedAt plan xs a place e c → IsGrantedAt plan ys a place e c) ×
+      ((denial : Denial) → IsDeniedAt plan xs a place denial → IsDeniedAt plan ys a place denial) ×
+      ((told : Told) → IsTold plan xs a place told → IsTold plan ys a place told)

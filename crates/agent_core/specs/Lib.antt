@@ -11,4 +11,7 @@ pub mod Looking
 pub mod Answers
 pub mod Judged
 pub mod Granted
+pub mod Asked
+pub mod Settling
+pub mod Alone
 pub mod Laws

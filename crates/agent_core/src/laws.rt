@@ -3,7 +3,7 @@
 ghost use Rattle.agent_core.specs.State.{Plan};
 ghost use Rattle.agent_core.specs.Laws.{FrontIsLegal, OneMoreIsLegal, LegalIsAllowed, JournalIsLegal};
 ghost use Rattle.agent_core.specs.Laws.{HasOneJournal, HoldsFew, JudgesFew, OneVerdict, JudgedIsVerdict};
-ghost use Rattle.agent_core.specs.Laws.{MeantStays, StepsAlone};
+ghost use Rattle.agent_core.specs.Laws.{MeantStays, StepsAlone, AsksAreVerdicts, AskStays};
 
 /// A beginning of a legal journal is legal.
 pub fn fronts_are_legal()
@@ -50,4 +50,14 @@ pub fn what_is_meant_stays()
 /// A step of a shard is one among others, of which there are none.
 pub fn steps_may_be_alone()
     ensures { (plan : Plan) → StepsAlone plan }
+{}
+
+/// An ask that is granted or denied has this verdict, behind the entries before its place.
+pub fn asks_are_verdicts()
+    ensures { (plan : Plan) → AsksAreVerdicts plan }
+{}
+
+/// How an Ask ended in a journal it ended in each that begins with it.
+pub fn how_an_ask_ended_stays()
+    ensures { (plan : Plan) → AskStays plan }
 {}

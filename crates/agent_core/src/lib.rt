@@ -3,13 +3,16 @@
 
 mod answering;
 mod append;
+mod asked;
 mod asking;
 mod event;
 mod forgetting;
+mod gate;
 mod grant;
 mod laws;
 mod letting;
 mod limits;
+mod lone;
 mod meant;
 mod name;
 mod naming;
@@ -18,23 +21,34 @@ mod plain;
 mod plan;
 mod removal;
 mod row;
+mod settling;
 mod shard;
+mod shards;
 mod snapshot;
 mod store;
 mod told;
 mod verdict;
+mod whole_ask;
 
+pub use asked::{Asked, Denial, Settled, Verdict};
 pub use event::{Ask, Event, ShardEntry};
+pub use gate::{FreeGate, Gate};
 pub use grant::proof_for;
 pub use laws::{
-    events_have_one_journal, findings_are_verdicts, fronts_are_legal, legal_is_allowed,
-    one_more_is_legal, shards_hold_few, steps_may_be_alone, verdicts_differ, what_is_meant_stays,
+    asks_are_verdicts, events_have_one_journal, findings_are_verdicts, fronts_are_legal,
+    how_an_ask_ended_stays, legal_is_allowed, one_more_is_legal, shards_hold_few,
+    steps_may_be_alone, verdicts_differ, what_is_meant_stays,
 };
-pub use limits::{MAX_CHANNELS, MAX_COMMONS, MAX_JOURNAL, MAX_OWN, MAX_PRESENTED};
+pub use limits::{MAX_CHANNELS, MAX_COMMONS, MAX_JOURNAL, MAX_OWN, MAX_PRESENTED, MAX_SHARDS};
+pub use lone::Lone;
 pub use plan::ShardPlan;
 pub use shard::Shard;
+pub use shards::Shards;
 pub use told::{Answer, Snapshot, Told};
 pub use verdict::{Finding, judge};
+pub use whole_ask::ask;
 
+#[cfg(test)]
+mod lone_tests;
 #[cfg(test)]
 mod tests;

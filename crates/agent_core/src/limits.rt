@@ -14,3 +14,6 @@ pub const MAX_CHANNELS: usize = 1_024;
 
 /// How many entries a journal has at most, whatever its plan.
 pub const MAX_JOURNAL: u64 = 1_048_576;
+
+/// How many shards a node has at most.
+pub const MAX_SHARDS: usize = 64;

@@ -7,6 +7,7 @@ use crate::limits::{MAX_CHANNELS, MAX_COMMONS, MAX_JOURNAL};
 use prin_term::Anchor;
 use std::sync::Arc;
 use stmt_codec::Cert;
+use taos_calculus::MAX_ANCHORS;
 
 /// The plan of the shard `number` of so many `shards`.
 #[derive(Debug, Drop)]
@@ -46,6 +47,7 @@ impl ShardPlan {
         ensures { IsTrue result ↔ IsPlan (plan_of self.now) }
     {
         rises(&self.channels)
+            && self.anchors.len() <= MAX_ANCHORS
             && self.channels.len() <= MAX_CHANNELS
             && self.commons.len() <= MAX_COMMONS
             && self.limit <= MAX_JOURNAL

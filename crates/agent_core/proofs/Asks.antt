@@ -1,0 +1,263 @@
+-- A step of an Ask, and what it came to, make the whole of an ask.
+use Rattle.std.proofs.Common.{◌≡◌, ℕ, zero, suc, ◌+◌, ◌<◌, ◌≤◌, Bool, true, false, nat_le, nat_lt, List, [], ◌∷◌, ◌++◌, length, refl, sym, ap, ◌∙◌, arith, append-nil, length-append, replicate, slice_get, Some, subst, ◌⊎◌, inl, inr}
+use Rattle.std.proofs.lemmas.List.{length-replicate}
+use Rattle.std.proofs.lemmas.Bool.{cond_both}
+use Rattle.std.specs.Prelude.{Result, Ok, Err, IfOk, OnErr}
+use Rattle.std.proofs.lemmas.List.Elements.{All-cons, All-nil}
+use Rattle.stmt_codec.specs.Certificates.{Certificate, live}
+use Rattle.taos_calculus.specs.Monitor.{Grants}
+use Rattle.denial_link.specs.Revived.{claims}
+use Rattle.std.specs.Arc.{arc_value}
+use Rattle.prin_term.specs.declared.term.Anchor.{Anchor}
+use Rattle.taos_calculus.specs.Question.{IsAskable}
+use Rattle.taos_calculus.proofs.Induction.{All-at}
+use Rattle.proof_cache.specs.Cached.{Cached, cached}
+use Rattle.proof_cache.specs.declared.cached.Cached.{Cached as CachedValue}
+use Rattle.std.specs.declared.alloc.Global.{Global}
+use Rattle.std.specs.declared.sync.Arc.{Arc}
+use Rattle.agent_core.specs.declared.told.Snapshot.{Snapshot}
+use Rattle.agent_core.specs.declared.told.Answer.{Answer as ValueOfAnswer}
+use Rattle.agent_core.specs.declared.told.Answer.TheVariants as answer
+use Rattle.agent_core.specs.Answers.{SteppedTo}
+use Rattle.agent_core.specs.Views.{certificates}
+use Rattle.agent_core.specs.declared.asked.Asked.{Asked}
+use Rattle.agent_core.specs.declared.asked.Settled.TheVariants.{NoNeed}
+use Rattle.agent_core.specs.declared.asked.Verdict.{Verdict}
+use Rattle.agent_core.specs.declared.asked.Verdict.TheVariants as verdict
+use Rattle.agent_core.specs.Plans.{IsPlan, AreShards}
+use Rattle.agent_core.proofs.Few.{judges_few}
+use Rattle.agent_core.proofs.Onward.{begins_on}
+use Rattle.agent_core.specs.declared.told.Told.{Told}
+use Rattle.agent_core.specs.declared.asked.Denial.{Denial}
+use Rattle.agent_core.specs.State.{Plan, State, Ask, Event, Asks, Answer, Plain, swept, brought, asking, moment_of}
+use Rattle.agent_core.specs.Journals.{Entry, entry, state_after, Stands, IsJudged, granted}
+use Rattle.agent_core.specs.Steps.{StepAnswer, Hit, Miss, Other, IsAnswer, miss, other, StepsTo, StepRefused}
+use Rattle.agent_core.specs.Asked.{FitsAsk, IsGrantedAt, IsDeniedAt, IsTold, EndsBy, AskEnds, Unanswered, AskedTo}
+use Rattle.agent_core.specs.Settling.{IsGrantedBy, IsDeniedBy, Settles, StepsAsk}
+
+pub on_err : {T E P : Type 0} (r : Result T E) → P → OnErr r P
+on_err (Ok x) p = tt
+on_err (Err e) p = p
+
+-- ---- what a step of an Ask says
+
+abbrev pub IsToldOfAsk : Told → Type 0
+IsToldOfAsk (Told.Replayed last) = Unit {0}
+IsToldOfAsk (Told.Full held) = Unit {0}
+IsToldOfAsk (Told.Hit entry) = ⊥
+IsToldOfAsk Told.Miss = ⊥
+IsToldOfAsk (Told.Held added) = ⊥
+IsToldOfAsk (Told.CommonsFull held) = ⊥
+IsToldOfAsk (Told.Removed count) = ⊥
+
+module _ (plan : Plan) (before : List Entry) (a : Ask) where
+  missed : (told : Told) (moment : ℕ) (certs : List Certificate) → IsAnswer plan before (Asks a) told (Miss moment certs) →
+      (told ≡ Told.Miss) × IsJudged plan before a moment certs
+  missed told moment certs (miss j) = (refl, j)
+
+  told_other : (told told' : Told) → IsAnswer plan before (Asks a) told (Other told') → told ≡ told'
+  told_other told told' (other e) = refl
+
+  no_hit : (event : Event) (told : Told) (answer : StepAnswer) → IsAnswer plan before event told answer → (e : ℕ) (c : Cached) → answer ≡ Hit e c → ⊥
+  no_hit event told answer (miss j) e c is = cc
+  no_hit event told answer (other p) e c is = cc
+
+  -- an Ask that is not to be judged
+  asking_tells : (s : State) (told : Told) → (asking s a).1 ≡ Plain told → IsToldOfAsk told
+  asking_tells s told =
+      cond_both (nat_le a.seq (s.last a.channel)) _ _ (λ (r : State × Answer). r.1 ≡ Plain told → IsToldOfAsk told)
+      (λ _ e. let same : Told.Replayed (s.last a.channel) ≡ told = cc in subst IsToldOfAsk same tt)
+      (λ _. cond_both (nat_lt 32 (length (s.own a.channel) + length (brought s a))) _ _ (λ (r : State × Answer). r.1 ≡ Plain told → IsToldOfAsk told)
+      (λ _ e. let same : Told.Full (length (s.own a.channel)) ≡ told = cc in subst IsToldOfAsk same tt)
+      (λ _ e. let no : ⊥ = cc in absurd no))
+
+  answer_tells : (told : Told) (answer : StepAnswer) → IsAnswer plan before (Asks a) told answer → (told' : Told) → answer ≡ Other told' → IsToldOfAsk told'
+  answer_tells told answer (miss j) told' is = let no : ⊥ = cc in absurd no
+  answer_tells told answer (other p) told' is =
+      let same : told ≡ told' = cc in
+      let s : State = state_after plan before in
+      subst IsToldOfAsk same (asking_tells (swept plan.keep (moment_of s a.reading) s) told p)
+
+module _ {plan : Plan} {alone : Bool} {seen later : List Entry} {own own' : List ℕ} (a : Ask) where
+  -- no own entry
+  pub refused_asks : (Ends : List ℕ → Type 0) → StepRefused plan alone seen own later own' → Ends [] → AskedTo plan alone seen own a later own' Ends
+  refused_asks Ends s ends = record {
+    places = [];
+    goes_on = s.goes_on;
+    undisturbed = λ e. omega (arith, ap (λ (l : List Entry). length l) (s.undisturbed e));
+    legal = s.legal;
+    owned = s.owned ∙ sym (append-nil own);
+    new = All-nil (λ p. length seen ≤ p);
+    ascending = λ i j d lt within. absurd (omega arith);
+    ends = ends;
+  }
+
+  module _ (place : ℕ) (answer : StepAnswer) (s : StepsTo plan alone seen own (Asks a) later own' place answer) where
+    stands_last : (told : Told) → s.steps.told ≡ told → Stands later place s.before (entry (Asks a) told)
+    stands_last told e = record { rest = []; is = s.steps.adds ∙ ap (λ t. s.before ++ entry (Asks a) t ∷ []) e; placed = s.steps.placed }
+
+    -- one own entry
+    pub stepped_asks : (Ends : List ℕ → Type 0) → Ends (place ∷ []) → AskedTo plan alone seen own a later own' Ends
+    stepped_asks Ends ends =
+        let more : length s.before ≡ length seen + length s.goes_on.rest = ap (λ (l : List Entry). length l) s.goes_on.is ∙ length-append seen s.goes_on.rest in
+        let here : length s.before ≡ place = s.steps.placed in
+        let new : length seen ≤ place = omega arith in
+        record {
+          places = place ∷ [];
+          goes_on = begins_on s.goes_on (record { rest = entry (Asks a) s.steps.told ∷ []; is = s.steps.adds });
+          undisturbed = λ e. ap (λ (l : List Entry). length l) (s.steps.adds ∙ ap (λ (l : List Entry). l ++ entry (Asks a) s.steps.told ∷ []) (s.undisturbed e)) ∙ length-append seen (entry (Asks a) s.steps.told ∷ []);
+          legal = s.steps.legal;
+          owned = s.owned;
+          new = All-cons (λ p. length seen ≤ p) place [] new (All-nil (λ p. length seen ≤ p));
+          ascending = λ i j d lt within. absurd (omega arith);
+          ends = ends;
+        }
+
+  pub never_hit : (place e : ℕ) (c : Cached) → StepsTo plan alone seen own (Asks a) later own' place (Hit e c) → ⊥
+  never_hit place e c s = no_hit plan s.before a (Asks a) s.steps.told (Hit e c) s.steps.answers e c refl
+
+  pub told_of_ask : (place : ℕ) (told : Told) → StepsTo plan alone seen own (Asks a) later own' place (Other told) → IsToldOfAsk told
+  told_of_ask place told s = answer_tells plan s.before a s.steps.told (Other told) s.steps.answers told refl
+
+  pub told_at_last : (place : ℕ) (told : Told) → StepsTo plan alone seen own (Asks a) later own' place (Other told) → IsTold plan later a place told
+  told_at_last place told s = (s.before, stands_last place (Other told) s told (told_other plan s.before a s.steps.told told s.steps.answers))
+
+  -- an Ask that was judged by these
+  module _ (place moment : ℕ) (certs : List Certificate) (s : StepsTo plan alone seen own (Asks a) later own' place (Miss moment certs)) where
+    pub judged_by : IsJudged plan s.before a moment certs
+    judged_by = (missed plan s.before a s.steps.told moment certs s.steps.answers).1
+
+    stands_missed : Stands later place s.before (entry (Asks a) Told.Miss)
+    stands_missed = stands_last place (Miss moment certs) s Told.Miss (missed plan s.before a s.steps.told moment certs s.steps.answers).0
+
+    pub granted_at_last : (e : ℕ) (c : Cached) → IsGrantedBy plan.anchors certs moment a e c → IsGrantedAt plan later a place e c
+    granted_at_last e c g = record {
+      before = s.before;
+      moment = moment;
+      certs = certs;
+      grant = g.grant;
+      stands = stands_missed;
+      judged = judged_by;
+      first = g.first;
+      proof = g.proof;
+    }
+
+    pub denied_at_last : (denial : Denial) → IsDeniedBy plan.anchors certs moment a denial → IsDeniedAt plan later a place denial
+    denied_at_last denial d = record {
+      before = s.before;
+      moment = moment;
+      certs = certs;
+      link = d.link;
+      stands = stands_missed;
+      judged = judged_by;
+      none = d.none;
+      first = d.first;
+      names = d.names;
+    }
+
+    -- the proof found no memory
+    pub unanswered_at_last : Grants plan.anchors (claims (live certs moment)) a.subject a.list a.right → Unanswered plan later a (place ∷ [])
+    unanswered_at_last g = inr (place, s.before, stands_missed, granted judged_by g, refl)
+
+    -- what it came to, in the program's words
+    pub settled_ends : (v : Verdict) → Settles plan.anchors certs moment a v → EndsBy plan later a place v (place ∷ [])
+    settled_ends (verdict.Granted e c) g = (granted_at_last e (cached (arc_value {X = CachedValue} c)) g, refl)
+    settled_ends (verdict.Denied denial) d = (denied_at_last denial d, refl)
+    settled_ends (verdict.Replayed last) f = absurd f
+    settled_ends (verdict.Full held) f = absurd f
+    settled_ends (verdict.JournalFull n) f = absurd f
+
+    -- and in the program's own parts
+    module _ (anchors : List Anchor) (same : plan.anchors ≡ anchors) (b : Ask) (is : b ≡ a) where
+      pub settled_asks : (v : Verdict) → Settles anchors certs moment b v → AskedTo plan alone seen own a later own' (EndsBy plan later a place v)
+      settled_asks v h = stepped_asks place (Miss moment certs) s (EndsBy plan later a place v) (settled_ends v (subst (λ l. Settles l certs moment a v) (sym same) (subst (λ x. Settles anchors certs moment x v) is h)))
+
+      pub unanswered_asks : Grants anchors (claims (live certs moment)) b.subject b.list b.right → AskedTo plan alone seen own a later own' (Unanswered plan later a)
+      unanswered_asks h =
+          stepped_asks place (Miss moment certs) s (Unanswered plan later a) (unanswered_at_last (subst (λ l. Grants l (claims (live certs moment)) a.subject a.list a.right) (sym same)
+          (subst (λ (x : Ask). Grants anchors (claims (live certs moment)) x.subject x.list x.right) is h)))
+
+-- ---- what stands behind each answer
+
+-- the Ask's step where it came to its shard
+pub steps_here : {E : Type 0} (plan : Plan) (alone : Bool) (seen seen' : ℕ → List Entry) (own own' : ℕ → List ℕ) (b a : Ask) (i j : ℕ) (r : Result (ℕ × ValueOfAnswer) E) → i ≡ j → b ≡ a →
+    IfOk r (λ x. SteppedTo plan alone (seen i) (own i) (Asks b) (seen' i) (own' i) x.0 x.1) →
+    IfOk r (λ x. StepsAsk plan alone (seen j) (own j) a (seen' j) (own' j) x.0 x.1)
+steps_here plan alone seen seen' own own' b a i j (Ok x) there is h =
+    record {
+      step = subst (λ k. SteppedTo plan alone (seen k) (own k) (Asks a) (seen' k) (own' k) x.0 x.1) there
+          (subst (λ z. SteppedTo plan alone (seen i) (own i) (Asks z) (seen' i) (own' i) x.0 x.1) is h);
+    }
+steps_here plan alone seen seen' own own' b a i j (Err e) there is h = tt
+
+module _ {plan : Plan} {alone : Bool} {seen later : List Entry} {own own' : List ℕ} {a : Ask} {place : ℕ} {r : ValueOfAnswer} (s : StepsAsk plan alone seen own a later own' place r) where
+  step_as : (x : ValueOfAnswer) → r ≡ x → SteppedTo plan alone seen own (Asks a) later own' place x
+  step_as x is = subst (SteppedTo plan alone seen own (Asks a) later own' place) is s.step
+
+  pub missed_step : (snapshot : Snapshot) → r ≡ answer.Miss snapshot → StepsTo plan alone seen own (Asks a) later own' place (Miss snapshot.moment (certificates snapshot.certs.items))
+  missed_step snapshot is = step_as (answer.Miss snapshot) is
+
+  pub replayed_ends : (last : ℕ) → r ≡ answer.Replayed last → AskedTo plan alone seen own a later own' (EndsBy plan later a place (verdict.Replayed last))
+  replayed_ends last is =
+      let t = step_as (answer.Replayed last) is in
+      stepped_asks a place (Other (Told.Replayed last)) t (EndsBy plan later a place (verdict.Replayed last)) (told_at_last a place (Told.Replayed last) t, refl)
+
+  pub full_ends : (held : ℕ) → r ≡ answer.Full held → AskedTo plan alone seen own a later own' (EndsBy plan later a place (verdict.Full held))
+  full_ends held is =
+      let t = step_as (answer.Full held) is in
+      stepped_asks a place (Other (Told.Full held)) t (EndsBy plan later a place (verdict.Full held)) (told_at_last a place (Told.Full held) t, refl)
+
+  pub journal_full_ends : (n : ℕ) → r ≡ answer.JournalFull n → AskedTo plan alone seen own a later own' (EndsBy plan later a place (verdict.JournalFull n))
+  journal_full_ends n is =
+      let t = step_as (answer.JournalFull n) is in
+      refused_asks a (EndsBy plan later a place (verdict.JournalFull n)) t.0 (t.1, t.2, t.3, refl)
+
+  pub hit_never : (e : ℕ) (c : Arc CachedValue Global) → r ≡ answer.Hit e c → ⊥
+  hit_never e c is = never_hit a place e (cached (arc_value {X = CachedValue} c)) (step_as (answer.Hit e c) is)
+
+  -- what only other events are told
+  pub other_never : ((n : ℕ) × (r ≡ answer.Held n)) ⊎ (((n : ℕ) × (r ≡ answer.CommonsFull n)) ⊎ ((n : ℕ) × (r ≡ answer.Removed n))) → ⊥
+  other_never (inl h) = told_of_ask a place (Told.Held h.0) (step_as (answer.Held h.0) h.1)
+  other_never (inr (inl h)) = told_of_ask a place (Told.CommonsFull h.0) (step_as (answer.CommonsFull h.0) h.1)
+  other_never (inr (inr h)) = told_of_ask a place (Told.Removed h.0) (step_as (answer.Removed h.0) h.1)
+
+-- no proof is kept
+pub ends_made : {plan : Plan} {alone : Bool} {seen later : List Entry} {own own' : List ℕ} {a : Ask} (asked : Asked) (place : ℕ) (v : Verdict) →
+    asked ≡ record { place = place; verdict = v; kept = false; settled = NoNeed } →
+    AskedTo plan alone seen own a later own' (EndsBy plan later a place v) → AskedTo plan alone seen own a later own' (AskEnds plan later a asked)
+ends_made {plan = plan} {later = later} {a = a} asked place v is t = record {
+  places = t.places;
+  goes_on = t.goes_on;
+  undisturbed = t.undisturbed;
+  legal = t.legal;
+  owned = t.owned;
+  new = t.new;
+  ascending = t.ascending;
+  ends = subst (λ r. AskEnds plan later a r t.places) (sym is) (t.ends, refl, refl);
+}
+
+-- ---- what stands at a place of a list
+
+pub standing : {X : Type 0} (xs : List X) (i : ℕ) → i < length xs → (x : X) × (slice_get xs i ≡ Some x)
+standing [] i lt = absurd (omega (arith, lt))
+standing (x ∷ xs) zero lt = (x, refl)
+standing (x ∷ xs) (suc i) lt = standing xs i (omega (arith, lt))
+
+-- ---- a question about what an Ask is judged by is within the limits
+
+module _ (plans : List Plan) (anchors : List Anchor) (are : AreShards plans anchors) (number : ℕ) (plan : Plan) (at : slice_get plans number ≡ Some plan) where
+  pub anchors_are : plan.anchors ≡ anchors
+  anchors_are = All-at (λ (p : Plan). p.anchors ≡ anchors) plans number plan are.anchored at
+
+  pub askable : (before : List Entry) (a : Ask) (moment : ℕ) (certs : List Certificate) (count : ℕ) → length certs ≡ count → IsJudged plan before a moment certs → FitsAsk a →
+      IsAskable anchors certs (replicate count true) a.subject a.list
+  askable before a moment certs count counted judged fits =
+      let is : IsPlan plan = All-at IsPlan plans number plan are.sound at in
+      record {
+        anchors_fit = subst (λ (l : List Anchor). length l ≤ 64) anchors_are is.few_anchors;
+        certs_fit = judges_few plan is.few_commons before a moment certs judged;
+        chosen_fit = length-replicate count true ∙ sym counted;
+        subject_fits = fits.subject;
+        list_fits = fits.few_entries;
+        entries_fit = fits.entries;
+      }

@@ -1,0 +1,136 @@
+//! Shards that nobody else steps.
+
+ghost use Rattle.std.specs.Prelude.{◌≡◌, ◌↔◌, ◌<◌, ◌≤◌, IsTrue, true, ℕ, [], length, map, Some, slice_get, All};
+ghost use Rattle.agent_core.specs.Alone.{plans_in, seen_in, own_in, HasLegalJournal, StepsLone};
+ghost use Rattle.agent_core.specs.Answers.{FitsEvent};
+ghost use Rattle.agent_core.specs.Journals.{ShardSeen, IsMeant};
+ghost use Rattle.agent_core.specs.Plans.{AreShards};
+ghost use Rattle.agent_core.specs.State.{Plan};
+ghost use Rattle.agent_core.specs.Views.{event_of};
+
+use crate::event::Event;
+use crate::limits::MAX_SHARDS;
+use crate::shard::Shard;
+use crate::shards::Shards;
+use crate::told::Answer;
+use arrayvec::ArrayVec;
+use prin_term::Anchor;
+use std::alloc::{AllocError, Global};
+use std::marker::Model;
+use std::sync::{Arc, Wait};
+
+/// The shards of one owner.
+#[derive(Drop)]
+pub struct Lone {
+    shards: Vec<Shard>,
+    anchors: Arc<Vec<Anchor>>,
+    // How long each journal was at first.
+    opened: ArrayVec<u64, MAX_SHARDS>,
+}
+
+impl Model for Lone {
+    ghost use Rattle.std.specs.Coded.{codes};
+    ghost use Rattle.prin_term.specs.Codes.{principal_code};
+    ghost use Rattle.agent_core.specs.Alone.{LoneSeen, IsLone};
+
+    ghost Value = { LoneSeen };
+
+    ghost coded = { Prim.hlevel (codes, principal_code) };
+
+    ghost view = { λ l. record { shards = l.shards.items; opened = l.opened.items } };
+
+    ghost invariant = { λ l. IsLone l.shards.items l.opened.items l.anchors.value.items };
+}
+
+// How long each journal is.
+fn lengths_of(shards: &[Shard]) -> ArrayVec<u64, MAX_SHARDS>
+    requires { length shards.now ≤ 64 }
+    ensures lengths { result.items ≡ map (λ (s : ShardSeen). length s.journal) shards.now }
+    ensures legal { All HasLegalJournal shards.now }
+{
+    let mut lengths = ArrayVec::new();
+    for number in 0..shards.len() {
+        lengths.push(shards[number].journal().len() as u64);
+    }
+    lengths
+}
+
+impl Lone {
+    /// The shards in the order of their numbers. Takes no memory.
+    pub fn new(shards: Vec<Shard>, anchors: Arc<Vec<Anchor>>) -> Lone
+        requires { AreShards (plans_in shards.items) anchors.value.items }
+        ensures shards { result.shards ≡ shards.items }
+        ensures own { (number : ℕ) → own_in result number ≡ [] }
+    {
+        let opened = lengths_of(&shards);
+        Lone {
+            shards,
+            anchors,
+            opened,
+        }
+    }
+
+    /// Whether `step` takes the event at the shard of this number.
+    pub fn takes(&self, number: u32, event: &Event) -> bool
+        ensures { IsTrue result ↔ ((number < length (plans_in self.now.shards))
+            × ((plan : Plan) → slice_get (plans_in self.now.shards) number ≡ Some plan
+            → IsMeant plan (seen_in self.now.shards number) (event_of event.now))
+            × FitsEvent (event_of event.now)) }
+    {
+        match self.shards.get(number as usize) {
+            Some(shard) => shard.takes(event),
+            None => false,
+        }
+    }
+
+    // A step of one of the shards.
+    fn step_one(
+        &mut self,
+        alloc: Global,
+        number: u32,
+        event: Event,
+    ) -> Result<(u64, Answer), AllocError>
+        requires there { number < length (plans_in self.old.shards) }
+        requires meant { (plan : Plan) → slice_get (plans_in self.old.shards) number ≡ Some plan
+            → IsMeant plan (seen_in self.old.shards number) (event_of event) }
+        requires fits { FitsEvent (event_of event) }
+        ensures { StepsLone self.old self.new number (event_of event) result }
+    {
+        self.shards[number as usize].step(alloc, event)
+    }
+
+    /// The shards back, in order. Takes no memory.
+    pub fn close(self) -> Vec<Shard>
+        ensures { result.items ≡ self.shards }
+    {
+        self.shards
+    }
+}
+
+impl Shards for Lone {
+    ghost plans = { λ l. plans_in l.shards };
+
+    ghost seen = { λ l number. seen_in l.shards number };
+
+    ghost own = { λ l number. own_in l number };
+
+    ghost alone = { λ l. true };
+
+    fn count(&self) -> u32 {
+        self.shards.len() as u32
+    }
+
+    fn anchors(&self) -> &[Anchor] {
+        &self.anchors
+    }
+
+    fn step<W: Wait + Sync>(
+        &mut self,
+        _rt: &W,
+        alloc: Global,
+        number: u32,
+        event: Event,
+    ) -> Result<(u64, Answer), AllocError> {
+        self.step_one(alloc, number, event)
+    }
+}
