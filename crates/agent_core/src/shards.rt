@@ -1,9 +1,9 @@
 //! The shards of a node, side by side.
 
-ghost use Rattle.std.specs.Prelude.{◌≡◌, ◌≢◌, ◌<◌, ℕ, Bool, List, length, Some, slice_get, IfOk, OnErr};
+ghost use Rattle.std.specs.Prelude.{◌≡◌, ◌≢◌, ◌<◌, ℕ, Bool, List, length, Some, slice_get, All, IfOk, OnErr};
 ghost use Rattle.agent_core.specs.Answers.{FitsEvent, SteppedTo};
 ghost use Rattle.agent_core.specs.Journals.{Entry, IsMeant, IsLegalJournal, told_at};
-ghost use Rattle.agent_core.specs.Plans.{AreShards};
+ghost use Rattle.agent_core.specs.Plans.{AreShards, IsPlan};
 ghost use Rattle.agent_core.specs.State.{Plan};
 ghost use Rattle.agent_core.specs.Steps.{StepRefused};
 ghost use Rattle.agent_core.specs.Views.{event_of};
@@ -33,6 +33,7 @@ pub trait Shards {
     fn count(&self) -> u32
         ensures count { result ≡ length (plans self.now) }
         ensures some { 0 < result }
+        ensures sound { All IsPlan (plans self.now) }
         ensures legal { (number : ℕ) (plan : Plan) → slice_get (plans self.now) number ≡ Some plan
             → IsLegalJournal plan (seen self.now number) };
 
