@@ -1,10 +1,10 @@
 //! Shards that nobody else steps.
 
-ghost use Rattle.std.specs.Prelude.{◌≡◌, ◌↔◌, ◌<◌, ◌≤◌, IsTrue, true, ℕ, [], length, map, Some, slice_get, All};
+ghost use Rattle.std.specs.Prelude.{◌≡◌, ◌↔◌, ◌<◌, ◌≤◌, IsTrue, true, ℕ, [], length, map, Some, slice_get, All, Contains};
 ghost use Rattle.agent_core.specs.Alone.{plans_in, seen_in, own_in, HasLegalJournal, StepsLone};
 ghost use Rattle.agent_core.specs.Answers.{FitsEvent};
 ghost use Rattle.agent_core.specs.Journals.{ShardSeen, IsMeant};
-ghost use Rattle.agent_core.specs.Plans.{AreShards};
+ghost use Rattle.agent_core.specs.Plans.{AreShards, home};
 ghost use Rattle.agent_core.specs.State.{Plan};
 ghost use Rattle.agent_core.specs.Views.{event_of};
 
@@ -55,6 +55,12 @@ fn lengths_of(shards: &[Shard]) -> ArrayVec<u64, MAX_SHARDS>
     lengths
 }
 
+fn has_channel(shard: &Shard, channel: u32) -> bool
+    ensures { IsTrue result ↔ Contains shard.now.plan.channels channel }
+{
+    shard.plan().channels.contains(&channel)
+}
+
 impl Lone {
     /// The shards in the order of their numbers. Takes no memory.
     pub fn new(shards: Vec<Shard>, anchors: Arc<Vec<Anchor>>) -> Lone
@@ -80,6 +86,19 @@ impl Lone {
         match self.shards.get(number as usize) {
             Some(shard) => shard.takes(event),
             None => false,
+        }
+    }
+
+    /// Whether the shard of the channel has it in its plan.
+    pub fn has_channel(&self, channel: u32) -> bool
+        ensures { IsTrue result ↔ ((plan : Plan) → slice_get (plans_in self.now.shards)
+            (home (plans_in self.now.shards) channel) ≡ Some plan
+            → Contains plan.channels channel) }
+    {
+        let number = channel as usize % self.shards.len();
+        match self.shards.get(number) {
+            Some(shard) => has_channel(shard, channel),
+            None => true,
         }
     }
 
