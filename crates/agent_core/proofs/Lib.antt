@@ -12,6 +12,7 @@ pub mod Judging
 pub mod Looks
 pub mod Snapshots
 pub mod Opening
+pub mod AllShards
 pub mod Stepping
 pub mod Making
 pub mod Few

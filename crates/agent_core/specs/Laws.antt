@@ -11,7 +11,10 @@
 --     JudgedIsVerdict      what is found on what an Ask is judged by is its verdict
 --     AsksAreVerdicts      an ask that is granted or denied has this verdict behind its place
 --     AskStays      how an Ask ended in a journal it ended in each that begins with it
-use Rattle.std.specs.Prelude.{◌≡◌, ℕ, Bool, ◌+◌, ◌≤◌, ◌↔◌, List, [], ◌∷◌, ◌++◌, length, map}
+--     OpenedAreShards      the plans that a node is opened with are those of all its shards
+--     EachChannelAtHome      a channel of the node is one of its shard's
+use Rattle.std.specs.Prelude.{◌≡◌, ℕ, Bool, ◌+◌, ◌≤◌, ◌↔◌, List, [], ◌∷◌, ◌++◌, length, map, Some, slice_get, Contains}
+use Rattle.prin_term.specs.declared.term.Anchor.{Anchor}
 use Rattle.stmt_codec.specs.Certificates.{Certificate}
 use Rattle.denial_link.specs.declared.link.Link.{Link}
 use Rattle.proof_cache.specs.Cached.{Cached}
@@ -20,6 +23,8 @@ use Rattle.agent_core.specs.declared.told.Told.{Told}
 use Rattle.agent_core.specs.Asked.{IsGrantedAt, IsDeniedAt, IsTold}
 use Rattle.agent_core.specs.declared.limits.TheConstants.{MAX_OWN, MAX_COMMONS}
 use Rattle.agent_core.specs.State.{Plan, State, Ask, Event, opened, next}
+use Rattle.agent_core.specs.Plans.{AreShards, home}
+use Rattle.agent_core.specs.Opened.{MayOpen, plans_for}
 use Rattle.agent_core.specs.declared.verdict.Finding.{Finding}
 use Rattle.agent_core.specs.Judged.{Judges, verdict_of}
 use Rattle.agent_core.specs.Steps.{StepAnswer, Steps, StepsTo}
@@ -93,3 +98,11 @@ module _ (plan : Plan) where
       ((e : ℕ) (c : Cached) → IsGrantedAt plan xs a place e c → IsGrantedAt plan ys a place e c) ×
       ((denial : Denial) → IsDeniedAt plan xs a place denial → IsDeniedAt plan ys a place denial) ×
       ((told : Told) → IsTold plan xs a place told → IsTold plan ys a place told)
+
+module _ (channels : List ℕ) (shards : ℕ) (anchors : List Anchor) (commons : List Certificate) (keep limit : ℕ) where
+  abbrev pub OpenedAreShards : Type 0
+  OpenedAreShards = MayOpen channels shards anchors commons limit → AreShards (plans_for channels shards anchors commons keep limit) anchors
+
+  abbrev pub EachChannelAtHome : Type 0
+  EachChannelAtHome = (channel : ℕ) (plan : Plan) → Contains channels channel →
+      slice_get (plans_for channels shards anchors commons keep limit) (home (plans_for channels shards anchors commons keep limit) channel) ≡ Some plan → Contains plan.channels channel

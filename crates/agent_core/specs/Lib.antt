@@ -4,6 +4,7 @@ pub mod Journals
 pub mod Steps
 pub mod Views
 pub mod Plans
+pub mod Opened
 pub mod Names
 pub mod Kept
 pub mod Letting

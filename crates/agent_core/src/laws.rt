@@ -1,9 +1,13 @@
 //! Laws of shards, each the contract of a function that does nothing.
 
+ghost use Rattle.std.specs.Prelude.{ℕ, List};
+ghost use Rattle.prin_term.specs.declared.term.Anchor.{Anchor};
+ghost use Rattle.stmt_codec.specs.Certificates.{Certificate};
 ghost use Rattle.agent_core.specs.State.{Plan};
 ghost use Rattle.agent_core.specs.Laws.{FrontIsLegal, OneMoreIsLegal, LegalIsAllowed, JournalIsLegal};
 ghost use Rattle.agent_core.specs.Laws.{HasOneJournal, HoldsFew, JudgesFew, OneVerdict, JudgedIsVerdict};
 ghost use Rattle.agent_core.specs.Laws.{MeantStays, StepsAlone, AsksAreVerdicts, AskStays};
+ghost use Rattle.agent_core.specs.Laws.{OpenedAreShards, EachChannelAtHome};
 
 /// A beginning of a legal journal is legal.
 pub fn fronts_are_legal()
@@ -60,4 +64,14 @@ pub fn asks_are_verdicts()
 /// How an Ask ended in a journal it ended in each that begins with it.
 pub fn how_an_ask_ended_stays()
     ensures { (plan : Plan) → AskStays plan }
+{}
+
+/// What a node is opened with are the plans of all its shards, and each channel is one of its shard's.
+pub fn opened_are_shards()
+    ensures shards { (channels : List ℕ) (shards : ℕ) (anchors : List Anchor)
+        (commons : List Certificate) (keep limit : ℕ)
+        → OpenedAreShards channels shards anchors commons keep limit }
+    ensures home { (channels : List ℕ) (shards : ℕ) (anchors : List Anchor)
+        (commons : List Certificate) (keep limit : ℕ)
+        → EachChannelAtHome channels shards anchors commons keep limit }
 {}

@@ -17,6 +17,7 @@ mod meant;
 mod name;
 mod naming;
 mod newness;
+mod opened;
 mod plain;
 mod plan;
 mod removal;
@@ -36,11 +37,12 @@ pub use gate::{FreeGate, Gate};
 pub use grant::proof_for;
 pub use laws::{
     asks_are_verdicts, events_have_one_journal, findings_are_verdicts, fronts_are_legal,
-    how_an_ask_ended_stays, legal_is_allowed, one_more_is_legal, shards_hold_few,
-    steps_may_be_alone, verdicts_differ, what_is_meant_stays,
+    how_an_ask_ended_stays, legal_is_allowed, one_more_is_legal, opened_are_shards,
+    shards_hold_few, steps_may_be_alone, verdicts_differ, what_is_meant_stays,
 };
 pub use limits::{MAX_CHANNELS, MAX_COMMONS, MAX_JOURNAL, MAX_OWN, MAX_PRESENTED, MAX_SHARDS};
 pub use lone::Lone;
+pub use opened::open_shards;
 pub use plan::ShardPlan;
 pub use shard::Shard;
 pub use shards::Shards;

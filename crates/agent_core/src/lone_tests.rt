@@ -122,3 +122,49 @@ fn closing_gives_the_journals_back(rt: HostRuntime) -> Result<(), Fail> {
     assert_eq!(rt; journal[1].told, Told::Replayed { last: 1 });
     Ok(())
 }
+
+// The channels 1 to 4, at two shards.
+fn opened(alloc: Global) -> Result<Lone, Fail> {
+    let whole = ShardPlan {
+        number: 0,
+        shards: 2,
+        anchors: Arc::new(alloc, Vec::new(alloc))?,
+        channels: vec![in alloc; 1, 2, 3, 4]?,
+        commons: Vec::new(alloc),
+        keep: 3600,
+        limit: 3,
+    };
+    if !whole.is_sound() {
+        return Err(Fail::new("no plan"));
+    }
+    let shards = open_shards(
+        alloc,
+        &whole.channels,
+        whole.shards,
+        &whole.anchors,
+        &whole.commons,
+        whole.keep,
+        whole.limit,
+    )?;
+    Ok(Lone::new(shards, whole.anchors))
+}
+
+#[test]
+fn a_node_opens_each_channel_at_its_shard(rt: HostRuntime) -> Result<(), Fail> {
+    let alloc = rt.alloc();
+    let shards = opened(alloc)?.close();
+    assert_eq!(rt; shards.len(), 2);
+    // number; the channels
+    let plans = [(0, [2, 4]), (1, [1, 3])];
+    for (number, expected) in plans {
+        let shard = shards.get(number as usize).ok_or("no shard")?;
+        assert_eq!(rt; shard.plan().number, number);
+        assert_eq!(rt;
+            shard.plan().channels.as_slice(),
+            expected.as_slice(),
+            "at {number}"
+        );
+        assert_eq!(rt; shard.journal().len(), 0, "at {number}");
+    }
+    Ok(())
+}
