@@ -1,0 +1,9 @@
+mod Bodies
+mod Opening
+mod Presenting
+mod Arriving
+mod Going
+mod Parts
+mod Telling
+mod AtHome
+mod Courses
