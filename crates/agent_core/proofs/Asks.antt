@@ -88,6 +88,7 @@ module _ {plan : Plan} {alone : Bool} {seen later : List Entry} {own own' : List
     legal = s.legal;
     owned = s.owned ∙ sym (append-nil own);
     new = All-nil (λ p. length seen ≤ p);
+    there = All-nil (λ p. p < length later);
     ascending = λ i j d lt within. absurd (omega arith);
     ends = ends;
   }
@@ -102,6 +103,7 @@ module _ {plan : Plan} {alone : Bool} {seen later : List Entry} {own own' : List
         let more : length s.before ≡ length seen + length s.goes_on.rest = ap (λ (l : List Entry). length l) s.goes_on.is ∙ length-append seen s.goes_on.rest in
         let here : length s.before ≡ place = s.steps.placed in
         let new : length seen ≤ place = omega arith in
+        let grown : length later ≡ length s.before + 1 = ap (λ (l : List Entry). length l) s.steps.adds ∙ length-append s.before (entry (Asks a) s.steps.told ∷ []) in
         record {
           places = place ∷ [];
           goes_on = begins_on s.goes_on (record { rest = entry (Asks a) s.steps.told ∷ []; is = s.steps.adds });
@@ -109,6 +111,7 @@ module _ {plan : Plan} {alone : Bool} {seen later : List Entry} {own own' : List
           legal = s.steps.legal;
           owned = s.owned;
           new = All-cons (λ p. length seen ≤ p) place [] new (All-nil (λ p. length seen ≤ p));
+          there = All-cons (λ p. p < length later) place [] (omega (arith, grown, here)) (All-nil (λ p. p < length later));
           ascending = λ i j d lt within. absurd (omega arith);
           ends = ends;
         }
@@ -232,6 +235,7 @@ ends_made {plan = plan} {later = later} {a = a} asked place v is t = record {
   legal = t.legal;
   owned = t.owned;
   new = t.new;
+  there = t.there;
   ascending = t.ascending;
   ends = subst (λ r. AskEnds plan later a r t.places) (sym is) (t.ends, refl, refl);
 }

@@ -94,5 +94,6 @@ pub record AskedTo (plan : Plan) (alone : Bool) (seen : List Entry) (own : List 
   pub legal : IsLegalJournal plan later
   pub owned : own' ≡ own ++ places
   pub new : All (λ p. length seen ≤ p) places
+  pub there : All (λ p. p < length later) places
   pub ascending : AllPairs (λ p q. p < q) places
   pub ends : Ends places
