@@ -7,3 +7,4 @@ mod Parts
 mod Telling
 mod AtHome
 mod Courses
+mod Staying

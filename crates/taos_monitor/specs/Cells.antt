@@ -82,6 +82,7 @@ pub record GoesOn (alone : Bool) (old new : Seen) (places : List Place) : Type 0
   pub goes_on : Extends old.journals new.journals
   pub owned : (cell : Cell) → new.own cell ≡ old.own cell ++ numbers_in cell places
   pub new_places : All (λ (p : Place). entries_in old.journals p.cell ≤ p.number) places
+  pub there : All (λ (p : Place). p.number < entries_in new.journals p.cell) places
   pub ascending : AllPairs (λ (p q : Place). p.cell ≡ q.cell → p.number < q.number) places
   pub undisturbed : alone ≡ true → (cell : Cell) →
       entries_in new.journals cell ≡ entries_in old.journals cell + length (numbers_in cell places)

@@ -6,3 +6,4 @@ pub mod Course
 pub mod Arriving
 pub mod Ruling
 pub mod Handling
+pub mod Laws

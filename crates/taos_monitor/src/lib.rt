@@ -3,6 +3,7 @@
 
 mod arrival;
 mod handling;
+mod laws;
 mod node_keys;
 mod presented;
 mod refusal;
@@ -11,6 +12,7 @@ mod ruling;
 mod shelf;
 
 pub use handling::{Handled, request};
+pub use laws::{courses_stay, going_on_goes_on};
 pub use node_keys::NodeKeys;
 pub use presented::BAD_RESEAL;
 pub use refusal::Refusal;
