@@ -8,7 +8,7 @@ use Rattle.agent_core.specs.State.{Plan, Ask}
 use Rattle.agent_core.specs.Journals.{Entry, Begins}
 use Rattle.agent_core.proofs.Onward.{begins_itself, begins_on}
 use Rattle.agent_core.specs.Asked.{AskedTo}
-use Rattle.taos_monitor.specs.Cells.{Cell, OfShard, Place, in_shard, is_cell, number_in, numbers_in, entries_in, Extends, Seen, GoesOn, seen_of}
+use Rattle.taos_monitor.specs.Cells.{Cell, OfShard, Place, in_shard, IsAfter, is_cell, number_in, numbers_in, entries_in, Extends, Seen, GoesOn, seen_of}
 
 here : (s number : ℕ) → number_in (OfShard s) (in_shard s number) ≡ Some number
 here s number = ap (λ (b : Bool). cond b (Some number) None) (eq-eqb s s refl)
@@ -114,11 +114,11 @@ module _ (alone : Bool) (a b c : Seen) (first later : List Place) (g : GoesOn al
     ascending = both_ascend;
     undisturbed = λ lone cell. omega (arith, h.undisturbed lone cell, g.undisturbed lone cell, ap length (numbers_of_both cell), length-append (numbers_in cell first) (numbers_in cell later));
   }
-      where
-        -- an earlier one is there before a later one comes
-        across : (p q : Place) → p.number < entries_in b.journals p.cell → entries_in b.journals q.cell ≤ q.number → p.cell ≡ q.cell → p.number < q.number
-        across p q before behind same = omega (arith, before, behind, ap (entries_in b.journals) same)
+    where
+      -- an earlier one is there before a later one comes
+      across : (p q : Place) → p.number < entries_in b.journals p.cell → entries_in b.journals q.cell ≤ q.number → p.cell ≡ q.cell → p.number < q.number
+      across p q before behind same = omega (arith, before, behind, ap (entries_in b.journals) same)
 
-        both_ascend : AllPairs (λ (p q : Place). p.cell ≡ q.cell → p.number < q.number) (first ++ later)
-        both_ascend = pairs_append (λ (p q : Place). p.cell ≡ q.cell → p.number < q.number) first later g.ascending h.ascending
-            (λ i j d lt within. across (get_or first i d) (get_or later j d) (g.there i d lt) (h.new_places j d within))
+      both_ascend : AllPairs IsAfter (first ++ later)
+      both_ascend = pairs_append IsAfter first later g.ascending h.ascending
+          (λ i j d lt within. across (get_or first i d) (get_or later j d) (g.there i d lt) (h.new_places j d within))

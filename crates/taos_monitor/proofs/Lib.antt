@@ -8,3 +8,4 @@ mod Telling
 mod AtHome
 mod Courses
 mod Staying
+mod Running

@@ -6,6 +6,7 @@
 --     AreLegal n J      each journal is legal
 --     Extends J K      each journal of K begins with that of J
 --     Seen      the journals as they were seen, and the own places in each
+--     IsAfter p q      an earlier own place and a later one
 --     GoesOn alone old new places      the journals went on, and these places are new own ones
 use Rattle.std.specs.Prelude.{◌≡◌, ℕ, ◌+◌, ◌<◌, ◌≤◌, ◌==◌, if◌then◌else◌, Bool, true, List, ◌++◌, length, find, filter_map, Option, Some, None, slice_get, All, AllPairs}
 use Rattle.keyed_seal.specs.Keys.{Entries}
@@ -77,13 +78,17 @@ number_in cell p = if is_cell cell p.cell then Some p.number else None
 abbrev pub numbers_in : Cell → List Place → List ℕ
 numbers_in cell places = filter_map (number_in cell) places
 
+-- an earlier own place of a cell stands before a later one
+abbrev pub IsAfter : Place → Place → Type 0
+IsAfter p q = p.cell ≡ q.cell → p.number < q.number
+
 -- they are behind what was seen, ascend in each cell, and are all that came, where nobody else steps the cells
 pub record GoesOn (alone : Bool) (old new : Seen) (places : List Place) : Type 0 where
   pub goes_on : Extends old.journals new.journals
   pub owned : (cell : Cell) → new.own cell ≡ old.own cell ++ numbers_in cell places
   pub new_places : All (λ (p : Place). entries_in old.journals p.cell ≤ p.number) places
   pub there : All (λ (p : Place). p.number < entries_in new.journals p.cell) places
-  pub ascending : AllPairs (λ (p q : Place). p.cell ≡ q.cell → p.number < q.number) places
+  pub ascending : AllPairs IsAfter places
   pub undisturbed : alone ≡ true → (cell : Cell) →
       entries_in new.journals cell ≡ entries_in old.journals cell + length (numbers_in cell places)
 

@@ -6,4 +6,5 @@ pub mod Course
 pub mod Arriving
 pub mod Ruling
 pub mod Handling
+pub mod Run
 pub mod Laws

@@ -12,7 +12,7 @@ mod ruling;
 mod shelf;
 
 pub use handling::{Handled, request};
-pub use laws::{courses_stay, going_on_goes_on};
+pub use laws::{courses_stay, going_on_goes_on, one_more_is_answered, what_is_answered_stays};
 pub use node_keys::NodeKeys;
 pub use presented::BAD_RESEAL;
 pub use refusal::Refusal;
