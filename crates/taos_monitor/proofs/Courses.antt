@@ -9,23 +9,26 @@ use Rattle.prin_term.specs.Principal.{Principal}
 use Rattle.frame_link.specs.Readings.{ShowsKnown}
 use Rattle.frame_link.specs.Relay.{Said}
 use Rattle.taos_wire.specs.Request.{Request}
-use Rattle.taos_wire.specs.Reply.{Reply, sealed, spelling}
+use Rattle.taos_wire.specs.Reply.{Reply, sealed, unsealed, spelling}
 use Rattle.taos_wire.specs.View.{cited as shared}
 use Rattle.agent_core.specs.State.{Plan, Ask}
 use Rattle.agent_core.specs.Plans.{home}
 use Rattle.agent_core.specs.Journals.{Entry}
 use Rattle.taos_monitor.specs.declared.arrival.Arrived.{Arrived}
+use Rattle.taos_monitor.specs.declared.handling.Handled.{Handled}
+use Rattle.taos_monitor.specs.declared.handling.Handled.TheVariants as handled
 use Rattle.taos_monitor.specs.declared.node_keys.NodeKeys.{NodeKeys}
 use Rattle.taos_monitor.specs.declared.refusal.Refusal.{Refusal}
 use Rattle.taos_monitor.specs.Refusals.{refusal}
-use Rattle.taos_monitor.specs.Cells.{ObjectPlan, Node, Journals, Place, in_shard, seen_of}
+use Rattle.taos_monitor.specs.Cells.{ObjectPlan, Node, Journals, Place, Seen, in_shard, seen_of}
 use Rattle.taos_monitor.specs.Credentials.{LinkCall}
 use Rattle.taos_monitor.specs.Course.{IsAsked, Arrival, Course, IsRuled, ask_of, ruled}
-use Rattle.taos_monitor.specs.Arriving.{node_of, object_seen, StandsFor, Arrives, NotArrives}
+use Rattle.taos_monitor.specs.Arriving.{node_of, object_seen, StandsFor, IsNotAsked, Arrives, NotArrives}
 use Rattle.taos_monitor.specs.Ruling.{Leaves, RuledTo, ask_seen}
-use Rattle.taos_monitor.specs.Handling.{HandledTo, StoppedAtClock}
+use Rattle.taos_monitor.specs.Handling.{HandledTo, StoppedAtClock, Handles, Answers}
 use Rattle.taos_monitor.proofs.AtHome.{AreLegalAt}
 use Rattle.taos_monitor.proofs.Going.{stood}
+use Rattle.taos_monitor.proofs.Presenting.{none_called, quiet_linked}
 
 -- the ask that stands for what came is the request's
 same_ask : (r : Request) (a : Arrived) (reading : ℕ) → StandsFor r a → ask_seen r a reading ≡ ask_of r (map shared a.certs.items) (object_seen r.object a.shown) reading
@@ -68,10 +71,8 @@ module _ (keys : NodeKeys) (plans : List Plan) (objects : List ObjectPlan) (alon
     pub stopped_at_clock : (clock0 clock1 : Option (List ℕ)) → Keeps clock0 clock1 → StoppedAtClock node alone (seen_of seen0 own0) (seen_of seen0 own0) says faults0 faults1 clock0 clock1 r
     stopped_at_clock clock0 clock1 keeps = record {
       calls = came.calls;
-      certs = map shared a.certs.items;
-      object = object_seen r.object a.shown;
       unchanged = refl;
-      came = λ payload k asked. came.arrived plans payload k asked;
+      come = (map shared a.certs.items, object_seen r.object a.shown, λ payload k asked. came.arrived plans payload k asked);
       keeps = keeps;
       linked = came.linked;
     }
@@ -97,3 +98,49 @@ module _ (keys : NodeKeys) (plans : List Plan) (objects : List ObjectPlan) (alon
           spelled = left.spelled;
           short = left.short;
         }
+
+-- ---- from the payload on
+
+-- no request under its seal
+pub unasked_to : (keys : NodeKeys) (plans : List Plan) (objects : List ObjectPlan) (alone : Bool) (says : Option (ℕ → List ℕ → Said)) (faults : ℕ) (seen : ℕ → List Entry) (own : ℕ → List ℕ) (clock : Option (List ℕ)) (payload : List ℕ) (f : Refusal) (bytes : List ℕ) →
+    AreLegalAt plans seen → IsNotAsked keys payload f → bytes ≡ spelling (unsealed (refusal f)) → length bytes < 2 ^ 32 →
+    Answers (node_of keys plans objects) alone (seen_of seen own) (seen_of seen own) says faults faults clock clock payload bytes handled.Replied
+unasked_to keys plans objects alone says faults seen own clock payload f bytes legal stops spelled short = record {
+  readings = [];
+  calls = [];
+  places = [];
+  sent = unsealed (refusal f);
+  goes_on = stood alone (seen_of seen own);
+  legal = legal;
+  course = stops plans objects (record { shards = seen });
+  gave = Keeps-refl clock;
+  linked = quiet_linked says keys.node faults faults [] (none_called says keys.node faults);
+  spelled = spelled;
+  short = short;
+}
+
+-- what is promised of a request holds of the payload that it is
+pub answers_as : (n : Node) (alone : Bool) (old new : Seen) (says : Option (ℕ → List ℕ → Said)) (faults0 faults1 : ℕ) (clock0 clock1 : Option (List ℕ)) (r : Request) (payload key bytes : List ℕ) → IsAsked n payload r key →
+    (h : Handled) → Handles n alone old new says faults0 faults1 clock0 clock1 r bytes h → Answers n alone old new says faults0 faults1 clock0 clock1 payload bytes h
+answers_as n alone old new says faults0 faults1 clock0 clock1 r payload key bytes asked handled.Replied t = record {
+  readings = t.readings;
+  calls = t.calls;
+  places = t.places;
+  sent = t.sent;
+  goes_on = t.goes_on;
+  legal = t.legal;
+  course = t.course payload key asked;
+  gave = t.gave;
+  linked = t.linked;
+  spelled = t.spelled;
+  short = t.short;
+}
+answers_as n alone old new says faults0 faults1 clock0 clock1 r payload key bytes asked handled.ClockFault s =
+    let (certs, object, arrived) = s.come in
+    record {
+      calls = s.calls;
+      unchanged = s.unchanged;
+      come = (record { request = r; key = key; calls = s.calls; certs = certs; object = object; arrived = arrived payload key asked }, refl);
+      keeps = s.keeps;
+      linked = s.linked;
+    }

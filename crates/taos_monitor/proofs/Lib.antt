@@ -9,3 +9,4 @@ mod AtHome
 mod Courses
 mod Staying
 mod Running
+mod Payloads

@@ -2,6 +2,7 @@
 --     node_of keys plans objects      the node of these keys, plans and objects
 --     object_seen number s      the object that is shown
 --     StandsFor r a      what came stands for what is asked
+--     IsAskedBy, IsNotAsked keys payload ..      the payload is the request, under its seal; or a course ends there
 --     Arrives, NotArrives keys objects says before now r ..      the request came to its object; or a course ends before it, as the refusal says
 use Rattle.std.specs.Prelude.{◌≡◌, ℕ, ◌≤◌, List, [], length, map, Option}
 use Rattle.std.specs.Arc.{arc_value}
@@ -9,7 +10,7 @@ use Rattle.object_core.specs.Operation.{right_of, IsAccessList, IsContent}
 use Rattle.prin_term.specs.View.{grant, principal}
 use Rattle.frame_link.specs.Relay.{Said}
 use Rattle.taos_wire.specs.Request.{Request, subject_of}
-use Rattle.taos_wire.specs.Reply.{sealed}
+use Rattle.taos_wire.specs.Reply.{sealed, unsealed}
 use Rattle.taos_wire.specs.View.{cited as shared}
 use Rattle.agent_core.specs.State.{Plan}
 use Rattle.taos_monitor.specs.declared.arrival.Arrived.{Arrived}
@@ -40,6 +41,15 @@ pub record StandsFor (r : Request) (a : Arrived) : Type 0 where
   pub few_certs : length a.certs.items ≤ 16
   pub content : IsContent (object_seen r.object a.shown).content
   pub list : IsAccessList (object_seen r.object a.shown).list
+
+-- the payload is the request, under the seal of its channel's key, however the cells are opened; or a course ends there, without a seal
+pub record IsAskedBy (keys : NodeKeys) (payload : List ℕ) (r : Request) : Type 0 where
+  pub key : List ℕ
+  pub asked : (plans : List Plan) (objects : List ObjectPlan) → IsAsked (node_of keys plans objects) payload r key
+
+abbrev pub IsNotAsked : NodeKeys → List ℕ → Refusal → Type 0
+IsNotAsked keys payload f =
+    (plans : List Plan) (objects : List ObjectPlan) (J : Journals) → Course (node_of keys plans objects) J payload [] [] [] (unsealed (refusal f))
 
 module _ (keys : NodeKeys) (objects : List ObjectPlan) (says : Option (ℕ → List ℕ → Said)) (before now : ℕ) (r : Request) where
   -- whichever payload under its channel's seal it was, and however the shards are opened

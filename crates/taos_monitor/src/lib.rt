@@ -1,6 +1,7 @@
 //! The reference monitor: the course of one request, from its bytes to the sealed reply.
 #![tactic(auto)]
 
+mod answering;
 mod arrival;
 mod handling;
 mod laws;
@@ -11,6 +12,7 @@ mod reply;
 mod ruling;
 mod shelf;
 
+pub use answering::answer;
 pub use handling::{Handled, request};
 pub use laws::{courses_stay, going_on_goes_on, one_more_is_answered, what_is_answered_stays};
 pub use node_keys::NodeKeys;
