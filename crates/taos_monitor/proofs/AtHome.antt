@@ -1,11 +1,9 @@
 -- An ask at the shard of its channel, by what is promised of it.
-use Rattle.std.proofs.Common.{◌≡◌, ◌≢◌, ℕ, ◌<◌, ◌≤◌, Bool, true, false, List, [], length, map, All, Contains, Some, slice_get, Result, IfOk, refl, sym, ap, subst, ◌∙◌, inl, inr, arith}
+use Rattle.std.proofs.Common.{◌≡◌, ◌≢◌, ℕ, Bool, List, [], Contains, Some, slice_get, Result, IfOk, sym, ap, subst, ◌∙◌, inl, inr, arith}
 use Rattle.std.specs.Prelude.{OnErr, ◌==◌}
-use Rattle.std.specs.Arc.{arc_value}
 use Rattle.std.proofs.lemmas.Bool.{cases_Bool, eqb-true, eq-eqb, false≢true}
 use Rattle.std.proofs.lemmas.List.{length-map}
 use Rattle.std.proofs.lemmas.Option.{same_Some}
-use Rattle.prin_term.specs.View.{principal}
 use Rattle.taos_calculus.specs.Question.{IsSubject}
 use Rattle.taos_wire.specs.Request.{Request, FitsRequest}
 use Rattle.taos_wire.specs.View.{cited as shared}

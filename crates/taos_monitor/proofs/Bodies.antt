@@ -1,10 +1,10 @@
 -- New bytes that the relay gave carry what was presented exactly where they are the same but for the kind and the tag.
-use Rattle.std.proofs.Common.{◌≡◌, ℕ, suc, ◌+◌, ◌-◌, ◌≤◌, List, [], ◌∷◌, ◌++◌, length, take, drop, refl, sym, ap, subst, ◌∙◌, arith, length-append, length-drop}
+use Rattle.std.proofs.Common.{◌≡◌, ℕ, suc, ◌+◌, ◌-◌, List, ◌∷◌, ◌++◌, length, take, drop, refl, sym, ap, ◌∙◌, arith, length-append, length-drop}
 use Rattle.std.proofs.lemmas.List.{take_at, take-append-drop}
 use Rattle.keyed_seal.specs.Tag.{tag_of}
 use Rattle.keyed_seal.proofs.Tags.{length-tag_of}
 use Rattle.stmt_codec.specs.Certificates.{Certificate, body_spelling}
-use Rattle.sealed_cert.specs.Seals.{sealed_text, Spells, Opens}
+use Rattle.sealed_cert.specs.Seals.{sealed_text, Opens}
 use Rattle.taos_monitor.specs.Credentials.{IsIssued, IsResealed}
 use Rattle.taos_monitor.specs.Presenting.{CarriesSame}
 

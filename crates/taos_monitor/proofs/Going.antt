@@ -1,6 +1,6 @@
 -- What was seen goes on by the entries of one ask.
-use Rattle.std.proofs.Common.{◌≡◌, ◌≢◌, ℕ, ◌+◌, ◌-◌, ◌<◌, ◌≤◌, Bool, true, false, cond, List, [], ◌∷◌, ◌++◌, length, map, get_or, Option, Some, None, All, AllPairs, refl, sym, ap, subst, subst₂, ◌∙◌, inl, inr, arith, append-nil, append_assoc, length-append}
-use Rattle.std.specs.Prelude.{◌==◌, if◌then◌else◌}
+use Rattle.std.proofs.Common.{◌≡◌, ◌≢◌, ℕ, ◌+◌, ◌-◌, ◌<◌, ◌≤◌, Bool, true, false, cond, List, [], ◌∷◌, ◌++◌, length, map, get_or, Some, None, AllPairs, refl, sym, ap, subst, subst₂, ◌∙◌, inl, inr, arith, append-nil, append_assoc, length-append}
+use Rattle.std.specs.Prelude.{◌==◌}
 use Rattle.std.proofs.lemmas.Bool.{cases_Bool, cases_lt, eqb-true, eq-eqb, false≢true}
 use Rattle.std.proofs.lemmas.List.{get_or-append_right, get_or-map, get_or_append_left, length-map}
 use Rattle.std.proofs.lemmas.List.Elements.{All-nil, All-append, filter_map-append}
@@ -8,7 +8,7 @@ use Rattle.agent_core.specs.State.{Plan, Ask}
 use Rattle.agent_core.specs.Journals.{Entry, Begins}
 use Rattle.agent_core.proofs.Onward.{begins_itself, begins_on}
 use Rattle.agent_core.specs.Asked.{AskedTo}
-use Rattle.taos_monitor.specs.Cells.{Cell, OfShard, Place, in_shard, IsAfter, is_cell, number_in, numbers_in, entries_in, Extends, Seen, GoesOn, seen_of}
+use Rattle.taos_monitor.specs.Cells.{Cell, OfShard, Place, in_shard, IsAfter, number_in, numbers_in, entries_in, Seen, GoesOn, seen_of}
 
 here : (s number : ℕ) → number_in (OfShard s) (in_shard s number) ≡ Some number
 here s number = ap (λ (b : Bool). cond b (Some number) None) (eq-eqb s s refl)

@@ -10,3 +10,7 @@ mod Courses
 mod Staying
 mod Running
 mod Payloads
+mod Steps
+mod Complete
+mod Connections
+mod Turning

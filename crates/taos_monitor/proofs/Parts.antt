@@ -1,5 +1,5 @@
 -- What a denial names is there, and what a grant cites is few.
-use Rattle.std.proofs.Common.{◌≡◌, ℕ, zero, suc, ◌+◌, ◌<◌, ◌≤◌, List, [], ◌∷◌, ◌++◌, length, map, Contains, Option, None, Some, slice_get, refl, sym, ap, subst, ◌∙◌, ◌^◌, inl, inr, arith, append-nil, length-append}
+use Rattle.std.proofs.Common.{◌≡◌, ℕ, zero, suc, ◌+◌, ◌<◌, ◌≤◌, List, [], ◌∷◌, ◌++◌, length, Contains, Option, None, Some, slice_get, refl, sym, ap, subst, ◌∙◌, ◌^◌, inl, inr, arith, append-nil, length-append}
 use Rattle.std.specs.Prelude.{All, AllPairs, IsSome, option_map, slice_index, sum_by, filter_map}
 use Rattle.std.specs.List.{cons_option}
 use Rattle.std.specs.Int.{bytes_high_first, byte_at, to_be_bytes, w32}
@@ -28,11 +28,9 @@ use Rattle.taos_calculus.proofs.Induction.{All-at}
 use Rattle.denial_link.specs.declared.link.Link.{Link}
 use Rattle.denial_link.specs.declared.link.Link.TheVariants as links
 use Rattle.denial_link.specs.Links.{Lacks, here, below, IsFirstLink, no_entry, expired, missing}
-use Rattle.denial_link.specs.Revived.{at_places}
 use Rattle.denial_link.proofs.Members.{at-has, has-at, has-cases, has-nil}
 use Rattle.proof_cache.specs.Cached.{Cached}
 use Rattle.agent_core.specs.declared.asked.Denial.{Denial}
-use Rattle.agent_core.specs.declared.asked.Denial.TheVariants as denials
 use Rattle.agent_core.specs.declared.asked.Verdict.{Verdict}
 use Rattle.agent_core.specs.declared.asked.Verdict.TheVariants as verdict
 use Rattle.agent_core.specs.State.{Plan, Ask}

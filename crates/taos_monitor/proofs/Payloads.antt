@@ -7,7 +7,7 @@ use Rattle.keyed_seal.specs.Keys.{key_of}
 use Rattle.prin_term.specs.Steps.{counted}
 use Rattle.taos_wire.specs.declared.fault.WireFault.{WireFault}
 use Rattle.taos_wire.specs.declared.fault.WireFault.TheVariants as wire
-use Rattle.taos_wire.specs.Request.{Request, Spells, IsSealed, origin_bytes, asked_bytes, certs_bytes, request_text}
+use Rattle.taos_wire.specs.Request.{Request, Spells, IsSealed, origin_bytes, asked_bytes, certs_bytes}
 use Rattle.taos_wire.specs.RequestReading.{request_of}
 use Rattle.taos_wire.specs.Reply as replies
 use Rattle.taos_wire.specs.Reply.{unsealed}

@@ -1,6 +1,6 @@
 -- Certificates that come one by one, by the node or by the relay, and what the first that comes to none is.
-use Rattle.std.proofs.Common.{◌≡◌, ◌≢◌, ◌⊎◌, ℕ, ◌+◌, ◌<◌, ◌≤◌, List, [], ◌∷◌, ◌++◌, length, take, drop, map, All, Option, None, Some, Result, Ok, Err, IfOk, IfErr, refl, sym, ap, ap₂, subst, ◌∙◌, append_assoc, append-nil, length-append, inl, inr, arith, get_or}
-use Rattle.std.specs.Prelude.{Any, OnErr, Vec}
+use Rattle.std.proofs.Common.{◌≡◌, ◌≢◌, ℕ, ◌+◌, ◌<◌, ◌≤◌, List, [], ◌∷◌, ◌++◌, length, take, drop, map, All, Option, None, Some, Result, Ok, Err, IfOk, IfErr, refl, sym, ap, subst, ◌∙◌, append_assoc, append-nil, length-append, inl, inr, arith, get_or}
+use Rattle.std.specs.Prelude.{OnErr, Vec}
 use Rattle.std.specs.declared.alloc.Global.{Global}
 use Rattle.std.specs.declared.sync.Arc.{Arc}
 use Rattle.std.proofs.lemmas.List.{get_or-append-add, length-map, length-take-le, map-append, map_push, take-append-drop, take_more}
@@ -14,7 +14,7 @@ use Rattle.sealed_cert.specs.Seals.{Opens}
 use Rattle.taos_wire.specs.View.{text_of, cited as shared}
 use Rattle.taos_monitor.specs.declared.refusal.Refusal.{Refusal}
 use Rattle.taos_monitor.specs.declared.refusal.Refusal.TheVariants as refusals
-use Rattle.taos_monitor.specs.Credentials.{LinkAnswer, Resealed, Refused, LinkCall, call, Failed, IsIssued, IsResealed, Comes, by_node, by_relay, IsRefused, bad_reseal, AreOpened, none_more, one_more, StopsAt, IsInterrupted, at_text, after_call, IsToldAs, FailedAs, IsLinked, IsQuiet}
+use Rattle.taos_monitor.specs.Credentials.{LinkAnswer, Resealed, Refused, LinkCall, call, Failed, IsIssued, IsResealed, Comes, by_node, by_relay, IsRefused, bad_reseal, AreOpened, none_more, one_more, StopsAt, at_text, after_call, IsToldAs, FailedAs, IsLinked, IsQuiet}
 use Rattle.taos_monitor.specs.Presenting.{IsOneRefused, IsNoReseal, IsOneStopped, AreStopped, OneComes, OneStops, AllCome, AllStop}
 
 -- ---- what the link is counted by

@@ -1,19 +1,18 @@
 -- What is answered stays so, and one frame more.
-use Rattle.std.proofs.Common.{◌≡◌, ℕ, List, [], ◌∷◌, ◌++◌, map, All, refl, sym, ap, subst, ◌∙◌, append-nil}
+use Rattle.std.proofs.Common.{◌≡◌, ℕ, List, [], ◌∷◌, ◌++◌, All, sym, ap, ◌∙◌, append-nil}
 use Rattle.std.specs.List.{flat_map}
 use Rattle.std.proofs.lemmas.List.{map_push}
 use Rattle.std.proofs.lemmas.Grind.{flat_map-append}
 use Rattle.std.proofs.lemmas.List.Concat.{flat_map-cons}
 use Rattle.std.proofs.lemmas.List.Elements.{All-nil, All-cons, All-append}
-use Rattle.frame_link.specs.declared.outcome.Outcome.{Outcome}
 use Rattle.taos_wire.specs.Reply.{spelling}
 use Rattle.taos_monitor.specs.Cells.{Node, Journals, Place, AreLegal, Extends}
 use Rattle.taos_monitor.specs.Credentials.{LinkCall}
-use Rattle.taos_monitor.specs.Run.{Turn, IsCourse, readings_of, calls_of, places_of, Answered}
+use Rattle.taos_monitor.specs.Run.{Turn, IsCourse}
 use Rattle.taos_monitor.specs.Laws.{AnsweredStays, AnswersMore}
 use Rattle.taos_monitor.proofs.Staying.{course_stays}
 
-all_stay : (n : Node) (J K : Journals) → Extends J K → AreLegal n K → (turns : List Turn) → All (IsCourse n J) turns → All (IsCourse n K) turns
+pub all_stay : (n : Node) (J K : Journals) → Extends J K → AreLegal n K → (turns : List Turn) → All (IsCourse n J) turns → All (IsCourse n K) turns
 all_stay n J K goes legal turns all = λ k d lt. course_stays n J K goes legal _ _ _ _ _ (all k d lt)
 
 pub answered_stays : (n : Node) → AnsweredStays n
@@ -27,7 +26,7 @@ answered_stays n J K goes legal own frames replies outcome readings calls a = re
   replies_are = a.replies_are;
 }
 
-flat_push : {X Y : Type 0} (f : X → List Y) (xs : List X) (x : X) → flat_map f (xs ++ x ∷ []) ≡ flat_map f xs ++ f x
+pub flat_push : {X Y : Type 0} (f : X → List Y) (xs : List X) (x : X) → flat_map f (xs ++ x ∷ []) ≡ flat_map f xs ++ f x
 flat_push f xs x = flat_map-append f xs (x ∷ []) ∙ ap (λ l. flat_map f xs ++ l) (flat_map-cons f x [] ∙ append-nil (f x))
 
 pub answers_more : (n : Node) → AnswersMore n

@@ -1,13 +1,12 @@
 -- A course stays where the journals go on.
-use Rattle.std.proofs.Common.{◌≡◌, ℕ, ◌+◌, ◌<◌, ◌≤◌, List, [], ◌∷◌, ◌++◌, length, Some, refl, sym, ap, ◌∙◌, inl, inr, arith, length-append}
-use Rattle.taos_wire.specs.Reply.{Reply, Sent}
+use Rattle.std.proofs.Common.{◌≡◌, ℕ, ◌≤◌, List, [], ◌∷◌, ◌++◌, length, refl, ap, inl, inr, arith, length-append}
+use Rattle.taos_wire.specs.Reply.{Reply}
 use Rattle.agent_core.specs.State.{Plan, Ask}
 use Rattle.agent_core.specs.Journals.{Entry, Begins, IsLegalJournal}
 use Rattle.agent_core.specs.Asked.{Unanswered}
 use Rattle.agent_core.proofs.Onward.{stands_on, granted_stays, denied_stays, told_stays}
-use Rattle.taos_monitor.specs.Cells.{ObjectPlan, Node, Journals, Place, AreLegal, Extends}
-use Rattle.taos_monitor.specs.Credentials.{LinkCall}
-use Rattle.taos_monitor.specs.Course.{IsRuled, full, replayed, channel_full, denied, granted, unanswered, Course, malformed, unknown_channel, bad_seal, unbuilt, cert_refused, relay_failed, unknown_object, ruled, unread, unopened}
+use Rattle.taos_monitor.specs.Cells.{ObjectPlan, Node}
+use Rattle.taos_monitor.specs.Course.{IsRuled, full, replayed, channel_full, denied, granted, unanswered, malformed, unknown_channel, bad_seal, unbuilt, cert_refused, relay_failed, unknown_object, ruled, unread, unopened}
 use Rattle.taos_monitor.specs.Laws.{CourseStays}
 
 last_of : (e : Entry) (es : List Entry) → (before : List Entry) × (last : Entry) × (e ∷ es ≡ before ++ last ∷ [])

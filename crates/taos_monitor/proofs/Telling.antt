@@ -1,8 +1,5 @@
 -- What comes of an ask, by the reply that tells it.
-use Rattle.std.proofs.Common.{◌≡◌, ◌⊎◌, ℕ, List, [], ◌∷◌, refl, sym, ap, subst, ◌∙◌, inl, inr}
-use Rattle.std.specs.Arc.{arc_value}
-use Rattle.proof_cache.specs.Cached.{cached}
-use Rattle.proof_cache.specs.declared.cached.Cached.{Cached as CachedValue}
+use Rattle.std.proofs.Common.{◌≡◌, ℕ, List, [], ◌∷◌, refl, sym, ap, subst, ◌∙◌, inl, inr}
 use Rattle.taos_wire.specs.Reply as replies
 use Rattle.taos_wire.specs.Reply.{Reply}
 use Rattle.agent_core.specs.declared.asked.Verdict.{Verdict}

@@ -7,4 +7,6 @@ pub mod Arriving
 pub mod Ruling
 pub mod Handling
 pub mod Run
+pub mod Connection
+pub mod Serving
 pub mod Laws

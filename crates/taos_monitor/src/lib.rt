@@ -3,6 +3,7 @@
 
 mod answering;
 mod arrival;
+mod connection;
 mod handling;
 mod laws;
 mod node_keys;
@@ -13,6 +14,7 @@ mod ruling;
 mod shelf;
 
 pub use answering::answer;
+pub use connection::{MAX_REQUEST, serve_connection};
 pub use handling::{Handled, request};
 pub use laws::{courses_stay, going_on_goes_on, one_more_is_answered, what_is_answered_stays};
 pub use node_keys::NodeKeys;

@@ -1,5 +1,5 @@
 -- What a sealed request comes to.
-use Rattle.std.proofs.Common.{List, ℕ, [], arith, length, map, refl, sym, ap, subst, ◌∙◌, Global}
+use Rattle.std.proofs.Common.{List, ℕ, [], arith, map, ap, subst, ◌∙◌, Global}
 use Rattle.std.specs.Prelude.{Vec}
 use Rattle.std.proofs.lemmas.List.{length-map}
 use Rattle.std.proofs.lemmas.Result.{err_from_is_err_and}

@@ -1,5 +1,5 @@
 -- one call of the link
-use Rattle.std.proofs.Common.{ℕ, List, Ok, refl, sym, subst, ◌∙◌}
+use Rattle.std.proofs.Common.{ℕ, List, Ok, refl, sym, subst}
 use Rattle.frame_link.specs.declared.outside.Failed.{Failed}
 use Rattle.frame_link.specs.declared.outside.RelayAnswer.{RelayAnswer}
 use Rattle.frame_link.specs.Relay.{AnswersAs}

@@ -1,15 +1,12 @@
 -- the ask that is made stands for what came
-use Rattle.std.proofs.Common.{◌≡◌, ℕ, List, Some, slice_get, refl, sym, ap, subst, ◌∙◌, inl}
-use Rattle.std.proofs.lemmas.Result.{err_from_is_err_and}
-use Rattle.std.specs.Arc.{arc_value}
+use Rattle.std.proofs.Common.{refl, ap, subst, ◌∙◌, inl}
 use Rattle.taos_wire.specs.View.{request}
-use Rattle.agent_core.specs.State.{Plan, Ask, Asks}
+use Rattle.agent_core.specs.State.{Ask}
 use Rattle.agent_core.specs.Plans.{home}
-use Rattle.agent_core.specs.Journals.{Entry, IsMeant}
-use Rattle.agent_core.specs.Asked.{AskEnds, FitsAsk, Unanswered}
+use Rattle.agent_core.specs.Asked.{AskEnds, Unanswered}
 use Rattle.agent_core.proofs.Asks.{on_err, standing}
 use Rattle.taos_monitor.specs.Ruling.{ask_seen}
-use Rattle.taos_monitor.proofs.AtHome.{is_meant, fits_ask, IsAskedAs, IsLackedAs, asked_at, not_yet}
+use Rattle.taos_monitor.proofs.AtHome.{IsAskedAs, IsLackedAs, asked_at, not_yet}
 use Rattle.taos_monitor.proofs.Presenting.{err_on, on_ok}
 use Rattle.taos_monitor.proofs.ruling.ask_at_home.Goals as goal
 

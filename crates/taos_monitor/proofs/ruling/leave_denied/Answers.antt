@@ -7,7 +7,7 @@ use Rattle.std.specs.Prelude.{Vec}
 use Rattle.std.specs.Option.{option_map}
 use Rattle.prin_term.specs.declared.term.Entry.{Entry}
 use Rattle.prin_term.specs.declared.limits.TheConstants.{ENTRY_NODES}
-use Rattle.prin_term.specs.View.{Grant, grant, principal}
+use Rattle.prin_term.specs.View.{grant, principal}
 use Rattle.taos_calculus.proofs.Induction.{All-at}
 use Rattle.object_core.specs.Operation.{FitsGrant}
 use Rattle.denial_link.proofs.Places.{entry_at}
