@@ -1,0 +1,16 @@
+mod Bodies
+mod Opening
+mod Presenting
+mod Arriving
+mod Going
+mod Parts
+mod Telling
+mod AtHome
+mod Courses
+mod Staying
+mod Running
+mod Payloads
+mod Steps
+mod Complete
+mod Connections
+mod Turning

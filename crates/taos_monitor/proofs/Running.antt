@@ -1,0 +1,44 @@
+-- What is answered stays so, and one frame more.
+use Rattle.std.proofs.Common.{◌≡◌, ℕ, List, [], ◌∷◌, ◌++◌, All, sym, ap, ◌∙◌, append-nil}
+use Rattle.std.specs.List.{flat_map}
+use Rattle.std.proofs.lemmas.List.{map_push}
+use Rattle.std.proofs.lemmas.Grind.{flat_map-append}
+use Rattle.std.proofs.lemmas.List.Concat.{flat_map-cons}
+use Rattle.std.proofs.lemmas.List.Elements.{All-nil, All-cons, All-append}
+use Rattle.taos_wire.specs.Reply.{spelling}
+use Rattle.taos_monitor.specs.Cells.{Node, Journals, Place, AreLegal, Extends}
+use Rattle.taos_monitor.specs.Credentials.{LinkCall}
+use Rattle.taos_monitor.specs.Run.{Turn, IsCourse}
+use Rattle.taos_monitor.specs.Laws.{AnsweredStays, AnswersMore}
+use Rattle.taos_monitor.proofs.Staying.{course_stays}
+
+pub all_stay : (n : Node) (J K : Journals) → Extends J K → AreLegal n K → (turns : List Turn) → All (IsCourse n J) turns → All (IsCourse n K) turns
+all_stay n J K goes legal turns all = λ k d lt. course_stays n J K goes legal _ _ _ _ _ (all k d lt)
+
+pub answered_stays : (n : Node) → AnsweredStays n
+answered_stays n J K goes legal own frames replies outcome readings calls a = record {
+  turns = a.turns;
+  courses = all_stay n J K goes legal a.turns a.courses;
+  in_order = a.in_order;
+  read = a.read;
+  owned = a.owned;
+  ascending = a.ascending;
+  replies_are = a.replies_are;
+}
+
+pub flat_push : {X Y : Type 0} (f : X → List Y) (xs : List X) (x : X) → flat_map f (xs ++ x ∷ []) ≡ flat_map f xs ++ f x
+flat_push f xs x = flat_map-append f xs (x ∷ []) ∙ ap (λ l. flat_map f xs ++ l) (flat_map-cons f x [] ∙ append-nil (f x))
+
+pub answers_more : (n : Node) → AnswersMore n
+answers_more n J K goes legal own frames replies count readings calls a t course ascending = record {
+  turns = a.turns ++ t ∷ [];
+  courses = All-append (IsCourse n K) a.turns (t ∷ []) (all_stay n J K goes legal a.turns a.courses) (All-cons (IsCourse n K) t [] course (All-nil (IsCourse n K)));
+  in_order = (
+    ap (λ (l : List (List ℕ)). l ++ t.frame ∷ []) a.in_order.0 ∙ sym (map_push (λ (u : Turn). u.frame) a.turns t),
+    ap (λ (l : List LinkCall). l ++ t.calls) a.in_order.1 ∙ sym (flat_push (λ (u : Turn). u.calls) a.turns t),
+  );
+  read = ap (λ (l : List ℕ). l ++ t.readings) a.read ∙ sym (flat_push (λ (u : Turn). u.readings) a.turns t);
+  owned = ap (λ (l : List Place). l ++ t.places) a.owned ∙ sym (flat_push (λ (u : Turn). u.places) a.turns t);
+  ascending = ascending;
+  replies_are = ap (λ (l : List (List ℕ)). l ++ spelling t.sent ∷ []) a.replies_are ∙ sym (map_push (λ (u : Turn). spelling u.sent) a.turns t);
+}

@@ -1,0 +1,67 @@
+-- What is promised of the way to the object.
+--     node_of keys plans objects      the node of these keys, plans and objects
+--     object_seen number s      the object that is shown
+--     StandsFor r a      what came stands for what is asked
+--     IsAskedBy, IsNotAsked keys payload ..      the payload is the request, under its seal; or a course ends there
+--     Arrives, NotArrives keys objects says before now r ..      the request came to its object; or a course ends before it, as the refusal says
+use Rattle.std.specs.Prelude.{◌≡◌, ℕ, ◌≤◌, List, [], length, map, Option}
+use Rattle.std.specs.Arc.{arc_value}
+use Rattle.object_core.specs.Operation.{right_of, IsAccessList, IsContent}
+use Rattle.prin_term.specs.View.{grant, principal}
+use Rattle.frame_link.specs.Relay.{Said}
+use Rattle.taos_wire.specs.Request.{Request, subject_of}
+use Rattle.taos_wire.specs.Reply.{sealed, unsealed}
+use Rattle.taos_wire.specs.View.{cited as shared}
+use Rattle.agent_core.specs.State.{Plan}
+use Rattle.taos_monitor.specs.declared.arrival.Arrived.{Arrived}
+use Rattle.taos_monitor.specs.declared.node_keys.NodeKeys.{NodeKeys}
+use Rattle.taos_monitor.specs.declared.refusal.Refusal.{Refusal}
+use Rattle.taos_monitor.specs.declared.shelf.Shown.{Shown}
+use Rattle.taos_monitor.specs.Cells.{Journals, Node, ObjectPlan}
+use Rattle.taos_monitor.specs.Credentials.{LinkCall, IsLinked}
+use Rattle.taos_monitor.specs.Course.{IsAsked, HasArrived, Course}
+use Rattle.taos_monitor.specs.Refusals.{refusal}
+
+abbrev pub node_of : NodeKeys → List Plan → List ObjectPlan → Node
+node_of keys plans objects = record {
+  number = keys.node;
+  relay_key = keys.relay_key;
+  channels = keys.channels.entries;
+  plans = plans;
+  objects = objects;
+}
+
+abbrev pub object_seen : ℕ → Shown → ObjectPlan
+object_seen number s = record { number = number; content = s.content.now; list = map grant (arc_value s.list.now).items }
+
+-- what came stands for what is asked, and is within the limits
+pub record StandsFor (r : Request) (a : Arrived) : Type 0 where
+  pub subject : principal a.subject ≡ subject_of r
+  pub right : a.right ≡ right_of r.op
+  pub few_certs : length a.certs.items ≤ 16
+  pub content : IsContent (object_seen r.object a.shown).content
+  pub list : IsAccessList (object_seen r.object a.shown).list
+
+-- the payload is the request, under the seal of its channel's key, however the cells are opened; or a course ends there, without a seal
+pub record IsAskedBy (keys : NodeKeys) (payload : List ℕ) (r : Request) : Type 0 where
+  pub key : List ℕ
+  pub asked : (plans : List Plan) (objects : List ObjectPlan) → IsAsked (node_of keys plans objects) payload r key
+
+abbrev pub IsNotAsked : NodeKeys → List ℕ → Refusal → Type 0
+IsNotAsked keys payload f =
+    (plans : List Plan) (objects : List ObjectPlan) (J : Journals) → Course (node_of keys plans objects) J payload [] [] [] (unsealed (refusal f))
+
+module _ (keys : NodeKeys) (objects : List ObjectPlan) (says : Option (ℕ → List ℕ → Said)) (before now : ℕ) (r : Request) where
+  -- whichever payload under its channel's seal it was, and however the shards are opened
+  pub record Arrives (a : Arrived) : Type 0 where
+    pub calls : List LinkCall
+    pub linked : IsLinked says keys.node before now calls
+    pub arrived : (plans : List Plan) (payload key : List ℕ) → IsAsked (node_of keys plans objects) payload r key →
+        HasArrived (node_of keys plans objects) payload r key calls (map shared a.certs.items) (object_seen r.object a.shown)
+    pub stands : StandsFor r a
+
+  pub record NotArrives (f : Refusal) : Type 0 where
+    pub calls : List LinkCall
+    pub linked : IsLinked says keys.node before now calls
+    pub course : (plans : List Plan) (J : Journals) (payload key : List ℕ) → IsAsked (node_of keys plans objects) payload r key →
+        Course (node_of keys plans objects) J payload [] calls [] (sealed key r (refusal f))

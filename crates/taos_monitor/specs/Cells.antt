@@ -1,0 +1,100 @@
+-- A node and its cells: what it is opened with, what stands in the journals of its shards, and the places of entries there.
+--     ObjectPlan, object_of objects number      an object, and the one of a number
+--     Node      the keys of a node, and what its cells are opened with
+--     home n channel, HasPlan n shard plan      the shard of a channel; what a shard is opened with
+--     Journals, Cell, Place      what stands in each cell; a cell; an entry, by its cell and its number in the journal there
+--     AreLegal n J      each journal is legal
+--     Extends J K      each journal of K begins with that of J
+--     Seen      the journals as they were seen, and the own places in each
+--     IsAfter p q      an earlier own place and a later one
+--     GoesOn alone old new places      the journals went on, and these places are new own ones
+use Rattle.std.specs.Prelude.{◌≡◌, ℕ, ◌+◌, ◌<◌, ◌≤◌, ◌==◌, if◌then◌else◌, Bool, true, List, ◌++◌, length, find, filter_map, Option, Some, None, slice_get, All, AllPairs}
+use Rattle.keyed_seal.specs.Keys.{Entries}
+use Rattle.prin_term.specs.View.{Grant}
+use Rattle.agent_core.specs.State.{Plan}
+use Rattle.agent_core.specs.Plans.{home as home_among}
+use Rattle.agent_core.specs.Journals.{Entry, Begins, IsLegalJournal}
+
+pub record ObjectPlan : Type 0 where
+  pub number : ℕ
+  pub content : List ℕ
+  pub list : List Grant
+
+abbrev pub object_of : List ObjectPlan → ℕ → Option ObjectPlan
+object_of objects number = find (λ (p : ObjectPlan). p.number == number) objects
+
+-- its number, the key that it shares with its relay, and those of its channels; the shard of number i has plan i
+pub record Node : Type 0 where
+  pub number : ℕ
+  pub relay_key : List ℕ
+  pub channels : Entries
+  pub plans : List Plan
+  pub objects : List ObjectPlan
+
+abbrev pub home : Node → ℕ → ℕ
+home n channel = home_among n.plans channel
+
+abbrev pub HasPlan : Node → ℕ → Plan → Type 0
+HasPlan n shard plan = slice_get n.plans shard ≡ Some plan
+
+-- ---- journals
+
+pub record Journals : Type 0 where
+  pub shards : ℕ → List Entry
+
+pub data Cell : Type 0 where
+  OfShard : ℕ → Cell
+
+pub record Place : Type 0 where
+  pub cell : Cell
+  pub number : ℕ
+
+abbrev pub in_shard : ℕ → ℕ → Place
+in_shard shard number = record { cell = OfShard shard; number = number }
+
+-- the journal of a cell has so many entries
+abbrev pub entries_in : Journals → Cell → ℕ
+entries_in J (OfShard s) = length (J.shards s)
+
+abbrev pub AreLegal : Node → Journals → Type 0
+AreLegal n J = (s : ℕ) (plan : Plan) → HasPlan n s plan → IsLegalJournal plan (J.shards s)
+
+abbrev pub Extends : Journals → Journals → Type 0
+Extends J K = (s : ℕ) → Begins (J.shards s) (K.shards s)
+
+-- ---- what is seen
+
+pub record Seen : Type 0 where
+  pub journals : Journals
+  pub own : Cell → List ℕ
+
+abbrev pub is_cell : Cell → Cell → Bool
+is_cell (OfShard s) (OfShard t) = s == t
+
+-- the number of a place, where it is in the cell
+abbrev pub number_in : Cell → Place → Option ℕ
+number_in cell p = if is_cell cell p.cell then Some p.number else None
+
+abbrev pub numbers_in : Cell → List Place → List ℕ
+numbers_in cell places = filter_map (number_in cell) places
+
+-- an earlier own place of a cell stands before a later one
+abbrev pub IsAfter : Place → Place → Type 0
+IsAfter p q = p.cell ≡ q.cell → p.number < q.number
+
+-- they are behind what was seen, ascend in each cell, and are all that came, where nobody else steps the cells
+pub record GoesOn (alone : Bool) (old new : Seen) (places : List Place) : Type 0 where
+  pub goes_on : Extends old.journals new.journals
+  pub owned : (cell : Cell) → new.own cell ≡ old.own cell ++ numbers_in cell places
+  pub new_places : All (λ (p : Place). entries_in old.journals p.cell ≤ p.number) places
+  pub there : All (λ (p : Place). p.number < entries_in new.journals p.cell) places
+  pub ascending : AllPairs IsAfter places
+  pub undisturbed : alone ≡ true → (cell : Cell) →
+      entries_in new.journals cell ≡ entries_in old.journals cell + length (numbers_in cell places)
+
+abbrev pub own_of : (ℕ → List ℕ) → Cell → List ℕ
+own_of own (OfShard s) = own s
+
+-- by what was seen of each shard, and the own places in it
+abbrev pub seen_of : (ℕ → List Entry) → (ℕ → List ℕ) → Seen
+seen_of seen own = record { journals = record { shards = seen }; own = own_of own }

@@ -1,0 +1,130 @@
+-- The course of a request: from its payload to its reply, one case for each way that it may end. What is held, and where the
+-- entries stand, is read off the journals of the shards.
+--     IsUnbuilt r      no answer to it is built yet
+--     IsAsked, IsBuilt, IsOpened, HasArrived n payload ..      a request under its channel's seal; one that is built; one whose certificates open; one that came to its object
+--     Arrival n payload      the last of these, whatever the request
+--     ask_of r certs object reading      the ask that a request makes
+--     IsRuled plan journal shard a object own reply      what comes of the ask
+--     Tells list denial told      what a denial tells: a part of an entry by itself
+--     Course n J payload readings calls places sent      the whole: with the readings of the clock, the answers of the link and the own places that it used
+use Rattle.std.specs.Prelude.{◌≡◌, ◌≢◌, ℕ, false, List, [], ◌∷◌, length, map, Err, None, Some, slice_get}
+use Rattle.keyed_seal.specs.Keys.{key_of}
+use Rattle.object_core.specs.Operation.{Read, right_of}
+use Rattle.prin_term.specs.Principal.{Principal, subterms}
+use Rattle.prin_term.specs.View.{Grant}
+use Rattle.proof_cache.specs.Cached.{Cached}
+use Rattle.stmt_codec.specs.Certificates.{Certificate}
+use Rattle.taos_wire.specs.declared.fault.WireFault.TheVariants as wire
+use Rattle.taos_wire.specs.Request.{Request, Spells, IsSealed, subject_of}
+use Rattle.taos_wire.specs.RequestReading.{request_of}
+use Rattle.taos_wire.specs.Reply as replies
+use Rattle.taos_wire.specs.Reply.{Reply, LinkSent, Sent, sealed, unsealed}
+use Rattle.agent_core.specs.declared.told.Told.{Told}
+use Rattle.agent_core.specs.declared.asked.Denial.{Denial}
+use Rattle.agent_core.specs.declared.asked.Denial.TheVariants as denials
+use Rattle.agent_core.specs.State.{Plan, Ask}
+use Rattle.agent_core.specs.Journals.{Entry}
+use Rattle.agent_core.specs.Asked.{IsGrantedAt, IsDeniedAt, IsTold, Unanswered}
+use Rattle.taos_monitor.specs.Cells.{ObjectPlan, object_of, Node, home, HasPlan, Journals, Place, in_shard}
+use Rattle.taos_monitor.specs.Credentials.{LinkCall, AreOpened, IsFirstRefused, IsFirstFailed, IsInterrupted}
+
+-- its operation is not Read
+abbrev pub IsUnbuilt : Request → Type 0
+IsUnbuilt r = r.op ≢ Read
+
+abbrev pub Tells : List Grant → Denial → LinkSent → Type 0
+Tells list (denials.Expired entry digest) told = told ≡ replies.Expired entry digest
+Tells list (denials.Missing entry node) told =
+    (g : Grant) × (part : Principal) × (slice_get list entry ≡ Some g) × (slice_get (subterms g.who) node ≡ Some part) × (told ≡ replies.Missing entry part)
+Tells list denials.NoEntry told = told ≡ replies.NoEntry
+
+-- a journal that stands at its limit, by the mark of its sort, its number and its length
+abbrev pub shard_full : ℕ → ℕ → Reply
+shard_full shard limit = replies.JournalFull 1 shard limit
+
+abbrev pub ask_of : Request → List Certificate → ObjectPlan → ℕ → Ask
+ask_of r certs object reading = record {
+  channel = r.channel;
+  seq = r.seq;
+  reading = reading;
+  subject = subject_of r;
+  list = object.list;
+  right = right_of r.op;
+  presented = certs;
+}
+
+-- What comes of an ask at the shard of its channel: the own places there, and the reply. Once the Ask stands, want of memory is
+-- answered only where it is granted.
+pub data IsRuled (plan : Plan) (journal : List Entry) (shard : ℕ) (a : Ask) (object : ObjectPlan) : List ℕ → Reply → Type 0 where
+  full : length journal ≡ plan.limit → IsRuled plan journal shard a object [] (shard_full shard plan.limit)
+  replayed : {place last : ℕ} → IsTold plan journal a place (Told.Replayed last) → IsRuled plan journal shard a object (place ∷ []) (replies.Replayed last)
+  channel_full : {place held : ℕ} → IsTold plan journal a place (Told.Full held) → IsRuled plan journal shard a object (place ∷ []) (replies.ChannelFull held)
+  denied : {place : ℕ} {denial : Denial} {told : LinkSent} → IsDeniedAt plan journal a place denial → Tells object.list denial told →
+      IsRuled plan journal shard a object (place ∷ []) (replies.Denied shard place told)
+  granted : {place entry : ℕ} {c : Cached} → IsGrantedAt plan journal a place entry c →
+      IsRuled plan journal shard a object (place ∷ []) (replies.Granted false entry shard place c.proof c.cites object.content)
+  unanswered : {own : List ℕ} → Unanswered plan journal a own → IsRuled plan journal shard a object own replies.NoMemory
+
+module _ (n : Node) where
+  -- the payload is this request, under the seal of its channel's key
+  pub record IsAsked (payload : List ℕ) (r : Request) (key : List ℕ) : Type 0 where
+    pub spelled : Spells r payload
+    pub keyed : key_of n.channels r.channel ≡ Some key
+    pub seal : IsSealed key payload
+
+  pub record IsBuilt (payload : List ℕ) (r : Request) (key : List ℕ) : Type 0 where
+    pub asked : IsAsked payload r key
+    pub built : IsUnbuilt r → ⊥
+
+  pub record IsOpened (payload : List ℕ) (r : Request) (key : List ℕ) (calls : List LinkCall) (certs : List Certificate) : Type 0 where
+    pub taken : IsBuilt payload r key
+    pub opened : AreOpened n.relay_key r.certs calls certs
+
+  pub record HasArrived (payload : List ℕ) (r : Request) (key : List ℕ) (calls : List LinkCall) (certs : List Certificate) (object : ObjectPlan) : Type 0 where
+    pub presented : IsOpened payload r key calls certs
+    pub there : object_of n.objects r.object ≡ Some object
+
+  -- a request that came to its object; the clock is read next
+  pub record Arrival (payload : List ℕ) : Type 0 where
+    pub request : Request
+    pub key : List ℕ
+    pub calls : List LinkCall
+    pub certs : List Certificate
+    pub object : ObjectPlan
+    pub arrived : HasArrived payload request key calls certs object
+
+  abbrev pub answering : {payload : List ℕ} → Arrival payload → Reply → Sent
+  answering t reply = sealed t.key t.request reply
+
+  -- the shard of its channel, and the ask that it makes there
+  abbrev pub its_home : {payload : List ℕ} → Arrival payload → ℕ
+  its_home t = home n t.request.channel
+
+  abbrev pub its_ask : {payload : List ℕ} → Arrival payload → ℕ → Ask
+  its_ask t reading = ask_of t.request t.certs t.object reading
+
+  -- Want of memory may be answered to any request, under a seal only where the request's own was right.
+  pub data Course (J : Journals) (payload : List ℕ) : List ℕ → List LinkCall → List Place → Sent → Type 0 where
+    malformed : {offset : ℕ} → ((r : Request) → Spells r payload → ⊥) → request_of payload ≡ Err (wire.Malformed offset) →
+        Course J payload [] [] [] (unsealed (replies.Malformed offset))
+    unknown_channel : (r : Request) → Spells r payload → key_of n.channels r.channel ≡ None →
+        Course J payload [] [] [] (unsealed (replies.UnknownChannel r.channel))
+    bad_seal : (r : Request) (key : List ℕ) → Spells r payload → key_of n.channels r.channel ≡ Some key → (IsSealed key payload → ⊥) →
+        Course J payload [] [] [] (unsealed replies.BadSeal)
+    unbuilt : {r : Request} {key : List ℕ} → IsAsked payload r key → IsUnbuilt r →
+        Course J payload [] [] [] (sealed key r replies.Unbuilt)
+    cert_refused : {r : Request} {key : List ℕ} {calls : List LinkCall} {index code : ℕ} → IsBuilt payload r key →
+        IsFirstRefused n.relay_key r.certs calls index code →
+        Course J payload [] calls [] (sealed key r (replies.CertRefused index code))
+    relay_failed : {r : Request} {key : List ℕ} {calls : List LinkCall} {index : ℕ} → IsBuilt payload r key →
+        IsFirstFailed n.relay_key r.certs calls index →
+        Course J payload [] calls [] (sealed key r (replies.RelayFailed index))
+    unknown_object : {r : Request} {key : List ℕ} {calls : List LinkCall} {certs : List Certificate} → IsOpened payload r key calls certs →
+        object_of n.objects r.object ≡ None →
+        Course J payload [] calls [] (sealed key r (replies.UnknownObject r.object))
+    ruled : {own : List ℕ} {reply : Reply} (t : Arrival payload) (reading : ℕ) (plan : Plan) → HasPlan n (its_home t) plan →
+        IsRuled plan (J.shards (its_home t)) (its_home t) (its_ask t reading) t.object own reply →
+        Course J payload (reading ∷ []) t.calls (map (in_shard (its_home t)) own) (answering t reply)
+    unread : Course J payload [] [] [] (unsealed replies.NoMemory)
+    unopened : {r : Request} {key : List ℕ} {calls : List LinkCall} → IsBuilt payload r key → IsInterrupted n.relay_key r.certs calls →
+        Course J payload [] calls [] (sealed key r replies.NoMemory)

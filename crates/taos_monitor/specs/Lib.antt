@@ -1,0 +1,12 @@
+pub mod Cells
+pub mod Credentials
+pub mod Refusals
+pub mod Presenting
+pub mod Course
+pub mod Arriving
+pub mod Ruling
+pub mod Handling
+pub mod Run
+pub mod Connection
+pub mod Serving
+pub mod Laws

@@ -1,0 +1,92 @@
+//! The course of one payload.
+
+ghost use Rattle.std.specs.Prelude.{◌≡◌, ◌≤◌, ℕ, Contains, IfErr, IfOk, IsSome, Some, length, slice_get};
+ghost use Rattle.keyed_seal.specs.Keys.{key_of};
+ghost use Rattle.agent_core.specs.Plans.{home};
+ghost use Rattle.agent_core.specs.State.{Plan};
+ghost use Rattle.taos_wire.specs.View.{request as request_of};
+ghost use Rattle.taos_monitor.specs.Arriving.{IsAskedBy, IsNotAsked, node_of};
+ghost use Rattle.taos_monitor.specs.Cells.{seen_of};
+ghost use Rattle.taos_monitor.specs.Handling.{Answers, HandlesCause};
+
+use crate::handling::{Handled, request};
+use crate::node_keys::NodeKeys;
+use crate::refusal::Refusal;
+use crate::reply::ReplyBuf;
+use crate::shelf::Shelf;
+use agent_core::{Gate, Shards};
+use frame_link::{Clock, RelayLink};
+use std::alloc::Global;
+use std::sync::Wait;
+use taos_calculus::Decide;
+use taos_wire::{Request, WireFault, read_request, sealed_with};
+
+// The request that a payload is, under the seal of its channel's key; or what is answered without a seal.
+fn asked_of(alloc: Global, keys: &NodeKeys, payload: &[u8]) -> Result<Request, Refusal>
+    requires { length payload.now ≤ 65536 }
+    ensures asked { IfOk result (λ r. IsAskedBy keys.now payload.now (request_of r)) }
+    ensures refused { IfErr result (IsNotAsked keys.now payload.now) }
+{
+    let asked = match read_request(alloc, payload) {
+        Ok(asked) => asked,
+        Err(WireFault::Malformed { offset }) => {
+            return Err(Refusal::Malformed {
+                offset: offset as u32,
+            });
+        }
+        Err(WireFault::NoMemory) => return Err(Refusal::NoMemory),
+    };
+    let Some(sealer) = keys.channels.sealer(asked.channel) else {
+        return Err(Refusal::UnknownChannel {
+            number: asked.channel,
+        });
+    };
+    if !sealed_with(sealer, payload) {
+        return Err(Refusal::BadSeal);
+    }
+    Ok(asked)
+}
+
+/// Answers one request from its payload to its reply, which is left in the buffer: under the channel's
+/// seal, but where the payload is no request, or not under that seal.
+pub fn answer<W: Wait + Sync, H: Shelf, S: Shards, R: RelayLink, C: Clock, D: Decide, G: Gate>(
+    rt: &W,
+    alloc: Global,
+    keys: &NodeKeys,
+    shelf: &H,
+    shards: &mut S,
+    relay: &mut R,
+    clock: &mut C,
+    bench: &mut D,
+    gate: &mut G,
+    payload: &[u8],
+    out: &mut ReplyBuf,
+) -> Handled
+    requires short { length payload.now ≤ 65536 }
+    requires planned { (channel : ℕ) (plan : Plan) → IsSome (key_of keys.now.channels.entries channel)
+        → slice_get (S.plans shards.old) (home (S.plans shards.old) channel) ≡ Some plan
+        → Contains plan.channels channel }
+    ensures answered { Answers (node_of keys.now (S.plans shards.old) (H.objects shelf.now))
+        (S.alone shards.old) (seen_of (S.seen shards.old) (S.own shards.old))
+        (seen_of (S.seen shards.new) (S.own shards.new))
+        (R.says relay.old) (R.faults relay.old) (R.faults relay.new)
+        (C.readings clock.old) (C.readings clock.new) payload.now out.new result }
+    ensures cause { HandlesCause (C.faults clock.old) (C.faults clock.new) result }
+
+    // What nobody changes.
+    ensures plans { S.plans shards.new ≡ S.plans shards.old }
+    ensures alone { S.alone shards.new ≡ S.alone shards.old }
+    ensures says { R.says relay.new ≡ R.says relay.old }
+{
+    // It says that what was seen is legal.
+    let _count = shards.count();
+    match asked_of(alloc, keys, payload) {
+        Ok(asked) => request(
+            rt, alloc, keys, shelf, shards, relay, clock, bench, gate, &asked, out,
+        ),
+        Err(why) => {
+            out.leave_unsealed(why);
+            Handled::Replied
+        }
+    }
+}

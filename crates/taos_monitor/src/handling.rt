@@ -1,0 +1,83 @@
+//! The course of one request, from where it was read on.
+
+ghost use Rattle.std.specs.Prelude.{◌≡◌, ◌≤◌, Contains, IsSome, Some, length, slice_get, All};
+ghost use Rattle.keyed_seal.specs.Keys.{key_of};
+ghost use Rattle.agent_core.specs.Plans.{home};
+ghost use Rattle.agent_core.specs.State.{Plan};
+ghost use Rattle.taos_wire.specs.Request.{FitsRequest};
+ghost use Rattle.taos_wire.specs.View.{request as request_of};
+ghost use Rattle.taos_monitor.specs.Arriving.{node_of};
+ghost use Rattle.taos_monitor.specs.Cells.{seen_of};
+ghost use Rattle.taos_monitor.specs.Handling.{Handles, HandlesCause};
+
+use crate::arrival::arrive;
+use crate::node_keys::NodeKeys;
+use crate::reply::ReplyBuf;
+use crate::ruling::rule;
+use crate::shelf::Shelf;
+use agent_core::{Gate, Shards};
+use frame_link::{Clock, RelayLink};
+use std::alloc::Global;
+use std::sync::Wait;
+use taos_calculus::Decide;
+use taos_wire::Request;
+
+/// How the handling of a request ended.
+#[derive(Clone, Copy, Debug, PartialEq, Eq)]
+pub enum Handled {
+    /// The reply was left.
+    Replied,
+    /// The clock failed, before any shard was stepped.
+    ClockFault,
+}
+
+/// Handles one request, which was found to be under the seal of its channel's key, and leaves the sealed
+/// reply in the buffer. The moment is the clock's reading, or what the shard's clock had come to.
+pub fn request<W: Wait + Sync, H: Shelf, S: Shards, R: RelayLink, C: Clock, D: Decide, G: Gate>(
+    rt: &W,
+    alloc: Global,
+    keys: &NodeKeys,
+    shelf: &H,
+    shards: &mut S,
+    relay: &mut R,
+    clock: &mut C,
+    bench: &mut D,
+    gate: &mut G,
+    asked: &Request,
+    out: &mut ReplyBuf,
+) -> Handled
+    requires limits { FitsRequest (request_of asked.now) }
+    requires short { All (λ t. length t ≤ 65531) (request_of asked.now).certs }
+    requires keyed { IsSome (key_of keys.now.channels.entries asked.now.channel) }
+    requires planned { (plan : Plan)
+        → slice_get (S.plans shards.old) (home (S.plans shards.old) asked.now.channel) ≡ Some plan
+        → Contains plan.channels asked.now.channel }
+    ensures handled { Handles (node_of keys.now (S.plans shards.old) (H.objects shelf.now))
+        (S.alone shards.old) (seen_of (S.seen shards.old) (S.own shards.old))
+        (seen_of (S.seen shards.new) (S.own shards.new))
+        (R.says relay.old) (R.faults relay.old) (R.faults relay.new)
+        (C.readings clock.old) (C.readings clock.new) (request_of asked.now) out.new result }
+    ensures cause { HandlesCause (C.faults clock.old) (C.faults clock.new) result }
+
+    // What nobody changes.
+    ensures plans { S.plans shards.new ≡ S.plans shards.old }
+    ensures alone { S.alone shards.new ≡ S.alone shards.old }
+    ensures says { R.says relay.new ≡ R.says relay.old }
+{
+    let sealer = keys.channels.sealer(asked.channel).unwrap();
+    let shard = asked.channel % shards.count();
+    let arrived = match arrive(alloc, keys, shelf, relay, asked) {
+        Ok(arrived) => arrived,
+        Err(why) => {
+            out.leave_refused(sealer, asked.channel, asked.seq, why);
+            return Handled::Replied;
+        }
+    };
+    let Ok(reading) = clock.now() else {
+        return Handled::ClockFault;
+    };
+    rule(
+        rt, alloc, shards, bench, gate, shard, sealer, asked, arrived, reading, out,
+    );
+    Handled::Replied
+}

@@ -1,0 +1,24 @@
+//! The reference monitor: the course of one request, from its bytes to the sealed reply.
+#![tactic(auto)]
+
+mod answering;
+mod arrival;
+mod connection;
+mod handling;
+mod laws;
+mod node_keys;
+mod presented;
+mod refusal;
+mod reply;
+mod ruling;
+mod shelf;
+
+pub use answering::answer;
+pub use connection::{MAX_REQUEST, serve_connection};
+pub use handling::{Handled, request};
+pub use laws::{courses_stay, going_on_goes_on, one_more_is_answered, what_is_answered_stays};
+pub use node_keys::NodeKeys;
+pub use presented::BAD_RESEAL;
+pub use refusal::Refusal;
+pub use reply::{REPLY_ROOM, ReplyBuf};
+pub use shelf::{Shelf, Shown};

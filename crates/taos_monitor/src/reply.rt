@@ -1,0 +1,156 @@
+//! Room for a reply.
+
+ghost use Rattle.std.specs.Prelude.{◌≡◌, ◌<◌, ◌≤◌, ◌^◌, ◌⊎◌, [], Some, length, map, IfOk, false};
+ghost use Rattle.std.specs.Option.{option_copied};
+ghost use Rattle.taos_calculus.specs.Tables.{lines_of};
+ghost use Rattle.prin_term.specs.Refusal.{FitsLimits};
+ghost use Rattle.prin_term.specs.View.{principal};
+ghost use Rattle.taos_wire.specs.Reply.{Denied, FitsReply, Granted, Missing, NoMemory, sent, spelling, status_of, unsealed};
+ghost use Rattle.taos_wire.specs.View.{reply, cited as cited_of};
+ghost use Rattle.taos_monitor.specs.Refusals.{refusal};
+
+use crate::refusal::{Refusal, reply_of};
+use keyed_seal::Sealer;
+use prin_term::{ENTRY_NODES, Term};
+use std::alloc::{AllocError, Global};
+use std::marker::Model;
+use std::sync::Arc;
+use stmt_codec::Cert;
+use taos_calculus::Proof;
+use taos_wire::{MAX_CITED, Reply, write_granted_with, write_missing_with, write_reply_with};
+
+/// Every reply but a grant fits this many bytes.
+pub const REPLY_ROOM: usize = 256;
+
+/// Room for one reply, which is taken once. A contract sees the reply that was left there last.
+#[derive(Drop)]
+pub struct ReplyBuf {
+    bytes: Vec<u8>,
+}
+
+impl Model for ReplyBuf {
+    ghost use Rattle.std.specs.Prelude.{◌≤◌, vec_capacity, List, ℕ};
+
+    ghost Value = { List ℕ };
+
+    ghost view = { λ b. b.bytes.items };
+
+    ghost invariant = { λ b. 256 ≤ vec_capacity b.bytes };
+}
+
+impl ReplyBuf {
+    /// Takes the room.
+    pub fn new(alloc: Global) -> Result<ReplyBuf, AllocError>
+        ensures { IfOk result (λ b. b ≡ []) }
+    {
+        Ok(ReplyBuf {
+            bytes: Vec::with_capacity(alloc, REPLY_ROOM)?,
+        })
+    }
+
+    /// The reply that was left last; nothing before the first.
+    pub fn bytes(&self) -> &[u8]
+        ensures { result.now ≡ self.now }
+    {
+        &self.bytes
+    }
+
+    // Leaves a reply that fits the room.
+    fn leave(&mut self, sealer: Option<&Sealer>, channel: u32, seq: u64, answer: &Reply)
+        requires limits { FitsReply (reply answer.now) }
+        requires no_grant { 0 < status_of (reply answer.now) }
+        ensures reply { self.new
+            ≡ spelling (sent (option_copied sealer.entry) channel seq (reply answer.now)) }
+        ensures short { length self.new < 2 ^ 32 }
+    {
+        self.bytes.clear();
+        write_reply_with(&mut self.bytes, sealer, channel, seq, answer).unwrap();
+    }
+
+    /// Leaves the reply of a refusal before the seal of the request was found right.
+    pub fn leave_unsealed(&mut self, why: Refusal)
+        ensures reply { self.new ≡ spelling (unsealed (refusal why)) }
+        ensures short { length self.new < 2 ^ 32 }
+    {
+        self.leave(None, 0, 0, &reply_of(why));
+    }
+
+    /// Leaves the reply of a refusal under a key.
+    pub fn leave_refused(&mut self, sealer: &Sealer, channel: u32, seq: u64, why: Refusal)
+        ensures reply { self.new ≡ spelling (sent (Some sealer.now) channel seq (refusal why)) }
+        ensures short { length self.new < 2 ^ 32 }
+    {
+        self.leave(Some(sealer), channel, seq, &reply_of(why));
+    }
+
+    /// Leaves any other reply than a grant under a key.
+    pub(crate) fn leave_sealed(&mut self, sealer: &Sealer, channel: u32, seq: u64, answer: &Reply)
+        requires limits { FitsReply (reply answer.now) }
+        requires no_grant { 0 < status_of (reply answer.now) }
+        ensures reply { self.new ≡ spelling (sent (Some sealer.now) channel seq (reply answer.now)) }
+        ensures short { length self.new < 2 ^ 32 }
+    {
+        self.leave(Some(sealer), channel, seq, answer);
+    }
+
+    /// Leaves a denial that names a part of an entry, which is lent.
+    pub(crate) fn leave_missing(
+        &mut self,
+        sealer: &Sealer,
+        channel: u32,
+        seq: u64,
+        shard: u32,
+        place: u64,
+        entry: u8,
+        part: &Term,
+    )
+        requires limits { FitsLimits ENTRY_NODES (principal part.now) }
+        ensures reply { self.new ≡ spelling (sent (Some sealer.now) channel seq
+            (Denied shard place (Missing entry (principal part.now)))) }
+        ensures short { length self.new < 2 ^ 32 }
+    {
+        self.bytes.clear();
+        write_missing_with(
+            &mut self.bytes,
+            sealer,
+            channel,
+            seq,
+            shard,
+            place,
+            entry,
+            part,
+        )
+        .unwrap();
+    }
+
+    /// Leaves a grant of an entry by the cited certificates, with the content that was read; or the
+    /// reply of want of memory.
+    pub(crate) fn leave_granted(
+        &mut self,
+        sealer: &Sealer,
+        channel: u32,
+        seq: u64,
+        shard: u32,
+        place: u64,
+        entry: u8,
+        proof: &Proof,
+        cited: &[Arc<Cert>],
+        content: &[u8],
+    )
+        requires few { length cited.now ≤ MAX_CITED }
+        requires short { length content.now < 2 ^ 16 }
+        ensures reply { (self.new ≡ spelling (sent (Some sealer.now) channel seq
+            (Granted false entry shard place (lines_of proof.now) (map cited_of cited.now)
+            content.now))) ⊎ (self.new ≡ spelling (sent (Some sealer.now) channel seq NoMemory)) }
+        ensures short { length self.new < 2 ^ 32 }
+    {
+        self.bytes.clear();
+        let out = &mut self.bytes;
+        let written = write_granted_with(
+            out, sealer, channel, seq, false, entry, shard, place, proof, cited, content,
+        );
+        if written.is_err() {
+            self.leave_refused(sealer, channel, seq, Refusal::NoMemory);
+        }
+    }
+}
