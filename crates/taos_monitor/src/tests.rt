@@ -35,6 +35,8 @@ const GRANT: [&str; 4] = [
     "9058a1dc9eadc41ae129b82395520916c6563d31621c79d20cf4fbe10e23ab90",
 ];
 
+const NO_SEAL: &str = "0000000000000000000000000000000000000000000000000000000000000000";
+
 // Object 5 is `hello`.
 #[derive(Drop)]
 struct OneObject {
@@ -240,6 +242,23 @@ fn spelled(alloc: Global, parts: &[&str]) -> Result<Vec<u8>, AllocError> {
         spell(&mut bytes, part)?;
     }
     Ok(bytes)
+}
+
+#[test]
+fn what_comes_before_the_seal_is_answered_under_none(rt: HostRuntime) -> Result<(), Fail> {
+    let alloc = rt.alloc();
+    let mut out = ReplyBuf::new(alloc)?;
+    let cases: [(Refusal, &str); 3] = [
+        (Refusal::Malformed { offset: 52 }, "02 00000034"),
+        (Refusal::UnknownChannel { number: 9 }, "03 00000009"),
+        (Refusal::BadSeal, "04"),
+    ];
+    for (why, fields) in cases {
+        let wanted = spelled(alloc, &["04 00000000 0000000000000000", fields, NO_SEAL])?;
+        out.leave_unsealed(why);
+        assert_eq!(rt; out.bytes(), wanted.as_slice(), "{why:?}");
+    }
+    Ok(())
 }
 
 #[test]
