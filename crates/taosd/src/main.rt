@@ -1,18 +1,23 @@
 //! The program: real streams, the system's clock, and the top call.
 #![tactic(auto)]
 
+ghost use Rattle.std.specs.Prelude.{◌<◌, ◌≤◌, length};
+
 mod clock;
+mod relay;
 mod streams;
 
 use clock::SystemSeconds;
-use frame_link::{ClosedDoor, NoRelay, Sink};
+use frame_link::{Clock, ClosedDoor, Door, NoRelay, RelayLink, Sink};
+use relay::{LIMIT, TcpRelay};
 use std::alloc::Global;
 use std::env;
 use std::fs::File;
-use std::io::{BufReader, ErrorKind};
+use std::io::{BufReader, ErrorKind, Stdout};
 use std::process::ExitCode;
 use std::sync::Wait;
 use std::thread::Threads;
+use std::time::Duration;
 use streams::{FileReading, Origin, Reading, Writing};
 use taos_node::{Ending, Lane, Outcome, status_of, taos, tell};
 
@@ -46,6 +51,45 @@ fn file_of(rt: &HostRuntime, path: &str) -> FileReading<File> {
     }
 }
 
+// A lane that asks this relay, with no door.
+fn lane_of<'a, R: RelayLink>(
+    rt: &'a HostRuntime,
+    relay: R,
+) -> Lane<SystemSeconds<&'a HostRuntime>, R, ClosedDoor<FileReading<File>, Writing<Stdout>>> {
+    Lane::of(SystemSeconds::new(rt), relay, ClosedDoor::new())
+}
+
+// The work of a command, by the first of these lanes.
+fn work<W: Threads + Wait + Sync, N: Sink, C: Clock + Send, R: RelayLink + Send, D: Door + Send>(
+    rt: &HostRuntime,
+    workers: &W,
+    alloc: Global,
+    path: &str,
+    command: &[String],
+    notes: &mut N,
+    lanes: &mut [Lane<C, R, D>],
+) -> u8
+    requires some { 0 < length lanes.old }
+    requires few { length lanes.old ≤ 16 }
+{
+    let Ok(standard_input) = BufReader::with_capacity(alloc, PIECE, rt.stdin()) else {
+        return ended(notes, NO_MEMORY);
+    };
+    let mut file = file_of(rt, path);
+    let mut input = Reading::new(standard_input);
+    let mut output = Writing::new(rt.stdout());
+    taos(
+        workers,
+        alloc,
+        command,
+        &mut file,
+        &mut input,
+        &mut output,
+        notes,
+        lanes,
+    )
+}
+
 // The first three words are the file, where to listen and the relay; the others are the command.
 fn run<W: Threads + Wait + Sync, N: Sink>(
     rt: &HostRuntime,
@@ -57,27 +101,18 @@ fn run<W: Threads + Wait + Sync, N: Sink>(
     let [path, listen, relay, command @ ..] = words else {
         return ended(notes, Ending::Usage);
     };
-    if command.is_empty() || listen.as_str() != "-" || relay.as_str() != "-" {
+    if command.is_empty() || listen.as_str() != "-" {
         return ended(notes, Ending::Usage);
     }
-    let Ok(standard_input) = BufReader::with_capacity(alloc, PIECE, rt.stdin()) else {
-        return ended(notes, NO_MEMORY);
-    };
-    let mut file = file_of(rt, path.as_str());
-    let mut input = Reading::new(standard_input);
-    let mut output = Writing::new(rt.stdout());
-    let door: ClosedDoor<FileReading<File>, Writing<std::io::Stdout>> = ClosedDoor::new();
-    let mut lanes = [Lane::of(SystemSeconds::new(rt), NoRelay::new(), door)];
-    taos(
-        workers,
-        alloc,
-        command,
-        &mut file,
-        &mut input,
-        &mut output,
-        notes,
-        &mut lanes,
-    )
+    let path = path.as_str();
+    let address = relay.as_str();
+    if address == "-" {
+        let mut lanes = [lane_of(rt, NoRelay::new())];
+        return work(rt, workers, alloc, path, command, notes, &mut lanes);
+    }
+    let relay = TcpRelay::new(rt, alloc, address, Duration::from_secs(LIMIT));
+    let mut lanes = [lane_of(rt, relay)];
+    work(rt, workers, alloc, path, command, notes, &mut lanes)
 }
 
 fn main(rt: HostRuntime) -> ExitCode {

@@ -1,8 +1,14 @@
 use crate::clock::SystemSeconds;
+use crate::relay::{LIMIT, TcpRelay};
 use crate::streams::{FileReading, Origin, Reading, Writing};
-use frame_link::{Clock, Failed, Sink, Source};
+use arrayvec::ArrayVec;
+use frame_link::{Clock, Failed, RelayAnswer, RelayLink, Sink, Source};
 use std::fs::File;
+use std::io::{Read, Write};
+use std::net::{TcpListener, TcpStream};
 use std::test::*;
+use std::time::Duration;
+use std::{io, thread};
 
 // A folder that is open for reading: each read and each write of it fails.
 #[test]
@@ -37,5 +43,84 @@ fn the_clock_tells_seconds_of_this_century(rt: HostRuntime) -> Result<(), Fail> 
     assert!(rt; now > 1_700_000_000);
     assert!(rt; now < 4_102_444_800);
     assert_eq!(rt; clock.faults(), 0);
+    Ok(())
+}
+
+// A listener on this machine, and its address.
+fn listen(rt: &HostRuntime) -> Result<(TcpListener, String), Fail> {
+    let listener = TcpListener::bind(rt, "127.0.0.1:0")?;
+    let port = listener.local_addr()?.port();
+    let address = format!(in rt.alloc(); "127.0.0.1:{port}")?;
+    Ok((listener, address))
+}
+
+// What the node 7 asks of the certificate 1, 9.
+const ASKED: [u8; 11] = [0, 0, 0, 7, 5, 0, 0, 0, 7, 1, 9];
+
+// Takes one question, and says whether it is the wanted one.
+fn is_asked(stream: &mut TcpStream) -> io::Result<bool> {
+    let mut got = [0u8; 11];
+    stream.read_exact(&mut got)?;
+    Ok(got == ASKED)
+}
+
+// Two connections: one that answers once and ends at the second question, and one that answers once.
+fn answer_twice(listener: &TcpListener) -> io::Result<(bool, bool, bool)> {
+    let (mut stream, _) = listener.accept()?;
+    let first = is_asked(&mut stream)?;
+    stream.write_all(&[0, 0, 0, 2, 6, 3])?;
+    let second = is_asked(&mut stream)?;
+    drop(stream);
+    let (mut stream, _) = listener.accept()?;
+    let third = is_asked(&mut stream)?;
+    stream.write_all(&[0, 0, 0, 2, 6, 2])?;
+    Ok((first, second, third))
+}
+
+// What is answered to the same question, and how often the link has failed.
+fn ask_again(relay: &mut TcpRelay<'_, HostRuntime>) -> (Result<RelayAnswer, Failed>, u64) {
+    let mut out = ArrayVec::new();
+    let answer = relay.reseal(7, &[1, 9], &mut out);
+    (answer, relay.faults())
+}
+
+#[test]
+fn a_relay_is_connected_to_again_behind_a_fault(rt: HostRuntime) -> Result<(), Fail> {
+    let (listener, address) = listen(&rt)?;
+    let (rt, listener, address) = (&rt, &listener, address.as_str());
+    let (told, asked) = thread::join(
+        rt,
+        move || {
+            let mut relay = TcpRelay::new(rt, rt.alloc(), address, Duration::from_secs(LIMIT));
+            let first = ask_again(&mut relay);
+            let second = ask_again(&mut relay);
+            (first, second, ask_again(&mut relay))
+        },
+        move || answer_twice(listener),
+    );
+    assert_eq!(rt; asked?, (true, true, true));
+    assert_eq!(rt; told.0, (Ok(RelayAnswer::Refused { code: 3 }), 0));
+    assert_eq!(rt; told.1, (Err(Failed), 1));
+    assert_eq!(rt; told.2, (Ok(RelayAnswer::Refused { code: 2 }), 1));
+    Ok(())
+}
+
+#[test]
+fn a_relay_that_says_nothing_fails_behind_the_limit(rt: HostRuntime) -> Result<(), Fail> {
+    let (_listener, address) = listen(&rt)?;
+    let limit = Duration::from_millis(50);
+    let mut relay = TcpRelay::new(&rt, rt.alloc(), address.as_str(), limit);
+    assert_eq!(rt; ask_again(&mut relay), (Err(Failed), 1));
+    assert_eq!(rt; ask_again(&mut relay), (Err(Failed), 2));
+    Ok(())
+}
+
+#[test]
+fn an_address_that_is_not_reached_fails_at_each_call(rt: HostRuntime) -> Result<(), Fail> {
+    for address in ["127.0.0.1:1", "127.0.0.1", "127.0.0.1:70000", ""] {
+        let mut relay = TcpRelay::new(&rt, rt.alloc(), address, Duration::from_secs(LIMIT));
+        assert_eq!(rt; ask_again(&mut relay), (Err(Failed), 1), "at {address}");
+        assert_eq!(rt; ask_again(&mut relay), (Err(Failed), 2), "at {address}");
+    }
     Ok(())
 }
