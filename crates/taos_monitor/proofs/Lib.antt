@@ -14,3 +14,4 @@ mod Steps
 mod Complete
 mod Connections
 mod Turning
+mod Keyed

@@ -1,3 +1,4 @@
+pub mod Planned
 pub mod Cells
 pub mod Credentials
 pub mod Refusals

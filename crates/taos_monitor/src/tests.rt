@@ -7,7 +7,7 @@ ghost use Rattle.taos_wire.specs.View.{text_of};
 
 use super::*;
 use agent_core::{FreeGate, Lone, Shard, ShardPlan};
-use frame_link::MemClock;
+use frame_link::{MemClock, MemSink, MemSource, Outcome};
 use keyed_seal::{KeyTable, Sealer};
 use prin_term::{Anchor, Entry, Term};
 use relay_core::{LocalRelay, MemRelay, RelayTable};
@@ -365,5 +365,45 @@ fn a_certificate_under_its_issuers_seal_goes_to_the_relay(rt: HostRuntime) -> Re
         assert_eq!(rt; handled, Handled::Replied, "{name}");
         assert_eq!(rt; node.out.bytes(), wanted.as_slice(), "{name}");
     }
+    Ok(())
+}
+
+// A request, and then a frame of no bytes.
+#[test]
+fn a_connection_has_one_reply_for_each_frame(rt: HostRuntime) -> Result<(), Fail> {
+    let alloc = rt.alloc();
+    let mut node = node_of(alloc, 16_384, &[])?;
+    if !node.keys.fits(&node.shards) {
+        return Err(Fail::new("another shard"));
+    }
+    let frames = spelled(alloc, &["00000034", BY_ONE[0], BY_ONE[1], "00000000"])?;
+    let mut wanted = spelled(alloc, &["0000005f"])?;
+    for part in GRANT {
+        spell(&mut wanted, part)?;
+    }
+    for part in [
+        "00000032",
+        "04 00000000 0000000000000000 02 00000000",
+        NO_SEAL,
+    ] {
+        spell(&mut wanted, part)?;
+    }
+    let mut input = MemSource::new(frames, Vec::new(alloc), Vec::new(alloc));
+    let mut output = MemSink::new(alloc, 1_000, Vec::new(alloc))?;
+    let outcome = serve_connection(
+        &rt,
+        alloc,
+        &node.keys,
+        &node.shelf,
+        &mut node.shards,
+        &mut node.relay,
+        &mut node.clock,
+        &mut node.bench,
+        &mut input,
+        &mut output,
+        10,
+    );
+    assert_eq!(rt; outcome, Outcome::End { frames: 2 });
+    assert_eq!(rt; output.written(), wanted.as_slice());
     Ok(())
 }
