@@ -9,10 +9,11 @@ use Rattle.std.proofs.lemmas.Bool.{eqb-true}
 use Rattle.std.proofs.lemmas.List.Elements.{All-head, All-tail}
 use Rattle.std.proofs.lemmas.Option.{none-some, same_Some}
 use Rattle.prin_term.specs.declared.term.Anchor.{Anchor}
+use Rattle.stmt_codec.specs.Certificates.{Certificate}
 use Rattle.node_file.specs.declared.opening.Opening as code
 use Rattle.node_file.specs.declared.opening.ObjectPlan.{ObjectPlan}
 use Rattle.node_file.specs.declared.opening.OpeningFault.{OpeningFault}
-use Rattle.node_file.specs.declared.opening.TheConstants.{MAX_ANCHORS}
+use Rattle.node_file.specs.declared.opening.TheConstants.{MAX_SHARDS, MAX_LIMIT, MAX_CHANNELS, MAX_ANCHORS, MAX_COMMONS}
 use Rattle.node_file.specs.Opening as plain
 use Rattle.node_file.specs.Opening.{Opening, Spells, FitsOpening, FitsObject, plan_of}
 use Rattle.node_file.specs.OpeningView.{Represents}
@@ -54,7 +55,11 @@ found_all P test (y ∷ xs) x all is = found_at P test y xs x (test y) all is (�
 
 fits_by_number : (node : code.Opening) (o : Opening) → Represents node o → FitsOpening o → FitsByNumber (opening node)
 fits_by_number node o r fits = record {
+  shards = subst (λ n. (1 ≤ n) × (n ≤ MAX_SHARDS)) (sym r.shards) fits.shards;
+  limit = subst (λ n. n ≤ MAX_LIMIT) (sym r.limit) fits.limit.1;
+  few_channels = subst (λ n. n ≤ MAX_CHANNELS) (sym r.channels.count) fits.few_channels;
   few_anchors = subst (λ (l : List Anchor). length l ≤ MAX_ANCHORS) (sym r.anchors) fits.few_anchors;
+  few_commons = subst (λ (l : List Certificate). length l ≤ MAX_COMMONS) (sym r.commons) fits.few_commons;
   objects = λ n p is. found_all FitsObject _ o.objects p fits.objects (sym ((same_node node o r).objects n) ∙ is);
 }
 

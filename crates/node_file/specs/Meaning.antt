@@ -1,12 +1,13 @@
 -- What the program's opening means.
 --     object number p      the object of a number
 --     opening node      the opening that the program holds: its channels and objects by ascending number
---     FitsByNumber o      what is looked up in it is within the limits
+--     FitsByNumber o      its counts are within the limits, and what is looked up in it
 --     SameNode a b      two openings in which each look-up finds the same
 use Rattle.std.specs.Prelude.{◌≡◌, ℕ, ◌≤◌, map, length, Some}
+use Rattle.std.specs.Arc.{arc_value}
 use Rattle.keyed_seal.specs.Keys.{key_of}
 use Rattle.node_file.specs.declared.opening.Opening.{Opening}
-use Rattle.node_file.specs.declared.opening.TheConstants.{MAX_ANCHORS}
+use Rattle.node_file.specs.declared.opening.TheConstants.{MAX_SHARDS, MAX_LIMIT, MAX_CHANNELS, MAX_ANCHORS, MAX_COMMONS}
 use Rattle.node_file.specs.Opening as plain
 use Rattle.node_file.specs.Opening.{FitsObject, plan_of}
 use Rattle.node_file.specs.OpeningView.{common}
@@ -20,13 +21,17 @@ opening node = record {
   keep = node.keep;
   limit = node.limit;
   channels = node.channels.entries;
-  anchors = node.anchors.items;
+  anchors = (arc_value node.anchors).items;
   commons = map common node.commons.items;
   objects = map (λ e. object e.0 e.1) node.objects.entries;
 }
 
 pub record FitsByNumber (o : plain.Opening) : Type 0 where
+  pub shards : (1 ≤ o.shards) × (o.shards ≤ MAX_SHARDS)
+  pub limit : o.limit ≤ MAX_LIMIT
+  pub few_channels : length o.channels ≤ MAX_CHANNELS
   pub few_anchors : length o.anchors ≤ MAX_ANCHORS
+  pub few_commons : length o.commons ≤ MAX_COMMONS
   pub objects : (number : ℕ) (p : plain.ObjectPlan) → plan_of o.objects number ≡ Some p → FitsObject p
 
 pub record SameNode (a b : plain.Opening) : Type 0 where

@@ -26,7 +26,7 @@ pub record HoldsKeys (table : Keys) (keys : List (ℕ × List ℕ)) : Type 0 whe
 
 -- the program's object, with its number
 abbrev pub plan : ℕ → code_plan.ObjectPlan → ObjectPlan
-plan number p = record { number = number; content = p.content.items; list = map grant p.list.items }
+plan number p = record { number = number; content = p.content.items; list = map grant (arc_value p.list).items }
 
 pub record HoldsPlans (plans : BTreeMap ℕ code_plan.ObjectPlan) (list : List ObjectPlan) : Type 0 where
   pub each : (number : ℕ) → option_map (plan number) (get nat_cmp plans number) ≡ plan_of list number
@@ -43,7 +43,7 @@ pub record Represents (code : code.Opening) (o : Opening) : Type 0 where
   pub keep : code.keep ≡ o.keep
   pub limit : code.limit ≡ o.limit
   pub channels : HoldsKeys code.channels o.channels
-  pub anchors : code.anchors.items ≡ o.anchors
+  pub anchors : (arc_value code.anchors).items ≡ o.anchors
   pub commons : map common code.commons.items ≡ o.commons
   pub objects : HoldsPlans code.objects o.objects
 

@@ -42,7 +42,7 @@ pub const MAX_ROOM: u64 = 8_388_608;
 #[derive(Debug, Drop)]
 pub struct ObjectPlan {
     pub content: Vec<u8>,
-    pub list: Vec<Entry>,
+    pub list: Arc<Vec<Entry>>,
 }
 
 /// What a node is opened with: its number and the key of its relay, how many shards it has, the
@@ -57,7 +57,7 @@ pub struct Opening {
     pub keep: u64,
     pub limit: u64,
     pub channels: KeyTable,
-    pub anchors: Vec<Anchor>,
+    pub anchors: Arc<Vec<Anchor>>,
     pub commons: Vec<Arc<Cert>>,
     pub objects: BTreeMap<u32, ObjectPlan>,
 }

@@ -11,7 +11,7 @@ mod Staying
 mod Running
 mod Payloads
 mod Steps
-mod Complete
+pub mod Complete
 mod Connections
 mod Turning
-mod Keyed
+pub mod Keyed

@@ -20,6 +20,7 @@ use prin_term::fields::{slice_at, u8_at, u32_at};
 use prin_term::{ENTRY_NODES, Entry, Term, read_term};
 use std::alloc::Global;
 use std::collections::BTreeMap;
+use std::sync::Arc;
 
 #[tactic(auto, unfolding(crate::specs::OpeningReading::who_at))]
 fn who_of(alloc: Global, bytes: &[u8], at: usize) -> Result<(Term, usize), OpeningFault>
@@ -134,6 +135,7 @@ fn object_of(
     let (number, next) = number_of(bytes, at, plans)?;
     let (content, next) = content_of(alloc, bytes, next)?;
     let (list, next) = list_of(alloc, bytes, next)?;
+    let list = Arc::new(alloc, list)?;
     Ok((number, ObjectPlan { content, list }, next))
 }
 

@@ -14,6 +14,7 @@ use keyed_seal::KeyTable;
 use prin_term::Anchor;
 use prin_term::fields::{array_at, u32_at};
 use std::alloc::Global;
+use std::sync::Arc;
 
 // The number of a channel that is not there yet.
 #[tactic(auto, unfolding(crate::specs::OpeningReading::new_channel_at))]
@@ -129,11 +130,13 @@ pub(super) fn anchors_of(
     alloc: Global,
     bytes: &[u8],
     at: usize,
-) -> Result<(Vec<Anchor>, usize), OpeningFault>
+) -> Result<(Arc<Vec<Anchor>>, usize), OpeningFault>
     requires { at ≤ length bytes.now }
-    ensures value { Gives NoMemory (λ x. (x.0.items, x.1)) result (anchors_at bytes.now at) }
+    ensures value { Gives NoMemory (λ x. (x.0.value.items, x.1)) result
+        (anchors_at bytes.now at) }
     ensures within { IfOk result (λ x. x.1 ≤ length bytes.now) }
 {
     let (count, next) = u8_count(bytes, at, MAX_ANCHORS)?;
-    names_of(alloc, bytes, next, count)
+    let (anchors, next) = names_of(alloc, bytes, next, count)?;
+    Ok((Arc::new(alloc, anchors)?, next))
 }
