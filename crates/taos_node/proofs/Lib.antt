@@ -1,14 +1,5 @@
 pub mod Entries
-pub mod Loops
-pub mod Presenting
-pub mod Ruled
-pub mod Denials
-pub mod Courses
-pub mod Steps
-pub mod Connections
-pub mod Complete
-pub mod Arrivals
-pub mod SameNodes
+pub mod Nodes
 pub mod Commands
 pub mod Notes
 pub mod Looked

@@ -10,9 +10,9 @@ use Rattle.frame_link.proofs.Splits.{word_once, same_front, no_frame}
 use Rattle.node_file.specs.Opening.{Opening}
 use Rattle.taos_node.specs.declared.finding.Finding.{Finding}
 use Rattle.taos_node.specs.Checking.{Finds}
-use Rattle.taos_node.specs.Run.{max_request}
+use Rattle.taos_monitor.specs.Connection.{max_request}
 use Rattle.taos_node.specs.Findings.{IsMissing, TakesFrame, TakesFrames, Shows, max_reply}
-use Rattle.taos_node.proofs.Complete.{left_behind, all_taken}
+use Rattle.taos_monitor.proofs.Complete.{left_behind, all_taken}
 use Rattle.taos_node.proofs.OneFinding as law
 
 missing_by : (limit : ℕ) (bytes : List ℕ) (x : Option (List ℕ)) (other : Next) → IsMissing other → Takes limit (Some bytes) x [] other → IsPart limit bytes ⊎ IsTooLong limit bytes

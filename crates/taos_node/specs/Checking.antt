@@ -1,6 +1,7 @@
 -- What is found in a request and its reply, without a clock and without the node: the first thing that is wrong with them, or that
 -- the reply's proof gives what it grants. Each record has what was right up to there.
---     HasAsked o request r key      the first frame is this request, under the seal of its channel's key
+--     IsAsked o payload r key      the payload is this request, under the seal of its channel's key
+--     HasAsked o request r key      the first frame is such a payload
 --     HasReplied, IsBelieved o request reply ..      the second is a reply; it answers that request, under the same key
 --     IsGrant, IsForObject, IsForEntry ..      it is a grant, for an object that is there, by an entry that has the right
 --     IsProved ..      its proof proves that one principal speaks for another
@@ -19,12 +20,16 @@ use Rattle.taos_wire.specs.Request.{Request, Spells, IsSealed, subject_of}
 use Rattle.taos_wire.specs.Reply as answers
 use Rattle.taos_wire.specs.Reply.{SpellsReply, status_of}
 use Rattle.node_file.specs.Opening.{Opening, ObjectPlan, plan_of}
-use Rattle.taos_node.specs.Course.{IsAsked}
 use Rattle.taos_node.specs.declared.checking.Stop.{Stop}
 use Rattle.taos_node.specs.declared.checking.Stop.TheVariants.{Wrong, NoMemory}
 use Rattle.taos_node.specs.declared.finding.CheckWord.TheVariants as word
 use Rattle.taos_node.specs.declared.finding.Finding.{Finding}
 use Rattle.taos_node.specs.declared.finding.Finding.TheVariants.{Granted, Refused}
+
+pub record IsAsked (o : Opening) (payload : List ℕ) (r : Request) (key : List ℕ) : Type 0 where
+  pub spelled : Spells r payload
+  pub keyed : key_of o.channels r.channel ≡ Some key
+  pub seal : IsSealed key payload
 
 -- the payload of the first frame, where that is there
 pub record HasAsked (o : Opening) (request : Option (List ℕ)) (r : Request) (key : List ℕ) : Type 0 where

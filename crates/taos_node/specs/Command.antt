@@ -1,33 +1,36 @@
 -- The top call: the words, the file, and then the work.
 --     IsRun words, IsCheck words      the two command lines; IsCommand words, either
 --     IsOpeningFile o bytes      a file that opens the node
---     IsUnbuiltOpening o      an opening that reads, and is not served yet
+--     Around      what contracts see of what stands around a node
+--     ServesConnection o says a0 a1 outcome      a node of the opening serves the connection, from empty journals on
 --     Runs ..      what is done, by how it ends
 --     Ends ..      the same, with the status and the note that tell it
---     FileDecides ..      which files are refused; FileChecks .., the same for a check
+--     FileDecides ..      which files are refused
 --     EndsWell ..      an input of whole frames is answered to its end
 --     ChecksWell ..      a check comes to its end
 --     TellsFaults ..      a fault is not passed over
-use Rattle.std.specs.Prelude.{◌≡◌, ◌≢◌, ◌⊎◌, ℕ, ◌<◌, ◌≤◌, List, [], ◌∷◌, length, All, Option, Some, None, Result, Ok, Err, codes, string_bytes, String}
+use Rattle.std.specs.Prelude.{◌≡◌, ◌≢◌, ◌⊎◌, ℕ, true, ◌<◌, ◌≤◌, List, [], ◌∷◌, length, All, Option, Some, None, Result, Ok, Err, codes, string_bytes, String}
 use Rattle.std.specs.Io.KnownBytes.{Keeps, Consumes, IsAtEnd}
 use Rattle.std.specs.declared.alloc.Global.{Global}
+use Rattle.frame_link.specs.declared.outcome.Outcome.{Outcome}
 use Rattle.frame_link.specs.Frames.{framed}
 use Rattle.frame_link.specs.Faults.{Rose}
 use Rattle.taos_node.specs.declared.ending.FileFault.{FileFault}
 use Rattle.taos_node.specs.declared.ending.FileFault.TheVariants as fault
-use Rattle.taos_node.specs.declared.ending.FileFault.TheVariants.{Malformed, TooLarge, Unbuilt}
+use Rattle.taos_node.specs.declared.ending.FileFault.TheVariants.{Malformed, TooLarge}
 use Rattle.taos_node.specs.declared.ending.Ending.{Ending}
 use Rattle.taos_node.specs.declared.ending.Ending.TheVariants.{Usage, File, Served, Checked}
 use Rattle.taos_node.specs.declared.check.CheckEnd.{CheckEnd}
 use Rattle.taos_node.specs.Ending.{status_of}
 use Rattle.taos_node.specs.Notes.{note_of, IsNoted}
 use Rattle.taos_node.specs.declared.command.Lane.{Lane}
-use Rattle.node_file.specs.declared.opening.Opening as code
 use Rattle.node_file.specs.declared.opening.OpeningFault.TheVariants.{Byte}
 use Rattle.node_file.specs.OpeningReading.{opening_of}
-use Rattle.node_file.specs.OpeningView.{Represents}
 use Rattle.node_file.specs.Opening.{Opening, Spells}
-use Rattle.taos_node.specs.Run.{IsConnection, StandsStill, max_request}
+use Rattle.frame_link.specs.Relay.{Said}
+use Rattle.taos_monitor.specs.Cells.{Node, Seen}
+use Rattle.taos_monitor.specs.Connection.{World, IsConnection, StandsStill, max_request}
+use Rattle.taos_node.specs.Opened.{IsNodeOf, nothing_seen}
 use Rattle.taos_node.specs.Findings.{Checks}
 
 abbrev pub IsRun : List (String Global) → Type 0
@@ -54,10 +57,6 @@ max_frames = 1000000
 abbrev pub IsOpeningFile : Opening → List ℕ → Type 0
 IsOpeningFile o bytes = Spells o bytes × (length bytes ≤ max_file)
 
--- other than one shard, or certificates in common
-abbrev pub IsUnbuiltOpening : Opening → Type 0
-IsUnbuiltOpening o = (o.shards ≢ 1) ⊎ (0 < length o.commons)
-
 -- the file was read to its end, and opens the node
 pub record Opens (file0 file1 : Option (List ℕ)) (o : Opening) : Type 0 where
   pub bytes : List ℕ
@@ -83,53 +82,65 @@ pub record IsTooLarge (file0 file1 : Option (List ℕ)) : Type 0 where
 abbrev pub FileFails : Option (List ℕ) → Option (List ℕ) → FileFault → Type 0
 FileFails file0 file1 (Malformed offset) = IsMalformed file0 file1 offset
 FileFails file0 file1 TooLarge = IsTooLarge file0 file1
-FileFails file0 file1 Unbuilt = (o : Opening) × Opens file0 file1 o × IsUnbuiltOpening o
 FileFails file0 file1 fault.ReadFault = Unit {0}
 FileFails file0 file1 fault.NoMemory = Unit {0}
 
--- what is told of input, output and the first lane's clock, before and after, where nothing of them was touched
-pub record Untouched (in0 in1 out0 out1 clock0 clock1 : Option (List ℕ)) : Type 0 where
-  pub input : Keeps in0 in1
-  pub output : Keeps out0 out1
-  pub clock : Keeps clock0 clock1
+-- what the input has left, what the output holds, the readings of the first lane's clock, and how often its link failed
+pub record Around : Type 0 where
+  pub input : Option (List ℕ)
+  pub output : Option (List ℕ)
+  pub clock : Option (List ℕ)
+  pub failed : ℕ
 
--- a request and its reply were looked over, by the node that the file opens
-pub record LooksOver (file0 file1 in0 in1 out0 out1 : Option (List ℕ)) (end : CheckEnd) : Type 0 where
+abbrev pub around_of : Option (List ℕ) → Option (List ℕ) → Option (List ℕ) → ℕ → Around
+around_of input output clock failed = record { input = input; output = output; clock = clock; failed = failed }
+
+-- the same beside journals
+abbrev pub with_seen : Around → Seen → World
+with_seen a seen = record { input = a.input; output = a.output; clock = a.clock; faults = a.failed; seen = seen }
+
+-- nothing of it was touched
+pub record Untouched (a0 a1 : Around) : Type 0 where
+  pub input : Keeps a0.input a1.input
+  pub output : Keeps a0.output a1.output
+  pub clock : Keeps a0.clock a1.clock
+  pub link : a1.failed ≡ a0.failed
+
+-- The journals at the end are those of this connection alone: all their entries are its own.
+pub record ServesConnection (o : Opening) (says : Option (ℕ → List ℕ → Said)) (a0 a1 : Around) (outcome : Outcome) : Type 0 where
+  pub node : Node
+  pub is_node : IsNodeOf o node
+  pub seen : Seen
+  pub connection : IsConnection node true says max_frames (with_seen a0 nothing_seen) (with_seen a1 seen) outcome
+
+-- a request and its reply were looked over, by the node that the file opens; neither clock nor link were used
+pub record LooksOver (file0 file1 : Option (List ℕ)) (a0 a1 : Around) (end : CheckEnd) : Type 0 where
   pub node : Opening
   pub opens : Opens file0 file1 node
-  pub checks : Checks node in0 in1 out0 out1 end
+  pub checks : Checks node a0.input a1.input a0.output a1.output end
+  pub clock : Keeps a0.clock a1.clock
+  pub link : a1.failed ≡ a0.failed
 
--- What is done, by how it ends. Other words do nothing. A file that is malformed or too large, or fails, and one for which
--- memory is refused, leaves the rest untouched, and so does one for `run` that opens a node that is not built; every other
--- opens a node that serves the connection, or by which a request and its reply are looked over, and then the clock is not read.
-abbrev pub Runs : List (String Global) → Option (List ℕ) → Option (List ℕ) → Option (List ℕ) → Option (List ℕ) → Option (List ℕ) → Option (List ℕ) → Option (List ℕ) → Option (List ℕ) → Ending → Type 0
-Runs words file0 file1 in0 in1 out0 out1 clock0 clock1 Usage = (IsCommand words → ⊥) × Keeps file0 file1 × Untouched in0 in1 out0 out1 clock0 clock1
-Runs words file0 file1 in0 in1 out0 out1 clock0 clock1 (File fault) =
-    IsCommand words × (fault ≡ Unbuilt → IsRun words) × FileFails file0 file1 fault × Untouched in0 in1 out0 out1 clock0 clock1
-Runs words file0 file1 in0 in1 out0 out1 clock0 clock1 (Served outcome) =
-    IsRun words × ((o : Opening) × Opens file0 file1 o × (IsUnbuiltOpening o → ⊥) × IsConnection o max_frames in0 in1 out0 out1 clock0 clock1 outcome)
-Runs words file0 file1 in0 in1 out0 out1 clock0 clock1 (Checked end) = IsCheck words × LooksOver file0 file1 in0 in1 out0 out1 end × Keeps clock0 clock1
+-- What is done, by how it ends, with what the link of the first lane tells of its answers. Other words do nothing. A file that is
+-- malformed or too large, or fails, and one for which memory is refused, leaves the rest untouched; every other opens a node that
+-- serves the connection, or by which a request and its reply are looked over.
+abbrev pub Runs : List (String Global) → Option (List ℕ) → Option (List ℕ) → Option (ℕ → List ℕ → Said) → Around → Around → Ending → Type 0
+Runs words file0 file1 says a0 a1 Usage = (IsCommand words → ⊥) × Keeps file0 file1 × Untouched a0 a1
+Runs words file0 file1 says a0 a1 (File fault) = IsCommand words × FileFails file0 file1 fault × Untouched a0 a1
+Runs words file0 file1 says a0 a1 (Served outcome) = IsRun words × ((o : Opening) × Opens file0 file1 o × ServesConnection o says a0 a1 outcome)
+Runs words file0 file1 says a0 a1 (Checked end) = IsCheck words × LooksOver file0 file1 a0 a1 end
 
 -- How it ended, with what was done: the status and the note, with its number, tell that ending.
-pub record Ends (words : List (String Global)) (file0 file1 in0 in1 out0 out1 clock0 clock1 notes0 notes1 : Option (List ℕ)) (n0 n1 status : ℕ) : Type 0 where
+pub record Ends (words : List (String Global)) (file0 file1 : Option (List ℕ)) (says : Option (ℕ → List ℕ → Said)) (a0 a1 : Around) (notes0 notes1 : Option (List ℕ)) (n0 n1 status : ℕ) : Type 0 where
   pub ending : Ending
-  pub runs : Runs words file0 file1 in0 in1 out0 out1 clock0 clock1 ending
+  pub runs : Runs words file0 file1 says a0 a1 ending
   pub tells : status ≡ status_of ending
   pub noted : IsNoted notes0 notes1 n0 n1 (note_of ending)
 
--- A file that opens no node is refused, one that opens a node that is not built is answered so, and every other is neither,
--- unless its count rises or memory is refused.
+-- A file that opens no node is refused, and every other is not, unless its count rises or memory is refused.
 pub record FileDecides (file0 : Option (List ℕ)) (f0 f1 : ℕ) (status : ℕ) : Type 0 where
   pub opens : (bytes : List ℕ) (o : Opening) → file0 ≡ Some bytes → IsOpeningFile o bytes → status ≢ 2
   pub refuses : (bytes : List ℕ) → file0 ≡ Some bytes → ((o : Opening) → IsOpeningFile o bytes → ⊥) → StandsStill f0 f1 → (status ≡ 2) ⊎ (status ≡ 6)
-  pub serves : (bytes : List ℕ) (o : Opening) → file0 ≡ Some bytes → IsOpeningFile o bytes → (IsUnbuiltOpening o → ⊥) → status ≢ 99
-  pub lacks : (bytes : List ℕ) (o : Opening) → file0 ≡ Some bytes → IsOpeningFile o bytes → IsUnbuiltOpening o → StandsStill f0 f1 → (status ≡ 99) ⊎ (status ≡ 6)
-
--- For a check a file that opens no node is refused, and every other is not, whatever it asks for.
-pub record FileChecks (file0 : Option (List ℕ)) (f0 f1 : ℕ) (status : ℕ) : Type 0 where
-  pub opens : (bytes : List ℕ) (o : Opening) → file0 ≡ Some bytes → IsOpeningFile o bytes → status ≢ 2
-  pub refuses : (bytes : List ℕ) → file0 ≡ Some bytes → ((o : Opening) → IsOpeningFile o bytes → ⊥) → StandsStill f0 f1 → (status ≡ 2) ⊎ (status ≡ 6)
-  pub serves : status ≢ 99
 
 -- what the clock of the first lane tells, and how often it failed
 abbrev pub told_by_first : {C R D I O : Type 0} → (C → Option (List ℕ)) → List (Lane C R D I O) → Option (List ℕ)
@@ -140,11 +151,20 @@ abbrev pub faults_of_first : {C R D I O : Type 0} → (C → ℕ) → List (Lane
 faults_of_first faults [] = 0
 faults_of_first faults (lane ∷ lanes) = faults lane.clock
 
--- Where the file opens a node that is built, the input is whole frames, not more than may be answered, and no count rises,
--- the status is 0, or that of want of memory.
+-- what its link tells of its answers, and how often it failed
+abbrev pub says_by_first : {C R D I O : Type 0} → (R → Option (ℕ → List ℕ → Said)) → List (Lane C R D I O) → Option (ℕ → List ℕ → Said)
+says_by_first says [] = None
+says_by_first says (lane ∷ lanes) = says lane.relay
+
+abbrev pub failed_by_first : {C R D I O : Type 0} → (R → ℕ) → List (Lane C R D I O) → ℕ
+failed_by_first failed [] = 0
+failed_by_first failed (lane ∷ lanes) = failed lane.relay
+
+-- Where the file opens a node, the input is whole frames, not more than may be answered, and no count rises, the status is 0,
+-- or that of want of memory.
 abbrev pub EndsWell : Option (List ℕ) → ℕ → ℕ → Option (List ℕ) → ℕ → ℕ → ℕ → ℕ → ℕ → ℕ → ℕ → Type 0
 EndsWell file0 f0 f1 in0 i0 i1 o0 o1 c0 c1 status =
-    (bytes : List ℕ) (o : Opening) → file0 ≡ Some bytes → IsOpeningFile o bytes → (IsUnbuiltOpening o → ⊥) →
+    (bytes : List ℕ) (o : Opening) → file0 ≡ Some bytes → IsOpeningFile o bytes →
     (frames : List (List ℕ)) → in0 ≡ Some (framed frames) → All (λ p. length p ≤ max_request) frames → length frames ≤ max_frames →
     StandsStill f0 f1 → StandsStill i0 i1 → StandsStill o0 o1 → StandsStill c0 c1 → (status ≡ 0) ⊎ (status ≡ 6)
 
@@ -161,30 +181,24 @@ pub record TellsFaults (file0 file1 in0 in1 out0 out1 clock0 clock1 status : ℕ
   pub output : out0 < out1 → status ≡ 4
   pub clock : clock0 < clock1 → status ≡ 5
 
--- what comes of reading a file, whatever opening it spells
-abbrev pub FileReads : Option (List ℕ) → Option (List ℕ) → Result code.Opening FileFault → Type 0
-FileReads file0 file1 (Ok node) = (o : Opening) × Opens file0 file1 o × Represents node o
-FileReads file0 file1 (Err fault) = FileFails file0 file1 fault
-
--- the same for an opening that is built
-abbrev pub FileGives : Option (List ℕ) → Option (List ℕ) → Result code.Opening FileFault → Type 0
-FileGives file0 file1 (Ok node) = (o : Opening) × Opens file0 file1 o × Represents node o × (IsUnbuiltOpening o → ⊥)
-FileGives file0 file1 (Err fault) = FileFails file0 file1 fault
+-- what comes of a file: what stands for the opening that it spells, or why there is none
+abbrev pub FileGives : {A : Type 0} → (Opening → A → Type 0) → Option (List ℕ) → Option (List ℕ) → Result A FileFault → Type 0
+FileGives {A} StandsFor file0 file1 (Ok x) = (o : Opening) × Opens file0 file1 o × StandsFor o x
+FileGives {A} StandsFor file0 file1 (Err fault) = FileFails file0 file1 fault
 
 -- what a check does, by how it ends
 abbrev pub ChecksFile : Option (List ℕ) → Option (List ℕ) → Option (List ℕ) → Option (List ℕ) → Option (List ℕ) → Option (List ℕ) → Ending → Type 0
-ChecksFile file0 file1 in0 in1 out0 out1 (Checked end) = LooksOver file0 file1 in0 in1 out0 out1 end
-ChecksFile file0 file1 in0 in1 out0 out1 (File fault) = (fault ≢ Unbuilt) × FileFails file0 file1 fault × Keeps in0 in1 × Keeps out0 out1
+ChecksFile file0 file1 in0 in1 out0 out1 (Checked end) = (o : Opening) × Opens file0 file1 o × Checks o in0 in1 out0 out1 end
+ChecksFile file0 file1 in0 in1 out0 out1 (File fault) = FileFails file0 file1 fault × Keeps in0 in1 × Keeps out0 out1
 ChecksFile file0 file1 in0 in1 out0 out1 Usage = ⊥
 ChecksFile file0 file1 in0 in1 out0 out1 (Served outcome) = ⊥
 
 abbrev pub FaultHasCause : ℕ → ℕ → FileFault → Type 0
 FaultHasCause f0 f1 (Malformed offset) = f1 ≡ f0
 FaultHasCause f0 f1 TooLarge = f1 ≡ f0
-FaultHasCause f0 f1 Unbuilt = f1 ≡ f0
 FaultHasCause f0 f1 fault.ReadFault = (f0 ≤ f1) × Rose f0 f1
 FaultHasCause f0 f1 fault.NoMemory = f1 ≡ f0
 
-abbrev pub FileHasCause : ℕ → ℕ → Result code.Opening FileFault → Type 0
-FileHasCause f0 f1 (Ok node) = f1 ≡ f0
-FileHasCause f0 f1 (Err fault) = FaultHasCause f0 f1 fault
+abbrev pub FileHasCause : {A : Type 0} → ℕ → ℕ → Result A FileFault → Type 0
+FileHasCause {A} f0 f1 (Ok x) = f1 ≡ f0
+FileHasCause {A} f0 f1 (Err fault) = FaultHasCause f0 f1 fault

@@ -5,7 +5,7 @@ use Rattle.frame_link.specs.declared.outcome.Outcome.{Outcome}
 use Rattle.frame_link.specs.declared.outcome.Outcome.TheVariants.{End, Truncated, TooLong, ReadFault, WriteFault, ClockFault, Spent, NoMemory}
 use Rattle.taos_node.specs.declared.ending.FileFault.{FileFault}
 use Rattle.taos_node.specs.declared.ending.FileFault.TheVariants as fault
-use Rattle.taos_node.specs.declared.ending.FileFault.TheVariants.{Malformed, TooLarge, Unbuilt}
+use Rattle.taos_node.specs.declared.ending.FileFault.TheVariants.{Malformed, TooLarge}
 use Rattle.taos_node.specs.declared.ending.Ending.{Ending}
 use Rattle.taos_node.specs.declared.ending.Ending.TheVariants.{Usage, File, Served, Checked}
 use Rattle.taos_node.specs.declared.check.CheckEnd.{CheckEnd}
@@ -18,7 +18,6 @@ file_status (Malformed offset) = 2
 file_status TooLarge = 2
 file_status fault.ReadFault = 3
 file_status fault.NoMemory = 6
-file_status Unbuilt = 99
 
 abbrev pub served_status : Outcome → ℕ
 served_status (End frames) = 0

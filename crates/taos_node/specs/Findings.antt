@@ -12,7 +12,7 @@ use Rattle.frame_link.specs.declared.frame.Next.TheVariants as next
 use Rattle.frame_link.specs.Faults.{Rose}
 use Rattle.frame_link.specs.Next.{Takes}
 use Rattle.node_file.specs.Opening.{Opening}
-use Rattle.taos_node.specs.Run.{max_request}
+use Rattle.taos_monitor.specs.Connection.{max_request}
 use Rattle.taos_node.specs.Checking.{Finds}
 use Rattle.taos_node.specs.declared.check.CheckEnd.{CheckEnd}
 use Rattle.taos_node.specs.declared.check.CheckEnd.TheVariants as ends

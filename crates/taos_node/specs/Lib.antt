@@ -1,10 +1,5 @@
-pub mod Course
-pub mod Run
-pub mod Meaning
-pub mod Presented
-pub mod Ruling
-pub mod Asking
-pub mod Serving
+pub mod Objects
+pub mod Opened
 pub mod Ending
 pub mod Notes
 pub mod Command

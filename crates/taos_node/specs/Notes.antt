@@ -8,7 +8,7 @@ use Rattle.frame_link.specs.declared.outcome.Outcome.TheVariants.{End, Truncated
 use Rattle.frame_link.specs.Faults.{Rose}
 use Rattle.taos_node.specs.declared.ending.FileFault.{FileFault}
 use Rattle.taos_node.specs.declared.ending.FileFault.TheVariants as fault
-use Rattle.taos_node.specs.declared.ending.FileFault.TheVariants.{Malformed, TooLarge, Unbuilt}
+use Rattle.taos_node.specs.declared.ending.FileFault.TheVariants.{Malformed, TooLarge}
 use Rattle.taos_node.specs.declared.ending.Ending.{Ending}
 use Rattle.taos_node.specs.declared.ending.Ending.TheVariants.{Usage, File, Served, Checked}
 use Rattle.taos_node.specs.declared.check.CheckEnd.{CheckEnd}
@@ -19,7 +19,6 @@ file_note (Malformed offset) = codes "taos: node file: byte " ++ decimal offset 
 file_note TooLarge = codes "taos: node file: line 0: limit\n"
 file_note fault.ReadFault = codes "taos: read fault\n"
 file_note fault.NoMemory = codes "taos: no memory\n"
-file_note Unbuilt = codes "taos: not built\n"
 
 abbrev pub served_note : Outcome → List ℕ
 served_note (End frames) = []

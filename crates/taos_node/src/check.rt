@@ -10,11 +10,11 @@ ghost use Rattle.node_file.specs.Opening.{Opening as Node};
 ghost use Rattle.taos_node.specs.declared.finding.Finding.{Finding as Found};
 
 use crate::checking::check_frames;
-use crate::connection::MAX_REQUEST;
 use crate::finding::{Finding, finding_line};
 use frame_link::{Failed, Sink, Source, fill, pour};
 use node_file::Opening;
 use std::alloc::{AllocError, Global};
+use taos_monitor::MAX_REQUEST;
 
 /// The most bytes of a reply that is looked over.
 pub const MAX_REPLY: u32 = 67_108_864;

@@ -1,23 +1,28 @@
 //! The top call: the words, the file, and then the work.
 
-ghost use Rattle.std.specs.Bool.{OnFalse, OnTrue};
 ghost use Rattle.std.specs.Prelude.{◌≡◌, ◌≢◌, ◌⊎◌, ◌↔◌, ◌<◌, ◌≤◌, ℕ, length, IsTrue, IfErr, IfOk};
+ghost use Rattle.agent_core.specs.Alone.{plans_in};
 ghost use Rattle.frame_link.specs.Faults.{Rose};
-ghost use Rattle.taos_node.specs.Meaning.{opening, FitsByNumber};
-ghost use Rattle.taos_node.specs.Run.{IsConnection, HasCauses, IsComplete};
+ghost use Rattle.node_file.specs.Meaning.{opening, FitsByNumber};
+ghost use Rattle.node_file.specs.Opening.{Opening as Meaning};
+ghost use Rattle.node_file.specs.OpeningView.{Represents};
+ghost use Rattle.taos_monitor.specs.Connection.{HasCauses, IsComplete};
+ghost use Rattle.taos_monitor.specs.Planned.{ArePlanned};
 ghost use Rattle.taos_node.specs.Ending.{status_of};
-ghost use Rattle.taos_node.specs.Command.{ChecksFile, ChecksWell, FileChecks, IsCheck, IsCommand, IsRun, IsUnbuiltOpening, Runs, Ends, FileReads, FileGives, FileHasCause, FileDecides, EndsWell, TellsFaults, told_by_first, faults_of_first};
+ghost use Rattle.taos_node.specs.Command.{ChecksFile, ChecksWell, IsCheck, IsCommand, IsRun, Runs, Ends, FileGives, FileHasCause, FileDecides, EndsWell, ServesConnection, TellsFaults, around_of, told_by_first, faults_of_first, says_by_first, failed_by_first};
+ghost use Rattle.taos_node.specs.Opened.{IsOpenedBy};
 
 use crate::check::check_connection;
-use crate::connection::serve_connection;
 use crate::ending::{Ending, FileFault, status_of};
 use crate::note::tell;
-use frame_link::{Clock, Door, Failed, Outcome, RelayLink, Sink, Source, fill};
+use crate::opened::{OpenNode, open_node};
+use frame_link::{Clock, Door, Outcome, RelayLink, Sink, Source, fill};
 use node_file::{Opening, OpeningFault, read_opening};
 use std::alloc::{AllocError, Global};
 use std::sync::Wait;
 use std::thread::Threads;
 use taos_calculus::Decide;
+use taos_monitor::serve_connection;
 use taos_saturate::Saturator;
 
 // What a lane holds while its worker runs. Nothing yet.
@@ -63,14 +68,11 @@ fn zeros(alloc: Global, len: usize) -> Result<Vec<u8>, AllocError>
 
 // The opening that a file spells.
 fn file_opening<F: Source>(alloc: Global, file: &mut F) -> Result<Opening, FileFault>
-    ensures reads { FileReads (F.left file.old) (F.left file.new) result }
-    ensures servable { IfOk result (λ node. FitsByNumber (opening node)) }
-    ensures known { IfErr result (λ fault. fault ≢ FileFault.Unbuilt) }
+    ensures gives { FileGives (λ o x. Represents x o) (F.left file.old) (F.left file.new) result }
+    ensures fits { IfOk result (λ x. FitsByNumber (opening x)) }
     ensures cause { FileHasCause (F.faults file.old) (F.faults file.new) result }
 {
-    let Ok(mut room) = zeros(alloc, MAX_FILE + 1) else {
-        return Err(FileFault::NoMemory);
-    };
+    let mut room = zeros(alloc, MAX_FILE + 1)?;
     let Ok(len) = fill(file, &mut room) else {
         return Err(FileFault::ReadFault);
     };
@@ -84,26 +86,16 @@ fn file_opening<F: Source>(alloc: Global, file: &mut F) -> Result<Opening, FileF
     }
 }
 
-// Whether what an opening asks for is built: one shard, and no certificates in common.
-fn is_built(node: &Opening) -> bool
-    ensures built { OnTrue result (IsUnbuiltOpening (opening node.now) → ⊥) }
-    ensures unbuilt { OnFalse result (IsUnbuiltOpening (opening node.now)) }
-{
-    node.shards == 1 && node.commons.is_empty()
-}
-
-// The same, where it is built.
-fn opening_of<F: Source>(alloc: Global, file: &mut F) -> Result<Opening, FileFault>
-    ensures gives { FileGives (F.left file.old) (F.left file.new) result }
-    ensures servable { IfOk result (λ node. FitsByNumber (opening node)) }
+// The node that it opens, with the room that decisions take.
+fn node_file_of<F: Source>(alloc: Global, file: &mut F) -> Result<(OpenNode, Saturator), FileFault>
+    ensures gives { FileGives (λ o x. IsOpenedBy o x.0) (F.left file.old) (F.left file.new) result }
+    ensures planned { IfOk result (λ x. ArePlanned x.0.keys.channels.entries
+        (plans_in x.0.shards.shards)) }
     ensures cause { FileHasCause (F.faults file.old) (F.faults file.new) result }
 {
     let opening = file_opening(alloc, file)?;
-    if is_built(&opening) {
-        Ok(opening)
-    } else {
-        Err(FileFault::Unbuilt)
-    }
+    let node = open_node(alloc, opening)?;
+    Ok((node, Saturator::reserve(alloc)?))
 }
 
 fn is_run(words: &[String]) -> bool
@@ -113,19 +105,24 @@ fn is_run(words: &[String]) -> bool
 }
 
 // Serves the connection of the first lane.
-fn serve<I: Source, O: Sink, C: Clock, R: RelayLink, D: Door, B: Decide>(
+fn serve<W: Wait + Sync, I: Source, O: Sink, C: Clock, R: RelayLink, D: Door, B: Decide>(
+    rt: &W,
     alloc: Global,
-    node: &Opening,
+    node: &mut OpenNode,
+    bench: &mut B,
     input: &mut I,
     output: &mut O,
     lanes: &mut [Lane<C, R, D>],
-    bench: &mut B,
 ) -> Outcome
     requires some { 0 < length lanes.old }
-    requires node { FitsByNumber (opening node.now) }
-    ensures connection { IsConnection (opening node.now) MAX_FRAMES
-        (I.left input.old) (I.left input.new) (O.written output.old) (O.written output.new)
-        (told_by_first C.readings lanes.old) (told_by_first C.readings lanes.new) result }
+    requires planned { ArePlanned node.old.keys.channels.entries
+        (plans_in node.old.shards.shards) }
+    ensures connection { (o : Meaning) → IsOpenedBy o node.old
+        → ServesConnection o (says_by_first R.says lanes.old)
+        (around_of (I.left input.old) (O.written output.old)
+        (told_by_first C.readings lanes.old) (failed_by_first R.faults lanes.old))
+        (around_of (I.left input.new) (O.written output.new)
+        (told_by_first C.readings lanes.new) (failed_by_first R.faults lanes.new)) result }
     ensures causes { HasCauses (I.faults input.old) (I.faults input.new)
         (O.faults output.old) (O.faults output.new)
         (faults_of_first C.faults lanes.old) (faults_of_first C.faults lanes.new) result }
@@ -135,40 +132,18 @@ fn serve<I: Source, O: Sink, C: Clock, R: RelayLink, D: Door, B: Decide>(
 {
     let lane = &mut lanes[0];
     serve_connection(
+        rt,
         alloc,
-        node,
-        MAX_FRAMES,
-        input,
-        output,
+        &node.keys,
+        &node.shelf,
+        &mut node.shards,
+        &mut lane.relay,
         &mut lane.clock,
         bench,
+        input,
+        output,
+        MAX_FRAMES,
     )
-}
-
-// The same, with a decider whose room is taken before the first frame.
-fn decide_and_serve<I: Source, O: Sink, C: Clock, R: RelayLink, D: Door>(
-    alloc: Global,
-    node: &Opening,
-    input: &mut I,
-    output: &mut O,
-    lanes: &mut [Lane<C, R, D>],
-) -> Outcome
-    requires some { 0 < length lanes.old }
-    requires node { FitsByNumber (opening node.now) }
-    ensures connection { IsConnection (opening node.now) MAX_FRAMES
-        (I.left input.old) (I.left input.new) (O.written output.old) (O.written output.new)
-        (told_by_first C.readings lanes.old) (told_by_first C.readings lanes.new) result }
-    ensures causes { HasCauses (I.faults input.old) (I.faults input.new)
-        (O.faults output.old) (O.faults output.new)
-        (faults_of_first C.faults lanes.old) (faults_of_first C.faults lanes.new) result }
-    ensures complete { IsComplete MAX_FRAMES (I.left input.old)
-        (I.faults input.old) (I.faults input.new) (O.faults output.old) (O.faults output.new)
-        (faults_of_first C.faults lanes.old) (faults_of_first C.faults lanes.new) result }
-{
-    match Saturator::reserve(alloc) {
-        Ok(mut bench) => serve(alloc, node, input, output, lanes, &mut bench),
-        Err(AllocError) => Outcome::NoMemory,
-    }
 }
 
 fn is_check(words: &[String]) -> bool
@@ -185,7 +160,7 @@ fn check_file<F: Source, I: Source, O: Sink>(
     output: &mut O,
 ) -> Ending
     ensures command { status_of result ≢ 1 }
-    ensures file { FileChecks (F.left file.old)
+    ensures file { FileDecides (F.left file.old)
         (F.faults file.old) (F.faults file.new) (status_of result) }
     ensures checks { ChecksFile (F.left file.old) (F.left file.new)
         (I.left input.old) (I.left input.new) (O.written output.old) (O.written output.new)
@@ -209,7 +184,8 @@ fn check_file<F: Source, I: Source, O: Sink>(
 }
 
 // Does the work, and tells nobody how it ended.
-fn run<F: Source, I: Source, O: Sink, C: Clock, R: RelayLink, D: Door>(
+fn run<W: Wait + Sync, F: Source, I: Source, O: Sink, C: Clock, R: RelayLink, D: Door>(
+    rt: &W,
     alloc: Global,
     words: &[String],
     file: &mut F,
@@ -219,21 +195,22 @@ fn run<F: Source, I: Source, O: Sink, C: Clock, R: RelayLink, D: Door>(
 ) -> Ending
     requires some { 0 < length lanes.old }
     ensures usage { (status_of result ≡ 1) ↔ ¬ (IsCommand words.now) }
-    ensures checked { IsCheck words.now → FileChecks (F.left file.old)
-        (F.faults file.old) (F.faults file.new) (status_of result) }
-    ensures checks_well { IsCheck words.now → ChecksWell (F.left file.old)
-        (F.faults file.old) (F.faults file.new) (I.faults input.old) (I.faults input.new)
-        (O.faults output.old) (O.faults output.new) (status_of result) }
-    ensures file { IsRun words.now → FileDecides (F.left file.old)
+    ensures file { IsCommand words.now → FileDecides (F.left file.old)
         (F.faults file.old) (F.faults file.new) (status_of result) }
     ensures runs { Runs words.now (F.left file.old) (F.left file.new)
-        (I.left input.old) (I.left input.new) (O.written output.old) (O.written output.new)
-        (told_by_first C.readings lanes.old) (told_by_first C.readings lanes.new) result }
+        (says_by_first R.says lanes.old)
+        (around_of (I.left input.old) (O.written output.old)
+        (told_by_first C.readings lanes.old) (failed_by_first R.faults lanes.old))
+        (around_of (I.left input.new) (O.written output.new)
+        (told_by_first C.readings lanes.new) (failed_by_first R.faults lanes.new)) result }
     ensures complete { IsRun words.now → EndsWell (F.left file.old)
         (F.faults file.old) (F.faults file.new) (I.left input.old)
         (I.faults input.old) (I.faults input.new) (O.faults output.old) (O.faults output.new)
         (faults_of_first C.faults lanes.old) (faults_of_first C.faults lanes.new)
         (status_of result) }
+    ensures checks_well { IsCheck words.now → ChecksWell (F.left file.old)
+        (F.faults file.old) (F.faults file.new) (I.faults input.old) (I.faults input.new)
+        (O.faults output.old) (O.faults output.new) (status_of result) }
     ensures read_fault { status_of result ≡ 3 → Rose (F.faults file.old) (F.faults file.new)
         ⊎ Rose (I.faults input.old) (I.faults input.new) }
     ensures write_fault { status_of result ≡ 4
@@ -251,17 +228,20 @@ fn run<F: Source, I: Source, O: Sink, C: Clock, R: RelayLink, D: Door>(
     if !is_run(words) {
         return Ending::Usage;
     }
-    match opening_of(alloc, file) {
-        Ok(node) => Ending::Served(decide_and_serve(alloc, &node, input, output, lanes)),
+    match node_file_of(alloc, file) {
+        Ok((mut node, mut bench)) => Ending::Served(serve(
+            rt, alloc, &mut node, &mut bench, input, output, lanes,
+        )),
         Err(fault) => Ending::File(fault),
     }
 }
 
 /// Does all that the program does, and answers its exit status. The words `run` and `check` are the
 /// two command lines, and both read the file to a node's opening. By `run` each request frame of
-/// the input is answered by one reply frame of the output, with the first lane's clock. By `check`
-/// the frames of a request and its reply are looked over, and one line of the output says what is
-/// found. A note tells how it ended.
+/// the input is answered by one reply frame of the output, by a node of that opening whose journals
+/// are empty at first, with the first lane's clock and its link to the relay. By `check` the frames
+/// of a request and its reply are looked over, and one line of the output says what is found. A note
+/// tells how it ended.
 pub fn taos<
     W: Threads + Wait + Sync,
     F: Source,
@@ -272,7 +252,7 @@ pub fn taos<
     R: RelayLink + Send,
     D: Door + Send,
 >(
-    _rt: &W,
+    rt: &W,
     alloc: Global,
     words: &[String],
     file: &mut F,
@@ -284,25 +264,26 @@ pub fn taos<
     requires some { 0 < length lanes.old }
     requires few { length lanes.old ≤ 16 }
 
-    // The words decide status 1, and the file statuses 2 and 99.
+    // The words decide status 1, and the file status 2.
     ensures usage { (result ≡ 1) ↔ ¬ (IsCommand words.now) }
-    ensures checked { IsCheck words.now → FileChecks (F.left file.old)
-        (F.faults file.old) (F.faults file.new) result }
-    ensures file { IsRun words.now → FileDecides (F.left file.old)
+    ensures file { IsCommand words.now → FileDecides (F.left file.old)
         (F.faults file.old) (F.faults file.new) result }
 
-    // Every whole frame has its course, and the bytes that are written are the replies; or the line is
-    // written of what a request and its reply show. The note tells how it ended.
+    // Every whole frame has its course in the journals of this connection alone, and the bytes that are
+    // written are the replies; or the line is written of what a request and its reply show. The note
+    // tells how it ended.
     ensures run { Ends words.now (F.left file.old) (F.left file.new)
-        (I.left input.old) (I.left input.new) (O.written output.old) (O.written output.new)
-        (told_by_first C.readings lanes.old) (told_by_first C.readings lanes.new)
+        (says_by_first R.says lanes.old)
+        (around_of (I.left input.old) (O.written output.old)
+        (told_by_first C.readings lanes.old) (failed_by_first R.faults lanes.old))
+        (around_of (I.left input.new) (O.written output.new)
+        (told_by_first C.readings lanes.new) (failed_by_first R.faults lanes.new))
         (N.written notes.old) (N.written notes.new) (N.faults notes.old) (N.faults notes.new)
         result }
     ensures complete { IsRun words.now → EndsWell (F.left file.old)
         (F.faults file.old) (F.faults file.new) (I.left input.old)
         (I.faults input.old) (I.faults input.new) (O.faults output.old) (O.faults output.new)
         (faults_of_first C.faults lanes.old) (faults_of_first C.faults lanes.new) result }
-
     ensures checks_well { IsCheck words.now → ChecksWell (F.left file.old)
         (F.faults file.old) (F.faults file.new) (I.faults input.old) (I.faults input.new)
         (O.faults output.old) (O.faults output.new) result }
@@ -322,7 +303,7 @@ pub fn taos<
     // Success has no note, nor what a check refused.
     ensures silent { (result ≡ 0) ⊎ (result ≡ 11) → notes.new ≡ notes.old }
 {
-    let ending = run(alloc, words, file, input, output, lanes);
+    let ending = run(rt, alloc, words, file, input, output, lanes);
     tell(notes, ending);
     status_of(ending)
 }

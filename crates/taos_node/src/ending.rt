@@ -1,11 +1,13 @@
 //! How a run ended, and the exit status that tells it.
 
 ghost use Rattle.std.specs.Prelude.{◌≡◌};
+ghost use Rattle.taos_node.specs.declared.ending.FileFault.TheVariants as fault;
 ghost use Rattle.taos_node.specs.Ending.{checked_status, file_status, served_status, status_of};
 
 use crate::check::CheckEnd;
 use crate::finding::finding_status;
 use frame_link::Outcome;
+use std::alloc::AllocError;
 
 /// Why a file opens no node that is served.
 #[derive(Clone, Copy, Debug, PartialEq, Eq)]
@@ -16,10 +18,16 @@ pub enum FileFault {
     Malformed { offset: usize },
     /// It has too many bytes.
     TooLarge,
-    /// It opens a node that is not built yet.
-    Unbuilt,
-    /// Memory was refused.
+    /// Memory was refused, for the opening or for what it opens.
     NoMemory,
+}
+
+impl From<AllocError> for FileFault {
+    ghost from_gives = { λ _ e. e ≡ fault.NoMemory };
+
+    fn from(_e: AllocError) -> FileFault {
+        FileFault::NoMemory
+    }
 }
 
 /// How a run ended.
@@ -53,15 +61,12 @@ const TOO_LONG: u8 = 8;
 
 const SPENT: u8 = 10;
 
-const UNBUILT: u8 = 99;
-
 fn file_status(fault: FileFault) -> u8
     ensures { result ≡ file_status fault }
 {
     match fault {
         FileFault::ReadFault => READ_FAULT,
         FileFault::Malformed { .. } | FileFault::TooLarge => NODE_FILE,
-        FileFault::Unbuilt => UNBUILT,
         FileFault::NoMemory => MEMORY,
     }
 }

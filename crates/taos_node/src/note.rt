@@ -46,7 +46,6 @@ fn of_file(fault: FileFault) -> ArrayVec<u8, ROOM>
             numbered(b"taos: node file: byte ", offset as u64, b": malformed\n")
         }
         FileFault::TooLarge => plain(b"taos: node file: line 0: limit\n"),
-        FileFault::Unbuilt => plain(b"taos: not built\n"),
         FileFault::NoMemory => plain(b"taos: no memory\n"),
     }
 }

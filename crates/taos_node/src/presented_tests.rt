@@ -172,8 +172,8 @@ fn what_is_not_granted_has_its_reply(rt: HostRuntime) -> Result<(), Fail> {
                 "450a7472d5601423b3e7c90ee754ebbd7f2d",
             ],
             &[
-                "0000002e04000000020000000000000001ff33a4d50829bcae542e2cc6caefadbf8b6050",
-                "c47106a3ebf8942d6e6f40f54fd0",
+                "0000003004000000020000000000000001060001e14e580705d12d0d5def5d4d1b27df71",
+                "98fc6dca729e171ad18fc5727a51890d",
             ],
         ),
         (

@@ -1,4 +1,5 @@
 use super::*;
+use crate::opened::open_node;
 use frame_link::{ClosedDoor, MemClock, MemSink, MemSource, NoRelay};
 use std::alloc::{AllocError, Global};
 use std::sync::Wait;
@@ -34,6 +35,27 @@ const GRANT: [&str; 4] = [
 const DENIAL: [&str; 2] = [
     "00000041 04 00000002 0000000000000001 01 00000000 0000000000000000 02 00 020000000a",
     "ca9ec729e1a302501893407664fde3b1634e8b6a66d9ab2464b43afc2b584365",
+];
+
+// The same at the second place.
+const LATER_DENIAL: [&str; 2] = [
+    "00000041 04 00000002 0000000000000001 01 00000000 0000000000000001 02 00 020000000a",
+    "393bded1ec8acfd3f671b103f2777c6e5d8539160f69f2dd7de663b0c97e7cc2",
+];
+
+// A hand-off from channel 1 to channel 2, until 2000, under the key of node 7.
+const HAND_OFF: &str = "0041 02 01 00000001 00 0100000002 020000000a 00000000000007d0 \
+    0000000000000001 22f512cd8f27327c1e0e348919e951e406ff1789829adff76908eeb41ce4f867";
+
+// By which entry 0 is granted to channel 2, in four lines.
+const HANDED: [&str; 7] = [
+    "000000a7 04 00000002 0000000000000001 00 00 00 00000000 0000000000000000",
+    "0000003d 0003 0100000001 020000000a 0100000002 00000004 09 0000 0001 0000",
+    "0a 0000 0002 0001 0000 0b 0001 0002 0001 00000001 00000000",
+    "0d 0002 0001 00000002 01 0020",
+    "01 00000001 00 0100000002 020000000a 00000000000007d0 0000000000000001",
+    "0005 68656c6c6f",
+    "4931a0ac87a6d10681fc4f5988fe2e4f037b98d350484ecacb4546f03492b343",
 ];
 
 // No request has no bytes.
@@ -78,24 +100,46 @@ pub(crate) fn spelled(alloc: Global, parts: &[&str]) -> Result<Vec<u8>, AllocErr
     Ok(bytes)
 }
 
-// Node 7 with its key, one shard, keep 3600 and the default journal.
-fn head_of(alloc: Global) -> Result<Vec<u8>, AllocError> {
+// How a node is opened: its shards, keep and the limit of their journals; and what is held in common.
+#[derive(Clone, Copy)]
+pub(crate) struct Plan<'a> {
+    pub shards: &'a str,
+    pub commons: &'a [&'a str],
+}
+
+// One shard, keep 3600, the default journal, and nothing in common.
+pub(crate) const PLAIN: Plan<'static> = Plan {
+    shards: "00000001 0000000000000e10 0000000000004000",
+    commons: &["00"],
+};
+
+// Node 7 with its key, and what its shards are.
+fn head_of(alloc: Global, shards: &str) -> Result<Vec<u8>, AllocError> {
     let mut bytes = spelled(alloc, &["0001 00000007"])?;
     bytes.extend_from_slice(&[7; 32])?;
-    spell(&mut bytes, "00000001 0000000000000e10 0000000000004000")?;
+    spell(&mut bytes, shards)?;
     Ok(bytes)
 }
 
 // The opening of 64 bytes.
 fn small_file(alloc: Global) -> Result<Vec<u8>, AllocError> {
-    let mut bytes = head_of(alloc)?;
+    let mut bytes = head_of(alloc, PLAIN.shards)?;
     spell(&mut bytes, "0000 00 00 0000")?;
     Ok(bytes)
 }
 
-// Six channels, five anchors, and object 5 with this access list.
+// The plain node, with this access list of object 5.
 pub(crate) fn node_file(alloc: Global, list: &str) -> Result<Vec<u8>, AllocError> {
-    let mut bytes = head_of(alloc)?;
+    planned_file(alloc, PLAIN, list)
+}
+
+// Six channels, five anchors, and object 5 with this access list.
+pub(crate) fn planned_file(
+    alloc: Global,
+    plan: Plan<'_>,
+    list: &str,
+) -> Result<Vec<u8>, AllocError> {
+    let mut bytes = head_of(alloc, plan.shards)?;
     spell(&mut bytes, "0006")?;
     for number in [1, 2, 3, 4, 15, 18] {
         bytes.extend_from_slice(&[0, 0, 0, number])?;
@@ -106,7 +150,10 @@ pub(crate) fn node_file(alloc: Global, list: &str) -> Result<Vec<u8>, AllocError
         &mut bytes,
         "0000000b 00000014 0000000d 0000001e 00000010 00000015",
     )?;
-    spell(&mut bytes, "00 0001 00000005 0005 68656c6c6f")?;
+    for part in plan.commons {
+        spell(&mut bytes, part)?;
+    }
+    spell(&mut bytes, "0001 00000005 0005 68656c6c6f")?;
     spell(&mut bytes, list)?;
     Ok(bytes)
 }
@@ -221,20 +268,11 @@ fn a_request_has_its_reply(rt: HostRuntime) -> Result<(), Fail> {
             "a hand-off, by four lines",
             FOR_ALICE,
             &[
-                "00000077 03 00000002 0000000000000001 00 01 00000005 01 0041 02",
-                "01 00000001 00 0100000002 020000000a 00000000000007d0 0000000000000001",
-                "22f512cd8f27327c1e0e348919e951e406ff1789829adff76908eeb41ce4f867",
+                "00000077 03 00000002 0000000000000001 00 01 00000005 01",
+                HAND_OFF,
                 "e8f16b337bfea2653fed8affce642af059547369a4cb1f1618609b96acadfca6",
             ],
-            &[
-                "000000a7 04 00000002 0000000000000001 00 00 00 00000000 0000000000000000",
-                "0000003d 0003 0100000001 020000000a 0100000002 00000004 09 0000 0001 0000",
-                "0a 0000 0002 0001 0000 0b 0001 0002 0001 00000001 00000000",
-                "0d 0002 0001 00000002 01 0020",
-                "01 00000001 00 0100000002 020000000a 00000000000007d0 0000000000000001",
-                "0005 68656c6c6f",
-                "4931a0ac87a6d10681fc4f5988fe2e4f037b98d350484ecacb4546f03492b343",
-            ],
+            &HANDED,
         ),
         (
             "the second entry, behind one that may not read",
@@ -385,27 +423,37 @@ fn a_file_that_opens_no_node_is_refused(rt: HostRuntime) -> Result<(), Fail> {
     Ok(())
 }
 
+// However many shards it has, and whatever it holds in common.
 #[test]
-fn an_opening_that_is_not_built_is_answered_so(rt: HostRuntime) -> Result<(), Fail> {
-    // Two shards; a certificate in common.
-    let shards = "00000002 0000000000000e10 0000000000004000 0000 00 00 0000";
-    let common = [
-        "00000001 0000000000000e10 0000000000004000 0000 00 01",
-        "0041 02 01 00000001 00 0100000002 020000000a 00000000000007d0 0000000000000001",
-        "22f512cd8f27327c1e0e348919e951e406ff1789829adff76908eeb41ce4f867 0000",
+fn every_opening_is_served(rt: HostRuntime) -> Result<(), Fail> {
+    let two = Plan {
+        shards: "00000002 0000000000000e10 0000000000004000",
+        ..PLAIN
+    };
+    let one_common = Plan {
+        commons: &["01", HAND_OFF],
+        ..PLAIN
+    };
+    let cases: [(Plan<'_>, &[&str], &[&str]); 2] = [
+        (
+            two,
+            &BY_ONE,
+            &[
+                "0000005f 04 00000001 0000000000000001 00 00 00 00000001 0000000000000000",
+                "00000017 0002 0100000001 020000000a 00000001 09 0000 0001 0000",
+                "00 0005 68656c6c6f",
+                "465b60e1c0be638c31158f8c62e871ac38d0567f08ba7cc2887c8c78f509833d",
+            ],
+        ),
+        (one_common, &BY_TWO, &HANDED),
     ];
-    let cases: [&[&str]; 2] = [&[shards], &common];
-    for tail in cases {
-        let mut file = spelled(rt.alloc(), &["0001 00000007"])?;
-        file.extend_from_slice(&[7; 32])?;
-        file.append(&mut spelled(rt.alloc(), tail)?)?;
-        let (status, note) = noted(&rt, rt.alloc(), &file)?;
-        assert_eq!(rt; status, 99, "{tail:?}");
-        assert_eq!(rt;
-            note.as_slice(),
-            b"taos: not built\n".as_slice(),
-            "{tail:?}"
-        );
+    for (plan, request, reply) in cases {
+        let file = planned_file(rt.alloc(), plan, FOR_ALICE)?;
+        let input = spelled(rt.alloc(), request)?;
+        let wanted = spelled(rt.alloc(), reply)?;
+        let mut around = around_of(rt.alloc(), &file, &input)?;
+        assert_eq!(rt; call(&rt, rt.alloc(), &["run"], &mut around)?, 0);
+        assert_eq!(rt; around.output.written(), wanted.as_slice(), "{request:?}");
     }
     Ok(())
 }
@@ -413,7 +461,7 @@ fn an_opening_that_is_not_built_is_answered_so(rt: HostRuntime) -> Result<(), Fa
 #[test]
 fn each_ending_has_its_status_and_its_note(rt: HostRuntime) -> Result<(), Fail> {
     let offset = 38;
-    let cases: [(Ending, u8, &[u8]); 14] = [
+    let cases: [(Ending, u8, &[u8]); 13] = [
         (Ending::Usage, 1, b"taos: usage\n"),
         (Ending::File(FileFault::ReadFault), 3, b"taos: read fault\n"),
         (
@@ -426,7 +474,6 @@ fn each_ending_has_its_status_and_its_note(rt: HostRuntime) -> Result<(), Fail> 
             2,
             b"taos: node file: line 0: limit\n",
         ),
-        (Ending::File(FileFault::Unbuilt), 99, b"taos: not built\n"),
         (Ending::File(FileFault::NoMemory), 6, b"taos: no memory\n"),
         (Ending::Served(Outcome::End { frames: 3 }), 0, b""),
         (
@@ -503,31 +550,46 @@ fn three(alloc: Global) -> Result<(Vec<u8>, Vec<u8>), AllocError> {
     input.append(&mut spelled(alloc, &BY_TWO)?)?;
     spell(&mut input, "00000000")?;
     let mut output = spelled(alloc, &GRANT)?;
-    output.append(&mut spelled(alloc, &DENIAL)?)?;
+    output.append(&mut spelled(alloc, &LATER_DENIAL)?)?;
     output.append(&mut spelled(alloc, &MALFORMED)?)?;
     Ok((input, output))
+}
+
+// How a node of the file serves so many frames at most.
+fn served<W: Wait + Sync>(
+    rt: &W,
+    alloc: Global,
+    file: &[u8],
+    input: &mut MemSource,
+    output: &mut MemSink,
+    frames: u64,
+) -> Result<Outcome, Fail> {
+    let mut node = open_node(alloc, read_opening(alloc, file)?)?;
+    Ok(serve_connection(
+        rt,
+        alloc,
+        &node.keys,
+        &node.shelf,
+        &mut node.shards,
+        &mut NoRelay::new(),
+        &mut clock_of(alloc, &[])?,
+        &mut Saturator::reserve(alloc)?,
+        input,
+        output,
+        frames,
+    ))
 }
 
 #[test]
 fn frames_in_pieces_of_every_size_have_the_same_replies(rt: HostRuntime) -> Result<(), Fail> {
     let alloc = rt.alloc();
-    let node = read_opening(alloc, &node_file(alloc, FOR_ALICE)?)?;
-    let mut bench = Saturator::reserve(alloc)?;
+    let file = node_file(alloc, FOR_ALICE)?;
     let (bytes, wanted) = three(alloc)?;
     for size in 1..=bytes.len() {
         let pieces = vec![in alloc; size; 200]?;
         let mut input = MemSource::new(bytes.to_vec(alloc)?, pieces, Vec::new(alloc));
         let mut output = sink_of(alloc, &[])?;
-        let mut clock = clock_of(alloc, &[])?;
-        let ended = serve_connection(
-            alloc,
-            &node,
-            9,
-            &mut input,
-            &mut output,
-            &mut clock,
-            &mut bench,
-        );
+        let ended = served(&rt, alloc, &file, &mut input, &mut output, 9)?;
         assert_eq!(rt; ended, Outcome::End { frames: 3 }, "in {size}s");
         assert_eq!(rt; output.written(), wanted.as_slice(), "in {size}s");
     }
@@ -635,8 +697,7 @@ fn each_reading_may_fail(rt: HostRuntime) -> Result<(), Fail> {
 #[test]
 fn frames_behind_the_last_are_not_answered(rt: HostRuntime) -> Result<(), Fail> {
     let alloc = rt.alloc();
-    let node = read_opening(alloc, &node_file(alloc, FOR_ALICE)?)?;
-    let mut bench = Saturator::reserve(alloc)?;
+    let file = node_file(alloc, FOR_ALICE)?;
     let wanted = spelled(alloc, &GRANT)?;
     let once = spelled(alloc, &BY_ONE)?;
     let mut twice = spelled(alloc, &BY_ONE)?;
@@ -648,16 +709,7 @@ fn frames_behind_the_last_are_not_answered(rt: HostRuntime) -> Result<(), Fail> 
     for (bytes, outcome) in cases {
         let mut input = source_of(alloc, bytes, &[])?;
         let mut output = sink_of(alloc, &[])?;
-        let mut clock = clock_of(alloc, &[])?;
-        let ended = serve_connection(
-            alloc,
-            &node,
-            1,
-            &mut input,
-            &mut output,
-            &mut clock,
-            &mut bench,
-        );
+        let ended = served(&rt, alloc, &file, &mut input, &mut output, 1)?;
         assert_eq!(rt; ended, outcome);
         assert_eq!(rt; output.written(), wanted.as_slice(), "{outcome:?}");
     }

@@ -24,18 +24,18 @@ returns-in_default-clause-stops c = λ q p lines certs granted.
 
 pub returns-in_default-get-clause-stops : goal.returns-in_default-get-clause-stops
 returns-in_default-get-clause-stops c = λ q p lines certs granted.
-    no_such_entry (opening c.args.node.now) q p (request_is c.args.asked.now) c.args.place lines certs (object c.args.asked.now.object c.in-Some.plan.now) c.deref.result.now granted
+    no_such_entry (opening c.args.node.now) q p (request_is c.args.asked.now) c.args.place lines certs (object c.args.asked.now.object c.in-Some.plan.now) c.deref-2.result.now granted
     (plan_of-listed c.args.node.now.objects.entries c.args.asked.now.object ∙ ap (option_map (object c.args.asked.now.object)) (sym c.in-Some.ensures.value))
-    (ap (λ (l : List Entry). map grant l) (sym c.deref.ensures.value))
-    (λ within. let past : false ≡ nat_lt c.args.place (length c.deref.result.now) = c.in_default-get.ensures.lookup.0 in grind (arith, nat_tests, past, within))
+    (ap (λ (l : List Entry). map grant l) (sym (c.deref-2.ensures.value ∙ ap (λ v. v.items) c.deref.ensures)))
+    (λ within. let past : false ≡ nat_lt c.args.place (length c.deref-2.result.now) = c.in_default-get.ensures.lookup.0 in grind (arith, nat_tests, past, within))
 
 pub returns-then-entry-right_of-eq0-clause-stops : goal.returns-then-entry-right_of-eq0-clause-stops
 returns-then-entry-right_of-eq0-clause-stops c = λ q p lines certs granted.
-    no_right (opening c.args.node.now) q p (request_is c.args.asked.now) c.args.place lines certs (object c.args.asked.now.object c.in-Some.plan.now) c.deref.result.now c.in-Some-get.entry.now granted
+    no_right (opening c.args.node.now) q p (request_is c.args.asked.now) c.args.place lines certs (object c.args.asked.now.object c.in-Some.plan.now) c.deref-2.result.now c.in-Some-get.entry.now granted
     (plan_of-listed c.args.node.now.objects.entries c.args.asked.now.object ∙ ap (option_map (object c.args.asked.now.object)) (sym c.in-Some.ensures.value))
-    (ap (λ (l : List Entry). map grant l) (sym c.deref.ensures.value))
+    (ap (λ (l : List Entry). map grant l) (sym (c.deref-2.ensures.value ∙ ap (λ v. v.items) c.deref.ensures)))
     (ltb-true _ _ (sym c.in-Some-get.ensures.lookup.0)) c.in-Some-get.ensures.lookup.1
-    (ap (λ (n : ℕ). bit_and c.in-Some-get.entry.now.rights n) (sym (c.right_of.ensures ∙ ap (λ (op : Op). right_of (operation op)) c.deref-2.ensures)) ∙ c.if-entry-right_of-eq0.true)
+    (ap (λ (n : ℕ). bit_and c.in-Some-get.entry.now.rights n) (sym (c.right_of.ensures ∙ ap (λ (op : Op). right_of (operation op)) c.deref-3.ensures)) ∙ c.if-entry-right_of-eq0.true)
 
 pub returns-clause-stands : goal.returns-clause-stands
 returns-clause-stands c = λ q p lines certs granted.
@@ -46,6 +46,6 @@ returns-clause-stands c = λ q p lines certs granted.
         grant = granted;
         there = plan_of-listed c.args.node.now.objects.entries c.args.asked.now.object ∙ ap (option_map (object c.args.asked.now.object)) (sym c.in-Some.ensures.value);
       };
-      listed = subst (λ (l : List Entry). slice_get (map grant l) c.args.place ≡ Some (grant e)) c.deref.ensures.value (entry_at c.deref.result.now c.args.place e c.in-Some-get.ensures.lookup.1 (ltb-true _ _ (sym c.in-Some-get.ensures.lookup.0)));
-      has_right = λ none. c.if-entry-right_of-eq0.false (ap (λ (n : ℕ). bit_and e.rights n) (c.right_of.ensures ∙ ap (λ (op : Op). right_of (operation op)) c.deref-2.ensures) ∙ none);
+      listed = subst (λ (l : List Entry). slice_get (map grant l) c.args.place ≡ Some (grant e)) (c.deref-2.ensures.value ∙ ap (λ v. v.items) c.deref.ensures) (entry_at c.deref-2.result.now c.args.place e c.in-Some-get.ensures.lookup.1 (ltb-true _ _ (sym c.in-Some-get.ensures.lookup.0)));
+      has_right = λ none. c.if-entry-right_of-eq0.false (ap (λ (n : ℕ). bit_and e.rights n) (c.right_of.ensures ∙ ap (λ (op : Op). right_of (operation op)) c.deref-3.ensures) ∙ none);
     }

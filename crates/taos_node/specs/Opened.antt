@@ -1,0 +1,44 @@
+-- The node that an opening opens.
+--     numbers_of channels      the numbers of channels
+--     its_plans o channels      what its shards are opened with
+--     IsNodeOf o n      the node has what the opening says, its channels by ascending number
+--     nothing_seen      journals without entries
+--     IsOpenedBy o node      the program's node is one of the opening, and its journals are empty
+use Rattle.std.specs.Prelude.{◌≡◌, ℕ, List, [], length, map}
+use Rattle.std.specs.List.Sorted.{IsStrictlyIncreasing}
+use Rattle.std.specs.Option.{option_map}
+use Rattle.keyed_seal.specs.Keys.{Entries, key_of}
+use Rattle.node_file.specs.Opening as plain
+use Rattle.node_file.specs.Opening.{Opening, plan_of}
+use Rattle.agent_core.specs.Alone.{plans_in, seen_in, own_in}
+use Rattle.agent_core.specs.Opened.{plans_for}
+use Rattle.agent_core.specs.State.{Plan}
+use Rattle.taos_monitor.specs.Arriving.{node_of}
+use Rattle.taos_monitor.specs.Cells.{ObjectPlan, object_of, Node, Seen, seen_of}
+use Rattle.taos_node.specs.declared.opened.OpenNode.{OpenNode}
+
+abbrev pub numbers_of : Entries → List ℕ
+numbers_of channels = map (λ (c : ℕ × List ℕ). c.0) channels
+
+abbrev pub its_plans : Opening → Entries → List Plan
+its_plans o channels = plans_for (numbers_of channels) o.shards o.anchors o.commons o.keep o.limit
+
+abbrev pub as_cell : plain.ObjectPlan → ObjectPlan
+as_cell p = record { number = p.number; content = p.content; list = p.list }
+
+-- its keys and objects by their numbers, and one shard for each number below that of the shards
+pub record IsNodeOf (o : Opening) (n : Node) : Type 0 where
+  pub number : n.number ≡ o.node
+  pub relay_key : n.relay_key ≡ o.relay_key
+  pub channels : (number : ℕ) → key_of n.channels number ≡ key_of o.channels number
+  pub count : length n.channels ≡ length o.channels
+  pub ascending : IsStrictlyIncreasing (numbers_of n.channels)
+  pub objects : (number : ℕ) → object_of n.objects number ≡ option_map as_cell (plan_of o.objects number)
+  pub plans : n.plans ≡ its_plans o n.channels
+
+abbrev pub nothing_seen : Seen
+nothing_seen = seen_of (λ shard. []) (λ shard. [])
+
+pub record IsOpenedBy (o : Opening) (node : OpenNode) : Type 0 where
+  pub is_node : IsNodeOf o (node_of node.keys (plans_in node.shards.shards) node.shelf)
+  pub unseen : seen_of (λ shard. seen_in node.shards.shards shard) (λ shard. own_in node.shards shard) ≡ nothing_seen
