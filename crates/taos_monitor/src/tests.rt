@@ -35,6 +35,21 @@ const GRANT: [&str; 4] = [
     "9058a1dc9eadc41ae129b82395520916c6563d31621c79d20cf4fbe10e23ab90",
 ];
 
+// Its second request, and the grant at the second place.
+const SECOND_BY_ONE: [&str; 2] = [
+    "03 00000001 0000000000000002 00 01 00000005 00",
+    "dee06cac007f80b56f506b8b5d8a19af678373d1255afcfc944979e90e3186a4",
+];
+
+const SECOND_GRANT: [&str; 4] = [
+    "04 00000001 0000000000000002 00 00 00 00000000 0000000000000001 00000017",
+    "0002 0100000001 020000000a 00000001 09 0000 0001 0000",
+    "00 0005 68656c6c6f",
+    "8501f9b2f96a794ba6bc21cf450f2f97341bd2d5424bafd6563a971c0ba0b601",
+];
+
+const NOTHING: [&str; 0] = [];
+
 const NO_SEAL: &str = "0000000000000000000000000000000000000000000000000000000000000000";
 
 // Object 5 is `hello`.
@@ -284,17 +299,13 @@ fn a_number_is_granted_once(rt: HostRuntime) -> Result<(), Fail> {
 fn a_full_journal_is_told_by_its_shard(rt: HostRuntime) -> Result<(), Fail> {
     let alloc = rt.alloc();
     let mut node = node_of(alloc, 1, &[])?;
-    let second = [
-        "03 00000001 0000000000000002 00 01 00000005 00",
-        "dee06cac007f80b56f506b8b5d8a19af678373d1255afcfc944979e90e3186a4",
-    ];
     let full = [
         "04 00000001 0000000000000002 0a 01 00000000 0000000000000001",
         "1c11b19ccf117b7bf0d8101df160eedb016fd0dc5b9226c8182bd5d4d266b9ed",
     ];
     let cases: [(&str, &[&str], &[&str]); 2] = [
         ("first", &BY_ONE, &GRANT),
-        ("second", &second, &full),
+        ("second", &SECOND_BY_ONE, &full),
     ];
     for (name, request, reply) in cases {
         let asked = spelled(alloc, request)?;
@@ -303,6 +314,39 @@ fn a_full_journal_is_told_by_its_shard(rt: HostRuntime) -> Result<(), Fail> {
         assert_eq!(rt; handled, Handled::Replied, "{name}");
         assert_eq!(rt; node.out.bytes(), wanted.as_slice(), "{name}");
     }
+    Ok(())
+}
+
+// The first and the third reading fail. What was left in the room stays there.
+#[test]
+fn a_clock_that_fails_leaves_the_request_to_be_made_again(rt: HostRuntime) -> Result<(), Fail> {
+    let alloc = rt.alloc();
+    let mut node = node_of(alloc, 16_384, &[])?;
+    node.clock = MemClock::new(vec![in alloc; 1000]?, vec![in alloc; 0, 2]?);
+    let cases: [(&str, &[&str], Handled, &[&str]); 4] = [
+        ("the first fails", &BY_ONE, Handled::ClockFault, &NOTHING),
+        ("the first", &BY_ONE, Handled::Replied, &GRANT),
+        (
+            "the second fails",
+            &SECOND_BY_ONE,
+            Handled::ClockFault,
+            &GRANT,
+        ),
+        (
+            "the second",
+            &SECOND_BY_ONE,
+            Handled::Replied,
+            &SECOND_GRANT,
+        ),
+    ];
+    for (name, request, ended, reply) in cases {
+        let asked = spelled(alloc, request)?;
+        let wanted = spelled(alloc, reply)?;
+        let handled = handle(&rt, alloc, &mut node, &asked)?;
+        assert_eq!(rt; handled, ended, "{name}");
+        assert_eq!(rt; node.out.bytes(), wanted.as_slice(), "{name}");
+    }
+    assert_eq!(rt; node.clock.faults(), 2);
     Ok(())
 }
 

@@ -70,7 +70,7 @@ const UNBUILT: [&str; 2] = [
 const NO_SEAL: &str = "0000000000000000000000000000000000000000000000000000000000000000";
 
 // One entry: all rights to name 10.
-const FOR_ALICE: &str = "01 0f 020000000a";
+pub(crate) const FOR_ALICE: &str = "01 0f 020000000a";
 
 // Appends what the digits spell; blanks count for nothing.
 fn spell(out: &mut Vec<u8>, digits: &str) -> Result<(), AllocError> {
