@@ -8,23 +8,29 @@
 
 The opening has node 7, one shard, channel 1, anchor 1 -> 10 and object 5 with `hello`, whose list
 grants all rights to name 10. Each frame is a Read of object 5 by channel 1; the sequence numbers
-go from 1. Key n is 32 bytes of value n. LIMIT is the journal limit of shard and object: a service
-that keeps journals refuses what is above it. `check` looks at each reply's length, channel,
-sequence number, status and tag, and fails unless all COUNT are grants.
+rise from 1. Key n is 32 bytes of value n. LIMIT is the journal limit of the opening, 1,048,576 by
+default, the most that there can be: each read takes an entry of the shard's journal. `check` looks at
+each reply's length, channel, sequence number, status, shard, place and tag, and fails unless all COUNT
+are grants: each place is the one behind the entries of the reads before it, which are one to a read, and
+one more where a grant was kept.
 
-A large request has LENGTH bytes, at most 65,536: a Hold that presents 16 certificates, which are
-bytes of no form. It is read whole, and `check-large` fails unless each answer is status 255, sealed.
+A large request has LENGTH bytes, at most 65,536: a Read that presents 16 certificates, which are
+bytes of no form. It is read whole, and `check-large` fails unless each answer says, sealed, that the
+first certificate is refused as malformed (status 6). It takes no entry.
 """
-import hashlib
 import hmac
 import struct
 import sys
 
-COUNT, LIMIT = 200_000, 16_384
-CHANNEL, NAME, OBJECT = 1, 10, 5
-GRANTED, UNBUILT = 0, 255
-READ, HOLD = 1, 4
+COUNT, LIMIT = 200_000, 1_048_576
+CHANNEL, NAME, OBJECT, CONTENT = 1, 10, 5, b"hello"
+SHARDS, KEEP = 1, 3600
+GRANTED, REFUSED, MALFORMED = 0, 6, 1
+READ = 1
 CERTIFICATES = 16
+TAG = 32
+# Version, channel, sequence number, status; of a grant kept, entry, shard and place stand behind.
+HEAD, GRANT = struct.Struct(">BIQB"), struct.Struct(">BBIQ")
 
 
 def key(number):
@@ -35,22 +41,26 @@ def tag(number, text):
     return hmac.digest(key(number), text, "sha256")
 
 
-def opening(limit):
-    shards, keep = 1, 3600
+def opening(limit, objects=True):
     fields = [
         struct.pack(">HI", 1, 7), key(7),
-        struct.pack(">IQQ", shards, keep, limit),
+        struct.pack(">IQQ", SHARDS, KEEP, limit),
         struct.pack(">HI", 1, CHANNEL), key(CHANNEL),
         struct.pack(">BII", 1, CHANNEL, NAME),
         struct.pack(">B", 0),
-        struct.pack(">HIH", 1, OBJECT, 5), b"hello",
-        struct.pack(">BBBI", 1, 15, 2, NAME),
     ]
+    if objects:
+        fields += [
+            struct.pack(">HIH", 1, OBJECT, len(CONTENT)), CONTENT,
+            struct.pack(">BBBI", 1, 15, 2, NAME),
+        ]
+    else:
+        fields += [struct.pack(">H", 0)]
     return b"".join(fields)
 
 
-def frame(seq, operation=READ, certificates=()):
-    body = struct.pack(">BIQBBIB", 3, CHANNEL, seq, 0, operation, OBJECT, len(certificates))
+def frame(seq, certificates=()):
+    body = struct.pack(">BIQBBIB", 3, CHANNEL, seq, 0, READ, OBJECT, len(certificates))
     body += b"".join(struct.pack(">H", len(text)) + text for text in certificates)
     payload = body + tag(CHANNEL, body)
     return struct.pack(">I", len(payload)) + payload
@@ -71,33 +81,54 @@ def write(opening_path, frames_path, count=COUNT, limit=LIMIT):
 
 
 def write_large(frames_path, count, length):
-    empty = len(frame(1, HOLD)) - 4
+    empty = len(frame(1)) - 4
     certificates = certificates_of(int(length) - empty)
     with open(frames_path, "wb") as out:
         for seq in range(1, int(count) + 1):
-            out.write(frame(seq, HOLD, certificates))
+            out.write(frame(seq, certificates))
 
 
-def check(path, count, wanted=GRANTED):
+class Grants:
+    """Grants of one shard, whose places go on from one to the next."""
+
+    def __init__(self):
+        self.due = 0
+
+    def holds(self, fields):
+        if len(fields) < GRANT.size + len(CONTENT):
+            return False
+        kept, entry, shard, place = GRANT.unpack_from(fields)
+        right = (entry, shard, place) == (0, CHANNEL % SHARDS, self.due) and kept in (0, 1)
+        self.due = place + 1 + kept
+        return right and fields.endswith(struct.pack(">H", len(CONTENT)) + CONTENT)
+
+
+class Refusals:
+    def holds(self, fields):
+        return fields == bytes([0, MALFORMED])
+
+
+def check(path, count, wanted, answers):
     with open(path, "rb") as replies:
         data = replies.read()
-    at, sealed, statuses = 0, 0, {}
+    at, right, statuses = 0, 0, {}
     for seq in range(1, int(count) + 1):
         if at + 4 > len(data):
             break
         length = struct.unpack_from(">I", data, at)[0]
         payload = data[at + 4 : at + 4 + length]
         at += 4 + length
-        if len(payload) != length or length < 46:
+        if len(payload) != length or length < HEAD.size + TAG:
             break
-        status = payload[13]
+        version, channel, number, status = HEAD.unpack_from(payload)
         statuses[status] = statuses.get(status, 0) + 1
-        head = payload[:13] == struct.pack(">BIQ", 4, CHANNEL, seq)
-        if status == wanted and head and payload[-32:] == tag(CHANNEL, payload[:-32]):
-            sealed += 1
+        head = (version, channel, number, status) == (4, CHANNEL, seq, wanted)
+        sealed = payload[-TAG:] == tag(CHANNEL, payload[:-TAG])
+        if head and sealed and answers.holds(payload[HEAD.size : -TAG]):
+            right += 1
     told = ", ".join(f"{n} of status {status}" for status, n in sorted(statuses.items()))
-    print(f"replies: {told or 'none'}; {sealed} of {count} are status {wanted} with the right tag")
-    return 0 if sealed == int(count) and at == len(data) else 1
+    print(f"replies: {told or 'none'}; {right} of {count} are as they should be, by status {wanted}")
+    return 0 if right == int(count) and at == len(data) else 1
 
 
 def main(words):
@@ -105,12 +136,12 @@ def main(words):
         write(*words[1:])
         return 0
     if words[:1] == ["check"] and len(words) == 3:
-        return check(words[1], words[2])
+        return check(words[1], words[2], GRANTED, Grants())
     if words[:1] == ["write-large"] and len(words) == 4:
         write_large(*words[1:])
         return 0
     if words[:1] == ["check-large"] and len(words) == 3:
-        return check(words[1], words[2], UNBUILT)
+        return check(words[1], words[2], REFUSED, Refusals())
     print(__doc__, end="", file=sys.stderr)
     return 2
 

@@ -8,24 +8,33 @@ import hmac
 import os
 import struct
 
-NODE, SHARDS, KEEP, JOURNAL_LIMIT = 7, 1, 3600, 16_384
-CHANNELS = [1, 2]
+NODE, SHARDS, KEEP, JOURNAL_LIMIT = 7, 2, 3600, 16_384
+# A channel's shard is its number modulo the count of shards: channels 2 and 4 are of shard 0.
+CHANNELS = [1, 2, 4]
 ANCHORS = [(1, 10), (3, 30)]
 READ, ALL_RIGHTS = 1, 15
 KEY, NAME = 1, 2
 # number: content, access list of (rights, key or name, number)
 OBJECTS = {5: (b"hello", [(ALL_RIGHTS, NAME, 10)])}
-# issuer, until, serial: that issuer says that key 2 speaks for name 10, until that second since 1970
-BY_ONE, BY_THREE, ENDED = (1, 2**40, 1), (3, 2**40, 2), (1, 1000, 3)
+# kind, issuer, key, until, serial: that issuer says that the key speaks for name 10, until that second since 1970
+ISSUED, RELAYED = 1, 2
+BY_ONE, BY_THREE = (RELAYED, 1, 2, 2**40, 1), (RELAYED, 3, 4, 2**40, 2)
+ENDED, UNSEEN = (RELAYED, 1, 4, 1000, 3), (ISSUED, 1, 4, 2**40, 4)
 
 # channel, number in the channel's order, object, certificates, whether the tag is turned
 REQUESTS = [
     (1, 1, 5, [], False),  # key 1 is anchored to name 10, which is listed
     (2, 1, 5, [BY_ONE], False),  # and may hand that off to key 2
-    (2, 2, 5, [BY_THREE], False),  # which key 3 may not
-    (2, 3, 5, [ENDED], False),  # nor for longer than it said
+    (2, 2, 5, [], False),  # for which the shard holds the certificate now
+    (2, 2, 5, [], False),  # this number was there
+    (2, 9, 5, [], False),  # numbers may leave some out
+    (4, 1, 5, [], False),  # what channel 2 presented is channel 2's
+    (4, 2, 5, [BY_THREE], False),  # key 3 may not hand off what is key 1's
+    (4, 3, 5, [ENDED], False),  # nor does key 1 for longer than it said
+    (4, 4, 5, [UNSEEN], False),  # under its issuer's own seal a relay has to see it, and there is none
     (1, 2, 5, [], True),  # nobody sealed this
-    (1, 3, 6, [], False),  # no such object
+    (1, 2, 6, [], False),  # no such object, and no entry in a journal
+    (1, 2, 5, [], False),  # so this number is new
 ]
 
 
@@ -56,10 +65,10 @@ def opening():
     return out
 
 
-def certificate(issuer, until, serial):
-    text = struct.pack(">BBIB", 2, 1, issuer, 0)
-    text += struct.pack(">BIBI", KEY, 2, NAME, 10) + struct.pack(">QQ", until, serial)
-    return text + tag(key(NODE), text)
+def certificate(kind, issuer, whom, until, serial):
+    text = struct.pack(">BBIB", kind, 1, issuer, 0)
+    text += struct.pack(">BIBI", KEY, whom, NAME, 10) + struct.pack(">QQ", until, serial)
+    return text + tag(key(issuer if kind == ISSUED else NODE), text)
 
 
 def request(channel, seq, obj, certificates, turned):

@@ -32,10 +32,6 @@ class Bytes:
     def number(self, width):
         return int.from_bytes(self.take(width), "big")
 
-    def zero(self, width, what):
-        if self.number(width) != 0:
-            raise ValueError(f"{what} is not 0")
-
     def end(self):
         if self.at != len(self.data):
             raise ValueError(f"bytes follow at {self.at}")
@@ -92,7 +88,8 @@ def statement(said):
 def certificate(fields):
     """What a presented certificate says, whoever sealed it."""
     sealed = fields.take(fields.number(2))
-    return statement(Bytes(sealed[1:-TAG]))
+    own = "" if sealed[:1] == b"\2" else ", under its issuer's own seal"
+    return statement(Bytes(sealed[1:-TAG])) + own
 
 
 def request(payload):
@@ -172,44 +169,51 @@ def proof(data):
     return lines
 
 
+def place(fields):
+    """Where the request stands: in the journal of which shard, behind how many entries."""
+    return f"shard {fields.number(4)}, place {fields.number(8)}"
+
+
 def grant(fields):
-    fields.zero(1, "kept")
-    entry = fields.number(1)
-    fields.zero(4, "the shard")
-    fields.zero(8, "the place")
+    kept, entry = fields.number(1), fields.number(1)
+    if kept > 1:
+        raise ValueError("kept is neither 0 nor 1")
+    at = place(fields) + (", kept" if kept else "")
     lines = proof(fields.take(fields.number(4)))
     cited = [body(fields) for _ in range(fields.number(1))]
     content = fields.take(fields.number(2)).decode("utf-8", "backslashreplace")
-    said = [f'grant: entry {entry}, content "{content}"']
+    said = [f'grant: {at}: entry {entry}, content "{content}"']
     said += [f"    certificate {number}: {each}" for number, each in enumerate(cited)]
     said += [f"    line {number}: {each}" for number, each in enumerate(lines)]
     return "\n    ".join(said)
 
 
 def denial(fields):
-    fields.zero(4, "the shard")
-    fields.zero(8, "the place")
-    link = fields.number(1)
+    at, link = place(fields), fields.number(1)
     if link == 1:
         entry, digest = fields.number(1), fields.take(32).hex()
-        return f"denial: entry {entry} would be reached but for the certificate of digest {digest[:16]}.., which has ended"
+        return f"denial: {at}: entry {entry} would be reached but for the certificate of digest {digest[:16]}.., which has ended"
     if link == 2:
         entry = fields.number(1)
-        return f"denial: of entry {entry} nobody reaches {term(fields)}"
+        return f"denial: {at}: of entry {entry} nobody reaches {term(fields)}"
     if link == 3:
-        return "denial: no entry has the right"
+        return f"denial: {at}: no entry has the right"
     raise ValueError(f"a link of kind {link}")
 
 
-# What each refusal says: its name, and the width of the number behind it.
+# What each refusal says: its name, and the widths of the numbers behind it.
 REFUSALS = {
-    2: ("malformed, at byte", 4),
-    3: ("unknown channel", 4),
-    4: ("bad seal", 0),
-    6: ("certificate refused, at its index and for the code", 2),
-    9: ("unknown object", 4),
-    11: ("no memory", 0),
-    255: ("not built", 0),
+    2: ("malformed, at byte", [4]),
+    3: ("unknown channel", [4]),
+    4: ("bad seal", []),
+    5: ("replayed: the channel's last number is", [8]),
+    6: ("certificate refused, at its index and for the code", [1, 1]),
+    7: ("the channel would hold too many certificates, and holds", [1]),
+    8: ("no relay answers for the certificate at index", [1]),
+    9: ("unknown object", [4]),
+    10: ("a journal is full (0 an object's, 1 a shard's), its number, its length:", [1, 4, 8]),
+    11: ("no memory", []),
+    255: ("not built", []),
 }
 # These come before the seal of a request is found right, and NO_MEMORY may.
 UNSEALED, NO_MEMORY = (2, 3, 4), 11
@@ -218,10 +222,8 @@ UNSEALED, NO_MEMORY = (2, 3, 4), 11
 def refusal(status, fields):
     if status not in REFUSALS:
         raise ValueError(f"a reply of status {status}")
-    name, width = REFUSALS[status]
-    if status == 6:
-        return f"refusal: {name} {fields.number(1)}, {fields.number(1)}"
-    return f"refusal: {name} {fields.number(width)}" if width else f"refusal: {name}"
+    name, widths = REFUSALS[status]
+    return f"refusal: {name} {', '.join(str(fields.number(width)) for width in widths)}".rstrip()
 
 
 def reply(payload, keys):
