@@ -21,18 +21,4 @@ pub use note::tell;
 pub use taos_monitor::{MAX_REQUEST, answer, serve_connection};
 
 #[cfg(test)]
-mod check_tests;
-#[cfg(test)]
-mod login_tests;
-#[cfg(test)]
-mod presented_tests;
-#[cfg(test)]
-mod relay_frames;
-#[cfg(test)]
-mod relay_tests;
-#[cfg(test)]
-mod shard_frames;
-#[cfg(test)]
-mod shard_tests;
-#[cfg(test)]
 mod tests;
