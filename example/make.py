@@ -21,20 +21,21 @@ ISSUED, RELAYED = 1, 2
 BY_ONE, BY_THREE = (RELAYED, 1, 2, 2**40, 1), (RELAYED, 3, 4, 2**40, 2)
 ENDED, UNSEEN = (RELAYED, 1, 4, 1000, 3), (ISSUED, 1, 4, 2**40, 4)
 
-# channel, number in the channel's order, object, certificates, whether the tag is turned
+# channel, number, object, certificates, whether a bit of the tag is turned. A client keeps the rules of docs/FORMATS.md:
+# its numbers rise from 1, and it uses none twice, whatever became of the request.
 REQUESTS = [
     (1, 1, 5, [], False),  # key 1 is anchored to name 10, which is listed
     (2, 1, 5, [BY_ONE], False),  # and may hand that off to key 2
     (2, 2, 5, [], False),  # for which the shard holds the certificate now
-    (2, 2, 5, [], False),  # this number was there
+    (2, 2, 5, [], False),  # not the client: somebody on the wire sends the frame before this one again
     (2, 9, 5, [], False),  # numbers may leave some out
     (4, 1, 5, [], False),  # what channel 2 presented is channel 2's
     (4, 2, 5, [BY_THREE], False),  # key 3 may not hand off what is key 1's
     (4, 3, 5, [ENDED], False),  # nor does key 1 for longer than it said
     (4, 4, 5, [UNSEEN], False),  # under its issuer's own seal a relay has to see it, and there is none
-    (1, 2, 5, [], True),  # nobody sealed this
-    (1, 2, 6, [], False),  # no such object, and no entry in a journal
-    (1, 2, 5, [], False),  # so this number is new
+    (1, 2, 5, [], True),  # a bit was turned on the way
+    (1, 3, 6, [], False),  # there is no such object
+    (1, 4, 5, [], False),  # neither of these two took an entry: this is the second place of its journal
 ]
 
 

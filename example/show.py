@@ -69,7 +69,7 @@ def term(fields):
 
 
 def body(fields):
-    """What a certificate says, behind its length."""
+    """What a certificate says, after its length."""
     said = Bytes(fields.take(fields.number(2)))
     return statement(said)
 
@@ -170,7 +170,7 @@ def proof(data):
 
 
 def place(fields):
-    """Where the request stands: in the journal of which shard, behind how many entries."""
+    """Where the request stands: in the journal of which shard, after how many entries."""
     return f"shard {fields.number(4)}, place {fields.number(8)}"
 
 
@@ -195,13 +195,13 @@ def denial(fields):
         return f"denial: {at}: entry {entry} would be reached but for the certificate of digest {digest[:16]}.., which has ended"
     if link == 2:
         entry = fields.number(1)
-        return f"denial: {at}: of entry {entry} nobody reaches {term(fields)}"
+        return f"denial: {at}: of entry {entry} {term(fields)} is missing"
     if link == 3:
         return f"denial: {at}: no entry has the right"
     raise ValueError(f"a link of kind {link}")
 
 
-# What each refusal says: its name, and the widths of the numbers behind it.
+# What each refusal says: its name, and the widths of the numbers after it.
 REFUSALS = {
     2: ("malformed, at byte", [4]),
     3: ("unknown channel", [4]),

@@ -26,7 +26,7 @@ pub enum Op {
     SetList(Arc<Vec<Entry>>),
     /// Holds the certificates that are presented, in common.
     Hold,
-    /// Removes the certificate of a digest from those held in common.
+    /// Removes the certificates of a digest, those of every channel and those held in common.
     Discard([u8; 32]),
     /// Removes what is kept of a channel.
     Forget(u32),
