@@ -1,0 +1,204 @@
+//! What one line adds to its conversation. Each function says whether the key is one of its own.
+
+use crate::bytes::{add_numbers, bytes_of, number_of};
+use crate::case::{Conversation, Grant, NumberedKey, Part, RelaySide, Wanted};
+use crate::fault::LineFault;
+use std::alloc::Global;
+
+/// The bytes of a grant's payload before the length of its proof.
+pub const FRONT: usize = 28;
+
+// Puts a value where none is yet.
+fn put<T: Drop>(place: &mut Option<T>, value: T) -> Result<(), LineFault> {
+    if place.is_some() {
+        return Err(LineFault::Twice);
+    }
+    *place = Some(value);
+    Ok(())
+}
+
+fn add_words(alloc: Global, words: &mut Vec<String>, text: &str) -> Result<(), LineFault> {
+    for word in text.split_ascii_whitespace() {
+        words.push(String::from_str(alloc, word)?)?;
+    }
+    Ok(())
+}
+
+fn add_bytes(alloc: Global, bytes: &mut Vec<u8>, text: &str) -> Result<(), LineFault> {
+    let mut more = bytes_of(alloc, text)?;
+    Ok(bytes.append(&mut more)?)
+}
+
+// The bytes of a key whose line may be left out.
+fn add_some(alloc: Global, place: &mut Option<Vec<u8>>, text: &str) -> Result<(), LineFault> {
+    let mut bytes = place.take().unwrap_or(Vec::new(alloc));
+    add_bytes(alloc, &mut bytes, text)?;
+    *place = Some(bytes);
+    Ok(())
+}
+
+fn put_number(place: &mut Option<u64>, text: &str) -> Result<(), LineFault> {
+    put(place, number_of(text)?)
+}
+
+// A number of a piece's bytes, at least 1.
+fn add_pieces(pieces: &mut Vec<u64>, text: &str) -> Result<(), LineFault> {
+    add_numbers(pieces, text)?;
+    if pieces.contains(&0) {
+        return Err(LineFault::Number);
+    }
+    Ok(())
+}
+
+fn add_key(alloc: Global, keys: &mut Vec<NumberedKey>, text: &str) -> Result<(), LineFault> {
+    let (number, digits) = text.split_once(' ').unwrap_or((text, ""));
+    let Ok(number) = number.parse::<u32>() else {
+        return Err(LineFault::Number);
+    };
+    let bytes = bytes_of(alloc, digits)?;
+    let Some((key, [])) = bytes.split_first_chunk::<32>() else {
+        return Err(LineFault::KeyLength);
+    };
+    if keys.iter().any(|other| other.number == number) {
+        return Err(LineFault::Twice);
+    }
+    Ok(keys.push(NumberedKey { number, key: *key })?)
+}
+
+// A key of a relay that says nothing by itself.
+fn add_relay_key(
+    alloc: Global,
+    side: &mut RelaySide,
+    issues: bool,
+    text: &str,
+) -> Result<(), LineFault> {
+    if side.says.is_some() {
+        return Err(LineFault::TwoRelays);
+    }
+    let keys = if issues {
+        &mut side.issuers
+    } else {
+        &mut side.nodes
+    };
+    add_key(alloc, keys, text)
+}
+
+fn add_says(alloc: Global, side: &mut RelaySide, text: &str) -> Result<(), LineFault> {
+    if !side.nodes.is_empty() || !side.issuers.is_empty() {
+        return Err(LineFault::TwoRelays);
+    }
+    add_some(alloc, &mut side.says, text)
+}
+
+// `FRONT certificates N content BYTES`.
+fn grant_of(alloc: Global, text: &str) -> Result<Grant, LineFault> {
+    let Some((front, rest)) = text.split_once(" certificates ") else {
+        return Err(LineFault::Grant);
+    };
+    let Some((count, content)) = rest.split_once(" content") else {
+        return Err(LineFault::Grant);
+    };
+    let front = bytes_of(alloc, front)?;
+    if front.len() != FRONT {
+        return Err(LineFault::Grant);
+    }
+    Ok(Grant {
+        front,
+        certificates: number_of(count)?,
+        content: bytes_of(alloc, content)?,
+    })
+}
+
+fn put_notes(alloc: Global, wanted: &mut Wanted, text: &str, end: &str) -> Result<(), LineFault> {
+    let mut bytes = text.as_bytes().to_vec(alloc)?;
+    bytes.extend_from_slice(end.as_bytes())?;
+    put(&mut wanted.notes, bytes)
+}
+
+fn put_status(wanted: &mut Wanted, text: &str) -> Result<(), LineFault> {
+    put_number(&mut wanted.status, text)?;
+    if wanted.status() > 255 {
+        return Err(LineFault::Number);
+    }
+    Ok(())
+}
+
+// Adds to what stands round the call.
+fn says_setting(
+    alloc: Global,
+    case: &mut Conversation,
+    key: &str,
+    text: &str,
+) -> Result<bool, LineFault> {
+    let setting = &mut case.setting;
+    match key {
+        "words" => add_words(alloc, &mut setting.words, text)?,
+        "file" => add_bytes(alloc, &mut setting.file, text)?,
+        "input" => add_bytes(alloc, &mut setting.input, text)?,
+        "pieces" => add_pieces(&mut setting.pieces, text)?,
+        "clock" => add_numbers(&mut setting.readings, text)?,
+        "relay-node" => add_relay_key(alloc, &mut setting.relay, false, text)?,
+        "relay-issuer" => add_relay_key(alloc, &mut setting.relay, true, text)?,
+        "relay-says" => add_says(alloc, &mut setting.relay, text)?,
+        "output-room" => put_number(&mut setting.rooms.output, text)?,
+        "notes-room" => put_number(&mut setting.rooms.notes, text)?,
+        "hears-room" => put_number(&mut setting.rooms.hears, text)?,
+        _ => return Ok(false),
+    }
+    Ok(true)
+}
+
+// Adds to the calls that fail.
+fn says_fails(case: &mut Conversation, key: &str, text: &str) -> Result<bool, LineFault> {
+    let fails = &mut case.setting.fails;
+    match key {
+        "file-fails" => add_numbers(&mut fails.file, text)?,
+        "input-fails" => add_numbers(&mut fails.input, text)?,
+        "byte-fails" => add_numbers(&mut fails.bytes, text)?,
+        "output-fails" => add_numbers(&mut fails.output, text)?,
+        "notes-fails" => add_numbers(&mut fails.notes, text)?,
+        "clock-fails" => add_numbers(&mut fails.clock, text)?,
+        "relay-fails" => add_numbers(&mut fails.relay, text)?,
+        "says-fails" => add_numbers(&mut fails.says, text)?,
+        "hears-fails" => add_numbers(&mut fails.hears, text)?,
+        _ => return Ok(false),
+    }
+    Ok(true)
+}
+
+// Adds to what must come of the call.
+fn says_wanted(
+    alloc: Global,
+    wanted: &mut Wanted,
+    key: &str,
+    text: &str,
+) -> Result<bool, LineFault> {
+    match key {
+        "output" => wanted.output.push(Part::Bytes(bytes_of(alloc, text)?))?,
+        "grant" => wanted.output.push(Part::Granted(grant_of(alloc, text)?))?,
+        "status" => put_status(wanted, text)?,
+        "note" => put_notes(alloc, wanted, text, "\n")?,
+        "note-front" => put_notes(alloc, wanted, text, "")?,
+        "faults" => put_number(&mut wanted.faults, text)?,
+        "hears" => add_some(alloc, &mut wanted.hears, text)?,
+        "left" => add_some(alloc, &mut wanted.left, text)?,
+        _ => return Ok(false),
+    }
+    Ok(true)
+}
+
+/// Adds what a line says to its conversation.
+pub fn add_line(
+    alloc: Global,
+    case: &mut Conversation,
+    key: &str,
+    text: &str,
+) -> Result<(), LineFault> {
+    if says_setting(alloc, case, key, text)?
+        || says_fails(case, key, text)?
+        || says_wanted(alloc, &mut case.wanted, key, text)?
+    {
+        return Ok(());
+    }
+    Err(LineFault::NoKey)
+}
