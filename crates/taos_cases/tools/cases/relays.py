@@ -158,6 +158,10 @@ def answers():
     cases += [talk("two frames in another order", "They are not those that were asked for.", node(),
                    [(ask(2, 1, OWN, other), refused(2, 1, 0, 6))], hears=[ASKING],
                    relay_says=[resealed(relayed(handing(serial=2))), RESEALED])]
+    for title, says, reply in (("want of memory", 11, wants_memory(2, 1)), ("a refusal", 3, refused(2, 1, 0, 3))):
+        cases += [talk(f"{title} leaves no entry", "Nor does it take a number.", node(),
+                       [(ASKED, reply), (ask(2, 1), no_alice(2, 1))], relay_says=[relay_refusal(says)],
+                       hears=[ASKING])]
     return cases + ends()
 
 
@@ -173,6 +177,22 @@ def ends():
     cases += [unheard(f"the relay has room for {room} bytes", about, room, hears_room=room) for room in (0, 40,
                                                                                                          73)]
     cases += [answer("the relay has room for all 74 bytes", "No write fails.", says, GRANTED, hears_room=74)]
+    return cases + second_ends()
+
+
+def second_ends():
+    """The same at the second of two questions."""
+    other = handing(serial=2)
+    asked, asking_other = ask(2, 1, OWN, issued(1, other)), asking(7, issued(1, other))
+    about, told = "The first certificate was resealed, and is not held.", [(asked, relay_failed(2, 1, 1))]
+    both = dict(clock=[1000], relay_says=[RESEALED, resealed(relayed(other))], faults=1)
+    told += [(ask(2, 1), no_alice(2, 1))]
+    cases = [talk(f"reading the second answer fails at call {call}", about, node(), told, says_fails=[call],
+                  hears=[ASKING, asking_other], **both) for call in (2, 3)]
+    cases += [talk("writing the second question fails", about, node(), told, hears_fails=[1], hears=[ASKING],
+                   **both)]
+    cases += [talk("the relay has room for 100 bytes", about, node(), told, hears_room=100,
+                   hears=[ASKING, asking_other.front(26)], **both)]
     return cases
 
 
