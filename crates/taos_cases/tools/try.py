@@ -6,6 +6,7 @@
 Each has its node file, its input and its relay, which listens on 127.0.0.1. The readings of its clock come
 from tools/clock.c, which `cc` compiles and which is preloaded; where that has no effect, conversations with
 readings are left out. What is written, the exit status and the note have to be as the conversation says.
+One run more has little memory, and has to end with 6.
 Files are those of data/ where none is named. Ends with 1 where one is not as it should be.
 """
 import concurrent.futures
@@ -26,7 +27,7 @@ UNFIT += [f"{each}-fails" for each in FAILING]
 MOST_SECONDS = 2**63 - 1
 WORKERS, LIMIT, TAG, FRONT = 4, 120, 32, 28
 # So many bytes are too few for the room that is taken before the first frame is read.
-LITTLE_MEMORY = 64 * 1024 * 1024
+LITTLE_MEMORY = 32 * 1024 * 1024
 
 
 class Program:
@@ -164,7 +165,7 @@ def little_memory():
 
 
 def memory_fault(program, case):
-    """What is wrong where there is little memory, if anything is."""
+    """What is wrong with the conversation's run that has little memory, if anything is."""
     with tempfile.NamedTemporaryFile(dir=program.folder) as file:
         file.write(case.bytes("file"))
         file.flush()
@@ -174,20 +175,31 @@ def memory_fault(program, case):
     return None
 
 
+def served(cases):
+    """The first conversation that succeeds, as a list."""
+    return [case for case in cases if case.words("words") == ["run"] and case.text("status") == "0"][:1]
+
+
+def tell(case, wrong, how=""):
+    """Whether something is wrong. It says so."""
+    if wrong is not None:
+        print(f"{case.file}: {case.name}{how}: {wrong}", flush=True)
+    return wrong is not None
+
+
 def main(words):
     if not words:
         print(__doc__, end="", file=sys.stderr)
         return 2
     cases = [case for path in words[1:] or all_files() for case in read(path)]
     with tempfile.TemporaryDirectory() as folder:
-        program, failed = Program(words[0], folder), 0
+        program = Program(words[0], folder)
         fit = chosen(program, cases)
         with concurrent.futures.ThreadPoolExecutor(WORKERS) as pool:
-            for case, wrong in pool.map(lambda case: tried(program, case), fit):
-                failed += wrong is not None
-                if wrong is not None:
-                    print(f"{case.file}: {case.name}: {wrong}")
-    print(f"{len(fit) - failed} passed, {failed} failed")
+            told = [tell(*each) for each in pool.map(lambda case: tried(program, case), fit)]
+        told += [tell(case, memory_fault(program, case), ", with little memory") for case in served(fit)]
+    failed = sum(told)
+    print(f"{len(told) - failed} passed, {failed} failed")
     return 1 if failed else 0
 
 

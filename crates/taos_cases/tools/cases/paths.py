@@ -48,10 +48,6 @@ def three_replies():
     return [by_anchor(1), no_alice(2, 1, place=1), malformed(0)]
 
 
-def turned_frame(fields):
-    return Fields(fields.parts[0], turned(Fields(*fields.parts[1:])))
-
-
 def writing(channel=1, certificates=()):
     return frame(request(channel, 1, WRITE, 5, [u16(3), b"new"], certificates))
 
@@ -60,13 +56,13 @@ REFUSALS = [
     ("an empty payload", "No request has no bytes.", Fields(bytes(4)), malformed(0)),
     ("a byte behind the tag", "It is the first that can't be there.", frame(request(1, 1), b"\0"), malformed(52)),
     ("channel 9", "It has no key in the opening.", ask(9, 1), unknown_channel(9)),
-    ("channel 9 with a turned tag", "There is no key to look at the tag with.", turned_frame(ask(9, 1)),
+    ("channel 9 with a turned tag", "There is no key to look at the tag with.", turned(ask(9, 1)),
      unknown_channel(9)),
-    ("a turned tag", "The channel's key has another tag.", turned_frame(ask(1, 1)), bad_seal()),
+    ("a turned tag", "The channel's key has another tag.", turned(ask(1, 1)), bad_seal()),
     ("the tag of another channel's key", "The request is of channel 1, the key that of channel 2.",
      frame(tagged(key_of(2), Fields(*request(1, 1).parts[:-1]))), bad_seal()),
-    ("a turned tag of a request that is not built", "The seal comes first.", turned_frame(writing()), bad_seal()),
-    ("a turned tag of an object that is not there", "The seal comes first.", turned_frame(ask(1, 1, target=6)),
+    ("a turned tag of a request that is not built", "The seal comes first.", turned(writing()), bad_seal()),
+    ("a turned tag of an object that is not there", "The seal comes first.", turned(ask(1, 1, target=6)),
      bad_seal()),
     ("object 6", "It is not in the opening.", ask(1, 1, target=6), unknown_object(1, 1, 6)),
     ("a Write with a turned certificate", "That it is not built comes first.",

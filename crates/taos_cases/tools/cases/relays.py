@@ -3,7 +3,6 @@ from conversation import Grant, talk
 from formats import Fields, asking, bad_seal, certificate, expired, key_of, refused, relay_failed, relay_refusal
 from formats import resealed, turned, wants_memory
 from .nodes import ask, by_anchor, handed, handing, issued, no_alice, node, relayed
-from .paths import turned_frame
 
 C1 = handing()
 OWN, NEW = issued(1, C1), relayed(C1)
@@ -11,7 +10,6 @@ ASKED, ASKING, RESEALED = ask(2, 1, OWN), asking(7, OWN), resealed(NEW)
 LONGER = Fields(OWN, b"\0")
 FAILED = relay_failed(2, 1, 0)
 GRANTED = Grant(2, 1, 1)
-
 
 # What is presented, the issuer and the node that the relay knows, the node's key there, and what is told.
 BY_TABLE = [
@@ -57,11 +55,9 @@ def by_calls():
     unseen = [(ask(2, 1, *by_three), no_alice(2, 1)), (ask(2, 2, *by_three), no_alice(2, 2, 1))]
     return [
         talk("resealed, and then not", "The second call fails; what the first one brought is held.", node(),
-             again,
-             clock=[1000], relay_fails=[1], faults=1, **known),
+             again, clock=[1000], relay_fails=[1], faults=1, **known),
         talk("resealed, failed, and no third call", "Two certificates came under their issuer's seal.", node(),
-             again,
-             clock=[1000], relay_fails=[1, 2], faults=1, **known),
+             again, clock=[1000], relay_fails=[1, 2], faults=1, **known),
         talk("the second of two, and both once more", "None of the first request is held. There are four calls.",
              node(), both, clock=[1000], relay_fails=[1, 4], faults=1, **known),
         talk("two and two calls, and no fifth", "What is held is asked for again.", node(), unseen, clock=[1000],
@@ -71,7 +67,7 @@ def by_calls():
         talk("no certificate, and no call", "The relay is asked for certificates alone.", node(),
              [(ask(2, 1, NEW), GRANTED)], clock=[1000], relay_fails=[0], **known),
         talk("a request that is refused before its certificates", "The relay is not asked.", node(),
-             [(turned_frame(ASKED), bad_seal())], relay_fails=[0], **known),
+             [(turned(ASKED), bad_seal())], relay_fails=[0], **known),
     ]
 
 

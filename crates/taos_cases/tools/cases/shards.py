@@ -3,7 +3,6 @@ from conversation import Grant, talk
 from formats import LAST, bad_seal, body, channel_full, expired, journal_full, refused, replayed
 from formats import turned, unknown_object
 from .nodes import ALICE, BOB, ask, by_anchor, handed, handing, no_alice, node, relayed
-from .paths import turned_frame
 
 YEAR = 31_536_000
 # The word of key 1 that key 2, 3 or 4 speaks for alice, until 2000; and that bob does.
@@ -45,7 +44,7 @@ def clocks():
         ("no reading for what has no object or no seal", "2000 is the reading of the fourth frame.", plain,
          [1000, 2000, 1000],
          [(ask(2, 1, SHOWN), granted(2, 1)), (ask(2, 2, target=9), unknown_object(2, 2, 9)),
-          (turned_frame(ask(2, 2)), bad_seal()), (ask(2, 2), ended(2, 1))]),
+          (turned(ask(2, 2)), bad_seal()), (ask(2, 2), ended(2, 1))]),
         ("no reading for a certificate that is refused", "2000 is the reading of the third frame.", plain,
          [1000, 2000, 1000],
          [(ask(2, 1, SHOWN), granted(2, 1)), (ask(2, 2, turned(SHOWN)), refused(2, 2, 0, 3)),
