@@ -1,0 +1,133 @@
+"""Conversations, and how a file of them is written."""
+import textwrap
+
+from formats import Fields, grant_front
+
+WIDTH = 100
+NUMBERS = ["pieces", "clock"]
+FAILS = ["file-fails", "input-fails", "byte-fails", "output-fails", "notes-fails", "clock-fails"]
+FAILS += ["relay-fails", "says-fails", "hears-fails"]
+ROOMS = ["output-room", "notes-room", "hears-room"]
+BYTES = ["file", "input", "relay-says", "output", "hears", "left"]
+KEYS = ["words", "file", "input", "pieces", "clock", "relay-node", "relay-issuer", "relay-says"]
+KEYS += FAILS + ROOMS + ["output", "hears", "left", "status", "note", "note-front", "faults"]
+
+
+class Times:
+    """The same bytes so many times."""
+
+    def __init__(self, fields, count):
+        self.fields, self.count = fields, count
+
+    def __bytes__(self):
+        return bytes(self.fields) * self.count
+
+    def __len__(self):
+        return len(self.fields) * self.count
+
+
+class Grant:
+    """The frame of a grant whose proof may be any."""
+
+    def __init__(self, channel, number, certificates, entry=0, shard=0, place=0, content=b"hello"):
+        self.front = grant_front(channel, number, entry, shard, place)
+        self.certificates, self.content = certificates, content
+
+    def line(self):
+        content = f" content {self.content.hex()}".rstrip()
+        return f"grant {spelled(self.front)} certificates {self.certificates}{content}"
+
+
+class Case:
+    """A name, what the case shows, and its lines by their keys, with `_` for `-`."""
+
+    def __init__(self, title, about, status=0, words=("run",), **lines):
+        self.title, self.about = title, about
+        self.lines = {key.replace("_", "-"): value for key, value in lines.items() if value is not None}
+        self.lines["status"] = status
+        if words:
+            self.lines["words"] = list(words)
+        strange = set(self.lines) - set(KEYS)
+        if strange:
+            raise ValueError(f"{title}: {strange}")
+
+    def text(self):
+        out = [f"case {self.title}"]
+        out += textwrap.wrap(self.about, WIDTH, initial_indent="# ", subsequent_indent="# ")
+        for key in KEYS:
+            if key in self.lines:
+                out += lines_of(key, self.lines[key])
+        return "\n".join(out) + "\n"
+
+
+def talk(title, about, file, told, **lines):
+    """A case of requests and their replies in turn."""
+    asked, answered = [each[0] for each in told], [each[1] for each in told]
+    return Case(title, about, file=file, input=asked, output=answered, **lines)
+
+
+def joined(lines):
+    return b"".join(map(bytes, lines))
+
+
+def spelled(fields):
+    return " ".join(part.hex() for part in fields.parts)
+
+
+def filled(key, pieces):
+    """Lines of this key, each as full as it may be."""
+    out = []
+    for piece in pieces:
+        if out and len(out[-1]) + 1 + len(piece) <= WIDTH:
+            out[-1] += " " + piece
+        else:
+            out.append(f"{key} {piece}")
+    return out
+
+
+def pieces_of(fields, width):
+    """The digits of each field, cut where they are too long for a line."""
+    width -= width % 16
+    for part in fields.parts:
+        digits = part.hex()
+        for at in range(0, len(digits), width):
+            yield digits[at : at + width]
+
+
+def lines_of_bytes(key, value):
+    if isinstance(value, Grant):
+        return [value.line()]
+    if isinstance(value, Times):
+        return [f"{key} {bytes(value.fields).hex()} * {value.count}"]
+    fields = value if isinstance(value, Fields) else Fields(value)
+    return filled(key, pieces_of(fields, WIDTH - len(key) - 1))
+
+
+def known_key(key, pair):
+    number, secret = pair
+    return f"{key} {number} {secret.hex()}"
+
+
+def lines_of(key, value):
+    if key in BYTES:
+        return [line for each in value for line in lines_of_bytes(key, each)]
+    if key in NUMBERS or key in FAILS:
+        return filled(key, map(str, value))
+    if key == "relay-node":
+        return [known_key(key, value)]
+    if key == "relay-issuer":
+        return [known_key(key, each) for each in value]
+    if key == "words":
+        return [f"{key} {' '.join(value)}"]
+    return [f"{key} {value}"]
+
+
+def file_text(about, cases):
+    """A file of conversations, with a comment before the first."""
+    titles = [case.title for case in cases]
+    if len(set(titles)) != len(titles):
+        raise ValueError(f"a name twice: {about}")
+    head = "\n".join(textwrap.wrap(about, WIDTH, initial_indent="# ", subsequent_indent="# "))
+    text = head + "\n\n" + "\n".join(case.text() for case in cases)
+    text.encode("ascii")
+    return text

@@ -1,0 +1,301 @@
+"""The spellings of docs/FORMATS.md: terms, certificates, openings, requests, replies and what a relay is asked.
+
+Each function gives fields, one behind the other; `bytes` of them is the text. Key n is 32 bytes of value n.
+"""
+import hashlib
+import hmac
+import struct
+
+READ, WRITE, SET_LIST, HOLD, DISCARD, FORGET, SWEEP = range(1, 8)
+ISSUED, RELAYED = 1, 2
+LAST = 2**64 - 1
+
+
+class Fields:
+    """Bytes, as the fields that they are made of. Parts that have no bytes are left out."""
+
+    def __init__(self, *parts):
+        self.parts = []
+        for part in parts:
+            self.parts += part.parts if isinstance(part, Fields) else [bytes(part)]
+        self.parts = [part for part in self.parts if part]
+
+    def __bytes__(self):
+        return b"".join(self.parts)
+
+    def __len__(self):
+        return sum(map(len, self.parts))
+
+    def front(self, count):
+        """The first so many bytes."""
+        kept = []
+        for part in self.parts:
+            kept.append(part[:count])
+            count -= len(kept[-1])
+        return Fields(*kept)
+
+
+def u8(number):
+    return struct.pack(">B", number)
+
+
+def u16(number):
+    return struct.pack(">H", number)
+
+
+def u32(number):
+    return struct.pack(">I", number)
+
+
+def u64(number):
+    return struct.pack(">Q", number)
+
+
+def key_of(number):
+    return bytes([number]) * 32
+
+
+def tag(secret, text):
+    return hmac.new(secret, bytes(text), hashlib.sha256).digest()
+
+
+def tagged(secret, *parts):
+    return Fields(*parts, tag(secret, Fields(*parts)))
+
+
+def turned(fields):
+    """The same with the last bit turned."""
+    last = fields.parts[-1]
+    return Fields(*fields.parts[:-1], last[:-1] + bytes([last[-1] ^ 1]))
+
+
+def frame(*payload):
+    return Fields(u32(len(Fields(*payload))), *payload)
+
+
+# Terms.
+
+
+def key(number):
+    return b"\x01" + u32(number)
+
+
+def name(number):
+    return b"\x02" + u32(number)
+
+
+def both(left, right):
+    return b"\x03" + left + right
+
+
+def quoting(left, right):
+    return b"\x04" + left + right
+
+
+def in_role(whom, role):
+    return b"\x05" + whom + u32(role)
+
+
+def acting_for(left, right):
+    return b"\x06" + left + right
+
+
+def maybe_quoted(quoted):
+    return b"\x00" if quoted is None else b"\x01" + quoted
+
+
+# Certificates.
+
+
+def body(issuer, left, right, until, serial, quoted=None):
+    head = b"\x01" + u32(issuer)
+    return Fields(head, maybe_quoted(quoted), left, right, u64(until), u64(serial))
+
+
+def certificate(kind, secret, text):
+    return tagged(secret, u8(kind), text)
+
+
+def digest(text):
+    return hashlib.sha256(bytes(text)).digest()
+
+
+# Openings, as lines of fields.
+
+
+def opening_head(node, relay_key, shards, keep, limit):
+    return [Fields(b"\x00\x01", u32(node), relay_key), Fields(u32(shards), u64(keep), u64(limit))]
+
+
+def channels_of(numbers):
+    return [Fields(u16(len(numbers)))] + [Fields(u32(each), key_of(each)) for each in numbers]
+
+
+def anchors_of(pairs):
+    fields = [field for pair in pairs for field in map(u32, pair)]
+    return [Fields(u8(len(pairs)), *fields)]
+
+
+def commons_of(certificates):
+    count = [Fields(u8(len(certificates)))]
+    return count + [Fields(u16(len(each)), each) for each in certificates]
+
+
+def list_of(entries):
+    return Fields(u8(len(entries)), *[Fields(u8(rights), term) for rights, term in entries])
+
+
+def objects_of(objects):
+    """Of (number, content, entries)."""
+    lines = [Fields(u16(len(objects)))]
+    for number, content, entries in objects:
+        lines += [Fields(u32(number), u16(len(content)), content, list_of(entries))]
+    return lines
+
+
+def opening(node, relay_key, shards, keep, limit, channels, anchors, commons, objects):
+    lines = opening_head(node, relay_key, shards, keep, limit)
+    lines += channels_of(channels) + anchors_of(anchors)
+    return lines + commons_of(commons) + objects_of(objects)
+
+
+# Requests.
+
+
+def request_text(channel, number, operation, target, fields, certificates, quoted):
+    """A request but for its tag."""
+    head = Fields(b"\x03", u32(channel), u64(number), maybe_quoted(quoted), u8(operation), u32(target))
+    shown = [Fields(u16(len(each)), each) for each in certificates]
+    return Fields(head, *fields, u8(len(certificates)), *shown)
+
+
+def request(channel, number, operation=READ, target=5, fields=(), certificates=(), quoted=None):
+    """A request under its channel's key."""
+    text = request_text(channel, number, operation, target, fields, certificates, quoted)
+    return tagged(key_of(channel), text)
+
+
+# Replies.
+
+
+def reply_text(channel, number, status, *fields):
+    return Fields(b"\x04", u32(channel), u64(number), u8(status), *fields)
+
+
+def sealed_reply(channel, number, status, *fields):
+    return frame(tagged(key_of(channel), reply_text(channel, number, status, *fields)))
+
+
+def unsealed_reply(status, *fields):
+    return frame(reply_text(0, 0, status, *fields), bytes(32))
+
+
+def grant_front(channel, number, entry, shard, place, kept=0):
+    """The payload up to the proof's length."""
+    status_kept_entry = u8(0) + u8(kept) + u8(entry)
+    return Fields(b"\x04", u32(channel), u64(number), status_kept_entry, u32(shard) + u64(place))
+
+
+def grant_text(front, proof, bodies, content):
+    cited = [Fields(u16(len(each)), each) for each in bodies]
+    rest = Fields(u8(len(bodies)), *cited, u16(len(content)), content)
+    return Fields(front, u32(len(proof)), proof, rest)
+
+
+def granted(channel, number, proof, entry=0, shard=0, place=0, bodies=(), content=b"hello"):
+    """The frame of a grant by this proof."""
+    text = grant_text(grant_front(channel, number, entry, shard, place), proof, bodies, content)
+    return frame(tagged(key_of(channel), text))
+
+
+def denied(channel, number, shard, place, link):
+    return sealed_reply(channel, number, 1, u32(shard), u64(place), link)
+
+
+def expired(channel, number, text, entry=0, shard=0, place=0):
+    """The certificate of this body ended too early."""
+    return denied(channel, number, shard, place, Fields(u8(1), u8(entry), digest(text)))
+
+
+def missing(channel, number, part, entry=0, shard=0, place=0):
+    """Nobody speaks for this part."""
+    return denied(channel, number, shard, place, Fields(u8(2), u8(entry), part))
+
+
+def no_right(channel, number, shard=0, place=0):
+    return denied(channel, number, shard, place, u8(3))
+
+
+def malformed(offset):
+    return unsealed_reply(2, u32(offset))
+
+
+def unknown_channel(channel):
+    return unsealed_reply(3, u32(channel))
+
+
+def bad_seal():
+    return unsealed_reply(4)
+
+
+def replayed(channel, number, last):
+    return sealed_reply(channel, number, 5, u64(last))
+
+
+def refused(channel, number, index, code):
+    return sealed_reply(channel, number, 6, u8(index), u8(code))
+
+
+def channel_full(channel, number, held):
+    return sealed_reply(channel, number, 7, u8(held))
+
+
+def relay_failed(channel, number, index):
+    return sealed_reply(channel, number, 8, u8(index))
+
+
+def unknown_object(channel, number, target):
+    return sealed_reply(channel, number, 9, u32(target))
+
+
+def journal_full(channel, number, shard, length):
+    return sealed_reply(channel, number, 10, u8(1), u32(shard), u64(length))
+
+
+def wants_memory(channel, number):
+    return sealed_reply(channel, number, 11)
+
+
+def not_built(channel, number):
+    return sealed_reply(channel, number, 255)
+
+
+# Proofs.
+
+
+def proof_of(nodes, lines):
+    return Fields(u16(len(nodes)), *nodes, u32(len(lines)), *lines)
+
+
+def same_proof(term):
+    return proof_of([term], [Fields(u8(1), u16(0), u16(0))])
+
+
+def anchor_proof(number, whom, place):
+    """That the key speaks for the name, by the anchor of this place."""
+    return proof_of([key(number), name(whom)], [Fields(u8(9), u16(0), u16(1), u16(place))])
+
+
+# What a relay is asked, and what it answers.
+
+
+def asking(node, sealed):
+    return frame(b"\x05", u32(node), sealed)
+
+
+def resealed(sealed):
+    return frame(b"\x06\x00", sealed)
+
+
+def relay_refusal(code):
+    return frame(b"\x06", u8(code))
