@@ -39,10 +39,13 @@ impl fmt::Display for Difference {
 
 // How many bytes two texts have alike at their front.
 fn alike(left: &[u8], right: &[u8]) -> usize {
-    left.iter()
-        .zip(right)
-        .take_while(|pair| pair.0 == pair.1)
-        .count()
+    let most = left.len().min(right.len());
+    for at in 0..most {
+        if left[at] != right[at] {
+            return at;
+        }
+    }
+    most
 }
 
 // How many bytes of the output a grant is met by, from there on.

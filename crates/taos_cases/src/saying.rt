@@ -75,12 +75,11 @@ fn add_relay_key(
     if side.says.is_some() {
         return Err(LineFault::TwoRelays);
     }
-    let keys = if issues {
-        &mut side.issuers
+    if issues {
+        add_key(alloc, &mut side.issuers, text)
     } else {
-        &mut side.nodes
-    };
-    add_key(alloc, keys, text)
+        add_key(alloc, &mut side.nodes, text)
+    }
 }
 
 fn add_says(alloc: Global, side: &mut RelaySide, text: &str) -> Result<(), LineFault> {
