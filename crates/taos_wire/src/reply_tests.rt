@@ -105,17 +105,6 @@ fn has_its_length(rt: &impl Abort, alloc: Global, bytes: &[u8]) -> Result<(), Fa
     Ok(())
 }
 
-// The bytes but for some of them, in whose place others stand.
-fn changed(alloc: Global, bytes: &[u8], at: usize, new: &[u8]) -> Result<Vec<u8>, Fail> {
-    let front = bytes.get(..at).ok_or("a place")?;
-    let rest = bytes.get(at..).ok_or("a place")?;
-    let behind = rest.get(new.len()..).ok_or("bytes to change")?;
-    let mut out = Vec::from_slice(alloc, front)?;
-    out.extend_from_slice(new)?;
-    out.extend_from_slice(behind)?;
-    Ok(out)
-}
-
 #[test]
 fn worked_replies_are_read_and_written(rt: HostRuntime) -> Result<(), Fail> {
     let alloc = rt.alloc();
@@ -240,106 +229,6 @@ fn each_status_has_its_fields(rt: HostRuntime) -> Result<(), Fail> {
         let bytes = payload(alloc, status, fields)?;
         comes_back(&rt, alloc, Some(&ONES), &bytes)?;
         has_its_length(&rt, alloc, &bytes)?;
-    }
-    Ok(())
-}
-
-#[test]
-fn a_byte_that_can_t_stand_is_named(rt: HostRuntime) -> Result<(), Fail> {
-    let alloc = rt.alloc();
-    let journal = payload(alloc, 10, &[0, 0, 0, 0, 5, 0, 0, 0, 0, 0, 0, 0, 0])?;
-    // the version; statuses; the byte of a kept proof; links; a journal's kind
-    let cases: [(&[u8], usize, u8); 10] = [
-        (&ANCHORED, 0, 3),
-        (&UNREAD, 0, 5),
-        (&UNREAD, 13, 14),
-        (&UNREAD, 13, 254),
-        (&ANCHORED, 14, 2),
-        (&NO_ENTRY, 26, 0),
-        (&NO_ENTRY, 26, 4),
-        (&UNREACHED, 28, 7),
-        (&HANDED, 96, 2),
-        (&journal, 14, 2),
-    ];
-    for (bytes, at, byte) in cases {
-        let bad = changed(alloc, bytes, at, &[byte])?;
-        assert_eq!(rt; refused_at(alloc, &bad), Some(at), "{byte} at {at}");
-    }
-    Ok(())
-}
-
-#[test]
-fn a_proof_and_a_body_fill_their_lengths(rt: HostRuntime) -> Result<(), Fail> {
-    let alloc = rt.alloc();
-    // the proof's length stands at 28 and is 61, the body's at 94 and is 32
-    let cases: [(usize, &[u8], usize); 6] = [
-        (28, &[0, 0, 0, 60], 92),
-        (28, &[0, 0, 0, 62], 93),
-        (28, &[255; 4], 167),
-        (94, &[0, 31], 127),
-        (94, &[0, 33], 128),
-        (94, &[255; 2], 167),
-    ];
-    for (at, length, wanted) in cases {
-        let bad = changed(alloc, &HANDED, at, length)?;
-        assert_eq!(rt; refused_at(alloc, &bad), Some(wanted), "{length:?} at {at}");
-    }
-    Ok(())
-}
-
-#[test]
-fn a_grant_has_at_most_64_certificates(rt: HostRuntime) -> Result<(), Fail> {
-    let alloc = rt.alloc();
-    for (count, wanted) in [(64, None), (65, Some(93))] {
-        let mut bytes = Vec::from_slice(alloc, &HANDED[..93])?;
-        bytes.push(count)?;
-        for _ in 0..count {
-            bytes.extend_from_slice(&HANDED[94..128])?;
-        }
-        bytes.extend_from_slice(&HANDED[128..])?;
-        assert_eq!(rt; refused_at(alloc, &bytes), wanted, "of {count}");
-        assert_eq!(rt; read_reply(alloc, &bytes).is_ok(), wanted.is_none());
-    }
-    Ok(())
-}
-
-#[test]
-fn a_missing_part_is_at_most_sixteen_deep(rt: HostRuntime) -> Result<(), Fail> {
-    let alloc = rt.alloc();
-    for (roles, wanted) in [(15, None), (16, Some(44))] {
-        let mut fields = Vec::from_slice(alloc, &MISSING)?;
-        for _ in 0..roles {
-            fields.push(5)?;
-        }
-        fields.extend_from_slice(&[1, 0, 0, 0, 1])?;
-        for _ in 0..roles {
-            fields.extend_from_slice(&[0, 0, 0, 2])?;
-        }
-        let bytes = payload(alloc, 1, &fields)?;
-        assert_eq!(rt; refused_at(alloc, &bytes), wanted, "in {roles} roles");
-    }
-    Ok(())
-}
-
-#[test]
-fn a_missing_part_has_at_most_sixteen_nodes(rt: HostRuntime) -> Result<(), Fail> {
-    let alloc = rt.alloc();
-    // conjunctions on the left, and a role in the innermost: 16 nodes, and 17 with one role more
-    for (inner, wanted) in [(1, None), (2, Some(80))] {
-        let mut fields = Vec::from_slice(alloc, &MISSING)?;
-        fields.extend_from_slice(&[3; 7])?;
-        for _ in 0..inner {
-            fields.push(5)?;
-        }
-        fields.extend_from_slice(&[1, 0, 0, 0, 1])?;
-        for _ in 0..inner {
-            fields.extend_from_slice(&[0, 0, 0, 2])?;
-        }
-        for _ in 0..7 {
-            fields.extend_from_slice(&[1, 0, 0, 0, 1])?;
-        }
-        let bytes = payload(alloc, 1, &fields)?;
-        assert_eq!(rt; refused_at(alloc, &bytes), wanted, "{inner} roles");
     }
     Ok(())
 }

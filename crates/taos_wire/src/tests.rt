@@ -15,12 +15,6 @@ const ANCHORED: [u8; 52] = [
     0x8e, 0x7f, 0x57, 0x85, 0x1c, 0xdf, 0x32, 0xe5, 0x20, 0xd5,
 ];
 
-// seven conjunctions deep on the left: 15 nodes, of which a quoted term may have 14
-const LARGE: [u8; 47] = [
-    3, 3, 3, 3, 3, 3, 3, 1, 0, 0, 0, 1, 1, 0, 0, 0, 1, 1, 0, 0, 0, 1, 1, 0, 0, 0, 1, 1, 0, 0, 0, 1,
-    1, 0, 0, 0, 1, 1, 0, 0, 0, 1, 1, 0, 0, 0, 1,
-];
-
 // Channel 1's first request, of object 5, up to its tag, with a tag of zeros.
 fn payload(
     alloc: Global,
@@ -36,14 +30,6 @@ fn payload(
     bytes.extend_from_slice(certs)?;
     bytes.extend_from_slice(&[0; 32])?;
     Ok(bytes)
-}
-
-// The byte at which a request is refused.
-fn refused_at(alloc: Global, bytes: &[u8]) -> Option<usize> {
-    match read_request(alloc, bytes) {
-        Err(WireFault::Malformed { offset }) => Some(offset),
-        _ => None,
-    }
 }
 
 // What is read is written back behind other bytes, but for its tag, which is now that of the key.
@@ -113,132 +99,6 @@ fn each_operation_is_read_and_written_back(rt: HostRuntime) -> Result<(), Fail> 
         comes_back(&rt, alloc, &payload(alloc, &quoted, kind, fields, &certs)?)?;
     }
     Ok(())
-}
-
-#[test]
-fn a_cut_or_longer_request_is_refused_at_its_end(rt: HostRuntime) -> Result<(), Fail> {
-    let alloc = rt.alloc();
-    let quoted = [1, 5, 1, 0, 0, 0, 9, 0, 0, 0, 2];
-    let certs = [2, 0, 3, 7, 8, 9, 0, 0];
-    let cases: [(u8, &[u8]); 7] = [
-        (1, &[]),
-        (2, &[0, 2, b'h', b'i']),
-        (3, &[2, 15, 2, 0, 0, 0, 1, 1, 5, 1, 0, 0, 0, 8, 0, 0, 0, 2]),
-        (4, &[]),
-        (5, &[7; 32]),
-        (6, &[0, 0, 1, 2]),
-        (7, &[]),
-    ];
-    for (kind, fields) in cases {
-        let mut bytes = payload(alloc, &quoted, kind, fields, &certs)?;
-        let len = bytes.len();
-        for cut in 0..len {
-            assert_eq!(rt;
-                refused_at(alloc, &bytes[..cut]),
-                Some(cut),
-                "{kind} cut to {cut}"
-            );
-        }
-        assert_eq!(rt; refused_at(alloc, &bytes), None);
-        bytes.push(0)?;
-        assert_eq!(rt; refused_at(alloc, &bytes), Some(len), "{kind} and a byte");
-    }
-    Ok(())
-}
-
-#[test]
-fn a_byte_is_refused_where_it_cannot_stand(rt: HostRuntime) -> Result<(), Fail> {
-    let alloc = rt.alloc();
-    for version in [0, 2, 4] {
-        let mut bytes = ANCHORED;
-        bytes[0] = version;
-        assert_eq!(rt; refused_at(alloc, &bytes), Some(0), "version {version}");
-    }
-    let cases: [(&[u8], u8, &[u8], &[u8], usize); 9] = [
-        // what says whether anybody is quoted, and what is no term
-        (&[2], 1, &[], &[0], 13),
-        (&[1, 7], 1, &[], &[0], 14),
-        // operations
-        (&[0], 0, &[], &[0], 14),
-        (&[0], 8, &[], &[0], 14),
-        // rights, and the second entry's term
-        (&[0], 3, &[1, 0, 2, 0, 0, 0, 1], &[0], 20),
-        (&[0], 3, &[1, 16, 2, 0, 0, 0, 1], &[0], 20),
-        (&[0], 3, &[2, 1, 2, 0, 0, 0, 1, 1, 0], &[0], 27),
-        // nine entries, and seventeen certificates
-        (&[0], 3, &[9], &[0], 19),
-        (&[0], 1, &[], &[17], 19),
-    ];
-    for (quoted, kind, fields, certs, wanted) in cases {
-        let bytes = payload(alloc, quoted, kind, fields, certs)?;
-        assert_eq!(rt;
-            refused_at(alloc, &bytes),
-            Some(wanted),
-            "{quoted:?} {kind} {fields:?}"
-        );
-    }
-    Ok(())
-}
-
-#[test]
-fn a_quoted_term_has_at_most_fourteen_nodes(rt: HostRuntime) -> Result<(), Fail> {
-    let alloc = rt.alloc();
-    let mut quoted = Vec::from_slice(alloc, &[1])?;
-    quoted.extend_from_slice(&LARGE)?;
-    // the fifteenth node begins five bytes before the term's end
-    let bytes = payload(alloc, &quoted, 1, &[], &[0])?;
-    assert_eq!(rt; refused_at(alloc, &bytes), Some(56));
-    // a role in place of the outermost conjunction leaves fourteen
-    let mut quoted = Vec::from_slice(alloc, &[1, 5])?;
-    quoted.extend_from_slice(&LARGE[1..42])?;
-    quoted.extend_from_slice(&[0, 0, 0, 3])?;
-    comes_back(&rt, alloc, &payload(alloc, &quoted, 1, &[], &[0])?)
-}
-
-#[test]
-fn an_entry_is_at_most_sixteen_deep(rt: HostRuntime) -> Result<(), Fail> {
-    let alloc = rt.alloc();
-    for (roles, wanted) in [(15, None), (16, Some(37))] {
-        let mut fields = Vec::from_slice(alloc, &[1, 15])?;
-        for _ in 0..roles {
-            fields.push(5)?;
-        }
-        fields.extend_from_slice(&[1, 0, 0, 0, 1])?;
-        for _ in 0..roles {
-            fields.extend_from_slice(&[0, 0, 0, 2])?;
-        }
-        let bytes = payload(alloc, &[0], 3, &fields, &[0])?;
-        assert_eq!(rt; refused_at(alloc, &bytes), wanted, "in {roles} roles");
-    }
-    Ok(())
-}
-
-#[test]
-fn a_write_has_at_most_4096_bytes(rt: HostRuntime) -> Result<(), Fail> {
-    let alloc = rt.alloc();
-    for (high, low, len, wanted) in [(0x10, 0, 4096, None), (0x10, 1, 4097, Some(19))] {
-        let mut fields = Vec::from_slice(alloc, &[high, low])?;
-        for _ in 0..len {
-            fields.push(b'x')?;
-        }
-        let bytes = payload(alloc, &[0], 2, &fields, &[0])?;
-        assert_eq!(rt; refused_at(alloc, &bytes), wanted, "of {len} bytes");
-    }
-    Ok(())
-}
-
-#[test]
-fn eight_entries_and_sixteen_certificates_are_read(rt: HostRuntime) -> Result<(), Fail> {
-    let alloc = rt.alloc();
-    let mut fields = Vec::from_slice(alloc, &[8])?;
-    for rights in 1..9 {
-        fields.extend_from_slice(&[rights, 1, 0, 0, 0, rights])?;
-    }
-    let mut certs = Vec::from_slice(alloc, &[16])?;
-    for byte in 0..16 {
-        certs.extend_from_slice(&[0, 1, byte])?;
-    }
-    comes_back(&rt, alloc, &payload(alloc, &[0], 3, &fields, &certs)?)
 }
 
 #[test]
