@@ -103,7 +103,7 @@ fn output_difference<W: Threads + Wait + Sync>(
 // What differs besides the status and the output.
 fn other_difference(case: &Conversation, played: &Played) -> Option<Difference> {
     let wanted = &case.wanted;
-    if played.notes.written() != wanted.notes() {
+    if played.around.notes.written() != wanted.notes() {
         return Some(Difference::Note);
     }
     if played.faults != wanted.faults() {
@@ -144,6 +144,6 @@ pub fn first_difference<W: Threads + Wait + Sync>(
     if is != wanted {
         return Ok(Some(Difference::Status { is, wanted }));
     }
-    let found = output_difference(rt, alloc, case, played.output.written())?;
+    let found = output_difference(rt, alloc, case, played.around.output.written())?;
     Ok(found.or(other_difference(case, played)))
 }

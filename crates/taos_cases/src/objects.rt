@@ -86,7 +86,7 @@ pub fn sink_of(alloc: Global, room: usize, fails: &[u64]) -> Result<MemSink, All
 }
 
 /// What the source has not given yet, whatever calls fail.
-pub fn left_of(alloc: Global, mut source: MemSource) -> Result<Vec<u8>, AllocError> {
+pub fn left_of(alloc: Global, source: &mut MemSource) -> Result<Vec<u8>, AllocError> {
     let mut left = Vec::new(alloc);
     let mut piece = vec![in alloc; 0; 4096]?;
     for _ in 0..u64::MAX {

@@ -17,8 +17,7 @@ use taos_node::{Lane, taos};
 #[derive(Drop)]
 pub struct Played {
     pub status: u8,
-    pub output: MemSink,
-    pub notes: MemSink,
+    pub around: Around,
     /// How often the objects of the call failed, all together.
     pub faults: u64,
     /// What the relay at the other end of a link heard.
@@ -68,13 +67,12 @@ fn play_over<W: Threads + Wait + Sync, R: RelayLink + Send + Drop>(
     let (status, lanes) = call(rt, alloc, &setting.words, &mut around, clock, relay);
     let faults = around.faults().saturating_add(lanes[0].clock.faults());
     let left = match &case.wanted.left {
-        Some(_) => left_of(alloc, around.input)?,
+        Some(_) => left_of(alloc, &mut around.input)?,
         None => Vec::new(alloc),
     };
     let played = Played {
         status,
-        output: around.output,
-        notes: around.notes,
+        around,
         faults,
         hears: None,
         left,
