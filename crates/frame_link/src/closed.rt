@@ -1,9 +1,9 @@
 //! What stands where no relay and no door is wanted.
 
-ghost use Rattle.std.specs.Prelude.{◌≡◌, ◌≤◌, List, ℕ, [], length, Option, None, Some, IsErr};
+ghost use Rattle.std.specs.Prelude.{◌≡◌, ◌≤◌, List, ℕ, [], length, Option, None, Some, IfOk, IsErr};
 ghost use Rattle.frame_link.specs.Faults.{HasCause};
 ghost use Rattle.frame_link.specs.Plan.{counted};
-ghost use Rattle.frame_link.specs.Relay.{Said, AnswersAs};
+ghost use Rattle.frame_link.specs.Relay.{Said, AnswersAs, HasRelayCode};
 ghost use Rattle.frame_link.specs.Doors.{Opens, TakesBack};
 
 use crate::outside::{Door, Failed, RelayAnswer, RelayLink, Sink, Source};
@@ -53,6 +53,7 @@ impl RelayLink for NoRelay {
         ensures fails { IsErr result }
         ensures count { self.new ≡ counted self.old }
         ensures empty { out.new.items ≡ [] }
+        ensures codes { IfOk result HasRelayCode }
         ensures cause { HasCause self.old self.new result }
     {
         out.clear();

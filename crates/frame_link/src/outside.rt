@@ -6,7 +6,7 @@ ghost use Rattle.std.specs.Io.{ReadsAtMost, WritesAtMost};
 ghost use Rattle.std.specs.Io.KnownBytes.{ReadConsumes, WriteAppends};
 ghost use Rattle.frame_link.specs.Faults.{HasCause};
 ghost use Rattle.frame_link.specs.Readings.{Reads};
-ghost use Rattle.frame_link.specs.Relay.{Said, AnswersAs};
+ghost use Rattle.frame_link.specs.Relay.{Said, AnswersAs, HasRelayCode};
 ghost use Rattle.frame_link.specs.Doors.{Opens, TakesBack};
 
 use arrayvec::ArrayVec;
@@ -60,8 +60,11 @@ pub trait Clock {
 /// What a relay said of a certificate.
 #[derive(Clone, Copy, Debug, PartialEq, Eq)]
 pub enum RelayAnswer {
+    /// The new certificate is there.
     Resealed,
+    /// There is none, for the reason that the code names, from 1 to 5.
     Refused { code: u8 },
+    /// Memory was refused.
     NoMemory,
 }
 
@@ -81,6 +84,7 @@ pub trait RelayLink {
     ) -> Result<RelayAnswer, Failed>
         requires { length sealed.now ≤ 65531 }
         ensures answer { AnswersAs (says self.old) node sealed.now result out.new.items }
+        ensures codes { IfOk result HasRelayCode }
         ensures same { says self.new ≡ says self.old }
         ensures cause { HasCause (faults self.old) (faults self.new) result };
 }
@@ -93,7 +97,8 @@ pub trait Door {
     /// The connections that are left, in order, where the door tells them.
     ghost left: { Self → Option (List (Self.In × Self.Out)) };
 
-    /// How many connections it gave.
+    /// How many connections it gave. Where it does not tell what is left, the count may stand still
+    /// at the last value of 64 bits.
     ghost given: { Self → ℕ };
 
     /// The connections that were given back, in order, where the door tells them.

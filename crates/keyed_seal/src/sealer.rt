@@ -4,7 +4,7 @@ ghost use Rattle.std.specs.Prelude.{◌≡◌, ◌↔◌, IsTrue};
 ghost use Rattle.keyed_seal.specs.Keys.{IsKey};
 ghost use Rattle.keyed_seal.specs.Tag.{tag_of};
 
-use crate::tag::{INNER_PAD, OUTER_PAD, absorbed, block_of, finished};
+use crate::tag::{INNER_PAD, OUTER_PAD, absorbed, block_of, finished, is_same};
 use sha2::Sha256;
 use std::fmt;
 use std::marker::Model;
@@ -60,7 +60,7 @@ impl Sealer {
     pub fn tag_is(&self, text: &[u8], tag: &[u8]) -> bool
         ensures { IsTrue result ↔ (tag.now ≡ tag_of self.now text.now) }
     {
-        self.tag(text).as_slice() == tag
+        is_same(&self.tag(text), tag)
     }
 }
 

@@ -23,11 +23,27 @@ pub fn hmac(key: &[u8], text: &[u8]) -> [u8; 32]
     finished(absorbed(&block, OUTER_PAD), &inner)
 }
 
-/// Whether `tag` is the tag of `text` under `key`. Nothing is claimed about the time it takes.
+/// Whether `tag` is the tag of `text` under `key`. All its bytes are compared, with no claim about
+/// the time it takes.
 pub fn tag_is(key: &[u8], text: &[u8], tag: &[u8]) -> bool
     ensures { IsTrue result ↔ (tag.now ≡ tag_of key.now text.now) }
 {
-    hmac(key, text).as_slice() == tag
+    is_same(&hmac(key, text), tag)
+}
+
+// Whether the bytes are this tag, the one comparison of tags. It goes over all bytes, wherever the
+// first stands that differs.
+pub(crate) fn is_same(made: &[u8; 32], tag: &[u8]) -> bool
+    ensures { IsTrue result ↔ (tag.now ≡ made.now) }
+{
+    if tag.len() != made.len() {
+        return false;
+    }
+    let mut differing = 0;
+    'bytes: for i in 0..made.len() {
+        differing |= made[i] ^ tag[i];
+    }
+    differing == 0
 }
 
 // The key made as long as a block.

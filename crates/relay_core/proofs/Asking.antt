@@ -1,5 +1,5 @@
 -- What a payload asks for, and the reply to it.
-use Rattle.std.proofs.Common.{◌≡◌, ◌⊎◌, ℕ, ◌<◌, ◌^◌, List, [], ◌∷◌, ◌++◌, drop, Result, Ok, Err, refl, sym, ap, subst, ◌∙◌, inl, inr}
+use Rattle.std.proofs.Common.{◌≡◌, ◌⊎◌, ℕ, ◌<◌, ◌^◌, List, [], ◌∷◌, ◌++◌, drop, Result, Ok, Err, refl, ap, ◌∙◌, inl, inr}
 use Rattle.std.specs.Prelude.{◌==◌, if◌then◌else◌}
 use Rattle.std.specs.Int.{w32, to_be_bytes}
 use Rattle.keyed_seal.specs.Keys.{Entries}
@@ -9,8 +9,9 @@ use Rattle.prin_term.proofs.FieldLaws.{IsBytes, byte_refused, mark_takes, mark_a
 use Rattle.frame_link.specs.declared.outside.RelayAnswer.{RelayAnswer}
 use Rattle.frame_link.specs.declared.outside.RelayAnswer.TheVariants.{Resealed, Refused, NoMemory}
 use Rattle.frame_link.specs.Relay.{Said, Gave, Refuses, IsSaid}
-use Rattle.relay_core.specs.Messages.{asking, answering, lacking, IsSaidOf, is_asked, is_no_asking, Replies}
-use Rattle.relay_core.specs.Asked.{asked_at, said_from, second_of}
+use Rattle.relay_core.specs.Messages.{asking, answering, lacking, Replies, is_said, is_lacking, is_no_asking}
+use Rattle.relay_core.specs.Resealing.{resealed}
+use Rattle.relay_core.specs.Asked.{asked_at, second_of, AnswersTo}
 
 -- the payload asks for this node, and the certificate begins there
 record IsAsked (payload : List ℕ) (x : ℕ × ℕ) : Type 0 where
@@ -46,12 +47,7 @@ asked_again payload certificate node lt e =
     let n = number_again {E = ℕ} 1 w32 (2 ^ 32) wide32 payload certificate 1 node lt (ap (drop 1) e) in
     rw (m, n) refl
 
-said_is : (issuers nodes : Entries) (payload : List ℕ) → IsBytes payload → (r : Result (ℕ × ℕ) ℕ) → asked_at payload ≡ r → IsSaidOf issuers nodes payload (said_from issuers nodes payload r)
-said_is issuers nodes payload fits (Ok x) e = let a = asked_takes payload x fits e in is_asked x.0 (drop x.1 payload) a.fits a.text
-said_is issuers nodes payload fits (Err f) e =
-    subst (λ (k : ℕ). IsSaidOf issuers nodes payload (Refuses k)) (sym (asked_err payload f e))
-    (is_no_asking (λ node certificate lt is. absurd (cc (e, asked_again payload certificate node lt is))))
-
+-- the bytes of an answer are what is said, or want of memory
 spelled : (said : Said) (answer : RelayAnswer) (out reply : List ℕ) → IsSaid said answer out → reply ≡ 6 ∷ second_of answer ∷ out → (reply ≡ answering said) ⊎ (reply ≡ lacking)
 spelled (Gave bytes) Resealed out reply is e = inl (e ∙ ap (λ (l : List ℕ). 6 ∷ 0 ∷ l) is)
 spelled (Gave bytes) (Refused code) out reply is e = absurd is
@@ -60,10 +56,18 @@ spelled (Refuses c) Resealed out reply is e = absurd is
 spelled (Refuses c) (Refused code) out reply is e = inl (e ∙ ap (λ (l : List ℕ). 6 ∷ code ∷ l) is.1 ∙ ap (λ (k : ℕ). 6 ∷ k ∷ []) is.0)
 spelled (Refuses c) NoMemory out reply is e = inr (e ∙ ap (λ (l : List ℕ). 6 ∷ 11 ∷ l) is)
 
-pub replies : (issuers nodes : Entries) (payload reply : List ℕ) (answer : RelayAnswer) (out : List ℕ) → IsBytes payload → IsSaid (said_from issuers nodes payload (asked_at payload)) answer out → reply ≡ 6 ∷ second_of answer ∷ out
-    → Replies issuers nodes payload reply
-replies issuers nodes payload reply answer out fits is e = record {
-  said = said_from issuers nodes payload (asked_at payload);
-  is_said = said_is issuers nodes payload fits (asked_at payload) refl;
-  spelled = spelled (said_from issuers nodes payload (asked_at payload)) answer out reply is e;
-}
+module _ (issuers nodes : Entries) (payload reply : List ℕ) (answer : RelayAnswer) (out : List ℕ) (fits : IsBytes payload) (spells : reply ≡ 6 ∷ second_of answer ∷ out) where
+  read_as : (r : Result (ℕ × ℕ) ℕ) → asked_at payload ≡ r → AnswersTo issuers nodes payload r answer out → Replies issuers nodes payload reply
+  read_as (Ok x) e is =
+      let a = asked_takes payload x fits e in
+      elim (spelled (resealed issuers nodes x.0 (drop x.1 payload)) answer out reply is spells) [
+        | inl said ↦ is_said x.0 (drop x.1 payload) a.fits a.text said
+        | inr lacks ↦ is_lacking x.0 (drop x.1 payload) a.fits a.text lacks
+      ]
+  read_as (Err f) e is =
+      let code : answer ≡ Refused 1 = is.0 ∙ ap Refused (asked_err payload f e) in
+      is_no_asking (λ node certificate lt asks. absurd (cc (e, asked_again payload certificate node lt asks)))
+      (spells ∙ ap (λ (a : RelayAnswer). 6 ∷ second_of a ∷ out) code ∙ ap (λ (l : List ℕ). 6 ∷ 1 ∷ l) is.1)
+
+  pub replies : AnswersTo issuers nodes payload (asked_at payload) answer out → Replies issuers nodes payload reply
+  replies is = read_as (asked_at payload) refl is

@@ -23,8 +23,11 @@ use Rattle.sealed_cert.specs.Refusals.{seen_as, kind_at, ends_in_tag, carried, i
 use Rattle.sealed_cert.proofs.Opened.{IsCarried, carried_takes, issued_takes, issued_again, front_is}
 use Rattle.sealed_cert.proofs.Apart.{relayed_is_wrong}
 use Rattle.sealed_cert.proofs.Judged.{issued_unknown, issued_bad}
-use Rattle.frame_link.specs.Relay.{Said, Refuses}
-use Rattle.relay_core.specs.Resealing.{said_of, resealed, IsRelayed, IsResealed, is_given, is_of_wrong_kind, is_malformed, is_of_no_issuer, is_badly_sealed, is_for_no_node}
+use Rattle.frame_link.specs.declared.outside.RelayAnswer.{RelayAnswer}
+use Rattle.frame_link.specs.declared.outside.RelayAnswer.TheVariants.{Resealed, Refused}
+use Rattle.frame_link.specs.declared.outside.RelayAnswer.TheVariants as answers
+use Rattle.frame_link.specs.Relay.{Said, Gave, Refuses, IsSaid, IsRelayCode, HasRelayCode}
+use Rattle.relay_core.specs.Resealing.{code_of, said_of, resealed, IsRelayed, IsResealed, is_given, is_of_wrong_kind, is_malformed, is_of_no_issuer, is_badly_sealed, is_for_no_node}
 
 pub bytes_are : (bytes : List ℕ) → All (λ b. b < 256) bytes → IsBytes bytes
 bytes_are bytes all i = elim (cases_lt i (length bytes)) [
@@ -194,3 +197,31 @@ that_case issuers nodes node bytes said fits (is_malformed other none) = form_on
 that_case issuers nodes node bytes said fits (is_of_no_issuer c tag is k) = at_once issuers nodes node bytes (key_of nodes node) (Err (UnknownIssuer c.issuer)) refl (issued_unknown issuers bytes tag c is k)
 that_case issuers nodes node bytes said fits (is_badly_sealed c tag key is k other) = at_once issuers nodes node bytes (key_of nodes node) (Err BadSeal) refl (issued_bad issuers key bytes tag c is k other)
 that_case issuers nodes node bytes said fits (is_for_no_node c o k) = at_once issuers nodes node bytes None (Ok c) k (issued_again issuers bytes c o)
+
+-- ---- the codes
+
+code_fits : (fault : SealFault) → IsRelayCode (code_of fault)
+code_fits (Malformed o) = (omega arith, omega arith)
+code_fits (UnknownIssuer i) = (omega arith, omega arith)
+code_fits BadSeal = (omega arith, omega arith)
+code_fits (WrongKind k) = (omega arith, omega arith)
+code_fits NoMemory = (omega arith, omega arith)
+
+-- what is said refuses by a relay's codes alone
+abbrev IsCoded : Said → Type 0
+IsCoded (Gave bytes) = Unit {0}
+IsCoded (Refuses code) = IsRelayCode code
+
+coded : (key : Option (List ℕ)) (r : Result Certificate SealFault) → IsCoded (said_of key r)
+coded None (Ok c) = (omega arith, omega arith)
+coded (Some key) (Ok c) = tt
+coded key (Err fault) = code_fits fault
+
+answer_coded : (said : Said) (answer : RelayAnswer) (out : List ℕ) → IsCoded said → IsSaid said answer out → HasRelayCode answer
+answer_coded said Resealed out fits is = tt
+answer_coded said answers.NoMemory out fits is = tt
+answer_coded (Gave bytes) (Refused code) out fits is = absurd is
+answer_coded (Refuses c) (Refused code) out fits is = subst IsRelayCode (sym is.0) fits
+
+pub has_code : (issuers nodes : Entries) (node : ℕ) (bytes : List ℕ) (answer : RelayAnswer) (out : List ℕ) → IsSaid (resealed issuers nodes node bytes) answer out → HasRelayCode answer
+has_code issuers nodes node bytes answer out is = answer_coded (resealed issuers nodes node bytes) answer out (coded (key_of nodes node) (opened_issued issuers bytes)) is

@@ -1,11 +1,11 @@
 -- What a payload asks for, read from left to right.
-use Rattle.std.specs.Prelude.{ℕ, List, drop, Result, Ok, Err}
+use Rattle.std.specs.Prelude.{◌≡◌, ℕ, List, [], drop, Result, Ok, Err}
 use Rattle.std.specs.Int.{w32}
 use Rattle.keyed_seal.specs.Keys.{Entries}
 use Rattle.prin_term.specs.Steps.{◌>>=◌, mark_at, number_at}
 use Rattle.frame_link.specs.declared.outside.RelayAnswer.{RelayAnswer}
 use Rattle.frame_link.specs.declared.outside.RelayAnswer.TheVariants.{Resealed, Refused, NoMemory}
-use Rattle.frame_link.specs.Relay.{Said, Refuses}
+use Rattle.frame_link.specs.Relay.{IsSaid}
 use Rattle.relay_core.specs.declared.code.TheConstants.{MALFORMED}
 use Rattle.relay_core.specs.declared.message.TheConstants.{ASK, RESEALED, NO_MEMORY}
 use Rattle.relay_core.specs.Resealing.{resealed}
@@ -16,9 +16,10 @@ asked_at payload = do
   at ← mark_at MALFORMED MALFORMED ASK payload 0
   number_at MALFORMED w32 payload at
 
-abbrev pub said_from : Entries → Entries → List ℕ → Result (ℕ × ℕ) ℕ → Said
-said_from issuers nodes payload (Ok x) = resealed issuers nodes x.0 (drop x.1 payload)
-said_from issuers nodes payload (Err code) = Refuses code
+-- the answer to what was read, and the new certificate: a payload that asks for none is refused
+abbrev pub AnswersTo : Entries → Entries → List ℕ → Result (ℕ × ℕ) ℕ → RelayAnswer → List ℕ → Type 0
+AnswersTo issuers nodes payload (Ok x) answer out = IsSaid (resealed issuers nodes x.0 (drop x.1 payload)) answer out
+AnswersTo issuers nodes payload (Err code) answer out = (answer ≡ Refused code) × (out ≡ [])
 
 -- the second byte of an answer
 abbrev pub second_of : RelayAnswer → ℕ

@@ -3,7 +3,7 @@
 ghost use Rattle.std.specs.Prelude.{◌≡◌, ◌≤◌, [], length, IfOk, Option, None, MatchResult};
 ghost use Rattle.frame_link.specs.Faults.{HasCause};
 ghost use Rattle.frame_link.specs.Plan.{counted};
-ghost use Rattle.frame_link.specs.Relay.{AnswersAs};
+ghost use Rattle.frame_link.specs.Relay.{AnswersAs, HasRelayCode};
 ghost use Rattle.relay_core.specs.Messages.{asking};
 ghost use Rattle.relay_core.specs.Links.{Asks};
 
@@ -96,6 +96,7 @@ impl<I: Source + Drop, O: Sink + Drop> RelayLink for LinkRelay<I, O> {
         ensures count { MatchResult result (λ _. self.new.faults ≡ self.old.faults)
             (λ _. self.new.faults ≡ counted self.old.faults) }
         ensures answer { AnswersAs None node sealed.now result out.new.items }
+        ensures codes { IfOk result HasRelayCode }
         ensures cause { HasCause self.old.faults self.new.faults result }
     {
         out.clear();

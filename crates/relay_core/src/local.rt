@@ -1,8 +1,8 @@
 //! A relay at hand.
 
-ghost use Rattle.std.specs.Prelude.{◌≡◌, ◌≤◌, length, Option, Some, IsOk};
+ghost use Rattle.std.specs.Prelude.{◌≡◌, ◌≤◌, length, IfOk, Option, Some, IsOk};
 ghost use Rattle.frame_link.specs.Faults.{HasCause};
-ghost use Rattle.frame_link.specs.Relay.{AnswersAs};
+ghost use Rattle.frame_link.specs.Relay.{AnswersAs, HasRelayCode};
 ghost use Rattle.relay_core.specs.Resealing.{resealed};
 
 use crate::resealing::{RelayTable, reseal};
@@ -32,6 +32,7 @@ impl RelayLink for LocalRelay {
         ensures answer { AnswersAs (Some (resealed self.old.table.issuers.entries
             self.old.table.nodes.entries)) node sealed.now result out.new.items }
         ensures same { self.new ≡ self.old }
+        ensures codes { IfOk result HasRelayCode }
         ensures cause { HasCause 0 0 result }
     {
         Ok(reseal(self.alloc, &self.table, node, sealed, out))

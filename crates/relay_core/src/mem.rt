@@ -1,9 +1,9 @@
 //! A relay at hand that fails at some calls.
 
-ghost use Rattle.std.specs.Prelude.{◌≡◌, ◌≤◌, length, Option, Some, true, false, MatchResult};
+ghost use Rattle.std.specs.Prelude.{◌≡◌, ◌≤◌, length, IfOk, Option, Some, true, false, MatchResult};
 ghost use Rattle.frame_link.specs.Faults.{HasCause};
 ghost use Rattle.frame_link.specs.Plan.{Plan, fails_now, passed, failed};
-ghost use Rattle.frame_link.specs.Relay.{AnswersAs};
+ghost use Rattle.frame_link.specs.Relay.{AnswersAs, HasRelayCode};
 ghost use Rattle.relay_core.specs.Resealing.{resealed};
 ghost use Rattle.relay_core.specs.Plans.{plan};
 
@@ -38,6 +38,7 @@ impl RelayLink for MemRelay {
         ensures exact { MatchResult result
             (λ _. (fails_now (plan self.old) ≡ false) × (plan self.new ≡ passed (plan self.old)))
             (λ _. (fails_now (plan self.old) ≡ true) × (plan self.new ≡ failed (plan self.old))) }
+        ensures codes { IfOk result HasRelayCode }
         ensures cause { HasCause self.old.faults self.new.faults result }
     {
         let call = self.calls;

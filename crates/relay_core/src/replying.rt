@@ -1,9 +1,8 @@
 //! The reply to one payload.
 
 ghost use Rattle.std.specs.Prelude.{◌≡◌, ◌≤◌, ◌∷◌, length};
-ghost use Rattle.frame_link.specs.Relay.{IsSaid};
 ghost use Rattle.relay_core.specs.Messages.{Replies};
-ghost use Rattle.relay_core.specs.Asked.{asked_at, said_from, second_of};
+ghost use Rattle.relay_core.specs.Asked.{asked_at, second_of, AnswersTo};
 
 use crate::message::{ANSWER, NO_MEMORY, RESEALED, asked};
 use crate::resealing::{RelayTable, reseal};
@@ -27,8 +26,8 @@ fn answer_to(
     payload: &[u8],
     out: &mut ArrayVec<u8, 2048>,
 ) -> RelayAnswer
-    ensures { IsSaid (said_from table.now.issuers.entries table.now.nodes.entries payload.now
-        (asked_at payload.now)) result out.new.items }
+    ensures { AnswersTo table.now.issuers.entries table.now.nodes.entries payload.now
+        (asked_at payload.now) result out.new.items }
 {
     match asked(payload) {
         Ok((node, at)) => reseal(alloc, table, node, &payload[at..], out),

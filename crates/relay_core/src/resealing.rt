@@ -3,15 +3,15 @@
 ghost use Rattle.std.specs.Prelude.{◌≡◌, [], IfOk};
 ghost use Rattle.stmt_codec.specs.Certificates.{certificate, IsWithinLimits};
 ghost use Rattle.sealed_cert.specs.Seals.{sealed};
-ghost use Rattle.frame_link.specs.Relay.{Said, Gave, Refuses, IsSaid};
+ghost use Rattle.frame_link.specs.Relay.{Said, Gave, Refuses, IsSaid, HasRelayCode};
 ghost use Rattle.keyed_seal.specs.Keys.{key_of};
 ghost use Rattle.relay_core.specs.Resealing.{for_node, resealed, IsResealed};
 
 use crate::code::{UNKNOWN_NODE, code_of};
 use arrayvec::ArrayVec;
 use frame_link::RelayAnswer;
-use keyed_seal::KeyTable;
-use sealed_cert::{RELAYED, SealFault, open_issued, seal_relayed};
+use keyed_seal::{KeyTable, Sealer};
+use sealed_cert::{RELAYED, SealFault, open_issued, seal_relayed_with};
 use std::alloc::{AllocError, Global};
 use stmt_codec::CertBody;
 
@@ -22,28 +22,28 @@ pub struct RelayTable {
     pub nodes: KeyTable,
 }
 
-fn sealed(alloc: Global, key: &[u8; 32], body: &CertBody) -> Result<Vec<u8>, AllocError>
+fn sealed(alloc: Global, sealer: &Sealer, body: &CertBody) -> Result<Vec<u8>, AllocError>
     requires { IsWithinLimits (certificate body.now) }
     ensures { IfOk result
-        (λ bytes. bytes.items ≡ sealed RELAYED key.now (certificate body.now)) }
+        (λ bytes. bytes.items ≡ sealed RELAYED sealer.now (certificate body.now)) }
 {
     let mut bytes = Vec::new(alloc);
-    seal_relayed(&mut bytes, key, body)?;
+    seal_relayed_with(&mut bytes, sealer, body)?;
     Ok(bytes)
 }
 
 // The body under the key, for which there is always room in `out`.
 fn seal_into(
     alloc: Global,
-    key: &[u8; 32],
+    sealer: &Sealer,
     body: &CertBody,
     out: &mut ArrayVec<u8, 2048>,
 ) -> RelayAnswer
     requires limits { IsWithinLimits (certificate body.now) }
     requires empty { out.old.items ≡ [] }
-    ensures { IsSaid (Gave (sealed RELAYED key.now (certificate body.now))) result out.new.items }
+    ensures { IsSaid (Gave (sealed RELAYED sealer.now (certificate body.now))) result out.new.items }
 {
-    let Ok(bytes) = sealed(alloc, key, body) else {
+    let Ok(bytes) = sealed(alloc, sealer, body) else {
         return RelayAnswer::NoMemory;
     };
     out.try_extend_from_slice(&bytes).unwrap();
@@ -62,8 +62,8 @@ fn seal_for(
     ensures { IsSaid (for_node (key_of nodes.now.entries node) (certificate body.now)) result
         out.new.items }
 {
-    match nodes.get(node) {
-        Some(key) => seal_into(alloc, key, body, out),
+    match nodes.sealer(node) {
+        Some(sealer) => seal_into(alloc, sealer, body, out),
         None => RelayAnswer::Refused { code: UNKNOWN_NODE },
     }
 }
@@ -104,6 +104,7 @@ pub fn reseal(
     // The same as one function.
     ensures exact { IsSaid (resealed table.now.issuers.entries table.now.nodes.entries node bytes.now)
         result out.new.items }
+    ensures codes { HasRelayCode result }
 {
     answer(alloc, table, node, bytes, out)
 }

@@ -14,7 +14,7 @@ pub use laws::{
     one_body_opens, spelled_bytes_are_judged,
 };
 pub use opening::{open_issued, open_relayed, open_with};
-pub use sealing::{seal_issued, seal_relayed};
+pub use sealing::{seal_issued, seal_relayed, seal_relayed_with};
 
 #[cfg(test)]
 mod tests;

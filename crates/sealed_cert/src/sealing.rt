@@ -6,7 +6,7 @@ ghost use Rattle.stmt_codec.specs.Certificates.{certificate, HasBodySpelling, Is
 ghost use Rattle.sealed_cert.specs.Seals.{sealed, IsSealed, Opens};
 
 use crate::kind::{ISSUED, RELAYED};
-use keyed_seal::hmac;
+use keyed_seal::Sealer;
 use std::alloc::AllocError;
 use stmt_codec::{CertBody, write_body};
 
@@ -24,7 +24,7 @@ pub fn seal_issued(out: &mut Vec<u8>, key: &[u8; 32], body: &CertBody) -> Result
     ensures room { OnErr result (vec_capacity out.old
         < length out.old.items + length (sealed ISSUED key.now (certificate body.now))) }
 {
-    seal(out, ISSUED, key, body)
+    seal(out, ISSUED, &Sealer::of(key), body)
 }
 
 /// Appends the body under a relay's seal, whose key the relay shares with the node that it is
@@ -40,19 +40,38 @@ pub fn seal_relayed(out: &mut Vec<u8>, key: &[u8; 32], body: &CertBody) -> Resul
     ensures room { OnErr result (vec_capacity out.old
         < length out.old.items + length (sealed RELAYED key.now (certificate body.now))) }
 {
-    seal(out, RELAYED, key, body)
+    seal_relayed_with(out, &Sealer::of(key), body)
 }
 
-fn seal(out: &mut Vec<u8>, kind: u8, key: &[u8; 32], body: &CertBody) -> Result<(), AllocError>
+/// As `seal_relayed`, by a key that is kept ready.
+pub fn seal_relayed_with(
+    out: &mut Vec<u8>,
+    sealer: &Sealer,
+    body: &CertBody,
+) -> Result<(), AllocError>
+    requires { IsWithinLimits (certificate body.now) }
     ensures ok { OnOk result (out.new.items
-        ≡ out.old.items ++ sealed kind key.now (certificate body.now)) }
+        ≡ out.old.items ++ sealed RELAYED sealer.now (certificate body.now)) }
+    ensures opens { OnOk result (HasBodySpelling (certificate body.now)
+        → Opens sealer.now (drop (length out.old.items) out.new.items) (certificate body.now)) }
     ensures err { OnErr result (out.new.items ≡ out.old.items) }
     ensures capacity { vec_capacity out.old ≤ vec_capacity out.new }
     ensures room { OnErr result (vec_capacity out.old
-        < length out.old.items + length (sealed kind key.now (certificate body.now))) }
+        < length out.old.items + length (sealed RELAYED sealer.now (certificate body.now))) }
+{
+    seal(out, RELAYED, sealer, body)
+}
+
+fn seal(out: &mut Vec<u8>, kind: u8, sealer: &Sealer, body: &CertBody) -> Result<(), AllocError>
+    ensures ok { OnOk result (out.new.items
+        ≡ out.old.items ++ sealed kind sealer.now (certificate body.now)) }
+    ensures err { OnErr result (out.new.items ≡ out.old.items) }
+    ensures capacity { vec_capacity out.old ≤ vec_capacity out.new }
+    ensures room { OnErr result (vec_capacity out.old
+        < length out.old.items + length (sealed kind sealer.now (certificate body.now))) }
 {
     let len = out.len();
-    let written = push_sealed(out, kind, key, body);
+    let written = push_sealed(out, kind, sealer, body);
     if written.is_err() {
         out.truncate(len);
     }
@@ -63,20 +82,20 @@ fn seal(out: &mut Vec<u8>, kind: u8, key: &[u8; 32], body: &CertBody) -> Result<
 fn push_sealed(
     out: &mut Vec<u8>,
     kind: u8,
-    key: &[u8; 32],
+    sealer: &Sealer,
     body: &CertBody,
 ) -> Result<(), AllocError>
     ensures ok { OnOk result (out.new.items
-        ≡ out.old.items ++ sealed kind key.now (certificate body.now)) }
+        ≡ out.old.items ++ sealed kind sealer.now (certificate body.now)) }
     ensures err { OnErr result ((more : List ℕ) × (out.new.items ≡ out.old.items ++ more)) }
     ensures capacity { vec_capacity out.old ≤ vec_capacity out.new }
     ensures room { OnErr result (vec_capacity out.old
-        < length out.old.items + length (sealed kind key.now (certificate body.now))) }
+        < length out.old.items + length (sealed kind sealer.now (certificate body.now))) }
 {
     let len = out.len();
     out.push(kind)?;
     write_body(out, body)?;
-    let tag = hmac(key, &out[len..]);
+    let tag = sealer.tag(&out[len..]);
     out.extend_from_slice(&tag)?;
     Ok(())
 }

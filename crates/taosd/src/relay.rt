@@ -3,7 +3,7 @@
 ghost use Rattle.std.specs.Prelude.{◌≡◌, ◌≢◌, ◌≤◌, length, IfOk, IsSome, MatchResult, None, OnErr};
 ghost use Rattle.frame_link.specs.Faults.{HasCause};
 ghost use Rattle.frame_link.specs.Plan.{counted};
-ghost use Rattle.frame_link.specs.Relay.{AnswersAs};
+ghost use Rattle.frame_link.specs.Relay.{AnswersAs, HasRelayCode};
 
 use crate::streams::{Reading, Writing};
 use arrayvec::ArrayVec;
@@ -127,6 +127,7 @@ impl<'a, R: Net<Listener = TcpListener, Stream = TcpStream>> RelayLink for TcpRe
         ensures place { (self.new.address ≡ self.old.address)
             × (self.new.limit ≡ self.old.limit) }
         ensures answer { AnswersAs None node sealed.now result out.new.items }
+        ensures codes { IfOk result HasRelayCode }
         ensures cause { HasCause self.old.faults self.new.faults result }
     {
         out.clear();

@@ -5,4 +5,4 @@ use Rattle.relay_core.proofs.resealing.seal_into.Goals as goal
 pub unwrap-requires : goal.unwrap-requires
 unwrap-requires c =
     c.try_extend_from_slice.ensures.variant.1
-    (has_room c.args.key.now c.args.out.now.items c.deref.result.now (certificate c.args.body.now) c.requires.limits c.requires.empty (cc (c.deref.ensures.value, c.in-Ok.ensures)))
+    (has_room c.args.sealer.now c.args.out.now.items c.deref.result.now (certificate c.args.body.now) c.requires.limits c.requires.empty (cc (c.deref.ensures.value, c.in-Ok.ensures)))
