@@ -110,7 +110,9 @@ def known_key(key, pair):
 
 def lines_of(key, value):
     if key in BYTES:
-        return [line for each in value for line in lines_of_bytes(key, each)]
+        lines = [line for each in value for line in lines_of_bytes(key, each)]
+        # A relay that says nothing is there all the same.
+        return lines or ([key] if key == "relay-says" else [])
     if key in NUMBERS or key in FAILS:
         return filled(key, map(str, value))
     if key == "relay-node":
