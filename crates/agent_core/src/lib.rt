@@ -49,8 +49,3 @@ pub use shards::Shards;
 pub use told::{Answer, Snapshot, Told};
 pub use verdict::{Finding, judge};
 pub use whole_ask::ask;
-
-#[cfg(test)]
-mod lone_tests;
-#[cfg(test)]
-mod tests;

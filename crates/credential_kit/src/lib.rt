@@ -8,6 +8,3 @@ mod signer;
 
 pub use forms::{boot, channel, delegate, login, role, session};
 pub use signer::Signer;
-
-#[cfg(test)]
-mod tests;

@@ -11,6 +11,3 @@ mod revive;
 pub use first::{first_derivable, first_link};
 pub use laws::one_first_link;
 pub use link::Link;
-
-#[cfg(test)]
-mod tests;

@@ -21,6 +21,3 @@ pub use mem_source::MemSource;
 pub use outcome::Outcome;
 pub use outside::{Clock, Door, Failed, RelayAnswer, RelayLink, Sink, Source};
 pub use whole::{fill, pour};
-
-#[cfg(test)]
-mod tests;

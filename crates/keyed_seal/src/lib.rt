@@ -10,6 +10,3 @@ pub use fault::KeyFault;
 pub use key_table::KeyTable;
 pub use sealer::Sealer;
 pub use tag::{hmac, tag_is};
-
-#[cfg(test)]
-mod tests;

@@ -7,6 +7,3 @@ pub use opening::{
     MAX_ANCHORS, MAX_CHANNELS, MAX_COMMONS, MAX_KEEP, MAX_LIMIT, MAX_OBJECTS, MAX_ROOM, MAX_SHARDS,
     ObjectPlan, Opening, OpeningFault, one_opening, read_opening,
 };
-
-#[cfg(test)]
-mod tests;

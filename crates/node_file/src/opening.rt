@@ -121,6 +121,3 @@ impl fmt::Display for OpeningFault {
 }
 
 impl Error for OpeningFault {}
-
-#[cfg(test)]
-mod tests;

@@ -6,6 +6,3 @@ mod operation;
 
 pub use limits::{MAX_CONTENT, MAX_ENTRIES, MAX_RIGHTS};
 pub use operation::{Op, right_of};
-
-#[cfg(test)]
-mod tests;

@@ -16,6 +16,3 @@ pub use limits::{CERT_NODES, ENTRY_NODES, MAX_DEPTH, QUOTED_NODES};
 pub use reading::read_term;
 pub use term::{Anchor, Entry, Statement, Term};
 pub use writing::write_term;
-
-#[cfg(test)]
-mod tests;

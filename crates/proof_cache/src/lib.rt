@@ -4,6 +4,3 @@
 mod cached;
 
 pub use cached::{Cached, lease_of};
-
-#[cfg(test)]
-mod tests;

@@ -19,6 +19,3 @@ pub use mem::MemRelay;
 pub use message::{ANSWER, ASK, MAX_CERT, MAX_FRAME, NO_MEMORY, RESEALED};
 pub use resealing::{RelayTable, reseal};
 pub use serving::serve_relay;
-
-#[cfg(test)]
-mod tests;

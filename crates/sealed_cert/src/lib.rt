@@ -15,6 +15,3 @@ pub use laws::{
 };
 pub use opening::{open_issued, open_relayed, open_with};
 pub use sealing::{seal_issued, seal_relayed, seal_relayed_with};
-
-#[cfg(test)]
-mod tests;

@@ -17,6 +17,3 @@ pub use laws::{each_part_is_counted_once, one_body_spelling, short_bodies_are_re
 pub use limits::MAX_DISTINCT;
 pub use reading::read_body;
 pub use writing::write_body;
-
-#[cfg(test)]
-mod tests;

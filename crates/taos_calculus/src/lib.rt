@@ -23,8 +23,3 @@ pub use line::{Fact, Line, Node, Step};
 pub use proof::{MAX_LINES, MAX_NODES, Proof};
 pub use reading::{read_proof, read_proof_at};
 pub use writing::write_proof;
-
-#[cfg(test)]
-mod check_tests;
-#[cfg(test)]
-mod tests;

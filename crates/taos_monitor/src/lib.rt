@@ -22,6 +22,3 @@ pub use presented::BAD_RESEAL;
 pub use refusal::Refusal;
 pub use reply::{REPLY_ROOM, ReplyBuf};
 pub use shelf::{Shelf, Shown};
-
-#[cfg(test)]
-mod tests;

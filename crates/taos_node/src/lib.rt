@@ -19,6 +19,3 @@ pub use frame_link::Outcome;
 pub use node_file::{ObjectPlan, Opening, OpeningFault, one_opening, read_opening};
 pub use note::tell;
 pub use taos_monitor::{MAX_REQUEST, answer, serve_connection};
-
-#[cfg(test)]
-mod tests;

@@ -21,6 +21,3 @@ mod search;
 mod seed;
 
 pub use saturator::Saturator;
-
-#[cfg(test)]
-mod tests;

@@ -28,8 +28,3 @@ pub use reply_writing::{write_reply, write_reply_with};
 pub use request::{MAX_CERTS, Request};
 pub use seal::{sealed_by, sealed_with};
 pub use writing::write_request;
-
-#[cfg(test)]
-mod reply_tests;
-#[cfg(test)]
-mod tests;

@@ -1,4 +1,4 @@
-use super::*;
+use object_core::*;
 use prin_term::{Entry, Term};
 use std::sync::Arc;
 use std::test::Fail;

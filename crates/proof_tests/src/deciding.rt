@@ -6,7 +6,6 @@ mod building;
 mod cases;
 mod changing;
 
-use super::Saturator;
 use building::{certs, some_term, term};
 use cases::Word::{For, Key, Name, Role};
 use cases::{CASES, Case, DELEGATED, Word};
@@ -17,6 +16,7 @@ use std::sync::Arc;
 use std::test::Fail;
 use stmt_codec::Cert;
 use taos_calculus::{Decide, MAX_CERTS, Proof, Taken, check_proof};
+use taos_saturate::Saturator;
 
 // Names are 10 alice, 20 ws1, 21 ws2, 30 bob. The roles are 1 taos, 2 reader.
 const ANCHORS: [Anchor; 6] = [

@@ -1,6 +1,6 @@
-use super::*;
 use prin_term::Term;
 use std::test::Fail;
+use taos_calculus::*;
 
 // Key 1 speaks for name 10 by the first anchor.
 const ANCHORED: [Line; 1] = [Line {

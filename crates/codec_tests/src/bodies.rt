@@ -1,10 +1,10 @@
 ghost use Rattle.std.specs.Prelude.{◌≤◌, length};
 
-use super::*;
 use prin_term::{Statement, Term};
 use std::alloc::Global;
 use std::process::Abort;
 use std::test::*;
+use stmt_codec::*;
 
 // Key 1 says that key 2 speaks for name 10, until 2000, with serial 1.
 const HAND_OFF: [u8; 32] = [

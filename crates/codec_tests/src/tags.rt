@@ -1,4 +1,4 @@
-use crate::{KeyFault, KeyTable, Sealer, hmac, tag_is};
+use keyed_seal::{KeyFault, KeyTable, Sealer, hmac, tag_is};
 use std::test::Fail;
 
 // The tags of RFC 4231, cases 1, 2 and 6.

@@ -1,5 +1,5 @@
-use super::*;
 use prin_term::{Statement, Term};
+use proof_cache::*;
 use std::alloc::Global;
 use std::sync::Arc;
 use std::test::*;

@@ -1,5 +1,5 @@
-use super::*;
 use keyed_seal::{KeyTable, Sealer};
+use sealed_cert::*;
 use std::alloc::Global;
 use std::test::*;
 use stmt_codec::{Cert, read_body};

@@ -1,7 +1,7 @@
 ghost use Rattle.std.specs.Prelude.{◌≤◌, length};
 
-use super::fields::*;
-use super::*;
+use prin_term::fields::*;
+use prin_term::*;
 use std::alloc::Global;
 use std::process::Abort;
 use std::test::*;

@@ -1,4 +1,4 @@
-use super::*;
+use agent_core::*;
 use prin_term::{Anchor, Entry, Statement, Term};
 use std::alloc::Global;
 use std::sync::Arc;

@@ -1,8 +1,8 @@
-use super::*;
 use prin_term::{Anchor, Statement, Term};
 use std::sync::Arc;
 use std::test::Fail;
 use stmt_codec::{Cert, CertBody};
+use taos_calculus::*;
 
 const ANCHORS: [Anchor; 2] = [Anchor { key: 1, name: 10 }, Anchor { key: 2, name: 20 }];
 

@@ -1,7 +1,7 @@
 ghost use Rattle.std.specs.Prelude.{◌≡◌, IfOk};
 ghost use Rattle.agent_core.specs.Plans.{IsPlan};
 
-use super::*;
+use agent_core::*;
 use prin_term::{Anchor, Entry, Term};
 use std::alloc::Global;
 use std::sync::{Arc, Wait};

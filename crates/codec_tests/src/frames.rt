@@ -1,5 +1,5 @@
-use super::*;
 use arrayvec::ArrayVec;
+use frame_link::*;
 use std::alloc::{AllocError, Global};
 use std::test::*;
 

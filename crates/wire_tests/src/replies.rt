@@ -1,4 +1,3 @@
-use super::*;
 use keyed_seal::{Sealer, hmac};
 use prin_term::Term;
 use std::alloc::{AllocError, Global};
@@ -7,6 +6,7 @@ use std::sync::Arc;
 use std::test::Fail;
 use stmt_codec::read_body;
 use taos_calculus::{Fact, Line, Node, Proof, Step};
+use taos_wire::*;
 
 const ONES: [u8; 32] = [1; 32];
 

@@ -1,10 +1,10 @@
-use super::*;
 use keyed_seal::{Sealer, hmac};
 use object_core::Op;
 use prin_term::Term;
 use std::alloc::{AllocError, Global};
 use std::process::Abort;
 use std::test::Fail;
+use taos_wire::*;
 
 const ONES: [u8; 32] = [1; 32];
 

@@ -1,4 +1,4 @@
-use super::*;
+use credential_kit::*;
 use keyed_seal::KeyTable;
 use prin_term::Term;
 use sealed_cert::open_issued;

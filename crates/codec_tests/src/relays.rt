@@ -1,7 +1,7 @@
-use super::*;
 use arrayvec::ArrayVec;
 use frame_link::{Failed, MemSink, MemSource, Outcome, RelayAnswer, RelayLink};
 use keyed_seal::KeyTable;
+use relay_core::*;
 use std::alloc::Global;
 use std::test::*;
 

@@ -1,7 +1,7 @@
-use super::*;
-use crate::tests::spelled;
-use prin_term::Term;
-use std::alloc::Global;
+use crate::spelled::spelled;
+use node_file::*;
+use prin_term::{Anchor, Term};
+use std::alloc::{AllocError, Global};
 use std::test::Fail;
 
 // node 7, a key of 32 bytes 7, one shard, keep 3600, journal limit 16384, and four empty lists

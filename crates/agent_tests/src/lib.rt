@@ -1,0 +1,7 @@
+//! Tests of shards and of what is asked of them. A crate with tests is proved twice, so they stand here.
+#![tactic(auto)]
+
+#[cfg(test)]
+mod lone;
+#[cfg(test)]
+mod shard;

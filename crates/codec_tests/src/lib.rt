@@ -1,0 +1,20 @@
+//! Tests of principals, certificates, seals, frames, relays, credentials and operations. A crate with tests is
+//! proved twice, so they stand here.
+#![tactic(auto)]
+
+#[cfg(test)]
+mod bodies;
+#[cfg(test)]
+mod credentials;
+#[cfg(test)]
+mod frames;
+#[cfg(test)]
+mod operations;
+#[cfg(test)]
+mod relays;
+#[cfg(test)]
+mod seals;
+#[cfg(test)]
+mod tags;
+#[cfg(test)]
+mod terms;
