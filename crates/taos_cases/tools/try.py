@@ -6,13 +6,15 @@
 Each has its node file, its input and its relay, which listens on 127.0.0.1. The readings of its clock come
 from tools/clock.c, which `cc` compiles and which is preloaded; where that has no effect, conversations with
 readings are left out. What is written, the exit status and the note have to be as the conversation says.
-One run more has little memory, and has to end with 6.
+One run more has little memory, and has to end with 6; and in one more a frame is sent only once the reply to the one before
+has come.
 Files are those of data/ where none is named. Ends with 1 where one is not as it should be.
 """
 import concurrent.futures
 import contextlib
 import os
 import resource
+import select
 import subprocess
 import sys
 import tempfile
@@ -26,6 +28,8 @@ FAILING = ["file", "input", "byte", "output", "notes", "clock", "relay", "says",
 UNFIT += [f"{each}-fails" for each in FAILING]
 MOST_SECONDS = 2**63 - 1
 WORKERS, LIMIT, TAG, FRONT = 4, 120, 32, 28
+# How long a reply may take, and the most frames that are sent one by one.
+SECONDS, MOST_TURNS = 20, 1000
 # So many bytes are too few for the room that is taken before the first frame is read.
 LITTLE_MEMORY = 32 * 1024 * 1024
 
@@ -36,12 +40,20 @@ class Program:
     def __init__(self, path, folder):
         self.path, self.folder, self.clock = os.path.abspath(path), folder, None
 
-    def run(self, words, given, readings=None, before=None):
+    def env(self, readings):
         env = dict(os.environ)
         if readings and self.clock:
             env.update(LD_PRELOAD=self.clock, CLOCK_READINGS=" ".join(map(str, readings)))
-        return subprocess.run([self.path, *words], input=given, capture_output=True, env=env, timeout=LIMIT,
-                              cwd=self.folder, preexec_fn=before)
+        return env
+
+    def run(self, words, given, readings=None, before=None):
+        return subprocess.run([self.path, *words], input=given, capture_output=True, env=self.env(readings),
+                              timeout=LIMIT, cwd=self.folder, preexec_fn=before)
+
+    def start(self, words, readings):
+        pipe = subprocess.PIPE
+        return subprocess.Popen([self.path, *words], stdin=pipe, stdout=pipe, stderr=subprocess.DEVNULL,
+                                env=self.env(readings), cwd=self.folder)
 
 
 def frames_of(data):
@@ -175,9 +187,48 @@ def memory_fault(program, case):
     return None
 
 
+def next_frame(stream, seconds):
+    """The next frame of a pipe, or less where no more comes in time."""
+    frame, wanted = b"", 4
+    while len(frame) < wanted and select.select([stream], [], [], seconds)[0]:
+        piece = os.read(stream.fileno(), wanted - len(frame))
+        if not piece:
+            break
+        frame += piece
+        if len(frame) == 4:
+            wanted += int.from_bytes(frame, "big")
+    return frame
+
+
+def turn_fault(program, case):
+    """What is wrong where each frame is sent only once the one before is answered, if anything is."""
+    wanted = frames_of(b"".join(case.written))
+    with tempfile.NamedTemporaryFile(dir=program.folder) as file:
+        file.write(case.bytes("file"))
+        file.flush()
+        with program.start([file.name, "-", "-", "run"], case.numbers("clock")) as run:
+            try:
+                for place, (asked, reply) in enumerate(zip(frames_of(case.bytes("input")), wanted)):
+                    run.stdin.write(asked)
+                    run.stdin.flush()
+                    if next_frame(run.stdout, SECONDS) != reply:
+                        return f"frame {place} is not answered before the next is sent"
+                run.stdin.close()
+                return None if run.wait(LIMIT) == 0 else f"status {run.returncode}"
+            finally:
+                run.kill()
+
+
 def served(cases):
-    """The first conversation that succeeds, as a list."""
-    return [case for case in cases if case.words("words") == ["run"] and case.text("status") == "0"][:1]
+    """Conversations that succeed."""
+    return [case for case in cases if case.words("words") == ["run"] and case.text("status") == "0"]
+
+
+def longest(cases):
+    """The one of most frames whose replies are all laid down, as a list."""
+    whole = [case for case in served(cases) if not any(isinstance(part, Granted) for part in case.written)]
+    counted = [(len(frames_of(case.bytes("input"))), place) for place, case in enumerate(whole)]
+    return [whole[place] for count, place in sorted(counted) if count <= MOST_TURNS][-1:]
 
 
 def tell(case, wrong, how=""):
@@ -197,7 +248,8 @@ def main(words):
         fit = chosen(program, cases)
         with concurrent.futures.ThreadPoolExecutor(WORKERS) as pool:
             told = [tell(*each) for each in pool.map(lambda case: tried(program, case), fit)]
-        told += [tell(case, memory_fault(program, case), ", with little memory") for case in served(fit)]
+        told += [tell(case, memory_fault(program, case), ", with little memory") for case in served(fit)[:1]]
+        told += [tell(case, turn_fault(program, case), ", in turn") for case in longest(fit)]
     failed = sum(told)
     print(f"{len(told) - failed} passed, {failed} failed")
     return 1 if failed else 0
