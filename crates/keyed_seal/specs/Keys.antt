@@ -1,5 +1,4 @@
 -- Key tables: pairs of a number and a key, ascending by number, and room for so many.
---     key_of entries number      the key of that number
 use Rattle.std.specs.Prelude.{◌≡◌, ◌≢◌, ℕ, ◌+◌, ◌^◌, ◌<◌, ◌≤◌, All, List, [], ◌∷◌, length, ◌==◌, if◌then◌else◌, slice_index_or, Option, Some, None}
 
 -- a number, then its key
