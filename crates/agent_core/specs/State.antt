@@ -116,7 +116,7 @@ holding s new =
 
 -- ---- what is let go
 
--- the certificates that are fewer are counted
+-- the state t, and by how many certificates it holds fewer than s
 abbrev pub removing : Plan → State → State → State × Answer
 removing plan s t = (t, Plain (Told.Removed (held_count plan s - held_count plan t)))
 

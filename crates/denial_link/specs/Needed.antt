@@ -1,5 +1,4 @@
 -- The first certificate that has ended and would have been enough.
---     IsNeeded anchors certs moment subject who c      the live certificates and those that have ended up to c are enough, and no fewer are
 use Rattle.std.specs.Prelude.{◌≡◌, ℕ, ◌+◌, ◌≤◌, List, Some, slice_get, take}
 use Rattle.prin_term.specs.declared.term.Anchor.{Anchor}
 use Rattle.prin_term.specs.Principal.{Principal}
@@ -8,7 +7,8 @@ use Rattle.taos_calculus.specs.Monitor.{MaySpeak}
 use Rattle.denial_link.specs.Order.{DeadInOrder}
 use Rattle.denial_link.specs.Revived.{claims, revived}
 
--- the n before c in the order are not enough with the live ones, and with c they are
+-- The live certificates and those that have ended up to c are enough, and no fewer are: the n
+-- before c in the order are not enough with the live ones, and with c they are.
 pub record IsNeeded (anchors : List Anchor) (certs : List Certificate) (moment : ℕ) (subject who : Principal) (c : ℕ) : Type 0 where
   pub n : ℕ
   pub places : List ℕ

@@ -8,7 +8,7 @@ pub record Plan : Type 0 where
   pub fails : List ℕ
   pub faults : ℕ
 
--- no call came yet
+-- the plan of an object to which no call came yet
 abbrev pub plan_of : List ℕ → Plan
 plan_of fails = record { calls = 0; fails = fails; faults = 0 }
 

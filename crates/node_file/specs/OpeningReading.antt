@@ -24,7 +24,7 @@ use Rattle.prin_term.specs.Readers.{Reader, followed, passing, made, counted, is
 abbrev pub OpeningReader : Type 0 → Type 0
 OpeningReader A = Reader A OpeningFault
 
--- the fault of bytes that are lacking
+-- the fault of bytes that are lacking, whose place is the end of the bytes
 abbrev pub ended : List ℕ → OpeningFault
 ended bytes = Byte (length bytes)
 

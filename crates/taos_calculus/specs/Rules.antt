@@ -1,36 +1,34 @@
 -- The calculus: what a line of a derivation may say, and what is derivable.
---     Judgement      `left => right`, or `who says (left => right)`
---     Claim      a speaker with its statement: all that the calculus takes of a certificate
---     Line      a judgement with the rule that gives it
---     Follows anchors claims earlier line      the line's fact is given by its rule: one case for each rule
---     EachFollows anchors claims earlier lines      each line follows from the earlier facts and the lines before it
---     Proves anchors claims lines fact      each line follows from those before it, and the last one's fact is this
---     Derivable anchors claims fact      some list of lines proves the fact; the lines may name any principals whatever
 use Rattle.std.specs.Prelude.{◌≡◌, ℕ, List, [], ◌∷◌, ◌++◌, Option, Some, None, slice_get}
 use Rattle.prin_term.specs.declared.term.Anchor.{Anchor}
 use Rattle.prin_term.specs.Principal.{Principal, Key, Name, And, Quoting, InRole, For}
 use Rattle.taos_calculus.specs.declared.line.Step.{Step}
 
+-- `left => right`, or `who says (left => right)`
 pub data Judgement : Type 0 where
   SpeaksFor : (left right : Principal) → Judgement
   Says : (who left right : Principal) → Judgement
 
+-- a speaker with its statement: all that the calculus takes of a certificate
 pub record Claim : Type 0 where
   pub speaker : Principal
   pub left : Principal
   pub right : Principal
 
+-- a judgement with the rule that gives it
 pub record Line : Type 0 where
   pub fact : Judgement
   pub step : Step
 
+-- the line of this judgement and this rule
 abbrev pub line : Judgement → Step → Line
 line fact step = record { fact = fact; step = step }
 
--- the fact stands at this number
+-- the fact stands at the number
 abbrev pub IsAt : List Judgement → ℕ → Judgement → Type 0
 IsAt facts i fact = slice_get facts i ≡ Some fact
 
+-- the line's fact is given by its rule: one case for each rule
 pub data Follows (anchors : List Anchor) (claims : List Claim) (earlier : List Judgement) : Line → Type 0 where
   same : {a : Principal} → Follows anchors claims earlier (line (SpeaksFor a a) Step.Same)
   chain : {a b c : Principal} {i j : ℕ} →
@@ -70,20 +68,24 @@ pub data Follows (anchors : List Anchor) (claims : List Claim) (earlier : List J
       IsAt earlier i (Says a (Quoting b a) (For b a)) →
       Follows anchors claims earlier (line (SpeaksFor (Quoting b a) (For b a)) (Step.Delegate i))
 
+-- each line follows from the earlier facts and the lines before it
 abbrev pub EachFollows : List Anchor → List Claim → List Judgement → List Line → Type 0
 EachFollows anchors claims earlier [] = Unit {0}
 EachFollows anchors claims earlier (l ∷ rest) =
     Follows anchors claims earlier l × EachFollows anchors claims (earlier ++ l.fact ∷ []) rest
 
+-- the fact of the last line, where there is one
 abbrev pub last_fact : List Line → Option Judgement
 last_fact [] = None
 last_fact (l ∷ []) = Some l.fact
 last_fact (l ∷ m ∷ rest) = last_fact (m ∷ rest)
 
+-- each line follows from those before it, and the last one's fact is this
 pub record Proves (anchors : List Anchor) (claims : List Claim) (lines : List Line) (fact : Judgement) : Type 0 where
   pub follow : EachFollows anchors claims [] lines
   pub last : last_fact lines ≡ Some fact
 
+-- some list of lines proves the fact; the lines may name any principals whatever
 pub record Derivable (anchors : List Anchor) (claims : List Claim) (fact : Judgement) : Type 0 where
   pub lines : List Line
   pub proves : Proves anchors claims lines fact

@@ -91,6 +91,7 @@ module _ (n : Node) (alone : Bool) (says : Option (ℕ → List ℕ → Said)) w
   Serves limit w0 w1 ClockFault = EndsAtClock limit w0 w1
   Serves limit w0 w1 NoMemory = (w1 ≡ w0) × AreLegal n w1.seen.journals
 
+-- the count of the fault that is answered rose, and each other stayed as it was
 abbrev pub TurnsCause : ℕ → ℕ → ℕ → ℕ → Turned → Type 0
 TurnsCause out0 out1 clock0 clock1 turned.Replied = (out1 ≡ out0) × (clock1 ≡ clock0)
 TurnsCause out0 out1 clock0 clock1 turned.WriteFault = Rose out0 out1 × (out0 ≤ out1) × (clock1 ≡ clock0)

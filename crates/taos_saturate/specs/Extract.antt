@@ -1,7 +1,4 @@
 -- The lines that a goal needs, in order.
---     Marked marks k      the line k is marked
---     IsMarked lines last marks      the last line is marked, with the premises of each marked line, and every other marked line is a premise of a later one
---     IsBuilt nodes anchors claims lines marks k numbers out      out holds the marked lines below k with their premises renumbered
 use Rattle.std.specs.Prelude.{◌≡◌, ◌≢◌, ℕ, ◌+◌, ◌-◌, ◌<◌, ◌≤◌, Bool, true, false, List, [], Some, slice_get, slice_index, slice_index_or, length, Contains, AllPairs}
 use Rattle.prin_term.specs.declared.term.Anchor.{Anchor}
 use Rattle.taos_calculus.specs.declared.line.Node.{Node}
@@ -12,6 +9,7 @@ use Rattle.taos_calculus.specs.declared.line.Line.{Line}
 use Rattle.taos_calculus.specs.Numbered.{EachGives, facts_at}
 use Rattle.taos_calculus.specs.Tidy.{premises_of}
 
+-- the line k is marked
 abbrev pub Marked : List Bool → ℕ → Type 0
 Marked marks k = slice_index_or marks k false ≡ true
 
@@ -29,13 +27,16 @@ pub record IsWanted (lines : List Line) (last : ℕ) (marks : List Bool) (k : �
   pub stands : slice_get lines by ≡ Some line
   pub names : Contains (premises_of line.step) k
 
--- as far as the lines from k on are looked at
+-- the last line is marked, and every other marked line is a premise of a later one; from k on the
+-- premises of each marked line are marked
 pub record IsMarkedFrom (lines : List Line) (last k : ℕ) (marks : List Bool) : Type 0 where
   pub long : length marks ≡ last + 1
   pub goal : Marked marks last
   pub closed : (m : ℕ) → k ≤ m → Marked marks m → HasPremises lines marks m
   pub wanted : (m : ℕ) → m < last → Marked marks m → IsWanted lines last marks m
 
+-- the last line is marked, with the premises of each marked line, and every other marked line is a
+-- premise of a later one
 abbrev pub IsMarked : List Line → ℕ → List Bool → Type 0
 IsMarked lines last marks = IsMarkedFrom lines last 0 marks
 
@@ -44,7 +45,8 @@ pub record IsRenumbered (numbers : List ℕ) (l m : Line) : Type 0 where
   pub fact_is : m.fact ≡ l.fact
   pub names : (i : ℕ) → Contains (premises_of l.step) i → Contains (premises_of m.step) (slice_index numbers i)
 
--- out holds the marked lines below k in order, and numbers gives their places
+-- out holds the marked lines below k in order, with their premises renumbered, and numbers gives
+-- their places
 pub record IsKept (lines : List Line) (marks : List Bool) (k : ℕ) (numbers : List ℕ) (out : List Line) : Type 0 where
   pub long : length numbers ≡ k
   pub kept : (i : ℕ) (l : Line) → i < k → Marked marks i → slice_get lines i ≡ Some l →
@@ -54,7 +56,8 @@ pub record IsKept (lines : List Line) (marks : List Bool) (k : ℕ) (numbers : L
   pub valid : (nodes : List Node) (anchors : List Anchor) (claims : List Claim) →
       EachGives nodes anchors claims [] lines → EachGives nodes anchors claims [] out
 
--- out is what the line `last` needs: its fact comes last, and each other line is a premise of a later one
+-- out is what the line `last` needs: its fact comes last, and each other line is a premise of a
+-- later one
 pub record IsExtract (lines : List Line) (last : ℕ) (out : List Line) : Type 0 where
   pub valid : (nodes : List Node) (anchors : List Anchor) (claims : List Claim) →
       EachGives nodes anchors claims [] lines → EachGives nodes anchors claims [] out

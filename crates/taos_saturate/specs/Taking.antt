@@ -7,7 +7,8 @@ use Rattle.taos_calculus.specs.Numbered.{EachGives}
 use Rattle.taos_saturate.specs.Saturating.{claims_in, facts_of}
 use Rattle.taos_calculus.specs.Tidy.{premises_of}
 
--- each line follows from those before it, the fact comes last, no fact comes twice, and each other line is a premise of a later one
+-- each line follows from those before it, the fact comes last, no fact comes twice, and each other
+-- line is a premise of a later one
 pub record IsTakenFor (s : Saturation) (fact : Fact) (lines : List Line) : Type 0 where
   pub valid : EachGives s.nodes.items s.anchors.items (claims_in s) [] lines
   pub ends : (m : Line) × (0 < length lines) × (slice_get lines (length lines - 1) ≡ Some m) × (m.fact ≡ fact)
