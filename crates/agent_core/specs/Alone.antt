@@ -13,6 +13,7 @@ use Rattle.agent_core.specs.Journals.{Entry, ShardSeen, told_at, IsLegalJournal}
 -- the shards in order, and how long each journal was at first
 pub record LoneSeen : Type 0 where
   pub shards : List ShardSeen
+  -- how long each journal was at first
   pub opened : List ℕ
 
 -- the plans of shards, in order
@@ -44,8 +45,10 @@ HasLegalJournal s = IsLegalJournal s.plan s.journal
 -- what is kept stands for shards of one owner: the journals are legal, and none is shorter than it
 -- was at first
 pub record IsLone (shards : List ShardSeen) (opened : List ℕ) (anchors : List Anchor) : Type 0 where
+  -- the plans are those of all shards of a node
   pub sound : AreShards (plans_in shards) anchors
   pub counted : length opened ≡ length shards
+  -- no journal is shorter than it was at first
   pub longer : (i n : ℕ) (s : ShardSeen) → slice_get opened i ≡ Some n → slice_get shards i ≡ Some s → n ≤ length s.journal
   pub legal : All HasLegalJournal shards
 
@@ -61,5 +64,6 @@ pub record StepsLone {E : Type 0} (l l' : LoneSeen) (number : ℕ) (event : Even
   pub wanted : (plan : Plan) → slice_get (plans_in l.shards) number ≡ Some plan → OnErr r (told_at plan (seen_in l'.shards number) event ≡ Told.Miss)
   -- a step fails only where the journal has room
   pub room : (plan : Plan) → slice_get (plans_in l.shards) number ≡ Some plan → OnErr r (length (seen_in l'.shards number) < plan.limit)
+  -- the journals and own places of the other shards stay
   pub others : (s : ℕ) → s ≢ number → (seen_in l'.shards s ≡ seen_in l.shards s) × (own_in l' s ≡ own_in l s)
   pub plans : plans_in l'.shards ≡ plans_in l.shards

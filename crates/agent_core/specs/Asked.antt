@@ -42,6 +42,7 @@ module _ (plan : Plan) (journal : List Entry) (a : Ask) where
   -- the Ask stands at the place and was a miss; the first entry that the live certificates grant
   -- is e, by the proof c
   pub record IsGrantedAt (place e : ℕ) (c : Cached) : Type 0 where
+    -- the entries before the Ask
     pub before : List Entry
     pub moment : ℕ
     pub certs : List Certificate
@@ -54,6 +55,7 @@ module _ (plan : Plan) (journal : List Entry) (a : Ask) where
   -- the Ask stands at the place and was a miss; the live certificates grant none, and the denial
   -- names the first link
   pub record IsDeniedAt (place : ℕ) (denial : Denial) : Type 0 where
+    -- the entries before the Ask
     pub before : List Entry
     pub moment : ℕ
     pub certs : List Certificate
@@ -88,12 +90,17 @@ module _ (plan : Plan) (journal : List Entry) (a : Ask) where
 -- the whole of an ask: its own places are new, ascend, and are how it ended; others may have
 -- entries anywhere
 pub record AskedTo (plan : Plan) (alone : Bool) (seen : List Entry) (own : List ℕ) (a : Ask) (later : List Entry) (own' : List ℕ) (Ends : List ℕ → Type 0) : Type 0 where
+  -- the own places that are new
   pub places : List ℕ
+  -- the journal begins with what was seen of it
   pub goes_on : Begins seen later
+  -- where nobody else steps the shard, no other entries came
   pub undisturbed : alone ≡ true → length later ≡ length seen + length places
   pub legal : IsLegalJournal plan later
   pub owned : own' ≡ own ++ places
+  -- they are after what was seen
   pub new : All (λ p. length seen ≤ p) places
+  -- and within the journal as it is now
   pub there : All (λ p. p < length later) places
   pub ascending : AllPairs (λ p q. p < q) places
   pub ends : Ends places

@@ -28,5 +28,6 @@ pub record IsProofFor (anchors : List Anchor) (certs : List Certificate) (moment
   pub cites_are : c.cites ≡ at_places certs places
   pub alive : All (λ (x : Certificate). moment < x.until) c.cites
   pub proves : Proves anchors (claims c.cites) c.proof (SpeaksFor c.subject c.who)
+  -- nothing in the proof or among its cites is without use
   pub tidy : IsTidy c.proof places
   pub lease_is : c.lease ≡ lease_of c.cites

@@ -71,8 +71,10 @@ IsMeant plan before _ = Unit {0}
 
 -- the entry may follow these
 pub record MayFollow (plan : Plan) (before : List Entry) (e : Entry) : Type 0 where
+  -- the journal is not full
   pub room : length before < plan.limit
   pub meant : IsMeant plan before e.event
+  -- what is told is what the state tells of the event
   pub tells : e.told ≡ told_at plan before e.event
 
 -- each entry may follow those before it

@@ -48,6 +48,7 @@ pub record IsRow (plan : Plan) (journal : List Entry) (clock swept : ℕ) (row :
   pub last_is : row.last ≡ last
   pub own_is : row_certs plan journal clock swept row ≡ own
   pub names : AreNames plan.commons journal row.own.items
+  -- the row was swept no later than the shard
   pub swept_before : row.swept ≤ swept
 
 -- what is kept stands for the state: a row for each channel, in their order
@@ -56,6 +57,7 @@ pub record IsStore (plan : Plan) (journal : List Entry) (s : State) (store : Sto
   pub commons_are : certs_named plan.commons journal store.commons.items ≡ s.commons
   pub commons_names : AreNames plan.commons journal store.commons.items
   pub row_count : length store.rows.items ≡ length plan.channels
+  -- the row of each channel stands for its last number and its own certificates
   pub rows_are : (i : ℕ) (row : Row) (c : ℕ) → slice_get store.rows.items i ≡ Some row → slice_get plan.channels i ≡ Some c →
       IsRow plan journal store.clock store.swept row (s.last c) (s.own c)
 
@@ -64,8 +66,10 @@ pub record IsKept (plan : Plan) (entries : Vec ShardEntry Global) (store : Store
   pub planned : IsPlan plan
   pub legal : IsLegalJournal plan (map entry_of entries.items)
   pub store_is : IsStore plan (map entry_of entries.items) (state_after plan (map entry_of entries.items)) store
+  -- the shard was swept no later than at its last entry
   pub swept_within : store.swept ≤ length entries.items
   pub within : length entries.items ≤ plan.limit
+  -- no entry that the plan allows needs more memory
   pub room : plan.limit ≤ vec_capacity entries
 
 -- the event is told at once, and journaled

@@ -17,6 +17,7 @@ pub record MayOpen (channels : List ℕ) (shards : ℕ) (anchors : List Anchor) 
   pub few_channels : length channels ≤ MAX_CHANNELS
   pub few_anchors : length anchors ≤ MAX_ANCHORS
   pub few_commons : length commons ≤ MAX_COMMONS
+  -- the limit of the journals is one that a journal may have
   pub short : limit ≤ MAX_JOURNAL
 
 -- the channels of one shard of so many: those that leave its number as the remainder

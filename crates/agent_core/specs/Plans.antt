@@ -12,6 +12,7 @@ pub record IsPlan (plan : Plan) : Type 0 where
   pub few_anchors : length plan.anchors ≤ MAX_ANCHORS
   pub few_channels : length plan.channels ≤ MAX_CHANNELS
   pub few_commons : length plan.commons ≤ MAX_COMMONS
+  -- the limit of its journal is one that a journal may have
   pub short : plan.limit ≤ MAX_JOURNAL
 
 -- the plans of all shards of a node, in order, each with these anchors
@@ -19,7 +20,9 @@ pub record AreShards (plans : List Plan) (anchors : List Anchor) : Type 0 where
   pub some : 0 < length plans
   pub few : length plans ≤ MAX_SHARDS
   pub sound : All IsPlan plans
+  -- each plan has its own place as its number
   pub numbered : (i : ℕ) (p : Plan) → slice_get plans i ≡ Some p → p.number ≡ i
+  -- each plan says how many shards there are
   pub counted : All (λ (p : Plan). p.shards ≡ length plans) plans
   pub anchored : All (λ (p : Plan). p.anchors ≡ anchors) plans
 

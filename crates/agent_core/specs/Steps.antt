@@ -21,6 +21,7 @@ pub data IsAnswer (plan : Plan) (before : List Entry) : Event → Told → StepA
 
 -- one entry more, at this place, with this answer
 pub record Steps (plan : Plan) (before : List Entry) (event : Event) (later : List Entry) (place : ℕ) (answer : StepAnswer) : Type 0 where
+  -- what was told of the event
   pub told : Told
   pub adds : later ≡ before ++ entry event told ∷ []
   pub placed : length before ≡ place
@@ -30,15 +31,20 @@ pub record Steps (plan : Plan) (before : List Entry) (event : Event) (later : Li
 -- the same after what was seen of the shard and entries of others, where there are any; the place
 -- is an own one
 pub record StepsTo (plan : Plan) (alone : Bool) (seen : List Entry) (own : List ℕ) (event : Event) (later : List Entry) (own' : List ℕ) (place : ℕ) (answer : StepAnswer) : Type 0 where
+  -- the journal as it was just before the step
   pub before : List Entry
   pub goes_on : Begins seen before
+  -- where nobody else steps the shard, it is what was seen
   pub undisturbed : alone ≡ true → before ≡ seen
   pub steps : Steps plan before event later place answer
+  -- the place of the new entry is an own one
   pub owned : own' ≡ own ++ place ∷ []
 
 -- no own entry was added: the journal is full, or memory was refused
 pub record StepRefused (plan : Plan) (alone : Bool) (seen : List Entry) (own : List ℕ) (later : List Entry) (own' : List ℕ) : Type 0 where
   pub goes_on : Begins seen later
+  -- where nobody else steps the shard, its journal stays
   pub undisturbed : alone ≡ true → later ≡ seen
   pub legal : IsLegalJournal plan later
+  -- the own places stay
   pub owned : own' ≡ own

@@ -30,15 +30,21 @@ Speaks anchors certs moment left right = MaySpeak anchors (claims_of (live certs
 
 -- The node's key kn was booted by the machine's key m, and speaks through the channel c.
 pub record IsBooted (anchors : List Anchor) (certs : List Certificate) (moment m kn w os c : ℕ) : Type 0 where
+  -- the machine's key m is anchored to the name w
   pub machine : HasAnchor anchors m w
+  -- the machine's key says that the key kn speaks for w in the role os
   pub boot : HasLive certs moment (boot_of m kn w os)
+  -- the key kn says that the channel speaks for it
   pub channel : HasLive certs moment (channel_of kn c)
 
 -- The user's key was used to log in there, in the session of the key ks, which speaks through the
 -- channel too.
 pub record IsLoggedIn (anchors : List Anchor) (certs : List Certificate) (moment w os user ks u c : ℕ) : Type 0 where
+  -- the user's key is anchored to the name u
   pub anchor : HasAnchor anchors user u
+  -- the user's key logged in at the machine's system, for the key of the session
   pub login : HasLive certs moment (login_of user w os ks u)
+  -- the session's key says that the channel speaks for it
   pub session : HasLive certs moment (session_of ks c)
 
 -- a login: the channel that quotes the user speaks for the machine's system for the user

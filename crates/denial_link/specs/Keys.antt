@@ -19,10 +19,13 @@ pub record IsKeyOf (certs : List Certificate) (moment : ℕ) (key : Key) : Type 
 pub record KeysBelow (certs : List Certificate) (moment n : ℕ) (keys : List Key) : Type 0 where
   pub sound : All (IsKeyOf certs moment) keys
   pub below : All (λ k. k.2 < n) keys
+  -- each certificate below n that has ended has its key there
   pub every : (i : ℕ) (c : Certificate) → i < n → slice_get certs i ≡ Some c → c.until ≤ moment → (k : Key) × Contains keys k × (k.2 ≡ i)
+  -- the places rise
   pub rising : AllPairs (λ j k. j.2 < k.2) keys
 
 -- of the certificates below n, the live ones and those at the places are marked
 pub record AreMarked (certs : List Certificate) (moment : ℕ) (places : List ℕ) (n : ℕ) (marks : List Bool) : Type 0 where
   pub count : length marks ≡ n
+  -- a place is marked exactly where its certificate is live or the place is among these
   pub each : (i : ℕ) (c : Certificate) → i < n → slice_get certs i ≡ Some c → (slice_get marks i ≡ Some true) ↔ ((moment < c.until) ⊎ Contains places i)

@@ -19,7 +19,9 @@ IsReached anchors said subject p = (s : Principal) × Contains (subterms subject
 -- pre-order. The walk goes from p, which is not reached, to the first operand that is not, and ends
 -- where there is none.
 pub data Lacks (Reached : Principal → Type 0) : Principal → ℕ → Type 0 where
+  -- all that stands directly under p is reached
   here : {p : Principal} → All Reached (operands p) → Lacks Reached p 0
+  -- q is the first operand that is not reached; the part lacks under it
   below : {p q : Principal} {k n : ℕ} (front rest : List Principal) →
       operands p ≡ front ++ q ∷ rest → All Reached front → (Reached q → ⊥) → Lacks Reached q k →
       n ≡ 1 + sum_by node_count front + k → Lacks Reached p n

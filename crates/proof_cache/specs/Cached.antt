@@ -14,7 +14,9 @@ pub record Cached : Type 0 where
   pub subject : Principal
   -- for whom the subject speaks
   pub who : Principal
+  -- the lines that prove it
   pub proof : List Line
+  -- the certificates that the proof cites, in order
   pub cites : List Certificate
   -- the moment at which it ends, in seconds
   pub lease : ℕ

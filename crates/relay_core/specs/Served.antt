@@ -48,9 +48,12 @@ IsWritten _ replies bytes = bytes ≡ framed replies
 -- The bytes that were taken and written: told before and after are what the input has left, and
 -- what the output holds. At most so many whole frames were taken, and each was answered, in order.
 pub record IsServed (issuers nodes : Entries) (limit : ℕ) (in0 in1 out0 out1 : Option (List ℕ)) (outcome : Outcome) : Type 0 where
+  -- the bytes that were taken from the input
   pub taken : List ℕ
   pub turns : List Turn
+  -- what was taken after the whole frames
   pub rest : List ℕ
+  -- the bytes that were put on the output
   pub written : List ℕ
   pub took : Consumes in0 in1 taken
   pub splits : Splits MAX_FRAME taken (frames_of turns) rest

@@ -16,6 +16,7 @@ sealed kind key c = sealed_text kind c ++ tag_of key (sealed_text kind c)
 -- the bytes are c, within the limits, and 32 more, whichever they are
 pub record Spells (kind : ℕ) (bytes : List ℕ) (c : Certificate) (tag : List ℕ) : Type 0 where
   pub text : bytes ≡ sealed_text kind c ++ tag
+  -- the tag has its whole length
   pub whole_tag : length tag ≡ TAG_LEN
   pub numbers : HasBodySpelling c
   pub limits : IsWithinLimits c

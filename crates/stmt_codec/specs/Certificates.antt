@@ -21,6 +21,7 @@ pub record Certificate : Type 0 where
   pub right : Principal
   -- the moment at which it ends, in seconds
   pub until : ℕ
+  -- a number that the issuer chooses
   pub serial : ℕ
 
 -- what a body of the program says, wherever its terms lie
@@ -68,6 +69,7 @@ pub record IsWithinLimits (c : Certificate) : Type 0 where
   pub quoted_fits : IfSome c.quoted IsSmall
   pub left_fits : IsSmall c.left
   pub right_fits : IsSmall c.right
+  -- not too many distinct parts in all its terms
   pub few_subterms : length (distinct_subterms c) ≤ MAX_DISTINCT
 
 -- the numbers fit their fields, so the certificate has a spelling

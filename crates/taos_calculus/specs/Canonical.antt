@@ -27,6 +27,8 @@ canonical_table lines = first_of_each (flat_map post_order (flat_map (λ l. term
 
 -- the table is the canonical one of the lines that the parts mean
 pub record IsCanonical (parts : Parts) : Type 0 where
+  -- operands come before what they are operands of
   pub ordered : (i : ℕ) (node : Node) → slice_get parts.nodes i ≡ Some node → OperandsBelow i node
+  -- the facts are over numbers of the table
   pub within : All (λ l. IsBelow (length parts.nodes) l.fact) parts.lines
   pub table : principals_of parts.nodes ≡ canonical_table (lines_of parts)

@@ -18,6 +18,7 @@ pub record FirstEntry (list : List Grant) (right : ℕ) (P : Grant → Type 0) (
   pub stands : slice_get list place ≡ Some entry
   pub has_right : HasRight entry right
   pub holds : P entry
+  -- no entry before it has the right and P
   pub first : (k : ℕ) (e : Grant) → k < place → slice_get list k ≡ Some e → HasRight e right → P e → ⊥
 
 -- the subject is derivable to some entry with the right

@@ -24,6 +24,7 @@ picked at (x ∷ xs) (false ∷ marks) = picked (at + 1) xs marks
 -- the anchors, the chosen certificates with their places, who asks, and who is on the list
 pub record Question : Type 0 where
   pub anchors : List Anchor
+  -- each chosen certificate's place with what it says
   pub chosen : List (ℕ × Claim)
   pub subject : Principal
   pub list : List Principal
@@ -51,6 +52,7 @@ IsSubject _ = ⊥
 pub record IsAskable (anchors : List Anchor) (certs : List Certificate) (chosen : List Bool) (subject : Principal) (list : List Grant) : Type 0 where
   pub anchors_fit : length anchors ≤ MAX_ANCHORS
   pub certs_fit : length certs ≤ MAX_CERTS
+  -- there is a mark for each certificate
   pub chosen_fit : length chosen ≡ length certs
   pub subject_fits : IsSubject subject
   pub list_fits : length list ≤ MAX_ENTRIES
@@ -72,6 +74,7 @@ pub data AreCited (chosen : List (ℕ × Claim)) : List ℕ → List Claim → T
 
 -- a proof without waste of `left => right` from the cited certificates
 pub record IsProofOf (q : Question) (left right : Principal) (lines : List Line) (cites : List ℕ) : Type 0 where
+  -- what the cited certificates say, in the order of the cites
   pub said : List Claim
   pub cited : AreCited q.chosen cites said
   pub proves : Proves q.anchors said lines (SpeaksFor left right)

@@ -12,7 +12,9 @@ IsWithin U (Says a l r) = U a × U l × U r
 -- U holds of the principals of the certificates, and with a principal of its operands; the anchors
 -- need not be in it
 pub record IsTable (U : Principal → Type 0) (claims : List Claim) : Type 0 where
+  -- with a principal, its operands are in it
   pub operands_in : (p : Principal) → U p → All U (operands p)
+  -- the principals of the certificates are in it
   pub claims_in : (i : ℕ) (claim : Claim) → slice_get claims i ≡ Some claim → U claim.speaker × U claim.left × U claim.right
 
 -- what follows from known facts by one rule is known, as far as U goes

@@ -66,5 +66,7 @@ IsBelow n (Fact.Says who left right) = (who < n) × (left < n) × (right < n)
 
 -- each node's operands stand before it, and no node stands twice
 pub record IsNodeTable (nodes : List Node) : Type 0 where
+  -- each node's operands stand before it
   pub ordered : (i : ℕ) (node : Node) → slice_get nodes i ≡ Some node → OperandsBelow i node
+  -- no node stands twice
   pub distinct : (i j : ℕ) (node : Node) → slice_get nodes i ≡ Some node → slice_get nodes j ≡ Some node → i ≡ j

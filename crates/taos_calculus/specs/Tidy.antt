@@ -60,10 +60,14 @@ pub record DerivableWithin (U : Principal → Type 0) (anchors : List Anchor) (c
 -- no two lines have one fact, each line but the last is a premise of a later one, each cite is
 -- used, and no two cites are alike
 pub record IsTidy (lines : List Line) (cites : List ℕ) : Type 0 where
+  -- no two lines have one fact
   pub distinct : AllPairs (λ l m. l.fact ≢ m.fact) lines
+  -- each line but the last is a premise of a later one
   pub used : (k : ℕ) → k + 1 < length lines →
       (i : ℕ) × (l : Line) × (k < i) × (slice_get lines i ≡ Some l) × Contains (premises_of l.step) k
+  -- each cite is used
   pub cited : (k : ℕ) → k < length cites → (i : ℕ) × (l : Line) × (slice_get lines i ≡ Some l) × Contains (cites_of l.step) k
+  -- no two cites are alike
   pub apart : AllPairs (λ c d. c ≢ d) cites
 
 -- what is derivable and within the table has a derivation within the table

@@ -21,6 +21,7 @@ parts_under nodes ids = flat_map post_order (map (named nodes) ids)
 pub record Reaches (nodes : List Node) (due : ℕ) (ids : List ℕ) (k : ℕ) : Type 0 where
   pub within : k ≤ length nodes
   pub below : All (λ i. i < length nodes) ids
+  -- what the numbers name, added to those first, is the beginning of the table that ends at k
   pub front : met (take due (principals_of nodes)) (parts_under nodes ids) ≡ take k (principals_of nodes)
 
 -- these numbers lead to no beginning of the table

@@ -96,10 +96,14 @@ IsAfter p q = p.cell ≡ q.cell → p.number < q.number
 -- each cell, and are all that came, where nobody else steps the cells.
 pub record GoesOn (alone : Bool) (old new : Seen) (places : List Place) : Type 0 where
   pub goes_on : Extends old.journals new.journals
+  -- the new places are own ones of their cells, after those before
   pub owned : (cell : Cell) → new.own cell ≡ old.own cell ++ numbers_in cell places
+  -- each is after what was seen of its cell
   pub new_places : All (λ (p : Place). entries_in old.journals p.cell ≤ p.number) places
+  -- and within the journal of its cell as it is now
   pub there : All (λ (p : Place). p.number < entries_in new.journals p.cell) places
   pub ascending : AllPairs IsAfter places
+  -- where nobody else steps the cells, all new entries are own ones
   pub undisturbed : alone ≡ true → (cell : Cell) →
       entries_in new.journals cell ≡ entries_in old.journals cell + length (numbers_in cell places)
 

@@ -52,13 +52,20 @@ IsWritten _ replies bytes = bytes ≡ framed replies
 -- The whole: of the bytes that the input gave at most so many whole frames were taken, and each was
 -- answered, by own places that are new in the journals, in order.
 pub record IsConnection (n : Node) (alone : Bool) (says : Option (ℕ → List ℕ → Said)) (limit : ℕ) (w0 w1 : World) (outcome : Outcome) : Type 0 where
+  -- the bytes that were taken from the input
   pub taken : List ℕ
   pub frames : List (List ℕ)
+  -- what was taken after the whole frames
   pub rest : List ℕ
+  -- the replies, as bytes, in order
   pub replies : List (List ℕ)
+  -- what the clock gave, in order
   pub readings : List ℕ
+  -- what the link was asked and answered, in order
   pub calls : List LinkCall
+  -- the own places in the journals, in order
   pub places : List Place
+  -- the bytes that were put on the output
   pub written : List ℕ
   pub took : Consumes w0.input w1.input taken
   pub splits : Splits max_request taken frames rest

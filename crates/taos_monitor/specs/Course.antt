@@ -66,17 +66,17 @@ module _ (n : Node) where
     pub keyed : key_of n.channels r.channel ≡ Some key
     pub seal : IsSealed key payload
 
-  -- and it is one that is built
+  -- the payload is such a request, of an operation that is built
   pub record IsBuilt (payload : List ℕ) (r : Request) (key : List ℕ) : Type 0 where
     pub asked : IsAsked payload r key
     pub built : IsUnbuilt r → ⊥
 
-  -- and its certificates open, by these calls of the link
+  -- such a request, whose certificates open, by these calls of the link
   pub record IsOpened (payload : List ℕ) (r : Request) (key : List ℕ) (calls : List LinkCall) (certs : List Certificate) : Type 0 where
     pub taken : IsBuilt payload r key
     pub opened : AreOpened n.relay_key r.certs calls certs
 
-  -- and it came to its object
+  -- such a request, which came to its object
   pub record HasArrived (payload : List ℕ) (r : Request) (key : List ℕ) (calls : List LinkCall) (certs : List Certificate) (object : ObjectPlan) : Type 0 where
     pub presented : IsOpened payload r key calls certs
     pub there : object_of n.objects r.object ≡ Some object

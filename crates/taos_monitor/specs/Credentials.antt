@@ -12,9 +12,13 @@ use Rattle.taos_monitor.specs.declared.presented.TheConstants.{BAD_RESEAL}
 
 -- new bytes; a refusal with its code; that memory was refused; that the call failed
 pub data LinkAnswer : Type 0 where
+  -- new bytes, under the relay's seal for the node
   Resealed : List ℕ → LinkAnswer
+  -- a refusal with its code
   Refused : ℕ → LinkAnswer
+  -- memory was refused
   Lacked : LinkAnswer
+  -- the call failed
   Failed : LinkAnswer
 
 -- a call of the link: the bytes that it was given, and its answer
@@ -33,6 +37,7 @@ IsIssued text = (rest : List ℕ) × (text ≡ ISSUED ∷ rest)
 -- new bytes open under the relay's key to the body that was presented
 pub record IsResealed (key text new : List ℕ) (c : Certificate) : Type 0 where
   pub opens : Opens key new c
+  -- the tag under which the body was presented, whichever it is
   pub tag : List ℕ
   pub presented : Spells ISSUED text c tag
 
@@ -58,6 +63,7 @@ pub data AreOpened (key : List ℕ) : List (List ℕ) → List LinkCall → List
 
 -- those before the index were opened, by these calls; this one is next
 pub record StopsAt (key : List ℕ) (texts : List (List ℕ)) (index : ℕ) (text : List ℕ) (before : List LinkCall) : Type 0 where
+  -- the certificates before the index, which were opened
   pub front : List (List ℕ)
   pub rest : List (List ℕ)
   pub whole : texts ≡ front ++ text ∷ rest
@@ -68,7 +74,9 @@ pub record StopsAt (key : List ℕ) (texts : List (List ℕ)) (index : ℕ) (tex
 -- the first that comes to no certificate has this index, and the code says why
 pub record IsFirstRefused (key : List ℕ) (texts : List (List ℕ)) (calls : List LinkCall) (index code : ℕ) : Type 0 where
   pub text : List ℕ
+  -- the calls for those before the index
   pub before : List LinkCall
+  -- the calls for this one
   pub last : List LinkCall
   pub stops : StopsAt key texts index text before
   pub refused : IsRefused key text last code
@@ -77,6 +85,7 @@ pub record IsFirstRefused (key : List ℕ) (texts : List (List ℕ)) (calls : Li
 -- the first that comes to no certificate has this index: for it the link failed
 pub record IsFirstFailed (key : List ℕ) (texts : List (List ℕ)) (calls : List LinkCall) (index : ℕ) : Type 0 where
   pub text : List ℕ
+  -- the calls for those before the index
   pub before : List LinkCall
   pub stops : StopsAt key texts index text before
   pub issued : IsIssued text

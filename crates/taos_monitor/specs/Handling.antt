@@ -21,8 +21,11 @@ Gave before after (x ∷ xs) = (middle : Option (List ℕ)) × ShowsKnown before
 module _ (n : Node) (alone : Bool) (old new : Seen) (says : Option (ℕ → List ℕ → Said)) (faults0 faults1 : ℕ) (clock0 clock1 : Option (List ℕ)) where
   -- a course of which this holds was taken to a reply
   pub record Takes (IsTaken : List ℕ → List LinkCall → List Place → Sent → Type 0) (bytes : List ℕ) : Type 0 where
+    -- what the clock gave
     pub readings : List ℕ
+    -- what the link was asked and answered
     pub calls : List LinkCall
+    -- the own places
     pub places : List Place
     pub sent : Sent
     pub goes_on : GoesOn alone old new places
@@ -30,7 +33,9 @@ module _ (n : Node) (alone : Bool) (old new : Seen) (says : Option (ℕ → List
     pub course : IsTaken readings calls places sent
     pub gave : Gave clock0 clock1 readings
     pub linked : IsLinked says n.number faults0 faults1 calls
+    -- the bytes are those of the reply, with its tag
     pub spelled : bytes ≡ spelling sent
+    -- the bytes fit a frame
     pub short : length bytes < 2 ^ 32
 
   -- something came to the clock, which failed: no shard was stepped

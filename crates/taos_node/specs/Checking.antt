@@ -51,15 +51,16 @@ module _ (o : Opening) (request reply : Option (List ℕ)) where
     pub kept : Bool
     pub shard : ℕ
     pub place : ℕ
+    -- the object's content, as the reply has it
     pub result : List ℕ
     pub believed : IsBelieved r key (answers.Granted kept entry shard place lines certs result)
 
-  -- and for an object that is there
+  -- the reply is a grant, for an object that is there
   pub record IsForObject (r : Request) (entry : ℕ) (lines : List Line) (certs : List Certificate) (object : ObjectPlan) : Type 0 where
     pub grant : IsGrant r entry lines certs
     pub there : plan_of o.objects r.object ≡ Some object
 
-  -- and by an entry of the object's list that has the right
+  -- the reply is a grant for an object, by an entry of its list that has the right
   pub record IsForEntry (r : Request) (entry : ℕ) (lines : List Line) (certs : List Certificate) (g : Grant) : Type 0 where
     pub object : ObjectPlan
     pub found : IsForObject r entry lines certs object
@@ -70,7 +71,7 @@ module _ (o : Opening) (request reply : Option (List ℕ)) where
   abbrev pub Gives : List Line → List Certificate → Judgement → Type 0
   Gives lines certs fact = Proves o.anchors (map claim_of certs) lines fact
 
-  -- and its proof proves that left speaks for right
+  -- the reply is such a grant, whose lines prove that left speaks for right
   pub record IsProved (r : Request) (entry : ℕ) (lines : List Line) (certs : List Certificate) (g : Grant) (left right : Principal) : Type 0 where
     pub granted : IsForEntry r entry lines certs g
     pub proves : Gives lines certs (SpeaksFor left right)

@@ -107,6 +107,7 @@ pub record Untouched (a0 a1 : Around) : Type 0 where
 pub record ServesConnection (o : Opening) (says : Option (ℕ → List ℕ → Said)) (a0 a1 : Around) (outcome : Outcome) : Type 0 where
   pub node : Node
   pub is_node : IsNodeOf o node
+  -- the journals at the end, whose entries are all its own
   pub seen : Seen
   pub connection : IsConnection node true says max_frames (with_seen a0 nothing_seen) (with_seen a1 seen) outcome
 
@@ -116,7 +117,9 @@ pub record LooksOver (file0 file1 : Option (List ℕ)) (a0 a1 : Around) (end : C
   pub node : Opening
   pub opens : Opens file0 file1 node
   pub checks : Checks node a0.input a1.input a0.output a1.output end
+  -- the clock was not used
   pub clock : Keeps a0.clock a1.clock
+  -- the link was not used
   pub link : a1.failed ≡ a0.failed
 
 -- What is done, by how it ends, with what the link of the first lane tells of its answers. Other

@@ -63,6 +63,7 @@ TakesFrame limit before after None = (other : Next) × IsMissing other × Takes 
 
 -- after a frame that is there, this holds of what the input has left
 pub record TakesBehind (before : Option (List ℕ)) (payload : List ℕ) (Then : Option (List ℕ) → Type 0) : Type 0 where
+  -- what the input has left after the first frame
   pub middle : Option (List ℕ)
   pub first : TakesFrame max_request before middle (Some payload)
   pub behind : Then middle

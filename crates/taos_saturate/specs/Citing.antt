@@ -17,14 +17,18 @@ HasPlace used k = (j : ℕ) × (slice_get used j ≡ Some k)
 
 -- used are the numbers below k that the lines cite, each once
 pub record UsedBelow (lines : List Line) (k : ℕ) (used : List ℕ) : Type 0 where
+  -- each number below k that is cited has its place
   pub all : (m : ℕ) → m < k → IsCite lines m → HasPlace used m
   pub below : (j m : ℕ) → slice_get used j ≡ Some m → m < k
+  -- each number there is cited
   pub only : (j m : ℕ) → slice_get used j ≡ Some m → IsCite lines m
+  -- no number stands twice
   pub apart : (i j m : ℕ) → slice_get used i ≡ Some m → slice_get used j ≡ Some m → i ≡ j
   pub few : length used ≤ k
 
 -- the step names its certificate by the place of its number in used
 pub record IsRecited (used : List ℕ) (step new : Step) : Type 0 where
+  -- the place in used of each certificate's number
   pub cite : ℕ → ℕ
   pub is : new ≡ moved (λ i. i) cite step
   pub stands : (k : ℕ) → Contains (cites_of step) k → slice_get used (cite k) ≡ Some k

@@ -30,12 +30,16 @@ vacancy (suc n) = 0
 
 -- the numbers tell the line of each fact, as the number and one more; 0 tells that there is none
 pub record IsIndex (width : ℕ) (statements : List Pair) (numbers : List ℕ) (lines : List Line) : Type 0 where
+  -- a cell for each two numbers, and one for each statement with each number
   pub sized : length numbers ≡ width * (width + length statements)
   pub fits : width * (width + length statements) < 2 ^ 32
   pub rows_fit : width + length statements < 2 ^ 32
+  -- lines and vacant cells together are as many as the cells
   pub counted : length lines + sum_by vacancy numbers ≡ length numbers
+  -- the cell of each fact tells its line
   pub celled : (k : ℕ) (fact : Fact) → slice_get (facts_at lines) k ≡ Some fact →
       (c : ℕ) × IsCell width statements fact c × (slice_index numbers c ≡ suc k)
+  -- what a cell tells is the line of the fact of that cell
   pub told : (c k : ℕ) → slice_index numbers c ≡ suc k →
       (fact : Fact) × IsCell width statements fact c × (slice_get (facts_at lines) k ≡ Some fact)
 
@@ -58,6 +62,7 @@ room s = sum_by vacancy s.numbers.items
 -- the table tells for each fact the line that has it, or that none does
 pub record IsFound (s : Found) : Type 0 where
   pub index : IsIndex s.width s.statements.items s.numbers.items s.lines.items
+  -- there is memory for a line in each cell
   pub held : length s.numbers.items ≤ vec_capacity s.lines
 
 -- the row knows each column that the other row knows

@@ -48,8 +48,10 @@ pub record IsHeld (h : Held) : Type 0 where
   pub reserved : IsReserved h
   pub good : IsGood h.table
   pub few_nodes : length h.table.nodes.items ≤ MAX_NODES
+  -- the table has no more cells than there may be lines
   pub few_cells : length h.table.found.numbers.items ≤ MAX_LINES
   pub few_cited : length h.table.cited.items ≤ MAX_CERTS
   pub subject_in : h.subject < length h.table.nodes.items
   pub list_in : All (λ i. i < length h.table.nodes.items) h.list.items
+  -- no place comes twice among the chosen
   pub apart : ArePlacesApart (seen h).chosen

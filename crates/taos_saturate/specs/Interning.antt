@@ -10,6 +10,7 @@ use Rattle.taos_calculus.specs.Tables.{IsNodeTable, named, principals_of}
 -- operands come first, no node comes twice, and there is room for the largest table
 pub record IsRoomy (nodes : List Node) (capacity : ℕ) : Type 0 where
   pub table : IsNodeTable nodes
+  -- the memory is enough for the largest table
   pub room : MAX_NODES ≤ capacity
 
 -- the table is not too large with all of these principals in it

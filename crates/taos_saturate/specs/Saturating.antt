@@ -60,7 +60,9 @@ pub record IsReady (s : Saturation) : Type 0 where
   pub table : IsNodeTable s.nodes.items
   pub anchors_fit : length s.anchors.items < 2 ^ 16
   pub cited_fit : length s.cited.items < 2 ^ 16
+  -- the sides of each statement are numbers of the table
   pub statements_in : (k : ℕ) (p : Pair) → slice_get s.found.statements.items k ≡ Some p → IsNumber s p.left × IsNumber s p.right
+  -- each certificate's speaker is a number of the table, and what it says a statement
   pub cited_in : (k : ℕ) (c : Cited) → slice_get s.cited.items k ≡ Some c →
       IsNumber s c.speaker × ((m : ℕ) × (slice_get s.found.statements.items m ≡ Some (pair c.left c.right)))
 
@@ -71,8 +73,11 @@ IsKnown s fact = (k : ℕ) × (slice_get (facts_of s) k ≡ Some fact)
 -- a line that may come next
 pub record IsNew (s : Saturation) (line : Line) : Type 0 where
   pub gives : GivesIn s line.fact line.step
+  -- its fact is over numbers of the table
   pub below : IsBelow (length s.nodes.items) line.fact
+  -- its fact was not found before
   pub unknown : (k : ℕ) → slice_get (facts_of s) k ≡ Some line.fact → ⊥
+  -- its fact has a place in the table of facts
   pub celled : (c : ℕ) × CellOf s.found line.fact c
 
 -- a step to `left => right` that does not go through a third principal
@@ -117,9 +122,13 @@ LiftFull s w p = (i j b : ℕ) →
 
 -- no step gives anything new
 pub record IsFull (s : Saturation) : Type 0 where
+  -- what a step without a chain gives is known
   pub speaks : (l r : ℕ) → IsNumber s l → IsNumber s r → SpeaksFull s l r
+  -- what a chain gives is known
   pub chains : (l m : ℕ) → IsNumber s l → IsNumber s m → ChainFull s l m
+  -- what a step without a lift gives is known
   pub says : (k w : ℕ) (p : Pair) → slice_get s.found.statements.items k ≡ Some p → IsNumber s w → SaysFull s w p
+  -- what a lift gives is known
   pub lifts : (k w : ℕ) (p : Pair) → slice_get s.found.statements.items k ≡ Some p → IsNumber s w → LiftFull s w p
 
 -- each line's step gives its fact from the lines before it
@@ -138,8 +147,11 @@ pub record IsGrown (s t : Saturation) : Type 0 where
   pub sound : IsSound t
   pub table : SameTable s t
   pub statements : t.found.statements ≡ s.found.statements
+  -- the room for facts did not grow
   pub room_left : room t.found ≤ room s.found
+  -- the memory for lines did not shrink
   pub lines_kept : vec_capacity s.found.lines ≤ vec_capacity t.found.lines
+  -- the memory for numbers did not shrink
   pub numbers_kept : vec_capacity s.found.numbers ≤ vec_capacity t.found.numbers
 
 -- it is full, and so knows all that is derivable about its table

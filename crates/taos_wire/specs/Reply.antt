@@ -183,6 +183,7 @@ pub record SpellsReply (channel seq : ℕ) (r : Reply) (bytes : List ℕ) : Type
   pub channel_fits : channel < 2 ^ 32
   pub seq_fits : seq < 2 ^ 64
   pub limits : FitsReply r
+  -- any 32 bytes after the text
   pub tag : List ℕ
   pub is_tag : IsTag tag
   pub text : bytes ≡ reply_text channel seq r ++ tag
@@ -191,6 +192,7 @@ pub record SpellsReply (channel seq : ℕ) (r : Reply) (bytes : List ℕ) : Type
 
 -- a reply with the channel and the number that it answers, and the key that seals it, if any does
 pub record Sent : Type 0 where
+  -- the key that seals it, if any does
   pub key : Option (List ℕ)
   pub channel : ℕ
   pub seq : ℕ

@@ -106,4 +106,5 @@ sealed key r = request_text r ++ tag_of key (request_text r)
 -- the bytes end in the tag, under the key, of those before it
 pub record IsSealed (key bytes : List ℕ) : Type 0 where
   pub text : List ℕ
+  -- the text, then its tag
   pub whole : bytes ≡ text ++ tag_of key text
