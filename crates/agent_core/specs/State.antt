@@ -17,7 +17,7 @@ pub record Plan : Type 0 where
   pub anchors : List Anchor
   pub channels : List ℕ
   pub commons : List Certificate
-  -- how many seconds a certificate that ended is kept
+  -- how long a certificate that ended is kept, in the unit of the clock
   pub keep : ℕ
   -- how many entries the journal has at most
   pub limit : ℕ
@@ -33,7 +33,7 @@ pub record State : Type 0 where
 pub record Ask : Type 0 where
   pub channel : ℕ
   pub seq : ℕ
-  -- what the clock read, in seconds
+  -- what the clock read
   pub reading : ℕ
   pub subject : Principal
   pub list : List Grant

@@ -18,7 +18,7 @@ pub record Cached : Type 0 where
   pub proof : List Line
   -- the certificates that the proof cites, in order
   pub cites : List Certificate
-  -- the moment at which it ends, in seconds
+  -- the moment at which it ends, in the unit of the service's clock
   pub lease : ℕ
 
 -- the least end of these certificates, or the largest u64 where there is none

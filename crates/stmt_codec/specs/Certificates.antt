@@ -19,9 +19,9 @@ pub record Certificate : Type 0 where
   pub quoted : Option Principal
   pub left : Principal
   pub right : Principal
-  -- the moment at which it ends, in seconds
+  -- the moment at which it ends, in the unit of the service's clock
   pub until : ℕ
-  -- a number that the issuer chooses
+  -- tells certificates apart that are otherwise equal
   pub serial : ℕ
 
 -- what a body of the program says, wherever its terms lie
