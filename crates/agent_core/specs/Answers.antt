@@ -1,8 +1,4 @@
 -- What a step of the program answers.
---     FitsEvent event      it brings few certificates
---     OfAnswer Handed Full answer      this holds of what is handed out or told; or that, of a full journal
---     Stepped plan journal event later place answer      what stands behind an answer, where nobody else steps the shard
---     SteppedTo plan alone seen own event later own' place answer      and where others may
 use Rattle.std.specs.Prelude.{◌≡◌, ℕ, ◌≤◌, Bool, List, length}
 use Rattle.std.specs.Arc.{arc_value}
 use Rattle.proof_cache.specs.Cached.{cached}
@@ -16,6 +12,7 @@ use Rattle.agent_core.specs.Journals.{Entry}
 use Rattle.agent_core.specs.Steps.{StepAnswer, Hit, Miss, Other, Steps, StepsTo, StepRefused}
 use Rattle.agent_core.specs.Views.{certificates}
 
+-- the event brings few certificates
 abbrev pub FitsEvent : Event → Type 0
 FitsEvent (Asks a) = length a.presented ≤ MAX_PRESENTED
 FitsEvent (Holds certs) = length certs ≤ MAX_PRESENTED
@@ -23,6 +20,7 @@ FitsEvent (Discards digest) = Unit {0}
 FitsEvent (Forgets channel) = Unit {0}
 FitsEvent (Expires reading) = Unit {0}
 
+-- the one holds of what is handed out or told; or the other of the length of a full journal
 abbrev pub OfAnswer : (StepAnswer → Type 0) → (ℕ → Type 0) → Answer → Type 0
 OfAnswer Handed Full (answer.Replayed last) = Handed (Other (Told.Replayed last))
 OfAnswer Handed Full (answer.Full held) = Handed (Other (Told.Full held))
@@ -33,12 +31,14 @@ OfAnswer Handed Full (answer.CommonsFull held) = Handed (Other (Told.CommonsFull
 OfAnswer Handed Full (answer.Removed count) = Handed (Other (Told.Removed count))
 OfAnswer Handed Full (answer.JournalFull n) = Full n
 
--- at a full journal nothing is done; else there is one entry more, and the answer is what was told of it
+-- where nobody else steps the shard: at a full journal nothing is done; else there is one entry
+-- more, and the answer is what was told of it
 abbrev pub Stepped : Plan → List Entry → Event → List Entry → ℕ → Answer → Type 0
 Stepped plan journal event later place answer =
     OfAnswer (Steps plan journal event later place)
     (λ n. (later ≡ journal) × (length journal ≡ plan.limit) × (n ≡ plan.limit) × (place ≡ plan.limit)) answer
 
+-- the same where others may step the shard, with the own places before and after
 abbrev pub SteppedTo : Plan → Bool → List Entry → List ℕ → Event → List Entry → List ℕ → ℕ → Answer → Type 0
 SteppedTo plan alone seen own event later own' place answer =
     OfAnswer (StepsTo plan alone seen own event later own' place)

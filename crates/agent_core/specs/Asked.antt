@@ -1,12 +1,4 @@
--- An ask at a shard: its step, the decision on what the step handed out, and how that ended. Others may have entries anywhere.
---     FitsAsk a      it is within the limits of a question
---     Names certs link denial      what a denial names of a first link: a certificate by its digest
---     IsGrantedAt, IsDeniedAt plan journal a place ..      the Ask stands at the place and was a miss; it is granted by a proof, or denied
---     IsTold journal a place told      the Ask stands at the place, and this was told
---     EndsBy plan journal a place verdict own      how an ask ended, one case for each verdict, and its own places
---     AskEnds plan journal a asked own      the same, of what the program answers
---     Unanswered plan journal a own      memory was refused
---     AskedTo plan alone seen own a later own' Ends      the whole of an ask: its own places are new, ascend, and are how it ended
+-- An ask at a shard: its step, the decision on what the step handed out, and how that ended.
 use Rattle.std.specs.Prelude.{◌≡◌, ◌⊎◌, ℕ, ◌+◌, ◌<◌, ◌≤◌, Bool, true, false, List, [], ◌∷◌, ◌++◌, length, Some, slice_get, All, AllPairs}
 use Rattle.std.specs.Arc.{arc_value}
 use Rattle.prin_term.specs.declared.limits.TheConstants.{ENTRY_NODES}
@@ -33,20 +25,24 @@ use Rattle.agent_core.specs.State.{Plan, Ask, Asks}
 use Rattle.agent_core.specs.Journals.{Entry, entry, Stands, Begins, IsLegalJournal, IsJudged, IsVerdict, Granted}
 use Rattle.agent_core.specs.Granted.{IsProofFor}
 
+-- the ask is within the limits of a question
 pub record FitsAsk (a : Ask) : Type 0 where
   pub subject : IsSubject a.subject
   pub few_entries : length a.list ≤ MAX_ENTRIES
   pub entries : All (λ (e : Grant). node_count e.who ≤ ENTRY_NODES) a.list
   pub few_presented : length a.presented ≤ MAX_PRESENTED
 
+-- what a denial names of a first link: a certificate by its digest
 abbrev pub Names : List Certificate → Link → Denial → Type 0
 Names certs (links.Expired entry place) denial = (c : Certificate) × (slice_get certs place ≡ Some c) × (denial ≡ Denial.Expired entry (digest_of c))
 Names certs (links.Missing entry node) denial = denial ≡ Denial.Missing entry node
 Names certs links.NoEntry denial = denial ≡ Denial.NoEntry
 
 module _ (plan : Plan) (journal : List Entry) (a : Ask) where
-  -- the first entry that the live certificates grant is this one, by this proof
+  -- the Ask stands at the place and was a miss; the first entry that the live certificates grant
+  -- is e, by the proof c
   pub record IsGrantedAt (place e : ℕ) (c : Cached) : Type 0 where
+    -- the entries before the Ask
     pub before : List Entry
     pub moment : ℕ
     pub certs : List Certificate
@@ -56,8 +52,10 @@ module _ (plan : Plan) (journal : List Entry) (a : Ask) where
     pub first : FirstEntry a.list a.right (λ h. MaySpeak plan.anchors (claims (live certs moment)) a.subject h.who) e grant
     pub proof : IsProofFor plan.anchors certs moment a.subject a.list e c
 
-  -- they grant none, and this is the first link
+  -- the Ask stands at the place and was a miss; the live certificates grant none, and the denial
+  -- names the first link
   pub record IsDeniedAt (place : ℕ) (denial : Denial) : Type 0 where
+    -- the entries before the Ask
     pub before : List Entry
     pub moment : ℕ
     pub certs : List Certificate
@@ -68,9 +66,11 @@ module _ (plan : Plan) (journal : List Entry) (a : Ask) where
     pub first : IsFirstLink plan.anchors certs moment a.subject a.list a.right link
     pub names : Names certs link denial
 
+  -- the Ask stands at the place, and this was told
   abbrev pub IsTold : ℕ → Told → Type 0
   IsTold place told = (before : List Entry) × Stands journal place before (entry (Asks a) told)
 
+  -- how an ask ended, one case for each verdict, and its own places
   abbrev pub EndsBy : ℕ → Verdict → List ℕ → Type 0
   EndsBy place (verdict.Granted e c) own = IsGrantedAt place e (cached (arc_value {X = CachedValue} c)) × (own ≡ place ∷ [])
   EndsBy place (verdict.Denied denial) own = IsDeniedAt place denial × (own ≡ place ∷ [])
@@ -78,22 +78,29 @@ module _ (plan : Plan) (journal : List Entry) (a : Ask) where
   EndsBy place (verdict.Full held) own = IsTold place (Told.Full held) × (own ≡ place ∷ [])
   EndsBy place (verdict.JournalFull n) own = (length journal ≡ plan.limit) × (n ≡ plan.limit) × (place ≡ plan.limit) × (own ≡ [])
 
-  -- no proof is kept yet
+  -- the same, of what the program answers; no proof is kept yet
   abbrev pub AskEnds : Asked → List ℕ → Type 0
   AskEnds asked own = EndsBy asked.place asked.verdict own × (asked.kept ≡ false) × (asked.settled ≡ Settled.NoNeed)
 
-  -- before the Ask stood; or where it is granted, with the Ask alone
+  -- memory was refused before the Ask stood; or where it is granted, with the Ask alone
   abbrev pub Unanswered : List ℕ → Type 0
   Unanswered own = (own ≡ []) ⊎
       ((place : ℕ) × (before : List Entry) × Stands journal place before (entry (Asks a) Told.Miss) × IsVerdict plan before a Granted × (own ≡ place ∷ []))
 
+-- the whole of an ask: its own places are new, ascend, and are how it ended; others may have
+-- entries anywhere
 pub record AskedTo (plan : Plan) (alone : Bool) (seen : List Entry) (own : List ℕ) (a : Ask) (later : List Entry) (own' : List ℕ) (Ends : List ℕ → Type 0) : Type 0 where
+  -- the own places that are new
   pub places : List ℕ
+  -- the journal begins with what was seen of it
   pub goes_on : Begins seen later
+  -- where nobody else steps the shard, no other entries came
   pub undisturbed : alone ≡ true → length later ≡ length seen + length places
   pub legal : IsLegalJournal plan later
   pub owned : own' ≡ own ++ places
+  -- they are after what was seen
   pub new : All (λ p. length seen ≤ p) places
+  -- and within the journal as it is now
   pub there : All (λ p. p < length later) places
   pub ascending : AllPairs (λ p q. p < q) places
   pub ends : Ends places

@@ -1,6 +1,4 @@
 -- The proof of a grant.
---     IsGrantedEntry anchors certs moment subject list entry      by the live certificates the subject speaks for the entry
---     IsProofFor anchors certs moment subject list entry c      a proof of it without waste, which cites live certificates alone
 use Rattle.std.specs.Prelude.{◌≡◌, ℕ, ◌<◌, List, length, Some, slice_get, All}
 use Rattle.prin_term.specs.declared.term.Anchor.{Anchor}
 use Rattle.prin_term.specs.Principal.{Principal}
@@ -12,20 +10,24 @@ use Rattle.taos_calculus.specs.Tidy.{IsTidy}
 use Rattle.denial_link.specs.Revived.{at_places, claims}
 use Rattle.proof_cache.specs.Cached.{Cached, lease_of}
 
+-- by the live certificates the subject speaks for the entry of this number
 pub record IsGrantedEntry (anchors : List Anchor) (certs : List Certificate) (moment : ℕ) (subject : Principal) (list : List Grant) (entry : ℕ) : Type 0 where
   pub grant : Grant
   pub stands : slice_get list entry ≡ Some grant
   pub speaks : MaySpeak anchors (claims (live certs moment)) subject grant.who
 
+-- a proof of it without waste, which cites live certificates alone
 pub record IsProofFor (anchors : List Anchor) (certs : List Certificate) (moment : ℕ) (subject : Principal) (list : List Grant) (entry : ℕ) (c : Cached) : Type 0 where
   pub grant : Grant
   pub stands : slice_get list entry ≡ Some grant
   pub subject_is : c.subject ≡ subject
   pub who_is : c.who ≡ grant.who
+  -- where the cited certificates stand among all
   pub places : List ℕ
   pub inside : All (λ i. i < length certs) places
   pub cites_are : c.cites ≡ at_places certs places
   pub alive : All (λ (x : Certificate). moment < x.until) c.cites
   pub proves : Proves anchors (claims c.cites) c.proof (SpeaksFor c.subject c.who)
+  -- nothing in the proof or among its cites is without use
   pub tidy : IsTidy c.proof places
   pub lease_is : c.lease ≡ lease_of c.cites

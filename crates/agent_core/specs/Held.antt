@@ -1,22 +1,20 @@
 -- Certificates as a shard compares them: by what they say.
---     among certs c      whether c is one of these
---     newly held certs      those of certs that are not held, each where it stands first
---     channel_of subject      the channel that a subject speaks on
 use Rattle.std.specs.Prelude.{ℕ, Bool, if◌then◌else◌, List, [], ◌∷◌, ◌++◌, Option, Some, None}
 use Rattle.std.specs.List.{list_any}
 use Rattle.prin_term.specs.Principal.{Principal, Key, Quoting}
 use Rattle.stmt_codec.specs.Certificates.{Certificate}
 use Rattle.stmt_codec.specs.Equality.{same_certificate}
 
+-- whether a certificate is one of these
 abbrev pub among : List Certificate → Certificate → Bool
 among certs c = list_any (same_certificate c) certs
 
--- a certificate that was met counts as held
+-- those of the second list that are not held, each where it stands first
 abbrev pub newly : List Certificate → List Certificate → List Certificate
 newly held [] = []
 newly held (c ∷ cs) = if among held c then newly held cs else c ∷ newly (held ++ c ∷ []) cs
 
--- a channel's key, alone or quoting another principal
+-- the channel that a subject speaks on, with its key alone or quoting another principal
 abbrev pub channel_of : Principal → Option ℕ
 channel_of (Key k) = Some k
 channel_of (Quoting (Key k) quoted) = Some k

@@ -1,8 +1,4 @@
 -- The verdict on certificates, a moment, a subject, an access list and a right.
---     live_marks certs moment      which certificates are live
---     Judges anchors certs moment subject list right finding      what is found is the monitor's verdict
---     verdict_of finding      the verdict that it is
---     IsGrant finding      it grants
 use Rattle.std.specs.Prelude.{ℕ, Bool, List, map, nat_lt}
 use Rattle.prin_term.specs.declared.term.Anchor.{Anchor}
 use Rattle.prin_term.specs.Principal.{Principal}
@@ -15,20 +11,24 @@ use Rattle.agent_core.specs.declared.verdict.Finding.{Finding}
 use Rattle.agent_core.specs.declared.verdict.Finding.TheVariants as finding
 use Rattle.agent_core.specs.Journals.{Verdict, Granted, Denied}
 
+-- for each certificate, whether it is live at the moment
 abbrev pub live_marks : List Certificate → ℕ → List Bool
 live_marks certs moment = map (λ (c : Certificate). nat_lt moment c.until) certs
 
--- the first entry that grants; or the first link, where nothing is granted
+-- what is found is the monitor's verdict: the first entry that grants; or the first link, where
+-- nothing is granted
 abbrev pub Judges : List Anchor → List Certificate → ℕ → Principal → List Grant → ℕ → Finding → Type 0
 Judges anchors certs moment subject list right (finding.Granted place) =
     (e : Grant) × FirstEntry list right (λ g. MaySpeak anchors (claims (live certs moment)) subject g.who) place e
 Judges anchors certs moment subject list right (finding.Denied link) =
     (Grants anchors (claims (live certs moment)) subject list right → ⊥) × IsFirstLink anchors certs moment subject list right link
 
+-- the verdict that a finding is
 abbrev pub verdict_of : Finding → Verdict
 verdict_of (finding.Granted place) = Granted
 verdict_of (finding.Denied link) = Denied link
 
+-- the finding grants
 abbrev pub IsGrant : Finding → Type 0
 IsGrant (finding.Granted place) = Unit {0}
 IsGrant (finding.Denied link) = ⊥

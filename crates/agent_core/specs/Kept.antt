@@ -1,10 +1,4 @@
--- What the code keeps of a shard, and what it stands for. No contract of another crate speaks of it.
---     lets_go removal c      whether the certificate is let go
---     row_certs plan journal clock swept row      the own certificates that a row stands for
---     IsStore plan journal s store      what is kept stands for the state
---     IsKept plan entries store      it stands for the state behind the entries, which are legal and have room
---     AreNew rows count, first_names count      the rows and the names of commons at opening
---     Tells plan before event told after store      an event is told at once, and journaled
+-- What the code keeps of a shard and what it stands for; no contract of another crate speaks of it.
 use Rattle.std.specs.Prelude.{◌≡◌, ℕ, ◌≤◌, Bool, false, not, ◌==◌, if◌then◌else◌, List, [], ◌∷◌, ◌++◌, length, map, Option, None, Some, slice_get, filter, bytes_eq, vec_capacity}
 use Rattle.std.specs.declared.alloc.Global.{Global}
 use Rattle.std.specs.declared.vec.Vec.{Vec}
@@ -24,51 +18,61 @@ use Rattle.agent_core.specs.State.{Plan, State, Event, Plain, is_gone, next}
 use Rattle.agent_core.specs.Journals.{Entry, entry, state_after, IsLegalJournal}
 use Rattle.agent_core.specs.Views.{entry_of}
 
+-- whether the removal lets the certificate go
 abbrev pub lets_go : Removal → Certificate → Bool
 lets_go (Ended keep moment) c = is_gone keep moment c
 lets_go (Named digest) c = bytes_eq (digest_of c) digest
 
+-- whether the removal leaves the certificate
 abbrev pub stays : Removal → Certificate → Bool
 stays removal c = not (lets_go removal c)
 
--- a name of nothing does not stay
+-- whether what is named stays; a name of nothing does not
 abbrev pub stays_if_named : Removal → Option Certificate → Bool
 stays_if_named removal None = false
 stays_if_named removal (Some c) = stays removal c
 
+-- whether the certificate of a name stays
 abbrev pub name_stays : List Certificate → List Entry → Removal → Name → Bool
 name_stays commons journal removal name = stays_if_named removal (named commons journal name)
 
--- where the shard swept since the row was, what is gone by now is still to be let go
+-- the own certificates that a row stands for: where the shard swept since the row was, what is
+-- gone by now is still to be let go
 abbrev pub row_certs : Plan → List Entry → ℕ → ℕ → Row → List Certificate
 row_certs plan journal clock swept row =
     if row.swept == swept then certs_named plan.commons journal row.own.items
     else filter (stays (Ended plan.keep clock)) (certs_named plan.commons journal row.own.items)
 
+-- the row stands for the channel's last number and its own certificates
 pub record IsRow (plan : Plan) (journal : List Entry) (clock swept : ℕ) (row : Row) (last : ℕ) (own : List Certificate) : Type 0 where
   pub last_is : row.last ≡ last
   pub own_is : row_certs plan journal clock swept row ≡ own
   pub names : AreNames plan.commons journal row.own.items
+  -- the row was swept no later than the shard
   pub swept_before : row.swept ≤ swept
 
--- a row for each channel, in their order
+-- what is kept stands for the state: a row for each channel, in their order
 pub record IsStore (plan : Plan) (journal : List Entry) (s : State) (store : Store) : Type 0 where
   pub clock_is : store.clock ≡ s.clock
   pub commons_are : certs_named plan.commons journal store.commons.items ≡ s.commons
   pub commons_names : AreNames plan.commons journal store.commons.items
   pub row_count : length store.rows.items ≡ length plan.channels
+  -- the row of each channel stands for its last number and its own certificates
   pub rows_are : (i : ℕ) (row : Row) (c : ℕ) → slice_get store.rows.items i ≡ Some row → slice_get plan.channels i ≡ Some c →
       IsRow plan journal store.clock store.swept row (s.last c) (s.own c)
 
+-- what is kept stands for the state after the entries, which are legal and have room
 pub record IsKept (plan : Plan) (entries : Vec ShardEntry Global) (store : Store) : Type 0 where
   pub planned : IsPlan plan
   pub legal : IsLegalJournal plan (map entry_of entries.items)
   pub store_is : IsStore plan (map entry_of entries.items) (state_after plan (map entry_of entries.items)) store
+  -- the shard was swept no later than at its last entry
   pub swept_within : store.swept ≤ length entries.items
   pub within : length entries.items ≤ plan.limit
+  -- no entry that the plan allows needs more memory
   pub room : plan.limit ≤ vec_capacity entries
 
--- an event is told at once, and journaled
+-- the event is told at once, and journaled
 pub record Tells (plan : Plan) (before : Vec ShardEntry Global) (event : Event) (told : Told) (after : Vec ShardEntry Global) (store : Store) : Type 0 where
   pub adds : map entry_of after.items ≡ map entry_of before.items ++ entry event told ∷ []
   pub plain : (next plan (state_after plan (map entry_of before.items)) event).1 ≡ Plain told
@@ -76,11 +80,11 @@ pub record Tells (plan : Plan) (before : Vec ShardEntry Global) (event : Event) 
 
 -- ---- a shard that was opened
 
--- a row for each channel, without number and certificate
+-- the rows of a shard that was opened: one for each channel, without number and certificate
 pub record AreNew (rows : List Row) (count : ℕ) : Type 0 where
   pub long : length rows ≡ count
   pub blank : (i : ℕ) (row : Row) → slice_get rows i ≡ Some row → (row.last ≡ 0) × (row.swept ≡ 0) × (row.own.items ≡ [])
 
--- the names of the first commons
+-- the names of the first commons, so many
 abbrev pub first_names : ℕ → List Name
 first_names count = map (λ place. Common place) (range_with_len 0 count)

@@ -1,8 +1,4 @@
 -- What an Ask finds.
---     IsLook plan journal s store a look      what its channel and the commons hold at its moment, and what it brings
---     IsTaken s a      its number is new, and what it brings fits
---     Takes plan before a after store      it is to be judged, and journaled
---     Answered plan before event answer after store      what stands behind an answer to an event
 use Rattle.std.specs.Prelude.{◌≡◌, ℕ, ◌+◌, ◌<◌, ◌≤◌, max, List, [], ◌∷◌, ◌++◌, length, map, filter, slice_get, filter_map, Some, All}
 use Rattle.std.specs.declared.alloc.Global.{Global}
 use Rattle.std.specs.declared.vec.Vec.{Vec}
@@ -21,7 +17,9 @@ use Rattle.agent_core.specs.Kept.{name_stays, IsKept, Tells}
 use Rattle.agent_core.specs.Names.{certs_named, AreNames}
 use Rattle.agent_core.specs.Views.{certificates, entry_of}
 
+-- what the Ask's channel and the commons hold at its moment, and what it brings
 pub record IsLook (plan : Plan) (journal : List Entry) (s : State) (store : Store) (a : Ask) (look : Look) : Type 0 where
+  -- the place of the Ask's channel among those of the plan
   pub here : slice_get plan.channels look.place ≡ Some a.channel
   pub moment : look.moment ≡ max store.clock a.reading
   pub own_are : certs_named plan.commons journal look.own.items ≡ (swept plan.keep look.moment s).own a.channel
@@ -29,27 +27,28 @@ pub record IsLook (plan : Plan) (journal : List Entry) (s : State) (store : Stor
   pub shared_left : look.shared.items ≡ filter (name_stays plan.commons journal (Ended plan.keep look.moment)) store.commons.items
   pub shared_are : certs_named plan.commons journal look.shared.items ≡ (swept plan.keep look.moment s).commons
   pub shared_names : AreNames plan.commons journal look.shared.items
+  -- the places of those presented certificates that the channel does not hold yet
   pub new_are : filter_map (slice_get a.presented) look.new.items ≡ brought (swept plan.keep look.moment s) a
   pub new_within : All (λ i. i < length a.presented) look.new.items
 
--- its number is new, and what it brings fits
+-- the Ask's number is new, and what it brings fits
 pub record IsTaken (s : State) (a : Ask) : Type 0 where
   pub new : s.last a.channel < a.seq
   pub fits : length (s.own a.channel) + length (brought s a) ≤ MAX_OWN
 
--- it is to be judged, and journaled
+-- the Ask is to be judged, and journaled
 pub record Takes (plan : Plan) (before : Vec ShardEntry Global) (a : Ask) (after : Vec ShardEntry Global) (store : Store) : Type 0 where
   pub adds : map entry_of after.items ≡ map entry_of before.items ++ entry (Asks a) Told.Miss ∷ []
   pub kept : IsKept plan after store
 
--- the event is an Ask that is to be judged by these
+-- the event is an Ask that is to be judged by these certificates, at the moment
 pub record Misses (plan : Plan) (before : Vec ShardEntry Global) (event : Event) (moment : ℕ) (certs : List Certificate) (after : Vec ShardEntry Global) (store : Store) : Type 0 where
   pub ask : Ask
   pub is : event ≡ Asks ask
   pub takes : Takes plan before ask after store
   pub judged : IsJudged plan (map entry_of before.items) ask moment certs
 
--- no proof is kept, and the journal was not full
+-- what holds after an answer to an event; no proof is kept, and the journal was not full
 abbrev pub Answered : Plan → Vec ShardEntry Global → Event → Answer → Vec ShardEntry Global → Store → Type 0
 Answered plan before event (answer.Replayed last) after store = Tells plan before event (Told.Replayed last) after store
 Answered plan before event (answer.Full held) after store = Tells plan before event (Told.Full held) after store

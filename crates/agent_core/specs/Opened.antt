@@ -1,7 +1,4 @@
 -- All shards of a node, as they are opened from one list of channels.
---     MayOpen      what a node may be opened with
---     plan_for .. number, plans_for ..      the plan of one shard, and the plans of all
---     new_shard plan      a shard with an empty journal
 use Rattle.std.specs.Prelude.{◌≤◌, ◌%◌, ◌==◌, ℕ, List, [], length, filter, map}
 use Rattle.std.specs.List.{range_with_len}
 use Rattle.std.specs.List.Sorted.{IsStrictlyIncreasing}
@@ -12,6 +9,7 @@ use Rattle.agent_core.specs.declared.limits.TheConstants.{MAX_CHANNELS, MAX_COMM
 use Rattle.agent_core.specs.State.{Plan}
 use Rattle.agent_core.specs.Journals.{ShardSeen}
 
+-- what a node may be opened with
 pub record MayOpen (channels : List ℕ) (shards : ℕ) (anchors : List Anchor) (commons : List Certificate) (limit : ℕ) : Type 0 where
   pub some_shards : 1 ≤ shards
   pub few_shards : shards ≤ MAX_SHARDS
@@ -19,13 +17,15 @@ pub record MayOpen (channels : List ℕ) (shards : ℕ) (anchors : List Anchor) 
   pub few_channels : length channels ≤ MAX_CHANNELS
   pub few_anchors : length anchors ≤ MAX_ANCHORS
   pub few_commons : length commons ≤ MAX_COMMONS
+  -- the limit of the journals is one that a journal may have
   pub short : limit ≤ MAX_JOURNAL
 
--- of so many shards this one has the channels that leave its number
+-- the channels of one shard of so many: those that leave its number as the remainder
 abbrev pub own_channels : List ℕ → ℕ → ℕ → List ℕ
 own_channels channels shards number = filter (λ channel. channel % shards == number) channels
 
 module _ (channels : List ℕ) (shards : ℕ) (anchors : List Anchor) (commons : List Certificate) (keep limit : ℕ) where
+  -- the plan of the shard of this number
   abbrev pub plan_for : ℕ → Plan
   plan_for number = record {
     number = number;
@@ -37,9 +37,10 @@ module _ (channels : List ℕ) (shards : ℕ) (anchors : List Anchor) (commons :
     limit = limit;
   }
 
-  -- the numbers go from 0 on
+  -- the plans of all shards, whose numbers go from 0 on
   abbrev pub plans_for : List Plan
   plans_for = map plan_for (range_with_len 0 shards)
 
+-- a shard with an empty journal
 abbrev pub new_shard : Plan → ShardSeen
 new_shard plan = record { plan = plan; journal = [] }

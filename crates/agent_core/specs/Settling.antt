@@ -1,8 +1,4 @@
--- What an Ask that is to be judged comes to, by what it was handed out. For the bodies alone.
---     IsPlaceIn certs link      the certificate that a link names is one of these
---     IsGrantedBy, IsDeniedBy anchors certs moment a ..      it is granted by a proof, or denied
---     Settles anchors certs moment a verdict      the same, of what the program answers
---     StepsAsk plan alone seen own a later own' place answer      the Ask's step at its shard
+-- What an Ask that is to be judged comes to, by what it was handed out, for the bodies alone.
 use Rattle.std.specs.Prelude.{ℕ, ◌<◌, Bool, List, length}
 use Rattle.std.specs.Arc.{arc_value}
 use Rattle.prin_term.specs.declared.term.Anchor.{Anchor}
@@ -25,26 +21,27 @@ use Rattle.agent_core.specs.Answers.{SteppedTo}
 use Rattle.agent_core.specs.Granted.{IsProofFor}
 use Rattle.agent_core.specs.Asked.{Names}
 
--- the certificate that it names is one of these
+-- the certificate that a link names is one of these
 abbrev pub IsPlaceIn : List Certificate → Link → Type 0
 IsPlaceIn certs (links.Expired entry place) = place < length certs
 IsPlaceIn certs (links.Missing entry node) = Unit {0}
 IsPlaceIn certs links.NoEntry = Unit {0}
 
 module _ (anchors : List Anchor) (certs : List Certificate) (moment : ℕ) (a : Ask) where
-  -- the first entry that the live certificates grant is this one, by this proof
+  -- the first entry that the live certificates grant is e, by the proof c
   pub record IsGrantedBy (e : ℕ) (c : Cached) : Type 0 where
     pub grant : Grant
     pub first : FirstEntry a.list a.right (λ h. MaySpeak anchors (claims (live certs moment)) a.subject h.who) e grant
     pub proof : IsProofFor anchors certs moment a.subject a.list e c
 
-  -- they grant none, and this is the first link
+  -- the live certificates grant none, and the denial names the first link
   pub record IsDeniedBy (denial : Denial) : Type 0 where
     pub link : Link
     pub none : Grants anchors (claims (live certs moment)) a.subject a.list a.right → ⊥
     pub first : IsFirstLink anchors certs moment a.subject a.list a.right link
     pub names : Names certs link denial
 
+  -- the Ask comes to this verdict: it is granted by a proof, or denied
   abbrev pub Settles : Verdict → Type 0
   Settles (verdict.Granted e c) = IsGrantedBy e (cached (arc_value {X = CachedValue} c))
   Settles (verdict.Denied denial) = IsDeniedBy denial

@@ -1,9 +1,4 @@
 -- A shard's plain state, and how each event changes it.
---     Plan      what a shard is opened with
---     State      its clock, the last number and the own certificates of each channel, and the commons
---     Ask, Event      what happens to it
---     Answer      what is to be judged, at which moment; or what is told at once
---     next plan state event      the next state, and the answer
 use Rattle.std.specs.Prelude.{ℕ, ◌+◌, ◌-◌, max, Bool, not, ◌&&◌, ◌==◌, nat_lt, nat_le, if◌then◌else◌, List, [], ◌++◌, length, filter, sum_by, bytes_eq}
 use Rattle.prin_term.specs.declared.term.Anchor.{Anchor}
 use Rattle.prin_term.specs.Principal.{Principal}
@@ -13,41 +8,57 @@ use Rattle.agent_core.specs.declared.limits.TheConstants.{MAX_OWN, MAX_COMMONS}
 use Rattle.agent_core.specs.declared.told.Told.{Told}
 use Rattle.agent_core.specs.Held.{newly}
 
--- it is one of so many shards; certificates that ended are kept for so long; the journal has at most so many entries
+-- what a shard is opened with
 pub record Plan : Type 0 where
+  -- which of the shards it is, from 0 on
   pub number : ℕ
+  -- how many shards there are
   pub shards : ℕ
   pub anchors : List Anchor
   pub channels : List ℕ
   pub commons : List Certificate
+  -- how long a certificate that ended is kept, in the unit of the clock
   pub keep : ℕ
+  -- how many entries the journal has at most
   pub limit : ℕ
 
+-- a shard's clock, the last number and the own certificates of each channel, and the commons
 pub record State : Type 0 where
   pub clock : ℕ
   pub last : ℕ → ℕ
   pub own : ℕ → List Certificate
   pub commons : List Certificate
 
--- who asks, on which channel and under which number, for a right on an access list; what the clock read; what is presented
+-- who asks for a right on an access list, on which channel and under which number
 pub record Ask : Type 0 where
   pub channel : ℕ
   pub seq : ℕ
+  -- what the clock read
   pub reading : ℕ
   pub subject : Principal
   pub list : List Grant
   pub right : ℕ
+  -- the certificates that come with it
   pub presented : List Certificate
 
+-- what happens to a shard
 pub data Event : Type 0 where
+  -- an Ask
   Asks : Ask → Event
+  -- these certificates are to be held in common
   Holds : List Certificate → Event
+  -- the certificates of this digest are let go, those of each channel and the commons
   Discards : (digest : List ℕ) → Event
+  -- the channel's own certificates are let go
   Forgets : (channel : ℕ) → Event
+  -- the clock read this, and the certificates that are gone by then are let go
   Expires : (reading : ℕ) → Event
 
+-- what an event is answered by
 pub data Answer : Type 0 where
+  -- an Ask is to be judged by these certificates, at the moment
   Judged : (moment : ℕ) → List Certificate → Answer
+  -- this is told at once
   Plain : Told → Answer
 
 -- at opening nothing is held but the plan's commons
@@ -62,7 +73,7 @@ held_count plan s = length s.commons + sum_by (λ c. length (s.own c)) plan.chan
 abbrev pub at_channel : {X : Type 0} → ℕ → X → (ℕ → X) → ℕ → X
 at_channel channel x f c = if c == channel then x else f c
 
--- the state at this moment, of which only the certificates that pass stay
+-- the state at this moment, with only the certificates that pass
 abbrev pub keeping : (Certificate → Bool) → ℕ → State → State
 keeping passes moment s = record { clock = moment; last = s.last; own = λ c. filter passes (s.own c); commons = filter passes s.commons }
 
@@ -70,11 +81,11 @@ keeping passes moment s = record { clock = moment; last = s.last; own = λ c. fi
 abbrev pub is_gone : ℕ → ℕ → Certificate → Bool
 is_gone keep moment c = nat_le c.until moment && nat_le keep (moment - c.until)
 
--- the certificates that are gone at the moment are let go
+-- the state without the certificates that are gone at the moment
 abbrev pub swept : ℕ → ℕ → State → State
 swept keep moment s = keeping (λ c. not (is_gone keep moment c)) moment s
 
--- the clock does not go back
+-- the moment of a reading: the clock does not go back
 abbrev pub moment_of : State → ℕ → ℕ
 moment_of s reading = max s.clock reading
 
@@ -84,11 +95,11 @@ moment_of s reading = max s.clock reading
 abbrev pub brought : State → Ask → List Certificate
 brought s a = newly (s.own a.channel ++ s.commons) a.presented
 
--- its number is the channel's last one, and what is presented is held from now on
+-- its number is the channel's last one, and what is presented is held from then on
 abbrev pub taking : State → Ask → State
 taking s a = record { clock = s.clock; last = at_channel a.channel a.seq s.last; own = at_channel a.channel (s.own a.channel ++ brought s a) s.own; commons = s.commons }
 
--- at a state that was swept for it
+-- an Ask, at a state that was swept for it
 abbrev pub asking : State → Ask → State × Answer
 asking s a =
     if nat_le a.seq (s.last a.channel) then (s, Plain (Told.Replayed (s.last a.channel)))
@@ -97,6 +108,7 @@ asking s a =
 
 -- ---- what is held in common
 
+-- new certificates are held in common, unless there would be too many
 abbrev pub holding : State → List Certificate → State × Answer
 holding s new =
     if nat_lt MAX_COMMONS (length s.commons + length new) then (s, Plain (Told.CommonsFull (length s.commons)))
@@ -104,13 +116,15 @@ holding s new =
 
 -- ---- what is let go
 
--- the certificates that are fewer are counted
+-- the state t, and by how many certificates it holds fewer than s
 abbrev pub removing : Plan → State → State → State × Answer
 removing plan s t = (t, Plain (Told.Removed (held_count plan s - held_count plan t)))
 
+-- the channel's own certificates are let go, and its last number stays
 abbrev pub forgetting : ℕ → State → State
 forgetting channel s = record { clock = s.clock; last = s.last; own = at_channel channel [] s.own; commons = s.commons }
 
+-- the next state, and the answer
 abbrev pub next : Plan → State → Event → State × Answer
 next plan s (Asks a) = asking (swept plan.keep (moment_of s a.reading) s) a
 next plan s (Holds certs) = holding s (newly s.commons certs)

@@ -1,9 +1,4 @@
 -- What a step of a shard promises, alone and among others.
---     StepAnswer      what a step hands out
---     IsAnswer plan before event told answer      the answer to an event behind these entries
---     Steps plan before event later place answer      one entry more, at this place, with this answer
---     StepsTo      the same behind what was seen and entries of others; the place is an own one
---     StepRefused      no own entry
 use Rattle.std.specs.Prelude.{◌≡◌, ℕ, Bool, true, List, [], ◌∷◌, ◌++◌, length}
 use Rattle.stmt_codec.specs.Certificates.{Certificate}
 use Rattle.proof_cache.specs.Cached.{Cached}
@@ -11,36 +6,45 @@ use Rattle.agent_core.specs.declared.told.Told.{Told}
 use Rattle.agent_core.specs.State.{Plan, Ask, Event, Asks, Plain, next}
 use Rattle.agent_core.specs.Journals.{Entry, entry, Begins, state_after, IsLegalJournal, IsJudged}
 
--- a kept proof; or what is to be judged, at which moment; or what was told
+-- what a step hands out: a kept proof; or what is to be judged, at which moment; or what was told
 pub data StepAnswer : Type 0 where
   Hit : (entry : ℕ) → Cached → StepAnswer
   Miss : (moment : ℕ) → List Certificate → StepAnswer
   Other : Told → StepAnswer
 
--- no proof is kept, so no Ask is a hit
+-- the answer to an event after these entries, of which this was told; no proof is kept, so no Ask
+-- is a hit
 pub data IsAnswer (plan : Plan) (before : List Entry) : Event → Told → StepAnswer → Type 0 where
   miss : {a : Ask} {moment : ℕ} {certs : List Certificate} → IsJudged plan before a moment certs →
       IsAnswer plan before (Asks a) Told.Miss (Miss moment certs)
   other : {event : Event} {told : Told} → (next plan (state_after plan before) event).1 ≡ Plain told → IsAnswer plan before event told (Other told)
 
+-- one entry more, at this place, with this answer
 pub record Steps (plan : Plan) (before : List Entry) (event : Event) (later : List Entry) (place : ℕ) (answer : StepAnswer) : Type 0 where
+  -- what was told of the event
   pub told : Told
   pub adds : later ≡ before ++ entry event told ∷ []
   pub placed : length before ≡ place
   pub legal : IsLegalJournal plan later
   pub answers : IsAnswer plan before event told answer
 
--- what is seen of the shard is what was seen, then entries of others, where there are any, and then the own entry
+-- the same after what was seen of the shard and entries of others, where there are any; the place
+-- is an own one
 pub record StepsTo (plan : Plan) (alone : Bool) (seen : List Entry) (own : List ℕ) (event : Event) (later : List Entry) (own' : List ℕ) (place : ℕ) (answer : StepAnswer) : Type 0 where
+  -- the journal as it was just before the step
   pub before : List Entry
   pub goes_on : Begins seen before
+  -- where nobody else steps the shard, it is what was seen
   pub undisturbed : alone ≡ true → before ≡ seen
   pub steps : Steps plan before event later place answer
+  -- the place of the new entry is an own one
   pub owned : own' ≡ own ++ place ∷ []
 
--- the journal is full, or memory was refused
+-- no own entry was added: the journal is full, or memory was refused
 pub record StepRefused (plan : Plan) (alone : Bool) (seen : List Entry) (own : List ℕ) (later : List Entry) (own' : List ℕ) : Type 0 where
   pub goes_on : Begins seen later
+  -- where nobody else steps the shard, its journal stays
   pub undisturbed : alone ≡ true → later ≡ seen
   pub legal : IsLegalJournal plan later
+  -- the own places stay
   pub owned : own' ≡ own

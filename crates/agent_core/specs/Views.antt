@@ -1,6 +1,4 @@
 -- What the program's plans, events and answers mean, wherever their parts lie in memory.
---     certificates certs      the certificates of a list of handles
---     plan_of, ask_of, event_of, entry_of      the plan, the Ask, the event, the entry of a journal
 use Rattle.std.specs.Prelude.{List, map}
 use Rattle.std.specs.declared.alloc.Global.{Global}
 use Rattle.std.specs.Arc.{arc_value}
@@ -16,9 +14,11 @@ use Rattle.agent_core.specs.declared.event.ShardEntry.{ShardEntry}
 use Rattle.agent_core.specs.State.{Plan, Ask, Event, Asks, Holds, Discards, Forgets, Expires}
 use Rattle.agent_core.specs.Journals.{Entry}
 
+-- the certificates of a list of handles
 abbrev pub certificates : List (Arc Cert Global) → List Certificate
 certificates certs = map (λ (c : Arc Cert Global). certificate c.value.body) certs
 
+-- the plan that the program's one stands for
 abbrev pub plan_of : ShardPlan → Plan
 plan_of p = record {
   number = p.number;
@@ -30,6 +30,7 @@ plan_of p = record {
   limit = p.limit;
 }
 
+-- the Ask that the program's one stands for
 abbrev pub ask_of : AskValue → Ask
 ask_of a = record {
   channel = a.channel;
@@ -41,6 +42,7 @@ ask_of a = record {
   presented = certificates a.presented.items;
 }
 
+-- the event that the program's one stands for
 abbrev pub event_of : EventValue → Event
 event_of (code.Ask a) = Asks (ask_of (arc_value a))
 event_of (code.Hold certs) = Holds (certificates (arc_value certs).items)
@@ -48,5 +50,6 @@ event_of (code.Discard digest) = Discards digest
 event_of (code.Forget channel) = Forgets channel
 event_of (code.Expire reading) = Expires reading
 
+-- the entry of a journal that the program's one stands for
 abbrev pub entry_of : ShardEntry → Entry
 entry_of e = record { event = event_of e.event; told = e.told }

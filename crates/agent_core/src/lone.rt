@@ -39,6 +39,7 @@ impl Model for Lone {
 
     ghost view = { λ l. record { shards = l.shards.items; opened = l.opened.items } };
 
+    // The journals are legal, and none is shorter than it was at first.
     ghost invariant = { λ l. IsLone l.shards.items l.opened.items l.anchors.value.items };
 }
 

@@ -40,6 +40,7 @@ impl Model for Shard {
 
     ghost view = { λ s. record { plan = plan_of s.plan; journal = map entry_of s.entries.items } };
 
+    // What is kept stands for the state after the entries, which are legal and have room.
     ghost invariant = { λ s. IsKept (plan_of s.plan) s.entries s.store };
 }
 

@@ -1,7 +1,4 @@
--- The certificates of logins, roles and delegations, one form for each call, and what the calls give.
---     in_role name role      a named principal in a role
---     boot_of, channel_of, login_of, session_of, role_of, delegate_of      what an issuer's certificate of that form says
---     IsIssued signer c bytes      the bytes are c under the signer's seal, and open to c
+-- The certificates of logins, roles and delegations, a form for each call, and what the calls give.
 use Rattle.std.specs.Prelude.{◌≡◌, ℕ, List, Option, None, Some}
 use Rattle.keyed_seal.specs.Keys.{Entries, key_of}
 use Rattle.prin_term.specs.Principal.{Principal, Key, Name, And, Quoting, InRole, For}
@@ -10,6 +7,7 @@ use Rattle.sealed_cert.specs.declared.kind.TheConstants.{ISSUED}
 use Rattle.sealed_cert.specs.Seals.{sealed, OpensIssued}
 use Rattle.credential_kit.specs.declared.signer.Signer.{Signer}
 
+-- a named principal in a role
 abbrev pub in_role : ℕ → ℕ → Principal
 in_role name role = InRole (Name name) role
 
@@ -17,7 +15,7 @@ in_role name role = InRole (Name name) role
 abbrev pub says : ℕ → Option Principal → Principal → Principal → ℕ → ℕ → Certificate
 says issuer quoted left right until serial = record { issuer = issuer; quoted = quoted; left = left; right = right; until = until; serial = serial }
 
--- the machine says that the node's key kn speaks for the machine's name w, in the role os of its system
+-- the machine says that the node's key kn speaks for the machine's name w, in its system's role os
 abbrev pub boot_of : (issuer kn w os until serial : ℕ) → Certificate
 boot_of issuer kn w os = says issuer None (Key kn) (in_role w os)
 
@@ -45,10 +43,12 @@ role_of issuer k u r = says issuer None (Key k) (in_role u r)
 abbrev pub logged_in : (w os u : ℕ) → Principal
 logged_in w os u = For (in_role w os) (Name u)
 
--- the channel, quoting the user u, says that a second system, when it quotes the first for u, speaks for the second for the first for u
+-- the channel, quoting the user u, says that a second system, when it quotes the first for u,
+-- speaks for the second for the first for u
 abbrev pub delegate_of : (issuer u w os v vos until serial : ℕ) → Certificate
 delegate_of issuer u w os v vos = says issuer (Some (Name u)) (Quoting (in_role v vos) (logged_in w os u)) (For (in_role v vos) (logged_in w os u))
 
+-- the bytes are c under the signer's seal, and open to c
 pub record IsIssued (signer : Signer) (c : Certificate) (bytes : List ℕ) : Type 0 where
   pub text : bytes ≡ sealed ISSUED signer.key c
   -- by every table that has the signer's key

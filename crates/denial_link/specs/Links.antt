@@ -1,7 +1,4 @@
 -- What a denial names: the first thing that is missing.
---     IsReached anchors said subject p      some part of the subject speaks for p
---     Lacks Reached p k      the first part of p that is not reached while all that stands directly under it is: its place in pre-order
---     IsFirstLink anchors certs moment subject list right link      what a denial names
 use Rattle.std.specs.Prelude.{◌≡◌, ℕ, ◌+◌, ◌++◌, List, ◌∷◌, Some, slice_get, Contains, All, sum_by}
 use Rattle.prin_term.specs.declared.term.Anchor.{Anchor}
 use Rattle.prin_term.specs.Principal.{Principal, operands, subterms, node_count}
@@ -14,12 +11,17 @@ use Rattle.denial_link.specs.declared.link.Link.TheVariants.{Expired, Missing, N
 use Rattle.denial_link.specs.Needed.{IsNeeded}
 use Rattle.denial_link.specs.Revived.{claims}
 
+-- some part of the subject speaks for p
 abbrev pub IsReached : List Anchor → List Claim → Principal → Principal → Type 0
 IsReached anchors said subject p = (s : Principal) × Contains (subterms subject) s × MaySpeak anchors said s p
 
--- p itself is not reached: the walk goes to the first operand that is not, and ends where there is none
+-- The first part of p that is not reached while all that stands directly under it is: its place in
+-- pre-order. The walk goes from p, which is not reached, to the first operand that is not, and ends
+-- where there is none.
 pub data Lacks (Reached : Principal → Type 0) : Principal → ℕ → Type 0 where
+  -- all that stands directly under p is reached
   here : {p : Principal} → All Reached (operands p) → Lacks Reached p 0
+  -- q is the first operand that is not reached; the part lacks under it
   below : {p q : Principal} {k n : ℕ} (front rest : List Principal) →
       operands p ≡ front ++ q ∷ rest → All Reached front → (Reached q → ⊥) → Lacks Reached q k →
       n ≡ 1 + sum_by node_count front + k → Lacks Reached p n
@@ -28,12 +30,13 @@ pub data Lacks (Reached : Principal → Type 0) : Principal → ℕ → Type 0 w
 abbrev pub NoEntryWith : List Grant → ℕ → (Grant → Type 0) → Type 0
 NoEntryWith list right P = (k : ℕ) (e : Grant) → slice_get list k ≡ Some e → HasRight e right → P e → ⊥
 
--- where nothing is granted
+-- what a denial names, where nothing is granted
 pub data IsFirstLink (anchors : List Anchor) (certs : List Certificate) (moment : ℕ) (subject : Principal)
     (list : List Grant) (right : ℕ) : Link → Type 0 where
   -- no entry has the right
   no_entry : NoEntryWith list right (λ e. Unit {0}) → IsFirstLink anchors certs moment subject list right NoEntry
-  -- all certificates together would do for some entry with the right: the first of these, and the certificate that is needed
+  -- all certificates together would do for some entry with the right: the first of these, and the
+  -- certificate that is needed
   expired : {k c : ℕ} (e : Grant) →
       FirstEntry list right (λ g. MaySpeak anchors (claims certs) subject g.who) k e →
       IsNeeded anchors certs moment subject e.who c →

@@ -1,5 +1,4 @@
 -- The first certificate that has ended and would have been enough.
---     IsNeeded anchors certs moment subject who c      the live certificates and those that have ended up to c are enough, and no fewer are
 use Rattle.std.specs.Prelude.{◌≡◌, ℕ, ◌+◌, ◌≤◌, List, Some, slice_get, take}
 use Rattle.prin_term.specs.declared.term.Anchor.{Anchor}
 use Rattle.prin_term.specs.Principal.{Principal}
@@ -8,11 +7,16 @@ use Rattle.taos_calculus.specs.Monitor.{MaySpeak}
 use Rattle.denial_link.specs.Order.{DeadInOrder}
 use Rattle.denial_link.specs.Revived.{claims, revived}
 
--- the n before c in the order are not enough with the live ones, and with c they are
+-- The live certificates and those that have ended up to c are enough, and no fewer are: the n
+-- before c in the order are not enough with the live ones, and with c they are.
 pub record IsNeeded (anchors : List Anchor) (certs : List Certificate) (moment : ℕ) (subject who : Principal) (c : ℕ) : Type 0 where
+  -- how many that have ended come before c in the order
   pub n : ℕ
+  -- the places of all that have ended, in order
   pub places : List ℕ
   pub in_order : DeadInOrder certs moment places
+  -- with c, and those before it, there is enough
   pub enough : MaySpeak anchors (claims (revived certs moment (take (n + 1) places))) subject who
+  -- without c there is not
   pub no_fewer : (m : ℕ) → m ≤ n → MaySpeak anchors (claims (revived certs moment (take m places))) subject who → ⊥
   pub stands : slice_get places n ≡ Some c

@@ -21,7 +21,8 @@ Admits old new (Ok None) =
     × (new ≡ record old { plan = passed old.plan })
 Admits old new (Err e) = (fails_now old.plan ≡ true) × (new ≡ record old { plan = failed old.plan })
 
--- one that is given back is kept behind the others, where fewer came back than were given, else it is dropped
+-- one that is given back is kept after the others, where fewer came back than were given, else it
+-- is dropped
 pub record KeepsBack {X : Type 0} (old new : Hall X) (x : X) : Type 0 where
   pub kept : length old.back < old.given → new ≡ record old { back = old.back ++ x ∷ [] }
   pub dropped : old.given ≤ length old.back → new ≡ old

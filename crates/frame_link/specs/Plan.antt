@@ -8,11 +8,11 @@ pub record Plan : Type 0 where
   pub fails : List ℕ
   pub faults : ℕ
 
--- no call came yet
+-- the plan of an object to which no call came yet
 abbrev pub plan_of : List ℕ → Plan
 plan_of fails = record { calls = 0; fails = fails; faults = 0 }
 
--- a count with one more, which stands still at the last value of 64 bits
+-- a count with one more, which stands still at the largest u64
 abbrev pub counted : ℕ → ℕ
 counted n = min (n + 1) (2 ^ 64 - 1)
 
@@ -20,10 +20,10 @@ counted n = min (n + 1) (2 ^ 64 - 1)
 abbrev pub fails_now : Plan → Bool
 fails_now plan = list_any (λ n. n == plan.calls) plan.fails
 
--- behind a call that did not fail
+-- the plan after a call that did not fail
 abbrev pub passed : Plan → Plan
 passed plan = record plan { calls = counted plan.calls }
 
--- behind a call that failed
+-- the plan after a call that failed
 abbrev pub failed : Plan → Plan
 failed plan = record plan { calls = counted plan.calls; faults = counted plan.faults }

@@ -8,6 +8,7 @@ pub record Store : Type 0 where
   pub room : ℕ
   pub plan : Plan
 
+-- how many bytes may still be written
 abbrev pub room_left : Store → ℕ
 room_left store = store.room - length store.written
 

@@ -8,7 +8,7 @@ pub record Supply : Type 0 where
   pub chunks : List ℕ
   pub plan : Plan
 
--- at most the next chunk; behind the last one only the room bounds
+-- at most the next chunk; after the last one only the room bounds
 abbrev pub most_of : List ℕ → ℕ → ℕ
 most_of [] room = room
 most_of (chunk ∷ chunks) room = min room chunk

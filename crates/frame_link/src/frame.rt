@@ -99,6 +99,7 @@ impl Model for FrameBuf {
 
     ghost view = { λ b. record { limit = length b.room.items; payload = take b.len b.room.items } };
 
+    // The payload lies in the room.
     ghost invariant = { λ b. b.len ≤ length b.room.items };
 }
 

@@ -26,6 +26,7 @@ impl Model for MemClock {
 
     ghost view = { λ c. record { readings = drop c.at c.readings.items; plan = c.plan } };
 
+    // A reading is left.
     ghost invariant = { λ c. c.at < length c.readings.items };
 }
 

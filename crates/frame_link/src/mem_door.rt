@@ -34,6 +34,7 @@ impl<I, O> Model for MemDoor<I, O> {
       plan = d.plan;
     } };
 
+    // There is memory for all that may be given back, and no more came back than were given.
     ghost invariant = { λ d. (d.given + length d.connections.items ≤ vec_capacity d.kept)
         × (length d.kept.items ≤ d.given) };
 }

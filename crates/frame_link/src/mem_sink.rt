@@ -28,6 +28,7 @@ impl Model for MemSink {
 
     ghost view = { λ s. record { written = s.bytes.items; room = s.room; plan = s.plan } };
 
+    // What was written fits the room, for which there is memory.
     ghost invariant = { λ s. (length s.bytes.items ≤ s.room) × (s.room ≤ vec_capacity s.bytes) };
 }
 

@@ -29,6 +29,7 @@ impl Model for MemSource {
 
     ghost view = { λ s. record { left = drop s.at s.bytes.items; chunks = s.chunks.items; plan = s.plan } };
 
+    // The place is in the bytes or at their end, and each chunk has a byte.
     ghost invariant = { λ s. (s.at ≤ length s.bytes.items) × All (λ (n : ℕ). 0 < n) s.chunks.items };
 }
 

@@ -1,8 +1,7 @@
 -- Key tables: pairs of a number and a key, ascending by number, and room for so many.
---     key_of entries number      the key of that number
 use Rattle.std.specs.Prelude.{◌≡◌, ◌≢◌, ℕ, ◌+◌, ◌^◌, ◌<◌, ◌≤◌, All, List, [], ◌∷◌, length, ◌==◌, if◌then◌else◌, slice_index_or, Option, Some, None}
 
--- a number, then its key
+-- numbers, each with its key
 abbrev pub Entries : Type 0
 Entries = List (ℕ × List ℕ)
 

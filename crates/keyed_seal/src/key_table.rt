@@ -26,6 +26,7 @@ impl Model for KeyTable {
 
     ghost view = { λ t. record { room = t.room; entries = t.entries.items } };
 
+    // It is a key table, and the memory for all of its room was taken at the start.
     ghost invariant = { λ t.
         IsReserved (record { room = t.room; entries = t.entries.items }) (vec_capacity t.entries) };
 }

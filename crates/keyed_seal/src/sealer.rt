@@ -26,6 +26,7 @@ impl Model for Sealer {
 
     ghost view = { λ s. s.key };
 
+    // Each hasher holds the key's block under its pad.
     ghost invariant = { λ s. AreReady s.inner s.outer s.key };
 }
 

@@ -1,8 +1,4 @@
 -- What the program's opening means.
---     object number p      the object of a number
---     opening node      the opening that the program holds: its channels and objects by ascending number
---     FitsByNumber o      its counts are within the limits, and what is looked up in it
---     SameNode a b      two openings in which each look-up finds the same
 use Rattle.std.specs.Prelude.{◌≡◌, ℕ, ◌≤◌, map, length, Some}
 use Rattle.std.specs.Arc.{arc_value}
 use Rattle.keyed_seal.specs.Keys.{key_of}
@@ -13,6 +9,7 @@ use Rattle.node_file.specs.Opening.{FitsObject, plan_of}
 use Rattle.node_file.specs.OpeningView.{common}
 pub use Rattle.node_file.specs.OpeningView.{plan as object}
 
+-- the opening that the program holds, its channels and objects by ascending number
 abbrev pub opening : Opening → plain.Opening
 opening node = record {
   node = node.node;
@@ -26,6 +23,8 @@ opening node = record {
   objects = map (λ e. object e.0 e.1) node.objects.entries;
 }
 
+-- its counts of shards, entries of a journal, channels, anchors and commons are within the
+-- limits, and so is each object that a look-up by number finds
 pub record FitsByNumber (o : plain.Opening) : Type 0 where
   pub shards : (1 ≤ o.shards) × (o.shards ≤ MAX_SHARDS)
   pub limit : o.limit ≤ MAX_LIMIT
@@ -34,6 +33,7 @@ pub record FitsByNumber (o : plain.Opening) : Type 0 where
   pub few_commons : length o.commons ≤ MAX_COMMONS
   pub objects : (number : ℕ) (p : plain.ObjectPlan) → plan_of o.objects number ≡ Some p → FitsObject p
 
+-- two openings with the same relay key and anchors, in which each look-up finds the same
 pub record SameNode (a b : plain.Opening) : Type 0 where
   pub relay_key : a.relay_key ≡ b.relay_key
   pub channels : (number : ℕ) → key_of a.channels number ≡ key_of b.channels number

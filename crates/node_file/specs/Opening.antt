@@ -1,10 +1,4 @@
 -- What a node is opened with, and the bytes of its binary form.
---     ObjectPlan      a guarded object: its number, its content and its access list
---     Opening      a node: its relay key, its shards, its channels' keys, its anchors, the certificates that it holds in common, and its objects
---     opening_bytes o      its one spelling, the lists in their order
---     FitsOpening o      its numbers are within the limits, and nothing stands twice
---     Spells o bytes      the bytes are those of an opening within the limits
---     key_of keys number, plan_of objects number      the channel's key, the object of a number
 use Rattle.std.specs.Prelude.{◌≡◌, ◌≢◌, ℕ, ◌+◌, ◌*◌, ◌^◌, ◌<◌, ◌≤◌, ◌==◌, List, ◌∷◌, ◌++◌, length, All, AllPairs, Option, find}
 use Rattle.std.specs.List.{flat_map}
 use Rattle.std.specs.Int.{w16, w32, w64, to_be_bytes}
@@ -19,40 +13,50 @@ use Rattle.stmt_codec.specs.Certificates.{Certificate, HasBodySpelling, IsWithin
 use Rattle.node_file.specs.declared.opening.TheConstants.{MAX_SHARDS, MAX_KEEP, MAX_LIMIT, MAX_CHANNELS, MAX_ANCHORS, MAX_COMMONS, MAX_OBJECTS, MAX_ROOM}
 use Rattle.taos_wire.specs.Request.{grant_bytes}
 
+-- a guarded object: its number, its content and its access list
 pub record ObjectPlan : Type 0 where
   pub number : ℕ
   pub content : List ℕ
   pub list : List Grant
 
--- a channel is its number with its key
+-- what a node is opened with
 pub record Opening : Type 0 where
+  -- its number
   pub node : ℕ
+  -- the key that it shares with its relay
   pub relay_key : List ℕ
+  -- how many shards it has
   pub shards : ℕ
+  -- how many seconds a certificate that ended is kept
   pub keep : ℕ
+  -- how many entries each journal has at most
   pub limit : ℕ
+  -- each channel's number with its key, found by `key_of`
   pub channels : List (ℕ × List ℕ)
   pub anchors : List Anchor
+  -- the certificates that each shard holds in common at first
   pub commons : List Certificate
   pub objects : List ObjectPlan
 
 -- ---- bytes
 
+-- a channel's number, then its key
 abbrev pub channel_bytes : ℕ × List ℕ → List ℕ
 channel_bytes c = to_be_bytes w32 c.0 ++ c.1
 
+-- an anchor's key, then its name
 abbrev pub anchor_bytes : Anchor → List ℕ
 anchor_bytes a = to_be_bytes w32 a.key ++ to_be_bytes w32 a.name
 
--- a certificate under the relay's seal for this node, behind its length
+-- a certificate under the relay's seal for this node, after its length
 abbrev pub common_bytes : List ℕ → Certificate → List ℕ
 common_bytes relay_key c = counted w16 (sealed RELAYED relay_key c)
 
--- the number, the content behind its length, and the entries behind their count
+-- the number, the content after its length, and the entries after their count
 abbrev pub object_bytes : ObjectPlan → List ℕ
 object_bytes p = to_be_bytes w32 p.number ++ counted w16 p.content ++ length p.list ∷ flat_map grant_bytes p.list
 
--- the mark, the node's own fields, and four lists behind their counts
+-- its one spelling: the mark, the node's own fields, and four lists, each after its count
 abbrev pub opening_bytes : Opening → List ℕ
 opening_bytes o =
     0 ∷ 1 ∷ to_be_bytes w32 o.node ++ o.relay_key ++ to_be_bytes w32 o.shards ++ to_be_bytes w64 o.keep ++ to_be_bytes w64 o.limit
@@ -67,9 +71,11 @@ opening_bytes o =
 abbrev pub IsKey : List ℕ → Type 0
 IsKey key = (length key ≡ 32) × All IsByte key
 
+-- its number fits 32 bits, and its key is one
 abbrev pub IsChannel : ℕ × List ℕ → Type 0
 IsChannel c = (c.0 < 2 ^ 32) × IsKey c.1
 
+-- the key and the name fit 32 bits
 abbrev pub IsAnchor : Anchor → Type 0
 IsAnchor a = (a.key < 2 ^ 32) × (a.name < 2 ^ 32)
 
@@ -77,6 +83,7 @@ IsAnchor a = (a.key < 2 ^ 32) × (a.name < 2 ^ 32)
 abbrev pub IsCommon : Certificate → Type 0
 IsCommon c = HasBodySpelling c × IsWithinLimits c
 
+-- the object's number fits 32 bits, and its content and its access list are within the limits
 pub record FitsObject (p : ObjectPlan) : Type 0 where
   pub number : p.number < 2 ^ 32
   pub content : IsContent p.content
@@ -86,6 +93,7 @@ pub record FitsObject (p : ObjectPlan) : Type 0 where
 abbrev pub journal_room : Opening → ℕ
 journal_room o = (o.shards + length o.objects) * o.limit
 
+-- its numbers are within the limits, and nothing stands twice in a list
 pub record FitsOpening (o : Opening) : Type 0 where
   pub node : o.node < 2 ^ 32
   pub relay_key : IsKey o.relay_key
@@ -106,10 +114,12 @@ pub record FitsOpening (o : Opening) : Type 0 where
   pub each_object_once : AllPairs (λ p q. p.number ≢ q.number) o.objects
   pub room : journal_room o ≤ MAX_ROOM
 
+-- the bytes are the one spelling of the opening, which is within the limits
 abbrev pub Spells : Opening → List ℕ → Type 0
 Spells o bytes = FitsOpening o × (bytes ≡ opening_bytes o)
 
 -- ---- what is looked up
 
+-- the first object that has the number
 abbrev pub plan_of : List ObjectPlan → ℕ → Option ObjectPlan
 plan_of objects number = find (λ (p : ObjectPlan). p.number == number) objects

@@ -1,5 +1,4 @@
 -- What the program's operations mean, without where their parts lie in memory.
---     operation op      the operation that it stands for
 use Rattle.std.specs.Prelude.{map}
 use Rattle.std.specs.Arc.{arc_value}
 use Rattle.prin_term.specs.View.{grant}
@@ -7,6 +6,7 @@ use Rattle.object_core.specs.declared.operation.Op as code
 use Rattle.object_core.specs.declared.operation.Op.TheVariants as variant
 use Rattle.object_core.specs.Operation.{Op, Read, Write, SetList, Hold, Discard, Forget, Sweep}
 
+-- the operation that the program's one stands for
 abbrev pub operation : code.Op → Op
 operation variant.Read = Read
 operation (variant.Write content) = Write content.items

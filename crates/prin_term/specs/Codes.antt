@@ -14,7 +14,7 @@ written (Quoting a b) = written a ++ (written b ++ (3, 0) ∷ [])
 written (InRole a r) = written a ++ (4, r) ∷ []
 written (For a b) = written a ++ (written b ++ (5, 0) ∷ [])
 
--- one node on a stack
+-- one node on a stack, whose operands are on top of it
 abbrev pub pushed : ℕ → ℕ → List Principal → List Principal
 pushed zero n stack = Key n ∷ stack
 pushed (suc zero) n stack = Name n ∷ stack
@@ -24,14 +24,17 @@ pushed (suc (suc (suc (suc zero)))) n (a ∷ stack) = InRole a n ∷ stack
 pushed (suc (suc (suc (suc (suc k))))) n (b ∷ a ∷ stack) = For a b ∷ stack
 pushed k n stack = stack
 
+-- the principals that nodes in post-order build on a stack
 abbrev pub read : List (ℕ × ℕ) → List Principal → List Principal
 read [] stack = stack
 read (x ∷ rest) stack = read rest (pushed x.0 x.1 stack)
 
+-- the principal on top of the stack
 abbrev pub top : List Principal → Principal
 top [] = Key 0
 top (p ∷ rest) = p
 
+-- reading what was written of a principal puts it on the stack
 pub read-written : (p : Principal) (rest : List (ℕ × ℕ)) (stack : List Principal) → read (written p ++ rest) stack ≡ read rest (p ∷ stack)
 read-written (Key k) rest stack = refl
 read-written (Name n) rest stack = refl
@@ -40,8 +43,10 @@ read-written (Quoting a b) rest stack = rw (append_assoc, append_assoc, read-wri
 read-written (InRole a r) rest stack = rw (append_assoc, read-written a) refl
 read-written (For a b) rest stack = rw (append_assoc, append_assoc, read-written a, read-written b) refl
 
+-- what is read of what was written of a principal is the principal
 pub gives_back : (p : Principal) → top (read (written p) []) ≡ p
 gives_back p = rw (← append-nil (written p)) (rw read-written refl)
 
+-- principals as lists of numbers
 abbrev pub principal_code : Coded Principal
 principal_code = code_by (List (ℕ × ℕ)) (coded_list (coded× coded_ℕ coded_ℕ)) written (λ xs. top (read xs [])) gives_back

@@ -1,4 +1,5 @@
--- Which terms bytes spell, and where bytes that spell none are refused, without reading them from left to right.
+-- Which terms bytes spell, and where bytes that spell none are refused, without reading them from
+-- left to right.
 use Rattle.std.specs.Prelude.{◌≡◌, ◌⊎◌, ℕ, ◌+◌, ◌-◌, ◌<◌, ◌≤◌, max, List, [], ◌∷◌, ◌++◌, length, drop, false, true}
 use Rattle.prin_term.specs.declared.fault.TermFault.{TermFault}
 use Rattle.prin_term.specs.declared.fault.TermFault.TheVariants.{Tag, Short, TooDeep, TooLarge, NoMemory}
@@ -17,61 +18,66 @@ pub record IsTermAt (nodes : ℕ) (bytes : List ℕ) (at : ℕ) (term : Principa
   pub text : (rest : List ℕ) × (drop at bytes ≡ spelling term ++ rest)
   pub limits : FitsLimits nodes term
 
--- The beginning of a term, up to a place where a tag is due: nothing yet, or the tag of a compound and
--- the beginning of its first operand, or its tag, its first operand, and the beginning of the second.
+-- The beginning of a term, up to a place where a tag is due: nothing yet, or the tag of a compound
+-- and the beginning of its first operand, or its tag, its first operand, and the beginning of the
+-- second.
 pub data Beginning : Type 0 where
+  -- nothing yet
   Here : Beginning
+  -- the tag of a compound of two, and the beginning of its first operand
   InFirst : Kind → Beginning → Beginning
+  -- its tag, its first operand, and the beginning of the second
   InSecond : Kind → Principal → Beginning → Beginning
+  -- the tag of a role, and the beginning of its principal
   InBase : Beginning → Beginning
 
--- its bytes
+-- the bytes of a beginning
 abbrev pub before : Beginning → List ℕ
 before Here = []
 before (InFirst kind p) = tag_of kind ∷ before p
 before (InSecond kind a p) = tag_of kind ∷ (spelling a ++ before p)
 before (InBase p) = 5 ∷ before p
 
--- how many tags stand in it
+-- how many tags stand in a beginning
 abbrev pub count_of : Beginning → ℕ
 count_of Here = 0
 count_of (InFirst kind p) = 1 + count_of p
 count_of (InSecond kind a p) = 1 + (node_count a + count_of p)
 count_of (InBase p) = 1 + count_of p
 
--- the depth of the deepest of them
+-- the depth of the deepest tag in a beginning
 abbrev pub height_of : Beginning → ℕ
 height_of Here = 0
 height_of (InFirst kind p) = 1 + height_of p
 height_of (InSecond kind a p) = 1 + max (depth a) (height_of p)
 height_of (InBase p) = 1 + height_of p
 
--- how many compounds are open at the place, so that the tag due there is one deeper
+-- how many compounds are open after a beginning, so that the tag due there is one deeper
 abbrev pub level_of : Beginning → ℕ
 level_of Here = 0
 level_of (InFirst kind p) = 1 + level_of p
 level_of (InSecond kind a p) = 1 + level_of p
 level_of (InBase p) = 1 + level_of p
 
--- the numbers of its terms fit
+-- the numbers of the terms in a beginning fit four bytes
 abbrev pub NumbersFit : Beginning → Type 0
 NumbersFit Here = Unit {0}
 NumbersFit (InFirst kind p) = NumbersFit p
 NumbersFit (InSecond kind a p) = HasSpelling a × NumbersFit p
 NumbersFit (InBase p) = NumbersFit p
 
--- a tag stands at the front
+-- a tag stands at the front of the bytes
 abbrev pub BeginsWithTag : List ℕ → Type 0
 BeginsWithTag [] = ⊥
 BeginsWithTag (b ∷ rest) = is_tag b ≡ true
 
--- another byte does
+-- a byte that is no tag stands at the front of the bytes
 abbrev pub BeginsWithOther : List ℕ → Type 0
 BeginsWithOther [] = ⊥
 BeginsWithOther (b ∷ rest) = is_tag b ≡ false
 
--- The bytes end where a tag is due, or in the number of an atom or of a role, with so many levels and
--- nodes left.
+-- The bytes end where a tag is due, or in the number of an atom or of a role, with so many levels
+-- and nodes left.
 pub data EndsInTerm (levels nodes : ℕ) (bytes : List ℕ) : Type 0 where
   at_tag : bytes ≡ [] → EndsInTerm levels nodes bytes
   in_atom : (tag : ℕ) (front : List ℕ) → (tag ≡ 1) ⊎ (tag ≡ 2) → 0 < levels → 0 < nodes → length front < 4 → bytes ≡ tag ∷ front → EndsInTerm levels nodes bytes
@@ -85,8 +91,8 @@ IsWrongAt levels nodes bytes offset (TooLarge o) = BeginsWithTag bytes × (0 < l
 IsWrongAt levels nodes bytes offset (Short o) = EndsInTerm levels nodes bytes × (o ≡ offset + length bytes)
 IsWrongAt levels nodes bytes offset NoMemory = ⊥
 
--- The bytes are refused with this fault: they begin as a term does, within the limits, up to a place
--- where a tag is due and what stands there is wrong. The first of the bytes is at an offset.
+-- The bytes are refused with this fault: they begin as a term does, within the limits, up to a
+-- place where a tag is due and what stands there is wrong. The first of the bytes is at an offset.
 pub record IsRefused (levels nodes : ℕ) (bytes : List ℕ) (offset : ℕ) (fault : TermFault) : Type 0 where
   pub beginning : Beginning
   pub rest : List ℕ

@@ -1,7 +1,4 @@
 -- Proofs that are kept, as mathematics has them.
---     Cached      a proof that its subject speaks for someone, with what it cites and the moment at which it ends
---     lease_of cites      the least end of these, or the last number of 64 bits where there is none
---     cached c      what a kept proof of the program means, wherever its parts lie
 use Rattle.std.specs.Prelude.{ℕ, ◌-◌, ◌^◌, min, List, [], ◌∷◌, map}
 use Rattle.prin_term.specs.Principal.{Principal}
 use Rattle.prin_term.specs.View.{principal}
@@ -12,17 +9,24 @@ use Rattle.taos_calculus.specs.Tables.{lines_of}
 use Rattle.std.specs.Arc.{arc_value}
 use Rattle.proof_cache.specs.declared.cached.Cached.{Cached as CachedValue}
 
+-- a proof that its subject speaks for someone, with what it cites and the moment at which it ends
 pub record Cached : Type 0 where
   pub subject : Principal
+  -- for whom the subject speaks
   pub who : Principal
+  -- the lines that prove it
   pub proof : List Line
+  -- the certificates that the proof cites, in order
   pub cites : List Certificate
+  -- the moment at which it ends, in the unit of the service's clock
   pub lease : ℕ
 
+-- the least end of these certificates, or the largest u64 where there is none
 abbrev pub lease_of : List Certificate → ℕ
 lease_of [] = 2 ^ 64 - 1
 lease_of (c ∷ cs) = min c.until (lease_of cs)
 
+-- what a kept proof of the program means, wherever its parts lie
 abbrev pub cached : CachedValue → Cached
 cached c = record {
   subject = principal c.subject;

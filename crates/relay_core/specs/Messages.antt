@@ -1,8 +1,4 @@
 -- What goes between a node and a relay.
---     asking node certificate      what a node writes
---     answering said, lacking      what a relay writes
---     IsAnswer payload answer out      the payload spells this answer, with the certificate that it brings
---     Replies issuers nodes payload reply      what a relay that has these keys writes to a payload
 use Rattle.std.specs.Prelude.{◌≡◌, ◌≢◌, ℕ, ◌<◌, ◌≤◌, ◌^◌, List, [], ◌∷◌, ◌++◌, length}
 use Rattle.std.specs.Int.{w32, to_be_bytes}
 use Rattle.keyed_seal.specs.Keys.{Entries}
@@ -13,21 +9,26 @@ use Rattle.relay_core.specs.declared.code.TheConstants.{MALFORMED}
 use Rattle.relay_core.specs.declared.message.TheConstants.{ASK, ANSWER, RESEALED, NO_MEMORY, MAX_CERT}
 use Rattle.relay_core.specs.Resealing.{resealed}
 
+-- what a node writes to have a certificate resealed for it
 abbrev pub asking : ℕ → List ℕ → List ℕ
 asking node certificate = ASK ∷ (to_be_bytes w32 node ++ certificate)
 
+-- what a relay writes of what it says
 abbrev pub answering : Said → List ℕ
 answering (Gave certificate) = ANSWER ∷ RESEALED ∷ certificate
 answering (Refuses code) = ANSWER ∷ code ∷ []
 
+-- what a relay writes when it is out of memory
 abbrev pub lacking : List ℕ
 lacking = ANSWER ∷ NO_MEMORY ∷ []
 
+-- the payload spells this answer, with the certificate that it brings
 abbrev pub IsAnswer : List ℕ → RelayAnswer → List ℕ → Type 0
 IsAnswer payload Resealed out = (payload ≡ ANSWER ∷ RESEALED ∷ out) × (length out ≤ MAX_CERT)
 IsAnswer payload (Refused code) out = (payload ≡ ANSWER ∷ code ∷ []) × IsRelayCode code × (out ≡ [])
 IsAnswer payload NoMemory out = (payload ≡ lacking) × (out ≡ [])
 
+-- the payload spells no answer
 abbrev pub IsNoAnswer : List ℕ → Type 0
 IsNoAnswer payload = (answer : RelayAnswer) (out : List ℕ) → ¬ IsAnswer payload answer out
 
@@ -35,7 +36,8 @@ IsNoAnswer payload = (answer : RelayAnswer) (out : List ℕ) → ¬ IsAnswer pay
 abbrev pub IsNoAsking : List ℕ → Type 0
 IsNoAsking payload = (node : ℕ) (certificate : List ℕ) → node < 2 ^ 32 → payload ≢ asking node certificate
 
--- a payload that asks is answered by what is said of its certificate, or by want of memory, and any other by code 1
+-- What a relay that has these keys writes to a payload: one that asks is answered by what is said
+-- of its certificate, or that memory is lacking, and any other by code 1.
 pub data Replies (issuers nodes : Entries) (payload reply : List ℕ) : Type 0 where
   is_said : (node : ℕ) (certificate : List ℕ) →
       node < 2 ^ 32 → payload ≡ asking node certificate → reply ≡ answering (resealed issuers nodes node certificate) →

@@ -1,6 +1,4 @@
 -- What a relay says of a certificate that an issuer sealed, for a node.
---     resealed issuers nodes node bytes      what is said, from what the bytes open to
---     IsResealed issuers nodes node bytes said      the same, a case for each answer, without the steps of opening
 use Rattle.std.specs.Prelude.{◌≡◌, ◌≢◌, ℕ, List, ◌∷◌, Option, Some, None, Result, Ok, Err}
 use Rattle.keyed_seal.specs.Keys.{Entries, key_of}
 use Rattle.keyed_seal.specs.Tag.{tag_of}
@@ -13,7 +11,7 @@ use Rattle.sealed_cert.specs.Refusals.{opened_issued}
 use Rattle.frame_link.specs.Relay.{Said, Gave, Refuses}
 use Rattle.relay_core.specs.declared.code.TheConstants.{MALFORMED, UNKNOWN_ISSUER, BAD_SEAL, WRONG_KIND, UNKNOWN_NODE}
 
--- opening, as a function, finds no want of memory
+-- the code that names a fault of opening, which as a function is never out of memory
 abbrev pub code_of : SealFault → ℕ
 code_of (seals.Malformed o) = MALFORMED
 code_of (seals.UnknownIssuer i) = UNKNOWN_ISSUER
@@ -21,15 +19,17 @@ code_of seals.BadSeal = BAD_SEAL
 code_of (seals.WrongKind k) = WRONG_KIND
 code_of seals.NoMemory = MALFORMED
 
--- under the node's key, where the relay has it
+-- what is said of a certificate: sealed under the node's key, where the relay has it
 abbrev pub for_node : Option (List ℕ) → Certificate → Said
 for_node None c = Refuses UNKNOWN_NODE
 for_node (Some key) c = Gave (sealed RELAYED key c)
 
+-- what is said of what the bytes open to, under the node's key
 abbrev pub said_of : Option (List ℕ) → Result Certificate SealFault → Said
 said_of key (Ok c) = for_node key c
 said_of key (Err fault) = Refuses (code_of fault)
 
+-- what is said of the bytes for a node, from what they open to
 abbrev pub resealed : Entries → Entries → ℕ → List ℕ → Said
 resealed issuers nodes node bytes = said_of (key_of nodes node) (opened_issued issuers bytes)
 
@@ -37,7 +37,8 @@ resealed issuers nodes node bytes = said_of (key_of nodes node) (opened_issued i
 abbrev pub IsRelayed : List ℕ → Type 0
 IsRelayed bytes = (rest : List ℕ) × (bytes ≡ RELAYED ∷ rest)
 
--- The certificate of an issuer that the relay knows is sealed for a node that it knows. Else the first of the other cases that
+-- What is said, a case for each answer, without the steps of opening. The certificate of an issuer
+-- that the relay knows is sealed for a node that it knows. Else the first of the other cases that
 -- holds, from above, is the code.
 pub data IsResealed (issuers nodes : Entries) (node : ℕ) (bytes : List ℕ) : Said → Type 0 where
   is_given : (c : Certificate) (key : List ℕ) →

@@ -32,6 +32,7 @@ pub record Progress (issuers nodes : Entries) (count : ℕ) (in0 in1 out0 out1 :
 pub record EndsWith (issuers nodes : Entries) (limit : ℕ) (in0 in1 out0 out1 : Option (List ℕ)) (Last : ℕ → Option (List ℕ) → Type 0) : Type 0 where
   pub count : ℕ
   pub few : count ≤ limit
+  -- what the input had left after the whole frames
   pub middle : Option (List ℕ)
   pub progress : Progress issuers nodes count in0 middle out0 out1
   pub last : Last count middle
@@ -40,7 +41,9 @@ pub record EndsWith (issuers nodes : Entries) (limit : ℕ) (in0 in1 out0 out1 :
 pub record EndsInReply (issuers nodes : Entries) (limit : ℕ) (in0 in1 out0 out1 : Option (List ℕ)) : Type 0 where
   pub count : ℕ
   pub few : count < limit
+  -- what the input had left before the last frame
   pub middle : Option (List ℕ)
+  -- what the output held before the last reply
   pub out : Option (List ℕ)
   pub progress : Progress issuers nodes count in0 middle out0 out
   pub payload : List ℕ

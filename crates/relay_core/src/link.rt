@@ -34,6 +34,7 @@ impl<I, O> Model for LinkRelay<I, O> {
 
     ghost view = { λ l. record { input = l.input; output = l.output; faults = l.faults } };
 
+    // The buffers have room for the longest frame.
     ghost invariant = { λ l. (MAX_FRAME ≤ length l.room.items) × (l.buf.limit ≡ MAX_FRAME) };
 }
 

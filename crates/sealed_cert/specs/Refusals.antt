@@ -1,7 +1,4 @@
 -- Opening bytes from left to right, with the first refusal that is met.
---     carried kind other bytes      the certificate of a kind, whatever its tag, and where its body ends
---     opened key bytes      what a relay's seal opens to, or the refusal
---     opened_issued entries bytes      what an issuer's seal opens to, or the refusal
 use Rattle.std.specs.Prelude.{ℕ, ◌+◌, ◌-◌, Bool, ◌==◌, if◌then◌else◌, nat_lt, List, length, take, drop, Option, Some, None, Result, Ok, Err}
 use Rattle.std.specs.Str.{bytes_eq}
 use Rattle.keyed_seal.specs.Keys.{Entries, key_of}
@@ -20,17 +17,18 @@ abbrev pub seen_as : BodyFault → SealFault
 seen_as (bodies.Malformed o) = Malformed o
 seen_as bodies.NoMemory = NoMemory
 
--- where the body begins, behind the byte of the kind
+-- where the body begins, after the byte of the kind
 unfoldable pub kind_at : ℕ → ℕ → List ℕ → Result ℕ SealFault
 kind_at kind other bytes = do
   first ← byte_at (Malformed 0) bytes 0
   if first.0 == other then Err (WrongKind other) else (if first.0 == kind then Ok first.1 else Err (Malformed 0))
 
--- a tag is left, and nothing behind it
+-- a tag is left, and nothing after it
 unfoldable pub ends_in_tag : List ℕ → ℕ → Result ℕ SealFault
 ends_in_tag bytes at =
     if nat_lt (length bytes - at) TAG_LEN then Err (Malformed (length bytes)) else (if nat_lt (at + TAG_LEN) (length bytes) then Err (Malformed (at + TAG_LEN)) else Ok at)
 
+-- the certificate of a kind, whatever its tag, and where its body ends; the other kind is refused
 unfoldable pub carried : ℕ → ℕ → List ℕ → Result (Certificate × ℕ) SealFault
 carried kind other bytes = do
   begin ← kind_at kind other bytes
@@ -42,16 +40,20 @@ carried kind other bytes = do
 abbrev pub is_tagged : List ℕ → List ℕ → ℕ → Bool
 is_tagged key bytes end = bytes_eq (drop end bytes) (tag_of key (take end bytes))
 
+-- a certificate whose body ends at an offset, if the tag after it is right
 abbrev pub checked : List ℕ → List ℕ → Certificate × ℕ → Result Certificate SealFault
 checked key bytes x = if is_tagged key bytes x.1 then Ok x.0 else Err BadSeal
 
+-- what a relay's seal opens to, or the refusal
 unfoldable pub opened : List ℕ → List ℕ → Result Certificate SealFault
 opened key bytes = carried RELAYED ISSUED bytes >>= checked key bytes
 
+-- the issuer's key, or the refusal of an issuer without one
 abbrev pub known : ℕ → Option (List ℕ) → Result (List ℕ) SealFault
 known issuer (Some key) = Ok key
 known issuer None = Err (UnknownIssuer issuer)
 
+-- what an issuer's seal opens to, or the refusal
 unfoldable pub opened_issued : Entries → List ℕ → Result Certificate SealFault
 opened_issued entries bytes = do
   x ← carried ISSUED RELAYED bytes

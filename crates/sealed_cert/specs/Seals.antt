@@ -1,36 +1,37 @@
 -- Sealed certificates: the byte of a kind, a body, and the tag of both, which ends the bytes.
---     sealed_text kind c      what is sealed
---     sealed kind key c      the one sealed form of a certificate under a key
---     Spells kind bytes c tag      the bytes are c, within the limits, and 32 more, whichever they are
---     IsSealed kind key bytes c      the bytes are that form of c, which is within the limits
---     Opens key bytes c      a relay's seal, under the key that it shares with the node
---     OpensIssued entries bytes c      the issuer's seal, under the key that a table has for it
 use Rattle.std.specs.Prelude.{◌≡◌, ℕ, List, ◌∷◌, ◌++◌, length, Some}
 use Rattle.keyed_seal.specs.Keys.{Entries, key_of}
 use Rattle.keyed_seal.specs.Tag.{tag_of}
 use Rattle.stmt_codec.specs.Certificates.{Certificate, body_spelling, HasBodySpelling, IsWithinLimits}
 use Rattle.sealed_cert.specs.declared.kind.TheConstants.{ISSUED, RELAYED, TAG_LEN}
 
+-- what is sealed
 abbrev pub sealed_text : ℕ → Certificate → List ℕ
 sealed_text kind c = kind ∷ body_spelling c
 
+-- the one sealed form of a certificate under a key
 abbrev pub sealed : ℕ → List ℕ → Certificate → List ℕ
 sealed kind key c = sealed_text kind c ++ tag_of key (sealed_text kind c)
 
+-- the bytes are c, within the limits, and 32 more, whichever they are
 pub record Spells (kind : ℕ) (bytes : List ℕ) (c : Certificate) (tag : List ℕ) : Type 0 where
   pub text : bytes ≡ sealed_text kind c ++ tag
+  -- the tag has its whole length
   pub whole_tag : length tag ≡ TAG_LEN
   pub numbers : HasBodySpelling c
   pub limits : IsWithinLimits c
 
+-- the bytes are the sealed form of c, which is within the limits
 pub record IsSealed (kind : ℕ) (key bytes : List ℕ) (c : Certificate) : Type 0 where
   pub text : bytes ≡ sealed kind key c
   pub numbers : HasBodySpelling c
   pub limits : IsWithinLimits c
 
+-- a relay's seal, under the key that it shares with the node
 abbrev pub Opens : List ℕ → List ℕ → Certificate → Type 0
 Opens key bytes c = IsSealed RELAYED key bytes c
 
+-- the issuer's seal, under the key that a table has for it
 pub record OpensIssued (entries : Entries) (bytes : List ℕ) (c : Certificate) : Type 0 where
   pub key : List ℕ
   pub known : key_of entries c.issuer ≡ Some key

@@ -1,13 +1,4 @@
 -- Certificates, as mathematics has them, and the one spelling of their bodies.
---     Certificate      who says that left speaks for right, and until when
---     key_quoting key quoted      the key, or the key quoting another principal
---     speaker_of c      who says it
---     body_spelling c, digest_of c      the bytes of the body, and their SHA-256
---     distinct_subterms c      every part of speaker, left and right, each once
---     IsWithinLimits c      its principals are small, with few distinct subterms
---     HasBodySpelling c      its numbers fit their fields
---     IsBodyAt bytes at c      c is spelled there, and within the limits
---     live certs moment      those that have not ended at the moment, in order
 use Rattle.std.specs.Prelude.{◌≡◌, ℕ, ◌<◌, ◌≤◌, ◌^◌, drop, List, [], ◌∷◌, ◌++◌, length, filter, nat_lt, Option, None, Some, IfSome}
 use Rattle.std.specs.Option.{option_map}
 use Rattle.std.specs.Int.{w32, w64, to_be_bytes}
@@ -20,12 +11,17 @@ use Rattle.stmt_codec.specs.declared.body.CertBody.{CertBody}
 use Rattle.stmt_codec.specs.declared.limits.TheConstants.{MAX_DISTINCT}
 use Rattle.stmt_codec.specs.Distinct.{first_of_each}
 
+-- who says that left speaks for right, and until when
 pub record Certificate : Type 0 where
+  -- the key that says it
   pub issuer : ℕ
+  -- whom the key quotes, if it quotes anybody
   pub quoted : Option Principal
   pub left : Principal
   pub right : Principal
+  -- the moment at which it ends, in the unit of the service's clock
   pub until : ℕ
+  -- tells certificates apart that are otherwise equal
   pub serial : ℕ
 
 -- what a body of the program says, wherever its terms lie
@@ -39,17 +35,20 @@ certificate b = record {
   serial = b.serial;
 }
 
+-- the key, or the key quoting another principal
 abbrev pub key_quoting : ℕ → Option Principal → Principal
 key_quoting key None = Key key
 key_quoting key (Some quoted) = Quoting (Key key) quoted
 
+-- who says it
 abbrev pub speaker_of : Certificate → Principal
 speaker_of c = key_quoting c.issuer c.quoted
 
--- version 1; then the fields in their order, the numbers big-endian
+-- the bytes of the body: version 1, then the fields in their order, the numbers big-endian
 abbrev pub body_spelling : Certificate → List ℕ
 body_spelling c = 1 ∷ [] ++ to_be_bytes w32 c.issuer ++ optional spelling c.quoted ++ spelling c.left ++ spelling c.right ++ to_be_bytes w64 c.until ++ to_be_bytes w64 c.serial
 
+-- the SHA-256 of the body's bytes
 abbrev pub digest_of : Certificate → List ℕ
 digest_of c = sha256 (body_spelling c)
 
@@ -57,6 +56,7 @@ digest_of c = sha256 (body_spelling c)
 abbrev pub distinct_parts : Principal → Principal → Principal → List Principal
 distinct_parts speaker left right = first_of_each (subterms speaker ++ (subterms left ++ subterms right))
 
+-- every part of speaker, left and right, each once
 abbrev pub distinct_subterms : Certificate → List Principal
 distinct_subterms c = distinct_parts (speaker_of c) c.left c.right
 
@@ -64,10 +64,12 @@ distinct_subterms c = distinct_parts (speaker_of c) c.left c.right
 abbrev pub IsSmall : Principal → Type 0
 IsSmall t = (node_count t ≤ CERT_NODES) × (depth t ≤ MAX_DEPTH)
 
+-- its principals are small, with few distinct subterms
 pub record IsWithinLimits (c : Certificate) : Type 0 where
   pub quoted_fits : IfSome c.quoted IsSmall
   pub left_fits : IsSmall c.left
   pub right_fits : IsSmall c.right
+  -- not too many distinct parts in all its terms
   pub few_subterms : length (distinct_subterms c) ≤ MAX_DISTINCT
 
 -- the numbers fit their fields, so the certificate has a spelling
@@ -79,11 +81,13 @@ pub record HasBodySpelling (c : Certificate) : Type 0 where
   pub until : c.until < 2 ^ 64
   pub serial : c.serial < 2 ^ 64
 
--- The bytes from an offset on begin with the spelling of this certificate, which is within the limits.
+-- The bytes from the offset on begin with the spelling of this certificate, which is within the
+-- limits.
 pub record IsBodyAt (bytes : List ℕ) (at : ℕ) (c : Certificate) : Type 0 where
   pub text : (rest : List ℕ) × (drop at bytes ≡ body_spelling c ++ rest)
   pub numbers : HasBodySpelling c
   pub limits : IsWithinLimits c
 
+-- those that have not ended at the moment, in order
 abbrev pub live : List Certificate → ℕ → List Certificate
 live certs moment = filter (λ c. nat_lt moment c.until) certs

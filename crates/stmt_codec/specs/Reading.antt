@@ -11,9 +11,11 @@ use Rattle.stmt_codec.specs.declared.limits.TheConstants.{MAX_DISTINCT}
 use Rattle.stmt_codec.specs.Certificates.{Certificate, distinct_parts, key_quoting}
 use Rattle.stmt_codec.specs.Faults.{seen_as}
 
+-- a principal of a certificate
 abbrev pub part_at : List ℕ → ℕ → Result (Principal × ℕ) BodyFault
 part_at bytes at = with_fault seen_as (term_at CERT_NODES bytes at)
 
+-- who is quoted, after a byte that says whether anybody is
 abbrev pub quoted_at : List ℕ → ℕ → Result (Option Principal × ℕ) BodyFault
 quoted_at bytes at = optional_at (Malformed (length bytes)) (Malformed at) (part_at bytes) bytes at
 
@@ -23,6 +25,7 @@ right_at speaker left bytes at = do
   right ← part_at bytes at
   if nat_le (length (distinct_parts speaker left right.0)) MAX_DISTINCT then Ok right else Err (Malformed right.1)
 
+-- the certificate whose body begins at an offset, and the offset after it
 unfoldable pub body_at : List ℕ → ℕ → Result (Certificate × ℕ) BodyFault
 body_at bytes at = do
   begin ← mark_at (Malformed (length bytes)) (Malformed at) 1 bytes at

@@ -24,8 +24,11 @@ pub struct Cert {
     pub speaker: Term,
     /// The SHA-256 of the body's spelling.
     pub digest: [u8; 32],
+    /// The body is within the limits.
     pub ghost limits: { IsWithinLimits (certificate body) } by { IsWithinLimits-prop _ },
+    /// The speaker is the one that the body names.
     pub ghost speaks: { principal speaker ≡ speaker_of (certificate body) } by { principal-set _ _ },
+    /// The digest is that of the body.
     pub ghost digested: { digest ≡ digest_of (certificate body) },
 }
 

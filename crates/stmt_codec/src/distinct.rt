@@ -22,6 +22,7 @@ pub(crate) fn same(term: &Term, other: &Term) -> bool
 struct Seen<'a> {
     terms: [&'a Term; MAX_DISTINCT],
     count: usize,
+    // The terms that count lie in the array.
     ghost within: { count ≤ 16 },
 }
 

@@ -1,7 +1,4 @@
 -- What a check of a proof tells, over principals.
---     IsBad anchors claims lines k      k is the number of the first line that does not follow, or of all lines where they follow and conclude nothing
---     Concludes anchors claims parts left right      the lines prove that the one number speaks for the other
---     IsChecked anchors claims parts answer      what the answer tells
 use Rattle.std.specs.Prelude.{◌≡◌, ◌≢◌, ℕ, List, [], Some, slice_get, take, length, Result, Ok, Err}
 use Rattle.prin_term.specs.declared.term.Anchor.{Anchor}
 use Rattle.prin_term.specs.Principal.{Principal}
@@ -12,6 +9,8 @@ use Rattle.taos_calculus.specs.Rules.{Claim, Line, SpeaksFor, Follows, EachFollo
 use Rattle.taos_calculus.specs.Tables.{Parts, named, lines_of, IsBelow}
 use Rattle.taos_calculus.specs.Tidy.{facts}
 
+-- k is the number of the first line that does not follow, or of all lines where they follow and
+-- conclude nothing
 pub data IsBad (anchors : List Anchor) (claims : List Claim) (lines : List Line) : ℕ → Type 0 where
   -- those before it follow, and it does not
   stops : {k : ℕ} {l : Line} →
@@ -24,10 +23,12 @@ pub data IsBad (anchors : List Anchor) (claims : List Claim) (lines : List Line)
       ((left right : Principal) → last_fact lines ≢ Some (SpeaksFor left right)) →
       IsBad anchors claims lines k
 
+-- the lines prove that the one number speaks for the other
 pub record Concludes (anchors : List Anchor) (claims : List Claim) (parts : Parts) (left right : ℕ) : Type 0 where
   pub below : IsBelow (length parts.nodes) (Fact.Speaks left right)
   pub proves : Proves anchors claims (lines_of parts) (SpeaksFor (named parts.nodes left) (named parts.nodes right))
 
+-- what the answer of a check tells
 abbrev pub IsChecked : List Anchor → List Claim → Parts → Result Conclusion BadLine → Type 0
 IsChecked anchors claims parts (Ok c) = Concludes anchors claims parts c.left c.right
 IsChecked anchors claims parts (Err e) = IsBad anchors claims (lines_of parts) e.line

@@ -1,7 +1,4 @@
 -- The rules over a table of nodes, whose principals are named by their numbers.
---     Gives nodes anchors claims earlier fact step      the step gives the fact from earlier facts: one case for each rule
---     EachGives nodes anchors claims earlier lines      each line's step gives its fact from the earlier facts and the lines before it
---     IsClosed nodes anchors claims known      what a step gives from the known facts is known
 use Rattle.std.specs.Prelude.{◌≡◌, ℕ, List, [], ◌∷◌, ◌++◌, Some, slice_get, length, map, Contains}
 use Rattle.prin_term.specs.declared.term.Anchor.{Anchor}
 use Rattle.taos_calculus.specs.declared.line.Step.{Step}
@@ -11,6 +8,7 @@ use Rattle.taos_calculus.specs.declared.line.Line.{Line}
 use Rattle.taos_calculus.specs.Rules.{Claim}
 use Rattle.taos_calculus.specs.Tables.{named, IsBelow}
 
+-- the step gives the fact from earlier facts: one case for each rule
 pub data Gives (nodes : List Node) (anchors : List Anchor) (claims : List Claim) (earlier : List Fact) : Fact → Step → Type 0 where
   same : {a : ℕ} → Gives nodes anchors claims earlier (Fact.Speaks a a) Step.Same
   chain : {a b c i j : ℕ} →
@@ -58,14 +56,17 @@ pub data Gives (nodes : List Node) (anchors : List Anchor) (claims : List Claim)
       slice_get earlier i ≡ Some (Fact.Says a c d) →
       Gives nodes anchors claims earlier (Fact.Speaks c d) (Step.Delegate i)
 
+-- the facts of lines, in order
 abbrev pub facts_at : List Line → List Fact
 facts_at lines = map (λ (l : Line). l.fact) lines
 
+-- each line's step gives its fact from the earlier facts and the lines before it
 abbrev pub EachGives : List Node → List Anchor → List Claim → List Fact → List Line → Type 0
 EachGives nodes anchors claims earlier [] = Unit {0}
 EachGives nodes anchors claims earlier (l ∷ rest) =
     Gives nodes anchors claims earlier l.fact l.step × EachGives nodes anchors claims (earlier ++ l.fact ∷ []) rest
 
+-- what a step gives from the known facts is known
 abbrev pub IsClosed : List Node → List Anchor → List Claim → List Fact → Type 0
 IsClosed nodes anchors claims known =
     (fact : Fact) (step : Step) → IsBelow (length nodes) fact → Gives nodes anchors claims known fact step → Contains known fact

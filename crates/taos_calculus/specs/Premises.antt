@@ -1,5 +1,6 @@
--- What has to stand at the numbers of a step for it to give a fact over the numbers of a table: one relation for each rule.
--- The first arguments are nodes of the table and facts of earlier lines, None where nothing stands.
+-- What has to stand at the numbers of a step for it to give a fact over the numbers of a table: one
+-- relation for each rule, whose first arguments are nodes of the table and facts of earlier lines,
+-- or None where nothing stands.
 use Rattle.std.specs.Prelude.{◌≡◌, ℕ, List, Option, None, Some, slice_get}
 use Rattle.prin_term.specs.declared.term.Anchor.{Anchor}
 use Rattle.prin_term.specs.Principal.{Principal}
@@ -9,52 +10,55 @@ use Rattle.taos_calculus.specs.declared.line.Step.{Step}
 use Rattle.taos_calculus.specs.Rules.{Claim}
 use Rattle.taos_calculus.specs.Tables.{named}
 
--- it says that the one speaks for the other
+-- the fact is there, and says that the one speaks for the other
 abbrev pub IsSpeaks : Option Fact → ℕ → ℕ → Type 0
 IsSpeaks fact left right = fact ≡ Some (Fact.Speaks left right)
 
+-- the fact is there, and says that who says that the one speaks for the other
 abbrev pub IsSays : Option Fact → ℕ → ℕ → ℕ → Type 0
 IsSays fact who left right = fact ≡ Some (Fact.Says who left right)
 
--- from the first's left to the second's right
+-- two facts lead from left to right, through what the first leads to
 abbrev pub Chains : Option Fact → Option Fact → ℕ → ℕ → Type 0
 Chains first (Some (Fact.Speaks b c)) left right = IsSpeaks first left b × (c ≡ right)
 Chains first _ left right = ⊥
 
--- the conjunction's left part, or its right one
+-- the part is the conjunction's left one
 abbrev pub IsLeftOf : Option Node → ℕ → Type 0
 IsLeftOf (Some (Node.And a b)) part = a ≡ part
 IsLeftOf _ part = ⊥
 
+-- the part is the conjunction's right one
 abbrev pub IsRightOf : Option Node → ℕ → Type 0
 IsRightOf (Some (Node.And a b)) part = b ≡ part
 IsRightOf _ part = ⊥
 
--- to both parts of the conjunction
+-- two facts lead from left to both parts of the conjunction
 abbrev pub ReachBoth : Option Node → Option Fact → Option Fact → ℕ → Type 0
 ReachBoth (Some (Node.And a b)) first second left = IsSpeaks first left a × IsSpeaks second left b
 ReachBoth _ first second left = ⊥
 
--- between quotings, and between delegations, part by part
+-- both nodes are quotings, and the first speaks for the second part by part
 abbrev pub Quotes : Option Node → Option Node → Option Fact → Option Fact → Type 0
 Quotes (Some (Node.Quote a b)) (Some (Node.Quote c d)) first second = IsSpeaks first a c × IsSpeaks second b d
 Quotes _ _ first second = ⊥
 
+-- both nodes are delegations, and the first speaks for the second part by part
 abbrev pub ActsFor : Option Node → Option Node → Option Fact → Option Fact → Type 0
 ActsFor (Some (Node.For a b)) (Some (Node.For c d)) first second = IsSpeaks first a c × IsSpeaks second b d
 ActsFor _ _ first second = ⊥
 
--- to a role of the principal
+-- the node is the principal base in a role
 abbrev pub IsRoleOf : Option Node → ℕ → Type 0
 IsRoleOf (Some (Node.AsRole a r)) base = a ≡ base
 IsRoleOf _ base = ⊥
 
--- between principals in one role
+-- both nodes are principals in one role, and the first's speaks for the second's
 abbrev pub UnderRole : Option Node → Option Node → Option Fact → Type 0
 UnderRole (Some (Node.AsRole a r)) (Some (Node.AsRole b s)) fact = (r ≡ s) × IsSpeaks fact a b
 UnderRole _ _ fact = ⊥
 
--- from the anchor's key to its name
+-- left is the anchor's key, and right is its name
 abbrev pub IsAnchored : Option Anchor → Option Node → Option Node → Type 0
 IsAnchored (Some anchor) left right = (left ≡ Some (Node.Key anchor.key)) × (right ≡ Some (Node.Name anchor.name))
 IsAnchored None left right = ⊥
@@ -64,7 +68,7 @@ abbrev pub IsClaimed : (ℕ → Principal) → Option Claim → ℕ → ℕ → 
 IsClaimed p (Some claim) who left right = (p who ≡ claim.speaker) × (p left ≡ claim.left) × (p right ≡ claim.right)
 IsClaimed p None who left right = ⊥
 
--- what the one says is said by whom he speaks for
+-- what the one says is said by the one for whom he speaks
 abbrev pub Lifts : Option Fact → Option Fact → ℕ → ℕ → ℕ → Type 0
 Lifts (Some (Fact.Says a l r)) speaks who left right = (l ≡ left) × (r ≡ right) × IsSpeaks speaks a who
 Lifts _ speaks who left right = ⊥
@@ -74,11 +78,12 @@ abbrev pub JoinIn : Option Node → Option Fact → Option Fact → ℕ → ℕ 
 JoinIn (Some (Node.And a b)) first second left right = IsSays first a left right × IsSays second b left right
 JoinIn _ first second left right = ⊥
 
--- the right one says so himself
+-- right itself says that left speaks for right
 abbrev pub HandsOff : Option Fact → ℕ → ℕ → Type 0
 HandsOff says left right = IsSays says right left right
 
--- the one who is quoted says that the other acts for him
+-- left is a quoting, right the delegation of its parts, and the one who is quoted says that left
+-- speaks for right
 abbrev pub Delegates : Option Node → Option Node → Option Fact → ℕ → ℕ → Type 0
 Delegates (Some (Node.Quote b a)) target says left right = (target ≡ Some (Node.For b a)) × IsSays says a left right
 Delegates _ target says left right = ⊥

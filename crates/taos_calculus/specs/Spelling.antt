@@ -1,7 +1,4 @@
 -- The one spelling of a proof: its canonical table, then its lines over the numbers of that table.
---     numbered lines      the parts that lines over principals have: their canonical table, and themselves by its numbers
---     parts_spelling parts      the bytes of parts
---     proof_spelling lines      the one spelling of lines over principals
 use Rattle.std.specs.Prelude.{ℕ, List, [], ◌∷◌, ◌++◌, length, map}
 use Rattle.std.specs.Int.{w16, w32, to_be_bytes}
 use Rattle.std.specs.List.{flat_map, position_or_len}
@@ -28,24 +25,29 @@ node_of number (Quoting a b) = Node.Quote (number a) (number b)
 node_of number (InRole a r) = Node.AsRole (number a) r
 node_of number (For a b) = Node.For (number a) (number b)
 
+-- a judgement as a fact, where number gives the number of each principal
 abbrev pub fact_of : (Principal → ℕ) → Judgement → Fact
 fact_of number (SpeaksFor left right) = Fact.Speaks (number left) (number right)
 fact_of number (Says who left right) = Fact.Says (number who) (number left) (number right)
 
+-- a line over principals as a line over their numbers
 abbrev pub line_of : (Principal → ℕ) → Meaning → Line
 line_of number l = record { fact = fact_of number l.fact; step = l.step }
 
+-- the parts that lines over principals have: their canonical table, and themselves by its numbers
 abbrev pub numbered : List Meaning → Parts
 numbered lines =
     parts_of (map (node_of (place_in (canonical_table lines))) (canonical_table lines)) (map (line_of (place_in (canonical_table lines))) lines)
 
--- two numbers of principals, or of lines
+-- two numbers of principals
 abbrev pub pair16 : ℕ → ℕ → List ℕ
 pair16 a b = to_be_bytes w16 a ++ to_be_bytes w16 b
 
+-- two numbers of lines
 abbrev pub pair32 : ℕ → ℕ → List ℕ
 pair32 i j = to_be_bytes w32 i ++ to_be_bytes w32 j
 
+-- a node: its tag, then its operands or its number
 abbrev pub node_bytes : Node → List ℕ
 node_bytes (Node.Key k) = 1 ∷ to_be_bytes w32 k
 node_bytes (Node.Name n) = 2 ∷ to_be_bytes w32 n
@@ -54,10 +56,12 @@ node_bytes (Node.Quote a b) = 4 ∷ pair16 a b
 node_bytes (Node.AsRole a r) = 5 ∷ (to_be_bytes w16 a ++ to_be_bytes w32 r)
 node_bytes (Node.For a b) = 6 ∷ pair16 a b
 
+-- the numbers that a fact names
 abbrev pub fact_bytes : Fact → List ℕ
 fact_bytes (Fact.Speaks left right) = pair16 left right
 fact_bytes (Fact.Says who left right) = to_be_bytes w16 who ++ to_be_bytes w16 left ++ to_be_bytes w16 right
 
+-- the byte that names a rule
 abbrev pub rule_byte : Step → ℕ
 rule_byte Step.Same = 1
 rule_byte (Step.Chain i j) = 2
@@ -75,6 +79,7 @@ rule_byte (Step.HandOff i) = 13
 rule_byte (Step.Delegate i) = 14
 rule_byte (Step.RoleUnder i) = 15
 
+-- the numbers that a step names
 abbrev pub premise_bytes : Step → List ℕ
 premise_bytes Step.Same = []
 premise_bytes (Step.Chain i j) = pair32 i j
@@ -92,12 +97,15 @@ premise_bytes (Step.HandOff i) = to_be_bytes w32 i
 premise_bytes (Step.Delegate i) = to_be_bytes w32 i
 premise_bytes (Step.RoleUnder i) = to_be_bytes w32 i
 
+-- a line: its rule, its fact, and the numbers that its step names
 abbrev pub line_bytes : Line → List ℕ
 line_bytes l = rule_byte l.step ∷ (fact_bytes l.fact ++ premise_bytes l.step)
 
+-- the bytes of parts: the nodes after their count, and the lines after theirs
 abbrev pub parts_spelling : Parts → List ℕ
 parts_spelling parts =
     to_be_bytes w16 (length parts.nodes) ++ flat_map node_bytes parts.nodes ++ to_be_bytes w32 (length parts.lines) ++ flat_map line_bytes parts.lines
 
+-- the one spelling of lines over principals
 unfoldable pub proof_spelling : List Meaning → List ℕ
 proof_spelling lines = parts_spelling (numbered lines)

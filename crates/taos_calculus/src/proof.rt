@@ -31,6 +31,7 @@ impl Model for Proof {
 
     ghost view = { λ p. parts_of p.nodes.items p.lines.items };
 
+    // The parts are within the limits, and their table is the canonical one of their lines.
     ghost invariant = { λ p. IsProofParts (parts_of p.nodes.items p.lines.items) };
 }
 

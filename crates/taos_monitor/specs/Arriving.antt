@@ -1,9 +1,4 @@
 -- What is promised of the way to the object.
---     node_of keys plans objects      the node of these keys, plans and objects
---     object_seen number s      the object that is shown
---     StandsFor r a      what came stands for what is asked
---     IsAskedBy, IsNotAsked keys payload ..      the payload is the request, under its seal; or a course ends there
---     Arrives, NotArrives keys objects says before now r ..      the request came to its object; or a course ends before it, as the refusal says
 use Rattle.std.specs.Prelude.{◌≡◌, ℕ, ◌≤◌, List, [], length, map, Option}
 use Rattle.std.specs.Arc.{arc_value}
 use Rattle.object_core.specs.Operation.{right_of, IsAccessList, IsContent}
@@ -22,6 +17,7 @@ use Rattle.taos_monitor.specs.Credentials.{LinkCall, IsLinked}
 use Rattle.taos_monitor.specs.Course.{IsAsked, HasArrived, Course}
 use Rattle.taos_monitor.specs.Refusals.{refusal}
 
+-- the node of these keys, plans and objects
 abbrev pub node_of : NodeKeys → List Plan → List ObjectPlan → Node
 node_of keys plans objects = record {
   number = keys.node;
@@ -31,6 +27,7 @@ node_of keys plans objects = record {
   objects = objects;
 }
 
+-- the object of the number, as it is shown
 abbrev pub object_seen : ℕ → Shown → ObjectPlan
 object_seen number s = record { number = number; content = s.content.now; list = map grant (arc_value s.list.now).items }
 
@@ -42,17 +39,19 @@ pub record StandsFor (r : Request) (a : Arrived) : Type 0 where
   pub content : IsContent (object_seen r.object a.shown).content
   pub list : IsAccessList (object_seen r.object a.shown).list
 
--- the payload is the request, under the seal of its channel's key, however the cells are opened; or a course ends there, without a seal
+-- the payload is the request, under the seal of its channel's key, however the cells are opened
 pub record IsAskedBy (keys : NodeKeys) (payload : List ℕ) (r : Request) : Type 0 where
   pub key : List ℕ
   pub asked : (plans : List Plan) (objects : List ObjectPlan) → IsAsked (node_of keys plans objects) payload r key
 
+-- a course ends at the payload, without a seal, as the refusal says
 abbrev pub IsNotAsked : NodeKeys → List ℕ → Refusal → Type 0
 IsNotAsked keys payload f =
     (plans : List Plan) (objects : List ObjectPlan) (J : Journals) → Course (node_of keys plans objects) J payload [] [] [] (unsealed (refusal f))
 
 module _ (keys : NodeKeys) (objects : List ObjectPlan) (says : Option (ℕ → List ℕ → Said)) (before now : ℕ) (r : Request) where
-  -- whichever payload under its channel's seal it was, and however the shards are opened
+  -- the request came to its object, whichever payload under its channel's seal it was, and however
+  -- the shards are opened
   pub record Arrives (a : Arrived) : Type 0 where
     pub calls : List LinkCall
     pub linked : IsLinked says keys.node before now calls
@@ -60,6 +59,7 @@ module _ (keys : NodeKeys) (objects : List ObjectPlan) (says : Option (ℕ → L
         HasArrived (node_of keys plans objects) payload r key calls (map shared a.certs.items) (object_seen r.object a.shown)
     pub stands : StandsFor r a
 
+  -- a course of the request ends before its object, as the refusal says
   pub record NotArrives (f : Refusal) : Type 0 where
     pub calls : List LinkCall
     pub linked : IsLinked says keys.node before now calls

@@ -1,12 +1,4 @@
--- The course of a request: from its payload to its reply, one case for each way that it may end. What is held, and where the
--- entries stand, is read off the journals of the shards.
---     IsUnbuilt r      no answer to it is built yet
---     IsAsked, IsBuilt, IsOpened, HasArrived n payload ..      a request under its channel's seal; one that is built; one whose certificates open; one that came to its object
---     Arrival n payload      the last of these, whatever the request
---     ask_of r certs object reading      the ask that a request makes
---     IsRuled plan journal shard a object own reply      what comes of the ask
---     Tells list denial told      what a denial tells: a part of an entry by itself
---     Course n J payload readings calls places sent      the whole: with the readings of the clock, the answers of the link and the own places that it used
+-- The course of a request: from its payload to its reply, one case for each way that it may end.
 use Rattle.std.specs.Prelude.{◌≡◌, ◌≢◌, ℕ, false, List, [], ◌∷◌, length, map, Err, None, Some, slice_get}
 use Rattle.keyed_seal.specs.Keys.{key_of}
 use Rattle.object_core.specs.Operation.{Read, right_of}
@@ -28,10 +20,11 @@ use Rattle.agent_core.specs.Asked.{IsGrantedAt, IsDeniedAt, IsTold, Unanswered}
 use Rattle.taos_monitor.specs.Cells.{ObjectPlan, object_of, Node, home, HasPlan, Journals, Place, in_shard}
 use Rattle.taos_monitor.specs.Credentials.{LinkCall, AreOpened, IsFirstRefused, IsFirstFailed, IsInterrupted}
 
--- its operation is not Read
+-- no answer to the request is built yet: its operation is not Read
 abbrev pub IsUnbuilt : Request → Type 0
 IsUnbuilt r = r.op ≢ Read
 
+-- what a denial tells: a part of an entry by itself
 abbrev pub Tells : List Grant → Denial → LinkSent → Type 0
 Tells list (denials.Expired entry digest) told = told ≡ replies.Expired entry digest
 Tells list (denials.Missing entry node) told =
@@ -42,6 +35,7 @@ Tells list denials.NoEntry told = told ≡ replies.NoEntry
 abbrev pub shard_full : ℕ → ℕ → Reply
 shard_full shard limit = replies.JournalFull 1 shard limit
 
+-- the ask that a request makes, of the certificates that it presents, its object and a reading
 abbrev pub ask_of : Request → List Certificate → ObjectPlan → ℕ → Ask
 ask_of r certs object reading = record {
   channel = r.channel;
@@ -53,8 +47,8 @@ ask_of r certs object reading = record {
   presented = certs;
 }
 
--- What comes of an ask at the shard of its channel: the own places there, and the reply. Once the Ask stands, want of memory is
--- answered only where it is granted.
+-- What comes of an ask at the shard of its channel: the own places there, and the reply. Once the
+-- Ask stands, a node that is out of memory says so only where it is granted.
 pub data IsRuled (plan : Plan) (journal : List Entry) (shard : ℕ) (a : Ask) (object : ObjectPlan) : List ℕ → Reply → Type 0 where
   full : length journal ≡ plan.limit → IsRuled plan journal shard a object [] (shard_full shard plan.limit)
   replayed : {place last : ℕ} → IsTold plan journal a place (Told.Replayed last) → IsRuled plan journal shard a object (place ∷ []) (replies.Replayed last)
@@ -72,19 +66,22 @@ module _ (n : Node) where
     pub keyed : key_of n.channels r.channel ≡ Some key
     pub seal : IsSealed key payload
 
+  -- the payload is such a request, of an operation that is built
   pub record IsBuilt (payload : List ℕ) (r : Request) (key : List ℕ) : Type 0 where
     pub asked : IsAsked payload r key
     pub built : IsUnbuilt r → ⊥
 
+  -- such a request, whose certificates open, by these calls of the link
   pub record IsOpened (payload : List ℕ) (r : Request) (key : List ℕ) (calls : List LinkCall) (certs : List Certificate) : Type 0 where
     pub taken : IsBuilt payload r key
     pub opened : AreOpened n.relay_key r.certs calls certs
 
+  -- such a request, which came to its object
   pub record HasArrived (payload : List ℕ) (r : Request) (key : List ℕ) (calls : List LinkCall) (certs : List Certificate) (object : ObjectPlan) : Type 0 where
     pub presented : IsOpened payload r key calls certs
     pub there : object_of n.objects r.object ≡ Some object
 
-  -- a request that came to its object; the clock is read next
+  -- a request that came to its object, whatever it is; the clock is read next
   pub record Arrival (payload : List ℕ) : Type 0 where
     pub request : Request
     pub key : List ℕ
@@ -93,17 +90,22 @@ module _ (n : Node) where
     pub object : ObjectPlan
     pub arrived : HasArrived payload request key calls certs object
 
+  -- the reply to the request, under its channel's key
   abbrev pub answering : {payload : List ℕ} → Arrival payload → Reply → Sent
   answering t reply = sealed t.key t.request reply
 
-  -- the shard of its channel, and the ask that it makes there
+  -- the shard of the request's channel
   abbrev pub its_home : {payload : List ℕ} → Arrival payload → ℕ
   its_home t = home n t.request.channel
 
+  -- the ask that the request makes there, at a reading of the clock
   abbrev pub its_ask : {payload : List ℕ} → Arrival payload → ℕ → Ask
   its_ask t reading = ask_of t.request t.certs t.object reading
 
-  -- Want of memory may be answered to any request, under a seal only where the request's own was right.
+  -- The whole, with the readings of the clock, the answers of the link and the own places that it
+  -- used. What is held, and where the entries stand, is read off the journals of the shards. A node
+  -- that is out of memory may say so to any request, under a seal only where the request's own was
+  -- right.
   pub data Course (J : Journals) (payload : List ℕ) : List ℕ → List LinkCall → List Place → Sent → Type 0 where
     malformed : {offset : ℕ} → ((r : Request) → Spells r payload → ⊥) → request_of payload ≡ Err (wire.Malformed offset) →
         Course J payload [] [] [] (unsealed (replies.Malformed offset))

@@ -1,12 +1,5 @@
--- The certificates that a request presents, by their bytes, and what the relay link answered for those under an issuer's own seal.
---     LinkCall      a call of the link: the bytes that it was given, and its answer
---     IsIssued text      the bytes begin as those of a certificate under its issuer's own seal
---     Comes key text calls c      they come to this certificate: opened by the node, or resealed for it with the same body
---     IsRefused key text calls code      they come to none, and the code says why
---     AreOpened key texts calls certs      they come to these certificates, one by one
---     IsFirstRefused, IsFirstFailed, IsInterrupted ..      the first that comes to none; for which the link failed; up to which memory lasted
---     IsToldAs says node call, FailedAs before now calls      what a link tells of its answers, and of its failures
---     IsLinked, IsQuiet says node before now calls      both; and where no call failed
+-- The certificates that a request presents, by their bytes, and what the relay link answered for
+-- those under an issuer's own seal.
 use Rattle.std.specs.Prelude.{◌≡◌, ◌≢◌, ◌⊎◌, ℕ, ◌≤◌, List, [], ◌∷◌, ◌++◌, length, All, Any, Option, Some, None}
 use Rattle.keyed_seal.specs.Tag.{tag_of}
 use Rattle.sealed_cert.specs.declared.kind.TheConstants.{ISSUED, RELAYED}
@@ -19,31 +12,41 @@ use Rattle.taos_monitor.specs.declared.presented.TheConstants.{BAD_RESEAL}
 
 -- new bytes; a refusal with its code; that memory was refused; that the call failed
 pub data LinkAnswer : Type 0 where
+  -- new bytes, under the relay's seal for the node
   Resealed : List ℕ → LinkAnswer
+  -- a refusal with its code
   Refused : ℕ → LinkAnswer
+  -- memory was refused
   Lacked : LinkAnswer
+  -- the call failed
   Failed : LinkAnswer
 
+-- a call of the link: the bytes that it was given, and its answer
 pub record LinkCall : Type 0 where
   pub sealed : List ℕ
   pub answer : LinkAnswer
 
+-- the call that was given these bytes
 abbrev pub call : List ℕ → LinkAnswer → LinkCall
 call bytes answer = record { sealed = bytes; answer = answer }
 
+-- the bytes begin as those of a certificate under its issuer's own seal
 abbrev pub IsIssued : List ℕ → Type 0
 IsIssued text = (rest : List ℕ) × (text ≡ ISSUED ∷ rest)
 
 -- new bytes open under the relay's key to the body that was presented
 pub record IsResealed (key text new : List ℕ) (c : Certificate) : Type 0 where
   pub opens : Opens key new c
+  -- the tag under which the body was presented, whichever it is
   pub tag : List ℕ
   pub presented : Spells ISSUED text c tag
 
+-- the bytes come to this certificate: opened by the node, or resealed for it with the same body
 pub data Comes (key text : List ℕ) : List LinkCall → Certificate → Type 0 where
   by_node : {c : Certificate} → Opens key text c → Comes key text [] c
   by_relay : {c : Certificate} {new : List ℕ} → IsResealed key text new c → Comes key text (call text (Resealed new) ∷ []) c
 
+-- the bytes come to no certificate, and the code says why
 pub data IsRefused (key text : List ℕ) : List LinkCall → ℕ → Type 0 where
   malformed : (IsIssued text → ⊥) → ((c : Certificate) (tag : List ℕ) → Spells RELAYED text c tag → ⊥) → IsRefused key text [] MALFORMED
   bad_seal : (c : Certificate) (tag : List ℕ) → Spells RELAYED text c tag → tag ≢ tag_of key (sealed_text RELAYED c) →
@@ -52,6 +55,7 @@ pub data IsRefused (key text : List ℕ) : List LinkCall → ℕ → Type 0 wher
   bad_reseal : {new : List ℕ} → IsIssued text → ((c : Certificate) → IsResealed key text new c → ⊥) →
       IsRefused key text (call text (Resealed new) ∷ []) BAD_RESEAL
 
+-- the bytes come to these certificates, one by one, by these calls
 pub data AreOpened (key : List ℕ) : List (List ℕ) → List LinkCall → List Certificate → Type 0 where
   none_more : AreOpened key [] [] []
   one_more : {text : List ℕ} {first calls : List LinkCall} {c : Certificate} {texts : List (List ℕ)} {certs : List Certificate} →
@@ -59,6 +63,7 @@ pub data AreOpened (key : List ℕ) : List (List ℕ) → List LinkCall → List
 
 -- those before the index were opened, by these calls; this one is next
 pub record StopsAt (key : List ℕ) (texts : List (List ℕ)) (index : ℕ) (text : List ℕ) (before : List LinkCall) : Type 0 where
+  -- the certificates before the index, which were opened
   pub front : List (List ℕ)
   pub rest : List (List ℕ)
   pub whole : texts ≡ front ++ text ∷ rest
@@ -66,22 +71,28 @@ pub record StopsAt (key : List ℕ) (texts : List (List ℕ)) (index : ℕ) (tex
   pub certs : List Certificate
   pub opened : AreOpened key front before certs
 
+-- the first that comes to no certificate has this index, and the code says why
 pub record IsFirstRefused (key : List ℕ) (texts : List (List ℕ)) (calls : List LinkCall) (index code : ℕ) : Type 0 where
   pub text : List ℕ
+  -- the calls for those before the index
   pub before : List LinkCall
+  -- the calls for this one
   pub last : List LinkCall
   pub stops : StopsAt key texts index text before
   pub refused : IsRefused key text last code
   pub calls_are : calls ≡ before ++ last
 
+-- the first that comes to no certificate has this index: for it the link failed
 pub record IsFirstFailed (key : List ℕ) (texts : List (List ℕ)) (calls : List LinkCall) (index : ℕ) : Type 0 where
   pub text : List ℕ
+  -- the calls for those before the index
   pub before : List LinkCall
   pub stops : StopsAt key texts index text before
   pub issued : IsIssued text
   pub calls_are : calls ≡ before ++ call text Failed ∷ []
 
--- all were opened; or memory was refused at this one, perhaps after the link answered, which did not fail
+-- all were opened; or memory was refused at this one, perhaps after the link answered, which did
+-- not fail
 pub data IsInterrupted (key : List ℕ) (texts : List (List ℕ)) (calls : List LinkCall) : Type 0 where
   at_end : {certs : List Certificate} → AreOpened key texts calls certs → IsInterrupted key texts calls
   at_text : {index : ℕ} (text : List ℕ) → StopsAt key texts index text calls → IsInterrupted key texts calls
@@ -90,26 +101,29 @@ pub data IsInterrupted (key : List ℕ) (texts : List (List ℕ)) (calls : List 
 
 -- ---- what a link tells
 
+-- the call answers what is said, unless memory was refused or the call failed
 abbrev pub AnswersAs : Said → LinkAnswer → Type 0
 AnswersAs said (Resealed new) = said ≡ Gave new
 AnswersAs said (Refused code) = said ≡ Refuses code
 AnswersAs said Lacked = Unit {0}
 AnswersAs said Failed = Unit {0}
 
+-- the call answers what the link tells of its answers, where it tells them
 abbrev pub IsToldAs : Option (ℕ → List ℕ → Said) → ℕ → LinkCall → Type 0
 IsToldAs None node c = Unit {0}
 IsToldAs (Some says) node c = AnswersAs (says node c.sealed) c.answer
 
--- its count rose where a call failed, and else stayed as it was
+-- the link's count of failures rose where a call failed, and else stayed as it was
 abbrev pub FailedAs : ℕ → ℕ → List LinkCall → Type 0
 FailedAs before now calls =
     ((now ≡ before) × All (λ (c : LinkCall). c.answer ≢ Failed) calls) ⊎ ((before ≤ now) × Rose before now × Any (λ (c : LinkCall). c.answer ≡ Failed) calls)
 
--- what was told of the link's answers, and its count of failures before and after
+-- the calls answer as the link tells, and its count of failures went with them
 pub record IsLinked (says : Option (ℕ → List ℕ → Said)) (node before now : ℕ) (calls : List LinkCall) : Type 0 where
   pub told : All (IsToldAs says node) calls
   pub failed : FailedAs before now calls
 
+-- the calls answer as the link tells, and none failed
 pub record IsQuiet (says : Option (ℕ → List ℕ → Said)) (node before now : ℕ) (calls : List LinkCall) : Type 0 where
   pub told : All (IsToldAs says node) calls
   pub steady : now ≡ before

@@ -3,6 +3,7 @@ use Rattle.taos_monitor.specs.declared.refusal.Refusal.{Refusal}
 use Rattle.taos_monitor.specs.declared.refusal.Refusal.TheVariants as code
 use Rattle.taos_wire.specs.Reply.{Reply, Malformed, UnknownChannel, BadSeal, CertRefused, RelayFailed, UnknownObject, NoMemory, Unbuilt}
 
+-- the reply of a refusal
 abbrev pub refusal : Refusal → Reply
 refusal (code.Malformed offset) = Malformed offset
 refusal (code.UnknownChannel number) = UnknownChannel number

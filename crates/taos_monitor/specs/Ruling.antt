@@ -1,10 +1,4 @@
 -- What is promised of a ruling: of the ask that a request makes, and of the reply that is left.
---     ask_seen r a reading      the ask that stands for a request that came to its object
---     HasPart list denial, MayTell list verdict      what is named is there, and may be told
---     IsToldBy object shard place verdict reply      the reply that tells a verdict
---     Leaves channel seq key bytes Holds      the bytes of a reply of which this holds
---     AskedAt plans alone old new shard Ends      the ask was made, and this holds of how it ended
---     RuledTo plans alone old new shard a object ..      the ask was made, and what came of it was left
 use Rattle.std.specs.Prelude.{◌≡◌, ◌⊎◌, ℕ, ◌<◌, ◌≤◌, ◌^◌, Bool, false, List, length, map, Some, slice_get}
 use Rattle.std.specs.Arc.{arc_value}
 use Rattle.object_core.specs.Operation.{IsByte, IsDigest}
@@ -27,6 +21,7 @@ use Rattle.taos_monitor.specs.declared.arrival.Arrived.{Arrived}
 use Rattle.taos_monitor.specs.Cells.{ObjectPlan, Seen, GoesOn, in_shard}
 use Rattle.taos_monitor.specs.Course.{Tells, IsRuled, shard_full}
 
+-- the ask that stands for a request that came to its object
 abbrev pub ask_seen : Request → Arrived → ℕ → Ask
 ask_seen r a reading = record {
   channel = r.channel;
@@ -38,17 +33,19 @@ ask_seen r a reading = record {
   presented = map shared a.certs.items;
 }
 
--- what a verdict names is there, and may be told
+-- what a denial names is there, and may be told
 abbrev pub HasPart : List Grant → Denial → Type 0
 HasPart list (denials.Missing entry node) = (g : Grant) × (part : Principal) × (slice_get list entry ≡ Some g) × (slice_get (subterms g.who) node ≡ Some part)
 HasPart list (denials.Expired entry digest) = IsByte entry × IsDigest digest
 HasPart list denials.NoEntry = Unit {0}
 
+-- what a verdict names is there, and may be told
 abbrev pub MayTell : List Grant → Verdict → Type 0
 MayTell list (verdict.Granted e c) = length (cached (arc_value {X = CachedValue} c)).cites ≤ MAX_CITED
 MayTell list (verdict.Denied denial) = HasPart list denial
 MayTell list _ = Unit {0}
 
+-- the reply tells the verdict; of a grant it may tell that memory is lacking
 abbrev pub IsToldBy : ObjectPlan → ℕ → ℕ → Verdict → Reply → Type 0
 IsToldBy object shard place (verdict.Granted e c) reply =
     (reply ≡ replies.Granted false e shard place (cached (arc_value {X = CachedValue} c)).proof (cached (arc_value {X = CachedValue} c)).cites object.content) ⊎ (reply ≡ replies.NoMemory)
@@ -57,13 +54,15 @@ IsToldBy object shard place (verdict.Replayed last) reply = reply ≡ replies.Re
 IsToldBy object shard place (verdict.Full held) reply = reply ≡ replies.ChannelFull held
 IsToldBy object shard place (verdict.JournalFull n) reply = reply ≡ shard_full shard n
 
+-- the bytes of a reply of which this holds
 pub record Leaves (channel seq : ℕ) (key bytes : List ℕ) (Holds : Reply → Type 0) : Type 0 where
   pub reply : Reply
   pub holds : Holds reply
   pub spelled : bytes ≡ spelling (sent (Some key) channel seq reply)
   pub short : length bytes < 2 ^ 32
 
--- the ask was made at the shard, and this holds of how it ended in its journal, with these own places
+-- the ask was made at the shard, and this holds of how it ended in its journal, with these own
+-- places
 pub record AskedAt (plans : List Plan) (alone : Bool) (old new : Seen) (shard : ℕ) (Ends : Plan → List Entry → List ℕ → Type 0) : Type 0 where
   pub plan : Plan
   pub planned : slice_get plans shard ≡ Some plan
@@ -72,6 +71,7 @@ pub record AskedAt (plans : List Plan) (alone : Bool) (old new : Seen) (shard : 
   pub legal : (s : ℕ) (p : Plan) → slice_get plans s ≡ Some p → IsLegalJournal p (new.journals.shards s)
   pub ends : Ends plan (new.journals.shards shard) own
 
+-- the ask was made, and what came of it was left as the reply
 abbrev pub RuledTo : List Plan → Bool → Seen → Seen → ℕ → Ask → ObjectPlan → Reply → Type 0
 RuledTo plans alone old new shard a object reply =
     AskedAt plans alone old new shard (λ plan journal own. IsRuled plan journal shard a object own reply)

@@ -1,8 +1,5 @@
--- Connections in the journals of a node: the whole frames of an input, each with its course, and the replies.
---     Turn      a frame with its reply, and what its course used
---     IsCourse n J t      its course stands in the journals
---     AreTurns n outcome turns frames calls      each frame has its turn; but where the clock failed, one frame more came to it
---     Answered n J own frames replies outcome readings calls      the frames have one course each, in order, with these readings and answers of the link in theirs; these places are own, and no others
+-- Connections in the journals of a node: the whole frames of an input, each with its course, and
+-- the replies.
 use Rattle.std.specs.Prelude.{◌≡◌, ℕ, List, [], ◌∷◌, ◌++◌, map, All, AllPairs}
 use Rattle.std.specs.List.{flat_map}
 use Rattle.frame_link.specs.declared.outcome.Outcome.{Outcome}
@@ -12,6 +9,7 @@ use Rattle.taos_monitor.specs.Cells.{Node, Journals, Place, IsAfter}
 use Rattle.taos_monitor.specs.Credentials.{LinkCall}
 use Rattle.taos_monitor.specs.Course.{Arrival, Course}
 
+-- a frame with its reply, and what its course used
 pub record Turn : Type 0 where
   pub frame : List ℕ
   pub readings : List ℕ
@@ -19,29 +17,38 @@ pub record Turn : Type 0 where
   pub places : List Place
   pub sent : Sent
 
+-- the frames of turns
 abbrev pub frames_of : List Turn → List (List ℕ)
 frames_of turns = map (λ (t : Turn). t.frame) turns
 
+-- the readings of the clock in turns
 abbrev pub readings_of : List Turn → List ℕ
 readings_of turns = flat_map (λ (t : Turn). t.readings) turns
 
+-- the calls of the link in turns
 abbrev pub calls_of : List Turn → List LinkCall
 calls_of turns = flat_map (λ (t : Turn). t.calls) turns
 
+-- the own places of turns
 abbrev pub places_of : List Turn → List Place
 places_of turns = flat_map (λ (t : Turn). t.places) turns
 
+-- the replies of turns, as bytes
 abbrev pub replies_of : List Turn → List (List ℕ)
 replies_of turns = map (λ (t : Turn). spelling t.sent) turns
 
+-- the course of a turn stands in the journals
 abbrev pub IsCourse : Node → Journals → Turn → Type 0
 IsCourse n J t = Course n J t.frame t.readings t.calls t.places t.sent
 
+-- each frame has its turn; but where the clock failed, one frame more came to it
 abbrev pub AreTurns : Node → Outcome → List Turn → List (List ℕ) → List LinkCall → Type 0
 AreTurns n ClockFault turns frames calls =
     (last : List ℕ) × (t : Arrival n last) × (frames ≡ frames_of turns ++ last ∷ []) × (calls ≡ calls_of turns ++ t.calls)
 AreTurns n _ turns frames calls = (frames ≡ frames_of turns) × (calls ≡ calls_of turns)
 
+-- The frames have one course each, in order, with these readings and answers of the link in theirs;
+-- these places are own, and no others.
 pub record Answered (n : Node) (J : Journals) (own : List Place) (frames replies : List (List ℕ)) (outcome : Outcome) (readings : List ℕ) (calls : List LinkCall) : Type 0 where
   pub turns : List Turn
   pub courses : All (IsCourse n J) turns

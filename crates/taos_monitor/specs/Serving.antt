@@ -54,8 +54,10 @@ module _ (n : Node) (alone : Bool) (says : Option (ℕ → List ℕ → Said)) w
   pub record EndsWith (limit : ℕ) (w0 w1 : World) (Last : ℕ → Option (List ℕ) → Type 0) : Type 0 where
     pub count : ℕ
     pub few : count ≤ limit
+    -- what contracts see between the last whole frame and what came after it
     pub middle : World
     pub progress : Progress count w0 middle
+    -- nothing but the input changed after the whole frames
     pub same : w1 ≡ record { input = w1.input; output = middle.output; clock = middle.clock; faults = middle.faults; seen = middle.seen }
     pub last : Last count middle.input
 
@@ -63,6 +65,7 @@ module _ (n : Node) (alone : Bool) (says : Option (ℕ → List ℕ → Said)) w
   pub record EndsInReply (limit : ℕ) (w0 w1 : World) : Type 0 where
     pub count : ℕ
     pub few : count < limit
+    -- what contracts see before the frame whose reply was cut
     pub middle : World
     pub progress : Progress count w0 middle
     pub payload : List ℕ
@@ -73,6 +76,7 @@ module _ (n : Node) (alone : Bool) (says : Option (ℕ → List ℕ → Said)) w
   pub record EndsAtClock (limit : ℕ) (w0 w1 : World) : Type 0 where
     pub count : ℕ
     pub few : count < limit
+    -- what contracts see before the frame that came to the clock
     pub middle : World
     pub progress : Progress count w0 middle
     pub payload : List ℕ
@@ -91,6 +95,7 @@ module _ (n : Node) (alone : Bool) (says : Option (ℕ → List ℕ → Said)) w
   Serves limit w0 w1 ClockFault = EndsAtClock limit w0 w1
   Serves limit w0 w1 NoMemory = (w1 ≡ w0) × AreLegal n w1.seen.journals
 
+-- the count of the fault that is answered rose, and each other stayed as it was
 abbrev pub TurnsCause : ℕ → ℕ → ℕ → ℕ → Turned → Type 0
 TurnsCause out0 out1 clock0 clock1 turned.Replied = (out1 ≡ out0) × (clock1 ≡ clock0)
 TurnsCause out0 out1 clock0 clock1 turned.WriteFault = Rose out0 out1 × (out0 ≤ out1) × (clock1 ≡ clock0)

@@ -35,6 +35,7 @@ impl Model for ReplyBuf {
 
     ghost view = { λ b. b.bytes.items };
 
+    // There is memory for every reply but a grant.
     ghost invariant = { λ b. 256 ≤ vec_capacity b.bytes };
 }
 

@@ -17,6 +17,7 @@ pub struct Shown<'a> {
 
 /// The objects of a node, by their numbers.
 pub trait Shelf {
+    /// The objects that are looked up.
     ghost objects: { Self → List ObjectPlan };
 
     /// The object of a number. It is within the limits of an object.

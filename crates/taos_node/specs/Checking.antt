@@ -1,12 +1,5 @@
--- What is found in a request and its reply, without a clock and without the node: the first thing that is wrong with them, or that
--- the reply's proof gives what it grants. Each record has what was right up to there.
---     IsAsked o payload r key      the payload is this request, under the seal of its channel's key
---     HasAsked o request r key      the first frame is such a payload
---     HasReplied, IsBelieved o request reply ..      the second is a reply; it answers that request, under the same key
---     IsGrant, IsForObject, IsForEntry ..      it is a grant, for an object that is there, by an entry that has the right
---     IsProved ..      its proof proves that one principal speaks for another
---     Finds o request reply finding      the whole, one case for each finding
---     Stops ..      the same, or want of memory
+-- What is found in a request and its reply, without a clock and without the node: the first thing
+-- that is wrong with them, or that the reply's proof gives what it grants.
 use Rattle.std.specs.Prelude.{◌≡◌, ◌≢◌, ℕ, Bool, List, length, map, Option, Some, None, slice_get}
 use Rattle.keyed_seal.specs.Keys.{key_of}
 use Rattle.object_core.specs.Operation.{right_of}
@@ -26,57 +19,65 @@ use Rattle.taos_node.specs.declared.finding.CheckWord.TheVariants as word
 use Rattle.taos_node.specs.declared.finding.Finding.{Finding}
 use Rattle.taos_node.specs.declared.finding.Finding.TheVariants.{Granted, Refused}
 
+-- the payload is this request, under the seal of its channel's key
 pub record IsAsked (o : Opening) (payload : List ℕ) (r : Request) (key : List ℕ) : Type 0 where
   pub spelled : Spells r payload
   pub keyed : key_of o.channels r.channel ≡ Some key
   pub seal : IsSealed key payload
 
--- the payload of the first frame, where that is there
+-- the first frame is there and its payload is this request; like each record that follows, it has
+-- what was right up to there
 pub record HasAsked (o : Opening) (request : Option (List ℕ)) (r : Request) (key : List ℕ) : Type 0 where
   pub payload : List ℕ
   pub there : request ≡ Some payload
   pub asked : IsAsked o payload r key
 
 module _ (o : Opening) (request reply : Option (List ℕ)) where
-  -- a reply to a channel's request of a number
+  -- the second frame is there, and is a reply to this number of a channel
   pub record HasReplied (r : Request) (key bytes : List ℕ) (channel seq : ℕ) (a : answers.Reply) : Type 0 where
     pub asked : HasAsked o request r key
     pub there : reply ≡ Some bytes
     pub spelled : SpellsReply channel seq a bytes
 
-  -- to that request's channel and number, under the channel's key
+  -- the reply is to that request's channel and number, under the channel's key
   pub record IsBelieved (r : Request) (key : List ℕ) (a : answers.Reply) : Type 0 where
     pub bytes : List ℕ
     pub replied : HasReplied r key bytes r.channel r.seq a
     pub seal : IsSealed key bytes
 
+  -- the reply is a grant, by these lines and certificates
   pub record IsGrant (r : Request) (entry : ℕ) (lines : List Line) (certs : List Certificate) : Type 0 where
     pub key : List ℕ
     pub kept : Bool
     pub shard : ℕ
     pub place : ℕ
+    -- the object's content, as the reply has it
     pub result : List ℕ
     pub believed : IsBelieved r key (answers.Granted kept entry shard place lines certs result)
 
+  -- the reply is a grant, for an object that is there
   pub record IsForObject (r : Request) (entry : ℕ) (lines : List Line) (certs : List Certificate) (object : ObjectPlan) : Type 0 where
     pub grant : IsGrant r entry lines certs
     pub there : plan_of o.objects r.object ≡ Some object
 
+  -- the reply is a grant for an object, by an entry of its list that has the right
   pub record IsForEntry (r : Request) (entry : ℕ) (lines : List Line) (certs : List Certificate) (g : Grant) : Type 0 where
     pub object : ObjectPlan
     pub found : IsForObject r entry lines certs object
     pub listed : slice_get object.list entry ≡ Some g
     pub has_right : HasRight g (right_of r.op)
 
-  -- by the file's anchors and the reply's certificates
+  -- the lines prove the fact by the file's anchors and the reply's certificates
   abbrev pub Gives : List Line → List Certificate → Judgement → Type 0
   Gives lines certs fact = Proves o.anchors (map claim_of certs) lines fact
 
+  -- the reply is such a grant, whose lines prove that left speaks for right
   pub record IsProved (r : Request) (entry : ℕ) (lines : List Line) (certs : List Certificate) (g : Grant) (left right : Principal) : Type 0 where
     pub granted : IsForEntry r entry lines certs g
     pub proves : Gives lines certs (SpeaksFor left right)
 
-  -- The first thing that is wrong is named. Where nothing is, the proof proves that the request's subject speaks for the entry.
+  -- What is found, one case for each finding: the first thing that is wrong; where nothing is, the
+  -- proof proves that the request's subject speaks for the entry.
   pub data Finds : Finding → Type 0 where
     no_request : ((payload : List ℕ) (r : Request) → request ≡ Some payload → Spells r payload → ⊥) → Finds (Refused word.Request)
     no_channel : (payload : List ℕ) (r : Request) → request ≡ Some payload → Spells r payload → key_of o.channels r.channel ≡ None →
@@ -103,7 +104,7 @@ module _ (o : Opening) (request reply : Option (List ℕ)) where
     grants : (r : Request) (entry : ℕ) (lines : List Line) (certs : List Certificate) (g : Grant) →
         IsProved r entry lines certs g (subject_of r) g.who → Finds (Granted entry (length lines) (length certs))
 
--- why no more is looked at: the first thing that is wrong, or want of memory
+-- why no more is looked at: the first thing that is wrong, or out of memory
 abbrev pub Stops : Opening → Option (List ℕ) → Option (List ℕ) → Stop → Type 0
 Stops o request reply (Wrong w) = Finds o request reply (Refused w)
 Stops o request reply NoMemory = Unit {0}

@@ -1,5 +1,4 @@
 -- How a run ended, as its exit status.
---     status_of ending      the exit status
 use Rattle.std.specs.Prelude.{ℕ}
 use Rattle.frame_link.specs.declared.outcome.Outcome.{Outcome}
 use Rattle.frame_link.specs.declared.outcome.Outcome.TheVariants.{End, Truncated, TooLong, ReadFault, WriteFault, ClockFault, Spent, NoMemory}
@@ -12,13 +11,14 @@ use Rattle.taos_node.specs.declared.check.CheckEnd.{CheckEnd}
 use Rattle.taos_node.specs.declared.check.CheckEnd.TheVariants as ends
 use Rattle.taos_node.specs.Findings.{finding_status}
 
--- where no connection was served, for the file's sake
+-- the exit status where the file is not served
 abbrev pub file_status : FileFault → ℕ
 file_status (Malformed offset) = 2
 file_status TooLarge = 2
 file_status fault.ReadFault = 3
 file_status fault.NoMemory = 6
 
+-- the exit status where a connection was served
 abbrev pub served_status : Outcome → ℕ
 served_status (End frames) = 0
 served_status ReadFault = 3
@@ -29,12 +29,14 @@ served_status (Truncated have) = 7
 served_status (TooLong n) = 8
 served_status (Spent frames) = 10
 
+-- the exit status where a request and its reply were looked over
 abbrev pub checked_status : CheckEnd → ℕ
 checked_status (ends.Done finding) = finding_status finding
 checked_status ends.ReadFault = 3
 checked_status ends.WriteFault = 4
 checked_status ends.NoMemory = 6
 
+-- the exit status of an ending
 abbrev pub status_of : Ending → ℕ
 status_of Usage = 1
 status_of (File fault) = file_status fault

@@ -1,9 +1,4 @@
--- A finding in words, and as an exit status; and what reading two frames and writing a finding does.
---     finding_line f      the line that is printed
---     finding_status f      the exit status
---     TakesFrame, TakesFrames ..      the next frame, and both, where they are there
---     Checks ..      what is done, by how it ends
---     CheckCauses ..      when a fault is answered
+-- A finding in words and as an exit status, and what reading two frames and writing a finding does.
 use Rattle.std.specs.Prelude.{◌≡◌, ℕ, ◌<◌, ◌≤◌, List, [], ◌++◌, length, Option, Some, None, codes, decimal}
 use Rattle.std.specs.Int.{w32, to_be_bytes}
 use Rattle.std.specs.Io.KnownBytes.{Keeps, Appends, Consumes}
@@ -23,6 +18,7 @@ use Rattle.taos_node.specs.declared.finding.CheckWord.TheVariants as word
 use Rattle.taos_node.specs.declared.finding.Finding.{Finding}
 use Rattle.taos_node.specs.declared.finding.Finding.TheVariants.{Granted, Refused}
 
+-- the word that names what is wrong
 abbrev pub word_text : CheckWord → List ℕ
 word_text word.Request = codes "request"
 word_text word.Channel = codes "channel"
@@ -36,10 +32,12 @@ word_text word.Entry = codes "entry"
 word_text word.Proof = codes "proof"
 word_text word.Conclusion = codes "conclusion"
 
+-- the line that is printed
 abbrev pub finding_line : Finding → List ℕ
 finding_line (Granted entry lines certs) = codes "granted entry " ++ decimal entry ++ codes " lines " ++ decimal lines ++ codes " certificates " ++ decimal certs ++ codes "\n"
 finding_line (Refused w) = codes "refused: " ++ word_text w ++ codes "\n"
 
+-- the exit status of a finding
 abbrev pub finding_status : Finding → ℕ
 finding_status (Granted entry lines certs) = 0
 finding_status (Refused w) = 11
@@ -63,8 +61,9 @@ abbrev pub TakesFrame : ℕ → Option (List ℕ) → Option (List ℕ) → Opti
 TakesFrame limit before after (Some payload) = Takes limit before after payload next.Frame
 TakesFrame limit before after None = (other : Next) × IsMissing other × Takes limit before after [] other
 
--- behind a frame that is there
+-- after a frame that is there, this holds of what the input has left
 pub record TakesBehind (before : Option (List ℕ)) (payload : List ℕ) (Then : Option (List ℕ) → Type 0) : Type 0 where
+  -- what the input has left after the first frame
   pub middle : Option (List ℕ)
   pub first : TakesFrame max_request before middle (Some payload)
   pub behind : Then middle
@@ -79,7 +78,7 @@ abbrev pub HaltsAt : ℕ → Option (List ℕ) → Option (List ℕ) → Halt �
 HaltsAt limit before after halt.ReadFault = Takes limit before after [] next.ReadFault
 HaltsAt limit before after halt.NoMemory = (n : ℕ) × (n ≤ limit) × Consumes before after (to_be_bytes w32 n)
 
--- in the first frame or in the second
+-- a read failed, or memory was refused, in the first frame or in the second
 pub data Halts (before after : Option (List ℕ)) (why : Halt) : Type 0 where
   at_request : HaltsAt max_request before after why → Halts before after why
   at_reply : (payload : List ℕ) → TakesBehind before payload (λ middle. HaltsAt max_reply middle after why) → Halts before after why
@@ -98,7 +97,7 @@ pub data LacksMemory (in0 in1 : Option (List ℕ)) : Type 0 where
   for_frame : Halts in0 in1 halt.NoMemory → LacksMemory in0 in1
   behind_frames : (request reply : Option (List ℕ)) → TakesFrames in0 in1 request reply → LacksMemory in0 in1
 
--- the line of the finding was written, or a proper front of it
+-- what is done, by how it ends: the line of the finding was written, or a proper front of it
 abbrev pub Checks : Opening → Option (List ℕ) → Option (List ℕ) → Option (List ℕ) → Option (List ℕ) → CheckEnd → Type 0
 Checks o in0 in1 out0 out1 (ends.Done finding) = Shows o in0 in1 finding × Appends out0 out1 (finding_line finding)
 Checks o in0 in1 out0 out1 ends.WriteFault =

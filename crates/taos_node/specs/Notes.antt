@@ -1,6 +1,4 @@
 -- The note of an ending: one line, but none for success, nor where a check found anything.
---     note_of ending      its bytes
---     IsNoted ..      it was written, or a proper front of it where the notes failed
 use Rattle.std.specs.Prelude.{◌≡◌, ℕ, ◌<◌, ◌≤◌, List, [], ◌++◌, length, Option, codes, decimal}
 use Rattle.std.specs.Io.KnownBytes.{Appends}
 use Rattle.frame_link.specs.declared.outcome.Outcome.{Outcome}
@@ -14,12 +12,14 @@ use Rattle.taos_node.specs.declared.ending.Ending.TheVariants.{Usage, File, Serv
 use Rattle.taos_node.specs.declared.check.CheckEnd.{CheckEnd}
 use Rattle.taos_node.specs.declared.check.CheckEnd.TheVariants as ends
 
+-- the note where the file is not served
 abbrev pub file_note : FileFault → List ℕ
 file_note (Malformed offset) = codes "taos: node file: byte " ++ decimal offset ++ codes ": malformed\n"
 file_note TooLarge = codes "taos: node file: line 0: limit\n"
 file_note fault.ReadFault = codes "taos: read fault\n"
 file_note fault.NoMemory = codes "taos: no memory\n"
 
+-- the note where a connection was served
 abbrev pub served_note : Outcome → List ℕ
 served_note (End frames) = []
 served_note ReadFault = codes "taos: read fault\n"
@@ -30,19 +30,22 @@ served_note (Truncated have) = codes "taos: input ends inside a frame, " ++ deci
 served_note (TooLong n) = codes "taos: frame too long: " ++ decimal n ++ codes "\n"
 served_note (Spent frames) = codes "taos: frames spent: " ++ decimal frames ++ codes "\n"
 
+-- the note where a request and its reply were looked over
 abbrev pub checked_note : CheckEnd → List ℕ
 checked_note (ends.Done finding) = []
 checked_note ends.ReadFault = codes "taos: read fault\n"
 checked_note ends.WriteFault = codes "taos: write fault\n"
 checked_note ends.NoMemory = codes "taos: no memory\n"
 
+-- the bytes of the note of an ending
 abbrev pub note_of : Ending → List ℕ
 note_of Usage = codes "taos: usage\n"
 note_of (File fault) = file_note fault
 note_of (Served outcome) = served_note outcome
 note_of (Checked end) = checked_note end
 
--- what was told of the notes, and how often they had failed, before and after
+-- the note was written, or a proper front of it where the notes failed; what was told of the notes,
+-- and how often they had failed, before and after
 pub data IsNoted (before after : Option (List ℕ)) (faults0 faults1 : ℕ) (note : List ℕ) : Type 0 where
   whole : faults1 ≡ faults0 → Appends before after note → IsNoted before after faults0 faults1 note
   cut : (part more : List ℕ) → note ≡ part ++ more → 0 < length more → faults0 ≤ faults1 → Rose faults0 faults1 → Appends before after part →

@@ -1,9 +1,4 @@
 -- The node that an opening opens.
---     numbers_of channels      the numbers of channels
---     its_plans o channels      what its shards are opened with
---     IsNodeOf o n      the node has what the opening says, its channels by ascending number
---     nothing_seen      journals without entries
---     IsOpenedBy o node      the program's node is one of the opening, and its journals are empty
 use Rattle.std.specs.Prelude.{◌≡◌, ℕ, List, [], length, map}
 use Rattle.std.specs.List.Sorted.{IsStrictlyIncreasing}
 use Rattle.std.specs.Option.{option_map}
@@ -17,16 +12,19 @@ use Rattle.taos_monitor.specs.Arriving.{node_of}
 use Rattle.taos_monitor.specs.Cells.{ObjectPlan, object_of, Node, Seen, seen_of}
 use Rattle.taos_node.specs.declared.opened.OpenNode.{OpenNode}
 
+-- the numbers of channels
 abbrev pub numbers_of : Entries → List ℕ
 numbers_of channels = map (λ (c : ℕ × List ℕ). c.0) channels
 
+-- what the node's shards are opened with
 abbrev pub its_plans : Opening → Entries → List Plan
 its_plans o channels = plans_for (numbers_of channels) o.shards o.anchors o.commons o.keep o.limit
 
+-- an object of the opening, as one of the node
 abbrev pub as_cell : plain.ObjectPlan → ObjectPlan
 as_cell p = record { number = p.number; content = p.content; list = p.list }
 
--- its keys and objects by their numbers, and one shard for each number below that of the shards
+-- the node has what the opening says, its channels by ascending number
 pub record IsNodeOf (o : Opening) (n : Node) : Type 0 where
   pub number : n.number ≡ o.node
   pub relay_key : n.relay_key ≡ o.relay_key
@@ -36,9 +34,11 @@ pub record IsNodeOf (o : Opening) (n : Node) : Type 0 where
   pub objects : (number : ℕ) → object_of n.objects number ≡ option_map as_cell (plan_of o.objects number)
   pub plans : n.plans ≡ its_plans o n.channels
 
+-- journals without entries
 abbrev pub nothing_seen : Seen
 nothing_seen = seen_of (λ shard. []) (λ shard. [])
 
+-- the program's node is one of the opening, and its journals are empty
 pub record IsOpenedBy (o : Opening) (node : OpenNode) : Type 0 where
   pub is_node : IsNodeOf o (node_of node.keys (plans_in node.shards.shards) node.shelf)
   pub unseen : seen_of (λ shard. seen_in node.shards.shards shard) (λ shard. own_in node.shards shard) ≡ nothing_seen

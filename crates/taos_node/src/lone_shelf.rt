@@ -27,6 +27,7 @@ impl Model for LoneShelf {
 
     ghost view = { λ s. listed s.objects.entries };
 
+    // Each object that a look-up finds is within the limits.
     ghost invariant = { λ s. AllFit (listed s.objects.entries) };
 }
 

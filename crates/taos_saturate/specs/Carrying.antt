@@ -1,7 +1,4 @@
 -- Carrying facts over to the table of their own terms.
---     FactFits nodes new fact      the new table is not too large with the fact's terms in it
---     CarriesLines nodes used lines new out      out are the lines over the table of their own terms, with their certificates by the places in used
---     CarriesFact nodes old new fact carried      the new table has grown by the fact's terms, and the carried fact says the same
 use Rattle.std.specs.Prelude.{◌≡◌, ℕ, List, [], Some, slice_get, length}
 use Rattle.std.specs.List.{flat_map}
 use Rattle.taos_calculus.specs.declared.line.Node.{Node}
@@ -13,20 +10,25 @@ use Rattle.taos_calculus.specs.declared.line.Line.{Line}
 use Rattle.taos_saturate.specs.Citing.{IsRecited}
 use Rattle.taos_saturate.specs.Interning.{Fits}
 
+-- the new table is not too large with the fact's terms in it
 abbrev pub FactFits : List Node → List Node → Fact → Type 0
 FactFits nodes new fact = Fits new (flat_map post_order (terms_of (judgement (named nodes) fact)))
 
+-- the new table has grown by the fact's terms, and the carried fact says the same
 pub record CarriesFact (nodes old new : List Node) (fact carried : Fact) : Type 0 where
   pub table : IsNodeTable new
   pub grown : principals_of new ≡ met (principals_of old) (flat_map post_order (terms_of (judgement (named nodes) fact)))
   pub below : IsBelow (length new) carried
   pub says : judgement (named new) carried ≡ judgement (named nodes) fact
 
+-- the line m over the new table says what l says, with its certificate by the place in used
 pub record IsCarriedLine (nodes : List Node) (used : List ℕ) (new : List Node) (l m : Line) : Type 0 where
   pub below : IsBelow (length new) m.fact
   pub says : judgement (named new) m.fact ≡ judgement (named nodes) l.fact
   pub recited : IsRecited used l.step m.step
 
+-- out are the lines over the table of their own terms, with their certificates by the places in
+-- used
 pub record CarriesLines (nodes : List Node) (used : List ℕ) (lines : List Line) (new : List Node) (out : List Line) : Type 0 where
   pub table : IsNodeTable new
   pub grown : principals_of new ≡ met [] (flat_map post_order (flat_map (λ (l : Line). terms_of (judgement (named nodes) l.fact)) lines))

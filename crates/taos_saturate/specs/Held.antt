@@ -1,8 +1,4 @@
 -- A decider with what it was asked.
---     IsReserved h      there is room for the largest question
---     seen h      what it was asked
---     IsGathered h      the question is taken in, and nothing is decided yet
---     IsHeld h      all that is derivable about the question is known
 use Rattle.std.specs.Prelude.{◌≡◌, ℕ, ◌<◌, ◌≤◌, List, Some, slice_get, length, map, All, vec_capacity}
 use Rattle.taos_calculus.specs.declared.decide.TheConstants.{MAX_ANCHORS, MAX_CERTS, MAX_ENTRIES}
 use Rattle.taos_calculus.specs.declared.proof.TheConstants.{MAX_LINES, MAX_NODES}
@@ -13,6 +9,7 @@ use Rattle.taos_saturate.specs.declared.held.Held.{Held}
 use Rattle.taos_saturate.specs.Gathering.{CitedIn, chosen_by, statement_of}
 use Rattle.taos_saturate.specs.Saturating.{IsGood}
 
+-- there is room for the largest question
 pub record IsReserved (h : Held) : Type 0 where
   pub nodes : MAX_NODES ≤ vec_capacity h.table.nodes
   pub anchors : MAX_ANCHORS ≤ vec_capacity h.table.anchors
@@ -22,6 +19,7 @@ pub record IsReserved (h : Held) : Type 0 where
   pub lines : MAX_LINES ≤ vec_capacity h.table.found.lines
   pub list : MAX_ENTRIES ≤ vec_capacity h.list
 
+-- what the decider was asked
 abbrev pub seen : Held → Question
 seen h = record {
   anchors = h.table.anchors.items;
@@ -34,6 +32,7 @@ seen h = record {
 abbrev pub ArePlacesApart : List (ℕ × Claim) → Type 0
 ArePlacesApart chosen = (i j place : ℕ) (x y : Claim) → slice_get chosen i ≡ Some (place, x) → slice_get chosen j ≡ Some (place, y) → i ≡ j
 
+-- the question is taken in; nothing need be decided yet
 pub record IsGathered (h : Held) : Type 0 where
   pub table : IsNodeTable h.table.nodes.items
   pub few : length h.table.nodes.items ≤ MAX_NODES
@@ -44,12 +43,15 @@ pub record IsGathered (h : Held) : Type 0 where
   pub subject_in : h.subject < length h.table.nodes.items
   pub list_in : All (λ i. i < length h.table.nodes.items) h.list.items
 
+-- all that is derivable about the question is known
 pub record IsHeld (h : Held) : Type 0 where
   pub reserved : IsReserved h
   pub good : IsGood h.table
   pub few_nodes : length h.table.nodes.items ≤ MAX_NODES
+  -- the table has no more cells than there may be lines
   pub few_cells : length h.table.found.numbers.items ≤ MAX_LINES
   pub few_cited : length h.table.cited.items ≤ MAX_CERTS
   pub subject_in : h.subject < length h.table.nodes.items
   pub list_in : All (λ i. i < length h.table.nodes.items) h.list.items
+  -- no place comes twice among the chosen
   pub apart : ArePlacesApart (seen h).chosen

@@ -1,7 +1,4 @@
 -- Taking principals into a table of nodes.
---     IsRoomy nodes      operands come first, no node comes twice, and there is room for the largest table
---     Fits nodes ps      the table is not too large with all of ps in it
---     TakesIn old new ps p id      the table has grown by what was not there of ps, and p has the number id
 use Rattle.std.specs.Prelude.{◌≡◌, ℕ, ◌<◌, ◌≤◌, List, length}
 use Rattle.prin_term.specs.Kind.{Kind, And, Quoting, For}
 use Rattle.prin_term.specs.Principal.{Principal}
@@ -10,13 +7,17 @@ use Rattle.taos_calculus.specs.declared.proof.TheConstants.{MAX_NODES}
 use Rattle.stmt_codec.specs.Distinct.{met}
 use Rattle.taos_calculus.specs.Tables.{IsNodeTable, named, principals_of}
 
+-- operands come first, no node comes twice, and there is room for the largest table
 pub record IsRoomy (nodes : List Node) (capacity : ℕ) : Type 0 where
   pub table : IsNodeTable nodes
+  -- the memory is enough for the largest table
   pub room : MAX_NODES ≤ capacity
 
+-- the table is not too large with all of these principals in it
 abbrev pub Fits : List Node → List Principal → Type 0
 Fits nodes ps = length (met (principals_of nodes) ps) ≤ MAX_NODES
 
+-- the table has grown by what was not there of ps, and p has the number id
 pub record TakesIn (old new : List Node) (ps : List Principal) (p : Principal) (id : ℕ) : Type 0 where
   pub table : IsNodeTable new
   pub grown : principals_of new ≡ met (principals_of old) ps

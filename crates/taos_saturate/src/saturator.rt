@@ -107,6 +107,7 @@ impl Model for Saturator {
 
     ghost view = { λ s. seen s.held };
 
+    // All that is derivable about the question is known.
     ghost invariant = { λ s. IsHeld s.held };
 }
 

@@ -1,10 +1,4 @@
 -- Fields that every message has, read at an offset with the faults of messages.
---     ended bytes      the fault of bytes that are lacking
---     IsPlaceIn bytes fault      the fault's place is one of the bytes, or behind the last
---     u8_in, u16_in, u32_in, u64_in      a number, and the offset after it
---     within low high r      a number that lies between the two; another is refused at its first byte
---     at_most most r      a number that is not above; another is refused at its first byte
---     term_in nodes bytes      a term of at most so many nodes
 use Rattle.std.specs.Prelude.{ℕ, ◌≤◌, Bool, ◌&&◌, List, length, nat_le}
 use Rattle.std.specs.Int.{w16, w32, w64}
 use Rattle.prin_term.specs.declared.fault.TermFault.{TermFault}
@@ -20,35 +14,44 @@ use Rattle.taos_calculus.specs.declared.fault.ProofFault.TheVariants as proofs
 use Rattle.taos_wire.specs.declared.fault.WireFault.{WireFault}
 use Rattle.taos_wire.specs.declared.fault.WireFault.TheVariants.{Malformed, NoMemory}
 
+-- a reader of some bytes, with the faults of messages
 abbrev pub WireReader : Type 0 → Type 0
 WireReader A = Reader A WireFault
 
+-- the fault of bytes that are lacking, whose place is the end of the bytes
 abbrev pub ended : List ℕ → WireFault
 ended bytes = Malformed (length bytes)
 
--- want of memory has no place
+-- the fault's place is one of the bytes, or right after the last; out of memory has no place
 abbrev pub IsPlaceIn : List ℕ → WireFault → Type 0
 IsPlaceIn bytes (Malformed o) = o ≤ length bytes
 IsPlaceIn bytes NoMemory = Unit {0}
 
+-- a number of one byte, and the offset after it
 abbrev pub u8_in : List ℕ → WireReader ℕ
 u8_in bytes = byte_at (ended bytes) bytes
 
+-- a number of two bytes, and the offset after it
 abbrev pub u16_in : List ℕ → WireReader ℕ
 u16_in bytes = number_at (ended bytes) w16 bytes
 
+-- a number of four bytes, and the offset after it
 abbrev pub u32_in : List ℕ → WireReader ℕ
 u32_in bytes = number_at (ended bytes) w32 bytes
 
+-- a number of eight bytes, and the offset after it
 abbrev pub u64_in : List ℕ → WireReader ℕ
 u64_in bytes = number_at (ended bytes) w64 bytes
 
+-- the number lies between the two, or is one of them
 abbrev pub is_within : ℕ → ℕ → ℕ → Bool
 is_within low high n = nat_le low n && nat_le n high
 
+-- a number that lies between the two; another is refused at its first byte
 abbrev pub within : ℕ → ℕ → WireReader ℕ → WireReader ℕ
 within low high r = passing (is_within low high) Malformed r
 
+-- a number that is not above; another is refused at its first byte
 abbrev pub at_most : ℕ → WireReader ℕ → WireReader ℕ
 at_most most r = passing (λ n. nat_le n most) Malformed r
 
@@ -60,14 +63,16 @@ seen_as (terms.TooDeep o) = Malformed o
 seen_as (terms.TooLarge o) = Malformed o
 seen_as terms.NoMemory = NoMemory
 
--- a body's, and a proof's
+-- a body's fault, as a message's
 abbrev pub seen_as_body : BodyFault → WireFault
 seen_as_body (bodies.Malformed o) = Malformed o
 seen_as_body bodies.NoMemory = NoMemory
 
+-- a proof's fault, as a message's
 abbrev pub seen_as_proof : ProofFault → WireFault
 seen_as_proof (proofs.Malformed o) = Malformed o
 seen_as_proof proofs.NoMemory = NoMemory
 
+-- a term of at most so many nodes
 abbrev pub term_in : ℕ → List ℕ → WireReader Principal
 term_in nodes bytes at = with_fault seen_as (term_at nodes bytes at)

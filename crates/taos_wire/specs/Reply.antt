@@ -1,11 +1,4 @@
 -- Replies as values, and the bytes of each.
---     Reply, LinkSent      what is answered; what a denial names
---     reply_text channel seq r      its one spelling behind a channel and a number, up to the tag
---     FitsReply r      it is within the limits
---     SpellsReply channel seq r bytes      the bytes are those of the reply, under some tag
---     Sent      a reply with the channel and the number that it answers, and the key that seals it
---     sealed key request r, unsealed r      the reply to a request; the one before a seal is checked
---     spelling s      its bytes, with their tag
 use Rattle.std.specs.Prelude.{◌≡◌, ℕ, ◌<◌, ◌≤◌, ◌^◌, Bool, true, false, List, [], ◌∷◌, ◌++◌, length, All, Option, Some, None, replicate}
 use Rattle.std.specs.List.{flat_map}
 use Rattle.std.specs.Int.{w16, w32, w64, to_be_bytes}
@@ -30,52 +23,71 @@ pub data LinkSent : Type 0 where
   Missing : (entry : ℕ) (part : Principal) → LinkSent
   NoEntry : LinkSent
 
+-- what is answered; a shard and a place are those of the journal entry that it was answered at
 pub data Reply : Type 0 where
+  -- `entry` is the list's entry that gives the right, by the proof and its certificates; `kept`
+  -- tells that the proof was kept from an earlier request; `result` is what the operation gives
   Granted : (kept : Bool) (entry shard place : ℕ) (proof : List Line) (certs : List Certificate) (result : List ℕ) → Reply
+  -- the live certificates do not give the right; the link names the first thing that is missing
   Denied : (shard place : ℕ) (link : LinkSent) → Reply
+  -- the byte at the offset can't stand there
   Malformed : (offset : ℕ) → Reply
+  -- the node has no key of this channel
   UnknownChannel : (number : ℕ) → Reply
+  -- the request does not end in the tag of its channel's key
   BadSeal : Reply
+  -- the channel had already come to this number
   Replayed : (last : ℕ) → Reply
+  -- the certificate of this index was refused, for the reason that the code names
   CertRefused : (index code : ℕ) → Reply
+  -- the channel holds this many certificates, and no more fit
   ChannelFull : (held : ℕ) → Reply
+  -- the relay did not answer for the certificate of this index
   RelayFailed : (index : ℕ) → Reply
+  -- the node has no object of this number
   UnknownObject : (number : ℕ) → Reply
+  -- `which` is 0 for the journal of an object and 1 for that of a shard; `len` is its length
   JournalFull : (which number len : ℕ) → Reply
+  -- out of memory
   NoMemory : Reply
+  -- the shard holds this many certificates in common, and no more fit
   CommonsFull : (held shard : ℕ) → Reply
+  -- no shard held the certificate with this digest
   NotHeld : (digest : List ℕ) → Reply
   -- in place of all that is not built yet
   Unbuilt : Reply
 
 -- ---- bytes
 
+-- 1 for true and 0 for false, as one byte
 abbrev pub flag : Bool → ℕ
 flag true = 1
 flag false = 0
 
--- the byte that names a link, and what the link says besides
+-- the byte that names a link, then what the link says besides
 abbrev pub link_bytes : LinkSent → List ℕ
 link_bytes (Expired entry digest) = 1 ∷ entry ∷ digest
 link_bytes (Missing entry part) = 2 ∷ entry ∷ term_spelling part
 link_bytes NoEntry = 3 ∷ []
 
--- a body behind its length
+-- a certificate's body, after its length
 unfoldable pub cert_bytes : Certificate → List ℕ
 cert_bytes c = counted w16 (body_spelling c)
 
--- certificates behind their count
+-- the certificates, after their count
 abbrev pub cited_bytes : List Certificate → List ℕ
 cited_bytes certs = length certs ∷ flat_map cert_bytes certs
 
--- a proof behind its length
+-- a proof, after its length
 unfoldable pub proof_bytes : List Line → List ℕ
 proof_bytes proof = counted w32 (proof_spelling proof)
 
+-- the fields of a grant, in their order
 abbrev pub granted_bytes : Bool → ℕ → ℕ → ℕ → List Line → List Certificate → List ℕ → List ℕ
 granted_bytes kept entry shard place proof certs result =
     flag kept ∷ entry ∷ to_be_bytes w32 shard ++ to_be_bytes w64 place ++ proof_bytes proof ++ cited_bytes certs ++ counted w16 result
 
+-- the byte that names what kind of reply it is
 abbrev pub status_of : Reply → ℕ
 status_of (Granted kept entry shard place proof certs result) = 0
 status_of (Denied shard place link) = 1
@@ -111,30 +123,34 @@ fields_of (CommonsFull held shard) = held ∷ to_be_bytes w32 shard
 fields_of (NotHeld digest) = digest
 fields_of Unbuilt = []
 
--- the version, the channel and the number that are answered
+-- the version, then the channel and the number that are answered
 abbrev pub answered_bytes : ℕ → ℕ → List ℕ
 answered_bytes channel seq = 4 ∷ to_be_bytes w32 channel ++ to_be_bytes w64 seq
 
+-- the one spelling of a reply to the number of a channel, up to the tag
 unfoldable pub reply_text : ℕ → ℕ → Reply → List ℕ
 reply_text channel seq r = answered_bytes channel seq ++ status_of r ∷ fields_of r
 
 -- ---- limits
 
--- the lines that the parts of a proof mean, whose table is the canonical one
+-- these are the lines that some parts within the limits mean, so they have a spelling
 pub record IsProof (lines : List Line) : Type 0 where
   pub parts : Parts
   pub limits : FitsProof parts
   pub meaning : lines_of parts ≡ lines
 
+-- the certificate's numbers fit their fields, and it is within the limits
 pub record FitsCited (c : Certificate) : Type 0 where
   pub numbers : HasBodySpelling c
   pub limits : IsWithinLimits c
 
+-- the entry is one byte, and the digest or the part is within the limits
 abbrev pub FitsLink : LinkSent → Type 0
 FitsLink (Expired entry digest) = IsByte entry × IsDigest digest
 FitsLink (Missing entry part) = IsByte entry × FitsLimits ENTRY_NODES part
 FitsLink NoEntry = Unit {0}
 
+-- the fields of a grant fit, and there are at most so many certificates
 pub record FitsGranted (entry shard place : ℕ) (proof : List Line) (certs : List Certificate) (result : List ℕ) : Type 0 where
   pub entry_fits : IsByte entry
   pub shard_fits : shard < 2 ^ 32
@@ -144,6 +160,7 @@ pub record FitsGranted (entry shard place : ℕ) (proof : List Line) (certs : Li
   pub certs_fit : All FitsCited certs
   pub result_fits : (length result < 2 ^ 16) × All IsByte result
 
+-- each number fits its field, and what the reply carries is within the limits
 abbrev pub FitsReply : Reply → Type 0
 FitsReply (Granted kept entry shard place proof certs result) = FitsGranted entry shard place proof certs result
 FitsReply (Denied shard place link) = (shard < 2 ^ 32) × (place < 2 ^ 64) × FitsLink link
@@ -161,30 +178,36 @@ FitsReply (CommonsFull held shard) = IsByte held × (shard < 2 ^ 32)
 FitsReply (NotHeld digest) = IsDigest digest
 FitsReply Unbuilt = Unit {0}
 
+-- the bytes are those of the reply to this number of the channel, under some tag
 pub record SpellsReply (channel seq : ℕ) (r : Reply) (bytes : List ℕ) : Type 0 where
   pub channel_fits : channel < 2 ^ 32
   pub seq_fits : seq < 2 ^ 64
   pub limits : FitsReply r
+  -- any 32 bytes after the text
   pub tag : List ℕ
   pub is_tag : IsTag tag
   pub text : bytes ≡ reply_text channel seq r ++ tag
 
 -- ---- seals
 
--- the key that seals it, if it is sealed
+-- a reply with the channel and the number that it answers, and the key that seals it, if any does
 pub record Sent : Type 0 where
+  -- the key that seals it, if any does
   pub key : Option (List ℕ)
   pub channel : ℕ
   pub seq : ℕ
   pub reply : Reply
 
+-- a reply to this number of the channel, under the key if there is one
 abbrev pub sent : Option (List ℕ) → ℕ → ℕ → Reply → Sent
 sent key channel seq reply = record { key = key; channel = channel; seq = seq; reply = reply }
 
+-- the reply to a request, under the channel's key
 abbrev pub sealed : List ℕ → Request → Reply → Sent
 sealed key r reply = sent (Some key) r.channel r.seq reply
 
--- before the seal is checked nothing of the request is believed
+-- the reply before a seal is checked: nothing of the request is believed, so channel and number
+-- are 0
 abbrev pub unsealed : Reply → Sent
 unsealed reply = sent None 0 0 reply
 
@@ -193,8 +216,10 @@ abbrev pub seal_of : Option (List ℕ) → List ℕ → List ℕ
 seal_of (Some key) text = tag_of key text
 seal_of None text = replicate 32 0
 
+-- the text, then its tag
 abbrev pub under_seal : Option (List ℕ) → List ℕ → List ℕ
 under_seal key text = text ++ seal_of key text
 
+-- the bytes that are sent, with their tag
 abbrev pub spelling : Sent → List ℕ
 spelling s = under_seal s.key (reply_text s.channel s.seq s.reply)

@@ -1,6 +1,4 @@
--- Reading a reply from left to right, with the first fault that is met. It is pinned from both sides by
--- SpellsReply (Reply.antt), which does not read: see the clauses of read_reply.
---     reply_of bytes      the channel, the number and the reply that the bytes spell, or the fault
+-- Reading a reply from left to right, with the first fault that is met.
 use Rattle.std.specs.Prelude.{ℕ, ◌+◌, Bool, ◌||◌, List, length, take, Result, Ok, Err, nat_le, nat_lt, ◌==◌, if◌then◌else◌}
 use Rattle.std.specs.Int.{w16}
 use Rattle.prin_term.specs.declared.limits.TheConstants.{ENTRY_NODES}
@@ -48,9 +46,11 @@ body_filling bytes n at = do
 unfoldable pub cert_at : List ℕ → WireReader Certificate
 cert_at bytes = made (λ x. x.1) (followed (u16_in bytes) (λ n. body_filling bytes n))
 
+-- the certificates that a proof cites, after their count
 unfoldable pub cited_at : List ℕ → WireReader (List Certificate)
 cited_at bytes = counted MAX_CITED faults.Malformed (u8_in bytes) (λ _. cert_at bytes)
 
+-- the fields of a grant
 unfoldable pub granted_at : List ℕ → WireReader Reply
 granted_at bytes =
     made (λ x. Granted (x.0 == 1) x.1.0 x.1.1.0.0 x.1.1.0.1 x.1.1.1.0 x.1.1.1.1.0 x.1.1.1.1.1)
@@ -70,14 +70,17 @@ named_at bytes kind at =
     else (if kind == 2 then made (λ x. Missing x.0 x.1) (followed (u8_in bytes) (λ _. term_in ENTRY_NODES bytes)) at
     else given NoEntry at)
 
+-- what a denial names, by the byte before it
 unfoldable pub link_at : List ℕ → WireReader LinkSent
 link_at bytes = made (λ x. x.1) (followed (within 1 3 (u8_in bytes)) (λ kind. named_at bytes kind))
 
+-- the fields of a denial
 unfoldable pub denied_at : List ℕ → WireReader Reply
 denied_at bytes = made (λ x. Denied x.0.0 x.0.1 x.1) (followed (place_at bytes) (λ _. link_at bytes))
 
 -- ---- the whole
 
+-- the byte names a kind of reply
 abbrev pub is_status : ℕ → Bool
 is_status s = nat_le s 13 || s == 255
 
@@ -100,6 +103,7 @@ fields_at bytes status at =
     else (if status == 13 then made NotHeld (bytes_at (ended bytes) 32 bytes) at
     else given Unbuilt at)))))))))))))
 
+-- the status, and the fields that it has
 unfoldable pub status_at : List ℕ → WireReader Reply
 status_at bytes = made (λ x. x.1) (followed (passing is_status faults.Malformed (u8_in bytes)) (λ status. fields_at bytes status))
 
@@ -111,7 +115,8 @@ reply_at bytes =
     (λ _. followed (status_at bytes)
     (λ _. tag_at bytes)))
 
--- nothing stands behind the tag
+-- the channel, the number and the reply that the bytes spell, or the fault: nothing stands after
+-- the tag. The clauses of `read_reply` pin it to `SpellsReply`, which does not read
 unfoldable pub reply_of : List ℕ → Result (ℕ × ℕ × Reply) WireFault
 reply_of bytes = do
   x ← reply_at bytes 0

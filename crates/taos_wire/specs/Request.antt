@@ -1,11 +1,4 @@
 -- Requests as values, and the bytes of each.
---     Request      what a channel asks
---     subject_of r      who asks
---     request_text r      its one spelling, up to the tag
---     FitsRequest r      it is within the limits
---     Spells r bytes      the bytes are those of the request, under some tag
---     sealed key r      its bytes under the tag of a key
---     IsSealed key bytes      the bytes end in the tag of those before it
 use Rattle.std.specs.Prelude.{◌≡◌, ℕ, ◌≤◌, ◌<◌, ◌^◌, List, [], ◌∷◌, ◌++◌, length, All, Option, IfSome}
 use Rattle.std.specs.List.{flat_map}
 use Rattle.std.specs.Int.{w16, w32, w64, to_be_bytes}
@@ -19,16 +12,18 @@ use Rattle.prin_term.specs.View.{Grant}
 use Rattle.stmt_codec.specs.Certificates.{key_quoting}
 use Rattle.taos_wire.specs.declared.request.TheConstants.{MAX_CERTS}
 
--- a certificate is bytes here
+-- what a channel asks; a certificate is bytes here, which are not opened yet
 pub record Request : Type 0 where
   pub channel : ℕ
+  -- the request's number in the channel's order
   pub seq : ℕ
+  -- the principal that the channel quotes, if it quotes one
   pub quoted : Option Principal
   pub object : ℕ
   pub op : Op
   pub certs : List (List ℕ)
 
--- the channel's key, or that key quoting
+-- who asks: the channel's key, or that key quoting
 abbrev pub subject_of : Request → Principal
 subject_of r = key_quoting r.channel r.quoted
 
@@ -44,10 +39,11 @@ kind_of (Discard digest) = 5
 kind_of (Forget channel) = 6
 kind_of Sweep = 7
 
+-- an entry of an access list: its rights, then who has them
 abbrev pub grant_bytes : Grant → List ℕ
 grant_bytes g = g.rights ∷ spelling g.who
 
--- what an operation says besides its name: bytes behind their length, entries behind their count
+-- what an operation says besides its name: bytes after their length, entries after their count
 abbrev pub op_fields : Op → List ℕ
 op_fields Read = []
 op_fields (Write content) = counted w16 content
@@ -57,11 +53,12 @@ op_fields (Discard digest) = digest
 op_fields (Forget channel) = to_be_bytes w32 channel
 op_fields Sweep = []
 
--- certificates behind their count, each behind its length
+-- the certificates after their count, each after its length
 abbrev pub certs_bytes : List (List ℕ) → List ℕ
 certs_bytes certs = length certs ∷ flat_map (counted w16) certs
 
--- the version, the channel, the number, and who is quoted, behind a byte that says whether anybody is
+-- the version, the channel, the number, and who is quoted, after a byte that says whether
+-- anybody is
 abbrev pub origin_bytes : ℕ → ℕ → Option Principal → List ℕ
 origin_bytes channel seq quoted = 3 ∷ to_be_bytes w32 channel ++ to_be_bytes w64 seq ++ optional spelling quoted
 
@@ -69,14 +66,17 @@ origin_bytes channel seq quoted = 3 ∷ to_be_bytes w32 channel ++ to_be_bytes w
 abbrev pub asked_bytes : ℕ → Op → List ℕ
 asked_bytes object op = kind_of op ∷ to_be_bytes w32 object ++ op_fields op
 
+-- the one spelling of a request, up to the tag
 abbrev pub request_text : Request → List ℕ
 request_text r = origin_bytes r.channel r.seq r.quoted ++ asked_bytes r.object r.op ++ certs_bytes r.certs
 
 -- ---- limits
 
+-- the bytes of a certificate, whose length fits 16 bits
 abbrev pub IsCertText : List ℕ → Type 0
 IsCertText text = (length text < 2 ^ 16) × All IsByte text
 
+-- the request's numbers fit their fields, and what it carries is within the limits
 pub record FitsRequest (r : Request) : Type 0 where
   pub channel : r.channel < 2 ^ 32
   pub seq : r.seq < 2 ^ 64
@@ -92,16 +92,19 @@ pub record FitsRequest (r : Request) : Type 0 where
 abbrev pub IsTag : List ℕ → Type 0
 IsTag tag = (length tag ≡ 32) × All IsByte tag
 
+-- the bytes are those of the request, which is within the limits, under some tag
 pub record Spells (r : Request) (bytes : List ℕ) : Type 0 where
   pub limits : FitsRequest r
   pub tag : List ℕ
   pub is_tag : IsTag tag
   pub text : bytes ≡ request_text r ++ tag
 
+-- the bytes of a request under the tag of a key
 abbrev pub sealed : List ℕ → Request → List ℕ
 sealed key r = request_text r ++ tag_of key (request_text r)
 
--- a text, and behind it its tag
+-- the bytes end in the tag, under the key, of those before it
 pub record IsSealed (key bytes : List ℕ) : Type 0 where
   pub text : List ℕ
+  -- the text, then its tag
   pub whole : bytes ≡ text ++ tag_of key text

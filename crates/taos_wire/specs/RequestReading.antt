@@ -1,6 +1,4 @@
--- Reading a request from left to right, with the first fault that is met. It is pinned from both sides by
--- Spells (Request.antt), which does not read: see the clauses of read_request.
---     request_of bytes      the request that the bytes spell, or the fault
+-- Reading a request from left to right, with the first fault that is met.
 use Rattle.std.specs.Prelude.{ℕ, Option, List, length, Result, Ok, Err, nat_lt, ◌==◌, if◌then◌else◌}
 use Rattle.std.specs.Int.{w16}
 use Rattle.object_core.specs.declared.limits.TheConstants.{MAX_CONTENT, MAX_ENTRIES, MAX_RIGHTS}
@@ -25,21 +23,25 @@ origin_at bytes =
     (followed (within 3 3 (u8_in bytes))
     (λ _. followed (u32_in bytes) (λ _. u64_in bytes)))
 
+-- who is quoted, after a byte that says whether anybody is
 unfoldable pub quoted_at : List ℕ → WireReader (Option Principal)
 quoted_at bytes at = optional_at (ended bytes) (Malformed at) (term_in QUOTED_NODES bytes) bytes at
 
 -- ---- what is asked
 
+-- an object's content, after its length
 unfoldable pub content_at : List ℕ → WireReader (List ℕ)
 content_at bytes =
     made (λ p. p.1)
     (followed (at_most MAX_CONTENT (u16_in bytes)) (λ n. bytes_at (ended bytes) n bytes))
 
+-- an entry of an access list: its rights, then who has them
 unfoldable pub entry_at : List ℕ → WireReader Grant
 entry_at bytes =
     made (λ x. record { rights = x.0; who = x.1 })
     (followed (within 1 MAX_RIGHTS (u8_in bytes)) (λ _. term_in ENTRY_NODES bytes))
 
+-- an access list, after its count
 unfoldable pub list_at : List ℕ → WireReader (List Grant)
 list_at bytes = counted MAX_ENTRIES Malformed (u8_in bytes) (λ _. entry_at bytes)
 
@@ -63,14 +65,17 @@ asked_at bytes =
 
 -- ---- certificates
 
+-- the bytes of a certificate, after their length
 unfoldable pub cert_at : List ℕ → WireReader (List ℕ)
 cert_at bytes = counted_at (ended bytes) w16 bytes
 
+-- the certificates, after their count
 unfoldable pub certs_at : List ℕ → WireReader (List (List ℕ))
 certs_at bytes = counted MAX_CERTS Malformed (u8_in bytes) (λ _. cert_at bytes)
 
 -- ---- the whole
 
+-- the 32 bytes of a tag
 unfoldable pub tag_at : List ℕ → WireReader (List ℕ)
 tag_at bytes = bytes_at (ended bytes) 32 bytes
 
@@ -84,7 +89,8 @@ request_at bytes =
     (λ _. followed (certs_at bytes)
     (λ _. tag_at bytes)))))
 
--- nothing stands behind the tag
+-- the request that the bytes spell, or the fault: nothing stands after the tag. The clauses of
+-- `read_request` pin it to `Spells`, which does not read
 unfoldable pub request_of : List ℕ → Result Request WireFault
 request_of bytes = do
   x ← request_at bytes 0

@@ -1,8 +1,4 @@
--- What the program's requests mean, without where their parts lie in memory.
---     request r      the request that it stands for
---     reply r, link l      the reply, and what a denial names
---     text_of bytes      the bytes alone
---     cited c      the certificate that a shared one stands for
+-- What the program's requests and replies mean, without where their parts lie in memory.
 use Rattle.std.specs.Prelude.{ℕ, List, Vec, map}
 use Rattle.std.specs.Arc.{arc_value}
 use Rattle.std.specs.declared.sync.Arc.{Arc}
@@ -20,9 +16,11 @@ use Rattle.taos_wire.specs.declared.reply.LinkSent.TheVariants as links
 use Rattle.taos_wire.specs.Reply.{Reply, Granted, Denied, Malformed, UnknownChannel, BadSeal, Replayed, CertRefused, ChannelFull, RelayFailed, UnknownObject, JournalFull, NoMemory, CommonsFull, NotHeld, Unbuilt, LinkSent, Expired, Missing, NoEntry}
 use Rattle.taos_wire.specs.Request.{Request}
 
+-- the bytes alone
 abbrev pub text_of : {Z : Type 0} → Vec ℕ Z → List ℕ
 text_of bytes = bytes.items
 
+-- the request that the program's one stands for
 abbrev pub request : code.Request → Request
 request r = record {
   channel = r.channel;
@@ -33,14 +31,17 @@ request r = record {
   certs = map text_of r.certs.items;
 }
 
+-- the certificate that a shared one stands for
 abbrev pub cited : {Z : Type 0} → Arc Cert Z → Certificate
 cited c = certificate (arc_value c).body
 
+-- what a denial of the program names
 abbrev pub link : code_link.LinkSent → LinkSent
 link (links.Expired entry digest) = Expired entry digest
 link (links.Missing entry part) = Missing entry (principal part)
 link links.NoEntry = NoEntry
 
+-- the reply that the program's one stands for
 abbrev pub reply : code_reply.Reply → Reply
 reply (replies.Granted kept entry shard place proof certs result) = Granted kept entry shard place (lines_of (arc_value proof)) (map cited certs.items) result.items
 reply (replies.Denied shard place l) = Denied shard place (link l)

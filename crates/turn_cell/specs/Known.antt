@@ -8,7 +8,7 @@ pub record Cell (F E : Type 0) : Type 0 where
   pub fixed : F
   pub opening : List E
 
--- a pass: `start` is the length of the opening journal, `own` the places of the entries added with it
+-- a pass: `start` is the length of the opening journal, `own` the places of entries added with it
 pub record Known (F E : Type 0) : Type 0 where
   pub cell : TableId
   pub fixed : Option F
@@ -33,6 +33,7 @@ module _ {F E : Type 0} where
       × (pass.fixed ≡ Some cell.fixed)
       × (pass.start ≡ length cell.opening)
 
+  -- the held value is of this cell
   abbrev pub IsHeldOf : Cell F E → Entered F E → Type 0
   IsHeldOf cell held = (held.cell ≡ cell.id)
       × (held.fixed ≡ Some cell.fixed)

@@ -7,6 +7,7 @@ use Rattle.turn_cell.specs.declared.view.Stage.TheVariants.{Idle, Waiting, Turn,
 use Rattle.turn_cell.specs.declared.view.View.{View}
 
 module _ {E : Type 0} where
+  -- the stage has this ticket, and waits for its turn or has it
   abbrev pub Holds : ℕ → Stage E → Type 0
   Holds ticket Idle = ⊥
   Holds ticket (Waiting t) = t ≡ ticket

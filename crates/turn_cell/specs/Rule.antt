@@ -1,6 +1,4 @@
 -- The rule of a turn cell: what holds between any two steps, whoever takes them.
--- Word 0 is the next ticket, word 1 the ticket that is served, and the slot holds the value.
--- The core's journal, `core`, is the one that all threads add to.
 use Rattle.std.specs.Prelude.{◌≡◌, ℕ, ◌<◌, ◌≤◌, ◌⊎◌, List, [], length, slice_index, sum_by, Option, Some, None}
 use mathlib.Core.Option.{some, none}
 use lib.ListN.{get_elem?}
@@ -13,6 +11,7 @@ use Rattle.turn_cell.specs.Journal.{Grows, times, once_within}
 use Rattle.turn_cell.specs.Line.{IsLined}
 
 module _ {E : Type 0} where
+  -- the stage knows its turn
   abbrev pub KnowsTurn : Stage E → Type 0
   KnowsTurn Idle = ⊥
   KnowsTurn (Waiting t) = ⊥
@@ -47,7 +46,7 @@ module _ {V F E : Type 0} where
     pub there : get_elem? s.views turn ≡ some holder
     pub knows : KnowsTurn holder.stage
     pub out : get_elem? s.homes 0 ≡ some none
-    -- no other view knows its turn, its ticket is the one that is served, and it keeps the core's journal
+    -- no other view knows its turn; its ticket is the one served, and it keeps the core's journal
     pub one_turn : (seat : ℕ) (v : View F E) → get_elem? s.views seat ≡ some v
         → AtTurn turn (slice_index s.words 1) core seat v.stage
 
@@ -91,9 +90,11 @@ module _ {V F E : Type 0} (fixed : V → F) (journal : V → List E) (allows : F
     pub live : 0 < v.shares → IsLive core v
     pub gone : v.shares ≡ 0 → v ≡ spent
 
+  -- what holds between any two steps; the slot holds the value
   pub record IsKept (s : State (Option V) (View F E)) : Type 0 where
-    -- the core's journal
+    -- the core's journal, the one that all threads add to
     pub core : List E
+    -- word 0 is the next ticket, word 1 the ticket that is served
     pub two_words : length s.words ≡ 2
     -- tickets out are the numbers from `serving` to before `ticket`, one per view that holds one
     pub line : IsLined (slice_index s.words 1) (slice_index s.words 0) s.views

@@ -1,5 +1,5 @@
--- The seven kinds of step, a row each: draw, look, take, put, call, split, join.
--- A row says what the seat `m` is afterwards, `n`: its view, and the slot that is out with it.
+-- The seven kinds of step, draw, look, take, put, call, split and join: a row says what the seat
+-- `m` is afterwards, `n`, as its view and the slot that is out with it.
 use Rattle.std.specs.Prelude.{◌≡◌, ◌≢◌, ℕ, ◌+◌, ◌-◌, ◌<◌, ◌≤◌, cond, ltb, List, [], ◌∷◌, ◌++◌, length, Option, Some, None}
 use Rattle.atomic_table.specs.Seated.{TableId}
 use Rattle.atomic_table.specs.Table.{Me, Step}
@@ -33,6 +33,7 @@ ticket_of (Turn t entered) = t
 ticket_of (Joined xs ys) = 0
 
 module _ {F E : Type 0} where
+  -- the view at another stage
   abbrev pub at_stage : Stage E → View F E → View F E
   at_stage stage v = record v { stage = stage }
 
@@ -73,6 +74,7 @@ module _ {F E : Type 0} where
     own = v.own;
   }
 
+  -- what contracts see of the view of a pass that has entered
   abbrev pub entered_as : TableId → ℕ → View F E → Entered F E
   entered_as cell shares v = record {
     cell = cell;
@@ -160,6 +162,8 @@ module _ {V F E : Type 0} (journal : V → List E) where
     pub whole : m.0.shares ≡ ALL_SHARES
         → HasEach m.0.start (length (journal value)) (m.0.own ++ added entered (journal value))
 
+  -- call, of a view at its turn with its slot: its ticket is the one that was served, and the slot
+  -- goes home
   abbrev pub Calls : Step (Option V) → Me (Option V) (View F E) → ℕ → Me (Option V) (View F E) → Type 0
   Calls st m found n = (t : ℕ) (entered : List E) (value : V)
       → m.0.stage ≡ Turn t entered → m.1 ≡ (0, Some value) ∷ [] → (found ≡ t) × GoesHome entered value m n
@@ -174,6 +178,7 @@ module _ {V F E : Type 0} (allows : F → List E → E → Type 0) where
     pub distinct : (place : ℕ) → times place m.0.own ≤ 1
     pub whole : m.0.shares ≡ ALL_SHARES → HasEach m.0.start (length m.0.seen) m.0.own
 
+  -- join, its second load, of a view that joined two lists
   abbrev pub Settled : Step (Option V) → Me (Option V) (View F E) → ℕ → Me (Option V) (View F E) → Type 0
   Settled st m found n = (xs ys : List E) → m.0.stage ≡ Joined xs ys → Settles xs ys m n
 

@@ -36,6 +36,7 @@ impl<V: Journaled> Model for TurnCell<V> {
       opening = V.journal c.table.shared.key.value;
     } };
 
+    // The table has two words and one slot.
     ghost invariant = { λ c. (c.table.shared.table_id.words ≡ 2)
         × (c.table.shared.table_id.slots ≡ 1) };
 }

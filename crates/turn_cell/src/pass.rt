@@ -19,6 +19,7 @@ impl<V: Journaled> Model for Pass<V> {
 
     ghost view = { λ p. known_of p.seat.table_id p.shares p.seat.me.0 };
 
+    // The seat takes no step, and has these shares.
     ghost invariant = { λ p. IsResting p.shares p.seat.me };
 }
 
@@ -36,5 +37,6 @@ impl<V: Journaled> Model for Held<V> {
 
     ghost view = { λ h. entered_as h.seat.table_id h.shares h.seat.me.0 };
 
+    // The seat is at its turn, with the value in the caller's hand, and has these shares.
     ghost invariant = { λ h. IsOut h.shares h.seat.me };
 }

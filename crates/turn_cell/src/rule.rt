@@ -13,8 +13,10 @@ use std::snapshot::Snapshot;
 pub struct TurnRule;
 
 impl<V: Journaled> TableRule<Option<V>, View<V::Fixed, V::Entry>, Snapshot<V>> for TurnRule {
+    // What holds between any two steps.
     ghost holds = { λ key. IsKept V.fixed V.journal V.allows key.value };
 
+    // What the pass of a new cell knows.
     ghost first = { λ key. first_view V.fixed V.journal key.value };
 }
 
@@ -44,6 +46,7 @@ impl<V: Journaled> Play<Option<V>, View<V::Fixed, V::Entry>> for Settle {
 
 /// How many shares a split gives. Each call picks it.
 pub trait Gift {
+    // How many shares the second view gets.
     ghost give: { ℕ };
 }
 
