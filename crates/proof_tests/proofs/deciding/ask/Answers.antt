@@ -2,7 +2,7 @@ use Rattle.std.proofs.Common.{[], ◌++◌, inr, refl, Contains, lit<}
 use Rattle.prin_term.specs.Principal.{Principal, Key, Name, And, Quoting, InRole, For, subterms}
 use Rattle.prin_term.specs.View.{principal}
 use Rattle.taos_saturate.proofs.Few.{here}
-use Rattle.taos_saturate.proofs.tests.ask.Goals as goal
+use Rattle.proof_tests.proofs.deciding.ask.Goals as goal
 
 itself : (p : Principal) → Contains (subterms p) p
 itself (Key k) = here (Key k) []
