@@ -16,6 +16,7 @@ use Rattle.taos_monitor.specs.Credentials.{LinkCall}
 use Rattle.taos_monitor.specs.Connection.{World, max_request, EndsAs, IsWritten, IsConnection}
 use Rattle.taos_monitor.specs.Run.{Turn, IsCourse, frames_of, readings_of, calls_of, places_of, replies_of, AreTurns}
 use Rattle.taos_monitor.specs.Serving.{Progress, EndsInReply, EndsAtClock, Serves}
+use Rattle.taos_monitor.proofs.Filling.{none_filled}
 use Rattle.taos_monitor.proofs.Going.{stood}
 use Rattle.taos_monitor.proofs.Presenting.{none_called, quiet_linked}
 use Rattle.taos_monitor.proofs.Steps.{gave_on, linked_both, replies_on, framed_on, frames_taken, frames_within, turn_of, one_more}
@@ -54,7 +55,7 @@ module _ (n : Node) (alone : Bool) (says : Option (ℕ → List ℕ → Said)) w
     ended = ended;
     goes_on = p.goes_on;
     legal = p.legal;
-    answered = record { turns = p.turns; courses = p.courses; in_order = in_order; read = refl; owned = refl; ascending = p.goes_on.ascending; replies_are = refl };
+    answered = record { turns = p.turns; courses = p.courses; in_order = in_order; read = refl; owned = refl; ascending = p.goes_on.ascending; filled = p.filled; replies_are = refl };
     gave = p.gave;
     linked = p.linked;
     went = went;
@@ -94,7 +95,7 @@ module _ (n : Node) (alone : Bool) (says : Option (ℕ → List ℕ → Said)) w
         ended = (refl, omega (arith, counted turns (e.count + 1) k));
         goes_on = more.goes_on;
         legal = more.legal;
-        answered = record { turns = turns; courses = more.courses; in_order = (refl, refl); read = refl; owned = refl; ascending = more.goes_on.ascending; replies_are = refl };
+        answered = record { turns = turns; courses = more.courses; in_order = (refl, refl); read = refl; owned = refl; ascending = more.goes_on.ascending; filled = more.filled; replies_are = refl };
         gave = more.gave;
         linked = more.linked;
         went = (replies_of p.turns, spelling e.reply.takes.sent, put.0, put.1, replies_on p.turns t, ap frame (sym e.reply.takes.spelled) ∙ put.2, put.3, refl);
@@ -131,6 +132,7 @@ module _ (n : Node) (alone : Bool) (says : Option (ℕ → List ℕ → Said)) w
           read = append-nil (readings_of p.turns);
           owned = refl;
           ascending = p.goes_on.ascending;
+          filled = p.filled;
           replies_are = refl;
         };
         gave = gave_on w0.clock e.middle.clock w1.clock (readings_of p.turns) [] p.gave u.keeps;
@@ -155,7 +157,7 @@ module _ (n : Node) (alone : Bool) (says : Option (ℕ → List ℕ → Said)) w
     ended = (refl, refl);
     goes_on = stood alone w.seen;
     legal = legal;
-    answered = record { turns = []; courses = All-nil (IsCourse n w.seen.journals); in_order = (refl, refl); read = refl; owned = refl; ascending = (stood alone w.seen).ascending; replies_are = refl };
+    answered = record { turns = []; courses = All-nil (IsCourse n w.seen.journals); in_order = (refl, refl); read = refl; owned = refl; ascending = (stood alone w.seen).ascending; filled = none_filled; replies_are = refl };
     gave = Keeps-refl w.clock;
     linked = quiet_linked says n.number w.faults w.faults [] (none_called says n.number w.faults);
     went = refl;

@@ -8,6 +8,7 @@ mod Telling
 mod AtHome
 mod Courses
 mod Staying
+mod Filling
 mod Running
 mod Payloads
 mod Steps
@@ -15,3 +16,7 @@ pub mod Complete
 mod Connections
 mod Turning
 pub mod Keyed
+mod Firsts
+mod Agreeing
+mod Excluding
+mod Causes

@@ -1,10 +1,10 @@
 -- Certificates that come one by one, by the node or by the relay, and what the first that comes to none is.
-use Rattle.std.proofs.Common.{◌≡◌, ◌≢◌, ℕ, ◌+◌, ◌<◌, ◌≤◌, List, [], ◌∷◌, ◌++◌, length, take, drop, map, All, Option, None, Some, Result, Ok, Err, IfOk, IfErr, refl, sym, ap, subst, ◌∙◌, append_assoc, append-nil, length-append, inl, inr, arith, get_or}
+use Rattle.std.proofs.Common.{◌≡◌, ◌≢◌, ℕ, ◌+◌, ◌<◌, ◌≤◌, List, [], ◌∷◌, ◌++◌, length, take, drop, map, All, Option, None, Some, Result, Ok, Err, IfOk, IfErr, refl, sym, ap, subst, ◌∙◌, append_assoc, append-nil, inl, inr, arith, get_or}
 use Rattle.std.specs.Prelude.{OnErr, Vec}
 use Rattle.std.specs.declared.alloc.Global.{Global}
 use Rattle.std.specs.declared.sync.Arc.{Arc}
-use Rattle.std.proofs.lemmas.List.{get_or-append-add, length-map, length-take-le, map-append, map_push, take-append-drop, take_more}
-use Rattle.std.proofs.lemmas.List.Elements.{All-nil, All-cons, All-append}
+use Rattle.std.proofs.lemmas.List.{length-map, length-take-le, map-append, map_push, take-append-drop, take_more}
+use Rattle.std.proofs.lemmas.List.Elements.{All-nil, All-cons, All-append, All-head, All-tail}
 use Rattle.stmt_codec.specs.declared.cert.Cert.{Cert}
 use Rattle.stmt_codec.specs.Certificates.{Certificate, body_spelling}
 use Rattle.frame_link.specs.Faults.{Rose}
@@ -14,7 +14,7 @@ use Rattle.sealed_cert.specs.Seals.{Opens}
 use Rattle.taos_wire.specs.View.{text_of, cited as shared}
 use Rattle.taos_monitor.specs.declared.refusal.Refusal.{Refusal}
 use Rattle.taos_monitor.specs.declared.refusal.Refusal.TheVariants as refusals
-use Rattle.taos_monitor.specs.Credentials.{LinkAnswer, Resealed, Refused, LinkCall, call, Failed, IsIssued, IsResealed, Comes, by_node, by_relay, IsRefused, bad_reseal, AreOpened, none_more, one_more, StopsAt, at_text, after_call, IsToldAs, FailedAs, IsLinked, IsQuiet}
+use Rattle.taos_monitor.specs.Credentials.{LinkAnswer, Resealed, Refused, Lacked, LinkCall, call, Failed, IsIssued, IsResealed, Comes, by_node, by_relay, IsRefused, bad_reseal, AreOpened, none_more, one_more, StopsAt, at_text, after_call, IsToldAs, CountsAs, FailedAs, IsLinked, IsQuiet}
 use Rattle.taos_monitor.specs.Presenting.{IsOneRefused, IsNoReseal, IsOneStopped, AreStopped, OneComes, OneStops, AllCome, AllStop}
 
 -- ---- what the link is counted by
@@ -22,9 +22,25 @@ use Rattle.taos_monitor.specs.Presenting.{IsOneRefused, IsNoReseal, IsOneStopped
 abbrev NoneFailed : List LinkCall → Type 0
 NoneFailed calls = All (λ (c : LinkCall). c.answer ≢ Failed) calls
 
+answered_as : (n : ℕ) (answer : LinkAnswer) → answer ≢ Failed → CountsAs n n answer
+answered_as n (Resealed new) answered = refl
+answered_as n (Refused code) answered = refl
+answered_as n Lacked answered = refl
+answered_as n Failed answered = absurd (answered refl)
+
+-- calls, and more of them
+pub failed_both : (before middle now : ℕ) (first later : List LinkCall) → FailedAs before middle first → FailedAs middle now later → FailedAs before now (first ++ later)
+failed_both before middle now [] later f g = subst (λ (m : ℕ). FailedAs m now later) f g
+failed_both before middle now (c ∷ first) later f g = (f.0, f.1, failed_both f.0 middle now first later f.2 g)
+
+none_failed : (before now : ℕ) (calls : List LinkCall) → now ≡ before → NoneFailed calls → FailedAs before now calls
+none_failed before now [] steady none = steady
+none_failed before now (c ∷ calls) steady none =
+    (before, answered_as before c.answer (All-head (λ (d : LinkCall). d.answer ≢ Failed) c calls none), none_failed before now calls steady (All-tail (λ (d : LinkCall). d.answer ≢ Failed) c calls none))
+
 module _ (says : Option (ℕ → List ℕ → Said)) (node : ℕ) where
   pub quiet_linked : (before now : ℕ) (calls : List LinkCall) → IsQuiet says node before now calls → IsLinked says node before now calls
-  quiet_linked before now calls q = record { told = q.told; failed = inl (q.steady, q.none) }
+  quiet_linked before now calls q = record { told = q.told; failed = none_failed before now calls q.steady q.none }
 
   pub none_called : (n : ℕ) → IsQuiet says node n n []
   none_called n = record { told = All-nil (IsToldAs says node); steady = refl; none = All-nil (λ (c : LinkCall). c.answer ≢ Failed) }
@@ -36,16 +52,11 @@ module _ (says : Option (ℕ → List ℕ → Said)) (node : ℕ) where
     none = All-cons (λ (d : LinkCall). d.answer ≢ Failed) c [] answered (All-nil (λ (d : LinkCall). d.answer ≢ Failed));
   }
 
-  failed_later : (n now : ℕ) (before later : List LinkCall) → NoneFailed before → FailedAs n now later → FailedAs n now (before ++ later)
-  failed_later n now before later none (inl (steady, more)) = inl (steady, All-append (λ (c : LinkCall). c.answer ≢ Failed) before later none more)
-  failed_later n now before later none (inr (grew, rose, (k, c, lt, at, failed))) =
-      inr (grew, rose, (length before + k, c, omega (arith, lt, length-append before later), get_or-append-add before later k c ∙ at, failed))
-
   -- calls after which no count had risen, and more
   pub linked_on : (n middle now : ℕ) (before later : List LinkCall) → IsQuiet says node n middle before → IsLinked says node middle now later → IsLinked says node n now (before ++ later)
   linked_on n middle now before later q l = record {
     told = All-append (IsToldAs says node) before later q.told l.told;
-    failed = failed_later n now before later q.none (subst (λ (m : ℕ). FailedAs m now later) q.steady l.failed);
+    failed = failed_both n middle now before later (none_failed n middle before q.steady q.none) l.failed;
   }
 
   pub quiet_on : (n middle now : ℕ) (before later : List LinkCall) → IsQuiet says node n middle before → IsQuiet says node middle now later → IsQuiet says node n now (before ++ later)
@@ -185,7 +196,7 @@ module _ (says : Option (ℕ → List ℕ → Said)) (node : ℕ) where
   stops_failed key text before now index issued grew rose = record {
     calls = call text Failed ∷ [];
     stops = (refl, issued, refl);
-    linked = record { told = All-cons (IsToldAs says node) (call text Failed) [] (fails says) (All-nil (IsToldAs says node)); failed = inr (grew, rose, (0, call text Failed, omega arith, refl, refl)) };
+    linked = record { told = All-cons (IsToldAs says node) (call text Failed) [] (fails says) (All-nil (IsToldAs says node)); failed = (now, (grew, rose), refl) };
   }
     where
       fails : (s : Option (ℕ → List ℕ → Said)) → IsToldAs s node (call text Failed)

@@ -10,6 +10,7 @@ use Rattle.taos_monitor.specs.Cells.{Node, Journals, Place, AreLegal, Extends}
 use Rattle.taos_monitor.specs.Credentials.{LinkCall}
 use Rattle.taos_monitor.specs.Run.{Turn, IsCourse}
 use Rattle.taos_monitor.specs.Laws.{AnsweredStays, AnswersMore}
+use Rattle.taos_monitor.proofs.Filling.{filled_more}
 use Rattle.taos_monitor.proofs.Staying.{course_stays}
 
 pub all_stay : (n : Node) (J K : Journals) → Extends J K → AreLegal n K → (turns : List Turn) → All (IsCourse n J) turns → All (IsCourse n K) turns
@@ -23,6 +24,7 @@ answered_stays n J K goes legal own frames replies outcome readings calls a = re
   read = a.read;
   owned = a.owned;
   ascending = a.ascending;
+  filled = a.filled;
   replies_are = a.replies_are;
 }
 
@@ -30,7 +32,7 @@ pub flat_push : {X Y : Type 0} (f : X → List Y) (xs : List X) (x : X) → flat
 flat_push f xs x = flat_map-append f xs (x ∷ []) ∙ ap (λ l. flat_map f xs ++ l) (flat_map-cons f x [] ∙ append-nil (f x))
 
 pub answers_more : (n : Node) → AnswersMore n
-answers_more n J K goes legal own frames replies count readings calls a t course ascending = record {
+answers_more n J K goes legal own frames replies count readings calls a t course ascending new = record {
   turns = a.turns ++ t ∷ [];
   courses = All-append (IsCourse n K) a.turns (t ∷ []) (all_stay n J K goes legal a.turns a.courses) (All-cons (IsCourse n K) t [] course (All-nil (IsCourse n K)));
   in_order = (
@@ -40,5 +42,6 @@ answers_more n J K goes legal own frames replies count readings calls a t course
   read = ap (λ (l : List ℕ). l ++ t.readings) a.read ∙ sym (flat_push (λ (u : Turn). u.readings) a.turns t);
   owned = ap (λ (l : List Place). l ++ t.places) a.owned ∙ sym (flat_push (λ (u : Turn). u.places) a.turns t);
   ascending = ascending;
+  filled = filled_more n J K legal a.turns a.courses a.filled t course new;
   replies_are = ap (λ (l : List (List ℕ)). l ++ spelling t.sent ∷ []) a.replies_are ∙ sym (map_push (λ (u : Turn). spelling u.sent) a.turns t);
 }

@@ -14,7 +14,7 @@ last_of e [] = ([], e, refl)
 last_of e (f ∷ fs) = let (before, last, is) = last_of f fs in (e ∷ before, last, ap (λ (l : List Entry). e ∷ l) is)
 
 -- a legal journal is not longer than its limit
-short : (plan : Plan) (journal : List Entry) → IsLegalJournal plan journal → length journal ≤ plan.limit
+pub short : (plan : Plan) (journal : List Entry) → IsLegalJournal plan journal → length journal ≤ plan.limit
 short plan [] legal = omega arith
 short plan (e ∷ es) legal =
     let (before, last, is) = last_of e es in

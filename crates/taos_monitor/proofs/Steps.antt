@@ -1,27 +1,27 @@
 -- One frame more.
-use Rattle.std.proofs.Common.{◌≡◌, ◌≢◌, ℕ, ◌+◌, ◌≤◌, Bool, List, [], ◌∷◌, ◌++◌, length, None, Some, refl, sym, ap, subst, ◌∙◌, append-nil, arith, inl, inr, length-append}
-use Rattle.std.specs.Prelude.{Option, All}
+use Rattle.std.proofs.Common.{◌≡◌, ℕ, ◌+◌, ◌≤◌, Bool, List, [], ◌∷◌, ◌++◌, length, None, Some, refl, sym, ap, subst, ◌∙◌, append-nil, length-append}
+use Rattle.std.specs.Prelude.{Option, All, AllPairs}
 use Rattle.std.specs.Io.KnownBytes.{Consumes, Appends, Keeps}
 use Rattle.std.proofs.KnownBytes.{Consumes-nil, Consumes-trans, Appends-nil, Appends-trans, Keeps-refl, Keeps-trans}
 use Rattle.std.proofs.lemmas.Grind.{flat_map-append}
-use Rattle.std.proofs.lemmas.List.{map_push, get_or-append-add, get_or_append_left}
+use Rattle.std.proofs.lemmas.List.{map_push}
 use Rattle.std.proofs.lemmas.List.Concat.{flat_map-cons}
 use Rattle.std.proofs.lemmas.List.Elements.{All-push, All-nil, All-append}
 use Rattle.frame_link.specs.declared.frame.Next.TheVariants as next
-use Rattle.frame_link.specs.Faults.{Rose}
 use Rattle.frame_link.specs.Frames.{frame, framed}
 use Rattle.frame_link.specs.Next as link
 use Rattle.frame_link.specs.Readings.{Shows, ShowsKnown}
 use Rattle.frame_link.specs.Relay.{Said}
 use Rattle.taos_wire.specs.Reply.{spelling}
 use Rattle.taos_monitor.specs.Cells.{Node, AreLegal, GoesOn}
-use Rattle.taos_monitor.specs.Credentials.{LinkCall, Failed, IsToldAs, FailedAs, IsLinked}
+use Rattle.taos_monitor.specs.Credentials.{LinkCall, IsToldAs, IsLinked}
 use Rattle.taos_monitor.specs.Handling.{Gave}
 use Rattle.taos_monitor.specs.Connection.{World, max_request}
-use Rattle.taos_monitor.specs.Run.{Turn, IsCourse, frames_of, readings_of, calls_of, places_of, replies_of}
+use Rattle.taos_monitor.specs.Run.{Turn, IsCourse, IsFilledBefore, frames_of, readings_of, calls_of, places_of, replies_of}
 use Rattle.taos_monitor.specs.Serving.{TakesTurn, Progress}
 use Rattle.taos_monitor.proofs.Going.{goes_on_twice, stood}
-use Rattle.taos_monitor.proofs.Presenting.{none_called, quiet_linked}
+use Rattle.taos_monitor.proofs.Presenting.{failed_both, none_called, quiet_linked}
+use Rattle.taos_monitor.proofs.Filling.{none_filled, filled_more}
 use Rattle.taos_monitor.proofs.Running.{all_stay, flat_push}
 
 -- ---- readings, one list after the other
@@ -45,21 +45,6 @@ gave_on a b c [] ys g h = gave_kept a b c ys g h
 gave_on a b c (x ∷ xs) ys g h = (g.0, g.1, gave_on g.0 b c xs ys g.2 h)
 
 -- ---- calls of the link, one list after the other
-
-rose_on : (before middle now : ℕ) → Rose before middle → middle ≤ now → Rose before now
-rose_on before middle now rose grew = omega (arith, rose, grew)
-
-failed_both : (before middle now : ℕ) (first later : List LinkCall) → FailedAs before middle first → FailedAs middle now later → FailedAs before now (first ++ later)
-failed_both before middle now first later (inl (steady, none)) (inl (still, more)) = inl (still ∙ steady, All-append (λ (c : LinkCall). c.answer ≢ Failed) first later none more)
-failed_both before middle now first later (inl (steady, none)) (inr (grew, rose, (k, c, lt, at, failed))) =
-    inr (omega (arith, steady, grew), subst (λ (m : ℕ). Rose m now) steady rose, (length first + k, c, omega (arith, lt, length-append first later), get_or-append-add first later k c ∙ at, failed))
-failed_both before middle now first later (inr (grew, rose, (k, c, lt, at, failed))) later_failed =
-    let further = grown later_failed in
-    inr (omega (arith, grew, further), rose_on before middle now rose further, (k, c, omega (arith, lt, length-append first later), get_or_append_left first later c k lt ∙ at, failed))
-  where
-    grown : FailedAs middle now later → middle ≤ now
-    grown (inl (still, none)) = omega (arith, still)
-    grown (inr (more, rose, rest)) = more
 
 pub linked_both : (says : Option (ℕ → List ℕ → Said)) (node before middle now : ℕ) (first later : List LinkCall) → IsLinked says node before middle first → IsLinked says node middle now later → IsLinked says node before now (first ++ later)
 linked_both says node before middle now first later a b = record {
@@ -92,6 +77,7 @@ module _ (n : Node) (alone : Bool) (says : Option (ℕ → List ℕ → Said)) w
   started w legal = record {
     turns = [];
     courses = All-nil (IsCourse n w.seen.journals);
+    filled = none_filled;
     taken = Consumes-nil w.input;
     within = All-nil (λ p. length p ≤ max_request);
     counted = refl;
@@ -105,6 +91,7 @@ module _ (n : Node) (alone : Bool) (says : Option (ℕ → List ℕ → Said)) w
   -- what a turn more makes of what was answered, whatever of its reply was written
   pub record More (w0 w2 : World) (turns : List Turn) : Type 0 where
     pub courses : All (IsCourse n w2.seen.journals) turns
+    pub filled : AllPairs IsFilledBefore turns
     pub goes_on : GoesOn alone w0.seen w2.seen (places_of turns)
     pub legal : AreLegal n w2.seen.journals
     pub gave : Gave w0.clock w2.clock (readings_of turns)
@@ -119,6 +106,7 @@ module _ (n : Node) (alone : Bool) (says : Option (ℕ → List ℕ → Said)) w
       let t = turn_of payload w1 w2 Holds x in
       record {
         courses = All-push (IsCourse n w2.seen.journals) p.turns t (all_stay n w1.seen.journals w2.seen.journals x.takes.goes_on.goes_on x.takes.legal p.turns p.courses) x.takes.course;
+        filled = filled_more n w1.seen.journals w2.seen.journals x.takes.legal p.turns p.courses p.filled t x.takes.course x.takes.goes_on.new_places;
         goes_on = subst (GoesOn alone w0.seen w2.seen) (sym (flat_push (λ (u : Turn). u.places) p.turns t)) (goes_on_twice alone w0.seen w1.seen w2.seen (places_of p.turns) x.takes.places p.goes_on x.takes.goes_on);
         legal = x.takes.legal;
         gave = subst (Gave w0.clock w2.clock) (sym (flat_push (λ (u : Turn). u.readings) p.turns t)) (gave_on w0.clock w1.clock w2.clock (readings_of p.turns) x.takes.readings p.gave x.takes.gave);
@@ -133,6 +121,7 @@ module _ (n : Node) (alone : Bool) (says : Option (ℕ → List ℕ → Said)) w
       record {
         turns = p.turns ++ t ∷ [];
         courses = more.courses;
+        filled = more.filled;
         taken = frames_taken p.turns t w0.input w1.input w2.input p.taken taken.1;
         within = frames_within p.turns t p.within taken.0;
         counted = length-append p.turns (t ∷ []) ∙ ap (λ k. k + 1) p.counted;

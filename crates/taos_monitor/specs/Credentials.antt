@@ -1,12 +1,12 @@
 -- The certificates that a request presents, by their bytes, and what the relay link answered for
 -- those under an issuer's own seal.
-use Rattle.std.specs.Prelude.{◌≡◌, ◌≢◌, ◌⊎◌, ℕ, ◌≤◌, List, [], ◌∷◌, ◌++◌, length, All, Any, Option, Some, None}
+use Rattle.std.specs.Prelude.{◌≡◌, ◌≢◌, ℕ, ◌≤◌, List, [], ◌∷◌, ◌++◌, length, All, Option, Some, None}
 use Rattle.keyed_seal.specs.Tag.{tag_of}
 use Rattle.sealed_cert.specs.declared.kind.TheConstants.{ISSUED, RELAYED}
 use Rattle.sealed_cert.specs.Seals.{sealed_text, Spells, Opens}
 use Rattle.stmt_codec.specs.Certificates.{Certificate}
 use Rattle.frame_link.specs.Faults.{Rose}
-use Rattle.frame_link.specs.Relay.{Said, Gave, Refuses}
+use Rattle.frame_link.specs.Relay.{Said, Gave, Refuses, IsRelayCode}
 use Rattle.relay_core.specs.declared.code.TheConstants.{MALFORMED, BAD_SEAL}
 use Rattle.taos_monitor.specs.declared.presented.TheConstants.{BAD_RESEAL}
 
@@ -51,7 +51,7 @@ pub data IsRefused (key text : List ℕ) : List LinkCall → ℕ → Type 0 wher
   malformed : (IsIssued text → ⊥) → ((c : Certificate) (tag : List ℕ) → Spells RELAYED text c tag → ⊥) → IsRefused key text [] MALFORMED
   bad_seal : (c : Certificate) (tag : List ℕ) → Spells RELAYED text c tag → tag ≢ tag_of key (sealed_text RELAYED c) →
       IsRefused key text [] BAD_SEAL
-  refused : {code : ℕ} → IsIssued text → IsRefused key text (call text (Refused code) ∷ []) code
+  refused : {code : ℕ} → IsIssued text → IsRelayCode code → IsRefused key text (call text (Refused code) ∷ []) code
   bad_reseal : {new : List ℕ} → IsIssued text → ((c : Certificate) → IsResealed key text new c → ⊥) →
       IsRefused key text (call text (Resealed new) ∷ []) BAD_RESEAL
 
@@ -113,10 +113,17 @@ abbrev pub IsToldAs : Option (ℕ → List ℕ → Said) → ℕ → LinkCall �
 IsToldAs None node c = Unit {0}
 IsToldAs (Some says) node c = AnswersAs (says node c.sealed) c.answer
 
--- the link's count of failures rose where a call failed, and else stayed as it was
+-- its count rose in a call that failed, and in any other stayed as it was
+abbrev pub CountsAs : ℕ → ℕ → LinkAnswer → Type 0
+CountsAs before now (Resealed new) = now ≡ before
+CountsAs before now (Refused code) = now ≡ before
+CountsAs before now Lacked = now ≡ before
+CountsAs before now Failed = (before ≤ now) × Rose before now
+
+-- the same of calls, one after the other
 abbrev pub FailedAs : ℕ → ℕ → List LinkCall → Type 0
-FailedAs before now calls =
-    ((now ≡ before) × All (λ (c : LinkCall). c.answer ≢ Failed) calls) ⊎ ((before ≤ now) × Rose before now × Any (λ (c : LinkCall). c.answer ≡ Failed) calls)
+FailedAs before now [] = now ≡ before
+FailedAs before now (c ∷ calls) = (middle : ℕ) × CountsAs before middle c.answer × FailedAs middle now calls
 
 -- the calls answer as the link tells, and its count of failures went with them
 pub record IsLinked (says : Option (ℕ → List ℕ → Said)) (node before now : ℕ) (calls : List LinkCall) : Type 0 where

@@ -70,3 +70,8 @@ module _ (n : Node) (alone : Bool) (old new : Seen) (says : Option (ℕ → List
 abbrev pub HandlesCause : ℕ → ℕ → Handled → Type 0
 HandlesCause clock0 clock1 handled.Replied = clock1 ≡ clock0
 HandlesCause clock0 clock1 handled.ClockFault = (clock0 ≤ clock1) × Rose clock0 clock1
+
+-- where the clock failed, the buffer holds what it held
+abbrev pub LeavesReply : List ℕ → List ℕ → Handled → Type 0
+LeavesReply old new handled.Replied = Unit {0}
+LeavesReply old new handled.ClockFault = new ≡ old

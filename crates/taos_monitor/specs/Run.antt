@@ -1,13 +1,13 @@
 -- Connections in the journals of a node: the whole frames of an input, each with its course, and
 -- the replies.
-use Rattle.std.specs.Prelude.{◌≡◌, ℕ, List, [], ◌∷◌, ◌++◌, map, All, AllPairs}
+use Rattle.std.specs.Prelude.{◌≡◌, ◌≢◌, ℕ, List, [], ◌∷◌, ◌++◌, map, All, AllPairs}
 use Rattle.std.specs.List.{flat_map}
 use Rattle.frame_link.specs.declared.outcome.Outcome.{Outcome}
 use Rattle.frame_link.specs.declared.outcome.Outcome.TheVariants.{ClockFault}
 use Rattle.taos_wire.specs.Reply.{Sent, spelling}
-use Rattle.taos_monitor.specs.Cells.{Node, Journals, Place, IsAfter}
+use Rattle.taos_monitor.specs.Cells.{Node, Journals, Cell, OfShard, Place, IsAfter}
 use Rattle.taos_monitor.specs.Credentials.{LinkCall}
-use Rattle.taos_monitor.specs.Course.{Arrival, Course}
+use Rattle.taos_monitor.specs.Course.{Arrival, Course, shard_full}
 
 -- a frame with its reply, and what its course used
 pub record Turn : Type 0 where
@@ -47,6 +47,14 @@ AreTurns n ClockFault turns frames calls =
     (last : List ℕ) × (t : Arrival n last) × (frames ≡ frames_of turns ++ last ∷ []) × (calls ≡ calls_of turns ++ t.calls)
 AreTurns n _ turns frames calls = (frames ≡ frames_of turns) × (calls ≡ calls_of turns)
 
+-- the turn's reply says that the journal of the cell is full
+abbrev pub FoundFull : Cell → Turn → Type 0
+FoundFull (OfShard s) t = (limit : ℕ) × (t.sent.reply ≡ shard_full s limit)
+
+-- a journal that the earlier turn found full has no place of the later one
+abbrev pub IsFilledBefore : Turn → Turn → Type 0
+IsFilledBefore earlier later = (cell : Cell) → FoundFull cell earlier → All (λ (p : Place). p.cell ≢ cell) later.places
+
 -- The frames have one course each, in order, with these readings and answers of the link in theirs;
 -- these places are own, and no others.
 pub record Answered (n : Node) (J : Journals) (own : List Place) (frames replies : List (List ℕ)) (outcome : Outcome) (readings : List ℕ) (calls : List LinkCall) : Type 0 where
@@ -56,4 +64,5 @@ pub record Answered (n : Node) (J : Journals) (own : List Place) (frames replies
   pub read : readings ≡ readings_of turns
   pub owned : own ≡ places_of turns
   pub ascending : AllPairs IsAfter own
+  pub filled : AllPairs IsFilledBefore turns
   pub replies_are : replies ≡ replies_of turns

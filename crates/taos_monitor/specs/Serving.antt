@@ -1,5 +1,5 @@
 -- Serving a connection, step by step: what stands between two frames, and in place of the next one.
-use Rattle.std.specs.Prelude.{◌≡◌, ◌<◌, ◌≤◌, ℕ, Bool, List, [], ◌∷◌, length, All, Option}
+use Rattle.std.specs.Prelude.{◌≡◌, ◌<◌, ◌≤◌, ℕ, Bool, List, [], ◌∷◌, length, All, AllPairs, Option}
 use Rattle.std.specs.Io.KnownBytes.{Keeps, Appends, Consumes}
 use Rattle.frame_link.specs.declared.frame.Next.TheVariants as next
 use Rattle.frame_link.specs.declared.frame.Put.TheVariants as puts
@@ -17,7 +17,7 @@ use Rattle.taos_monitor.specs.Course.{Arrival, Course}
 use Rattle.taos_monitor.specs.Credentials.{IsLinked}
 use Rattle.taos_monitor.specs.Handling.{Gave, Takes, StopsAtClock}
 use Rattle.taos_monitor.specs.Connection.{World, max_request}
-use Rattle.taos_monitor.specs.Run.{Turn, IsCourse, frames_of, readings_of, calls_of, places_of, replies_of}
+use Rattle.taos_monitor.specs.Run.{Turn, IsCourse, IsFilledBefore, frames_of, readings_of, calls_of, places_of, replies_of}
 
 module _ (n : Node) (alone : Bool) (says : Option (ℕ → List ℕ → Said)) where
   -- a payload's course was taken to a reply, of whose bytes this holds
@@ -41,6 +41,7 @@ module _ (n : Node) (alone : Bool) (says : Option (ℕ → List ℕ → Said)) w
   pub record Progress (count : ℕ) (w0 w1 : World) : Type 0 where
     pub turns : List Turn
     pub courses : All (IsCourse n w1.seen.journals) turns
+    pub filled : AllPairs IsFilledBefore turns
     pub taken : Consumes w0.input w1.input (framed (frames_of turns))
     pub within : All (λ p. length p ≤ max_request) (frames_of turns)
     pub counted : length turns ≡ count

@@ -7,7 +7,7 @@ ghost use Rattle.agent_core.specs.State.{Plan};
 ghost use Rattle.taos_wire.specs.View.{request as request_of};
 ghost use Rattle.taos_monitor.specs.Arriving.{IsAskedBy, IsNotAsked, node_of};
 ghost use Rattle.taos_monitor.specs.Cells.{seen_of};
-ghost use Rattle.taos_monitor.specs.Handling.{Answers, HandlesCause};
+ghost use Rattle.taos_monitor.specs.Handling.{Answers, HandlesCause, LeavesReply};
 
 use crate::handling::{Handled, request};
 use crate::node_keys::NodeKeys;
@@ -72,6 +72,7 @@ pub fn answer<W: Wait + Sync, H: Shelf, S: Shards, R: RelayLink, C: Clock, D: De
         (R.says relay.old) (R.faults relay.old) (R.faults relay.new)
         (C.readings clock.old) (C.readings clock.new) payload.now out.new result }
     ensures cause { HandlesCause (C.faults clock.old) (C.faults clock.new) result }
+    ensures left { LeavesReply out.old out.new result }
 
     // What nobody changes.
     ensures plans { S.plans shards.new ≡ S.plans shards.old }

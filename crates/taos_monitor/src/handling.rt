@@ -8,7 +8,7 @@ ghost use Rattle.taos_wire.specs.Request.{FitsRequest};
 ghost use Rattle.taos_wire.specs.View.{request as request_of};
 ghost use Rattle.taos_monitor.specs.Arriving.{node_of};
 ghost use Rattle.taos_monitor.specs.Cells.{seen_of};
-ghost use Rattle.taos_monitor.specs.Handling.{Handles, HandlesCause};
+ghost use Rattle.taos_monitor.specs.Handling.{Handles, HandlesCause, LeavesReply};
 
 use crate::arrival::arrive;
 use crate::node_keys::NodeKeys;
@@ -58,6 +58,7 @@ pub fn request<W: Wait + Sync, H: Shelf, S: Shards, R: RelayLink, C: Clock, D: D
         (R.says relay.old) (R.faults relay.old) (R.faults relay.new)
         (C.readings clock.old) (C.readings clock.new) (request_of asked.now) out.new result }
     ensures cause { HandlesCause (C.faults clock.old) (C.faults clock.new) result }
+    ensures left { LeavesReply out.old out.new result }
 
     // What nobody changes.
     ensures plans { S.plans shards.new ≡ S.plans shards.old }

@@ -16,7 +16,10 @@ mod shelf;
 pub use answering::answer;
 pub use connection::{MAX_REQUEST, serve_connection};
 pub use handling::{Handled, request};
-pub use laws::{courses_stay, going_on_goes_on, one_more_is_answered, what_is_answered_stays};
+pub use laws::{
+    courses_exclude_each_other, courses_stay, going_on_goes_on, nothing_follows_a_full_journal,
+    one_more_is_answered, refusals_have_causes, what_is_answered_stays,
+};
 pub use node_keys::NodeKeys;
 pub use presented::BAD_RESEAL;
 pub use refusal::Refusal;

@@ -1,6 +1,6 @@
 //! The top call: the words, the file, and then the work.
 
-ghost use Rattle.std.specs.Prelude.{◌≡◌, ◌≢◌, ◌⊎◌, ◌↔◌, ◌<◌, ◌≤◌, ℕ, length, IsTrue, IfErr, IfOk};
+ghost use Rattle.std.specs.Prelude.{◌≡◌, ◌≢◌, ◌⊎◌, ◌↔◌, ◌<◌, ◌≤◌, ℕ, drop, length, IsTrue, IfErr, IfOk};
 ghost use Rattle.agent_core.specs.Alone.{plans_in};
 ghost use Rattle.frame_link.specs.Faults.{Rose};
 ghost use Rattle.node_file.specs.Meaning.{opening, FitsByNumber};
@@ -129,6 +129,7 @@ fn serve<W: Wait + Sync, I: Source, O: Sink, C: Clock, R: RelayLink, D: Door, B:
     ensures complete { IsComplete MAX_FRAMES (I.left input.old)
         (I.faults input.old) (I.faults input.new) (O.faults output.old) (O.faults output.new)
         (faults_of_first C.faults lanes.old) (faults_of_first C.faults lanes.new) result }
+    ensures others { drop 1 lanes.new ≡ drop 1 lanes.old }
 {
     let lane = &mut lanes[0];
     serve_connection(
@@ -221,6 +222,7 @@ fn run<W: Wait + Sync, F: Source, I: Source, O: Sink, C: Clock, R: RelayLink, D:
         (I.faults input.old) (I.faults input.new) (O.faults output.old) (O.faults output.new)
         (faults_of_first C.faults lanes.old) (faults_of_first C.faults lanes.new)
         (status_of result) }
+    ensures others { drop 1 lanes.new ≡ drop 1 lanes.old }
 {
     if is_check(words) {
         return check_file(alloc, file, input, output);
@@ -302,6 +304,9 @@ pub fn taos<
 
     // Success has no note, nor what a check refused.
     ensures silent { (result ≡ 0) ⊎ (result ≡ 11) → notes.new ≡ notes.old }
+
+    // Neither command touches another lane than the first.
+    ensures others { drop 1 lanes.new ≡ drop 1 lanes.old }
 {
     let ending = run(rt, alloc, words, file, input, output, lanes);
     tell(notes, ending);

@@ -2,7 +2,7 @@
 use Rattle.std.proofs.Common.{ℕ, List, Ok, refl, sym, subst}
 use Rattle.frame_link.specs.declared.outside.Failed.{Failed}
 use Rattle.frame_link.specs.declared.outside.RelayAnswer.{RelayAnswer}
-use Rattle.frame_link.specs.Relay.{AnswersAs}
+use Rattle.frame_link.specs.Relay.{AnswersAs, HasRelayCode}
 use Rattle.taos_wire.specs.View.{cited as shared}
 use Rattle.taos_monitor.specs.Credentials.{IsToldAs, call, Resealed, Refused, refused}
 use Rattle.taos_monitor.proofs.Presenting.{on_ok, on_err, said_new, said_code, comes_by_relay, stops_resealed, stops_called}
@@ -37,4 +37,4 @@ returns-in-Ok-Refused-clause-stopped g c =
     let told = said_code Failed says node code text c.reseal.new.out.items
     (subst (λ (a : RelayAnswer). AnswersAs {E = Failed} says node text (Ok a) c.reseal.new.out.items) c.in-Ok-Refused.field-0-is c.in-Ok-Refused.ensures.answer) in
     stops_called says node c.args.keys.now.relay_key text (g.R.RelayLink.faults c.args.relay.now) (g.R.RelayLink.faults c.reseal.new.self) c.args.index (Refused code) _
-    c.requires.issued told (λ e. cc) c.in-Ok-Refused.ensures.cause.steady (refl, refused c.requires.issued)
+    c.requires.issued told (λ e. cc) c.in-Ok-Refused.ensures.cause.steady (refl, refused c.requires.issued (subst HasRelayCode c.in-Ok-Refused.field-0-is c.in-Ok-Refused.ensures.codes))

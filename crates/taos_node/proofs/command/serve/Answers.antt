@@ -1,5 +1,6 @@
 -- The first lane's clock and link are those that the connection used.
-use Rattle.std.proofs.Common.{slice_index_or, sym}
+use Rattle.std.proofs.Common.{slice_index_or, sym, arith}
+use Rattle.std.proofs.lemmas.List.{drop-set-lt}
 use Rattle.agent_core.specs.Alone.{LoneSeen, plans_in, seen_in, own_in}
 use Rattle.taos_monitor.specs.Arriving.{node_of}
 use Rattle.taos_monitor.specs.Cells.{Seen, seen_of}
@@ -33,3 +34,6 @@ returns-clause-connection g c = λ o opened.
           (told_after g.C.Clock.readings lanes _ some) (failed_after g.R.RelayLink.faults lanes _ some) (sym opened.unseen)
           c.serve_connection.ensures.connection;
     }
+
+pub returns-clause-others : goal.returns-clause-others
+returns-clause-others g c = drop-set-lt 1 c.args.lanes.now 0 _ (omega arith)

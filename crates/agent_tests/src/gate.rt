@@ -1,0 +1,135 @@
+ghost use Rattle.std.specs.Prelude.{◌≡◌, ◌≤◌, IfOk, length};
+ghost use Rattle.prin_term.specs.View.{principal};
+ghost use Rattle.agent_core.specs.Asked.{FitsAsk};
+ghost use Rattle.agent_core.specs.Journals.{IsOn};
+ghost use Rattle.agent_core.specs.Views.{ask_of};
+
+use agent_core::*;
+use prin_term::{Entry, Statement, Term};
+use std::alloc::Global;
+use std::sync::{Arc, Wait};
+use std::test::*;
+use stmt_codec::{Cert, CertBody};
+use taos_saturate::Saturator;
+
+// How often it was passed.
+struct Counting {
+    passed: u64,
+}
+
+impl Gate for Counting {
+    fn between(&mut self) {
+        self.passed = self.passed.wrapping_add(1);
+    }
+}
+
+// One shard of channel 2, whose journal takes five entries.
+fn one_shard(alloc: Global) -> Result<Lone, Fail> {
+    let plan = ShardPlan {
+        number: 0,
+        shards: 1,
+        anchors: Arc::new(alloc, Vec::new(alloc))?,
+        channels: vec![in alloc; 2]?,
+        commons: Vec::new(alloc),
+        keep: 3600,
+        limit: 5,
+    };
+    if !plan.is_sound() {
+        return Err(Fail::new("no plan"));
+    }
+    let shards = open_shards(
+        alloc,
+        &plan.channels,
+        plan.shards,
+        &plan.anchors,
+        &plan.commons,
+        plan.keep,
+        plan.limit,
+    )?;
+    Ok(Lone::new(shards, plan.anchors))
+}
+
+// That key 1 says that key 2 speaks for name 10, with serial numbers from one on.
+fn hand_offs(alloc: Global, first: u64, count: u64) -> Result<Vec<Arc<Cert>>, Fail> {
+    let mut certs = Vec::new(alloc);
+    for number in 0..count {
+        let statement = Statement {
+            left: Term::Key(2),
+            right: Term::Name(10),
+        };
+        let body = CertBody {
+            issuer: 1,
+            quoted: None,
+            statement,
+            until: 2000,
+            serial: first.wrapping_add(number),
+        };
+        certs.push(Arc::new(alloc, Cert::of(alloc, body)?)?)?;
+    }
+    Ok(certs)
+}
+
+// An Ask of channel 2 on an empty list.
+fn asked(alloc: Global, seq: u64, presented: Vec<Arc<Cert>>) -> Result<Arc<Ask>, Fail>
+    requires { length presented.items ≤ 16 }
+    ensures channel { IfOk result (λ a. a.value.channel ≡ 2) }
+    ensures subject { IfOk result (λ a. IsOn 2 (principal a.value.subject)) }
+    ensures fits { IfOk result (λ a. FitsAsk (ask_of a.value)) }
+{
+    let list: Vec<Entry> = Vec::new(alloc);
+    let made = Ask {
+        channel: 2,
+        seq,
+        reading: 1000,
+        subject: Term::Key(2),
+        list: Arc::new(alloc, list)?,
+        right: 1,
+        presented,
+    };
+    Ok(Arc::new(alloc, made)?)
+}
+
+// How often an ask passes the gate, and whether it was judged.
+fn passes<W: Wait + Sync>(
+    rt: &W,
+    alloc: Global,
+    shards: &mut Lone,
+    bench: &mut Saturator,
+    seq: u64,
+    presented: Vec<Arc<Cert>>,
+) -> Result<(u64, bool), Fail> {
+    if presented.len() > 16 || !shards.has_channel(2) {
+        return Err(Fail::new("not taken"));
+    }
+    let made = asked(alloc, seq, presented)?;
+    let mut gate = Counting { passed: 0 };
+    let ended = ask(rt, alloc, shards, bench, &mut gate, made)?;
+    let is_judged = match ended.verdict {
+        Verdict::Granted { .. } | Verdict::Denied(_) => true,
+        _ => false,
+    };
+    Ok((gate.passed, is_judged))
+}
+
+#[test]
+fn the_gate_is_passed_where_an_ask_is_judged(rt: HostRuntime) -> Result<(), Fail> {
+    let alloc = rt.alloc();
+    let mut shards = one_shard(alloc)?;
+    let mut bench = Saturator::reserve(alloc)?;
+    // the number; the first serial number of what is presented and how many there are; how often it is
+    // passed. The second is replayed, the fourth finds the channel full, the last the journal.
+    let asks = [
+        (1, 100, 16, 1),
+        (1, 100, 0, 0),
+        (2, 116, 16, 1),
+        (3, 132, 1, 0),
+        (3, 0, 0, 1),
+        (4, 0, 0, 0),
+    ];
+    for (seq, first, count, expected) in asks {
+        let presented = hand_offs(alloc, first, count)?;
+        let got = passes(&rt, alloc, &mut shards, &mut bench, seq, presented)?;
+        assert_eq!(rt; got, (expected, expected == 1), "{seq}, by {count}");
+    }
+    Ok(())
+}
