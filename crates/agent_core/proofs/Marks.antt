@@ -9,8 +9,10 @@ use Rattle.taos_calculus.specs.Rules.{Claim}
 use Rattle.taos_calculus.specs.Monitor.{FirstEntry, Grants, MaySpeak}
 use Rattle.taos_calculus.specs.Question.{Question, question_of, claim_of, picked, IsAskable, MayAnswer}
 use Rattle.denial_link.specs.Revived.{claims}
-use Rattle.denial_link.specs.Links.{NoEntryWith}
-use Rattle.agent_core.specs.Judged.{live_marks}
+use Rattle.denial_link.specs.declared.link.Link.TheVariants.{NoEntry}
+use Rattle.denial_link.specs.Links.{NoEntryWith, no_entry}
+use Rattle.agent_core.specs.declared.verdict.Finding.TheVariants as finding
+use Rattle.agent_core.specs.Judged.{live_marks, Judges}
 
 picked_one : (at : ℕ) (c : Claim) (cs : List Claim) (marks : List Bool) (rest : List Claim) → map (λ (x : ℕ × Claim). x.1) (picked (at + 1) cs marks) ≡ rest →
     (b : Bool) → map (λ (x : ℕ × Claim). x.1) (picked at (c ∷ cs) (b ∷ marks)) ≡ cond b (c ∷ rest) rest
@@ -68,3 +70,8 @@ module _ (anchors : List Anchor) (certs : List Certificate) (moment : ℕ) (subj
       MatchOption r (NoEntryWith list right (λ e. MaySpeak anchors (claims (live certs moment)) subject e.who)) (λ k. (e : Grant) × FirstEntry list right (λ g. MaySpeak anchors (claims (live certs moment)) subject g.who) k e)
   found_live None h = none_live anchors certs moment subject list right q asked h
   found_live (Some k) h = (h.0, first_live anchors certs moment subject list right q asked k h.0 h.1)
+
+-- with no such entry nothing is granted, and that is the first link
+pub no_right : (anchors : List Anchor) (certs : List Certificate) (moment : ℕ) (subject : Principal) (list : List Grant) (right : ℕ) → NoEntryWith list right (λ e. Unit {0}) →
+    Judges anchors certs moment subject list right (finding.Denied NoEntry)
+no_right anchors certs moment subject list right none = (λ g. none g.place g.entry g.stands g.has_right tt, no_entry none)

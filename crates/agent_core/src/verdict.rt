@@ -1,19 +1,19 @@
 //! The verdict on an Ask that is to be judged.
 
-ghost use Rattle.std.specs.Prelude.{◌≡◌, ◌≤◌, ℕ, true, map, length, replicate, MatchOption};
+ghost use Rattle.std.specs.Prelude.{◌≡◌, ◌≤◌, ℕ, true, map, length, replicate, IsTrue, MatchOption};
 ghost use Rattle.prin_term.specs.View.{Grant, grant, principal};
 ghost use Rattle.stmt_codec.specs.Certificates.{certificate, live};
-ghost use Rattle.taos_calculus.specs.Monitor.{FirstEntry, MaySpeak};
+ghost use Rattle.taos_calculus.specs.Monitor.{FirstEntry, Grants, MaySpeak};
 ghost use Rattle.taos_calculus.specs.Question.{IsAskable, question_of};
 ghost use Rattle.denial_link.specs.Revived.{claims};
-ghost use Rattle.denial_link.specs.Links.{NoEntryWith};
+ghost use Rattle.denial_link.specs.Links.{IsFirstLink, NoEntryWith};
 ghost use Rattle.agent_core.specs.Views.{certificates};
 ghost use Rattle.agent_core.specs.Judged.{live_marks, IsGrant, Judges};
 
 use crate::event::Ask;
 use crate::told::Snapshot;
 use arrayvec::ArrayVec;
-use denial_link::{Link, first_derivable, first_link};
+use denial_link::{Link, first_derivable, first_link, first_link_by_all, first_with};
 use prin_term::{Anchor, Entry, Term};
 use std::sync::Arc;
 use stmt_codec::Cert;
@@ -63,8 +63,48 @@ fn first_granted<D: Decide>(
     first_derivable(bench, subject, list, right)
 }
 
+// Whether none has ended.
+fn are_live(certs: &[Arc<Cert>], moment: u64) -> bool
+    ensures { IsTrue result
+        → live_marks (certificates certs.now) moment ≡ replicate (length certs.now) true }
+{
+    for cert in certs {
+        if !cert.is_live(moment) {
+            return false;
+        }
+    }
+    true
+}
+
+// What is missing, where the live certificates grant nothing and the decider was asked about them. Where none
+// has ended, it is not asked again.
+fn link_of<D: Decide>(
+    bench: &mut D,
+    anchors: &[Anchor],
+    certs: &[Arc<Cert>],
+    moment: u64,
+    subject: &Term,
+    list: &[Entry],
+    right: u8,
+) -> Link
+    requires askable { IsAskable anchors.now (certificates certs.now)
+        (replicate (length certs.now) true) (principal subject.now) (map grant list.now) }
+    requires asked { D.question bench.old ≡ question_of anchors.now (certificates certs.now)
+        (live_marks (certificates certs.now) moment) (principal subject.now) (map grant list.now) }
+    requires denied { Grants anchors.now (claims (live (certificates certs.now) moment))
+        (principal subject.now) (map grant list.now) right → ⊥ }
+    ensures { IsFirstLink anchors.now (certificates certs.now) moment (principal subject.now)
+        (map grant list.now) right result }
+{
+    if are_live(certs, moment) {
+        first_link_by_all(bench, anchors, certs, moment, subject, list, right)
+    } else {
+        first_link(bench, anchors, certs, moment, subject, list, right)
+    }
+}
+
 /// Judges an Ask by what it was handed out: the monitor's verdict on the live certificates, and what is
-/// missing where it grants nothing. Takes no memory.
+/// missing where it grants nothing. Nothing is decided where no entry has the right. Takes no memory.
 pub fn judge<D: Decide>(
     bench: &mut D,
     anchors: &[Anchor],
@@ -83,6 +123,9 @@ pub fn judge<D: Decide>(
         (live_marks (certificates snapshot.now.certs.items) snapshot.now.moment)
         (principal asked.now.subject) (map grant asked.now.list.value.items) }
 {
+    let Some(_) = first_with(&asked.list, asked.right) else {
+        return Finding::Denied(Link::NoEntry);
+    };
     let certs = &snapshot.certs;
     let moment = snapshot.moment;
     match first_granted(
@@ -95,7 +138,7 @@ pub fn judge<D: Decide>(
         asked.right,
     ) {
         Some(entry) => Finding::Granted { entry },
-        None => Finding::Denied(first_link(
+        None => Finding::Denied(link_of(
             bench,
             anchors,
             certs,

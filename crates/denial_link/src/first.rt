@@ -16,8 +16,8 @@ use std::sync::Arc;
 use stmt_codec::Cert;
 use taos_calculus::{Decide, MAX_CERTS};
 
-// The first entry with the right.
-fn first_with(list: &[Entry], right: u8) -> Option<u8>
+/// The place of the first entry with the right.
+pub fn first_with(list: &[Entry], right: u8) -> Option<u8>
     requires { length list.now ≤ 8 }
     ensures { MatchOption result (NoEntryWith (map grant list.now) right (λ e. Unit {0}))
         (λ k. (e : Grant) × FirstEntry (map grant list.now) right (λ g. Unit {0}) k e) }
@@ -79,11 +79,39 @@ pub fn first_link<D: Decide>(
     ensures { IsFirstLink anchors.now (map (λ c. certificate c.value.body) certs.now) moment
         (principal subject.now) (map grant list.now) right result }
 {
-    let Some(first) = first_with(list, right) else {
+    let Some(_) = first_with(list, right) else {
         return Link::NoEntry;
     };
     let all = [true; MAX_CERTS];
     bench.begin(anchors, certs, &all[..certs.len()], subject, list);
+    first_link_by_all(bench, anchors, certs, moment, subject, list, right)
+}
+
+/// The first link, where `bench` was asked last about all certificates: where none has ended, it
+/// was so by who looked for a grant, and nothing is decided anew. Takes no memory.
+pub fn first_link_by_all<D: Decide>(
+    bench: &mut D,
+    anchors: &[Anchor],
+    certs: &[Arc<Cert>],
+    moment: u64,
+    subject: &Term,
+    list: &[Entry],
+    right: u8,
+) -> Link
+    requires askable { IsAskable anchors.now (map (λ c. certificate c.value.body) certs.now)
+        (replicate (length certs.now) true) (principal subject.now) (map grant list.now) }
+    requires by_all { D.question bench.old ≡ question_of anchors.now
+        (map (λ c. certificate c.value.body) certs.now) (replicate (length certs.now) true)
+        (principal subject.now) (map grant list.now) }
+    requires denied { Grants anchors.now
+        (claims (live (map (λ c. certificate c.value.body) certs.now) moment))
+        (principal subject.now) (map grant list.now) right → ⊥ }
+    ensures { IsFirstLink anchors.now (map (λ c. certificate c.value.body) certs.now) moment
+        (principal subject.now) (map grant list.now) right result }
+{
+    let Some(first) = first_with(list, right) else {
+        return Link::NoEntry;
+    };
     match first_derivable(bench, subject, list, right) {
         Some(entry) => {
             let who = &list[entry as usize].who;

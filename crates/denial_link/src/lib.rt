@@ -8,6 +8,6 @@ mod order;
 mod part;
 mod revive;
 
-pub use first::{first_derivable, first_link};
+pub use first::{first_derivable, first_link, first_link_by_all, first_with};
 pub use laws::one_first_link;
 pub use link::Link;
