@@ -134,7 +134,6 @@ fn fields_are_big_endian_and_end_with_the_input(rt: HostRuntime) {
     assert!(rt; slice_at(&bytes, 7, 3, 'x').is_err());
     let counted = [0, 2, 8, 9, 0, 0, 0, 1];
     assert!(rt; matches!(counted16_at(&counted, 0, 'x'), Ok(([8, 9], 4))));
-    assert!(rt; matches!(counted32_at(&counted, 4, 'x'), Err('x')));
     assert!(rt; matches!(counted16_at(&counted, 6, 'x'), Err('x')));
     assert!(rt; matches!(counted16_at(&counted, 4, 'x'), Ok(([], 6))));
 }

@@ -1,11 +1,11 @@
 //! A certificate under its signer's seal, and the terms of the forms.
 
-ghost use Rattle.std.specs.Prelude.{◌≡◌, IfOk, IfSome};
+ghost use Rattle.std.specs.Prelude.{◌≡◌, IfOk};
 ghost use Rattle.std.specs.Option.{option_map};
-ghost use Rattle.prin_term.specs.Principal.{Key, Quoting, For, HasSpelling};
+ghost use Rattle.prin_term.specs.Principal.{Key, Quoting, For};
 ghost use Rattle.prin_term.specs.View.{principal};
-ghost use Rattle.stmt_codec.specs.Certificates.{certificate, HasBodySpelling, IsWithinLimits};
-ghost use Rattle.sealed_cert.specs.Seals.{sealed};
+ghost use Rattle.stmt_codec.specs.Certificates.{certificate, IsWithinLimits};
+ghost use Rattle.sealed_cert.specs.Seals.{IsSealed};
 ghost use Rattle.credential_kit.specs.Forms.{says, IsIssued, in_role, logged_in, seat};
 
 use crate::signer::Signer;
@@ -14,7 +14,7 @@ use sealed_cert::{ISSUED, seal_issued};
 use std::alloc::{AllocError, Global};
 use stmt_codec::CertBody;
 
-// What an issuer says. Its numbers fit, since they come as numbers of the fields' widths.
+// What an issuer says.
 fn body_of(
     issuer: u32,
     quoted: Option<Term>,
@@ -23,12 +23,8 @@ fn body_of(
     until: u64,
     serial: u64,
 ) -> CertBody
-    requires quoted_fits { IfSome (option_map principal quoted) HasSpelling }
-    requires left_fits { HasSpelling (principal left) }
-    requires right_fits { HasSpelling (principal right) }
-    ensures value { certificate result ≡ says issuer (option_map principal quoted)
+    ensures { certificate result ≡ says issuer (option_map principal quoted)
         (principal left) (principal right) until serial }
-    ensures numbers { HasBodySpelling (certificate result) }
 {
     CertBody {
         issuer,
@@ -42,7 +38,7 @@ fn body_of(
 fn sealed(alloc: Global, key: &[u8; 32], body: &CertBody) -> Result<Vec<u8>, AllocError>
     requires { IsWithinLimits (certificate body.now) }
     ensures { IfOk result
-        (λ bytes. bytes.items ≡ sealed ISSUED key.now (certificate body.now)) }
+        (λ bytes. IsSealed ISSUED key.now bytes.items (certificate body.now)) }
 {
     let mut bytes = Vec::new(alloc);
     seal_issued(&mut bytes, key, body)?;
@@ -59,11 +55,8 @@ pub(crate) fn issue(
     until: u64,
     serial: u64,
 ) -> Result<Vec<u8>, AllocError>
-    requires limits { IsWithinLimits (says signer.now.issuer (option_map principal quoted)
+    requires { IsWithinLimits (says signer.now.issuer (option_map principal quoted)
         (principal left) (principal right) until serial) }
-    requires quoted_fits { IfSome (option_map principal quoted) HasSpelling }
-    requires left_fits { HasSpelling (principal left) }
-    requires right_fits { HasSpelling (principal right) }
     ensures { IfOk result (λ bytes. IsIssued signer.now
         (says signer.now.issuer (option_map principal quoted) (principal left) (principal right)
         until serial) bytes.items) }
@@ -73,48 +66,38 @@ pub(crate) fn issue(
 }
 
 pub(crate) fn key(number: u32) -> Term
-    ensures value { principal result ≡ Key number }
-    ensures fits { HasSpelling (principal result) }
+    ensures { principal result ≡ Key number }
 {
     Term::Key(number)
 }
 
 pub(crate) fn in_role(alloc: Global, name: u32, role: u32) -> Result<Term, AllocError>
-    ensures value { IfOk result (λ t. principal t ≡ in_role name role) }
-    ensures fits { IfOk result (λ t. HasSpelling (principal t)) }
+    ensures { IfOk result (λ t. principal t ≡ in_role name role) }
 {
     Ok(Term::AsRole(Box::new(alloc, Term::Name(name))?, role))
 }
 
 pub(crate) fn seat(alloc: Global, w: u32, os: u32, ks: u32) -> Result<Term, AllocError>
-    ensures value { IfOk result (λ t. principal t ≡ seat w os ks) }
-    ensures fits { IfOk result (λ t. HasSpelling (principal t)) }
+    ensures { IfOk result (λ t. principal t ≡ seat w os ks) }
 {
     let system = Box::new(alloc, in_role(alloc, w, os)?)?;
     Ok(Term::And(system, Box::new(alloc, Term::Key(ks))?))
 }
 
 pub(crate) fn logged_in(alloc: Global, w: u32, os: u32, u: u32) -> Result<Term, AllocError>
-    ensures value { IfOk result (λ t. principal t ≡ logged_in w os u) }
-    ensures fits { IfOk result (λ t. HasSpelling (principal t)) }
+    ensures { IfOk result (λ t. principal t ≡ logged_in w os u) }
 {
     for_both(alloc, in_role(alloc, w, os)?, Term::Name(u))
 }
 
 pub(crate) fn quoting(alloc: Global, left: Term, right: Term) -> Result<Term, AllocError>
-    requires left_fits { HasSpelling (principal left) }
-    requires right_fits { HasSpelling (principal right) }
-    ensures value { IfOk result (λ t. principal t ≡ Quoting (principal left) (principal right)) }
-    ensures fits { IfOk result (λ t. HasSpelling (principal t)) }
+    ensures { IfOk result (λ t. principal t ≡ Quoting (principal left) (principal right)) }
 {
     Ok(Term::Quote(Box::new(alloc, left)?, Box::new(alloc, right)?))
 }
 
 pub(crate) fn for_both(alloc: Global, left: Term, right: Term) -> Result<Term, AllocError>
-    requires left_fits { HasSpelling (principal left) }
-    requires right_fits { HasSpelling (principal right) }
-    ensures value { IfOk result (λ t. principal t ≡ For (principal left) (principal right)) }
-    ensures fits { IfOk result (λ t. HasSpelling (principal t)) }
+    ensures { IfOk result (λ t. principal t ≡ For (principal left) (principal right)) }
 {
     Ok(Term::For(Box::new(alloc, left)?, Box::new(alloc, right)?))
 }

@@ -11,12 +11,13 @@ use Rattle.keyed_seal.proofs.Tags.{length-tag_of}
 use Rattle.prin_term.specs.Principal.{Principal, Key, Name, And, Quoting, InRole, For, node_count, spelling}
 use Rattle.prin_term.specs.Readers.{Reader, followed, is_new}
 use Rattle.prin_term.specs.Steps.{◌>>=◌, with_fault, bytes_at, optional}
-use Rattle.prin_term.proofs.FieldLaws.{IsBytes, TakesAt, TakesAt-then, TakesAt-within, behind, bytes_again}
+use Rattle.prin_term.proofs.FieldLaws.{IsBytes, bytes_are, TakesAt, TakesAt-then, TakesAt-within, behind, bytes_again}
 use Rattle.prin_term.proofs.ReaderLaws.{Reads, reads_bytes, reads_followed, reads_passing, reads_made, reads_counted, is_new-All, is_new-from_All}
 use Rattle.prin_term.proofs.Results.{bind_ok, ok_is, with_fault_ok}
 use Rattle.sealed_cert.specs.Refusals.{opened}
 use Rattle.sealed_cert.specs.Seals.{sealed, sealed_text, IsSealed}
 use Rattle.sealed_cert.proofs.Opened.{opened_takes, opened_again}
+use Rattle.sealed_cert.proofs.Sizes.{short_sealed}
 use Rattle.stmt_codec.specs.Certificates.{Certificate, IsSmall, IsWithinLimits}
 use Rattle.stmt_codec.specs.Equality.{same_certificate}
 use Rattle.stmt_codec.proofs.Equal.{same_certificate-false, same_certificate-apart}
@@ -48,36 +49,10 @@ reads_followed_by {A} {B} {E} {bytes} {first} {second} {sa} {Fa} {Fb} sb one two
 
 -- ---- a sealed certificate is short enough for its length
 
-spelling_short : (t : Principal) → length (spelling t) ≤ 5 * node_count t
-spelling_short (Key k) = omega arith
-spelling_short (Name n) = omega arith
-spelling_short (And a b) = omega (arith, length-append (spelling a) (spelling b), spelling_short a, spelling_short b)
-spelling_short (Quoting a b) = omega (arith, length-append (spelling a) (spelling b), spelling_short a, spelling_short b)
-spelling_short (InRole a r) = omega (arith, length-append (spelling a) (to_be_bytes w32 r), spelling_short a)
-spelling_short (For a b) = omega (arith, length-append (spelling a) (spelling b), spelling_short a, spelling_short b)
-
-quoted_short : (o : Option Principal) → IfSome o IsSmall → length (optional spelling o) ≤ 321
-quoted_short None small = omega arith
-quoted_short (Some t) small = omega (arith, spelling_short t, small.0)
-
--- its parts, one behind another
-lengths : (i q l r u s t : List ℕ) → length ((2 ∷ (1 ∷ [] ++ i ++ q ++ l ++ r ++ u ++ s)) ++ t) ≡ 2 + (length i + (length q + (length l + (length r + (length u + (length s + length t))))))
-lengths i q l r u s t =
-    omega (arith, length-append (i ++ q ++ l ++ r ++ u ++ s) t, length-append (i ++ q ++ l ++ r ++ u) s, length-append (i ++ q ++ l ++ r) u, length-append (i ++ q ++ l) r, length-append (i ++ q) l, length-append i q)
-
 pub sealed_short : (key : List ℕ) (c : Certificate) → IsWithinLimits c → length (sealed 2 key c) < 2 ^ 16
-sealed_short key c limits =
-    let len = lengths (to_be_bytes w32 c.issuer) (optional spelling c.quoted) (spelling c.left) (spelling c.right) (to_be_bytes w64 c.until) (to_be_bytes w64 c.serial) (tag_of key (sealed_text 2 c)) in
-    omega (arith, len, length-tag_of key (sealed_text 2 c), quoted_short c.quoted limits.quoted_fits, spelling_short c.left, spelling_short c.right, limits.left_fits.0, limits.right_fits.0)
+sealed_short key c limits = omega (arith, short_sealed 2 key c limits)
 
 -- ---- what is read
-
-All-IsBytes : (text : List ℕ) → All (λ b. b < 256) text → IsBytes text
-All-IsBytes text all i =
-    elim (cases_lt i (length text)) [
-      | inl lt ↦ all i 0 lt
-      | inr le ↦ rw (get_or_past text i 0 le) (omega arith)
-    ]
 
 module _ (bytes relay_key : List ℕ) where
   reads_opened : (count : ℕ) → Reads bytes (opened_in bytes relay_key count) (sealed 2 relay_key) (λ c. IsCommon c × (length (sealed 2 relay_key c) ≡ count))
@@ -87,7 +62,7 @@ module _ (bytes relay_key : List ℕ) where
         let text = bind_ok (bytes_at (ended bytes) count bytes at) (λ text. with_fault (λ _. Byte at) (opened relay_key text.0) >>= λ c. Ok (c, text.1)) x e in
         let c = bind_ok (with_fault (λ _. Byte at) (opened relay_key text.0.0)) (λ c. Ok (c, text.0.1)) x text.2 in
         let t = (reads_bytes (ended bytes) count bytes).takes ok at text.0 le text.1 in
-        let is : IsSealed 2 relay_key text.0.0 c.0 = opened_takes relay_key text.0.0 c.0 (All-IsBytes text.0.0 t.1.1) (with_fault_ok (λ _. Byte at) (opened relay_key text.0.0) c.0 c.1) in
+        let is : IsSealed 2 relay_key text.0.0 c.0 = opened_takes relay_key text.0.0 c.0 (bytes_are text.0.0 t.1.1) (with_fault_ok (λ _. Byte at) (opened relay_key text.0.0) c.0 c.1) in
         let whole : Certificate × ℕ = (c.0, text.0.1) in
         subst (λ (y : Certificate × ℕ). TakesAt bytes at (sealed 2 relay_key y.0) y.1 × (IsCommon y.0 × (length (sealed 2 relay_key y.0) ≡ count))) (ok_is OpeningFault whole x c.2)
         (subst (λ (l : List ℕ). TakesAt bytes at l text.0.1) is.text t.0, ((is.numbers, is.limits), ap length (sym is.text) ∙ t.1.0));

@@ -1,6 +1,5 @@
 pub mod Results
 pub mod FieldLaws
-pub mod Items
 pub mod Heads
 pub mod Levels
 pub mod Terms
@@ -11,3 +10,4 @@ pub mod ReaderLaws
 pub mod Loops
 pub mod FieldReaders
 pub mod Cuts
+pub mod Sizes

@@ -1,6 +1,6 @@
 -- What a whole reader answers, from what it gives as a function.
 use Rattle.std.proofs.Common.{◌≡◌, ◌≢◌, ◌⊎◌, ℕ, ◌+◌, ◌-◌, ◌<◌, ◌≤◌, List, [], ◌∷◌, ◌++◌, length, drop, Result, Ok, Err, refl, sym, ap, subst, ◌∙◌, append_assoc, append-nil, arith, inl, inr, max, length-append, length-drop}
-use Rattle.std.specs.Prelude.{IfOk, IfErr, MatchResult}
+use Rattle.std.specs.Prelude.{◌↔◌, IfOk, IfErr, MatchResult}
 use Rattle.prin_term.specs.declared.fault.TermFault.{TermFault}
 use Rattle.prin_term.specs.declared.fault.TermFault.TheVariants.{Tag, TooDeep, TooLarge, Short, NoMemory}
 use Rattle.prin_term.specs.declared.term.Term.{Term}
@@ -53,6 +53,16 @@ pub refused_again_at : (nodes at : ℕ) (bytes : List ℕ) (f : TermFault) → a
 unfolding term_at
 refused_again_at nodes at bytes f le r =
     ap (λ x. x >>= λ y. Ok (y.0, length bytes - length y.2)) (refused_again (length bytes) MAX_DEPTH nodes at (drop at bytes) f (omega (arith, length-drop at bytes)) r)
+
+-- what reading gives, from both sides
+pub read_is : (nodes at end : ℕ) (bytes : List ℕ) (t : Principal) → at ≤ length bytes → IsBytes bytes → (term_at nodes bytes at ≡ Ok (t, end)) ↔ (IsTermAt nodes bytes at t × (end ≡ at + length (spelling t)))
+read_is nodes at end bytes t le fits = (
+  λ e. found_at nodes at bytes (t, end) le fits e,
+  λ is. again_at nodes at bytes is.0.text.0 t le is.0.limits is.0.text.1 ∙ ap (λ (k : ℕ). Ok (t, k)) (sym is.1),
+)
+
+pub refused_is : (nodes at : ℕ) (bytes : List ℕ) (f : TermFault) → at ≤ length bytes → IsBytes bytes → (term_at nodes bytes at ≡ Err f) ↔ IsRefused MAX_DEPTH nodes (drop at bytes) at f
+refused_is nodes at bytes f le fits = (λ e. refused_at nodes at bytes f le fits e, λ r. refused_again_at nodes at bytes f le r)
 
 abbrev pub seen : Term × ℕ → Principal × ℕ
 seen x = (principal x.0, x.1)

@@ -1,5 +1,5 @@
 -- What every format has: steps that may fail, and fields that are read at an offset.
-use Rattle.std.specs.Prelude.{◌≡◌, ◌⊎◌, ℕ, zero, suc, ◌+◌, ◌-◌, Bool, List, [], ◌∷◌, ◌++◌, length, take, drop, Option, None, Some, Result, Ok, Err, nat_lt, ◌==◌, if◌then◌else◌, slice_index}
+use Rattle.std.specs.Prelude.{◌≡◌, ◌⊎◌, ℕ, ◌+◌, ◌-◌, Bool, List, [], ◌∷◌, ◌++◌, length, take, drop, Option, None, Some, Result, Ok, Err, nat_lt, ◌==◌, if◌then◌else◌, slice_index}
 use Rattle.std.specs.Int.{Width, byte_len, from_be_bytes, to_be_bytes}
 
 infixl 10 ◌>>=◌
@@ -69,11 +69,3 @@ unfoldable pub optional_at : {A E : Type 0} → E → E → (ℕ → Result (A �
 optional_at short bad item bytes at = do
   flag ← byte_at short bytes at
   if flag.0 == 0 then Ok (None, flag.1) else (if flag.0 == 1 then (item flag.1 >>= λ x. Ok (Some x.0, x.1)) else Err bad)
-
--- so many items, one after another
-unfoldable pub items_at : {A E : Type 0} → (ℕ → Result (A × ℕ) E) → ℕ → ℕ → Result (List A × ℕ) E
-items_at item zero at = Ok ([], at)
-items_at item (suc n) at = do
-  first ← item at
-  others ← items_at item n first.1
-  Ok (first.0 ∷ others.0, others.1)

@@ -115,14 +115,3 @@ pub fn counted16_at<E: Copy + Drop>(bytes: &[u8], at: usize, short: E) -> Result
     let (count, next) = u16_at(bytes, at, short)?;
     slice_at(bytes, next, count as usize, short)
 }
-
-/// A length of four bytes, and that many bytes, as a part of the input.
-#[tactic(auto, unfolding(crate::specs::Steps::counted_at))]
-pub fn counted32_at<E: Copy + Drop>(bytes: &[u8], at: usize, short: E) -> Result<(&[u8], usize), E>
-    requires { at ≤ length bytes.now }
-    ensures value { with_value (λ x. (x.0.now, x.1)) result ≡ counted_at short w32 bytes.now at }
-    ensures within { IfOk result (λ x. x.1 ≤ length bytes.now) }
-{
-    let (count, next) = u32_at(bytes, at, short)?;
-    slice_at(bytes, next, count as usize, short)
-}

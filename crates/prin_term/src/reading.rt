@@ -121,14 +121,14 @@ fn operand_of(
     Ok((Box::new(alloc, term)?, nodes, rest))
 }
 
-#[tactic(auto, unfolding(crate::specs::Reading::term_at))]
+#[tactic(auto, unfolding(crate::specs::Reading::term_at, crate::specs::Reading::front_term))]
 fn term_at(alloc: Global, bytes: &[u8], at: usize, nodes: u32) -> Result<(Term, usize), TermFault>
     requires { at ≤ length bytes.now }
     ensures value { Gives NoMemory (λ x. (principal x.0, x.1)) result (term_at nodes bytes.now at) }
     ensures within { IfOk result (λ x. x.1 ≤ length bytes.now) }
 {
-    let (term, _, rest) = operand_of(alloc, bytes.len(), MAX_DEPTH, nodes, &bytes[at..])?;
-    Ok((Box::into_inner(term), bytes.len() - rest.len()))
+    let (term, _, rest) = term_of(alloc, bytes.len(), MAX_DEPTH, nodes, &bytes[at..])?;
+    Ok((term, bytes.len() - rest.len()))
 }
 
 /// The term that is spelled at `at`, with at most so many nodes, and the offset after it.

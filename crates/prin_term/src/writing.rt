@@ -3,7 +3,7 @@
 ghost use Rattle.std.specs.Prelude.{◌≡◌, ◌++◌, ◌+◌, ◌<◌, ◌≤◌, length, vec_capacity, List, ℕ, OnOk, OnErr};
 ghost use Rattle.std.specs.Prelude.{◌∷◌};
 ghost use Rattle.std.specs.Int.{w32, to_be_bytes};
-ghost use Rattle.prin_term.specs.Principal.{spelling};
+ghost use Rattle.prin_term.specs.Principal.{spelling, HasSpelling};
 ghost use Rattle.prin_term.specs.View.{principal};
 
 use crate::term::Term;
@@ -13,6 +13,8 @@ use std::alloc::AllocError;
 pub fn write_term(out: &mut Vec<u8>, term: &Term) -> Result<(), AllocError>
     ensures ok { OnOk result
         (out.new.items ≡ out.old.items ++ spelling (principal term.now)) }
+    // The numbers of a term fit their fields, so what is written is read again.
+    ensures numbers { OnOk result (HasSpelling (principal term.now)) }
     ensures err { OnErr result (out.new.items ≡ out.old.items) }
     ensures capacity { vec_capacity out.old ≤ vec_capacity out.new }
     // Memory is refused only where the room behind what is there is too small.
@@ -31,6 +33,7 @@ pub fn write_term(out: &mut Vec<u8>, term: &Term) -> Result<(), AllocError>
 fn push_term(out: &mut Vec<u8>, term: &Term) -> Result<(), AllocError>
     ensures ok { OnOk result
         (out.new.items ≡ out.old.items ++ spelling (principal term.now)) }
+    ensures numbers { OnOk result (HasSpelling (principal term.now)) }
     ensures err { OnErr result
         ((more : List ℕ) × (out.new.items ≡ out.old.items ++ more)) }
     ensures capacity { vec_capacity out.old ≤ vec_capacity out.new }

@@ -1,11 +1,9 @@
 -- Of the cases of resealing one holds, and that is what is said.
-use Rattle.std.proofs.Common.{◌≡◌, ◌≢◌, ℕ, ◌+◌, ◌-◌, ◌<◌, Bool, true, false, cond, List, ◌∷◌, ◌++◌, length, drop, Option, Some, None, Result, Ok, Err, refl, sym, ap, subst, ◌∙◌, inl, inr, arith, All, get_or}
+use Rattle.std.proofs.Common.{◌≡◌, ◌≢◌, ℕ, ◌+◌, ◌-◌, ◌<◌, Bool, true, false, cond, List, ◌∷◌, ◌++◌, length, drop, Option, Some, None, Result, Ok, Err, refl, sym, ap, subst, ◌∙◌, inl, inr, arith, get_or}
 use Rattle.std.specs.Prelude.{nat_lt, ◌==◌, if◌then◌else◌}
 use Rattle.std.specs.Str.{bytes_eq}
-use Rattle.std.proofs.lemmas.Bool.{eqb-true, false≢true, cases_lt, cases_Bool}
+use Rattle.std.proofs.lemmas.Bool.{eqb-true, false≢true, cases_Bool}
 use Rattle.std.proofs.lemmas.Slice.Eq.{bytes_eq-Decides}
-use Rattle.std.proofs.lemmas.List.{get_or_past}
-use Rattle.std.proofs.lemmas.List.Elements.{All-get_or}
 use Rattle.keyed_seal.specs.Keys.{Entries, key_of}
 use Rattle.keyed_seal.specs.Tag.{tag_of}
 use Rattle.keyed_seal.proofs.Tags.{length-tag_of}
@@ -28,12 +26,6 @@ use Rattle.frame_link.specs.declared.outside.RelayAnswer.TheVariants.{Resealed, 
 use Rattle.frame_link.specs.declared.outside.RelayAnswer.TheVariants as answers
 use Rattle.frame_link.specs.Relay.{Said, Gave, Refuses, IsSaid, IsRelayCode, HasRelayCode}
 use Rattle.relay_core.specs.Resealing.{code_of, said_of, resealed, IsRelayed, IsResealed, is_given, is_of_wrong_kind, is_malformed, is_of_no_issuer, is_badly_sealed, is_for_no_node}
-
-pub bytes_are : (bytes : List ℕ) → All (λ b. b < 256) bytes → IsBytes bytes
-bytes_are bytes all i = elim (cases_lt i (length bytes)) [
-  | inl within ↦ All-get_or (λ b. b < 256) bytes i 0 within all
-  | inr past ↦ omega (arith, get_or_past bytes i 0 past)
-]
 
 -- ---- what a fault of the form says
 

@@ -11,7 +11,7 @@ use crate::code::{UNKNOWN_NODE, code_of};
 use arrayvec::ArrayVec;
 use frame_link::RelayAnswer;
 use keyed_seal::{KeyTable, Sealer};
-use sealed_cert::{RELAYED, SealFault, open_issued, seal_relayed_with};
+use sealed_cert::{RELAYED, SealFault, open_issued_body, seal_relayed_with};
 use std::alloc::{AllocError, Global};
 use stmt_codec::CertBody;
 
@@ -79,8 +79,8 @@ fn answer(
         result out.new.items }
 {
     out.clear();
-    match open_issued(alloc, &table.issuers, bytes) {
-        Ok(cert) => seal_for(alloc, &table.nodes, node, &cert.body, out),
+    match open_issued_body(alloc, &table.issuers, bytes) {
+        Ok(body) => seal_for(alloc, &table.nodes, node, &body, out),
         Err(SealFault::NoMemory) => RelayAnswer::NoMemory,
         Err(fault) => RelayAnswer::Refused {
             code: code_of(fault),

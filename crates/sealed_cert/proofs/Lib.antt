@@ -2,3 +2,4 @@ pub mod Opened
 pub mod Apart
 pub mod Lengths
 pub mod Judged
+pub mod Sizes

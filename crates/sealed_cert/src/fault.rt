@@ -1,8 +1,10 @@
 //! Why bytes do not open.
 
 ghost use Rattle.std.specs.Prelude.{◌≡◌};
+ghost use Rattle.sealed_cert.specs.declared.fault.SealFault.TheVariants.{NoMemory};
 ghost use Rattle.sealed_cert.specs.Refusals.{seen_as};
 
+use std::alloc::AllocError;
 use std::error::Error;
 use std::fmt;
 use stmt_codec::BodyFault;
@@ -46,5 +48,13 @@ impl From<BodyFault> for SealFault {
             BodyFault::Malformed { offset } => SealFault::Malformed { offset },
             BodyFault::NoMemory => SealFault::NoMemory,
         }
+    }
+}
+
+impl From<AllocError> for SealFault {
+    ghost from_gives = { λ _ e. e ≡ NoMemory };
+
+    fn from(_e: AllocError) -> SealFault {
+        SealFault::NoMemory
     }
 }

@@ -1,6 +1,7 @@
 //! Laws of sealed certificates, stated as contracts of functions that do nothing.
 
-ghost use Rattle.std.specs.Prelude.{◌≡◌, ◌≢◌, ◌<◌, ◌∷◌, ◌++◌, ℕ, List, length, None, Some, Ok, Err};
+ghost use Rattle.std.specs.Prelude.{◌≡◌, ◌≢◌, ◌↔◌, ◌<◌, ◌∷◌, ◌++◌, ℕ, List, All, length};
+ghost use Rattle.std.specs.Prelude.{None, Some, Ok, Err};
 ghost use Rattle.keyed_seal.specs.Keys.{Entries, key_of};
 ghost use Rattle.keyed_seal.specs.Tag.{tag_of};
 ghost use Rattle.stmt_codec.specs.Certificates.{Certificate, HasBodySpelling, IsWithinLimits};
@@ -19,6 +20,15 @@ pub fn a_sealed_body_opens()
     ensures issued { (entries : Entries) (key : List ℕ) (c : Certificate) → HasBodySpelling c
         → IsWithinLimits c → key_of entries c.issuer ≡ Some key
         → opened_issued entries (sealed ISSUED key c) ≡ Ok c }
+{}
+
+/// Opening as a function gives exactly the certificates that the bytes are sealed for.
+pub fn sealed_bytes_are_opened()
+    ensures relayed { (key bytes : List ℕ) (c : Certificate) → All (λ b. b < 256) bytes
+        → (opened key bytes ≡ Ok c) ↔ Opens key bytes c }
+    ensures issued { (entries : Entries) (bytes : List ℕ) (c : Certificate)
+        → All (λ b. b < 256) bytes
+        → (opened_issued entries bytes ≡ Ok c) ↔ OpensIssued entries bytes c }
 {}
 
 /// Bytes of one kind never open as the other.

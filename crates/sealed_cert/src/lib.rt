@@ -11,7 +11,7 @@ pub use fault::SealFault;
 pub use kind::{ISSUED, RELAYED, TAG_LEN};
 pub use laws::{
     a_sealed_body_opens, bytes_behind_are_refused, cut_seals_are_refused, kinds_are_apart,
-    one_body_opens, spelled_bytes_are_judged,
+    one_body_opens, sealed_bytes_are_opened, spelled_bytes_are_judged,
 };
-pub use opening::{open_issued, open_relayed, open_with};
+pub use opening::{open_issued, open_issued_body, open_relayed, open_with};
 pub use sealing::{seal_issued, seal_relayed, seal_relayed_with};

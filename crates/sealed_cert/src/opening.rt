@@ -1,8 +1,8 @@
 //! Opening sealed certificates.
 
-ghost use Rattle.std.specs.Prelude.{◌≡◌, ◌≤◌, length, IfOk, MatchResult};
+ghost use Rattle.std.specs.Prelude.{◌≡◌, ◌+◌, ◌≤◌, length, IfOk, IfErr, MatchResult};
 ghost use Rattle.prin_term.specs.Steps.{Gives};
-ghost use Rattle.stmt_codec.specs.Certificates.{Certificate, certificate};
+ghost use Rattle.stmt_codec.specs.Certificates.{Certificate, certificate, body_spelling, IsBodyAt};
 ghost use Rattle.sealed_cert.specs.declared.fault.SealFault.TheVariants.{NoMemory};
 ghost use Rattle.sealed_cert.specs.Seals.{Opens, OpensIssued};
 ghost use Rattle.sealed_cert.specs.Refusals.{kind_at, ends_in_tag, carried, is_tagged};
@@ -13,12 +13,13 @@ use crate::kind::{ISSUED, RELAYED, TAG_LEN};
 use keyed_seal::{KeyTable, Sealer};
 use prin_term::fields::u8_at;
 use std::alloc::Global;
-use stmt_codec::{Cert, read_body};
+use stmt_codec::{Cert, CertBody, read_bare_body};
 
 // Where the body begins.
 #[tactic(auto, unfolding(crate::specs::Refusals::kind_at))]
 fn kind_at(bytes: &[u8], kind: u8, other: u8) -> Result<usize, SealFault>
     ensures value { result ≡ kind_at kind other bytes.now }
+    ensures first { IfOk result (λ begin. begin ≡ 1) }
     ensures within { IfOk result (λ begin. begin ≤ length bytes.now) }
 {
     let (first, begin) = u8_at(bytes, 0, SealFault::Malformed { offset: 0 })?;
@@ -37,6 +38,7 @@ fn kind_at(bytes: &[u8], kind: u8, other: u8) -> Result<usize, SealFault>
 fn ends_in_tag(bytes: &[u8], at: usize) -> Result<usize, SealFault>
     requires { at ≤ length bytes.now }
     ensures value { result ≡ ends_in_tag bytes.now at }
+    ensures same { IfOk result (λ end. end ≡ at) }
     ensures within { IfOk result (λ end. end ≤ length bytes.now) }
 {
     let len = bytes.len();
@@ -51,17 +53,19 @@ fn ends_in_tag(bytes: &[u8], at: usize) -> Result<usize, SealFault>
     Ok(at)
 }
 
-// The certificate, whatever its tag, and the offset of the tag.
+// The body, whatever its tag, and the offset of the tag.
 #[tactic(auto, unfolding(crate::specs::Refusals::carried))]
-fn carried(alloc: Global, bytes: &[u8], kind: u8, other: u8) -> Result<(Cert, usize), SealFault>
-    ensures value { Gives NoMemory (λ x. (certificate x.0.body, x.1)) result
+fn carried(alloc: Global, bytes: &[u8], kind: u8, other: u8) -> Result<(CertBody, usize), SealFault>
+    ensures value { Gives NoMemory (λ x. (certificate x.0, x.1)) result
         (carried kind other bytes.now) }
+    ensures spelled { IfOk result (λ x. IsBodyAt bytes.now 1 (certificate x.0)
+        × (x.1 ≡ 1 + length (body_spelling (certificate x.0)))) }
     ensures within { IfOk result (λ x. x.1 ≤ length bytes.now) }
 {
     let begin = kind_at(bytes, kind, other)?;
-    let (cert, end) = read_body(alloc, bytes, begin)?;
+    let (body, end) = read_bare_body(alloc, bytes, begin)?;
     let end = ends_in_tag(bytes, end)?;
-    Ok((cert, end))
+    Ok((body, end))
 }
 
 // Whether the bytes from `end` on are the tag of those before it.
@@ -72,38 +76,81 @@ fn is_tagged(sealer: &Sealer, bytes: &[u8], end: usize) -> bool
     sealer.tag_is(&bytes[..end], &bytes[end..])
 }
 
+// The body under its issuer's seal, and where it ends.
 #[tactic(auto, unfolding(crate::specs::Refusals::opened_issued))]
-fn issued(alloc: Global, table: &KeyTable, bytes: &[u8]) -> Result<Cert, SealFault>
-    ensures { Gives NoMemory (λ cert. certificate cert.body) result
+fn issued(alloc: Global, table: &KeyTable, bytes: &[u8]) -> Result<(CertBody, usize), SealFault>
+    ensures value { Gives NoMemory (λ x. certificate x.0) result
         (opened_issued table.now.entries bytes.now) }
+    ensures spelled { IfOk result (λ x. IsBodyAt bytes.now 1 (certificate x.0)
+        × (x.1 ≡ 1 + length (body_spelling (certificate x.0)))) }
+    ensures within { IfOk result (λ x. x.1 ≤ length bytes.now) }
 {
-    let (cert, end) = carried(alloc, bytes, ISSUED, RELAYED)?;
-    let issuer = cert.body.issuer;
+    let (body, end) = carried(alloc, bytes, ISSUED, RELAYED)?;
+    let issuer = body.issuer;
     let Some(sealer) = table.sealer(issuer) else {
         return Err(SealFault::UnknownIssuer { issuer });
     };
     if is_tagged(sealer, bytes, end) {
-        Ok(cert)
+        Ok((body, end))
     } else {
         Err(SealFault::BadSeal)
     }
 }
 
+// The body under a relay's seal, and where it ends.
 #[tactic(auto, unfolding(crate::specs::Refusals::opened))]
-fn relayed(alloc: Global, sealer: &Sealer, bytes: &[u8]) -> Result<Cert, SealFault>
+fn relayed(alloc: Global, sealer: &Sealer, bytes: &[u8]) -> Result<(CertBody, usize), SealFault>
+    ensures value { Gives NoMemory (λ x. certificate x.0) result
+        (opened sealer.now bytes.now) }
+    ensures spelled { IfOk result (λ x. IsBodyAt bytes.now 1 (certificate x.0)
+        × (x.1 ≡ 1 + length (body_spelling (certificate x.0)))) }
+    ensures within { IfOk result (λ x. x.1 ≤ length bytes.now) }
+{
+    let (body, end) = carried(alloc, bytes, RELAYED, ISSUED)?;
+    if is_tagged(sealer, bytes, end) {
+        Ok((body, end))
+    } else {
+        Err(SealFault::BadSeal)
+    }
+}
+
+// The certificate with the body that is spelled up to `end`.
+fn cert_of(alloc: Global, bytes: &[u8], body: CertBody, end: usize) -> Result<Cert, SealFault>
+    requires spelled { IsBodyAt bytes.now 1 (certificate body)
+        × (end ≡ 1 + length (body_spelling (certificate body))) }
+    requires within { end ≤ length bytes.now }
+    ensures same { IfOk result (λ cert. cert.body ≡ body) }
+    ensures memory { IfErr result (λ e. e ≡ NoMemory) }
+{
+    Ok(Cert::spelled_by(alloc, body, &bytes[1..end])?)
+}
+
+fn issued_cert(alloc: Global, table: &KeyTable, bytes: &[u8]) -> Result<Cert, SealFault>
+    ensures { Gives NoMemory (λ cert. certificate cert.body) result
+        (opened_issued table.now.entries bytes.now) }
+{
+    let (body, end) = issued(alloc, table, bytes)?;
+    cert_of(alloc, bytes, body, end)
+}
+
+fn issued_body(alloc: Global, table: &KeyTable, bytes: &[u8]) -> Result<CertBody, SealFault>
+    ensures { Gives NoMemory certificate result
+        (opened_issued table.now.entries bytes.now) }
+{
+    let (body, _) = issued(alloc, table, bytes)?;
+    Ok(body)
+}
+
+fn relayed_cert(alloc: Global, sealer: &Sealer, bytes: &[u8]) -> Result<Cert, SealFault>
     ensures { Gives NoMemory (λ cert. certificate cert.body) result
         (opened sealer.now bytes.now) }
 {
-    let (cert, end) = carried(alloc, bytes, RELAYED, ISSUED)?;
-    if is_tagged(sealer, bytes, end) {
-        Ok(cert)
-    } else {
-        Err(SealFault::BadSeal)
-    }
+    let (body, end) = relayed(alloc, sealer, bytes)?;
+    cert_of(alloc, bytes, body, end)
 }
 
 /// Opens a certificate under its issuer's seal. The first byte is looked at first, then the
-/// form of the whole, then the issuer, then the tag.
+/// form of the whole, then the issuer, then the tag; speaker and digest are made after these.
 pub fn open_issued(alloc: Global, table: &KeyTable, bytes: &[u8]) -> Result<Cert, SealFault>
     // What is opened is sealed so.
     ensures found { IfOk result
@@ -116,7 +163,24 @@ pub fn open_issued(alloc: Global, table: &KeyTable, bytes: &[u8]) -> Result<Cert
     ensures exact { Gives NoMemory (λ cert. certificate cert.body) result
         (opened_issued table.now.entries bytes.now) }
 {
-    issued(alloc, table, bytes)
+    issued_cert(alloc, table, bytes)
+}
+
+/// As `open_issued`, without speaker and digest.
+pub fn open_issued_body(
+    alloc: Global,
+    table: &KeyTable,
+    bytes: &[u8],
+) -> Result<CertBody, SealFault>
+    ensures found { IfOk result
+        (λ body. OpensIssued table.now.entries bytes.now (certificate body)) }
+    ensures only { (c : Certificate) → OpensIssued table.now.entries bytes.now c
+        → MatchResult result (λ body. certificate body ≡ c) (λ e. e ≡ NoMemory) }
+
+    ensures exact { Gives NoMemory certificate result
+        (opened_issued table.now.entries bytes.now) }
+{
+    issued_body(alloc, table, bytes)
 }
 
 /// Opens a certificate under a relay's seal, by the key that the relay shares with this node.
@@ -140,5 +204,5 @@ pub fn open_with(alloc: Global, sealer: &Sealer, bytes: &[u8]) -> Result<Cert, S
     ensures exact { Gives NoMemory (λ cert. certificate cert.body) result
         (opened sealer.now bytes.now) }
 {
-    relayed(alloc, sealer, bytes)
+    relayed_cert(alloc, sealer, bytes)
 }

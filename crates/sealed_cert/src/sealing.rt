@@ -15,9 +15,8 @@ pub fn seal_issued(out: &mut Vec<u8>, key: &[u8; 32], body: &CertBody) -> Result
     requires { IsWithinLimits (certificate body.now) }
     ensures ok { OnOk result (out.new.items
         ≡ out.old.items ++ sealed ISSUED key.now (certificate body.now)) }
-    ensures opens { OnOk result (HasBodySpelling (certificate body.now)
-        → IsSealed ISSUED key.now (drop (length out.old.items) out.new.items)
-        (certificate body.now)) }
+    ensures opens { OnOk result (IsSealed ISSUED key.now
+        (drop (length out.old.items) out.new.items) (certificate body.now)) }
     ensures err { OnErr result (out.new.items ≡ out.old.items) }
     ensures capacity { vec_capacity out.old ≤ vec_capacity out.new }
     // Memory is refused only where the room behind what is there is too small.
@@ -33,8 +32,8 @@ pub fn seal_relayed(out: &mut Vec<u8>, key: &[u8; 32], body: &CertBody) -> Resul
     requires { IsWithinLimits (certificate body.now) }
     ensures ok { OnOk result (out.new.items
         ≡ out.old.items ++ sealed RELAYED key.now (certificate body.now)) }
-    ensures opens { OnOk result (HasBodySpelling (certificate body.now)
-        → Opens key.now (drop (length out.old.items) out.new.items) (certificate body.now)) }
+    ensures opens { OnOk result (Opens key.now
+        (drop (length out.old.items) out.new.items) (certificate body.now)) }
     ensures err { OnErr result (out.new.items ≡ out.old.items) }
     ensures capacity { vec_capacity out.old ≤ vec_capacity out.new }
     ensures room { OnErr result (vec_capacity out.old
@@ -52,8 +51,8 @@ pub fn seal_relayed_with(
     requires { IsWithinLimits (certificate body.now) }
     ensures ok { OnOk result (out.new.items
         ≡ out.old.items ++ sealed RELAYED sealer.now (certificate body.now)) }
-    ensures opens { OnOk result (HasBodySpelling (certificate body.now)
-        → Opens sealer.now (drop (length out.old.items) out.new.items) (certificate body.now)) }
+    ensures opens { OnOk result (Opens sealer.now
+        (drop (length out.old.items) out.new.items) (certificate body.now)) }
     ensures err { OnErr result (out.new.items ≡ out.old.items) }
     ensures capacity { vec_capacity out.old ≤ vec_capacity out.new }
     ensures room { OnErr result (vec_capacity out.old
@@ -65,6 +64,7 @@ pub fn seal_relayed_with(
 fn seal(out: &mut Vec<u8>, kind: u8, sealer: &Sealer, body: &CertBody) -> Result<(), AllocError>
     ensures ok { OnOk result (out.new.items
         ≡ out.old.items ++ sealed kind sealer.now (certificate body.now)) }
+    ensures numbers { OnOk result (HasBodySpelling (certificate body.now)) }
     ensures err { OnErr result (out.new.items ≡ out.old.items) }
     ensures capacity { vec_capacity out.old ≤ vec_capacity out.new }
     ensures room { OnErr result (vec_capacity out.old
@@ -87,6 +87,7 @@ fn push_sealed(
 ) -> Result<(), AllocError>
     ensures ok { OnOk result (out.new.items
         ≡ out.old.items ++ sealed kind sealer.now (certificate body.now)) }
+    ensures numbers { OnOk result (HasBodySpelling (certificate body.now)) }
     ensures err { OnErr result ((more : List ℕ) × (out.new.items ≡ out.old.items ++ more)) }
     ensures capacity { vec_capacity out.old ≤ vec_capacity out.new }
     ensures room { OnErr result (vec_capacity out.old

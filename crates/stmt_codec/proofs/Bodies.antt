@@ -1,6 +1,6 @@
 -- A body that is read was spelled there, and one that is spelled there is read.
-use Rattle.std.proofs.Common.{◌≡◌, ℕ, ◌+◌, ◌-◌, ◌^◌, ◌≤◌, true, List, [], ◌∷◌, ◌++◌, length, drop, take, Option, Some, None, Ok, refl, ap, subst, ◌∙◌, append_assoc, arith, length-append}
-use Rattle.std.specs.Prelude.{nat_le, IfSome}
+use Rattle.std.proofs.Common.{◌≡◌, ℕ, ◌+◌, ◌-◌, ◌^◌, ◌≤◌, true, List, [], ◌∷◌, ◌++◌, length, drop, take, Option, Some, None, Ok, refl, sym, ap, subst, ◌∙◌, append_assoc, arith, length-append}
+use Rattle.std.specs.Prelude.{◌↔◌, nat_le, IfSome}
 use Rattle.std.specs.Int.{w32, w64, to_be_bytes}
 use Rattle.std.proofs.lemmas.Bool.{leb-true, le-leb}
 use Rattle.std.proofs.lemmas.List.{take_at}
@@ -147,3 +147,7 @@ again_at bytes at c le is = body_again bytes is.text.0 at c le is.numbers is.lim
 -- the bytes between the two offsets are the spelling
 pub text_between : (bytes : List ℕ) (at end : ℕ) (c : Certificate) → IsBodyAt bytes at c → end ≡ at + length (body_spelling c) → take (end - at) (drop at bytes) ≡ body_spelling c
 text_between bytes at end c is e = ap (λ (l : List ℕ). take (end - at) l) is.text.1 ∙ take_at (body_spelling c) is.text.0 (end - at) (omega (arith, e))
+
+-- what reading gives, from both sides
+pub read_is : (bytes : List ℕ) (at end : ℕ) (c : Certificate) → at ≤ length bytes → IsBytes bytes → (body_at bytes at ≡ Ok (c, end)) ↔ (IsBodyAt bytes at c × (end ≡ at + length (body_spelling c)))
+read_is bytes at end c le fits = (λ e. found_at bytes at (c, end) le fits e, λ is. again_at bytes at c le is.0 ∙ ap (λ (k : ℕ). Ok (c, k)) (sym is.1))

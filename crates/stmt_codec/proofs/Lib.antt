@@ -10,3 +10,5 @@ pub mod Cuts
 pub mod Prefixes
 pub mod Members
 pub mod Equal
+pub mod BodyLengths
+pub mod Offsets

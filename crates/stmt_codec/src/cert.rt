@@ -5,8 +5,9 @@ ghost use Rattle.std.specs.Option.{option_map};
 ghost use Rattle.prin_term.specs.View.{principal};
 ghost use Rattle.stmt_codec.specs.declared.fault.CertFault.TheVariants.{TooLarge, NoMemory};
 ghost use Rattle.stmt_codec.specs.Certificates.{certificate, key_quoting, speaker_of};
-ghost use Rattle.stmt_codec.specs.Certificates.{body_spelling, digest_of, IsSmall, IsWithinLimits};
-ghost use Rattle.stmt_codec.specs.Unique.{IsWithinLimits-prop, principal-set};
+ghost use Rattle.stmt_codec.specs.Certificates.{body_spelling, digest_of, IsSmall};
+ghost use Rattle.stmt_codec.specs.Certificates.{HasBodySpelling, IsWithinLimits};
+ghost use Rattle.stmt_codec.specs.Unique.{HasBodySpelling-prop, IsWithinLimits-prop, principal-set};
 
 use crate::body::CertBody;
 use crate::distinct::has_few_subterms;
@@ -26,6 +27,8 @@ pub struct Cert {
     pub digest: [u8; 32],
     /// The body is within the limits.
     pub ghost limits: { IsWithinLimits (certificate body) } by { IsWithinLimits-prop _ },
+    /// Its numbers fit their fields, so it has a spelling.
+    pub ghost numbers: { HasBodySpelling (certificate body) } by { HasBodySpelling-prop _ },
     /// The speaker is the one that the body names.
     pub ghost speaks: { principal speaker ≡ speaker_of (certificate body) } by { principal-set _ _ },
     /// The digest is that of the body.
@@ -46,7 +49,23 @@ impl Cert {
         }
         let mut text = Vec::new(alloc);
         write_body(&mut text, &body)?;
-        Ok(cert_of(alloc, body, &text)?)
+        Ok(Cert::spelled_by(alloc, body, &text)?)
+    }
+
+    /// The certificate with a body that was read, without writing it anew: `text` is its spelling.
+    pub fn spelled_by(alloc: Global, body: CertBody, text: &[u8]) -> Result<Cert, AllocError>
+        requires limits { IsWithinLimits (certificate body) }
+        requires numbers { HasBodySpelling (certificate body) }
+        requires spelled { text.now ≡ body_spelling (certificate body) }
+        ensures { IfOk result (λ cert. cert.body ≡ body) }
+    {
+        let speaker = speaker_of(alloc, body.issuer, &body.quoted)?;
+        let digest = Sha256::digest(text);
+        Ok(Cert {
+            body,
+            speaker,
+            digest,
+        })
     }
 
     /// Whether the certificate has not yet ended at the moment.
@@ -90,19 +109,4 @@ fn speaker_of(alloc: Global, issuer: u32, quoted: &Option<Term>) -> Result<Term,
             Ok(Term::Quote(key, copy))
         }
     }
-}
-
-// The certificate with this body and this digest.
-pub(crate) fn cert_of(alloc: Global, body: CertBody, text: &[u8]) -> Result<Cert, AllocError>
-    requires limits { IsWithinLimits (certificate body) }
-    requires spelled { text.now ≡ body_spelling (certificate body) }
-    ensures { IfOk result (λ cert. cert.body ≡ body) }
-{
-    let speaker = speaker_of(alloc, body.issuer, &body.quoted)?;
-    let digest = Sha256::digest(text);
-    Ok(Cert {
-        body,
-        speaker,
-        digest,
-    })
 }

@@ -1,12 +1,12 @@
 //! Laws of certificates, stated as contracts of functions that do nothing.
 
 ghost use Rattle.std.specs.Prelude.{◌≡◌, ◌≢◌, ◌↔◌, ◌+◌, ◌-◌, ◌<◌, ◌≤◌, ◌++◌};
-ghost use Rattle.std.specs.Prelude.{ℕ, List, length, drop, Err, AllPairs, Contains};
+ghost use Rattle.std.specs.Prelude.{ℕ, List, length, drop, Ok, Err, All, AllPairs, Contains};
 ghost use Rattle.prin_term.specs.Principal.{Principal};
-ghost use Rattle.stmt_codec.specs.declared.fault.BodyFault.TheVariants.{Malformed};
-ghost use Rattle.stmt_codec.specs.declared.limits.TheConstants.{MAX_DISTINCT};
+ghost use Rattle.stmt_codec.specs.declared.fault.BodyFault.TheVariants.{Malformed, NoMemory};
+ghost use Rattle.stmt_codec.specs.declared.limits.TheConstants.{MAX_BODY_LEN};
 ghost use Rattle.stmt_codec.specs.Certificates.{Certificate, body_spelling};
-ghost use Rattle.stmt_codec.specs.Certificates.{HasBodySpelling, IsWithinLimits};
+ghost use Rattle.stmt_codec.specs.Certificates.{HasBodySpelling, IsBodyAt, IsWithinLimits};
 ghost use Rattle.stmt_codec.specs.Distinct.{first_of_each};
 ghost use Rattle.stmt_codec.specs.Reading.{body_at};
 
@@ -28,4 +28,19 @@ pub fn each_part_is_counted_once()
     ensures members { (ps : List Principal) (p : Principal)
         → Contains (first_of_each ps) p ↔ Contains ps p }
     ensures apart { (ps : List Principal) → AllPairs (λ p q. p ≢ q) (first_of_each ps) }
+{}
+
+/// Reading as a function gives exactly the certificate that is spelled at the offset within the
+/// limits, and the offset after it. Other bytes are refused at an offset, and never for memory.
+pub fn bodies_are_read()
+    ensures read { (bytes : List ℕ) (at end : ℕ) (c : Certificate) → at ≤ length bytes
+        → All (λ b. b < 256) bytes → (body_at bytes at ≡ Ok (c, end))
+        ↔ (IsBodyAt bytes at c × (end ≡ at + length (body_spelling c))) }
+    ensures refused { (bytes : List ℕ) (at : ℕ) → at ≤ length bytes → All (λ b. b < 256) bytes
+        → body_at bytes at ≢ Err NoMemory }
+{}
+
+/// A body within the limits is at most so long.
+pub fn a_body_has_at_most()
+    ensures { (c : Certificate) → IsWithinLimits c → length (body_spelling c) ≤ MAX_BODY_LEN }
 {}

@@ -13,7 +13,10 @@ mod writing;
 pub use body::CertBody;
 pub use cert::Cert;
 pub use fault::{BodyFault, CertFault};
-pub use laws::{each_part_is_counted_once, one_body_spelling, short_bodies_are_refused};
-pub use limits::MAX_DISTINCT;
-pub use reading::read_body;
+pub use laws::{
+    a_body_has_at_most, bodies_are_read, each_part_is_counted_once, one_body_spelling,
+    short_bodies_are_refused,
+};
+pub use limits::{MAX_BODY_LEN, MAX_DISTINCT};
+pub use reading::{read_bare_body, read_body};
 pub use writing::write_body;

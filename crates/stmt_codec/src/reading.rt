@@ -10,7 +10,7 @@ ghost use Rattle.stmt_codec.specs.Certificates.{body_spelling, IsBodyAt};
 ghost use Rattle.stmt_codec.specs.Reading.{part_at, quoted_at, right_at, body_at};
 
 use crate::body::CertBody;
-use crate::cert::{Cert, cert_of};
+use crate::cert::Cert;
 use crate::distinct::has_few_subterms;
 use crate::fault::BodyFault;
 use prin_term::fields::{mark_at, u8_at, u32_at, u64_at};
@@ -97,13 +97,20 @@ fn fields_of(alloc: Global, bytes: &[u8], at: usize) -> Result<(CertBody, usize)
     Ok((body, next))
 }
 
-// The same body, which is spelled there.
-fn body_of(alloc: Global, bytes: &[u8], at: usize) -> Result<(CertBody, usize), BodyFault>
+/// The body that is spelled at `at`, and the offset after it, without speaker and digest.
+pub fn read_bare_body(
+    alloc: Global,
+    bytes: &[u8],
+    at: usize,
+) -> Result<(CertBody, usize), BodyFault>
     requires { at ≤ length bytes.now }
     ensures found { IfOk result (λ x. IsBodyAt bytes.now at (certificate x.0)
         × (x.1 ≡ at + length (body_spelling (certificate x.0)))) }
-    ensures value { Gives NoMemory (λ x. (certificate x.0, x.1)) result (body_at bytes.now at) }
+    ensures only { (c : Certificate) → IsBodyAt bytes.now at c
+        → MatchResult result (λ x. certificate x.0 ≡ c) (λ e. e ≡ NoMemory) }
+
     ensures within { IfOk result (λ x. x.1 ≤ length bytes.now) }
+    ensures exact { Gives NoMemory (λ x. (certificate x.0, x.1)) result (body_at bytes.now at) }
 {
     fields_of(alloc, bytes, at)
 }
@@ -114,8 +121,8 @@ fn cert_at(alloc: Global, bytes: &[u8], at: usize) -> Result<(Cert, usize), Body
         (body_at bytes.now at) }
     ensures within { IfOk result (λ x. x.1 ≤ length bytes.now) }
 {
-    let (body, end) = body_of(alloc, bytes, at)?;
-    let cert = cert_of(alloc, body, &bytes[at..end])?;
+    let (body, end) = read_bare_body(alloc, bytes, at)?;
+    let cert = Cert::spelled_by(alloc, body, &bytes[at..end])?;
     Ok((cert, end))
 }
 

@@ -1,10 +1,10 @@
 //! Writing the spelling of a body.
 
 ghost use Rattle.std.specs.Prelude.{◌≡◌, ◌++◌, ◌∷◌, ◌+◌, ◌<◌, ◌≤◌, length, vec_capacity};
-ghost use Rattle.std.specs.Prelude.{List, ℕ, OnOk, OnErr};
-ghost use Rattle.stmt_codec.specs.Certificates.{certificate, body_spelling};
+ghost use Rattle.std.specs.Prelude.{List, ℕ, OnOk, OnErr, IfSome};
+ghost use Rattle.stmt_codec.specs.Certificates.{certificate, body_spelling, HasBodySpelling};
 ghost use Rattle.prin_term.specs.Steps.{optional};
-ghost use Rattle.prin_term.specs.Principal.{spelling};
+ghost use Rattle.prin_term.specs.Principal.{spelling, HasSpelling};
 ghost use Rattle.std.specs.Option.{option_map};
 ghost use Rattle.prin_term.specs.View.{principal};
 
@@ -16,6 +16,8 @@ use std::alloc::AllocError;
 pub fn write_body(out: &mut Vec<u8>, body: &CertBody) -> Result<(), AllocError>
     ensures ok { OnOk result
         (out.new.items ≡ out.old.items ++ body_spelling (certificate body.now)) }
+    // The numbers of a body fit their fields, so what is written is read again.
+    ensures numbers { OnOk result (HasBodySpelling (certificate body.now)) }
     ensures err { OnErr result (out.new.items ≡ out.old.items) }
     ensures capacity { vec_capacity out.old ≤ vec_capacity out.new }
     // Memory is refused only where the room behind what is there is too small.
@@ -35,6 +37,7 @@ pub fn write_body(out: &mut Vec<u8>, body: &CertBody) -> Result<(), AllocError>
 fn push_body(out: &mut Vec<u8>, body: &CertBody) -> Result<(), AllocError>
     ensures ok { OnOk result
         (out.new.items ≡ out.old.items ++ body_spelling (certificate body.now)) }
+    ensures numbers { OnOk result (HasBodySpelling (certificate body.now)) }
     ensures err { OnErr result ((more : List ℕ) × (out.new.items ≡ out.old.items ++ more)) }
     ensures capacity { vec_capacity out.old ≤ vec_capacity out.new }
     ensures room { OnErr result
@@ -54,6 +57,7 @@ fn push_body(out: &mut Vec<u8>, body: &CertBody) -> Result<(), AllocError>
 fn push_quoted(out: &mut Vec<u8>, quoted: &Option<Term>) -> Result<(), AllocError>
     ensures ok { OnOk result
         (out.new.items ≡ out.old.items ++ optional spelling (option_map principal quoted.now)) }
+    ensures numbers { OnOk result (IfSome (option_map principal quoted.now) HasSpelling) }
     ensures err { OnErr result ((more : List ℕ) × (out.new.items ≡ out.old.items ++ more)) }
     ensures capacity { vec_capacity out.old ≤ vec_capacity out.new }
     ensures room { OnErr result

@@ -13,29 +13,12 @@ use Rattle.taos_calculus.specs.Rules.{Line}
 use Rattle.taos_wire.specs.Reply.{Reply, Granted, Denied, Malformed, UnknownChannel, BadSeal, Replayed, CertRefused, ChannelFull, RelayFailed, UnknownObject, JournalFull, NoMemory, CommonsFull, NotHeld, Unbuilt, LinkSent, Expired, Missing, NoEntry, FitsReply, FitsLink, link_bytes, flag, cert_bytes, cited_bytes, proof_bytes, granted_bytes, status_of, fields_of, answered_bytes, reply_text, seal_of, sent, spelling}
 use Rattle.taos_wire.specs.View.{cited}
 use Rattle.taos_wire.proofs.Seals.{length-seal_of}
-use Rattle.stmt_codec.specs.Certificates.{Certificate, body_spelling, IsSmall, IsWithinLimits}
-
-pub term_short : (t : Principal) → length (term_spelling t) ≤ node_count t * 5
-term_short (Key k) = omega arith
-term_short (Name n) = omega arith
-term_short (And a b) = omega (arith, term_short a, term_short b, length-append (term_spelling a) (term_spelling b))
-term_short (Quoting a b) = omega (arith, term_short a, term_short b, length-append (term_spelling a) (term_spelling b))
-term_short (InRole a r) = omega (arith, term_short a, length-append (term_spelling a) (to_be_bytes w32 r))
-term_short (For a b) = omega (arith, term_short a, term_short b, length-append (term_spelling a) (term_spelling b))
-
-optional_short : (o : Option Principal) → IfSome o IsSmall → length (optional term_spelling o) ≤ 321
-optional_short None fits = omega arith
-optional_short (Some t) fits = omega (arith, term_short t, fits.0)
-
--- six pieces
-length-six : (a b c d e f : List ℕ) → length (a ++ b ++ c ++ d ++ e ++ f) ≡ length a + length b + length c + length d + length e + length f
-length-six a b c d e f =
-    omega (arith, length-append (a ++ b ++ c ++ d ++ e) f, length-append (a ++ b ++ c ++ d) e, length-append (a ++ b ++ c) d, length-append (a ++ b) c, length-append a b)
+use Rattle.stmt_codec.specs.Certificates.{Certificate, body_spelling, IsWithinLimits}
+use Rattle.stmt_codec.proofs.BodyLengths.{short_body}
+use Rattle.prin_term.proofs.Sizes.{spelling_short as term_bound}
 
 pub body_short : (c : Certificate) → IsWithinLimits c → length (body_spelling c) < 1024
-body_short c fits =
-    let whole = length-six (1 ∷ [] ++ to_be_bytes w32 c.issuer) (optional term_spelling c.quoted) (term_spelling c.left) (term_spelling c.right) (to_be_bytes w64 c.until) (to_be_bytes w64 c.serial) in
-    omega (arith, whole, optional_short c.quoted fits.quoted_fits, term_short c.left, term_short c.right, fits.left_fits.0, fits.right_fits.0)
+body_short c fits = omega (arith, short_body c fits)
 
 cert_short : (c : Certificate) → IsWithinLimits c → length (cert_bytes c) < 1026
 unfolding cert_bytes
@@ -66,7 +49,7 @@ spelling_short key channel seq r lt = omega (arith, lt, length-append (reply_tex
 
 link_short : (l : LinkSent) → FitsLink l → length (link_bytes l) ≤ 82
 link_short (Expired entry digest) fits = omega (arith, fits.1.0)
-link_short (Missing entry part) fits = omega (arith, term_short part, fits.1.nodes_fit)
+link_short (Missing entry part) fits = omega (arith, term_bound part, fits.1.nodes_fit)
 link_short NoEntry fits = omega arith
 
 small_fields : (r : Reply) → FitsReply r → 0 < status_of r → length (fields_of r) ≤ 94
@@ -100,4 +83,4 @@ pub missing_short : (key : List ℕ) (channel seq shard place entry : ℕ) (part
 unfolding reply_text
 missing_short key channel seq shard place entry part few =
     let r = Denied shard place (Missing entry part) in
-    omega (arith, few, term_short part, length-append (reply_text channel seq r) (seal_of (Some key) (reply_text channel seq r)), length-seal_of (Some key) (reply_text channel seq r))
+    omega (arith, few, term_bound part, length-append (reply_text channel seq r) (seal_of (Some key) (reply_text channel seq r)), length-seal_of (Some key) (reply_text channel seq r))

@@ -1,4 +1,5 @@
-use Rattle.relay_core.proofs.Cases.{bytes_are, some_case, that_case}
+use Rattle.prin_term.proofs.FieldLaws.{bytes_are}
+use Rattle.relay_core.proofs.Cases.{some_case, that_case}
 use Rattle.relay_core.proofs.laws.one_case_holds.Goals as goal
 
 pub returns-clause-some : goal.returns-clause-some

@@ -1,4 +1,4 @@
-use Rattle.relay_core.proofs.Short.{short_sealed}
+use Rattle.sealed_cert.proofs.Sizes.{short_sealed}
 use Rattle.relay_core.proofs.laws.sealed_certificates_are_short.Goals as goal
 
 pub returns : goal.returns

@@ -11,10 +11,10 @@ pub returns-clause-found : goal.returns-clause-found
 returns-clause-found c =
     let key = c.args.sealer.now in
     let bytes = c.args.bytes.now in
-    gives_found (λ (d : Certificate). Opens key bytes d) NoMemory (λ cert. certificate cert.body) c.relayed.result (opened key bytes) c.relayed.ensures
+    gives_found (λ (d : Certificate). Opens key bytes d) NoMemory (λ cert. certificate cert.body) c.relayed_cert.result (opened key bytes) c.relayed_cert.ensures
     (λ d e. opened_takes key bytes d (λ i. omega (arith, c.type_inv.bytes i)) e)
 
 pub returns-clause-only : goal.returns-clause-only
 returns-clause-only c = λ d is.
-    gives_only NoMemory (λ cert. certificate cert.body) c.relayed.result (opened c.args.sealer.now c.args.bytes.now) d c.relayed.ensures
+    gives_only NoMemory (λ cert. certificate cert.body) c.relayed_cert.result (opened c.args.sealer.now c.args.bytes.now) d c.relayed_cert.ensures
     (opened_again c.args.sealer.now c.args.bytes.now d is)

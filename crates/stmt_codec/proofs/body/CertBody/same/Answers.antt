@@ -1,4 +1,3 @@
-use Rattle.std.proofs.Common.{◌≡◌}
 use Rattle.stmt_codec.specs.Certificates.{certificate}
 use Rattle.stmt_codec.proofs.Equal.{tested}
 use Rattle.stmt_codec.proofs.body.CertBody.same.Goals as goal
