@@ -10,3 +10,4 @@ pub mod Supply
 pub mod Store
 pub mod Times
 pub mod Hall
+pub mod Served

@@ -10,6 +10,8 @@ mod mem_sink;
 mod mem_source;
 mod outcome;
 mod outside;
+mod service;
+mod serving;
 mod whole;
 
 pub use closed::{ClosedDoor, NoRelay};
@@ -20,4 +22,6 @@ pub use mem_sink::MemSink;
 pub use mem_source::MemSource;
 pub use outcome::Outcome;
 pub use outside::{Clock, Door, Failed, RelayAnswer, RelayLink, Sink, Source};
+pub use service::{MAX_PAYLOAD, Service};
+pub use serving::serve_frames;
 pub use whole::{fill, pour};

@@ -3,5 +3,4 @@ pub mod Plans
 pub mod Messages
 pub mod Asked
 pub mod Links
-pub mod Served
 pub mod Serving

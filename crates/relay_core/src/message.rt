@@ -7,7 +7,7 @@ ghost use Rattle.relay_core.specs.Asked.{asked_at};
 
 use crate::code::{MALFORMED, UNKNOWN_NODE};
 use arrayvec::ArrayVec;
-use frame_link::RelayAnswer;
+use frame_link::{MAX_PAYLOAD, RelayAnswer};
 use prin_term::fields::{mark_at, u32_at};
 
 /// The first byte of a payload that asks.
@@ -26,7 +26,7 @@ pub const NO_MEMORY: u8 = 11;
 pub const MAX_CERT: usize = 2048;
 
 /// The most bytes of a payload, in both directions.
-pub const MAX_FRAME: u32 = 65_536;
+pub const MAX_FRAME: u32 = MAX_PAYLOAD;
 
 fn head_of(node: u32) -> [u8; 5]
     ensures { result ≡ ASK ∷ to_be_bytes w32 node }

@@ -55,8 +55,9 @@ pub(crate) fn reply_to(
     payload: &[u8],
     reply: &mut ArrayVec<u8, 2050>,
 )
-    ensures { Replies table.now.issuers.entries table.now.nodes.entries payload.now
+    ensures reply { Replies table.now.issuers.entries table.now.nodes.entries payload.now
         reply.new.items }
+    ensures short { length reply.new.items ≤ 2050 }
 {
     let mut out = ArrayVec::new();
     let answer = answer_to(alloc, table, payload, &mut out);

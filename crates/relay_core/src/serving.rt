@@ -1,67 +1,47 @@
 //! Serving a connection: one reply frame to each frame, in order.
 
-ghost use Rattle.std.specs.Prelude.{◌≡◌};
-ghost use Rattle.frame_link.specs.Next.{HasWriteCause};
-ghost use Rattle.relay_core.specs.Serving.{Turns, Serves};
-ghost use Rattle.relay_core.specs.Served.{IsServed, HasCauses, IsComplete};
+ghost use Rattle.std.specs.Prelude.{◌≡◌, ◌≢◌};
+ghost use Rattle.frame_link.specs.declared.outcome.Outcome.TheVariants.{ClockFault};
+ghost use Rattle.frame_link.specs.Served.{line, counts, IsServed, HasCauses, IsComplete};
+ghost use Rattle.relay_core.specs.Serving.{Answers, GivesUp};
 
 use crate::message::MAX_FRAME;
 use crate::replying::reply_to;
 use crate::resealing::RelayTable;
 use arrayvec::ArrayVec;
-use frame_link::{Failed, FrameBuf, Next, Outcome, Put, Sink, Source, next_frame, put_frame};
+use frame_link::{Failed, FrameBuf, Outcome, Service, Sink, Source, serve_frames};
 use std::alloc::Global;
 
-// Answers one payload by one frame.
-fn turn<O: Sink>(alloc: Global, table: &RelayTable, payload: &[u8], output: &mut O) -> Put
-    ensures steps { Turns table.now.issuers.entries table.now.nodes.entries payload.now
-        (O.written output.old) (O.written output.new) result }
-    ensures cause { HasWriteCause (O.faults output.old) (O.faults output.new) result }
-{
-    let mut reply = ArrayVec::new();
-    reply_to(alloc, table, payload, &mut reply);
-    put_frame(output, reply.as_slice())
-}
-
-// The loop, with what stands between two frames.
-fn serve_frames<I: Source, O: Sink>(
+// A table, and the reply that stands ready.
+#[derive(Drop)]
+struct Answering<'a> {
     alloc: Global,
-    table: &RelayTable,
-    input: &mut I,
-    output: &mut O,
-    frames: u64,
-) -> Outcome
-    ensures served { Serves table.now.issuers.entries table.now.nodes.entries frames
-        (I.left input.old) (I.left input.new) (O.written output.old) (O.written output.new) result }
-    ensures causes { HasCauses (I.faults input.old) (I.faults input.new)
-        (O.faults output.old) (O.faults output.new) result }
-{
-    let Ok(mut buf) = FrameBuf::new(alloc, MAX_FRAME) else {
-        return Outcome::NoMemory;
-    };
-    for answered in 0..frames {
-        match next_frame(input, &mut buf) {
-            Next::Frame => {}
-            Next::End => return Outcome::End { frames: answered },
-            Next::Truncated { have } => return Outcome::Truncated { have },
-            Next::TooLong { length } => return Outcome::TooLong { length },
-            Next::ReadFault => return Outcome::ReadFault,
-        }
-        match turn(alloc, table, buf.payload(), output) {
-            Put::Done => {}
-            Put::WriteFault => return Outcome::WriteFault,
-        }
+    table: &'a RelayTable,
+    reply: ArrayVec<u8, 2050>,
+}
+
+impl<'a> Service for Answering<'a> {
+    ghost answers = { λ s payload reply t. Answers s.table.now payload reply t.table.now };
+
+    ghost gives_up = { λ s payload t. GivesUp s.table.now payload t.table.now };
+
+    ghost ready = { λ s. s.reply.items };
+
+    ghost faults = { λ _. 0 };
+
+    fn answer(&mut self, payload: &[u8]) -> Result<(), Failed> {
+        reply_to(self.alloc, self.table, payload, &mut self.reply);
+        Ok(())
     }
-    let mut byte = [0u8; 1];
-    match input.read(&mut byte) {
-        Err(Failed) => Outcome::ReadFault,
-        Ok(0) => Outcome::End { frames },
-        Ok(_) => Outcome::Spent { frames },
+
+    fn reply(&self) -> &[u8] {
+        self.reply.as_slice()
     }
 }
 
-/// Serves a connection: each frame of the input, at most so many, is answered by one frame of the output, before the
-/// next is read. Want of memory at one of them is answered too; `NoMemory` comes only before the first.
+/// Serves a connection: each frame of the input, at most so many, is answered by one frame of the output,
+/// before the next is read. That memory ran out at one of them is answered too; `NoMemory` comes only before
+/// the first.
 pub fn serve_relay<I: Source, O: Sink>(
     alloc: Global,
     table: &RelayTable,
@@ -69,12 +49,25 @@ pub fn serve_relay<I: Source, O: Sink>(
     output: &mut O,
     frames: u64,
 ) -> Outcome
-    ensures served { IsServed table.now.issuers.entries table.now.nodes.entries frames
-        (I.left input.old) (I.left input.new) (O.written output.old) (O.written output.new) result }
-    ensures causes { HasCauses (I.faults input.old) (I.faults input.new)
-        (O.faults output.old) (O.faults output.new) result }
-    ensures complete { IsComplete frames (I.left input.old) (I.faults input.old)
-        (I.faults input.new) (O.faults output.old) (O.faults output.new) result }
+    ensures served { IsServed Answers GivesUp frames
+        (line (I.left input.old) (O.written output.old) table.now)
+        (line (I.left input.new) (O.written output.new) table.now) result }
+
+    // A relay has no clock.
+    ensures causes { HasCauses (counts (I.faults input.old) (O.faults output.old) 0)
+        (counts (I.faults input.new) (O.faults output.new) 0) result }
+    ensures clock { result ≢ ClockFault }
+    ensures complete { IsComplete frames (I.left input.old)
+        (counts (I.faults input.old) (O.faults output.old) 0)
+        (counts (I.faults input.new) (O.faults output.new) 0) result }
 {
-    serve_frames(alloc, table, input, output, frames)
+    let Ok(mut buf) = FrameBuf::new(alloc, MAX_FRAME) else {
+        return Outcome::NoMemory;
+    };
+    let mut service = Answering {
+        alloc,
+        table,
+        reply: ArrayVec::new(),
+    };
+    serve_frames(&mut service, &mut buf, input, output, frames)
 }
