@@ -13,6 +13,7 @@ use stmt_codec::{Cert, CertBody};
 use taos_saturate::Saturator;
 
 // How often it was passed.
+#[derive(Drop)]
 struct Counting {
     passed: u64,
 }
