@@ -75,6 +75,9 @@ fn a_hand_off_is_read_and_written_back(rt: HostRuntime) -> Result<(), Fail> {
     assert!(rt; matches!(cert.body.statement.right, Term::Name(10)));
     assert_eq!(rt; cert.body.serial, 1);
     assert_eq!(rt; cert.digest, DIGEST);
+    let (bare, end) = read_bare_body(alloc, &HAND_OFF, 0)?;
+    assert_eq!(rt; end, HAND_OFF.len());
+    assert!(rt; bare.same(&cert.body));
     Ok(())
 }
 

@@ -63,6 +63,8 @@ fn an_issuers_seal_opens_to_what_was_sealed(rt: HostRuntime) -> Result<(), Fail>
     let opened = open_issued(alloc, &table, &FROM_ISSUER)?;
     assert_eq!(rt; opened.digest, cert.digest);
     assert_eq!(rt; opened.body.until, 2000);
+    let bare = open_issued_body(alloc, &table, &FROM_ISSUER)?;
+    assert!(rt; bare.same(&cert.body));
     Ok(())
 }
 
