@@ -1,6 +1,6 @@
 //! Who answers the payloads of a connection.
 
-ghost use Rattle.std.specs.Prelude.{◌≡◌, ◌<◌, ◌≤◌, ◌^◌, ℕ, List, length, OnOk, OnErr};
+ghost use Rattle.std.specs.Prelude.{◌≡◌, ◌<◌, ◌≤◌, ◌^◌, ℕ, List, [], length, OnOk, OnErr};
 ghost use Rattle.frame_link.specs.Faults.{HasCause};
 
 use crate::outside::Failed;
@@ -24,11 +24,15 @@ pub trait Service {
     /// What has to hold of it before each payload.
     ghost stands: { Self → Type 0 } = { λ _. Unit {0} };
 
+    /// The ghost names of what it borrows to change, where its owner is to know what became of that.
+    ghost borrows: { Self → List ℕ } = { λ _. [] };
+
     /// Answers a payload, or gives it up since the clock failed. Any other want is told in the reply.
     fn answer(&mut self, payload: &[u8]) -> Result<(), Failed>
         requires stands { stands self.old }
         requires short { length payload.now ≤ MAX_PAYLOAD }
         ensures stays { stands self.new }
+        ensures same { borrows self.new ≡ borrows self.old }
         ensures answered { OnOk result (answers self.old payload.now (ready self.new) self.new) }
         ensures fits { OnOk result (length (ready self.new) < 2 ^ 32) }
         ensures given_up { OnErr result (gives_up self.old payload.now self.new) }

@@ -27,6 +27,7 @@ fn answer_frames<S: Service, I: Source, O: Sink>(
         (counts (I.faults input.new) (O.faults output.new) (S.faults service.new)) result }
     ensures memory { result ≢ NoMemory }
     ensures stays { S.stands service.new }
+    ensures same { S.borrows service.new ≡ S.borrows service.old }
     ensures room { buf.new.limit ≡ buf.old.limit }
 {
     for answered in 0..frames {
@@ -78,6 +79,7 @@ pub fn serve_frames<S: Service, I: Source, O: Sink>(
 
     // What stays as it has to be for the next connection.
     ensures stays { S.stands service.new }
+    ensures same { S.borrows service.new ≡ S.borrows service.old }
     ensures room { buf.new.limit ≡ buf.old.limit }
 {
     answer_frames(service, buf, input, output, frames)

@@ -15,6 +15,7 @@ loop-answered-init g c =
     record {
       limit = c.requires.limit;
       stands = c.requires.stands;
+      same = refl;
       progress = started g.S.Service.answers (line (g.I.Source.left c.args.input.now) (g.O.Sink.written c.args.output.now) c.args.service.now);
       input_steady = refl;
       output_steady = refl;
@@ -62,6 +63,7 @@ loop-answered-preserved g c =
     record {
       limit = c.next_frame.ensures.limit ∙ c.loop-answered.invariant.limit;
       stands = c.in-Ok.ensures.stays;
+      same = c.in-Ok.ensures.same ∙ c.loop-answered.invariant.same;
       progress = goes_on g.S.Service.answers c.loop-answered.answered (line (g.I.Source.left c.args.input.now) (g.O.Sink.written c.args.output.now) c.args.service.now) (line (g.I.Source.left c.loop-answered.input) (g.O.Sink.written c.loop-answered.output) c.loop-answered.service) (line (g.I.Source.left c.next_frame.new.source) (g.O.Sink.written c.put_frame.new.sink) c.answer.new.self) c.next_frame.new.buf.payload (g.S.Service.ready c.answer.new.self) c.loop-answered.invariant.progress
           (subst (λ (k : ℕ). Takes k (g.I.Source.left c.loop-answered.input) (g.I.Source.left c.next_frame.new.source) c.next_frame.new.buf.payload next.Frame) c.loop-answered.invariant.limit c.in-Frame.ensures.bytes)
           (subst (λ (l : List ℕ). g.S.Service.answers c.loop-answered.service l (g.S.Service.ready c.answer.new.self) c.answer.new.self) c.payload.ensures c.in-Ok.ensures.answered)
