@@ -71,9 +71,6 @@ module _ (nodes : List Node) (table : IsNodeTable nodes) (anchors : List Anchor)
     front : (k : ℕ) → take k means ≡ map (meaning p) (take k lines)
     front k = take-map (meaning p) k lines
 
-    below_at : (k : ℕ) (d : Line) → k < length lines → IsBelow (length nodes) (get_or lines k d).fact
-    below_at k d h = below k d h
-
     pub one_more : (k : ℕ) (d : Line) → k < length lines → FollowTo k → Gives nodes anchors claims (facts_at (take k lines)) (get_or lines k d).fact (get_or lines k d).step → FollowTo (k + 1)
     one_more k d h so_far g =
         let m : Meaning = meaning p (get_or lines k d) in

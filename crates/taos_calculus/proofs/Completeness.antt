@@ -10,18 +10,8 @@ use Rattle.taos_calculus.specs.declared.line.Step.{Step}
 use Rattle.prin_term.specs.Principal.{Principal, Key, Name, And, Quoting, InRole, For}
 use Rattle.taos_calculus.specs.Rules.{Claim, Judgement, SpeaksFor, Says, line, Follows, same, chain, left, right, both, quoting, for_both, role, role_under, anchored, said, lift, join, hand_off, delegate, Derivable}
 use Rattle.taos_calculus.specs.Saturation.{IsWithin, IsTable, IsSaturated, HasEveryFact}
+use Rattle.taos_calculus.specs.Reach.{Reach, itself, onward, to_both, by_left, by_right, by_quoting, by_for, by_role, by_anchor, Comes, KeepsReach, KnowsReach}
 use Rattle.taos_calculus.proofs.Induction.{All-at, All-one, All-two, IsKept, rule_induction}
-
-data Reaches (U : Principal → Type 0) (Known : Judgement → Type 0) (anchors : List Anchor) : Principal → Principal → Type 0 where
-  itself : {x : Principal} → U x → Reaches U Known anchors x x
-  onward : {x u v : Principal} → Reaches U Known anchors x u → Known (SpeaksFor u v) → U v → Reaches U Known anchors x v
-  to_both : {x u v : Principal} → Reaches U Known anchors x u → Reaches U Known anchors x v → U (And u v) → Reaches U Known anchors x (And u v)
-  by_left : {a b v : Principal} → Reaches U Known anchors a v → Reaches U Known anchors (And a b) v
-  by_right : {a b v : Principal} → Reaches U Known anchors b v → Reaches U Known anchors (And a b) v
-  by_quoting : {a b u v : Principal} → Reaches U Known anchors a u → Reaches U Known anchors b v → U (Quoting u v) → Reaches U Known anchors (Quoting a b) (Quoting u v)
-  by_for : {a b u v : Principal} → Reaches U Known anchors a u → Reaches U Known anchors b v → U (For u v) → Reaches U Known anchors (For a b) (For u v)
-  by_role : {a u : Principal} {r : ℕ} → Reaches U Known anchors a u → U (InRole u r) → Reaches U Known anchors (InRole a r) (InRole u r)
-  by_anchor : {v : Principal} (anchor : Anchor) (i : ℕ) → slice_get anchors i ≡ Some anchor → Reaches U Known anchors (Name anchor.name) v → Reaches U Known anchors (Key anchor.key) v
 
 module _ (U : Principal → Type 0) (Known : Judgement → Type 0) (anchors : List Anchor) (claims : List Claim)
     (table : IsTable U claims) (saturated : IsSaturated U Known anchors claims) where
@@ -119,7 +109,7 @@ module _ (U : Principal → Type 0) (Known : Judgement → Type 0) (anchors : Li
       known_1 (Says a (Quoting b a) (For b a)) (SpeaksFor (Quoting b a) (For b a)) (Step.Delegate 0) k (delegate refl) (u, w)
 
   -- what is reached is in the table
-  reached_in : {x v : Principal} → Reaches U Known anchors x v → U v
+  reached_in : {x v : Principal} → Reach U Known anchors x v → U v
   reached_in (itself u) = u
   reached_in (onward r k u) = u
   reached_in (to_both r s u) = u
@@ -131,13 +121,13 @@ module _ (U : Principal → Type 0) (Known : Judgement → Type 0) (anchors : Li
   reached_in (by_anchor anchor i e r) = reached_in r
 
   -- a name that reaches anything is in the table
-  name_in : {n : ℕ} {v : Principal} → Reaches U Known anchors (Name n) v → U (Name n)
+  name_in : {n : ℕ} {v : Principal} → Reach U Known anchors (Name n) v → U (Name n)
   name_in (itself u) = u
   name_in (onward r k u) = name_in r
   name_in (to_both r s u) = name_in r
 
   -- a member of the table is known to speak for what it reaches
-  reached_known : {x v : Principal} → Reaches U Known anchors x v → U x → Known (SpeaksFor x v)
+  reached_known : {x v : Principal} → Reach U Known anchors x v → U x → Known (SpeaksFor x v)
   reached_known {x} (itself w) u = knows_same x u
   reached_known {x} (onward {u = y} {v = v} r k w) u = knows_chain x y v (reached_known r u) k u w
   reached_known {x} (to_both {u = y} {v = z} r s w) u = knows_both y z x (reached_known r u) (reached_known s u) u w
@@ -159,8 +149,7 @@ module _ (U : Principal → Type 0) (Known : Judgement → Type 0) (anchors : Li
 
   -- what a judgement means for the table
   abbrev Means : Judgement → Type 0
-  Means (SpeaksFor a b) = (v : Principal) → Reaches U Known anchors b v → Reaches U Known anchors a v
-  Means (Says a l r) = U l × U r × ((v : Principal) → Reaches U Known anchors a v → Known (Says v l r))
+  Means = Comes U Known anchors
 
   -- a member of the table that is known to speak for another reaches what that one reaches
   known_means : (a b : Principal) → Known (SpeaksFor a b) → U a → U b → Means (SpeaksFor a b)
@@ -180,7 +169,7 @@ module _ (U : Principal → Type 0) (Known : Judgement → Type 0) (anchors : Li
   means_right a b v r = by_right r
 
   means_both : {a b v : Principal} (c : Principal) → Means (SpeaksFor c a) → Means (SpeaksFor c b) →
-      Reaches U Known anchors (And a b) v → Reaches U Known anchors c v
+      Reach U Known anchors (And a b) v → Reach U Known anchors c v
   means_both {a} {b} c m n (itself u) =
       to_both (m a (itself (and_left a b u))) (n b (itself (and_right a b u))) u
   means_both c m n (onward r k u) = onward (means_both c m n r) k u
@@ -189,7 +178,7 @@ module _ (U : Principal → Type 0) (Known : Judgement → Type 0) (anchors : Li
   means_both c m n (by_right {v = y} r) = n y r
 
   means_quoting : {a' b' v : Principal} (a b : Principal) → Means (SpeaksFor a a') → Means (SpeaksFor b b') →
-      Reaches U Known anchors (Quoting a' b') v → Reaches U Known anchors (Quoting a b) v
+      Reach U Known anchors (Quoting a' b') v → Reach U Known anchors (Quoting a b) v
   means_quoting {a'} {b'} a b m n (itself u) =
       by_quoting (m a' (itself (quoting_left a' b' u))) (n b' (itself (quoting_right a' b' u))) u
   means_quoting a b m n (onward r k u) = onward (means_quoting a b m n r) k u
@@ -197,21 +186,21 @@ module _ (U : Principal → Type 0) (Known : Judgement → Type 0) (anchors : Li
   means_quoting a b m n (by_quoting {u = y} {v = z} r s u) = by_quoting (m y r) (n z s) u
 
   means_for : {a' b' v : Principal} (a b : Principal) → Means (SpeaksFor a a') → Means (SpeaksFor b b') →
-      Reaches U Known anchors (For a' b') v → Reaches U Known anchors (For a b) v
+      Reach U Known anchors (For a' b') v → Reach U Known anchors (For a b) v
   means_for {a'} {b'} a b m n (itself u) =
       by_for (m a' (itself (for_left a' b' u))) (n b' (itself (for_right a' b' u))) u
   means_for a b m n (onward r k u) = onward (means_for a b m n r) k u
   means_for a b m n (to_both r s u) = to_both (means_for a b m n r) (means_for a b m n s) u
   means_for a b m n (by_for {u = y} {v = z} r s u) = by_for (m y r) (n z s) u
 
-  means_role : {a v : Principal} {n : ℕ} → Reaches U Known anchors (InRole a n) v → Reaches U Known anchors a v
+  means_role : {a v : Principal} {n : ℕ} → Reach U Known anchors (InRole a n) v → Reach U Known anchors a v
   means_role {a} {n = n} (itself u) = onward (itself (role_holder a n u)) (knows_role a n u) u
   means_role (onward r k u) = onward (means_role r) k u
   means_role (to_both r s u) = to_both (means_role r) (means_role s) u
   means_role {n = n} (by_role {u = y} r u) = onward r (knows_role y n u) u
 
   means_role_under : {b v : Principal} {n : ℕ} (a : Principal) → Means (SpeaksFor a b) →
-      Reaches U Known anchors (InRole b n) v → Reaches U Known anchors (InRole a n) v
+      Reach U Known anchors (InRole b n) v → Reach U Known anchors (InRole a n) v
   means_role_under {b} {n = n} a m (itself u) = by_role (m b (itself (role_holder b n u))) u
   means_role_under a m (onward r k u) = onward (means_role_under a m r) k u
   means_role_under a m (to_both r s u) = to_both (means_role_under a m r) (means_role_under a m s) u
@@ -229,7 +218,7 @@ module _ (U : Principal → Type 0) (Known : Judgement → Type 0) (anchors : Li
   means_lift a b l r m n = (m.0, m.1, λ v s. m.2 v (n v s))
 
   joined : {a b v : Principal} (l r : Principal) → Means (Says a l r) → Means (Says b l r) →
-      Reaches U Known anchors (And a b) v → Known (Says v l r)
+      Reach U Known anchors (And a b) v → Known (Says v l r)
   joined {a} {b} l r m n (itself u) =
       knows_join a b l r (m.2 a (itself (and_left a b u))) (n.2 b (itself (and_right a b u))) u m.0 m.1
   joined l r m n (onward {u = y} {v = z} s k u) = knows_lift y z l r (joined l r m n s) k u m.0 m.1
@@ -285,3 +274,13 @@ pub has_every_fact : (anchors : List Anchor) (claims : List Claim) (table : List
     HasEveryFact anchors claims table known
 has_every_fact anchors claims table known t s fact w d =
     complete (Contains table) (Contains known) anchors claims t s fact w d
+
+pub keeps_reach : (anchors : List Anchor) (claims : List Claim) (table : List Principal) (known : List Judgement) →
+    KeepsReach anchors claims table known
+keeps_reach anchors claims table known t s earlier l all f =
+    means_kept (Contains table) (Contains known) anchors claims t s earlier l all f
+
+pub knows_reach : (anchors : List Anchor) (claims : List Claim) (table : List Principal) (known : List Judgement) →
+    KnowsReach anchors claims table known
+knows_reach anchors claims table known t s x v u r =
+    reached_known (Contains table) (Contains known) anchors claims t s r u

@@ -11,7 +11,6 @@ pub mod Placing
 pub mod Written
 pub mod Distinct
 pub mod Spelled
-pub mod OneLine
 pub mod Numbering
 pub mod Short
 pub mod Placed

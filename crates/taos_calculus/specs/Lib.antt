@@ -1,5 +1,6 @@
 pub mod Rules
 pub mod Saturation
+pub mod Reach
 pub mod Tidy
 pub mod Monitor
 pub mod Atoms

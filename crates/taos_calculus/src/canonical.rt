@@ -86,7 +86,8 @@ fn after_term(nodes: &[Node], id: u16, due: u16) -> Option<u16>
     requires table { IsNodeTable nodes.now }
     requires fits { length nodes.now < 2 ^ 16 }
     requires due_in { due ≤ length nodes.now }
-    ensures { MatchOption result (Strays nodes.now due (id ∷ [])) (Reaches nodes.now due (id ∷ [])) }
+    ensures { MatchOption result (Strays nodes.now due (id ∷ []))
+        (Reaches nodes.now due (id ∷ [])) }
 {
     if id as usize >= nodes.len() {
         return None;

@@ -194,7 +194,8 @@ fn first_bad(anchors: &[Anchor], cites: &[Arc<Cert>], nodes: &[Node], lines: &[L
     ensures before { EachFollows anchors.now
         (map (λ c. claim_of (certificate c.value.body)) cites.now) []
         (take result (lines_of (parts_of nodes.now lines.now))) }
-    ensures here { (l : rules.Line) → slice_get (lines_of (parts_of nodes.now lines.now)) result ≡ Some l
+    ensures here { (l : rules.Line) → slice_get (lines_of (parts_of nodes.now lines.now)) result
+        ≡ Some l
         → ¬ Follows anchors.now (map (λ c. claim_of (certificate c.value.body)) cites.now)
         (facts (take result (lines_of (parts_of nodes.now lines.now)))) l }
 {

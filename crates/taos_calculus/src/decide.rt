@@ -60,7 +60,8 @@ pub trait Decide {
     fn take_proof(&mut self, alloc: Global, left: &Term, right: &Term) -> Result<Taken, AllocError>
         requires left { IsTermOf (question self.old) (principal left.now) }
         requires right { IsTermOf (question self.old) (principal right.now) }
-        requires derivable { MayAnswer (question self.old) (principal left.now) (principal right.now) }
+        requires derivable { MayAnswer (question self.old) (principal left.now)
+            (principal right.now) }
         ensures taken { IfOk result (λ t. IsProofOf (question self.old) (principal left.now)
             (principal right.now) (lines_of t.proof) t.cites.items) }
         ensures same { question self.new ≡ question self.old };

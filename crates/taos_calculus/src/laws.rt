@@ -11,6 +11,7 @@ ghost use Rattle.taos_calculus.specs.Spells.{FitsProof, Spells};
 ghost use Rattle.taos_calculus.specs.ProofReading.{proof_of};
 ghost use Rattle.taos_calculus.specs.Having.{HaveParts, AreAlone};
 ghost use Rattle.taos_calculus.specs.Saturation.{HasEveryFact};
+ghost use Rattle.taos_calculus.specs.Reach.{KeepsReach, KnowsReach};
 ghost use Rattle.taos_calculus.specs.Tidy.{StaysWithin, DerivesMore};
 ghost use Rattle.taos_calculus.specs.Atoms.{AtomIsDecided};
 
@@ -19,6 +20,16 @@ ghost use Rattle.taos_calculus.specs.Atoms.{AtomIsDecided};
 pub fn saturation_is_complete()
     ensures { (anchors : List Anchor) (claims : List Claim) (table : List Principal)
         (known : List Judgement) → HasEveryFact anchors claims table known }
+{}
+
+/// Why that is so, of facts that are closed: by each rule, where one speaks for another it reaches
+/// whatever that one reaches, and whom a sayer reaches is known to say the same. A member is known
+/// to speak for what it reaches.
+pub fn rules_keep_reach()
+    ensures keeps { (anchors : List Anchor) (claims : List Claim) (table : List Principal)
+        (known : List Judgement) → KeepsReach anchors claims table known }
+    ensures knows { (anchors : List Anchor) (claims : List Claim) (table : List Principal)
+        (known : List Judgement) → KnowsReach anchors claims table known }
 {}
 
 /// What is derivable about the members of a table has a derivation that names members only.
