@@ -33,7 +33,8 @@ fn carry(nodes: &[Node], new: &mut Vec<Node>, id: u16) -> u16
     requires id_in { id < length nodes.now }
     requires roomy { IsRoomy new.old.items (vec_capacity new.old) }
     requires fits { Fits new.old.items (post_order (named nodes.now id)) }
-    ensures taken { TakesIn new.old.items new.new.items (post_order (named nodes.now id)) (named nodes.now id) result }
+    ensures taken { TakesIn new.old.items new.new.items (post_order (named nodes.now id))
+        (named nodes.now id) result }
     ensures capacity { vec_capacity new.old ≤ vec_capacity new.new }
 {
     let node = nodes[id as usize];
@@ -86,7 +87,8 @@ pub struct Carried {
     pub lines: Vec<Line>,
 }
 
-/// The lines over the table of their own terms, with their certificates by the places in `used`.
+/// The lines over the table of their own terms, with their certificates by the places in `used`. There
+/// is no spare room in them, since proofs are kept.
 pub fn carry_lines(
     alloc: Global,
     nodes: &[Node],
@@ -96,17 +98,21 @@ pub fn carry_lines(
     requires table { IsNodeTable nodes.now }
     requires few { length nodes.now ≤ MAX_NODES }
     requires few_used { length used.now < 2 ^ 16 }
-    requires below { (i : ℕ) (l : Line) → slice_get lines.now i ≡ Some l → IsBelow (length nodes.now) l.fact }
-    requires has { (i k : ℕ) (l : Line) → slice_get lines.now i ≡ Some l → Contains (cites_of l.step) k → HasPlace used.now k }
-    ensures { IfOk result (λ r. CarriesLines nodes.now used.now lines.now r.nodes.items r.lines.items) }
+    requires below { (i : ℕ) (l : Line) → slice_get lines.now i ≡ Some l
+        → IsBelow (length nodes.now) l.fact }
+    requires has { (i k : ℕ) (l : Line) → slice_get lines.now i ≡ Some l
+        → Contains (cites_of l.step) k → HasPlace used.now k }
+    ensures { IfOk result
+        (λ r. CarriesLines nodes.now used.now lines.now r.nodes.items r.lines.items) }
 {
     let mut new = Vec::with_capacity(alloc, MAX_NODES)?;
-    let mut out = Vec::new(alloc);
+    let mut out = Vec::with_capacity(alloc, lines.len())?;
     for i in 0..lines.len() {
         let fact = carry_fact(nodes, &mut new, lines[i].fact);
         let step = recite(lines[i].step, used);
         out.push(Line { fact, step })?;
     }
+    new.shrink_to_fit();
     Ok(Carried {
         nodes: new,
         lines: out,
