@@ -70,7 +70,8 @@ pub(crate) fn forget(
 ) -> u32
     requires kept { IsKept (plan_of plan.now) entries.old store.old }
     requires room { length entries.old.items < plan.now.limit }
-    ensures { Tells (plan_of plan.now) entries.old (Forgets channel) (told.Removed result) entries.new store.new }
+    ensures { Tells (plan_of plan.now) entries.old (Forgets channel)
+        (told.Removed result) entries.new store.new }
 {
     let count = let_go_of_channel(plan, entries, store, channel);
     append(entries, Event::Forget(channel), Told::Removed { count });

@@ -31,7 +31,8 @@ fn let_go_of_rows(
     requires few { length rows.old ≤ 1024 }
     ensures rows { (i : ℕ) (row row' : RowValue) → slice_get rows.old i ≡ Some row
         → slice_get rows.new i ≡ Some row'
-        → LetsGo (plan_of plan.now) (map entry_of entries.now) clock swept removal.now stamp row row' }
+        → LetsGo (plan_of plan.now) (map entry_of entries.now) clock swept removal.now stamp
+        row row' }
     ensures count { result + certs_left (plan_of plan.now) (map entry_of entries.now) clock swept
         removal.now rows.old
         ≡ certs_in (plan_of plan.now) (map entry_of entries.now) clock swept rows.old }

@@ -60,8 +60,9 @@ fn is_new(
     requires shared { AreNames (certificates commons.now) (map entry_of entries.now)
         shared.now.items }
     requires places { All (λ i. i < length presented.now) places.now.items }
-    ensures { result ≡ not (among ((certs_named (certificates commons.now) (map entry_of entries.now)
-        own.now.items ++ certs_named (certificates commons.now) (map entry_of entries.now)
+    ensures { result ≡ not (among ((certs_named (certificates commons.now)
+        (map entry_of entries.now) own.now.items
+        ++ certs_named (certificates commons.now) (map entry_of entries.now)
         shared.now.items) ++ filter_map (slice_get (certificates presented.now)) places.now.items)
         (certificate cert.now.body)) }
 {

@@ -29,7 +29,8 @@ pub(crate) fn discard(
 ) -> u32
     requires kept { IsKept (plan_of plan.now) entries.old store.old }
     requires room { length entries.old.items < plan.now.limit }
-    ensures { Tells (plan_of plan.now) entries.old (Discards digest) (told.Removed result) entries.new store.new }
+    ensures { Tells (plan_of plan.now) entries.old (Discards digest)
+        (told.Removed result) entries.new store.new }
 {
     let removal = Removal::Named { digest };
     let moment = store.clock;
@@ -47,7 +48,8 @@ pub(crate) fn expire(
 ) -> u32
     requires kept { IsKept (plan_of plan.now) entries.old store.old }
     requires room { length entries.old.items < plan.now.limit }
-    ensures { Tells (plan_of plan.now) entries.old (Expires reading) (told.Removed result) entries.new store.new }
+    ensures { Tells (plan_of plan.now) entries.old (Expires reading)
+        (told.Removed result) entries.new store.new }
 {
     let moment = store.clock.max(reading);
     let removal = Removal::Ended {

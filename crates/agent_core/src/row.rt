@@ -35,9 +35,11 @@ pub(crate) fn settle(
     requires { AreNames (plan_of plan.now).commons (map entry_of entries.now) row.old.own.items }
     ensures last { row.new.last ≡ row.old.last }
     ensures swept { row.new.swept ≡ swept }
-    ensures own { certs_named (plan_of plan.now).commons (map entry_of entries.now) row.new.own.items
+    ensures own { certs_named (plan_of plan.now).commons (map entry_of entries.now)
+        row.new.own.items
         ≡ row_certs (plan_of plan.now) (map entry_of entries.now) clock swept row.old }
-    ensures names { AreNames (plan_of plan.now).commons (map entry_of entries.now) row.new.own.items }
+    ensures names { AreNames (plan_of plan.now).commons (map entry_of entries.now)
+        row.new.own.items }
 {
     if row.swept == swept {
         return;

@@ -115,7 +115,8 @@ pub fn judge<D: Decide>(
         (replicate (length snapshot.now.certs.items) true) (principal asked.now.subject)
         (map grant asked.now.list.value.items) }
     ensures verdict { Judges anchors.now (certificates snapshot.now.certs.items) snapshot.now.moment
-        (principal asked.now.subject) (map grant asked.now.list.value.items) asked.now.right result }
+        (principal asked.now.subject) (map grant asked.now.list.value.items) asked.now.right
+        result }
 
     // Where it grants, the decider stays asked about the live certificates.
     ensures asked { IsGrant result → D.question bench.new ≡ question_of anchors.now

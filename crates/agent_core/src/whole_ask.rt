@@ -28,7 +28,8 @@ fn step_at_home<W: Wait + Sync, S: Shards>(
     asked: &Arc<Ask>,
 ) -> Result<(u64, Answer), AllocError>
     requires meant { (plan : Plan) →
-        slice_get (S.plans shards.old) (home (S.plans shards.old) asked.now.value.channel) ≡ Some plan
+        slice_get (S.plans shards.old) (home (S.plans shards.old) asked.now.value.channel)
+        ≡ Some plan
         → IsMeant plan (S.seen shards.old (home (S.plans shards.old) asked.now.value.channel))
         (Asks (ask_of asked.now.value)) }
     requires few { length asked.now.value.presented.items ≤ 16 }

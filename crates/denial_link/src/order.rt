@@ -17,7 +17,8 @@ pub(crate) type Key = (Reverse<u64>, [u8; 32], u8);
 // The keys of those that have ended.
 fn dead_keys(certs: &[Arc<Cert>], moment: u64) -> ArrayVec<Key, MAX_CERTS>
     requires { length certs.now ≤ MAX_CERTS }
-    ensures { KeysBelow (map (λ c. certificate c.value.body) certs.now) moment (length certs.now) result.items }
+    ensures { KeysBelow (map (λ c. certificate c.value.body) certs.now) moment (length certs.now)
+        result.items }
 {
     let mut keys = ArrayVec::new();
     for place in 0..certs.len() {

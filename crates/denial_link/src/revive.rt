@@ -42,8 +42,9 @@ fn are_enough<D: Decide>(
 ) -> bool
     requires askable { IsAskable anchors.now (map (λ c. certificate c.value.body) certs.now)
         (replicate (length certs.now) true) (principal subject.now) (map grant list.now) }
-    requires listed { IsTermOf (question_of anchors.now (map (λ c. certificate c.value.body) certs.now)
-        (replicate (length certs.now) true) (principal subject.now) (map grant list.now))
+    requires listed { IsTermOf (question_of anchors.now
+        (map (λ c. certificate c.value.body) certs.now) (replicate (length certs.now) true)
+        (principal subject.now) (map grant list.now))
         (principal who.now) }
     ensures { IsTrue result ↔ MaySpeak anchors.now
         (claims (revived (map (λ c. certificate c.value.body) certs.now) moment places.now))
@@ -67,8 +68,9 @@ pub(crate) fn first_needed<D: Decide>(
 ) -> u8
     requires askable { IsAskable anchors.now (map (λ c. certificate c.value.body) certs.now)
         (replicate (length certs.now) true) (principal subject.now) (map grant list.now) }
-    requires listed { IsTermOf (question_of anchors.now (map (λ c. certificate c.value.body) certs.now)
-        (replicate (length certs.now) true) (principal subject.now) (map grant list.now))
+    requires listed { IsTermOf (question_of anchors.now
+        (map (λ c. certificate c.value.body) certs.now) (replicate (length certs.now) true)
+        (principal subject.now) (map grant list.now))
         (principal who.now) }
     requires lacking { MaySpeak anchors.now
         (claims (live (map (λ c. certificate c.value.body) certs.now) moment))

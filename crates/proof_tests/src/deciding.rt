@@ -6,8 +6,8 @@ mod building;
 mod cases;
 mod changing;
 
-use building::{certs, some_term, term};
-use cases::Word::{For, Key, Name, Role};
+use building::{certs, chain, some_term, term};
+use cases::Word::{And, For, Key, Name, Quote, Role};
 use cases::{CASES, Case, DELEGATED, Word};
 use changing::changed;
 use prin_term::{Anchor, ENTRY_NODES, Entry, MAX_DEPTH, QUOTED_NODES, Term};
@@ -102,6 +102,9 @@ fn ask(
     }
     let list = [Entry { rights: 1, who }];
     decider.begin(&ANCHORS, certs, chosen, subject, &list);
+    if decider.missed() != 0 {
+        return Err("no hint led to a line".into());
+    }
     let who = &list[0].who;
     if !decider.derives(subject, who) {
         return Ok(None);
@@ -200,5 +203,18 @@ fn a_login_needs_each_of_its_certificates(rt: HostRuntime) -> Result<(), Fail> {
         let taken = log_in(&rt, &mut decider, &certs, &chosen)?;
         assert!(rt; taken.is_none(), "without {missing}");
     }
+    Ok(())
+}
+
+#[test]
+fn a_large_question_is_decided_by_hints_alone(rt: HostRuntime) -> Result<(), Fail> {
+    let alloc = rt.alloc();
+    let mut decider = Saturator::reserve(alloc)?;
+    let certs = chain(alloc, 64)?;
+    let chosen = vec![in alloc; true; certs.len()]?;
+    let subject = channel(alloc, 164, &[Name(30)])?;
+    let who = term(alloc, &[Key(100), Key(101), And, Name(30), Quote])?;
+    let taken = ask(&rt, &mut decider, &certs, &chosen, &subject, who)?.ok_or("denied")?;
+    assert_eq!(rt; taken.cites.len(), 64);
     Ok(())
 }

@@ -10,7 +10,8 @@ use taos_calculus::{Line, Step};
 // The place of a number.
 fn place_of(used: &[u16], cite: u16) -> Option<u16>
     requires { length used.now < 2 ^ 16 }
-    ensures { MatchOption result ((i : ℕ) → slice_get used.now i ≡ Some cite → ⊥) (λ i. slice_get used.now i ≡ Some cite) }
+    ensures { MatchOption result ((i : ℕ) → slice_get used.now i ≡ Some cite → ⊥)
+        (λ i. slice_get used.now i ≡ Some cite) }
 {
     for i in 0..used.len() {
         if used[i] == cite {

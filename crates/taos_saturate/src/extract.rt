@@ -46,7 +46,8 @@ fn mark_premises(marks: &mut Vec<bool>, step: Step)
     ensures same_length { length marks.new.items ≡ length marks.old.items }
     ensures kept { (k : ℕ) → Marked marks.old.items k → Marked marks.new.items k }
     ensures set { (i : ℕ) → Contains (premises_of step) i → Marked marks.new.items i }
-    ensures only { (k : ℕ) → Marked marks.new.items k → Marked marks.old.items k ⊎ Contains (premises_of step) k }
+    ensures only { (k : ℕ) → Marked marks.new.items k
+        → Marked marks.old.items k ⊎ Contains (premises_of step) k }
 {
     let (first, second) = premises(step);
     mark(marks, first);
@@ -56,7 +57,8 @@ fn mark_premises(marks: &mut Vec<bool>, step: Step)
 // Marks what the last line needs.
 fn marks_for(alloc: Global, lines: &[Line], last: usize) -> Result<Vec<bool>, AllocError>
     requires last_in { last < length lines.now }
-    requires ordered { (k i : ℕ) (l : Line) → slice_get lines.now k ≡ Some l → Contains (premises_of l.step) i → i < k }
+    requires ordered { (k i : ℕ) (l : Line) → slice_get lines.now k ≡ Some l
+        → Contains (premises_of l.step) i → i < k }
     ensures { IfOk result (λ marks. IsMarked lines.now last marks.items) }
 {
     let mut marks = vec![in alloc; false; last + 1]?;
@@ -118,7 +120,8 @@ fn renumbered(step: Step, numbers: &[u32]) -> Step
 pub fn extract(alloc: Global, lines: &[Line], last: usize) -> Result<Vec<Line>, AllocError>
     requires last_in { last < length lines.now }
     requires lines_fit { length lines.now < 2 ^ 32 }
-    requires ordered { (k i : ℕ) (l : Line) → slice_get lines.now k ≡ Some l → Contains (premises_of l.step) i → i < k }
+    requires ordered { (k i : ℕ) (l : Line) → slice_get lines.now k ≡ Some l
+        → Contains (premises_of l.step) i → i < k }
     ensures { IfOk result (λ out. IsExtract lines.now last out.items) }
 {
     let marks = marks_for(alloc, lines, last)?;

@@ -39,8 +39,10 @@ impl Found {
     pub fn restart(&mut self, width: usize)
         requires rows_fit { width + length self.old.statements.items < 2 ^ 32 }
         requires fits { width * (width + length self.old.statements.items) < 2 ^ 32 }
-        requires lines_room { width * (width + length self.old.statements.items) ≤ vec_capacity self.old.lines }
-        requires numbers_room { width * (width + length self.old.statements.items) ≤ vec_capacity self.old.numbers }
+        requires lines_room { width * (width + length self.old.statements.items)
+            ≤ vec_capacity self.old.lines }
+        requires numbers_room { width * (width + length self.old.statements.items)
+            ≤ vec_capacity self.old.numbers }
         ensures found { IsFound self.new }
         ensures width { self.new.width ≡ width }
         ensures statements { self.new.statements ≡ self.old.statements }
@@ -58,7 +60,9 @@ impl Found {
 
     /// The first place of the statement.
     pub fn row(&self, left: u16, right: u16) -> Option<usize>
-        ensures { MatchOption result ((k : ℕ) → slice_get self.now.statements.items k ≡ Some (record { left = left; right = right }) → ⊥) (IsFirstOf self.now.statements.items left right) }
+        ensures { MatchOption result ((k : ℕ) → slice_get self.now.statements.items k
+            ≡ Some (record { left = left; right = right }) → ⊥)
+            (IsFirstOf self.now.statements.items left right) }
     {
         for k in 0..self.statements.len() {
             if self.statements[k] == (Pair { left, right }) {
@@ -72,7 +76,9 @@ impl Found {
     fn cell(&self, fact: Fact) -> Option<usize>
         requires found { IsFound self.now }
         requires below { HasCell self.now fact }
-        ensures { MatchOption result ((c : ℕ) → IsCell self.now.width self.now.statements.items fact c → ⊥) (IsCell self.now.width self.now.statements.items fact) }
+        ensures { MatchOption result
+            ((c : ℕ) → IsCell self.now.width self.now.statements.items fact c → ⊥)
+            (IsCell self.now.width self.now.statements.items fact) }
     {
         match fact {
             Fact::Speaks { left, right } => {
@@ -99,7 +105,8 @@ impl Found {
     pub fn number(&self, fact: Fact) -> Option<u32>
         requires found { IsFound self.now }
         requires below { HasCell self.now fact }
-        ensures { MatchOption result ((k : ℕ) → slice_get (facts_in self.now) k ≡ Some fact → ⊥) (λ k. slice_get (facts_in self.now) k ≡ Some fact) }
+        ensures { MatchOption result ((k : ℕ) → slice_get (facts_in self.now) k ≡ Some fact → ⊥)
+            (λ k. slice_get (facts_in self.now) k ≡ Some fact) }
     {
         let cell = self.cell(fact)?;
         let number = self.numbers[cell];
@@ -115,7 +122,8 @@ impl Found {
         ensures found { IsFound self.new }
         ensures width { self.new.width ≡ self.old.width }
         ensures statements { self.new.statements ≡ self.old.statements }
-        ensures lines { self.new.lines.items ≡ self.old.lines.items ++ record { fact = fact; step = step } ∷ [] }
+        ensures lines { self.new.lines.items
+            ≡ self.old.lines.items ++ record { fact = fact; step = step } ∷ [] }
         ensures room { room self.new + 1 ≡ room self.old }
         ensures lines_kept { vec_capacity self.old.lines ≤ vec_capacity self.new.lines }
         ensures numbers_kept { vec_capacity self.old.numbers ≤ vec_capacity self.new.numbers }

@@ -8,7 +8,8 @@ use crate::found::Found;
 // Whether each place that the second knows is known to the first. It looks at all places, which is faster than to stop at one.
 fn covers(over: &[u32], under: &[u32]) -> bool
     requires { length over.now ≡ length under.now }
-    ensures { IsTrue result → (c : ℕ) → c < length under.now → slice_index under.now c ≢ 0 → slice_index over.now c ≢ 0 }
+    ensures { IsTrue result → (c : ℕ) → c < length under.now → slice_index under.now c ≢ 0
+        → slice_index over.now c ≢ 0 }
 {
     let mut missing = false;
     for c in 0..under.len() {

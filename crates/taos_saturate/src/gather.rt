@@ -80,10 +80,12 @@ fn take_at(
     requires cited_few { length cited.old.items ≤ place }
     requires cited_room { length certs.now ≤ vec_capacity cited.old }
     requires gathers { Gathers nodes.old.items cited.old.items
-        (picked 0 (take place (map claim_of (map (λ c. certificate c.value.body) certs.now))) (take place chosen.now)) }
+        (picked 0 (take place (map claim_of (map (λ c. certificate c.value.body) certs.now)))
+        (take place chosen.now)) }
     ensures widens { Widens nodes.old.items nodes.new.items 16 }
     ensures gathers { Gathers nodes.new.items cited.new.items
-        (picked 0 (take (place + 1) (map claim_of (map (λ c. certificate c.value.body) certs.now))) (take (place + 1) chosen.now)) }
+        (picked 0 (take (place + 1) (map claim_of (map (λ c. certificate c.value.body) certs.now)))
+        (take (place + 1) chosen.now)) }
     ensures cited_few { length cited.new.items ≤ place + 1 }
     ensures capacity { vec_capacity nodes.old ≤ vec_capacity nodes.new }
     ensures cited_capacity { vec_capacity cited.old ≤ vec_capacity cited.new }
@@ -128,7 +130,8 @@ pub fn take_list(nodes: &mut Vec<Node>, numbers: &mut Vec<u16>, list: &[Entry])
     requires small { All (λ e. node_count e.who ≤ 16) (map grant list.now) }
     ensures widens { Widens nodes.old.items nodes.new.items (16 * length list.now) }
     ensures within { All (λ i. i < length nodes.new.items) numbers.new.items }
-    ensures named_are { map (named nodes.new.items) numbers.new.items ≡ map (λ e. principal e.who) list.now }
+    ensures named_are { map (named nodes.new.items) numbers.new.items
+        ≡ map (λ e. principal e.who) list.now }
     ensures capacity { vec_capacity nodes.old ≤ vec_capacity nodes.new }
     ensures numbers_capacity { vec_capacity numbers.old ≤ vec_capacity numbers.new }
 {

@@ -30,6 +30,8 @@ pub struct Held {
     pub table: Saturation,
     pub subject: u16,
     pub list: Vec<u16>,
+    /// How many lines no hint led to.
+    pub missed: u32,
 }
 
 impl Held {
@@ -59,6 +61,7 @@ impl Held {
             table,
             subject: 0,
             list,
+            missed: 0,
         })
     }
 
@@ -94,8 +97,9 @@ impl Held {
         requires cited { self.old.table.cited.items ≡ [] }
         requires statements { self.old.table.found.statements.items ≡ [] }
         requires list { self.old.list.items ≡ [] }
-        requires askable { IsAskable anchors.now (map (λ c. certificate c.value.body) certs.now) chosen.now
-            (principal subject.now) (map grant list.now) }
+        requires askable { IsAskable anchors.now
+            (map (λ c. certificate c.value.body) certs.now) chosen.now (principal subject.now)
+            (map grant list.now) }
         ensures reserved { IsReserved self.new }
         ensures gathered { IsGathered self.new }
         ensures seen_is { seen self.new ≡ question_of anchors.now
@@ -119,7 +123,7 @@ impl Held {
         ensures seen_is { seen self.new ≡ seen self.old }
     {
         self.table.found.restart(self.table.nodes.len());
-        self.table.saturate();
+        self.missed = self.table.saturate();
     }
 
     /// Asks about the certificates at whose place `chosen` is true.
@@ -132,8 +136,9 @@ impl Held {
         list: &[Entry],
     )
         requires reserved { IsReserved self.old }
-        requires askable { IsAskable anchors.now (map (λ c. certificate c.value.body) certs.now) chosen.now
-            (principal subject.now) (map grant list.now) }
+        requires askable { IsAskable anchors.now
+            (map (λ c. certificate c.value.body) certs.now) chosen.now (principal subject.now)
+            (map grant list.now) }
         ensures held { IsHeld self.new }
         ensures seen_is { seen self.new ≡ question_of anchors.now
             (map (λ c. certificate c.value.body) certs.now) chosen.now (principal subject.now)
@@ -153,9 +158,11 @@ impl Held {
         number: u32,
     ) -> Result<Taken, AllocError>
         requires held { IsHeld self.now }
-        requires stands { slice_get (facts_of self.now.table) number ≡ Some (Fact.Speaks left right) }
-        ensures { IfOk result (λ t. IsProofOf (seen self.now) (named self.now.table.nodes.items left)
-            (named self.now.table.nodes.items right) (lines_of t.proof) t.cites.items) }
+        requires stands { slice_get (facts_of self.now.table) number
+            ≡ Some (Fact.Speaks left right) }
+        ensures { IfOk result (λ t. IsProofOf (seen self.now)
+            (named self.now.table.nodes.items left) (named self.now.table.nodes.items right)
+            (lines_of t.proof) t.cites.items) }
     {
         let lines = extract(alloc, &self.table.found.lines, number as usize)?;
         let used = cites_in(alloc, &lines, self.table.cited.len() as u16)?;
@@ -171,7 +178,7 @@ fn places(alloc: Global, cited: &[Cited], used: &[u16]) -> Result<Vec<u16>, Allo
     requires { All (λ k. k < length cited.now) used.now }
     ensures { IfOk result (λ r. r.items ≡ map (place_at cited.now) used.now) }
 {
-    let mut out = Vec::new(alloc);
+    let mut out = Vec::with_capacity(alloc, used.len())?;
     for i in 0..used.len() {
         out.push(cited[used[i] as usize].place)?;
     }

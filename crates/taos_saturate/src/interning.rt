@@ -15,7 +15,8 @@ use taos_calculus::Node;
 
 /// The number of a node.
 pub fn find(nodes: &[Node], node: Node) -> Option<usize>
-    ensures { MatchOption result ((i : ℕ) → slice_get nodes.now i ≡ Some node → ⊥) (λ i. slice_get nodes.now i ≡ Some node) }
+    ensures { MatchOption result ((i : ℕ) → slice_get nodes.now i ≡ Some node → ⊥)
+        (λ i. slice_get nodes.now i ≡ Some node) }
 {
     for i in 0..nodes.len() {
         if nodes[i] == node {
@@ -30,7 +31,8 @@ pub fn place(nodes: &mut Vec<Node>, node: Node) -> u16
     requires roomy { IsRoomy nodes.old.items (vec_capacity nodes.old) }
     requires operands { OperandsBelow (length nodes.old.items) node }
     requires fits { Fits nodes.old.items (shape (named nodes.old.items) node ∷ []) }
-    ensures taken { TakesIn nodes.old.items nodes.new.items (shape (named nodes.old.items) node ∷ []) (shape (named nodes.old.items) node) result }
+    ensures taken { TakesIn nodes.old.items nodes.new.items
+        (shape (named nodes.old.items) node ∷ []) (shape (named nodes.old.items) node) result }
     ensures capacity { vec_capacity nodes.old ≤ vec_capacity nodes.new }
 {
     match find(nodes, node) {
@@ -44,7 +46,8 @@ pub fn place(nodes: &mut Vec<Node>, node: Node) -> u16
 
 // The node of a compound of two, of the kind of a term.
 fn pair_node(term: &Term, a: u16, b: u16) -> Node
-    ensures { (kind : Kind) (p q : Principal) → principal term.now ≡ pair kind p q → result ≡ node_pair kind a b }
+    ensures { (kind : Kind) (p q : Principal) → principal term.now ≡ pair kind p q
+        → result ≡ node_pair kind a b }
 {
     match term {
         Term::And(_, _) => Node::And(a, b),
@@ -57,7 +60,8 @@ fn pair_node(term: &Term, a: u16, b: u16) -> Node
 pub fn intern(nodes: &mut Vec<Node>, term: &Term) -> u16
     requires roomy { IsRoomy nodes.old.items (vec_capacity nodes.old) }
     requires fits { Fits nodes.old.items (post_order (principal term.now)) }
-    ensures taken { TakesIn nodes.old.items nodes.new.items (post_order (principal term.now)) (principal term.now) result }
+    ensures taken { TakesIn nodes.old.items nodes.new.items (post_order (principal term.now))
+        (principal term.now) result }
     ensures capacity { vec_capacity nodes.old ≤ vec_capacity nodes.new }
 {
     match term {

@@ -14,7 +14,8 @@ impl Saturation {
         requires ready { IsReady self.now }
         requires left_in { IsNumber self.now left }
         requires right_in { IsNumber self.now right }
-        ensures { MatchOption result (SpeaksFull self.now left right) (λ step. IsNew self.now (record { fact = Fact.Speaks left right; step = step })) }
+        ensures { MatchOption result (SpeaksFull self.now left right)
+            (λ step. IsNew self.now (record { fact = Fact.Speaks left right; step = step })) }
     {
         match self.speaks(left, right) {
             Some(_) => None,
@@ -27,7 +28,10 @@ impl Saturation {
         requires ready { IsReady self.now }
         requires who_in { IsNumber self.now who }
         requires place_in { place < length self.now.found.statements.items }
-        ensures { MatchOption result ((p : Pair) → slice_get self.now.found.statements.items place ≡ Some p → SaysFull self.now who p) (IsNew self.now) }
+        ensures { MatchOption result
+            ((p : Pair) → slice_get self.now.found.statements.items place ≡ Some p
+            → SaysFull self.now who p)
+            (IsNew self.now) }
     {
         let statement = self.found.statement(place);
         match self.says(who, statement.left, statement.right) {
@@ -71,7 +75,10 @@ impl Saturation {
         requires ready { IsReady self.now }
         requires who_in { IsNumber self.now who }
         requires place_in { place < length self.now.found.statements.items }
-        ensures { MatchOption result ((p : Pair) → slice_get self.now.found.statements.items place ≡ Some p → LiftFull self.now who p) (IsNew self.now) }
+        ensures { MatchOption result
+            ((p : Pair) → slice_get self.now.found.statements.items place ≡ Some p
+            → LiftFull self.now who p)
+            (IsNew self.now) }
     {
         let statement = self.found.statement(place);
         if let Some(says) = self.says(who, statement.left, statement.right) {
@@ -98,7 +105,10 @@ impl Saturation {
         requires ready { IsReady self.now }
         requires who_in { IsNumber self.now who }
         requires place_in { place < length self.now.found.statements.items }
-        ensures { MatchOption result ((p : Pair) → slice_get self.now.found.statements.items place ≡ Some p → SaysFull self.now who p × LiftFull self.now who p) (IsNew self.now) }
+        ensures { MatchOption result
+            ((p : Pair) → slice_get self.now.found.statements.items place ≡ Some p
+            → SaysFull self.now who p × LiftFull self.now who p)
+            (IsNew self.now) }
     {
         match self.new_says(who, place) {
             Some(line) => Some(line),
@@ -110,7 +120,8 @@ impl Saturation {
     fn new_in_row(&self, left: u16) -> Option<Line>
         requires ready { IsReady self.now }
         requires left_in { IsNumber self.now left }
-        ensures { MatchOption result ((r : ℕ) → IsNumber self.now r → SpeaksFull self.now left r) (IsNew self.now) }
+        ensures { MatchOption result ((r : ℕ) → IsNumber self.now r → SpeaksFull self.now left r)
+            (IsNew self.now) }
     {
         for k in 0..self.nodes.len() {
             let right = k as u16;
@@ -127,7 +138,9 @@ impl Saturation {
     // A new fact by no chain about who speaks for whom.
     fn new_in_rows(&self) -> Option<Line>
         requires { IsReady self.now }
-        ensures { MatchOption result ((l r : ℕ) → IsNumber self.now l → IsNumber self.now r → SpeaksFull self.now l r) (IsNew self.now) }
+        ensures { MatchOption result
+            ((l r : ℕ) → IsNumber self.now l → IsNumber self.now r → SpeaksFull self.now l r)
+            (IsNew self.now) }
     {
         for k in 0..self.nodes.len() {
             let left = k as u16;
@@ -158,7 +171,9 @@ impl Saturation {
     // A new fact by a chain.
     fn new_in_lines(&self) -> Option<Line>
         requires { IsReady self.now }
-        ensures { MatchOption result ((k : ℕ) → k < length self.now.found.lines.items → LineFull self.now k) (IsNew self.now) }
+        ensures { MatchOption result
+            ((k : ℕ) → k < length self.now.found.lines.items → LineFull self.now k)
+            (IsNew self.now) }
     {
         for number in 0..self.found.lines.len() {
             if let Some(line) = self.new_by_line(number) {
@@ -172,7 +187,11 @@ impl Saturation {
     fn new_in_statement(&self, place: usize) -> Option<Line>
         requires ready { IsReady self.now }
         requires place_in { place < length self.now.found.statements.items }
-        ensures { MatchOption result ((w : ℕ) → IsNumber self.now w → (p : Pair) → slice_get self.now.found.statements.items place ≡ Some p → SaysFull self.now w p × LiftFull self.now w p) (IsNew self.now) }
+        ensures { MatchOption result
+            ((w : ℕ) → IsNumber self.now w → (p : Pair)
+            → slice_get self.now.found.statements.items place ≡ Some p
+            → SaysFull self.now w p × LiftFull self.now w p)
+            (IsNew self.now) }
     {
         for k in 0..self.nodes.len() {
             if let Some(line) = self.new_about(k as u16, place) {
@@ -185,7 +204,10 @@ impl Saturation {
     // A new fact about who says what.
     fn new_in_statements(&self) -> Option<Line>
         requires { IsReady self.now }
-        ensures { MatchOption result ((k w : ℕ) (p : Pair) → slice_get self.now.found.statements.items k ≡ Some p → IsNumber self.now w → SaysFull self.now w p × LiftFull self.now w p) (IsNew self.now) }
+        ensures { MatchOption result
+            ((k w : ℕ) (p : Pair) → slice_get self.now.found.statements.items k ≡ Some p
+            → IsNumber self.now w → SaysFull self.now w p × LiftFull self.now w p)
+            (IsNew self.now) }
     {
         for place in 0..self.found.statements.len() {
             if let Some(line) = self.new_in_statement(place) {

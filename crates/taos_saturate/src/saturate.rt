@@ -62,8 +62,9 @@ impl Saturation {
         self.parents.restart(&self.nodes);
     }
 
-    /// Adds lines until a look over all pairs finds no step that gives anything new.
-    pub fn saturate(&mut self)
+    /// Adds lines until a look over all pairs finds no step that gives anything new. Answers how
+    /// many lines such looks found: none, unless a hint was lost.
+    pub fn saturate(&mut self) -> u32
         requires ready { IsReady self.old }
         requires sound { IsSound self.old }
         ensures grown { IsGrown self.old self.new }
@@ -72,10 +73,13 @@ impl Saturation {
         self.prepare();
         self.seed();
         self.follow_from(0);
+        let mut missed: u32 = 0;
         while let Some(line) = self.new_line() {
             let from = self.found.lines.len();
             self.add(line);
             self.follow_from(from);
+            missed = missed.saturating_add(1);
         }
+        missed
     }
 }

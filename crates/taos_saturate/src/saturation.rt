@@ -55,7 +55,9 @@ impl Saturation {
         requires ready { IsReady self.now }
         requires left_in { IsNumber self.now left }
         requires right_in { IsNumber self.now right }
-        ensures { MatchOption result ((k : ℕ) → slice_get (facts_of self.now) k ≡ Some (Fact.Speaks left right) → ⊥) (λ k. slice_get (facts_of self.now) k ≡ Some (Fact.Speaks left right)) }
+        ensures { MatchOption result
+            ((k : ℕ) → slice_get (facts_of self.now) k ≡ Some (Fact.Speaks left right) → ⊥)
+            (λ k. slice_get (facts_of self.now) k ≡ Some (Fact.Speaks left right)) }
     {
         self.found.number(Fact::Speaks { left, right })
     }
@@ -66,7 +68,9 @@ impl Saturation {
         requires who_in { IsNumber self.now who }
         requires left_in { IsNumber self.now left }
         requires right_in { IsNumber self.now right }
-        ensures { MatchOption result ((k : ℕ) → slice_get (facts_of self.now) k ≡ Some (Fact.Says who left right) → ⊥) (λ k. slice_get (facts_of self.now) k ≡ Some (Fact.Says who left right)) }
+        ensures { MatchOption result
+            ((k : ℕ) → slice_get (facts_of self.now) k ≡ Some (Fact.Says who left right) → ⊥)
+            (λ k. slice_get (facts_of self.now) k ≡ Some (Fact.Says who left right)) }
     {
         self.found.number(Fact::Says { who, left, right })
     }
@@ -78,7 +82,11 @@ impl Saturation {
         requires b_in { IsNumber self.now b }
         requires c_in { IsNumber self.now c }
         requires d_in { IsNumber self.now d }
-        ensures { MatchOption result ((i j : ℕ) → slice_get (facts_of self.now) i ≡ Some (Fact.Speaks a b) → slice_get (facts_of self.now) j ≡ Some (Fact.Speaks c d) → ⊥) (λ q. (slice_get (facts_of self.now) q.0 ≡ Some (Fact.Speaks a b)) × (slice_get (facts_of self.now) q.1 ≡ Some (Fact.Speaks c d))) }
+        ensures { MatchOption result
+            ((i j : ℕ) → slice_get (facts_of self.now) i ≡ Some (Fact.Speaks a b)
+            → slice_get (facts_of self.now) j ≡ Some (Fact.Speaks c d) → ⊥)
+            (λ q. (slice_get (facts_of self.now) q.0 ≡ Some (Fact.Speaks a b))
+            × (slice_get (facts_of self.now) q.1 ≡ Some (Fact.Speaks c d))) }
     {
         match self.speaks(a, b) {
             Some(first) => match self.speaks(c, d) {

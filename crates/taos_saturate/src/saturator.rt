@@ -63,7 +63,8 @@ fn node_is(nodes: &[Node], id: u16, term: &Term) -> bool
 fn find(nodes: &[Node], term: &Term) -> Option<u16>
     requires table { IsNodeTable nodes.now }
     requires fits { length nodes.now < 2 ^ 16 }
-    ensures { MatchOption result ((i : ℕ) → i < length nodes.now → named nodes.now i ≢ principal term.now)
+    ensures { MatchOption result
+        ((i : ℕ) → i < length nodes.now → named nodes.now i ≢ principal term.now)
         (λ i. (i < length nodes.now) × (named nodes.now i ≡ principal term.now)) }
 {
     for i in 0..nodes.len() {
@@ -119,6 +120,12 @@ impl Saturator {
         let mut held = Held::reserve(alloc)?;
         held.begin(&[], &[], &[], &Term::Key(0), &[]);
         Ok(Saturator { held })
+    }
+
+    /// How many lines of what was asked last no hint led to: none, unless a hint is lost. They were
+    /// found by a look over all pairs, which is slow.
+    pub fn missed(&self) -> u32 {
+        self.held.missed
     }
 
     // Whether `left => right` is among the facts.

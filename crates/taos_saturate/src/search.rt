@@ -15,7 +15,9 @@ impl Saturation {
         requires ready { IsReady self.now }
         requires left_in { IsNumber self.now left }
         requires right_in { IsNumber self.now right }
-        ensures { MatchOption result (Lacks self.now (Fact.Speaks left right) Step.Left × Lacks self.now (Fact.Speaks left right) Step.Right) (GivesIn self.now (Fact.Speaks left right)) }
+        ensures { MatchOption result (Lacks self.now (Fact.Speaks left right) Step.Left
+            × Lacks self.now (Fact.Speaks left right) Step.Right)
+            (GivesIn self.now (Fact.Speaks left right)) }
     {
         if let Node::And(a, b) = self.node(left) {
             if a == right {
@@ -33,7 +35,9 @@ impl Saturation {
         requires ready { IsReady self.now }
         requires left_in { IsNumber self.now left }
         requires right_in { IsNumber self.now right }
-        ensures { MatchOption result ((i j : ℕ) → Lacks self.now (Fact.Speaks left right) (Step.Both i j)) (GivesIn self.now (Fact.Speaks left right)) }
+        ensures { MatchOption result
+            ((i j : ℕ) → Lacks self.now (Fact.Speaks left right) (Step.Both i j))
+            (GivesIn self.now (Fact.Speaks left right)) }
     {
         if let Node::And(a, b) = self.node(right) {
             if let Some((first, second)) = self.both_speak(left, a, left, b) {
@@ -48,7 +52,9 @@ impl Saturation {
         requires ready { IsReady self.now }
         requires left_in { IsNumber self.now left }
         requires right_in { IsNumber self.now right }
-        ensures { MatchOption result ((i j : ℕ) → Lacks self.now (Fact.Speaks left right) (Step.Quote i j)) (GivesIn self.now (Fact.Speaks left right)) }
+        ensures { MatchOption result
+            ((i j : ℕ) → Lacks self.now (Fact.Speaks left right) (Step.Quote i j))
+            (GivesIn self.now (Fact.Speaks left right)) }
     {
         if let Node::Quote(a, b) = self.node(left) {
             if let Node::Quote(c, d) = self.node(right) {
@@ -65,7 +71,9 @@ impl Saturation {
         requires ready { IsReady self.now }
         requires left_in { IsNumber self.now left }
         requires right_in { IsNumber self.now right }
-        ensures { MatchOption result ((i j : ℕ) → Lacks self.now (Fact.Speaks left right) (Step.For i j)) (GivesIn self.now (Fact.Speaks left right)) }
+        ensures { MatchOption result
+            ((i j : ℕ) → Lacks self.now (Fact.Speaks left right) (Step.For i j))
+            (GivesIn self.now (Fact.Speaks left right)) }
     {
         if let Node::For(a, b) = self.node(left) {
             if let Node::For(c, d) = self.node(right) {
@@ -82,7 +90,8 @@ impl Saturation {
         requires ready { IsReady self.now }
         requires left_in { IsNumber self.now left }
         requires right_in { IsNumber self.now right }
-        ensures { MatchOption result (Lacks self.now (Fact.Speaks left right) Step.Role) (GivesIn self.now (Fact.Speaks left right)) }
+        ensures { MatchOption result (Lacks self.now (Fact.Speaks left right) Step.Role)
+            (GivesIn self.now (Fact.Speaks left right)) }
     {
         if let Node::AsRole(a, _role) = self.node(right) {
             if a == left {
@@ -97,7 +106,9 @@ impl Saturation {
         requires ready { IsReady self.now }
         requires left_in { IsNumber self.now left }
         requires right_in { IsNumber self.now right }
-        ensures { MatchOption result ((i : ℕ) → Lacks self.now (Fact.Speaks left right) (Step.RoleUnder i)) (GivesIn self.now (Fact.Speaks left right)) }
+        ensures { MatchOption result
+            ((i : ℕ) → Lacks self.now (Fact.Speaks left right) (Step.RoleUnder i))
+            (GivesIn self.now (Fact.Speaks left right)) }
     {
         if let Node::AsRole(a, role) = self.node(left) {
             if let Node::AsRole(b, other) = self.node(right) {
@@ -116,7 +127,9 @@ impl Saturation {
         requires ready { IsReady self.now }
         requires left_in { IsNumber self.now left }
         requires right_in { IsNumber self.now right }
-        ensures { MatchOption result ((i : ℕ) → Lacks self.now (Fact.Speaks left right) (Step.HandOff i)) (GivesIn self.now (Fact.Speaks left right)) }
+        ensures { MatchOption result
+            ((i : ℕ) → Lacks self.now (Fact.Speaks left right) (Step.HandOff i))
+            (GivesIn self.now (Fact.Speaks left right)) }
     {
         match self.says(right, left, right) {
             Some(says) => Some(Step::HandOff { says }),
@@ -129,7 +142,9 @@ impl Saturation {
         requires ready { IsReady self.now }
         requires left_in { IsNumber self.now left }
         requires right_in { IsNumber self.now right }
-        ensures { MatchOption result ((i : ℕ) → Lacks self.now (Fact.Speaks left right) (Step.Delegate i)) (GivesIn self.now (Fact.Speaks left right)) }
+        ensures { MatchOption result
+            ((i : ℕ) → Lacks self.now (Fact.Speaks left right) (Step.Delegate i))
+            (GivesIn self.now (Fact.Speaks left right)) }
     {
         if let Node::Quote(b, a) = self.node(left) {
             if let Node::For(c, d) = self.node(right) {
@@ -146,7 +161,9 @@ impl Saturation {
     // The place of an anchor.
     fn anchor_at(&self, key: u32, name: u32) -> Option<u16>
         requires { length self.now.anchors.items < 2 ^ 16 }
-        ensures { MatchOption result ((i : ℕ) → slice_get self.now.anchors.items i ≡ Some (record { key = key; name = name }) → ⊥) (λ i. slice_get self.now.anchors.items i ≡ Some (record { key = key; name = name })) }
+        ensures { MatchOption result ((i : ℕ) → slice_get self.now.anchors.items i
+            ≡ Some (record { key = key; name = name }) → ⊥)
+            (λ i. slice_get self.now.anchors.items i ≡ Some (record { key = key; name = name })) }
     {
         for i in 0..self.anchors.len() {
             if self.anchors[i] == (Anchor { key, name }) {
@@ -175,7 +192,9 @@ impl Saturation {
         requires ready { IsReady self.now }
         requires left_in { IsNumber self.now left }
         requires right_in { IsNumber self.now right }
-        ensures { MatchOption result ((i : ℕ) → Lacks self.now (Fact.Speaks left right) (Step.Anchor i)) (GivesIn self.now (Fact.Speaks left right)) }
+        ensures { MatchOption result
+            ((i : ℕ) → Lacks self.now (Fact.Speaks left right) (Step.Anchor i))
+            (GivesIn self.now (Fact.Speaks left right)) }
     {
         if let Node::Key(key) = self.node(left) {
             if let Node::Name(name) = self.node(right) {
@@ -193,7 +212,9 @@ impl Saturation {
         requires who_in { IsNumber self.now who }
         requires left_in { IsNumber self.now left }
         requires right_in { IsNumber self.now right }
-        ensures { MatchOption result ((i : ℕ) → Lacks self.now (Fact.Says who left right) (Step.Said i)) (GivesIn self.now (Fact.Says who left right)) }
+        ensures { MatchOption result
+            ((i : ℕ) → Lacks self.now (Fact.Says who left right) (Step.Said i))
+            (GivesIn self.now (Fact.Says who left right)) }
     {
         match self.cited_at(who, left, right) {
             Some(cite) => Some(Step::Said { cite }),
@@ -207,7 +228,9 @@ impl Saturation {
         requires who_in { IsNumber self.now who }
         requires left_in { IsNumber self.now left }
         requires right_in { IsNumber self.now right }
-        ensures { MatchOption result ((i j : ℕ) → Lacks self.now (Fact.Says who left right) (Step.Join i j)) (GivesIn self.now (Fact.Says who left right)) }
+        ensures { MatchOption result
+            ((i j : ℕ) → Lacks self.now (Fact.Says who left right) (Step.Join i j))
+            (GivesIn self.now (Fact.Says who left right)) }
     {
         if let Node::And(a, b) = self.node(who) {
             if let Some(first) = self.says(a, left, right) {
@@ -225,7 +248,8 @@ impl Saturation {
         requires who_in { IsNumber self.now who }
         requires left_in { IsNumber self.now left }
         requires right_in { IsNumber self.now right }
-        ensures { MatchOption result (LacksSays self.now who left right) (GivesIn self.now (Fact.Says who left right)) }
+        ensures { MatchOption result (LacksSays self.now who left right)
+            (GivesIn self.now (Fact.Says who left right)) }
     {
         if let Some(step) = self.by_said(who, left, right) {
             return Some(step);
@@ -238,7 +262,8 @@ impl Saturation {
         requires ready { IsReady self.now }
         requires left_in { IsNumber self.now left }
         requires right_in { IsNumber self.now right }
-        ensures { MatchOption result (LacksSpeaks self.now left right) (GivesIn self.now (Fact.Speaks left right)) }
+        ensures { MatchOption result (LacksSpeaks self.now left right)
+            (GivesIn self.now (Fact.Speaks left right)) }
     {
         if left == right {
             return Some(Step::Same);

@@ -65,3 +65,23 @@ pub fn certs(alloc: Global, rows: &[Row]) -> Result<Vec<Arc<Cert>>, Fail> {
     }
     Ok(certs)
 }
+
+// Keys from 100 on, each of which hands itself over to the next.
+pub fn chain(alloc: Global, count: u32) -> Result<Vec<Arc<Cert>>, Fail> {
+    let mut certs = Vec::new(alloc);
+    for i in 0..count {
+        let key = i.wrapping_add(100);
+        let body = CertBody {
+            issuer: key,
+            quoted: None,
+            statement: Statement {
+                left: Term::Key(key.wrapping_add(1)),
+                right: Term::Key(key),
+            },
+            until: 5000,
+            serial: 1,
+        };
+        certs.push(Arc::new(alloc, Cert::of(alloc, body)?)?)?;
+    }
+    Ok(certs)
+}
