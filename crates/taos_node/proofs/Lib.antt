@@ -7,3 +7,4 @@ pub mod OneFinding
 pub mod OneInput
 pub mod SameFindings
 pub mod CheckCommands
+pub mod Statuses

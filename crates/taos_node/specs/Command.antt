@@ -1,5 +1,5 @@
 -- The top call: the words, the file, and then the work.
-use Rattle.std.specs.Prelude.{◌≡◌, ◌≢◌, ◌⊎◌, ℕ, true, ◌<◌, ◌≤◌, List, [], ◌∷◌, length, All, Option, Some, None, Result, Ok, Err, codes, string_bytes, String}
+use Rattle.std.specs.Prelude.{◌≡◌, ◌≢◌, ◌⊎◌, ◌↔◌, ℕ, true, ◌<◌, ◌≤◌, List, [], ◌∷◌, length, All, Option, Some, None, Result, Ok, Err, codes, string_bytes, String}
 use Rattle.std.specs.Io.KnownBytes.{Keeps, Consumes, IsAtEnd}
 use Rattle.std.specs.declared.alloc.Global.{Global}
 use Rattle.frame_link.specs.declared.outcome.Outcome.{Outcome}
@@ -51,162 +51,217 @@ max_frames = 1000000
 abbrev pub IsOpeningFile : Opening → List ℕ → Type 0
 IsOpeningFile o bytes = Spells o bytes × (length bytes ≤ max_file)
 
+-- ---- what a call touches
+
+-- What is told of a source, a sink or a clock: what it has left or holds, and how often it failed.
+pub record Stream : Type 0 where
+  pub told : Option (List ℕ)
+  pub faults : ℕ
+
+-- what is told of it, of these
+abbrev pub stream : Option (List ℕ) → ℕ → Stream
+stream told faults = record { told = told; faults = faults }
+
+-- what a link to a relay tells of its answers, and how often it failed
+pub record Link : Type 0 where
+  pub says : Option (ℕ → List ℕ → Said)
+  pub faults : ℕ
+
+-- what a link tells, of these
+abbrev pub link : Option (ℕ → List ℕ → Said) → ℕ → Link
+link says faults = record { says = says; faults = faults }
+
+-- what contracts see of what a call touches: the clock and the link are those of the first lane
+pub record Touched : Type 0 where
+  pub file : Stream
+  pub input : Stream
+  pub output : Stream
+  pub clock : Stream
+  pub relay : Link
+
+-- what is touched, of these
+abbrev pub touched : Stream → Stream → Stream → Stream → Link → Touched
+touched file input output clock relay =
+    record { file = file; input = input; output = output; clock = clock; relay = relay }
+
+-- the first lane's clock, by what clocks tell
+abbrev pub first_clock : {C R D I O : Type 0} → (C → Option (List ℕ)) → (C → ℕ) →
+    List (Lane C R D I O) → Stream
+first_clock readings faults [] = stream None 0
+first_clock readings faults (lane ∷ lanes) = stream (readings lane.clock) (faults lane.clock)
+
+-- the first lane's link, by what links tell
+abbrev pub first_link : {C R D I O : Type 0} → (R → Option (ℕ → List ℕ → Said)) → (R → ℕ) →
+    List (Lane C R D I O) → Link
+first_link says faults [] = link None 0
+first_link says faults (lane ∷ lanes) = link (says lane.relay) (faults lane.relay)
+
+-- it did not fail in between, and its count does not stand at the largest u64
+abbrev pub IsSteady : Stream → Stream → Type 0
+IsSteady s0 s1 = StandsStill s0.faults s1.faults
+
+-- its count of faults rose in between, or stands at the largest u64
+abbrev pub HasFailed : Stream → Stream → Type 0
+HasFailed s0 s1 = Rose s0.faults s1.faults
+
+-- ---- the file
+
 -- the file was read to its end, and opens the node
-pub record Opens (file0 file1 : Option (List ℕ)) (o : Opening) : Type 0 where
+pub record Opens (file0 file1 : Stream) (o : Opening) : Type 0 where
   pub bytes : List ℕ
-  pub read : Consumes file0 file1 bytes
-  pub at_end : IsAtEnd file1
+  pub read : Consumes file0.told file1.told bytes
+  pub at_end : IsAtEnd file1.told
   pub is_opening : IsOpeningFile o bytes
 
 -- the file was read to its end, and its first byte that can't stand where it does is at the offset
-pub record IsMalformed (file0 file1 : Option (List ℕ)) (offset : ℕ) : Type 0 where
+pub record IsMalformed (file0 file1 : Stream) (offset : ℕ) : Type 0 where
   pub bytes : List ℕ
-  pub read : Consumes file0 file1 bytes
-  pub at_end : IsAtEnd file1
+  pub read : Consumes file0.told file1.told bytes
+  pub at_end : IsAtEnd file1.told
   pub short : length bytes ≤ max_file
   pub fault : opening_of bytes ≡ Err (Byte offset)
 
 -- one byte more than the most was read
-pub record IsTooLarge (file0 file1 : Option (List ℕ)) : Type 0 where
+pub record IsTooLarge (file0 file1 : Stream) : Type 0 where
   pub bytes : List ℕ
-  pub read : Consumes file0 file1 bytes
+  pub read : Consumes file0.told file1.told bytes
   pub large : max_file < length bytes
 
 -- why a file is not served
-abbrev pub FileFails : Option (List ℕ) → Option (List ℕ) → FileFault → Type 0
+abbrev pub FileFails : Stream → Stream → FileFault → Type 0
 FileFails file0 file1 (Malformed offset) = IsMalformed file0 file1 offset
 FileFails file0 file1 TooLarge = IsTooLarge file0 file1
 FileFails file0 file1 fault.ReadFault = Unit {0}
 FileFails file0 file1 fault.NoMemory = Unit {0}
 
--- what contracts see of what stands around a node: what the input has left, what the output holds,
--- the readings of the first lane's clock, and how often its link failed
-pub record Around : Type 0 where
-  pub input : Option (List ℕ)
-  pub output : Option (List ℕ)
-  pub clock : Option (List ℕ)
-  pub failed : ℕ
+-- what comes of a file: what stands for the opening that it spells, or why there is none
+abbrev pub FileGives : {A : Type 0} → (Opening → A → Type 0) → Stream → Stream →
+    Result A FileFault → Type 0
+FileGives {A} StandsFor file0 file1 (Ok x) = (o : Opening) × Opens file0 file1 o × StandsFor o x
+FileGives {A} StandsFor file0 file1 (Err fault) = FileFails file0 file1 fault
 
--- what stands around a node, of these
-abbrev pub around_of : Option (List ℕ) → Option (List ℕ) → Option (List ℕ) → ℕ → Around
-around_of input output clock failed = record { input = input; output = output; clock = clock; failed = failed }
+-- the file's count of faults rose where a fault of reading is answered, and else stayed
+abbrev pub FaultHasCause : Stream → Stream → FileFault → Type 0
+FaultHasCause file0 file1 (Malformed offset) = file1.faults ≡ file0.faults
+FaultHasCause file0 file1 TooLarge = file1.faults ≡ file0.faults
+FaultHasCause file0 file1 fault.ReadFault = (file0.faults ≤ file1.faults) × HasFailed file0 file1
+FaultHasCause file0 file1 fault.NoMemory = file1.faults ≡ file0.faults
 
--- what stands around a node, beside journals
-abbrev pub with_seen : Around → Seen → World
-with_seen a seen = record { input = a.input; output = a.output; clock = a.clock; faults = a.failed; seen = seen }
+-- the same of what comes of a file
+abbrev pub FileHasCause : {A : Type 0} → Stream → Stream → Result A FileFault → Type 0
+FileHasCause {A} file0 file1 (Ok x) = file1.faults ≡ file0.faults
+FileHasCause {A} file0 file1 (Err fault) = FaultHasCause file0 file1 fault
 
--- nothing of what stands around was touched
-pub record Untouched (a0 a1 : Around) : Type 0 where
-  pub input : Keeps a0.input a1.input
-  pub output : Keeps a0.output a1.output
-  pub clock : Keeps a0.clock a1.clock
-  pub link : a1.failed ≡ a0.failed
+-- ---- what is done
+
+-- what a connection is served over, of what is touched, beside journals
+abbrev pub with_seen : Touched → Seen → World
+with_seen t seen = record {
+  input = t.input.told;
+  output = t.output.told;
+  clock = t.clock.told;
+  faults = t.relay.faults;
+  seen = seen;
+}
+
+-- the first lane's clock and link were not used
+pub record UsesNoLane (before after : Touched) : Type 0 where
+  pub clock : Keeps before.clock.told after.clock.told
+  pub link : after.relay.faults ≡ before.relay.faults
+
+-- nothing but the file was touched
+pub record LeavesRest (before after : Touched) : Type 0 where
+  pub input : Keeps before.input.told after.input.told
+  pub output : Keeps before.output.told after.output.told
+  pub lane : UsesNoLane before after
 
 -- A node of the opening serves the connection, from empty journals on. The journals at the
 -- end are those of this connection alone: all their entries are its own.
-pub record ServesConnection (o : Opening) (says : Option (ℕ → List ℕ → Said)) (a0 a1 : Around) (outcome : Outcome) : Type 0 where
+pub record ServesConnection (o : Opening) (before after : Touched) (outcome : Outcome) : Type 0 where
   pub node : Node
   pub is_node : IsNodeOf o node
   -- the journals at the end, whose entries are all its own
   pub seen : Seen
-  pub connection : IsConnection node true says max_frames (with_seen a0 nothing_seen) (with_seen a1 seen) outcome
+  pub connection : IsConnection node true before.relay.says max_frames
+      (with_seen before nothing_seen) (with_seen after seen) outcome
 
--- a request and its reply were looked over, by the node that the file opens; neither clock nor
--- link were used
-pub record LooksOver (file0 file1 : Option (List ℕ)) (a0 a1 : Around) (end : CheckEnd) : Type 0 where
+-- a request and its reply were looked over, by the node that the file opens
+pub record LooksOver (before after : Touched) (end : CheckEnd) : Type 0 where
   pub node : Opening
-  pub opens : Opens file0 file1 node
-  pub checks : Checks node a0.input a1.input a0.output a1.output end
-  -- the clock was not used
-  pub clock : Keeps a0.clock a1.clock
-  -- the link was not used
-  pub link : a1.failed ≡ a0.failed
+  pub opens : Opens before.file after.file node
+  pub checks : Checks node before.input.told after.input.told before.output.told after.output.told end
+  pub lane : UsesNoLane before after
 
--- What is done, by how it ends, with what the link of the first lane tells of its answers. Other
--- words do nothing. A file that is malformed or too large, or fails, and one for which memory is
--- refused, leaves the rest untouched; every other opens a node that serves the connection, or by
--- which a request and its reply are looked over.
-abbrev pub Runs : List (String Global) → Option (List ℕ) → Option (List ℕ) → Option (ℕ → List ℕ → Said) → Around → Around → Ending → Type 0
-Runs words file0 file1 says a0 a1 Usage = (IsCommand words → ⊥) × Keeps file0 file1 × Untouched a0 a1
-Runs words file0 file1 says a0 a1 (File fault) = IsCommand words × FileFails file0 file1 fault × Untouched a0 a1
-Runs words file0 file1 says a0 a1 (Served outcome) = IsRun words × ((o : Opening) × Opens file0 file1 o × ServesConnection o says a0 a1 outcome)
-Runs words file0 file1 says a0 a1 (Checked end) = IsCheck words × LooksOver file0 file1 a0 a1 end
+-- What is done, by how it ends. Other words do nothing. A file that is malformed or too large, or
+-- fails, and one for which memory is refused, leaves the rest untouched; every other opens a node
+-- that serves the connection, or by which a request and its reply are looked over.
+abbrev pub Runs : List (String Global) → Touched → Touched → Ending → Type 0
+Runs words before after Usage =
+    (IsCommand words → ⊥) × Keeps before.file.told after.file.told × LeavesRest before after
+Runs words before after (File fault) =
+    IsCommand words × FileFails before.file after.file fault × LeavesRest before after
+Runs words before after (Served outcome) =
+    IsRun words ×
+    ((o : Opening) × Opens before.file after.file o × ServesConnection o before after outcome)
+Runs words before after (Checked end) = IsCheck words × LooksOver before after end
 
--- How it ended, with what was done: the status and the note, with its number, tell that ending.
-pub record Ends (words : List (String Global)) (file0 file1 : Option (List ℕ)) (says : Option (ℕ → List ℕ → Said)) (a0 a1 : Around) (notes0 notes1 : Option (List ℕ)) (n0 n1 status : ℕ) : Type 0 where
+-- How it ended, with what was done: the status and the note tell that ending.
+pub record Ends (words : List (String Global)) (before after : Touched) (notes0 notes1 : Stream)
+    (status : ℕ) : Type 0 where
   pub ending : Ending
-  pub runs : Runs words file0 file1 says a0 a1 ending
+  pub runs : Runs words before after ending
   pub tells : status ≡ status_of ending
-  pub noted : IsNoted notes0 notes1 n0 n1 (note_of ending)
+  pub noted : IsNoted notes0.told notes1.told notes0.faults notes1.faults (note_of ending)
+
+-- ---- what the status tells
 
 -- Which files are refused: one that opens no node is, and every other is not, unless its count
 -- rises or memory is refused.
-pub record FileDecides (file0 : Option (List ℕ)) (f0 f1 : ℕ) (status : ℕ) : Type 0 where
-  pub opens : (bytes : List ℕ) (o : Opening) → file0 ≡ Some bytes → IsOpeningFile o bytes → status ≢ 2
-  pub refuses : (bytes : List ℕ) → file0 ≡ Some bytes → ((o : Opening) → IsOpeningFile o bytes → ⊥) → StandsStill f0 f1 → (status ≡ 2) ⊎ (status ≡ 6)
-
--- what the clock of the first lane tells
-abbrev pub told_by_first : {C R D I O : Type 0} → (C → Option (List ℕ)) → List (Lane C R D I O) → Option (List ℕ)
-told_by_first readings [] = None
-told_by_first readings (lane ∷ lanes) = readings lane.clock
-
--- how often the clock of the first lane failed
-abbrev pub faults_of_first : {C R D I O : Type 0} → (C → ℕ) → List (Lane C R D I O) → ℕ
-faults_of_first faults [] = 0
-faults_of_first faults (lane ∷ lanes) = faults lane.clock
-
--- what the link of the first lane tells of its answers
-abbrev pub says_by_first : {C R D I O : Type 0} → (R → Option (ℕ → List ℕ → Said)) → List (Lane C R D I O) → Option (ℕ → List ℕ → Said)
-says_by_first says [] = None
-says_by_first says (lane ∷ lanes) = says lane.relay
-
--- how often the link of the first lane failed
-abbrev pub failed_by_first : {C R D I O : Type 0} → (R → ℕ) → List (Lane C R D I O) → ℕ
-failed_by_first failed [] = 0
-failed_by_first failed (lane ∷ lanes) = failed lane.relay
+pub record FileDecides (file0 file1 : Stream) (status : ℕ) : Type 0 where
+  pub opens : (bytes : List ℕ) (o : Opening) → file0.told ≡ Some bytes → IsOpeningFile o bytes →
+      status ≢ 2
+  pub refuses : (bytes : List ℕ) → file0.told ≡ Some bytes →
+      ((o : Opening) → IsOpeningFile o bytes → ⊥) → IsSteady file0 file1 →
+      (status ≡ 2) ⊎ (status ≡ 6)
 
 -- An input of whole frames is answered to its end: where the file opens a node, the frames are not
--- more than may be answered, and no count rises, the status is 0, or 6 where memory was refused.
-abbrev pub EndsWell : Option (List ℕ) → ℕ → ℕ → Option (List ℕ) → ℕ → ℕ → ℕ → ℕ → ℕ → ℕ → ℕ → Type 0
-EndsWell file0 f0 f1 in0 i0 i1 o0 o1 c0 c1 status =
-    (bytes : List ℕ) (o : Opening) → file0 ≡ Some bytes → IsOpeningFile o bytes →
-    (frames : List (List ℕ)) → in0 ≡ Some (framed frames) → All (λ p. length p ≤ max_request) frames → length frames ≤ max_frames →
-    StandsStill f0 f1 → StandsStill i0 i1 → StandsStill o0 o1 → StandsStill c0 c1 → (status ≡ 0) ⊎ (status ≡ 6)
+-- more than may be answered, and nothing fails, the status is 0, or 6 where memory was refused.
+abbrev pub EndsWell : Touched → Touched → ℕ → Type 0
+EndsWell before after status =
+    (bytes : List ℕ) (o : Opening) → before.file.told ≡ Some bytes → IsOpeningFile o bytes →
+    (frames : List (List ℕ)) → before.input.told ≡ Some (framed frames) →
+    All (λ p. length p ≤ max_request) frames → length frames ≤ max_frames →
+    IsSteady before.file after.file → IsSteady before.input after.input →
+    IsSteady before.output after.output → IsSteady before.clock after.clock →
+    (status ≡ 0) ⊎ (status ≡ 6)
 
--- A check comes to its end: where the file opens a node and no count rises, it finds something,
--- or memory was refused.
-abbrev pub ChecksWell : Option (List ℕ) → ℕ → ℕ → ℕ → ℕ → ℕ → ℕ → ℕ → Type 0
-ChecksWell file0 f0 f1 i0 i1 o0 o1 status =
-    (bytes : List ℕ) (o : Opening) → file0 ≡ Some bytes → IsOpeningFile o bytes →
-    StandsStill f0 f1 → StandsStill i0 i1 → StandsStill o0 o1 → (status ≡ 0) ⊎ ((status ≡ 11) ⊎ (status ≡ 6))
+-- A check comes to its end: where the file opens a node and nothing fails, it finds something, or
+-- memory was refused.
+abbrev pub ChecksWell : Touched → Touched → ℕ → Type 0
+ChecksWell before after status =
+    (bytes : List ℕ) (o : Opening) → before.file.told ≡ Some bytes → IsOpeningFile o bytes →
+    IsSteady before.file after.file → IsSteady before.input after.input →
+    IsSteady before.output after.output → (status ≡ 0) ⊎ ((status ≡ 11) ⊎ (status ≡ 6))
+
+-- a fault is answered only where something failed
+pub record IsCaused (before after : Touched) (status : ℕ) : Type 0 where
+  pub read : status ≡ 3 → HasFailed before.file after.file ⊎ HasFailed before.input after.input
+  pub write : status ≡ 4 → HasFailed before.output after.output
+  pub clock : status ≡ 5 → HasFailed before.clock after.clock
 
 -- a fault is not passed over: a count that rose is answered, by its status
-pub record TellsFaults (file0 file1 in0 in1 out0 out1 clock0 clock1 status : ℕ) : Type 0 where
-  pub file : file0 < file1 → status ≡ 3
-  pub input : in0 < in1 → status ≡ 3
-  pub output : out0 < out1 → status ≡ 4
-  pub clock : clock0 < clock1 → status ≡ 5
+pub record TellsFaults (before after : Touched) (status : ℕ) : Type 0 where
+  pub file : before.file.faults < after.file.faults → status ≡ 3
+  pub input : before.input.faults < after.input.faults → status ≡ 3
+  pub output : before.output.faults < after.output.faults → status ≡ 4
+  pub clock : before.clock.faults < after.clock.faults → status ≡ 5
 
--- what comes of a file: what stands for the opening that it spells, or why there is none
-abbrev pub FileGives : {A : Type 0} → (Opening → A → Type 0) → Option (List ℕ) → Option (List ℕ) → Result A FileFault → Type 0
-FileGives {A} StandsFor file0 file1 (Ok x) = (o : Opening) × Opens file0 file1 o × StandsFor o x
-FileGives {A} StandsFor file0 file1 (Err fault) = FileFails file0 file1 fault
-
--- what a check does, by how it ends
-abbrev pub ChecksFile : Option (List ℕ) → Option (List ℕ) → Option (List ℕ) → Option (List ℕ) → Option (List ℕ) → Option (List ℕ) → Ending → Type 0
-ChecksFile file0 file1 in0 in1 out0 out1 (Checked end) = (o : Opening) × Opens file0 file1 o × Checks o in0 in1 out0 out1 end
-ChecksFile file0 file1 in0 in1 out0 out1 (File fault) = FileFails file0 file1 fault × Keeps in0 in1 × Keeps out0 out1
-ChecksFile file0 file1 in0 in1 out0 out1 Usage = ⊥
-ChecksFile file0 file1 in0 in1 out0 out1 (Served outcome) = ⊥
-
--- the file's count of faults rose where a fault of reading is answered, and else stayed
-abbrev pub FaultHasCause : ℕ → ℕ → FileFault → Type 0
-FaultHasCause f0 f1 (Malformed offset) = f1 ≡ f0
-FaultHasCause f0 f1 TooLarge = f1 ≡ f0
-FaultHasCause f0 f1 fault.ReadFault = (f0 ≤ f1) × Rose f0 f1
-FaultHasCause f0 f1 fault.NoMemory = f1 ≡ f0
-
--- the same of what comes of a file
-abbrev pub FileHasCause : {A : Type 0} → ℕ → ℕ → Result A FileFault → Type 0
-FileHasCause {A} f0 f1 (Ok x) = f1 ≡ f0
-FileHasCause {A} f0 f1 (Err fault) = FaultHasCause f0 f1 fault
+-- What the status tells, whatever was done: the words decide status 1 and the file status 2; what
+-- can come to its end does; a fault is answered where there was one, and only there.
+pub record IsStatus (words : List (String Global)) (before after : Touched) (status : ℕ) : Type 0 where
+  pub usage : (status ≡ 1) ↔ (IsCommand words → ⊥)
+  pub file : IsCommand words → FileDecides before.file after.file status
+  pub complete : IsRun words → EndsWell before after status
+  pub checks_well : IsCheck words → ChecksWell before after status
+  pub causes : IsCaused before after status
+  pub told : TellsFaults before after status

@@ -1,15 +1,15 @@
 //! The top call: the words, the file, and then the work.
 
-ghost use Rattle.std.specs.Prelude.{◌≡◌, ◌≢◌, ◌⊎◌, ◌↔◌, ◌<◌, ◌≤◌, ℕ, drop, length, IsTrue, IfErr, IfOk};
+ghost use Rattle.std.specs.Prelude.{◌≡◌, ◌⊎◌, ◌↔◌, ◌<◌, ◌≤◌, List, String, drop, length, IsTrue, IfOk};
+ghost use Rattle.std.specs.declared.alloc.Global.{Global};
 ghost use Rattle.agent_core.specs.Alone.{plans_in};
-ghost use Rattle.frame_link.specs.Faults.{Rose};
 ghost use Rattle.node_file.specs.Meaning.{opening, FitsByNumber};
 ghost use Rattle.node_file.specs.Opening.{Opening as Meaning};
 ghost use Rattle.node_file.specs.OpeningView.{Represents};
 ghost use Rattle.taos_monitor.specs.Connection.{HasCauses, IsComplete};
 ghost use Rattle.taos_monitor.specs.Planned.{ArePlanned};
 ghost use Rattle.taos_node.specs.Ending.{status_of};
-ghost use Rattle.taos_node.specs.Command.{ChecksFile, ChecksWell, IsCheck, IsCommand, IsRun, Runs, Ends, FileGives, FileHasCause, FileDecides, EndsWell, ServesConnection, TellsFaults, around_of, told_by_first, faults_of_first, says_by_first, failed_by_first};
+ghost use Rattle.taos_node.specs.Command.{Stream, Link, stream, touched, first_clock, first_link, IsCheck, IsRun, Runs, Ends, IsStatus, FileGives, FileHasCause, ServesConnection};
 ghost use Rattle.taos_node.specs.Opened.{IsOpenedBy};
 
 use crate::check::check_connection;
@@ -68,9 +68,11 @@ fn zeros(alloc: Global, len: usize) -> Result<Vec<u8>, AllocError>
 
 // The opening that a file spells.
 fn file_opening<F: Source>(alloc: Global, file: &mut F) -> Result<Opening, FileFault>
-    ensures gives { FileGives (λ o x. Represents x o) (F.left file.old) (F.left file.new) result }
+    ensures gives { FileGives (λ o x. Represents x o) (stream (F.left file.old) (F.faults file.old))
+        (stream (F.left file.new) (F.faults file.new)) result }
     ensures fits { IfOk result (λ x. FitsByNumber (opening x)) }
-    ensures cause { FileHasCause (F.faults file.old) (F.faults file.new) result }
+    ensures cause { FileHasCause (stream (F.left file.old) (F.faults file.old))
+        (stream (F.left file.new) (F.faults file.new)) result }
 {
     let mut room = zeros(alloc, MAX_FILE + 1)?;
     let Ok(len) = fill(file, &mut room) else {
@@ -88,10 +90,12 @@ fn file_opening<F: Source>(alloc: Global, file: &mut F) -> Result<Opening, FileF
 
 // The node that it opens, with the room that decisions take.
 fn node_file_of<F: Source>(alloc: Global, file: &mut F) -> Result<(OpenNode, Saturator), FileFault>
-    ensures gives { FileGives (λ o x. IsOpenedBy o x.0) (F.left file.old) (F.left file.new) result }
+    ensures gives { FileGives (λ o x. IsOpenedBy o x.0) (stream (F.left file.old) (F.faults file.old))
+        (stream (F.left file.new) (F.faults file.new)) result }
     ensures planned { IfOk result (λ x. ArePlanned x.0.keys.channels.entries
         (plans_in x.0.shards.shards)) }
-    ensures cause { FileHasCause (F.faults file.old) (F.faults file.new) result }
+    ensures cause { FileHasCause (stream (F.left file.old) (F.faults file.old))
+        (stream (F.left file.new) (F.faults file.new)) result }
 {
     let opening = file_opening(alloc, file)?;
     let node = open_node(alloc, opening)?;
@@ -117,18 +121,22 @@ fn serve<W: Wait + Sync, I: Source, O: Sink, C: Clock, R: RelayLink, D: Door, B:
     requires some { 0 < length lanes.old }
     requires planned { ArePlanned node.old.keys.channels.entries
         (plans_in node.old.shards.shards) }
-    ensures connection { (o : Meaning) → IsOpenedBy o node.old
-        → ServesConnection o (says_by_first R.says lanes.old)
-        (around_of (I.left input.old) (O.written output.old)
-        (told_by_first C.readings lanes.old) (failed_by_first R.faults lanes.old))
-        (around_of (I.left input.new) (O.written output.new)
-        (told_by_first C.readings lanes.new) (failed_by_first R.faults lanes.new)) result }
+    ensures connection { (o : Meaning) (file0 file1 : Stream) → IsOpenedBy o node.old
+        → ServesConnection o
+        (touched file0 (stream (I.left input.old) (I.faults input.old))
+        (stream (O.written output.old) (O.faults output.old))
+        (first_clock C.readings C.faults lanes.old) (first_link R.says R.faults lanes.old))
+        (touched file1 (stream (I.left input.new) (I.faults input.new))
+        (stream (O.written output.new) (O.faults output.new))
+        (first_clock C.readings C.faults lanes.new) (first_link R.says R.faults lanes.new)) result }
     ensures causes { HasCauses (I.faults input.old) (I.faults input.new)
         (O.faults output.old) (O.faults output.new)
-        (faults_of_first C.faults lanes.old) (faults_of_first C.faults lanes.new) result }
+        (first_clock C.readings C.faults lanes.old).faults
+        (first_clock C.readings C.faults lanes.new).faults result }
     ensures complete { IsComplete MAX_FRAMES (I.left input.old)
         (I.faults input.old) (I.faults input.new) (O.faults output.old) (O.faults output.new)
-        (faults_of_first C.faults lanes.old) (faults_of_first C.faults lanes.new) result }
+        (first_clock C.readings C.faults lanes.old).faults
+        (first_clock C.readings C.faults lanes.new).faults result }
     ensures others { drop 1 lanes.new ≡ drop 1 lanes.old }
 {
     let lane = &mut lanes[0];
@@ -160,23 +168,15 @@ fn check_file<F: Source, I: Source, O: Sink>(
     input: &mut I,
     output: &mut O,
 ) -> Ending
-    ensures command { status_of result ≢ 1 }
-    ensures file { FileDecides (F.left file.old)
-        (F.faults file.old) (F.faults file.new) (status_of result) }
-    ensures checks { ChecksFile (F.left file.old) (F.left file.new)
-        (I.left input.old) (I.left input.new) (O.written output.old) (O.written output.new)
-        result }
-    ensures complete { ChecksWell (F.left file.old) (F.faults file.old) (F.faults file.new)
-        (I.faults input.old) (I.faults input.new) (O.faults output.old) (O.faults output.new)
-        (status_of result) }
-    ensures read_fault { status_of result ≡ 3 → Rose (F.faults file.old) (F.faults file.new)
-        ⊎ Rose (I.faults input.old) (I.faults input.new) }
-    ensures write_fault { status_of result ≡ 4
-        → Rose (O.faults output.old) (O.faults output.new) }
-    ensures no_clock { status_of result ≢ 5 }
-    ensures told { (clock : ℕ) → TellsFaults (F.faults file.old) (F.faults file.new)
-        (I.faults input.old) (I.faults input.new) (O.faults output.old) (O.faults output.new)
-        clock clock (status_of result) }
+    // Whatever clock and link there are.
+    ensures checks { (words : List (String Global)) (clock : Stream) (relay : Link) → IsCheck words
+        → let before = touched (stream (F.left file.old) (F.faults file.old))
+        (stream (I.left input.old) (I.faults input.old))
+        (stream (O.written output.old) (O.faults output.old)) clock relay in
+        let after = touched (stream (F.left file.new) (F.faults file.new))
+        (stream (I.left input.new) (I.faults input.new))
+        (stream (O.written output.new) (O.faults output.new)) clock relay in
+        Runs words before after result × IsStatus words before after (status_of result) }
 {
     match file_opening(alloc, file) {
         Ok(node) => Ending::Checked(check_connection(alloc, &node, input, output)),
@@ -195,33 +195,15 @@ fn run<W: Wait + Sync, F: Source, I: Source, O: Sink, C: Clock, R: RelayLink, D:
     lanes: &mut [Lane<C, R, D>],
 ) -> Ending
     requires some { 0 < length lanes.old }
-    ensures usage { (status_of result ≡ 1) ↔ ¬ (IsCommand words.now) }
-    ensures file { IsCommand words.now → FileDecides (F.left file.old)
-        (F.faults file.old) (F.faults file.new) (status_of result) }
-    ensures runs { Runs words.now (F.left file.old) (F.left file.new)
-        (says_by_first R.says lanes.old)
-        (around_of (I.left input.old) (O.written output.old)
-        (told_by_first C.readings lanes.old) (failed_by_first R.faults lanes.old))
-        (around_of (I.left input.new) (O.written output.new)
-        (told_by_first C.readings lanes.new) (failed_by_first R.faults lanes.new)) result }
-    ensures complete { IsRun words.now → EndsWell (F.left file.old)
-        (F.faults file.old) (F.faults file.new) (I.left input.old)
-        (I.faults input.old) (I.faults input.new) (O.faults output.old) (O.faults output.new)
-        (faults_of_first C.faults lanes.old) (faults_of_first C.faults lanes.new)
-        (status_of result) }
-    ensures checks_well { IsCheck words.now → ChecksWell (F.left file.old)
-        (F.faults file.old) (F.faults file.new) (I.faults input.old) (I.faults input.new)
-        (O.faults output.old) (O.faults output.new) (status_of result) }
-    ensures read_fault { status_of result ≡ 3 → Rose (F.faults file.old) (F.faults file.new)
-        ⊎ Rose (I.faults input.old) (I.faults input.new) }
-    ensures write_fault { status_of result ≡ 4
-        → Rose (O.faults output.old) (O.faults output.new) }
-    ensures clock_fault { status_of result ≡ 5 → Rose
-        (faults_of_first C.faults lanes.old) (faults_of_first C.faults lanes.new) }
-    ensures told { TellsFaults (F.faults file.old) (F.faults file.new)
-        (I.faults input.old) (I.faults input.new) (O.faults output.old) (O.faults output.new)
-        (faults_of_first C.faults lanes.old) (faults_of_first C.faults lanes.new)
-        (status_of result) }
+    ensures runs { let before = touched (stream (F.left file.old) (F.faults file.old))
+        (stream (I.left input.old) (I.faults input.old))
+        (stream (O.written output.old) (O.faults output.old))
+        (first_clock C.readings C.faults lanes.old) (first_link R.says R.faults lanes.old) in
+        let after = touched (stream (F.left file.new) (F.faults file.new))
+        (stream (I.left input.new) (I.faults input.new))
+        (stream (O.written output.new) (O.faults output.new))
+        (first_clock C.readings C.faults lanes.new) (first_link R.says R.faults lanes.new) in
+        Runs words.now before after result × IsStatus words.now before after (status_of result) }
     ensures others { drop 1 lanes.new ≡ drop 1 lanes.old }
 {
     if is_check(words) {
@@ -266,41 +248,20 @@ pub fn taos<
     requires some { 0 < length lanes.old }
     requires few { length lanes.old ≤ 16 }
 
-    // The words decide status 1, and the file status 2.
-    ensures usage { (result ≡ 1) ↔ ¬ (IsCommand words.now) }
-    ensures file { IsCommand words.now → FileDecides (F.left file.old)
-        (F.faults file.old) (F.faults file.new) result }
-
     // Every whole frame has its course in the journals of this connection alone, and the bytes that are
     // written are the replies; or the line is written of what a request and its reply show. The note
-    // tells how it ended.
-    ensures run { Ends words.now (F.left file.old) (F.left file.new)
-        (says_by_first R.says lanes.old)
-        (around_of (I.left input.old) (O.written output.old)
-        (told_by_first C.readings lanes.old) (failed_by_first R.faults lanes.old))
-        (around_of (I.left input.new) (O.written output.new)
-        (told_by_first C.readings lanes.new) (failed_by_first R.faults lanes.new))
-        (N.written notes.old) (N.written notes.new) (N.faults notes.old) (N.faults notes.new)
-        result }
-    ensures complete { IsRun words.now → EndsWell (F.left file.old)
-        (F.faults file.old) (F.faults file.new) (I.left input.old)
-        (I.faults input.old) (I.faults input.new) (O.faults output.old) (O.faults output.new)
-        (faults_of_first C.faults lanes.old) (faults_of_first C.faults lanes.new) result }
-    ensures checks_well { IsCheck words.now → ChecksWell (F.left file.old)
-        (F.faults file.old) (F.faults file.new) (I.faults input.old) (I.faults input.new)
-        (O.faults output.old) (O.faults output.new) result }
-
-    // A fault is answered only where its count rose.
-    ensures read_fault { result ≡ 3 → Rose (F.faults file.old) (F.faults file.new)
-        ⊎ Rose (I.faults input.old) (I.faults input.new) }
-    ensures write_fault { result ≡ 4 → Rose (O.faults output.old) (O.faults output.new) }
-    ensures clock_fault { result ≡ 5 → Rose
-        (faults_of_first C.faults lanes.old) (faults_of_first C.faults lanes.new) }
-
-    // And where it rose, its fault is answered.
-    ensures told { TellsFaults (F.faults file.old) (F.faults file.new)
-        (I.faults input.old) (I.faults input.new) (O.faults output.old) (O.faults output.new)
-        (faults_of_first C.faults lanes.old) (faults_of_first C.faults lanes.new) result }
+    // and the status tell how it ended.
+    ensures run { let before = touched (stream (F.left file.old) (F.faults file.old))
+        (stream (I.left input.old) (I.faults input.old))
+        (stream (O.written output.old) (O.faults output.old))
+        (first_clock C.readings C.faults lanes.old) (first_link R.says R.faults lanes.old) in
+        let after = touched (stream (F.left file.new) (F.faults file.new))
+        (stream (I.left input.new) (I.faults input.new))
+        (stream (O.written output.new) (O.faults output.new))
+        (first_clock C.readings C.faults lanes.new) (first_link R.says R.faults lanes.new) in
+        Ends words.now before after (stream (N.written notes.old) (N.faults notes.old))
+        (stream (N.written notes.new) (N.faults notes.new)) result
+        × IsStatus words.now before after result }
 
     // Success has no note, nor what a check refused.
     ensures silent { (result ≡ 0) ⊎ (result ≡ 11) → notes.new ≡ notes.old }

@@ -2,6 +2,7 @@
 use Rattle.std.proofs.Common.{List, ℕ, take, drop, length, arith, subst, ◌≡◌, ◌∙◌}
 use Rattle.std.proofs.lemmas.List.{length-take, take-append-le, take_all}
 use Rattle.node_file.specs.Opening.{Spells}
+use Rattle.taos_node.specs.Command.{stream}
 use Rattle.taos_node.proofs.Commands.{file_opens}
 use Rattle.taos_node.proofs.command.file_opening.Goals as goal
 
@@ -10,7 +11,7 @@ returns-in-Ok-read_opening-clause-gives g c =
     let found = c.in-Ok-read_opening.ensures.found in
     let bytes : List ℕ = take c.in-Ok.len c.fill.new.room in (
       found.0,
-      file_opens (g.F.Source.left c.args.file.now) (g.F.Source.left c.fill.new.source) bytes found.0 c.in-Ok.ensures.bytes
+      file_opens (stream (g.F.Source.left c.args.file.now) (g.F.Source.faults c.args.file.now)) (stream (g.F.Source.left c.fill.new.source) (g.F.Source.faults c.fill.new.source)) bytes found.0 c.in-Ok.ensures.bytes
           (c.in-Ok.ensures.end (omega arith))
           (let same : c.deref.result.now ≡ c.fill.new.room = (c.deref.ensures.value ∙ take-append-le c.in_ok-room.room.len c.fill.new.room (drop (length c.fill.new.room) c.in_ok-room.room.items) (omega (arith, c.in_ok-room.room.ok.0)) ∙ take_all c.in_ok-room.room.len c.fill.new.room (omega (arith, c.in_ok-room.room.ok.0))) in subst (λ (l : List ℕ). Spells found.0 (take c.in-Ok.len l)) same found.1)
           (omega (arith, length-take c.in-Ok.len c.fill.new.room)),

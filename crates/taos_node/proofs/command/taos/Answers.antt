@@ -1,13 +1,13 @@
 use Rattle.std.proofs.Common.{ℕ, sym, subst}
-use Rattle.taos_node.specs.Command.{ChecksWell, EndsWell, faults_of_first}
+use Rattle.taos_node.specs.Command.{stream, touched, first_clock, first_link, IsStatus}
 use Rattle.taos_node.proofs.command.taos.Goals as goal
 
-pub returns-clause-complete : goal.returns-clause-complete
-returns-clause-complete g c = λ run.
-    subst (λ (status : ℕ). EndsWell (g.F.Source.left c.args.file.now) (g.F.Source.faults c.args.file.now) (g.F.Source.faults c.run-ending.new.file) (g.I.Source.left c.args.input.now) (g.I.Source.faults c.args.input.now) (g.I.Source.faults c.run-ending.new.input)
-    (g.O.Sink.faults c.args.output.now) (g.O.Sink.faults c.run-ending.new.output) (faults_of_first g.C.Clock.faults c.args.lanes.now) (faults_of_first g.C.Clock.faults c.run-ending.new.lanes) status) (sym c.status_of.ensures) (c.run-ending.ensures.complete run)
-
-pub returns-clause-checks_well : goal.returns-clause-checks_well
-returns-clause-checks_well g c = λ check.
-    subst (λ (status : ℕ). ChecksWell (g.F.Source.left c.args.file.now) (g.F.Source.faults c.args.file.now) (g.F.Source.faults c.run-ending.new.file) (g.I.Source.faults c.args.input.now) (g.I.Source.faults c.run-ending.new.input)
-    (g.O.Sink.faults c.args.output.now) (g.O.Sink.faults c.run-ending.new.output) status) (sym c.status_of.ensures) (c.run-ending.ensures.checks_well check)
+pub returns-clause-run : goal.returns-clause-run
+returns-clause-run g c =
+    let before = touched (stream (g.F.Source.left c.args.file.now) (g.F.Source.faults c.args.file.now)) (stream (g.I.Source.left c.args.input.now) (g.I.Source.faults c.args.input.now))
+    (stream (g.O.Sink.written c.args.output.now) (g.O.Sink.faults c.args.output.now)) (first_clock g.C.Clock.readings g.C.Clock.faults c.args.lanes.now) (first_link g.R.RelayLink.says g.R.RelayLink.faults c.args.lanes.now) in
+    let after = touched (stream (g.F.Source.left c.run-ending.new.file) (g.F.Source.faults c.run-ending.new.file)) (stream (g.I.Source.left c.run-ending.new.input) (g.I.Source.faults c.run-ending.new.input))
+    (stream (g.O.Sink.written c.run-ending.new.output) (g.O.Sink.faults c.run-ending.new.output)) (first_clock g.C.Clock.readings g.C.Clock.faults c.run-ending.new.lanes) (first_link g.R.RelayLink.says g.R.RelayLink.faults c.run-ending.new.lanes) in (
+      record { ending = c.run-ending.result; runs = c.run-ending.ensures.runs.0; tells = c.status_of.ensures; noted = c.tell.ensures.told },
+      subst (λ (status : ℕ). IsStatus c.args.words.now before after status) (sym c.status_of.ensures) c.run-ending.ensures.runs.1,
+    )
