@@ -1,5 +1,5 @@
 -- What the status tells, by what was done.
-use Rattle.std.proofs.Common.{◌≡◌, ◌≢◌, ℕ, ◌<◌, ◌≤◌, List, refl, sym, ap, arith, inl, inr}
+use Rattle.std.proofs.Common.{◌≡◌, ◌≢◌, ℕ, ◌<◌, ◌≤◌, List, [], ◌∷◌, refl, sym, ap, arith, inl, inr}
 use Rattle.std.specs.Prelude.{◌⊎◌, String}
 use Rattle.std.specs.declared.alloc.Global.{Global}
 use Rattle.frame_link.specs.declared.outcome.Outcome.{Outcome}

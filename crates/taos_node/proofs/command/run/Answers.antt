@@ -2,9 +2,13 @@
 use Rattle.std.proofs.Common.{refl, sym, ◌∙◌, inl}
 use Rattle.std.proofs.KnownBytes.{Keeps-refl}
 use Rattle.std.proofs.lemmas.Bool.{false≢true}
-use Rattle.taos_node.specs.Command.{stream, touched, first_clock, first_link}
+use Rattle.taos_node.specs.Command.{stream, touched, first_clock, first_link, IsCommand, LeavesRest}
 use Rattle.taos_node.proofs.Statuses.{served, unserved, unused}
 use Rattle.taos_node.proofs.command.run.Goals as goal
+
+pub returns-then-is_check-clause-runs : goal.returns-then-is_check-clause-runs
+returns-then-is_check-clause-runs g c =
+    c.check_file.ensures.checks c.args.words.now (first_clock g.C.Clock.readings g.C.Clock.faults c.args.lanes.now) (first_link g.R.RelayLink.says g.R.RelayLink.faults c.args.lanes.now) (c.is_check.ensures.0 c.if-is_check.true)
 
 pub returns-in-Ok-clause-runs : goal.returns-in-Ok-clause-runs
 returns-in-Ok-clause-runs g c =
@@ -26,8 +30,8 @@ returns-in-Err-clause-runs g c =
     let relay = first_link g.R.RelayLink.says g.R.RelayLink.faults c.args.lanes.now in
     let before = touched (stream (g.F.Source.left c.args.file.now) (g.F.Source.faults c.args.file.now)) input output clock relay in
     let after = touched (stream (g.F.Source.left c.node_file_of.new.file) (g.F.Source.faults c.node_file_of.new.file)) input output clock relay in
-    let rest = record { input = Keeps-refl input.told; output = Keeps-refl output.told; lane = record { clock = Keeps-refl clock.told; link = refl } } in
-    let command = inl (c.is_run.ensures.0 c.if-not-is_run.false) in (
+    let rest : LeavesRest before after = record { input = Keeps-refl input.told; output = Keeps-refl output.told; lane = record { clock = Keeps-refl clock.told; link = refl } } in
+    let command : IsCommand c.args.words.now = inl (c.is_run.ensures.0 c.if-not-is_run.false) in (
       (command, c.in-Err.ensures.gives, rest),
       unserved c.args.words.now before after c.in-Err.fault command c.in-Err.ensures.gives c.in-Err.ensures.cause refl refl refl,
     )
