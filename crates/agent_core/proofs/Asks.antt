@@ -31,7 +31,7 @@ use Rattle.agent_core.specs.declared.told.Told.{Told}
 use Rattle.agent_core.specs.declared.asked.Denial.{Denial}
 use Rattle.agent_core.specs.State.{Plan, State, Ask, Event, Asks, Answer, Plain, swept, brought, asking, moment_of}
 use Rattle.agent_core.specs.Journals.{Entry, entry, state_after, Stands, IsJudged, granted}
-use Rattle.agent_core.specs.Steps.{StepAnswer, Hit, Miss, Other, IsAnswer, miss, other, StepsTo, StepRefused}
+use Rattle.agent_core.specs.Steps.{StepAnswer, Hit, Miss, Other, IsAnswer, miss, other, JournalSeen, StepsTo, StepRefused, seen_at}
 use Rattle.agent_core.specs.Asked.{FitsAsk, IsGrantedAt, IsDeniedAt, IsTold, EndsBy, AskEnds, Unanswered, AskedTo}
 use Rattle.agent_core.specs.Settling.{IsGrantedBy, IsDeniedBy, Settles, StepsAsk}
 
@@ -78,62 +78,62 @@ module _ (plan : Plan) (before : List Entry) (a : Ask) where
       let s : State = state_after plan before in
       subst IsToldOfAsk same (asking_tells (swept plan.keep (moment_of s a.reading) s) told p)
 
-module _ {plan : Plan} {alone : Bool} {seen later : List Entry} {own own' : List ℕ} (a : Ask) where
+module _ {plan : Plan} {earlier later : JournalSeen} (a : Ask) where
   -- no own entry
-  pub refused_asks : (Ends : List ℕ → Type 0) → StepRefused plan alone seen own later own' → Ends [] → AskedTo plan alone seen own a later own' Ends
+  pub refused_asks : (Ends : List ℕ → Type 0) → StepRefused plan earlier later → Ends [] → AskedTo plan earlier later a Ends
   refused_asks Ends s ends = record {
     places = [];
     goes_on = s.goes_on;
     undisturbed = λ e. omega (arith, ap (λ (l : List Entry). length l) (s.undisturbed e));
     legal = s.legal;
-    owned = s.owned ∙ sym (append-nil own);
-    new = All-nil (λ p. length seen ≤ p);
-    there = All-nil (λ p. p < length later);
+    owned = s.owned ∙ sym (append-nil earlier.own);
+    new = All-nil (λ p. length earlier.journal ≤ p);
+    there = All-nil (λ p. p < length later.journal);
     ascending = λ i j d lt within. absurd (omega arith);
     ends = ends;
   }
 
-  module _ (place : ℕ) (answer : StepAnswer) (s : StepsTo plan alone seen own (Asks a) later own' place answer) where
-    stands_last : (told : Told) → s.steps.told ≡ told → Stands later place s.before (entry (Asks a) told)
+  module _ (place : ℕ) (answer : StepAnswer) (s : StepsTo plan earlier later (Asks a) place answer) where
+    stands_last : (told : Told) → s.steps.told ≡ told → Stands later.journal place s.before (entry (Asks a) told)
     stands_last told e = record { rest = []; is = s.steps.adds ∙ ap (λ t. s.before ++ entry (Asks a) t ∷ []) e; placed = s.steps.placed }
 
     -- one own entry
-    pub stepped_asks : (Ends : List ℕ → Type 0) → Ends (place ∷ []) → AskedTo plan alone seen own a later own' Ends
+    pub stepped_asks : (Ends : List ℕ → Type 0) → Ends (place ∷ []) → AskedTo plan earlier later a Ends
     stepped_asks Ends ends =
-        let more : length s.before ≡ length seen + length s.goes_on.rest = ap (λ (l : List Entry). length l) s.goes_on.is ∙ length-append seen s.goes_on.rest in
+        let more : length s.before ≡ length earlier.journal + length s.goes_on.rest = ap (λ (l : List Entry). length l) s.goes_on.is ∙ length-append earlier.journal s.goes_on.rest in
         let here : length s.before ≡ place = s.steps.placed in
-        let new : length seen ≤ place = omega arith in
-        let grown : length later ≡ length s.before + 1 = ap (λ (l : List Entry). length l) s.steps.adds ∙ length-append s.before (entry (Asks a) s.steps.told ∷ []) in
+        let new : length earlier.journal ≤ place = omega arith in
+        let grown : length later.journal ≡ length s.before + 1 = ap (λ (l : List Entry). length l) s.steps.adds ∙ length-append s.before (entry (Asks a) s.steps.told ∷ []) in
         record {
           places = place ∷ [];
           goes_on = begins_on s.goes_on (record { rest = entry (Asks a) s.steps.told ∷ []; is = s.steps.adds });
-          undisturbed = λ e. ap (λ (l : List Entry). length l) (s.steps.adds ∙ ap (λ (l : List Entry). l ++ entry (Asks a) s.steps.told ∷ []) (s.undisturbed e)) ∙ length-append seen (entry (Asks a) s.steps.told ∷ []);
+          undisturbed = λ e. ap (λ (l : List Entry). length l) (s.steps.adds ∙ ap (λ (l : List Entry). l ++ entry (Asks a) s.steps.told ∷ []) (s.undisturbed e)) ∙ length-append earlier.journal (entry (Asks a) s.steps.told ∷ []);
           legal = s.steps.legal;
           owned = s.owned;
-          new = All-cons (λ p. length seen ≤ p) place [] new (All-nil (λ p. length seen ≤ p));
-          there = All-cons (λ p. p < length later) place [] (omega (arith, grown, here)) (All-nil (λ p. p < length later));
+          new = All-cons (λ p. length earlier.journal ≤ p) place [] new (All-nil (λ p. length earlier.journal ≤ p));
+          there = All-cons (λ p. p < length later.journal) place [] (omega (arith, grown, here)) (All-nil (λ p. p < length later.journal));
           ascending = λ i j d lt within. absurd (omega arith);
           ends = ends;
         }
 
-  pub never_hit : (place e : ℕ) (c : Cached) → StepsTo plan alone seen own (Asks a) later own' place (Hit e c) → ⊥
+  pub never_hit : (place e : ℕ) (c : Cached) → StepsTo plan earlier later (Asks a) place (Hit e c) → ⊥
   never_hit place e c s = no_hit plan s.before a (Asks a) s.steps.told (Hit e c) s.steps.answers e c refl
 
-  pub told_of_ask : (place : ℕ) (told : Told) → StepsTo plan alone seen own (Asks a) later own' place (Other told) → IsToldOfAsk told
+  pub told_of_ask : (place : ℕ) (told : Told) → StepsTo plan earlier later (Asks a) place (Other told) → IsToldOfAsk told
   told_of_ask place told s = answer_tells plan s.before a s.steps.told (Other told) s.steps.answers told refl
 
-  pub told_at_last : (place : ℕ) (told : Told) → StepsTo plan alone seen own (Asks a) later own' place (Other told) → IsTold plan later a place told
+  pub told_at_last : (place : ℕ) (told : Told) → StepsTo plan earlier later (Asks a) place (Other told) → IsTold plan later.journal a place told
   told_at_last place told s = (s.before, stands_last place (Other told) s told (told_other plan s.before a s.steps.told told s.steps.answers))
 
   -- an Ask that was judged by these
-  module _ (place moment : ℕ) (certs : List Certificate) (s : StepsTo plan alone seen own (Asks a) later own' place (Miss moment certs)) where
+  module _ (place moment : ℕ) (certs : List Certificate) (s : StepsTo plan earlier later (Asks a) place (Miss moment certs)) where
     pub judged_by : IsJudged plan s.before a moment certs
     judged_by = (missed plan s.before a s.steps.told moment certs s.steps.answers).1
 
-    stands_missed : Stands later place s.before (entry (Asks a) Told.Miss)
+    stands_missed : Stands later.journal place s.before (entry (Asks a) Told.Miss)
     stands_missed = stands_last place (Miss moment certs) s Told.Miss (missed plan s.before a s.steps.told moment certs s.steps.answers).0
 
-    pub granted_at_last : (e : ℕ) (c : Cached) → IsGrantedBy plan.anchors certs moment a e c → IsGrantedAt plan later a place e c
+    pub granted_at_last : (e : ℕ) (c : Cached) → IsGrantedBy plan.anchors certs moment a e c → IsGrantedAt plan later.journal a place e c
     granted_at_last e c g = record {
       before = s.before;
       moment = moment;
@@ -145,7 +145,7 @@ module _ {plan : Plan} {alone : Bool} {seen later : List Entry} {own own' : List
       proof = g.proof;
     }
 
-    pub denied_at_last : (denial : Denial) → IsDeniedBy plan.anchors certs moment a denial → IsDeniedAt plan later a place denial
+    pub denied_at_last : (denial : Denial) → IsDeniedBy plan.anchors certs moment a denial → IsDeniedAt plan later.journal a place denial
     denied_at_last denial d = record {
       before = s.before;
       moment = moment;
@@ -159,11 +159,11 @@ module _ {plan : Plan} {alone : Bool} {seen later : List Entry} {own own' : List
     }
 
     -- the proof found no memory
-    pub unanswered_at_last : Grants plan.anchors (claims (live certs moment)) a.subject a.list a.right → Unanswered plan later a (place ∷ [])
+    pub unanswered_at_last : Grants plan.anchors (claims (live certs moment)) a.subject a.list a.right → Unanswered plan later.journal a (place ∷ [])
     unanswered_at_last g = inr (place, s.before, stands_missed, granted judged_by g, refl)
 
     -- what it came to, in the program's words
-    pub settled_ends : (v : Verdict) → Settles plan.anchors certs moment a v → EndsBy plan later a place v (place ∷ [])
+    pub settled_ends : (v : Verdict) → Settles plan.anchors certs moment a v → EndsBy plan later.journal a place v (place ∷ [])
     settled_ends (verdict.Granted e c) g = (granted_at_last e (cached (arc_value {X = CachedValue} c)) g, refl)
     settled_ends (verdict.Denied denial) d = (denied_at_last denial d, refl)
     settled_ends (verdict.Replayed last) f = absurd f
@@ -172,48 +172,49 @@ module _ {plan : Plan} {alone : Bool} {seen later : List Entry} {own own' : List
 
     -- and in the program's own parts
     module _ (anchors : List Anchor) (same : plan.anchors ≡ anchors) (b : Ask) (is : b ≡ a) where
-      pub settled_asks : (v : Verdict) → Settles anchors certs moment b v → AskedTo plan alone seen own a later own' (EndsBy plan later a place v)
-      settled_asks v h = stepped_asks place (Miss moment certs) s (EndsBy plan later a place v) (settled_ends v (subst (λ l. Settles l certs moment a v) (sym same) (subst (λ x. Settles anchors certs moment x v) is h)))
+      pub settled_asks : (v : Verdict) → Settles anchors certs moment b v → AskedTo plan earlier later a (EndsBy plan later.journal a place v)
+      settled_asks v h = stepped_asks place (Miss moment certs) s (EndsBy plan later.journal a place v) (settled_ends v (subst (λ l. Settles l certs moment a v) (sym same) (subst (λ x. Settles anchors certs moment x v) is h)))
 
-      pub unanswered_asks : Grants anchors (claims (live certs moment)) b.subject b.list b.right → AskedTo plan alone seen own a later own' (Unanswered plan later a)
+      pub unanswered_asks : Grants anchors (claims (live certs moment)) b.subject b.list b.right → AskedTo plan earlier later a (Unanswered plan later.journal a)
       unanswered_asks h =
-          stepped_asks place (Miss moment certs) s (Unanswered plan later a) (unanswered_at_last (subst (λ l. Grants l (claims (live certs moment)) a.subject a.list a.right) (sym same)
+          stepped_asks place (Miss moment certs) s (Unanswered plan later.journal a) (unanswered_at_last (subst (λ l. Grants l (claims (live certs moment)) a.subject a.list a.right) (sym same)
           (subst (λ (x : Ask). Grants anchors (claims (live certs moment)) x.subject x.list x.right) is h)))
 
 -- ---- what stands behind each answer
 
 -- the Ask's step where it came to its shard
-pub steps_here : {E : Type 0} (plan : Plan) (alone : Bool) (seen seen' : ℕ → List Entry) (own own' : ℕ → List ℕ) (b a : Ask) (i j : ℕ) (r : Result (ℕ × ValueOfAnswer) E) → i ≡ j → b ≡ a →
-    IfOk r (λ x. SteppedTo plan alone (seen i) (own i) (Asks b) (seen' i) (own' i) x.0 x.1) →
-    IfOk r (λ x. StepsAsk plan alone (seen j) (own j) a (seen' j) (own' j) x.0 x.1)
+pub steps_here : {E : Type 0} (plan : Plan) (alone : Bool) (seen seen' : ℕ → List Entry) (own own' : ℕ → List ℕ) (b a : Ask) (i j : ℕ) (r : Result (ℕ × ValueOfAnswer) E) →
+    i ≡ j → b ≡ a →
+    IfOk r (λ x. SteppedTo plan (seen_at alone seen own i) (seen_at alone seen' own' i) (Asks b) x.0 x.1) →
+    IfOk r (λ x. StepsAsk plan (seen_at alone seen own j) (seen_at alone seen' own' j) a x.0 x.1)
 steps_here plan alone seen seen' own own' b a i j (Ok x) there is h =
     record {
-      step = subst (λ k. SteppedTo plan alone (seen k) (own k) (Asks a) (seen' k) (own' k) x.0 x.1) there
-          (subst (λ z. SteppedTo plan alone (seen i) (own i) (Asks z) (seen' i) (own' i) x.0 x.1) is h);
+      step = subst (λ k. SteppedTo plan (seen_at alone seen own k) (seen_at alone seen' own' k) (Asks a) x.0 x.1) there
+          (subst (λ z. SteppedTo plan (seen_at alone seen own i) (seen_at alone seen' own' i) (Asks z) x.0 x.1) is h);
     }
 steps_here plan alone seen seen' own own' b a i j (Err e) there is h = tt
 
-module _ {plan : Plan} {alone : Bool} {seen later : List Entry} {own own' : List ℕ} {a : Ask} {place : ℕ} {r : ValueOfAnswer} (s : StepsAsk plan alone seen own a later own' place r) where
-  step_as : (x : ValueOfAnswer) → r ≡ x → SteppedTo plan alone seen own (Asks a) later own' place x
-  step_as x is = subst (SteppedTo plan alone seen own (Asks a) later own' place) is s.step
+module _ {plan : Plan} {earlier later : JournalSeen} {a : Ask} {place : ℕ} {r : ValueOfAnswer} (s : StepsAsk plan earlier later a place r) where
+  step_as : (x : ValueOfAnswer) → r ≡ x → SteppedTo plan earlier later (Asks a) place x
+  step_as x is = subst (SteppedTo plan earlier later (Asks a) place) is s.step
 
-  pub missed_step : (snapshot : Snapshot) → r ≡ answer.Miss snapshot → StepsTo plan alone seen own (Asks a) later own' place (Miss snapshot.moment (certificates snapshot.certs.items))
+  pub missed_step : (snapshot : Snapshot) → r ≡ answer.Miss snapshot → StepsTo plan earlier later (Asks a) place (Miss snapshot.moment (certificates snapshot.certs.items))
   missed_step snapshot is = step_as (answer.Miss snapshot) is
 
-  pub replayed_ends : (last : ℕ) → r ≡ answer.Replayed last → AskedTo plan alone seen own a later own' (EndsBy plan later a place (verdict.Replayed last))
+  pub replayed_ends : (last : ℕ) → r ≡ answer.Replayed last → AskedTo plan earlier later a (EndsBy plan later.journal a place (verdict.Replayed last))
   replayed_ends last is =
       let t = step_as (answer.Replayed last) is in
-      stepped_asks a place (Other (Told.Replayed last)) t (EndsBy plan later a place (verdict.Replayed last)) (told_at_last a place (Told.Replayed last) t, refl)
+      stepped_asks a place (Other (Told.Replayed last)) t (EndsBy plan later.journal a place (verdict.Replayed last)) (told_at_last a place (Told.Replayed last) t, refl)
 
-  pub full_ends : (held : ℕ) → r ≡ answer.Full held → AskedTo plan alone seen own a later own' (EndsBy plan later a place (verdict.Full held))
+  pub full_ends : (held : ℕ) → r ≡ answer.Full held → AskedTo plan earlier later a (EndsBy plan later.journal a place (verdict.Full held))
   full_ends held is =
       let t = step_as (answer.Full held) is in
-      stepped_asks a place (Other (Told.Full held)) t (EndsBy plan later a place (verdict.Full held)) (told_at_last a place (Told.Full held) t, refl)
+      stepped_asks a place (Other (Told.Full held)) t (EndsBy plan later.journal a place (verdict.Full held)) (told_at_last a place (Told.Full held) t, refl)
 
-  pub journal_full_ends : (n : ℕ) → r ≡ answer.JournalFull n → AskedTo plan alone seen own a later own' (EndsBy plan later a place (verdict.JournalFull n))
+  pub journal_full_ends : (n : ℕ) → r ≡ answer.JournalFull n → AskedTo plan earlier later a (EndsBy plan later.journal a place (verdict.JournalFull n))
   journal_full_ends n is =
       let t = step_as (answer.JournalFull n) is in
-      refused_asks a (EndsBy plan later a place (verdict.JournalFull n)) t.0 (t.1, t.2, t.3, refl)
+      refused_asks a (EndsBy plan later.journal a place (verdict.JournalFull n)) t.0 (t.1, t.2, t.3, refl)
 
   pub hit_never : (e : ℕ) (c : Arc CachedValue Global) → r ≡ answer.Hit e c → ⊥
   hit_never e c is = never_hit a place e (cached (arc_value {X = CachedValue} c)) (step_as (answer.Hit e c) is)
@@ -225,9 +226,9 @@ module _ {plan : Plan} {alone : Bool} {seen later : List Entry} {own own' : List
   other_never (inr (inr h)) = told_of_ask a place (Told.Removed h.0) (step_as (answer.Removed h.0) h.1)
 
 -- no proof is kept
-pub ends_made : {plan : Plan} {alone : Bool} {seen later : List Entry} {own own' : List ℕ} {a : Ask} (asked : Asked) (place : ℕ) (v : Verdict) →
+pub ends_made : {plan : Plan} {earlier later : JournalSeen} {a : Ask} (asked : Asked) (place : ℕ) (v : Verdict) →
     asked ≡ record { place = place; verdict = v; kept = false; settled = NoNeed } →
-    AskedTo plan alone seen own a later own' (EndsBy plan later a place v) → AskedTo plan alone seen own a later own' (AskEnds plan later a asked)
+    AskedTo plan earlier later a (EndsBy plan later.journal a place v) → AskedTo plan earlier later a (AskEnds plan later.journal a asked)
 ends_made {plan = plan} {later = later} {a = a} asked place v is t = record {
   places = t.places;
   goes_on = t.goes_on;
@@ -237,7 +238,7 @@ ends_made {plan = plan} {later = later} {a = a} asked place v is t = record {
   new = t.new;
   there = t.there;
   ascending = t.ascending;
-  ends = subst (λ r. AskEnds plan later a r t.places) (sym is) (t.ends, refl, refl);
+  ends = subst (λ r. AskEnds plan later.journal a r t.places) (sym is) (t.ends, refl, refl);
 }
 
 -- ---- what stands at a place of a list

@@ -12,7 +12,7 @@ use Rattle.agent_core.specs.declared.store.Row.{Row}
 use Rattle.agent_core.specs.declared.store.Store.{Store}
 use Rattle.agent_core.specs.State.{Plan, State, keeping, forgetting, at_channel, held_count}
 use Rattle.agent_core.specs.Journals.{Entry}
-use Rattle.agent_core.specs.Kept.{stays, row_certs, name_stays, IsRow, IsStore}
+use Rattle.agent_core.specs.Kept.{stays, row_certs, name_stays, IsRow, IsStore, now_at}
 use Rattle.agent_core.specs.Names.{named, certs_named, AreNames}
 use Rattle.agent_core.proofs.Channels.{other_channel, contains_at, here_changed, there_kept, count_emptied, count_kept}
 use Rattle.agent_core.proofs.Places.{set_same, set_other}
@@ -33,12 +33,12 @@ row_found plan journal s store is place channel row here at =
 module _ (plan : Plan) (journal : List Entry) (s s' : State) (store after : Store) (is : IsStore plan journal s store) (up : IsStrictlyIncreasing plan.channels)
     (place channel : ℕ) (row' : Row) (here : slice_get plan.channels place ≡ Some channel)
     (rows : after.rows.items ≡ set store.rows.items place row') (clock : after.clock ≡ store.clock) (swept : after.swept ≡ store.swept)
-    (changed : IsRow plan journal store.clock store.swept row' (s'.last channel) (s'.own channel))
+    (changed : IsRow (now_at plan journal store.clock store.swept) row' (s'.last channel) (s'.own channel))
     (last_kept : (c : ℕ) → (c ≡ channel → ⊥) → s.last c ≡ s'.last c) (own_kept : (c : ℕ) → (c ≡ channel → ⊥) → s.own c ≡ s'.own c) where
   place_within : place < length store.rows.items
   place_within = omega (arith, slice_get_within plan.channels place channel here, is.row_count)
 
-  row_is : (i : ℕ) (row : Row) (c : ℕ) → slice_get after.rows.items i ≡ Some row → slice_get plan.channels i ≡ Some c → IsRow plan journal store.clock store.swept row (s'.last c) (s'.own c)
+  row_is : (i : ℕ) (row : Row) (c : ℕ) → slice_get after.rows.items i ≡ Some row → slice_get plan.channels i ≡ Some c → IsRow (now_at plan journal store.clock store.swept) row (s'.last c) (s'.own c)
   row_is i row c at there =
       elim (same_or_not i place) [
         | inl e ↦
@@ -47,13 +47,13 @@ module _ (plan : Plan) (journal : List Entry) (s s' : State) (store after : Stor
             let two : Some channel ≡ Some c = sym here ∙ subst (λ k. slice_get plan.channels k ≡ Some c) e there in
             let same_row : row' ≡ row = cc in
             let same_channel : channel ≡ c = cc in
-            subst (λ d. IsRow plan journal store.clock store.swept row (s'.last d) (s'.own d)) same_channel
-            (subst (λ r. IsRow plan journal store.clock store.swept r (s'.last channel) (s'.own channel)) same_row changed)
+            subst (λ d. IsRow (now_at plan journal store.clock store.swept) row (s'.last d) (s'.own d)) same_channel
+            (subst (λ r. IsRow (now_at plan journal store.clock store.swept) r (s'.last channel) (s'.own channel)) same_row changed)
         | inr ne ↦
             let before : slice_get store.rows.items i ≡ Some row = sym (set_other store.rows.items place row' i ne) ∙ subst (λ zs. slice_get zs i ≡ Some row) rows at in
             let other = other_channel plan.channels up place i channel c here there ne in
-            subst (λ l. IsRow plan journal store.clock store.swept row l (s'.own c)) (last_kept c other)
-            (subst (λ o. IsRow plan journal store.clock store.swept row (s.last c) o) (own_kept c other) (is.rows_are i row c before there))
+            subst (λ l. IsRow (now_at plan journal store.clock store.swept) row l (s'.own c)) (last_kept c other)
+            (subst (λ o. IsRow (now_at plan journal store.clock store.swept) row (s.last c) o) (own_kept c other) (is.rows_are i row c before there))
       ]
 
   pub row_changed : s'.clock ≡ s.clock → certs_named plan.commons journal after.commons.items ≡ s'.commons → AreNames plan.commons journal after.commons.items → IsStore plan journal s' after
@@ -62,8 +62,8 @@ module _ (plan : Plan) (journal : List Entry) (s s' : State) (store after : Stor
     commons_are = commons;
     commons_names = names;
     row_count = ap (λ (zs : List Row). length zs) rows ∙ length-set store.rows.items place row' ∙ is.row_count;
-    rows_are = λ i row c at there. subst (λ n. IsRow plan journal after.clock n row (s'.last c) (s'.own c)) (sym swept)
-        (subst (λ n. IsRow plan journal n store.swept row (s'.last c) (s'.own c)) (sym clock) (row_is i row c at there));
+    rows_are = λ i row c at there. subst (λ n. IsRow (now_at plan journal after.clock n) row (s'.last c) (s'.own c)) (sym swept)
+        (subst (λ n. IsRow (now_at plan journal n store.swept) row (s'.last c) (s'.own c)) (sym clock) (row_is i row c at there));
   }
 
 -- ---- a channel is forgotten
@@ -74,7 +74,7 @@ module _ (plan : Plan) (journal : List Entry) (s : State) (store after : Store) 
   forgotten place row row' here at last swept none rows clock swept_same commons =
       let was = is.rows_are place row channel at here in
       let names : AreNames plan.commons journal row'.own.items = subst (AreNames plan.commons journal) (sym none) (λ k d lt. absurd (omega (arith, lt))) in
-      let changed : IsRow plan journal store.clock store.swept row' (s.last channel) (at_channel channel [] s.own channel) = record {
+      let changed : IsRow (now_at plan journal store.clock store.swept) row' (s.last channel) (at_channel channel [] s.own channel) = record {
         last_is = last ∙ was.last_is;
         own_is = row_fresh plan journal store.clock store.swept row' swept ∙ ap (certs_named plan.commons journal) none ∙ sym (here_changed channel [] s.own);
         names = names;
@@ -83,7 +83,7 @@ module _ (plan : Plan) (journal : List Entry) (s : State) (store after : Store) 
       row_changed plan journal s (forgetting channel s) store after is up place channel row' here rows clock swept_same changed (λ c ne. refl) (λ c ne. sym (there_kept channel [] s.own c ne))
       refl (subst (λ v. certs_named plan.commons journal v.items ≡ s.commons) (sym commons) is.commons_are) (subst (λ v. AreNames plan.commons journal v.items) (sym commons) is.commons_names)
 
-  pub count_forgotten : (place : ℕ) (row : Row) (count : ℕ) → slice_get plan.channels place ≡ Some channel → slice_get store.rows.items place ≡ Some row → count ≡ length (row_certs plan journal store.clock store.swept row) →
+  pub count_forgotten : (place : ℕ) (row : Row) (count : ℕ) → slice_get plan.channels place ≡ Some channel → slice_get store.rows.items place ≡ Some row → count ≡ length (row_certs (now_at plan journal store.clock store.swept) row) →
       count ≡ held_count plan s - held_count plan (forgetting channel s)
   count_forgotten place row count here at e =
       let was = is.rows_are place row channel at here in
@@ -96,7 +96,7 @@ module _ (plan : Plan) (journal : List Entry) (s : State) (store : Store) (is : 
     commons_are = is.commons_are;
     commons_names = is.commons_names;
     row_count = is.row_count;
-    rows_are = λ i row c at there. subst (λ o. IsRow plan journal store.clock store.swept row (s.last c) o)
+    rows_are = λ i row c at there. subst (λ o. IsRow (now_at plan journal store.clock store.swept) row (s.last c) o)
         (sym (there_kept channel [] s.own c (λ (e : c ≡ channel). absent (subst (Contains plan.channels) e (contains_at plan.channels i c there))))) (is.rows_are i row c at there);
   }
 
@@ -119,7 +119,7 @@ filter_again p q less (c ∷ cs) = filter_one p q less c cs (filter_again p q le
 
 -- what is gone by now is gone later
 pub swept_later : (plan : Plan) (journal : List Entry) (clock swept m : ℕ) (row : Row) → clock ≤ m →
-    filter (stays (Ended plan.keep m)) (row_certs plan journal clock swept row) ≡ filter (stays (Ended plan.keep m)) (certs_named plan.commons journal row.own.items)
+    filter (stays (Ended plan.keep m)) (row_certs (now_at plan journal clock swept) row) ≡ filter (stays (Ended plan.keep m)) (certs_named plan.commons journal row.own.items)
 swept_later plan journal clock swept m row le =
     elim (same_or_not row.swept swept) [
       | inl e ↦ ap (filter (stays (Ended plan.keep m))) (row_fresh plan journal clock swept row e)
@@ -130,7 +130,7 @@ swept_later plan journal clock swept m row le =
 module _ (plan : Plan) (journal : List Entry) (s : State) (store after : Store) (is : IsStore plan journal s store) (moment stamp : ℕ) (later : store.clock ≤ moment) (new : store.swept < stamp)
     (commons_left : after.commons.items ≡ filter (name_stays plan.commons journal (Ended plan.keep moment)) store.commons.items)
     (rows : after.rows.items ≡ store.rows.items) (clock : after.clock ≡ moment) (swept : after.swept ≡ stamp) where
-  stale_row : (i : ℕ) (row : Row) (c : ℕ) → slice_get store.rows.items i ≡ Some row → slice_get plan.channels i ≡ Some c → IsRow plan journal moment stamp row (s.last c) (filter (stays (Ended plan.keep moment)) (s.own c))
+  stale_row : (i : ℕ) (row : Row) (c : ℕ) → slice_get store.rows.items i ≡ Some row → slice_get plan.channels i ≡ Some c → IsRow (now_at plan journal moment stamp) row (s.last c) (filter (stays (Ended plan.keep moment)) (s.own c))
   stale_row i row c at there =
       let was = is.rows_are i row c at there in
       record {
@@ -147,7 +147,7 @@ module _ (plan : Plan) (journal : List Entry) (s : State) (store after : Store) 
     commons_are = left_named (named plan.commons journal) (Ended plan.keep moment) store.commons.items after.commons.items commons_left ∙ ap (filter (stays (Ended plan.keep moment))) is.commons_are;
     commons_names = left_names (named plan.commons journal) (Ended plan.keep moment) store.commons.items after.commons.items commons_left is.commons_names;
     row_count = ap (λ (zs : List Row). length zs) rows ∙ is.row_count;
-    rows_are = λ i row c at there. subst (λ n. IsRow plan journal after.clock n row (s.last c) (filter (stays (Ended plan.keep moment)) (s.own c))) (sym swept)
-        (subst (λ n. IsRow plan journal n stamp row (s.last c) (filter (stays (Ended plan.keep moment)) (s.own c))) (sym clock)
+    rows_are = λ i row c at there. subst (λ n. IsRow (now_at plan journal after.clock n) row (s.last c) (filter (stays (Ended plan.keep moment)) (s.own c))) (sym swept)
+        (subst (λ n. IsRow (now_at plan journal n stamp) row (s.last c) (filter (stays (Ended plan.keep moment)) (s.own c))) (sym clock)
         (stale_row i row c (subst (λ zs. slice_get zs i ≡ Some row) rows at) there));
   }

@@ -17,6 +17,7 @@ use Rattle.agent_core.specs.Granted.{IsProofFor}
 use Rattle.taos_calculus.proofs.Asking.{picked-at}
 use Rattle.denial_link.specs.Revived.{at_places, claims}
 use Rattle.agent_core.specs.Judged.{live_marks}
+use Rattle.agent_core.specs.State.{Ask}
 
 pub record Cites (certs : List Certificate) (moment : ℕ) (places : List ℕ) (said : List Claim) : Type 0 where
   pub inside : All (λ i. i < length certs) places
@@ -52,18 +53,18 @@ module _ (certs : List Certificate) (moment : ℕ) where
   cited no_cite = record { inside = All-nil (λ i. i < length certs); says = refl; alive = All-nil (λ (x : Certificate). moment < x.until) }
   cited (a_cite {place = place} {claim = claim} {places = places} {said = said} has rest) = cite_at place claim places said has (cited rest)
 
-module _ (anchors : List Anchor) (certs : List Certificate) (moment : ℕ) (subject : Principal) (list : List Grant) (q : Question)
-    (asked : q ≡ question_of anchors certs (live_marks certs moment) subject list) (who : Principal) (lines : List Line) (places : List ℕ) (p : IsProofOf q subject who lines places) where
+module _ (anchors : List Anchor) (certs : List Certificate) (moment : ℕ) (a : Ask) (q : Question)
+    (asked : q ≡ question_of anchors certs (live_marks certs moment) a.subject a.list) (who : Principal) (lines : List Line) (places : List ℕ) (p : IsProofOf q a.subject who lines places) where
   pub cites : Cites certs moment places p.said
   cites = cited certs moment (subst (λ (x : Question). AreCited x.chosen places p.said) asked p.cited)
 
-  pub proof_made : (entry : ℕ) (e : Grant) (c : Cached) → slice_get list entry ≡ Some e → e.who ≡ who → c.subject ≡ subject → c.who ≡ who → c.proof ≡ lines → c.cites ≡ at_places certs places → c.lease ≡ lease_of c.cites →
-      IsProofFor anchors certs moment subject list entry c
+  pub proof_made : (entry : ℕ) (e : Grant) (c : Cached) → slice_get a.list entry ≡ Some e → e.who ≡ who → c.subject ≡ a.subject → c.who ≡ who → c.proof ≡ lines → c.cites ≡ at_places certs places → c.lease ≡ lease_of c.cites →
+      IsProofFor anchors certs moment a entry c
   proof_made entry e c stands same subject_is who_is proof_is cites_are lease =
       let said : p.said ≡ claims c.cites = sym (ap claims cites_are ∙ cites.says) in
-      let one : Proves anchors p.said lines (SpeaksFor subject who) = subst (λ (x : Question). Proves x.anchors p.said lines (SpeaksFor subject who)) asked p.proves in
-      let two : Proves anchors (claims c.cites) lines (SpeaksFor subject who) = subst (λ (cs : List Claim). Proves anchors cs lines (SpeaksFor subject who)) said one in
-      let three : Proves anchors (claims c.cites) c.proof (SpeaksFor subject who) = subst (λ (ls : List Line). Proves anchors (claims c.cites) ls (SpeaksFor subject who)) (sym proof_is) two in
+      let one : Proves anchors p.said lines (SpeaksFor a.subject who) = subst (λ (x : Question). Proves x.anchors p.said lines (SpeaksFor a.subject who)) asked p.proves in
+      let two : Proves anchors (claims c.cites) lines (SpeaksFor a.subject who) = subst (λ (cs : List Claim). Proves anchors cs lines (SpeaksFor a.subject who)) said one in
+      let three : Proves anchors (claims c.cites) c.proof (SpeaksFor a.subject who) = subst (λ (ls : List Line). Proves anchors (claims c.cites) ls (SpeaksFor a.subject who)) (sym proof_is) two in
       let four : Proves anchors (claims c.cites) c.proof (SpeaksFor c.subject who) = subst (λ (x : Principal). Proves anchors (claims c.cites) c.proof (SpeaksFor x who)) (sym subject_is) three in
       record {
         grant = e;

@@ -102,10 +102,10 @@ pub meant_stays : (plan : Plan) → MeantStays plan
 meant_stays plan xs ys event begins meant = meant_on plan xs ys event meant
 
 pub steps_alone : (plan : Plan) → StepsAlone plan
-steps_alone plan alone journal later own event place answer steps = record {
-  before = journal;
-  goes_on = record { rest = []; is = sym (append-nil journal) };
+steps_alone plan earlier later event place answer steps owned = record {
+  before = earlier.journal;
+  goes_on = record { rest = []; is = sym (append-nil earlier.journal) };
   undisturbed = λ e. refl;
   steps = steps;
-  owned = refl;
+  owned = owned;
 }

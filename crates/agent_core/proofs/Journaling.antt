@@ -9,7 +9,7 @@ use Rattle.agent_core.specs.declared.store.Row.{Row}
 use Rattle.agent_core.specs.declared.store.Store.{Store}
 use Rattle.agent_core.specs.State.{Plan, State, Event, Asks, Answer, Plain, next}
 use Rattle.agent_core.specs.Journals.{Entry, entry, state_from, state_after, told_of, told_at, IsMeant, MayFollow, IsLegalJournal}
-use Rattle.agent_core.specs.Kept.{row_certs, IsRow, IsStore, IsKept, Tells}
+use Rattle.agent_core.specs.Kept.{row_certs, IsRow, IsStore, IsKept, Tells, now_at}
 use Rattle.agent_core.specs.Names.{named, AreNames}
 use Rattle.agent_core.specs.Views.{entry_of}
 use Rattle.agent_core.proofs.NamesLeft.{journal_names_more, names_more, named_more}
@@ -53,11 +53,11 @@ legal_more plan journal e legal may before x rest eq =
 
 -- ---- what is kept
 
-row_certs_more : (plan : Plan) (journal more : List Entry) (clock swept : ℕ) (row : Row) → AreNames plan.commons journal row.own.items → row_certs plan (journal ++ more) clock swept row ≡ row_certs plan journal clock swept row
+row_certs_more : (plan : Plan) (journal more : List Entry) (clock swept : ℕ) (row : Row) → AreNames plan.commons journal row.own.items → row_certs (now_at plan (journal ++ more) clock swept) row ≡ row_certs (now_at plan journal clock swept) row
 row_certs_more plan journal more clock swept row names =
     rw (named_more (named plan.commons journal) (named plan.commons (journal ++ more)) (journal_names_more plan.commons journal more) row.own.items names) refl
 
-pub row_more : (plan : Plan) (journal more : List Entry) (clock swept : ℕ) (row : Row) (last : ℕ) (own : List Certificate) → IsRow plan journal clock swept row last own → IsRow plan (journal ++ more) clock swept row last own
+pub row_more : (plan : Plan) (journal more : List Entry) (clock swept : ℕ) (row : Row) (last : ℕ) (own : List Certificate) → IsRow (now_at plan journal clock swept) row last own → IsRow (now_at plan (journal ++ more) clock swept) row last own
 row_more plan journal more clock swept row last own is = record {
   last_is = is.last_is;
   own_is = row_certs_more plan journal more clock swept row is.names ∙ is.own_is;

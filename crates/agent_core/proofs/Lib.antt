@@ -4,6 +4,7 @@ pub mod Searching
 pub mod Rows
 pub mod Places
 pub mod Stores
+pub mod TakingIn
 pub mod Journaling
 pub mod Channels
 pub mod Changing
@@ -20,5 +21,6 @@ pub mod Marks
 pub mod Citing
 pub mod Onward
 pub mod Asks
+pub mod TakenIn
 pub mod OneOwner
 pub mod LinkPlaces

@@ -1,5 +1,5 @@
 -- What follows from what an Ask finds.
-use Rattle.std.proofs.Common.{◌≡◌, ℕ, ◌<◌, List, [], ◌∷◌, ◌++◌, length, get_or, set, map, All, refl, sym, ap, ap₂, ◌∙◌, subst, arith}
+use Rattle.std.proofs.Common.{◌≡◌, ℕ, ◌+◌, ◌<◌, ◌≤◌, List, [], ◌∷◌, ◌++◌, length, get_or, set, map, All, refl, sym, ap, ap₂, ◌∙◌, subst, arith}
 use Rattle.std.specs.List.{slice_get, filter_map}
 use Rattle.std.specs.List.Sorted.{IsStrictlyIncreasing}
 use Rattle.stmt_codec.specs.Certificates.{Certificate}
@@ -8,7 +8,7 @@ use Rattle.agent_core.specs.declared.store.Row.{Row}
 use Rattle.agent_core.specs.declared.store.Store.{Store}
 use Rattle.agent_core.specs.State.{Plan, State, Ask, Asks, Answer, Judged, asking, taking, brought, swept, next}
 use Rattle.agent_core.specs.Journals.{Entry}
-use Rattle.agent_core.specs.Kept.{IsRow, IsStore}
+use Rattle.agent_core.specs.Kept.{IsRow, IsStore, now_at}
 use Rattle.agent_core.specs.Looking.{IsLook, IsTaken}
 use Rattle.agent_core.specs.Names.{named, certs_named, AreNames, name_in, brought_by}
 use Rattle.agent_core.proofs.Bringing.{count_places, certs_joined, names_joined}
@@ -33,6 +33,11 @@ module _ (plan : Plan) (journal : List Entry) (s : State) (store : Store) (is : 
   pub new_count : length (brought now_state a) ≡ length look.new.items
   new_count = sym (ap (λ (cs : List Certificate). length cs) l.new_are) ∙ count_places a.presented look.new.items l.new_within
 
+  -- the Ask's number is new, and what it brings fits
+  pub is_taken : (row : Row) → row ≡ get_or store.rows.items look.place row → row.last < a.seq →
+      length look.own.items + length look.new.items ≤ 32 → IsTaken now_state a
+  is_taken row at less few = record { new = omega (arith, last_at row at, less); fits = omega (arith, own_count, new_count, few) }
+
   -- an Ask is answered at this state
   pub asked_now : next plan s (Asks a) ≡ asking now_state a
   asked_now = asked_at plan s a store.clock look.moment is.clock_is l.moment
@@ -45,7 +50,7 @@ module _ (plan : Plan) (journal : List Entry) (s : State) (store : Store) (is : 
   -- the Ask's row afterwards
   module _ (e : Entry) (brings : brought_by e.event ≡ a.presented) (row' : Row) (stamp : ℕ) (last : row'.last ≡ a.seq) (stamped : row'.swept ≡ stamp)
       (names : row'.own.items ≡ look.own.items ++ map (name_in (length journal)) look.new.items) where
-    row_taken : IsRow plan (journal ++ e ∷ []) look.moment stamp row' ((taking now_state a).last a.channel) ((taking now_state a).own a.channel)
+    row_taken : IsRow (now_at plan (journal ++ e ∷ []) look.moment stamp) row' ((taking now_state a).last a.channel) ((taking now_state a).own a.channel)
     row_taken =
         let there : certs_named plan.commons (journal ++ e ∷ []) (look.own.items ++ map (name_in (length journal)) look.new.items) ≡ now_state.own a.channel ++ brought now_state a =
         certs_joined plan.commons journal e look.own.items look.new.items l.own_names ∙
@@ -65,9 +70,9 @@ module _ (plan : Plan) (journal : List Entry) (s : State) (store : Store) (is : 
         IsStore plan (journal ++ e ∷ []) (taking now_state a) after
     store_taken swept_store after less up clock stamp_is commons rows clock_same swept_same commons_same set_row =
         let was = store_more plan journal (e ∷ []) now_state swept_store (swept_now stamp swept_store less clock stamp_is commons rows) in
-        let changed : IsRow plan (journal ++ e ∷ []) swept_store.clock swept_store.swept row' ((taking now_state a).last a.channel) ((taking now_state a).own a.channel) =
-        subst (λ n. IsRow plan (journal ++ e ∷ []) swept_store.clock n row' ((taking now_state a).last a.channel) ((taking now_state a).own a.channel)) (sym stamp_is)
-        (subst (λ n. IsRow plan (journal ++ e ∷ []) n stamp row' ((taking now_state a).last a.channel) ((taking now_state a).own a.channel)) (sym clock) row_taken) in
+        let changed : IsRow (now_at plan (journal ++ e ∷ []) swept_store.clock swept_store.swept) row' ((taking now_state a).last a.channel) ((taking now_state a).own a.channel) =
+        subst (λ n. IsRow (now_at plan (journal ++ e ∷ []) swept_store.clock n) row' ((taking now_state a).last a.channel) ((taking now_state a).own a.channel)) (sym stamp_is)
+        (subst (λ n. IsRow (now_at plan (journal ++ e ∷ []) n stamp) row' ((taking now_state a).last a.channel) ((taking now_state a).own a.channel)) (sym clock) row_taken) in
         row_changed plan (journal ++ e ∷ []) now_state (taking now_state a) swept_store after was up look.place a.channel row' l.here
         (set_row ∙ ap (λ v. set v.items look.place row') (sym rows)) clock_same swept_same changed
         (λ c ne. sym (there_kept a.channel a.seq now_state.last c ne)) (λ c ne. sym (there_kept a.channel (now_state.own a.channel ++ brought now_state a) now_state.own c ne))

@@ -13,6 +13,7 @@ use Rattle.denial_link.specs.declared.link.Link.TheVariants.{NoEntry}
 use Rattle.denial_link.specs.Links.{NoEntryWith, no_entry}
 use Rattle.agent_core.specs.declared.verdict.Finding.TheVariants as finding
 use Rattle.agent_core.specs.Judged.{live_marks, Judges}
+use Rattle.agent_core.specs.State.{Ask}
 
 picked_one : (at : ℕ) (c : Claim) (cs : List Claim) (marks : List Bool) (rest : List Claim) → map (λ (x : ℕ × Claim). x.1) (picked (at + 1) cs marks) ≡ rest →
     (b : Bool) → map (λ (x : ℕ × Claim). x.1) (picked at (c ∷ cs) (b ∷ marks)) ≡ cond b (c ∷ rest) rest
@@ -72,6 +73,6 @@ module _ (anchors : List Anchor) (certs : List Certificate) (moment : ℕ) (subj
   found_live (Some k) h = (h.0, first_live anchors certs moment subject list right q asked k h.0 h.1)
 
 -- with no such entry nothing is granted, and that is the first link
-pub no_right : (anchors : List Anchor) (certs : List Certificate) (moment : ℕ) (subject : Principal) (list : List Grant) (right : ℕ) → NoEntryWith list right (λ e. Unit {0}) →
-    Judges anchors certs moment subject list right (finding.Denied NoEntry)
-no_right anchors certs moment subject list right none = (λ g. none g.place g.entry g.stands g.has_right tt, no_entry none)
+pub no_right : (anchors : List Anchor) (certs : List Certificate) (moment : ℕ) (a : Ask) → NoEntryWith a.list a.right (λ e. Unit {0}) →
+    Judges anchors certs moment a (finding.Denied NoEntry)
+no_right anchors certs moment a none = (λ g. none g.place g.entry g.stands g.has_right tt, no_entry none)

@@ -12,11 +12,11 @@ use Rattle.agent_core.specs.declared.told.Answer.{Answer}
 use Rattle.agent_core.specs.declared.told.Answer.TheVariants as answer
 use Rattle.agent_core.specs.State.{Plan, Event}
 use Rattle.agent_core.specs.Journals.{Entry, entry, Begins, ShardSeen, told_at, IsMeant, IsLegalJournal}
-use Rattle.agent_core.specs.Steps.{StepAnswer, Steps, StepsTo, StepRefused}
+use Rattle.agent_core.specs.Steps.{JournalSeen, StepAnswer, Steps, StepsTo, StepRefused}
 use Rattle.agent_core.specs.Answers.{OfAnswer, Stepped, SteppedTo}
 use Rattle.agent_core.specs.Plans.{AreShards}
 use Rattle.agent_core.specs.declared.told.Told.{Told}
-use Rattle.agent_core.specs.Alone.{LoneSeen, plans_in, journal_of, seen_in, own_in, places_from, HasLegalJournal, IsLone, StepsLone}
+use Rattle.agent_core.specs.Alone.{LoneSeen, plans_in, journal_of, seen_in, own_in, places_from, lone_at, HasLegalJournal, IsLone, StepsLone}
 use Rattle.taos_calculus.proofs.Induction.{All-at}
 use Rattle.agent_core.proofs.Asks.{standing}
 use Rattle.agent_core.proofs.Onward.{begins_itself}
@@ -53,9 +53,13 @@ range_more : (first n place : ℕ) → first + n ≡ place → range_with_len fi
 range_more first zero place e = let same : first ≡ place = omega arith in ap (λ p. p ∷ []) same
 range_more first (suc n) place e = ap (λ l. first ∷ l) (range_more (first + 1) n place (omega arith))
 
+-- what its one owner sees of a shard whose journal was so long at first
+abbrev own_sight : Option ℕ → List Entry → JournalSeen
+own_sight opened journal = record { alone = true; journal = journal; own = places_from opened (length journal) }
+
 module _ (plan : Plan) (journal later : List Entry) (event : Event) (place first : ℕ) (longer : first ≤ length journal) (legal : IsLegalJournal plan journal) where
   step_added : (x : StepAnswer) → Steps plan journal event later place x →
-      StepsTo plan true journal (places_from (Some first) (length journal)) event later (places_from (Some first) (length later)) place x
+      StepsTo plan (own_sight (Some first) journal) (own_sight (Some first) later) event place x
   step_added x s =
       let more : length later ≡ length journal + 1 = ap (λ (l : List Entry). length l) s.adds ∙ length-append journal (entry event s.told ∷ []) in
       let count : length later - first ≡ suc (length journal - first) = omega arith in
@@ -69,7 +73,7 @@ module _ (plan : Plan) (journal later : List Entry) (event : Event) (place first
       }
 
   pub stepped_added : (r : Answer) → Stepped plan journal event later place r →
-      SteppedTo plan true journal (places_from (Some first) (length journal)) event later (places_from (Some first) (length later)) place r
+      SteppedTo plan (own_sight (Some first) journal) (own_sight (Some first) later) event place r
   stepped_added = of_answer _ _ _ _ step_added
       (λ n f. let same : later ≡ journal = f.0 in (
         record {
@@ -97,7 +101,7 @@ module _ (plan : Plan) (journal later : List Entry) (event : Event) (place first
 
 -- ---- one shard of many
 
-set_itself : {X : Type 0} (xs : List X) (i : ℕ) (x : X) → slice_get xs i ≡ Some x → set xs i x ≡ xs
+pub set_itself : {X : Type 0} (xs : List X) (i : ℕ) (x : X) → slice_get xs i ≡ Some x → set xs i x ≡ xs
 set_itself [] i x e = refl
 set_itself (y ∷ ys) zero x e = let same : y ≡ x = cc in ap (λ z. z ∷ ys) (sym same)
 set_itself (y ∷ ys) (suc i) x e = ap (λ l. y ∷ l) (set_itself ys i x e)
@@ -144,11 +148,10 @@ module _ (shards : List ShardSeen) (number : ℕ) (s s' : ShardSeen) (here : sli
     }
 
     pub stepped_alone : (event : Event) (place : ℕ) (r : Answer) → IsLegalJournal s.plan s.journal → Stepped s.plan s.journal event s'.journal place r →
-        SteppedTo s.plan true (seen_in shards number) (places_from (slice_get opened number) (length (seen_in shards number))) event
-        (seen_in (set shards number s') number) (places_from (slice_get opened number) (length (seen_in (set shards number s') number))) place r
+        SteppedTo s.plan (own_sight (slice_get opened number) (seen_in shards number)) (own_sight (slice_get opened number) (seen_in (set shards number s') number)) event place r
     stepped_alone event place r legal stepped =
         let (first, at, longer) = opened_at in
-        let P : Option ℕ → List Entry → List Entry → Type 0 = λ o x y. SteppedTo s.plan true x (places_from o (length x)) event y (places_from o (length y)) place r in
+        let P : Option ℕ → List Entry → List Entry → Type 0 = λ o x y. SteppedTo s.plan (own_sight o x) (own_sight o y) event place r in
         let now : P (Some first) s.journal s'.journal = stepped_added s.plan s.journal s'.journal event place first longer legal r stepped in
         subst (λ o. P o (seen_in shards number) (seen_in (set shards number s') number)) (sym at)
         (subst (λ x. P (Some first) x (seen_in (set shards number s') number)) (sym (ap journal_of here))
@@ -232,7 +235,7 @@ module _ (l : LoneSeen) (anchors : List Anchor) (is : IsLone l.shards l.opened a
   pub lone_steps : {E : Type 0} (r : Result (ℕ × Answer) E) → IfOk r (λ x. Stepped s.plan s.journal event s'.journal x.0 x.1) → OnErr r (told_at s.plan s.journal event ≡ Told.Miss) →
       OnErr r (length s.journal < s.plan.limit) → OnErr r (s' ≡ s) → StepsLone l after number event r
   lone_steps (Ok x) answered wanted room unchanged = record {
-    steps = λ plan at. subst (λ p. SteppedTo p true (seen_in l.shards number) (own_in l number) event (seen_in after.shards number) (own_in after number) x.0 x.1)
+    steps = λ plan at. subst (λ p. SteppedTo p (lone_at l number) (lone_at after number) event x.0 x.1)
         (plan_is l.shards number s s' here same_plan plan at) (stepped_alone l.shards number s s' here same_plan l.opened anchors is event x.0 x.1 legal_here answered);
     refused = λ plan at. tt;
     wanted = λ plan at. tt;
@@ -245,7 +248,7 @@ module _ (l : LoneSeen) (anchors : List Anchor) (is : IsLone l.shards l.opened a
       let seen : seen_in after.shards number ≡ s.journal = ap (λ shards. seen_in shards number) same ∙ ap journal_of here in
       record {
         steps = λ plan at. tt;
-        refused = λ plan at. subst (λ shards. StepRefused plan true (seen_in l.shards number) (own_in l number) (seen_in shards number) (own_in (record { shards = shards; opened = l.opened }) number)) (sym same)
+        refused = λ plan at. subst (λ shards. StepRefused plan (lone_at l number) (lone_at (record { shards = shards; opened = l.opened }) number)) (sym same)
             (record { goes_on = begins_itself (seen_in l.shards number); undisturbed = λ e. refl; legal = lone_legal l.shards is.legal number plan at; owned = refl });
         wanted = λ plan at. subst (λ p. told_at p (seen_in after.shards number) event ≡ Told.Miss) (plan_is l.shards number s s' here same_plan plan at)
             (subst (λ j. told_at s.plan j event ≡ Told.Miss) (sym seen) wanted);

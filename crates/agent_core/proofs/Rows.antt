@@ -11,7 +11,7 @@ use Rattle.agent_core.specs.declared.removal.Removal.TheVariants.{Ended}
 use Rattle.agent_core.specs.declared.store.Row.{Row}
 use Rattle.agent_core.specs.State.{Plan}
 use Rattle.agent_core.specs.Journals.{Entry}
-use Rattle.agent_core.specs.Kept.{stays, stays_if_named, row_certs}
+use Rattle.agent_core.specs.Kept.{stays, stays_if_named, row_certs, now_at}
 use Rattle.agent_core.specs.Names.{certs_named}
 use Rattle.agent_core.proofs.NamesLeft.{filter_named, count_named}
 
@@ -29,10 +29,10 @@ module _ (f : Name → Option Certificate) (r : Removal) (names left : List Name
   pub left_count : All (λ n. IsSome (f n)) names → (length names - length left) + length (filter (stays r) (filter_map f names)) ≡ length (filter_map f names)
   left_count all = omega (arith, left_short, count_named f names all, count_named f left (left_names all), ap length left_named)
 
-pub row_fresh : (plan : Plan) (journal : List Entry) (clock swept : ℕ) (row : Row) → row.swept ≡ swept → row_certs plan journal clock swept row ≡ certs_named plan.commons journal row.own.items
+pub row_fresh : (plan : Plan) (journal : List Entry) (clock swept : ℕ) (row : Row) → row.swept ≡ swept → row_certs (now_at plan journal clock swept) row ≡ certs_named plan.commons journal row.own.items
 row_fresh plan journal clock swept row e =
     ap (λ b. cond b (certs_named plan.commons journal row.own.items) (filter (stays (Ended plan.keep clock)) (certs_named plan.commons journal row.own.items))) (eq-eqb row.swept swept e)
 
-pub row_stale : (plan : Plan) (journal : List Entry) (clock swept : ℕ) (row : Row) → (row.swept ≡ swept → ⊥) → row_certs plan journal clock swept row ≡ filter (stays (Ended plan.keep clock)) (certs_named plan.commons journal row.own.items)
+pub row_stale : (plan : Plan) (journal : List Entry) (clock swept : ℕ) (row : Row) → (row.swept ≡ swept → ⊥) → row_certs (now_at plan journal clock swept) row ≡ filter (stays (Ended plan.keep clock)) (certs_named plan.commons journal row.own.items)
 row_stale plan journal clock swept row ne =
     ap (λ b. cond b (certs_named plan.commons journal row.own.items) (filter (stays (Ended plan.keep clock)) (certs_named plan.commons journal row.own.items))) (ne_eqb row.swept swept ne)

@@ -3,9 +3,9 @@ use Rattle.std.proofs.Common.{ℕ, List, [], ◌∷◌, ◌++◌, length, map, s
 use Rattle.std.specs.declared.alloc.Global.{Global}
 use Rattle.std.specs.declared.vec.Vec.{Vec}
 use Rattle.std.proofs.lemmas.List.{length-map}
-use Rattle.stmt_codec.specs.Certificates.{Certificate}
 use Rattle.agent_core.specs.declared.event.ShardEntry.{ShardEntry}
 use Rattle.agent_core.specs.declared.store.Store.{Store}
+use Rattle.agent_core.specs.declared.told.Snapshot.{Snapshot}
 use Rattle.agent_core.specs.declared.told.Told.{Told}
 use Rattle.agent_core.specs.declared.told.Answer.{Answer}
 use Rattle.agent_core.specs.declared.told.Answer.TheVariants as answer
@@ -27,20 +27,21 @@ module _ (plan : Plan) (before : Vec ShardEntry Global) (event : Event) (after :
     answers = other t.plain;
   }
 
-  miss_steps : (moment : ℕ) (certs : List Certificate) → Misses plan before event moment certs after store → Steps plan (map entry_of before.items) event (map entry_of after.items) (length before.items) (Miss moment certs)
-  miss_steps moment certs m = record {
+  miss_steps : (snapshot : Snapshot) → Misses plan before event snapshot after store →
+      Steps plan (map entry_of before.items) event (map entry_of after.items) (length before.items) (Miss snapshot.moment (certificates snapshot.certs.items))
+  miss_steps snapshot m = record {
     told = Told.Miss;
     adds = m.takes.adds ∙ ap (λ e. map entry_of before.items ++ entry e Told.Miss ∷ []) (sym m.is);
     placed = length-map before.items entry_of;
     legal = m.takes.kept.legal;
-    answers = subst (λ e. IsAnswer plan (map entry_of before.items) e Told.Miss (Miss moment certs)) (sym m.is) (miss m.judged);
+    answers = subst (λ e. IsAnswer plan (map entry_of before.items) e Told.Miss (Miss snapshot.moment (certificates snapshot.certs.items))) (sym m.is) (miss m.judged);
   }
 
   pub answered_steps : (a : Answer) → Answered plan before event a after store → Stepped plan (map entry_of before.items) event (map entry_of after.items) (length before.items) a
   answered_steps (answer.Replayed last) t = told_steps (Told.Replayed last) t
   answered_steps (answer.Full held) t = told_steps (Told.Full held) t
   answered_steps (answer.Hit e c) t = absurd t
-  answered_steps (answer.Miss snapshot) t = miss_steps snapshot.moment (certificates snapshot.certs.items) t
+  answered_steps (answer.Miss snapshot) t = miss_steps snapshot t
   answered_steps (answer.Held added) t = told_steps (Told.Held added) t
   answered_steps (answer.CommonsFull held) t = told_steps (Told.CommonsFull held) t
   answered_steps (answer.Removed count) t = told_steps (Told.Removed count) t

@@ -6,7 +6,7 @@ use Rattle.agent_core.specs.declared.told.Told.{Told}
 use Rattle.agent_core.specs.declared.told.Answer.{Answer}
 use Rattle.agent_core.specs.State.{Plan, Event}
 use Rattle.agent_core.specs.Answers.{SteppedTo}
-use Rattle.agent_core.specs.Steps.{StepRefused}
+use Rattle.agent_core.specs.Steps.{JournalSeen, StepRefused, seen_at}
 use Rattle.agent_core.specs.Plans.{AreShards}
 use Rattle.agent_core.specs.Journals.{Entry, ShardSeen, told_at, IsLegalJournal}
 
@@ -49,21 +49,34 @@ pub record IsLone (shards : List ShardSeen) (opened : List ℕ) (anchors : List 
   pub sound : AreShards (plans_in shards) anchors
   pub counted : length opened ≡ length shards
   -- no journal is shorter than it was at first
-  pub longer : (i n : ℕ) (s : ShardSeen) → slice_get opened i ≡ Some n → slice_get shards i ≡ Some s → n ≤ length s.journal
+  pub longer : (i n : ℕ) (s : ShardSeen) → slice_get opened i ≡ Some n →
+      slice_get shards i ≡ Some s → n ≤ length s.journal
   pub legal : All HasLegalJournal shards
 
+-- what is seen of the shard of this number: nobody else steps it
+abbrev pub lone_at : LoneSeen → ℕ → JournalSeen
+lone_at l number = seen_at true (λ s. seen_in l.shards s) (λ s. own_in l s) number
+
+-- the shard of this number has this plan
+abbrev pub HasPlanAt : LoneSeen → ℕ → Plan → Type 0
+HasPlanAt l number plan = slice_get (plans_in l.shards) number ≡ Some plan
+
 -- a step of the shard of this number; the other shards stay as they were
-pub record StepsLone {E : Type 0} (l l' : LoneSeen) (number : ℕ) (event : Event) (r : Result (ℕ × Answer) E) : Type 0 where
+pub record StepsLone {E : Type 0} (l l' : LoneSeen) (number : ℕ) (event : Event)
+    (r : Result (ℕ × Answer) E) : Type 0 where
   -- a step that succeeds adds an entry, or finds the journal full
-  pub steps : (plan : Plan) → slice_get (plans_in l.shards) number ≡ Some plan →
-      IfOk r (λ x. SteppedTo plan true (seen_in l.shards number) (own_in l number) event (seen_in l'.shards number) (own_in l' number) x.0 x.1)
+  pub steps : (plan : Plan) → HasPlanAt l number plan →
+      IfOk r (λ x. SteppedTo plan (lone_at l number) (lone_at l' number) event x.0 x.1)
   -- a step that fails adds no entry
-  pub refused : (plan : Plan) → slice_get (plans_in l.shards) number ≡ Some plan →
-      OnErr r (StepRefused plan true (seen_in l.shards number) (own_in l number) (seen_in l'.shards number) (own_in l' number))
+  pub refused : (plan : Plan) → HasPlanAt l number plan →
+      OnErr r (StepRefused plan (lone_at l number) (lone_at l' number))
   -- a step fails only for an Ask that would be judged
-  pub wanted : (plan : Plan) → slice_get (plans_in l.shards) number ≡ Some plan → OnErr r (told_at plan (seen_in l'.shards number) event ≡ Told.Miss)
+  pub wanted : (plan : Plan) → HasPlanAt l number plan →
+      OnErr r (told_at plan (seen_in l'.shards number) event ≡ Told.Miss)
   -- a step fails only where the journal has room
-  pub room : (plan : Plan) → slice_get (plans_in l.shards) number ≡ Some plan → OnErr r (length (seen_in l'.shards number) < plan.limit)
+  pub room : (plan : Plan) → HasPlanAt l number plan →
+      OnErr r (length (seen_in l'.shards number) < plan.limit)
   -- the journals and own places of the other shards stay
-  pub others : (s : ℕ) → s ≢ number → (seen_in l'.shards s ≡ seen_in l.shards s) × (own_in l' s ≡ own_in l s)
+  pub others : (s : ℕ) → s ≢ number →
+      (seen_in l'.shards s ≡ seen_in l.shards s) × (own_in l' s ≡ own_in l s)
   pub plans : plans_in l'.shards ≡ plans_in l.shards

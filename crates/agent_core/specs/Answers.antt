@@ -1,5 +1,5 @@
 -- What a step of the program answers.
-use Rattle.std.specs.Prelude.{◌≡◌, ℕ, ◌≤◌, Bool, List, length}
+use Rattle.std.specs.Prelude.{◌≡◌, ℕ, ◌≤◌, List, length}
 use Rattle.std.specs.Arc.{arc_value}
 use Rattle.proof_cache.specs.Cached.{cached}
 use Rattle.proof_cache.specs.declared.cached.Cached.{Cached as CachedValue}
@@ -9,7 +9,7 @@ use Rattle.agent_core.specs.declared.told.Answer.{Answer}
 use Rattle.agent_core.specs.declared.told.Answer.TheVariants as answer
 use Rattle.agent_core.specs.State.{Plan, Event, Asks, Holds, Discards, Forgets, Expires}
 use Rattle.agent_core.specs.Journals.{Entry}
-use Rattle.agent_core.specs.Steps.{StepAnswer, Hit, Miss, Other, Steps, StepsTo, StepRefused}
+use Rattle.agent_core.specs.Steps.{StepAnswer, Hit, Miss, Other, JournalSeen, Steps, StepsTo, StepRefused}
 use Rattle.agent_core.specs.Views.{certificates}
 
 -- the event brings few certificates
@@ -24,8 +24,10 @@ FitsEvent (Expires reading) = Unit {0}
 abbrev pub OfAnswer : (StepAnswer → Type 0) → (ℕ → Type 0) → Answer → Type 0
 OfAnswer Handed Full (answer.Replayed last) = Handed (Other (Told.Replayed last))
 OfAnswer Handed Full (answer.Full held) = Handed (Other (Told.Full held))
-OfAnswer Handed Full (answer.Hit entry c) = Handed (Hit entry (cached (arc_value {X = CachedValue} c)))
-OfAnswer Handed Full (answer.Miss snapshot) = Handed (Miss snapshot.moment (certificates snapshot.certs.items))
+OfAnswer Handed Full (answer.Hit entry c) =
+    Handed (Hit entry (cached (arc_value {X = CachedValue} c)))
+OfAnswer Handed Full (answer.Miss snapshot) =
+    Handed (Miss snapshot.moment (certificates snapshot.certs.items))
 OfAnswer Handed Full (answer.Held added) = Handed (Other (Told.Held added))
 OfAnswer Handed Full (answer.CommonsFull held) = Handed (Other (Told.CommonsFull held))
 OfAnswer Handed Full (answer.Removed count) = Handed (Other (Told.Removed count))
@@ -36,10 +38,12 @@ OfAnswer Handed Full (answer.JournalFull n) = Full n
 abbrev pub Stepped : Plan → List Entry → Event → List Entry → ℕ → Answer → Type 0
 Stepped plan journal event later place answer =
     OfAnswer (Steps plan journal event later place)
-    (λ n. (later ≡ journal) × (length journal ≡ plan.limit) × (n ≡ plan.limit) × (place ≡ plan.limit)) answer
+    (λ n. (later ≡ journal) × (length journal ≡ plan.limit) × (n ≡ plan.limit)
+    × (place ≡ plan.limit)) answer
 
--- the same where others may step the shard, with the own places before and after
-abbrev pub SteppedTo : Plan → Bool → List Entry → List ℕ → Event → List Entry → List ℕ → ℕ → Answer → Type 0
-SteppedTo plan alone seen own event later own' place answer =
-    OfAnswer (StepsTo plan alone seen own event later own' place)
-    (λ n. StepRefused plan alone seen own later own' × (length later ≡ plan.limit) × (n ≡ plan.limit) × (place ≡ plan.limit)) answer
+-- the same where others may step the shard, by what was seen of it before and after
+abbrev pub SteppedTo : Plan → JournalSeen → JournalSeen → Event → ℕ → Answer → Type 0
+SteppedTo plan earlier later event place answer =
+    OfAnswer (StepsTo plan earlier later event place)
+    (λ n. StepRefused plan earlier later × (length later.journal ≡ plan.limit)
+    × (n ≡ plan.limit) × (place ≡ plan.limit)) answer

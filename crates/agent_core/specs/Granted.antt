@@ -1,7 +1,6 @@
 -- The proof of a grant.
 use Rattle.std.specs.Prelude.{◌≡◌, ℕ, ◌<◌, List, length, Some, slice_get, All}
 use Rattle.prin_term.specs.declared.term.Anchor.{Anchor}
-use Rattle.prin_term.specs.Principal.{Principal}
 use Rattle.prin_term.specs.View.{Grant}
 use Rattle.stmt_codec.specs.Certificates.{Certificate, live}
 use Rattle.taos_calculus.specs.Rules.{SpeaksFor, Proves}
@@ -9,18 +8,21 @@ use Rattle.taos_calculus.specs.Monitor.{MaySpeak}
 use Rattle.taos_calculus.specs.Tidy.{IsTidy}
 use Rattle.denial_link.specs.Revived.{at_places, claims}
 use Rattle.proof_cache.specs.Cached.{Cached, lease_of}
+use Rattle.agent_core.specs.State.{Ask}
 
--- by the live certificates the subject speaks for the entry of this number
-pub record IsGrantedEntry (anchors : List Anchor) (certs : List Certificate) (moment : ℕ) (subject : Principal) (list : List Grant) (entry : ℕ) : Type 0 where
+-- by the live certificates the Ask's subject speaks for the entry of this number
+pub record IsGrantedEntry (anchors : List Anchor) (certs : List Certificate) (moment : ℕ)
+    (a : Ask) (entry : ℕ) : Type 0 where
   pub grant : Grant
-  pub stands : slice_get list entry ≡ Some grant
-  pub speaks : MaySpeak anchors (claims (live certs moment)) subject grant.who
+  pub stands : slice_get a.list entry ≡ Some grant
+  pub speaks : MaySpeak anchors (claims (live certs moment)) a.subject grant.who
 
 -- a proof of it without waste, which cites live certificates alone
-pub record IsProofFor (anchors : List Anchor) (certs : List Certificate) (moment : ℕ) (subject : Principal) (list : List Grant) (entry : ℕ) (c : Cached) : Type 0 where
+pub record IsProofFor (anchors : List Anchor) (certs : List Certificate) (moment : ℕ)
+    (a : Ask) (entry : ℕ) (c : Cached) : Type 0 where
   pub grant : Grant
-  pub stands : slice_get list entry ≡ Some grant
-  pub subject_is : c.subject ≡ subject
+  pub stands : slice_get a.list entry ≡ Some grant
+  pub subject_is : c.subject ≡ a.subject
   pub who_is : c.who ≡ grant.who
   -- where the cited certificates stand among all
   pub places : List ℕ

@@ -20,7 +20,8 @@ abbrev pub entry : Event → Told → Entry
 entry event told = record { event = event; told = told }
 
 -- the entry stands at the place, after those before
-pub record Stands {E : Type 0} (journal : List E) (place : ℕ) (before : List E) (e : E) : Type 0 where
+pub record Stands {E : Type 0} (journal : List E) (place : ℕ) (before : List E)
+    (e : E) : Type 0 where
   pub rest : List E
   pub is : journal ≡ before ++ e ∷ rest
   pub placed : length before ≡ place
@@ -79,13 +80,16 @@ pub record MayFollow (plan : Plan) (before : List Entry) (e : Entry) : Type 0 wh
 
 -- each entry may follow those before it
 abbrev pub IsLegalJournal : Plan → List Entry → Type 0
-IsLegalJournal plan journal = (before : List Entry) (e : Entry) (rest : List Entry) → journal ≡ before ++ e ∷ rest → MayFollow plan before e
+IsLegalJournal plan journal =
+    (before : List Entry) (e : Entry) (rest : List Entry) → journal ≡ before ++ e ∷ rest →
+    MayFollow plan before e
 
 -- ---- verdicts
 
 -- an Ask after these entries is judged at this moment by these certificates
 abbrev pub IsJudged : Plan → List Entry → Ask → ℕ → List Certificate → Type 0
-IsJudged plan before a moment certs = (next plan (state_after plan before) (Asks a)).1 ≡ Judged moment certs
+IsJudged plan before a moment certs =
+    (next plan (state_after plan before) (Asks a)).1 ≡ Judged moment certs
 
 -- what an Ask comes to; a denial names the first link that is missing or has expired
 pub data Verdict : Type 0 where
@@ -95,7 +99,10 @@ pub data Verdict : Type 0 where
 -- the verdict on an Ask after these entries
 pub data IsVerdict (plan : Plan) (before : List Entry) (a : Ask) : Verdict → Type 0 where
   granted : {moment : ℕ} {certs : List Certificate} → IsJudged plan before a moment certs →
-      Grants plan.anchors (claims (live certs moment)) a.subject a.list a.right → IsVerdict plan before a Granted
-  denied : {moment : ℕ} {certs : List Certificate} {link : Link} → IsJudged plan before a moment certs →
+      Grants plan.anchors (claims (live certs moment)) a.subject a.list a.right →
+      IsVerdict plan before a Granted
+  denied : {moment : ℕ} {certs : List Certificate} {link : Link} →
+      IsJudged plan before a moment certs →
       (Grants plan.anchors (claims (live certs moment)) a.subject a.list a.right → ⊥) →
-      IsFirstLink plan.anchors certs moment a.subject a.list a.right link → IsVerdict plan before a (Denied link)
+      IsFirstLink plan.anchors certs moment a.subject a.list a.right link →
+      IsVerdict plan before a (Denied link)

@@ -1,7 +1,6 @@
--- The verdict on certificates, a moment, a subject, an access list and a right.
+-- The verdict on an Ask, by certificates and a moment.
 use Rattle.std.specs.Prelude.{ℕ, Bool, List, map, nat_lt}
 use Rattle.prin_term.specs.declared.term.Anchor.{Anchor}
-use Rattle.prin_term.specs.Principal.{Principal}
 use Rattle.prin_term.specs.View.{Grant}
 use Rattle.stmt_codec.specs.Certificates.{Certificate, live}
 use Rattle.taos_calculus.specs.Monitor.{FirstEntry, Grants, MaySpeak}
@@ -10,6 +9,7 @@ use Rattle.denial_link.specs.Links.{IsFirstLink}
 use Rattle.agent_core.specs.declared.verdict.Finding.{Finding}
 use Rattle.agent_core.specs.declared.verdict.Finding.TheVariants as finding
 use Rattle.agent_core.specs.Journals.{Verdict, Granted, Denied}
+use Rattle.agent_core.specs.State.{Ask}
 
 -- for each certificate, whether it is live at the moment
 abbrev pub live_marks : List Certificate → ℕ → List Bool
@@ -17,11 +17,13 @@ live_marks certs moment = map (λ (c : Certificate). nat_lt moment c.until) cert
 
 -- what is found is the monitor's verdict: the first entry that grants; or the first link, where
 -- nothing is granted
-abbrev pub Judges : List Anchor → List Certificate → ℕ → Principal → List Grant → ℕ → Finding → Type 0
-Judges anchors certs moment subject list right (finding.Granted place) =
-    (e : Grant) × FirstEntry list right (λ g. MaySpeak anchors (claims (live certs moment)) subject g.who) place e
-Judges anchors certs moment subject list right (finding.Denied link) =
-    (Grants anchors (claims (live certs moment)) subject list right → ⊥) × IsFirstLink anchors certs moment subject list right link
+abbrev pub Judges : List Anchor → List Certificate → ℕ → Ask → Finding → Type 0
+Judges anchors certs moment a (finding.Granted place) =
+    (e : Grant) × FirstEntry a.list a.right
+    (λ g. MaySpeak anchors (claims (live certs moment)) a.subject g.who) place e
+Judges anchors certs moment a (finding.Denied link) =
+    (Grants anchors (claims (live certs moment)) a.subject a.list a.right → ⊥)
+    × IsFirstLink anchors certs moment a.subject a.list a.right link
 
 -- the verdict that a finding is
 abbrev pub verdict_of : Finding → Verdict

@@ -36,20 +36,37 @@ stays_if_named removal (Some c) = stays removal c
 abbrev pub name_stays : List Certificate → List Entry → Removal → Name → Bool
 name_stays commons journal removal name = stays_if_named removal (named commons journal name)
 
+-- a shard as its rows are read
+pub record ShardNow : Type 0 where
+  pub plan : Plan
+  pub journal : List Entry
+  pub clock : ℕ
+  -- how long the journal was when the shard swept last
+  pub swept : ℕ
+
+-- a shard of this plan and journal, at this clock, that swept when its journal was so long
+abbrev pub now_at : Plan → List Entry → ℕ → ℕ → ShardNow
+now_at plan journal clock swept =
+    record { plan = plan; journal = journal; clock = clock; swept = swept }
+
+-- the certificates of names, as the shard's plan and journal have them
+abbrev pub certs_of : ShardNow → List Name → List Certificate
+certs_of now names = certs_named now.plan.commons now.journal names
+
 -- the own certificates that a row stands for: where the shard swept since the row was, what is
 -- gone by now is still to be let go
-abbrev pub row_certs : Plan → List Entry → ℕ → ℕ → Row → List Certificate
-row_certs plan journal clock swept row =
-    if row.swept == swept then certs_named plan.commons journal row.own.items
-    else filter (stays (Ended plan.keep clock)) (certs_named plan.commons journal row.own.items)
+abbrev pub row_certs : ShardNow → Row → List Certificate
+row_certs now row =
+    if row.swept == now.swept then certs_of now row.own.items
+    else filter (stays (Ended now.plan.keep now.clock)) (certs_of now row.own.items)
 
 -- the row stands for the channel's last number and its own certificates
-pub record IsRow (plan : Plan) (journal : List Entry) (clock swept : ℕ) (row : Row) (last : ℕ) (own : List Certificate) : Type 0 where
+pub record IsRow (now : ShardNow) (row : Row) (last : ℕ) (own : List Certificate) : Type 0 where
   pub last_is : row.last ≡ last
-  pub own_is : row_certs plan journal clock swept row ≡ own
-  pub names : AreNames plan.commons journal row.own.items
+  pub own_is : row_certs now row ≡ own
+  pub names : AreNames now.plan.commons now.journal row.own.items
   -- the row was swept no later than the shard
-  pub swept_before : row.swept ≤ swept
+  pub swept_before : row.swept ≤ now.swept
 
 -- what is kept stands for the state: a row for each channel, in their order
 pub record IsStore (plan : Plan) (journal : List Entry) (s : State) (store : Store) : Type 0 where
@@ -58,14 +75,16 @@ pub record IsStore (plan : Plan) (journal : List Entry) (s : State) (store : Sto
   pub commons_names : AreNames plan.commons journal store.commons.items
   pub row_count : length store.rows.items ≡ length plan.channels
   -- the row of each channel stands for its last number and its own certificates
-  pub rows_are : (i : ℕ) (row : Row) (c : ℕ) → slice_get store.rows.items i ≡ Some row → slice_get plan.channels i ≡ Some c →
-      IsRow plan journal store.clock store.swept row (s.last c) (s.own c)
+  pub rows_are : (i : ℕ) (row : Row) (c : ℕ) → slice_get store.rows.items i ≡ Some row →
+      slice_get plan.channels i ≡ Some c →
+      IsRow (now_at plan journal store.clock store.swept) row (s.last c) (s.own c)
 
 -- what is kept stands for the state after the entries, which are legal and have room
 pub record IsKept (plan : Plan) (entries : Vec ShardEntry Global) (store : Store) : Type 0 where
   pub planned : IsPlan plan
   pub legal : IsLegalJournal plan (map entry_of entries.items)
-  pub store_is : IsStore plan (map entry_of entries.items) (state_after plan (map entry_of entries.items)) store
+  pub store_is : IsStore plan (map entry_of entries.items)
+      (state_after plan (map entry_of entries.items)) store
   -- the shard was swept no later than at its last entry
   pub swept_within : store.swept ≤ length entries.items
   pub within : length entries.items ≤ plan.limit
@@ -73,7 +92,8 @@ pub record IsKept (plan : Plan) (entries : Vec ShardEntry Global) (store : Store
   pub room : plan.limit ≤ vec_capacity entries
 
 -- the event is told at once, and journaled
-pub record Tells (plan : Plan) (before : Vec ShardEntry Global) (event : Event) (told : Told) (after : Vec ShardEntry Global) (store : Store) : Type 0 where
+pub record Tells (plan : Plan) (before : Vec ShardEntry Global) (event : Event) (told : Told)
+    (after : Vec ShardEntry Global) (store : Store) : Type 0 where
   pub adds : map entry_of after.items ≡ map entry_of before.items ++ entry event told ∷ []
   pub plain : (next plan (state_after plan (map entry_of before.items)) event).1 ≡ Plain told
   pub kept : IsKept plan after store
@@ -83,7 +103,8 @@ pub record Tells (plan : Plan) (before : Vec ShardEntry Global) (event : Event) 
 -- the rows of a shard that was opened: one for each channel, without number and certificate
 pub record AreNew (rows : List Row) (count : ℕ) : Type 0 where
   pub long : length rows ≡ count
-  pub blank : (i : ℕ) (row : Row) → slice_get rows i ≡ Some row → (row.last ≡ 0) × (row.swept ≡ 0) × (row.own.items ≡ [])
+  pub blank : (i : ℕ) (row : Row) → slice_get rows i ≡ Some row →
+      (row.last ≡ 0) × (row.swept ≡ 0) × (row.own.items ≡ [])
 
 -- the names of the first commons, so many
 abbrev pub first_names : ℕ → List Name

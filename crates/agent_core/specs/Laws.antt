@@ -1,5 +1,5 @@
 -- What the definitions of a shard imply: each law is the contract of a function that does nothing.
-use Rattle.std.specs.Prelude.{◌≡◌, ℕ, Bool, ◌+◌, ◌≤◌, ◌↔◌, List, [], ◌∷◌, ◌++◌, length, map, Some, slice_get, Contains}
+use Rattle.std.specs.Prelude.{◌≡◌, ℕ, ◌+◌, ◌≤◌, ◌↔◌, List, [], ◌∷◌, ◌++◌, length, map, Some, slice_get, Contains}
 use Rattle.prin_term.specs.declared.term.Anchor.{Anchor}
 use Rattle.stmt_codec.specs.Certificates.{Certificate}
 use Rattle.denial_link.specs.declared.link.Link.{Link}
@@ -13,13 +13,14 @@ use Rattle.agent_core.specs.Plans.{AreShards, home}
 use Rattle.agent_core.specs.Opened.{MayOpen, plans_for}
 use Rattle.agent_core.specs.declared.verdict.Finding.{Finding}
 use Rattle.agent_core.specs.Judged.{Judges, verdict_of}
-use Rattle.agent_core.specs.Steps.{StepAnswer, Steps, StepsTo}
+use Rattle.agent_core.specs.Steps.{JournalSeen, StepAnswer, Steps, StepsTo}
 use Rattle.agent_core.specs.Journals.{Entry, entry, Begins, state_after, told_of, told_at, IsMeant, MayFollow, IsLegalJournal, IsJudged, IsVerdict, Granted, Denied}
 
 -- the journal that a shard makes of events from a state on, one after another
 abbrev pub journal_from : Plan → State → List Event → List Entry
 journal_from plan s [] = []
-journal_from plan s (e ∷ es) = entry e (told_of (next plan s e).1) ∷ journal_from plan (next plan s e).0 es
+journal_from plan s (e ∷ es) =
+    entry e (told_of (next plan s e).1) ∷ journal_from plan (next plan s e).0 es
 
 -- the journal that a shard makes of events from its opening on
 abbrev pub journal_of : Plan → List Event → List Entry
@@ -28,11 +29,14 @@ journal_of plan events = journal_from plan (opened plan) events
 module _ (plan : Plan) where
   -- a beginning of a legal journal is legal
   abbrev pub FrontIsLegal : Type 0
-  FrontIsLegal = (front more : List Entry) → IsLegalJournal plan (front ++ more) → IsLegalJournal plan front
+  FrontIsLegal =
+      (front more : List Entry) → IsLegalJournal plan (front ++ more) → IsLegalJournal plan front
 
   -- a legal journal stays legal with an entry that may follow it
   abbrev pub OneMoreIsLegal : Type 0
-  OneMoreIsLegal = (journal : List Entry) (e : Entry) → IsLegalJournal plan journal → MayFollow plan journal e → IsLegalJournal plan (journal ++ e ∷ [])
+  OneMoreIsLegal =
+      (journal : List Entry) (e : Entry) → IsLegalJournal plan journal → MayFollow plan journal e →
+      IsLegalJournal plan (journal ++ e ∷ [])
 
   -- each entry may follow those before it, as a turn cell says it of its journal
   abbrev pub AllMayFollow : List Entry → List Entry → Type 0
@@ -46,49 +50,66 @@ module _ (plan : Plan) where
   -- each event is meant after what the shard made of those before it
   abbrev pub AreMeant : List Entry → List Event → Type 0
   AreMeant before [] = Unit {0}
-  AreMeant before (e ∷ es) = IsMeant plan before e × AreMeant (before ++ entry e (told_at plan before e) ∷ []) es
+  AreMeant before (e ∷ es) =
+      IsMeant plan before e × AreMeant (before ++ entry e (told_at plan before e) ∷ []) es
 
   -- the journal that a shard makes of events is legal, where each is meant and there is room
   abbrev pub JournalIsLegal : Type 0
-  JournalIsLegal = (events : List Event) → length events ≤ plan.limit → AreMeant [] events → IsLegalJournal plan (journal_of plan events)
+  JournalIsLegal =
+      (events : List Event) → length events ≤ plan.limit → AreMeant [] events →
+      IsLegalJournal plan (journal_of plan events)
 
   -- a legal journal is the one that the shard makes of its events
   abbrev pub HasOneJournal : Type 0
-  HasOneJournal = (journal : List Entry) → IsLegalJournal plan journal → journal ≡ journal_of plan (map (λ (e : Entry). e.event) journal)
+  HasOneJournal =
+      (journal : List Entry) → IsLegalJournal plan journal →
+      journal ≡ journal_of plan (map (λ (e : Entry). e.event) journal)
 
   -- neither a channel nor the commons hold more than they may
   abbrev pub HoldsFew : Type 0
   HoldsFew = length plan.commons ≤ MAX_COMMONS → (journal : List Entry) →
-      ((c : ℕ) → length ((state_after plan journal).own c) ≤ MAX_OWN) × (length (state_after plan journal).commons ≤ MAX_COMMONS)
+      ((c : ℕ) → length ((state_after plan journal).own c) ≤ MAX_OWN)
+      × (length (state_after plan journal).commons ≤ MAX_COMMONS)
 
   -- an Ask is judged by no more certificates than a channel and the commons may hold
   abbrev pub JudgesFew : Type 0
-  JudgesFew = length plan.commons ≤ MAX_COMMONS → (before : List Entry) (a : Ask) (moment : ℕ) (certs : List Certificate) →
+  JudgesFew =
+      length plan.commons ≤ MAX_COMMONS →
+      (before : List Entry) (a : Ask) (moment : ℕ) (certs : List Certificate) →
       IsJudged plan before a moment certs → length certs ≤ MAX_OWN + MAX_COMMONS
 
   -- no Ask is both granted and denied: what it is judged by is one moment and one list
   abbrev pub OneVerdict : Type 0
-  OneVerdict = (before : List Entry) (a : Ask) (link : Link) → IsVerdict plan before a Granted → IsVerdict plan before a (Denied link) → ⊥
+  OneVerdict =
+      (before : List Entry) (a : Ask) (link : Link) → IsVerdict plan before a Granted →
+      IsVerdict plan before a (Denied link) → ⊥
 
   -- what is found on what an Ask is judged by is its verdict
   abbrev pub JudgedIsVerdict : Type 0
-  JudgedIsVerdict = (before : List Entry) (a : Ask) (moment : ℕ) (certs : List Certificate) (finding : Finding) →
-      IsJudged plan before a moment certs → Judges plan.anchors certs moment a.subject a.list a.right finding → IsVerdict plan before a (verdict_of finding)
+  JudgedIsVerdict =
+      (before : List Entry) (a : Ask) (moment : ℕ) (certs : List Certificate) (finding : Finding) →
+      IsJudged plan before a moment certs → Judges plan.anchors certs moment a finding →
+      IsVerdict plan before a (verdict_of finding)
 
   -- what an event has to be stays so when the journal goes on
   abbrev pub MeantStays : Type 0
-  MeantStays = (xs ys : List Entry) (event : Event) → Begins xs ys → IsMeant plan xs event → IsMeant plan ys event
+  MeantStays =
+      (xs ys : List Entry) (event : Event) → Begins xs ys → IsMeant plan xs event →
+      IsMeant plan ys event
 
   -- a step of a shard is one among others of which there are none
   abbrev pub StepsAlone : Type 0
-  StepsAlone = (alone : Bool) (journal later : List Entry) (own : List ℕ) (event : Event) (place : ℕ) (answer : StepAnswer) →
-      Steps plan journal event later place answer → StepsTo plan alone journal own event later (own ++ place ∷ []) place answer
+  StepsAlone = (earlier later : JournalSeen) (event : Event) (place : ℕ) (answer : StepAnswer) →
+      Steps plan earlier.journal event later.journal place answer →
+      later.own ≡ earlier.own ++ place ∷ [] → StepsTo plan earlier later event place answer
 
   -- an Ask that is granted or denied at a place has this verdict after the entries before it
   abbrev pub AsksAreVerdicts : Type 0
   AsksAreVerdicts = (journal : List Entry) (a : Ask) (place : ℕ) →
-      ((e : ℕ) (c : Cached) (g : IsGrantedAt plan journal a place e c) → IsVerdict plan g.before a Granted) ×
-      ((denial : Denial) (d : IsDeniedAt plan journal a place denial) → IsVerdict plan d.before a (Denied d.link))
+      ((e : ℕ) (c : Cached) (g : IsGrantedAt plan journal a place e c) →
+      IsVerdict plan g.before a Granted) ×
+      ((denial : Denial) (d : IsDeniedAt plan journal a place denial) →
+      IsVerdict plan d.before a (Denied d.link))
 
   -- how an Ask ended in a journal it ended in each that begins with it
   abbrev pub AskStays : Type 0
@@ -97,12 +118,17 @@ module _ (plan : Plan) where
       ((denial : Denial) → IsDeniedAt plan xs a place denial → IsDeniedAt plan ys a place denial) ×
       ((told : Told) → IsTold plan xs a place told → IsTold plan ys a place told)
 
-module _ (channels : List ℕ) (shards : ℕ) (anchors : List Anchor) (commons : List Certificate) (keep limit : ℕ) where
+module _ (channels : List ℕ) (shards : ℕ) (anchors : List Anchor) (commons : List Certificate)
+    (keep limit : ℕ) where
   -- the plans that a node is opened with are those of all its shards
   abbrev pub OpenedAreShards : Type 0
-  OpenedAreShards = MayOpen channels shards anchors commons limit → AreShards (plans_for channels shards anchors commons keep limit) anchors
+  OpenedAreShards =
+      MayOpen channels shards anchors commons limit →
+      AreShards (plans_for channels shards anchors commons keep limit) anchors
 
   -- a channel of the node is one of its shard's
   abbrev pub EachChannelAtHome : Type 0
   EachChannelAtHome = (channel : ℕ) (plan : Plan) → Contains channels channel →
-      slice_get (plans_for channels shards anchors commons keep limit) (home (plans_for channels shards anchors commons keep limit) channel) ≡ Some plan → Contains plan.channels channel
+      slice_get (plans_for channels shards anchors commons keep limit)
+      (home (plans_for channels shards anchors commons keep limit) channel) ≡ Some plan →
+      Contains plan.channels channel

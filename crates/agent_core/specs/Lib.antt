@@ -7,6 +7,7 @@ pub mod Plans
 pub mod Opened
 pub mod Names
 pub mod Kept
+pub mod Presented
 pub mod Letting
 pub mod Looking
 pub mod Answers

@@ -8,6 +8,7 @@ use Rattle.agent_core.specs.declared.limits.TheConstants.{MAX_OWN}
 use Rattle.agent_core.specs.declared.event.ShardEntry.{ShardEntry}
 use Rattle.agent_core.specs.declared.removal.Removal.TheVariants.{Ended}
 use Rattle.agent_core.specs.declared.store.Store.{Store}
+use Rattle.agent_core.specs.declared.told.Snapshot.{Snapshot}
 use Rattle.agent_core.specs.declared.told.Told.{Told}
 use Rattle.agent_core.specs.declared.told.Answer.{Answer}
 use Rattle.agent_core.specs.declared.told.Answer.TheVariants as answer
@@ -18,17 +19,22 @@ use Rattle.agent_core.specs.Names.{certs_named, AreNames}
 use Rattle.agent_core.specs.Views.{certificates, entry_of}
 
 -- what the Ask's channel and the commons hold at its moment, and what it brings
-pub record IsLook (plan : Plan) (journal : List Entry) (s : State) (store : Store) (a : Ask) (look : Look) : Type 0 where
+pub record IsLook (plan : Plan) (journal : List Entry) (s : State) (store : Store) (a : Ask)
+    (look : Look) : Type 0 where
   -- the place of the Ask's channel among those of the plan
   pub here : slice_get plan.channels look.place ≡ Some a.channel
   pub moment : look.moment ≡ max store.clock a.reading
-  pub own_are : certs_named plan.commons journal look.own.items ≡ (swept plan.keep look.moment s).own a.channel
+  pub own_are : certs_named plan.commons journal look.own.items
+      ≡ (swept plan.keep look.moment s).own a.channel
   pub own_names : AreNames plan.commons journal look.own.items
-  pub shared_left : look.shared.items ≡ filter (name_stays plan.commons journal (Ended plan.keep look.moment)) store.commons.items
-  pub shared_are : certs_named plan.commons journal look.shared.items ≡ (swept plan.keep look.moment s).commons
+  pub shared_left : look.shared.items
+      ≡ filter (name_stays plan.commons journal (Ended plan.keep look.moment)) store.commons.items
+  pub shared_are : certs_named plan.commons journal look.shared.items
+      ≡ (swept plan.keep look.moment s).commons
   pub shared_names : AreNames plan.commons journal look.shared.items
   -- the places of those presented certificates that the channel does not hold yet
-  pub new_are : filter_map (slice_get a.presented) look.new.items ≡ brought (swept plan.keep look.moment s) a
+  pub new_are : filter_map (slice_get a.presented) look.new.items
+      ≡ brought (swept plan.keep look.moment s) a
   pub new_within : All (λ i. i < length a.presented) look.new.items
 
 -- the Ask's number is new, and what it brings fits
@@ -37,24 +43,34 @@ pub record IsTaken (s : State) (a : Ask) : Type 0 where
   pub fits : length (s.own a.channel) + length (brought s a) ≤ MAX_OWN
 
 -- the Ask is to be judged, and journaled
-pub record Takes (plan : Plan) (before : Vec ShardEntry Global) (a : Ask) (after : Vec ShardEntry Global) (store : Store) : Type 0 where
+pub record Takes (plan : Plan) (before : Vec ShardEntry Global) (a : Ask)
+    (after : Vec ShardEntry Global) (store : Store) : Type 0 where
   pub adds : map entry_of after.items ≡ map entry_of before.items ++ entry (Asks a) Told.Miss ∷ []
   pub kept : IsKept plan after store
 
--- the event is an Ask that is to be judged by these certificates, at the moment
-pub record Misses (plan : Plan) (before : Vec ShardEntry Global) (event : Event) (moment : ℕ) (certs : List Certificate) (after : Vec ShardEntry Global) (store : Store) : Type 0 where
+-- the event is an Ask that is to be judged by what the snapshot has
+pub record Misses (plan : Plan) (before : Vec ShardEntry Global) (event : Event)
+    (snapshot : Snapshot) (after : Vec ShardEntry Global) (store : Store) : Type 0 where
   pub ask : Ask
   pub is : event ≡ Asks ask
   pub takes : Takes plan before ask after store
-  pub judged : IsJudged plan (map entry_of before.items) ask moment certs
+  pub judged : IsJudged plan (map entry_of before.items) ask snapshot.moment
+      (certificates snapshot.certs.items)
 
 -- what holds after an answer to an event; no proof is kept, and the journal was not full
-abbrev pub Answered : Plan → Vec ShardEntry Global → Event → Answer → Vec ShardEntry Global → Store → Type 0
-Answered plan before event (answer.Replayed last) after store = Tells plan before event (Told.Replayed last) after store
-Answered plan before event (answer.Full held) after store = Tells plan before event (Told.Full held) after store
+abbrev pub Answered : Plan → Vec ShardEntry Global → Event →
+    Answer → Vec ShardEntry Global → Store → Type 0
+Answered plan before event (answer.Replayed last) after store =
+    Tells plan before event (Told.Replayed last) after store
+Answered plan before event (answer.Full held) after store =
+    Tells plan before event (Told.Full held) after store
 Answered plan before event (answer.Hit entry cached) after store = ⊥
-Answered plan before event (answer.Miss snapshot) after store = Misses plan before event snapshot.moment (certificates snapshot.certs.items) after store
-Answered plan before event (answer.Held added) after store = Tells plan before event (Told.Held added) after store
-Answered plan before event (answer.CommonsFull held) after store = Tells plan before event (Told.CommonsFull held) after store
-Answered plan before event (answer.Removed count) after store = Tells plan before event (Told.Removed count) after store
+Answered plan before event (answer.Miss snapshot) after store =
+    Misses plan before event snapshot after store
+Answered plan before event (answer.Held added) after store =
+    Tells plan before event (Told.Held added) after store
+Answered plan before event (answer.CommonsFull held) after store =
+    Tells plan before event (Told.CommonsFull held) after store
+Answered plan before event (answer.Removed count) after store =
+    Tells plan before event (Told.Removed count) after store
 Answered plan before event (answer.JournalFull n) after store = ⊥

@@ -17,7 +17,8 @@ brought_by (Expires reading) = []
 -- the certificate of a name, where there is one
 abbrev pub named : List Certificate → List Entry → Name → Option Certificate
 named commons journal (Common place) = slice_get commons place
-named commons journal (Brought e place) = option_and_then (λ (x : Entry). slice_get (brought_by x.event) place) (slice_get journal e)
+named commons journal (Brought e place) =
+    option_and_then (λ (x : Entry). slice_get (brought_by x.event) place) (slice_get journal e)
 
 -- the certificates of names
 abbrev pub certs_named : List Certificate → List Entry → List Name → List Certificate

@@ -10,7 +10,8 @@ use Rattle.agent_core.specs.State.{Plan}
 use Rattle.agent_core.specs.Journals.{ShardSeen}
 
 -- what a node may be opened with
-pub record MayOpen (channels : List ℕ) (shards : ℕ) (anchors : List Anchor) (commons : List Certificate) (limit : ℕ) : Type 0 where
+pub record MayOpen (channels : List ℕ) (shards : ℕ) (anchors : List Anchor)
+    (commons : List Certificate) (limit : ℕ) : Type 0 where
   pub some_shards : 1 ≤ shards
   pub few_shards : shards ≤ MAX_SHARDS
   pub ascending : IsStrictlyIncreasing channels
@@ -24,7 +25,8 @@ pub record MayOpen (channels : List ℕ) (shards : ℕ) (anchors : List Anchor) 
 abbrev pub own_channels : List ℕ → ℕ → ℕ → List ℕ
 own_channels channels shards number = filter (λ channel. channel % shards == number) channels
 
-module _ (channels : List ℕ) (shards : ℕ) (anchors : List Anchor) (commons : List Certificate) (keep limit : ℕ) where
+module _ (channels : List ℕ) (shards : ℕ) (anchors : List Anchor) (commons : List Certificate)
+    (keep limit : ℕ) where
   -- the plan of the shard of this number
   abbrev pub plan_for : ℕ → Plan
   plan_for number = record {

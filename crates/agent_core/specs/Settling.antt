@@ -1,5 +1,5 @@
 -- What an Ask that is to be judged comes to, by what it was handed out, for the bodies alone.
-use Rattle.std.specs.Prelude.{ℕ, ◌<◌, Bool, List, length}
+use Rattle.std.specs.Prelude.{ℕ, ◌<◌, List, length}
 use Rattle.std.specs.Arc.{arc_value}
 use Rattle.prin_term.specs.declared.term.Anchor.{Anchor}
 use Rattle.prin_term.specs.View.{Grant}
@@ -20,6 +20,7 @@ use Rattle.agent_core.specs.Journals.{Entry}
 use Rattle.agent_core.specs.Answers.{SteppedTo}
 use Rattle.agent_core.specs.Granted.{IsProofFor}
 use Rattle.agent_core.specs.Asked.{Names}
+use Rattle.agent_core.specs.Steps.{JournalSeen}
 
 -- the certificate that a link names is one of these
 abbrev pub IsPlaceIn : List Certificate → Link → Type 0
@@ -31,8 +32,9 @@ module _ (anchors : List Anchor) (certs : List Certificate) (moment : ℕ) (a : 
   -- the first entry that the live certificates grant is e, by the proof c
   pub record IsGrantedBy (e : ℕ) (c : Cached) : Type 0 where
     pub grant : Grant
-    pub first : FirstEntry a.list a.right (λ h. MaySpeak anchors (claims (live certs moment)) a.subject h.who) e grant
-    pub proof : IsProofFor anchors certs moment a.subject a.list e c
+    pub first : FirstEntry a.list a.right
+        (λ h. MaySpeak anchors (claims (live certs moment)) a.subject h.who) e grant
+    pub proof : IsProofFor anchors certs moment a e c
 
   -- the live certificates grant none, and the denial names the first link
   pub record IsDeniedBy (denial : Denial) : Type 0 where
@@ -50,5 +52,6 @@ module _ (anchors : List Anchor) (certs : List Certificate) (moment : ℕ) (a : 
   Settles (verdict.JournalFull n) = ⊥
 
 -- the Ask's step at its shard
-pub record StepsAsk (plan : Plan) (alone : Bool) (seen : List Entry) (own : List ℕ) (a : Ask) (later : List Entry) (own' : List ℕ) (place : ℕ) (answer : Answer) : Type 0 where
-  pub step : SteppedTo plan alone seen own (Asks a) later own' place answer
+pub record StepsAsk (plan : Plan) (earlier later : JournalSeen) (a : Ask)
+    (place : ℕ) (answer : Answer) : Type 0 where
+  pub step : SteppedTo plan earlier later (Asks a) place answer

@@ -75,7 +75,12 @@ at_channel channel x f c = if c == channel then x else f c
 
 -- the state at this moment, with only the certificates that pass
 abbrev pub keeping : (Certificate → Bool) → ℕ → State → State
-keeping passes moment s = record { clock = moment; last = s.last; own = λ c. filter passes (s.own c); commons = filter passes s.commons }
+keeping passes moment s = record {
+  clock = moment;
+  last = s.last;
+  own = λ c. filter passes (s.own c);
+  commons = filter passes s.commons;
+}
 
 -- the certificate ended at the moment or before, and as long ago as the plan keeps it
 abbrev pub is_gone : ℕ → ℕ → Certificate → Bool
@@ -97,13 +102,19 @@ brought s a = newly (s.own a.channel ++ s.commons) a.presented
 
 -- its number is the channel's last one, and what is presented is held from then on
 abbrev pub taking : State → Ask → State
-taking s a = record { clock = s.clock; last = at_channel a.channel a.seq s.last; own = at_channel a.channel (s.own a.channel ++ brought s a) s.own; commons = s.commons }
+taking s a = record {
+  clock = s.clock;
+  last = at_channel a.channel a.seq s.last;
+  own = at_channel a.channel (s.own a.channel ++ brought s a) s.own;
+  commons = s.commons;
+}
 
 -- an Ask, at a state that was swept for it
 abbrev pub asking : State → Ask → State × Answer
 asking s a =
     if nat_le a.seq (s.last a.channel) then (s, Plain (Told.Replayed (s.last a.channel)))
-    else (if nat_lt MAX_OWN (length (s.own a.channel) + length (brought s a)) then (s, Plain (Told.Full (length (s.own a.channel))))
+    else (if nat_lt MAX_OWN (length (s.own a.channel) + length (brought s a))
+    then (s, Plain (Told.Full (length (s.own a.channel))))
     else (taking s a, Judged s.clock ((s.own a.channel ++ brought s a) ++ s.commons)))
 
 -- ---- what is held in common
@@ -111,8 +122,12 @@ asking s a =
 -- new certificates are held in common, unless there would be too many
 abbrev pub holding : State → List Certificate → State × Answer
 holding s new =
-    if nat_lt MAX_COMMONS (length s.commons + length new) then (s, Plain (Told.CommonsFull (length s.commons)))
-    else (record { clock = s.clock; last = s.last; own = s.own; commons = s.commons ++ new }, Plain (Told.Held (length new)))
+    if nat_lt MAX_COMMONS (length s.commons + length new)
+    then (s, Plain (Told.CommonsFull (length s.commons)))
+    else (
+      record { clock = s.clock; last = s.last; own = s.own; commons = s.commons ++ new },
+      Plain (Told.Held (length new)),
+    )
 
 -- ---- what is let go
 
@@ -122,12 +137,18 @@ removing plan s t = (t, Plain (Told.Removed (held_count plan s - held_count plan
 
 -- the channel's own certificates are let go, and its last number stays
 abbrev pub forgetting : ℕ → State → State
-forgetting channel s = record { clock = s.clock; last = s.last; own = at_channel channel [] s.own; commons = s.commons }
+forgetting channel s = record {
+  clock = s.clock;
+  last = s.last;
+  own = at_channel channel [] s.own;
+  commons = s.commons;
+}
 
 -- the next state, and the answer
 abbrev pub next : Plan → State → Event → State × Answer
 next plan s (Asks a) = asking (swept plan.keep (moment_of s a.reading) s) a
 next plan s (Holds certs) = holding s (newly s.commons certs)
-next plan s (Discards digest) = removing plan s (keeping (λ c. not (bytes_eq (digest_of c) digest)) s.clock s)
+next plan s (Discards digest) =
+    removing plan s (keeping (λ c. not (bytes_eq (digest_of c) digest)) s.clock s)
 next plan s (Forgets channel) = removing plan s (forgetting channel s)
 next plan s (Expires reading) = removing plan s (swept plan.keep (moment_of s reading) s)

@@ -17,10 +17,13 @@ pub data StepAnswer : Type 0 where
 pub data IsAnswer (plan : Plan) (before : List Entry) : Event → Told → StepAnswer → Type 0 where
   miss : {a : Ask} {moment : ℕ} {certs : List Certificate} → IsJudged plan before a moment certs →
       IsAnswer plan before (Asks a) Told.Miss (Miss moment certs)
-  other : {event : Event} {told : Told} → (next plan (state_after plan before) event).1 ≡ Plain told → IsAnswer plan before event told (Other told)
+  other : {event : Event} {told : Told} →
+      (next plan (state_after plan before) event).1 ≡ Plain told →
+      IsAnswer plan before event told (Other told)
 
 -- one entry more, at this place, with this answer
-pub record Steps (plan : Plan) (before : List Entry) (event : Event) (later : List Entry) (place : ℕ) (answer : StepAnswer) : Type 0 where
+pub record Steps (plan : Plan) (before : List Entry) (event : Event) (later : List Entry)
+    (place : ℕ) (answer : StepAnswer) : Type 0 where
   -- what was told of the event
   pub told : Told
   pub adds : later ≡ before ++ entry event told ∷ []
@@ -28,23 +31,36 @@ pub record Steps (plan : Plan) (before : List Entry) (event : Event) (later : Li
   pub legal : IsLegalJournal plan later
   pub answers : IsAnswer plan before event told answer
 
+-- what is seen of a shard
+pub record JournalSeen : Type 0 where
+  -- whether nobody else steps it
+  pub alone : Bool
+  pub journal : List Entry
+  -- the own places in it
+  pub own : List ℕ
+
+-- what is seen of one shard of many
+abbrev pub seen_at : Bool → (ℕ → List Entry) → (ℕ → List ℕ) → ℕ → JournalSeen
+seen_at alone seen own number = record { alone = alone; journal = seen number; own = own number }
+
 -- the same after what was seen of the shard and entries of others, where there are any; the place
 -- is an own one
-pub record StepsTo (plan : Plan) (alone : Bool) (seen : List Entry) (own : List ℕ) (event : Event) (later : List Entry) (own' : List ℕ) (place : ℕ) (answer : StepAnswer) : Type 0 where
+pub record StepsTo (plan : Plan) (earlier later : JournalSeen) (event : Event)
+    (place : ℕ) (answer : StepAnswer) : Type 0 where
   -- the journal as it was just before the step
   pub before : List Entry
-  pub goes_on : Begins seen before
+  pub goes_on : Begins earlier.journal before
   -- where nobody else steps the shard, it is what was seen
-  pub undisturbed : alone ≡ true → before ≡ seen
-  pub steps : Steps plan before event later place answer
+  pub undisturbed : earlier.alone ≡ true → before ≡ earlier.journal
+  pub steps : Steps plan before event later.journal place answer
   -- the place of the new entry is an own one
-  pub owned : own' ≡ own ++ place ∷ []
+  pub owned : later.own ≡ earlier.own ++ place ∷ []
 
 -- no own entry was added: the journal is full, or memory was refused
-pub record StepRefused (plan : Plan) (alone : Bool) (seen : List Entry) (own : List ℕ) (later : List Entry) (own' : List ℕ) : Type 0 where
-  pub goes_on : Begins seen later
+pub record StepRefused (plan : Plan) (earlier later : JournalSeen) : Type 0 where
+  pub goes_on : Begins earlier.journal later.journal
   -- where nobody else steps the shard, its journal stays
-  pub undisturbed : alone ≡ true → later ≡ seen
-  pub legal : IsLegalJournal plan later
+  pub undisturbed : earlier.alone ≡ true → later.journal ≡ earlier.journal
+  pub legal : IsLegalJournal plan later.journal
   -- the own places stay
-  pub owned : own' ≡ own
+  pub owned : later.own ≡ earlier.own

@@ -3,8 +3,8 @@
 use proof_cache::Cached;
 use std::sync::Arc;
 
-/// What a denial names. An entry is named by its place in the access list, a certificate by its digest,
-/// and a part of an entry by its place in pre-order.
+/// What a denial names. An entry is named by its place in the access list, a certificate by its
+/// digest, and a part of an entry by its place in pre-order.
 #[derive(Clone, Copy, Debug, PartialEq, Eq)]
 pub enum Denial {
     Expired { entry: u8, digest: [u8; 32] },
@@ -32,7 +32,8 @@ pub enum Settled {
     NoNeed,
 }
 
-/// An ask that was answered: at which place of its shard's journal, by a proof that was kept or not.
+/// An ask that was answered: at which place of its shard's journal, by a proof that was kept or
+/// not.
 #[derive(Debug, Drop)]
 pub struct Asked {
     pub place: u64,

@@ -23,8 +23,8 @@ use crate::told::{Answer, Snapshot, Told};
 use std::alloc::{AllocError, Global};
 use std::sync::Arc;
 
-/// What an Ask finds: its channel's row, its moment, what the channel and the commons hold then, and
-/// the places of what it brings.
+/// What an Ask finds: its channel's row, its moment, what the channel and the commons hold then,
+/// and the places of what it brings.
 #[derive(Drop)]
 pub(crate) struct Look {
     pub place: usize,

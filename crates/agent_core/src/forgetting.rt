@@ -2,7 +2,7 @@
 
 ghost use Rattle.std.specs.Prelude.{◌≡◌, ◌-◌, ◌<◌, [], length, map};
 ghost use Rattle.agent_core.specs.declared.told.Told.TheVariants as told;
-ghost use Rattle.agent_core.specs.Kept.{IsKept, IsStore, Tells, row_certs};
+ghost use Rattle.agent_core.specs.Kept.{IsKept, IsStore, Tells, row_certs, now_at};
 ghost use Rattle.agent_core.specs.Names.{AreNames};
 ghost use Rattle.agent_core.specs.Plans.{IsPlan};
 ghost use Rattle.agent_core.specs.State.{Forgets, forgetting, held_count};
@@ -23,8 +23,8 @@ fn clear(plan: &ShardPlan, entries: &[ShardEntry], clock: u64, swept: u64, row: 
     ensures last { row.new.last ≡ row.old.last }
     ensures swept { row.new.swept ≡ swept }
     ensures own { row.new.own.items ≡ [] }
-    ensures count { result ≡ length (row_certs (plan_of plan.now) (map entry_of entries.now) clock
-        swept row.old) }
+    ensures count { result ≡ length (row_certs (now_at (plan_of plan.now)
+        (map entry_of entries.now) clock swept) row.old) }
 {
     settle(plan, entries, clock, swept, row);
     let count = row.own.len() as u32;

@@ -6,7 +6,7 @@ ghost use Rattle.taos_calculus.specs.Question.{question_of};
 ghost use Rattle.proof_cache.specs.Cached.{cached};
 ghost use Rattle.agent_core.specs.Judged.{live_marks};
 ghost use Rattle.agent_core.specs.Granted.{IsGrantedEntry, IsProofFor};
-ghost use Rattle.agent_core.specs.Views.{certificates};
+ghost use Rattle.agent_core.specs.Views.{ask_of, certificates};
 
 use crate::event::Ask;
 use crate::told::Snapshot;
@@ -34,8 +34,8 @@ fn push_cited(
     Ok(())
 }
 
-/// The proof that an entry of the list grants an Ask, with what it cites of the live certificates. The
-/// decider was asked about these by `judge`.
+/// The proof that an entry of the list grants an Ask, with what it cites of the live certificates.
+/// The decider was asked about these by `judge`.
 pub fn proof_for<D: Decide>(
     alloc: Global,
     bench: &mut D,
@@ -49,11 +49,9 @@ pub fn proof_for<D: Decide>(
         (live_marks (certificates snapshot.now.certs.items) snapshot.now.moment)
         (principal asked.now.subject) (map grant asked.now.list.value.items) }
     requires granted { IsGrantedEntry anchors.now (certificates snapshot.now.certs.items)
-        snapshot.now.moment (principal asked.now.subject) (map grant asked.now.list.value.items)
-        entry }
+        snapshot.now.moment (ask_of asked.now) entry }
     ensures { IfOk result (λ c. IsProofFor anchors.now (certificates snapshot.now.certs.items)
-        snapshot.now.moment (principal asked.now.subject) (map grant asked.now.list.value.items)
-        entry (cached c)) }
+        snapshot.now.moment (ask_of asked.now) entry (cached c)) }
 {
     let who = &asked.list[entry as usize].who;
     let taken = bench.take_proof(alloc, &asked.subject, who)?;

@@ -24,7 +24,8 @@ pub fn legal_is_allowed()
     ensures { (plan : Plan) → LegalIsAllowed plan }
 {}
 
-/// What a shard makes of events that are meant is a legal journal, and the only one of these events.
+/// What a shard makes of events that are meant is a legal journal, and the only one of these
+/// events.
 pub fn events_have_one_journal()
     ensures legal { (plan : Plan) → JournalIsLegal plan }
     ensures one { (plan : Plan) → HasOneJournal plan }
@@ -66,7 +67,8 @@ pub fn how_an_ask_ended_stays()
     ensures { (plan : Plan) → AskStays plan }
 {}
 
-/// What a node is opened with are the plans of all its shards, and each channel is one of its shard's.
+/// What a node is opened with are the plans of all its shards, and each channel is one of its
+/// shard's.
 pub fn opened_are_shards()
     ensures shards { (channels : List ℕ) (shards : ℕ) (anchors : List Anchor)
         (commons : List Certificate) (keep limit : ℕ)

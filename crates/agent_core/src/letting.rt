@@ -2,7 +2,7 @@
 
 ghost use Rattle.std.specs.Prelude.{◌≡◌, ℕ, ◌+◌, ◌-◌, ◌*◌, ◌≤◌, List, length, map, slice_get, Some, All};
 ghost use Rattle.agent_core.specs.declared.store.Row.{Row as RowValue};
-ghost use Rattle.agent_core.specs.Kept.{IsStore, stays};
+ghost use Rattle.agent_core.specs.Kept.{IsStore, stays, now_at};
 ghost use Rattle.agent_core.specs.Names.{AreNames};
 ghost use Rattle.agent_core.specs.Letting.{LetsGo, certs_in, certs_left};
 ghost use Rattle.agent_core.specs.Plans.{IsPlan};
@@ -31,11 +31,12 @@ fn let_go_of_rows(
     requires few { length rows.old ≤ 1024 }
     ensures rows { (i : ℕ) (row row' : RowValue) → slice_get rows.old i ≡ Some row
         → slice_get rows.new i ≡ Some row'
-        → LetsGo (plan_of plan.now) (map entry_of entries.now) clock swept removal.now stamp
-        row row' }
-    ensures count { result + certs_left (plan_of plan.now) (map entry_of entries.now) clock swept
+        → LetsGo (now_at (plan_of plan.now) (map entry_of entries.now) clock swept)
+        removal.now stamp row row' }
+    ensures count { result
+        + certs_left (now_at (plan_of plan.now) (map entry_of entries.now) clock swept)
         removal.now rows.old
-        ≡ certs_in (plan_of plan.now) (map entry_of entries.now) clock swept rows.old }
+        ≡ certs_in (now_at (plan_of plan.now) (map entry_of entries.now) clock swept) rows.old }
     ensures few { result ≤ 32768 }
 {
     let mut count = 0;
@@ -46,8 +47,8 @@ fn let_go_of_rows(
     count
 }
 
-/// Lets go of certificates wherever they are held, as the clock moves on to the moment, and says how
-/// many those were. Takes no memory.
+/// Lets go of certificates wherever they are held, as the clock moves on to the moment, and says
+/// how many those were. Takes no memory.
 pub(crate) fn let_go(
     plan: &ShardPlan,
     entries: &[ShardEntry],

@@ -20,6 +20,7 @@ mod newness;
 mod opened;
 mod plain;
 mod plan;
+mod presented;
 mod removal;
 mod row;
 mod settling;
@@ -40,7 +41,9 @@ pub use laws::{
     how_an_ask_ended_stays, legal_is_allowed, one_more_is_legal, opened_are_shards,
     shards_hold_few, steps_may_be_alone, verdicts_differ, what_is_meant_stays,
 };
-pub use limits::{MAX_CHANNELS, MAX_COMMONS, MAX_JOURNAL, MAX_OWN, MAX_PRESENTED, MAX_SHARDS};
+pub use limits::{
+    MAX_CHANNELS, MAX_COMMONS, MAX_JOURNAL, MAX_OWN, MAX_PRESENTED, MAX_PRESENTED_BYTES, MAX_SHARDS,
+};
 pub use lone::Lone;
 pub use opened::open_shards;
 pub use plan::ShardPlan;

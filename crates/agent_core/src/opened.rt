@@ -13,6 +13,17 @@ use std::alloc::{AllocError, Global};
 use std::sync::Arc;
 use stmt_codec::Cert;
 
+// What all shards of a node are opened with.
+#[derive(Clone, Copy)]
+struct Whole<'a> {
+    channels: &'a [u32],
+    shards: u32,
+    anchors: &'a Arc<Vec<Anchor>>,
+    commons: &'a [Arc<Cert>],
+    keep: u64,
+    limit: u64,
+}
+
 // The channels of one shard.
 fn channels_of(
     alloc: Global,
@@ -45,35 +56,27 @@ fn handles_to(alloc: Global, certs: &[Arc<Cert>]) -> Result<Vec<Arc<Cert>>, Allo
 }
 
 // One of the shards.
-fn open_shard(
-    alloc: Global,
-    channels: &[u32],
-    shards: u32,
-    number: u32,
-    anchors: &Arc<Vec<Anchor>>,
-    commons: &[Arc<Cert>],
-    keep: u64,
-    limit: u64,
-) -> Result<Shard, AllocError>
-    requires { MayOpen channels.now shards anchors.now.value.items (certificates commons.now)
-        limit }
-    ensures { IfOk result (λ shard. shard ≡ new_shard (plan_for channels.now shards
-        anchors.now.value.items (certificates commons.now) keep limit number)) }
+fn open_shard(alloc: Global, whole: Whole<'_>, number: u32) -> Result<Shard, AllocError>
+    requires { MayOpen whole.channels.now whole.shards whole.anchors.now.value.items
+        (certificates whole.commons.now) whole.limit }
+    ensures { IfOk result (λ shard. shard ≡ new_shard (plan_for whole.entry.channels.now
+        whole.entry.shards whole.entry.anchors.now.value.items
+        (certificates whole.entry.commons.now) whole.entry.keep whole.entry.limit number)) }
 {
     let plan = ShardPlan {
         number,
-        shards,
-        anchors: Arc::try_clone(anchors)?,
-        channels: channels_of(alloc, channels, shards, number)?,
-        commons: handles_to(alloc, commons)?,
-        keep,
-        limit,
+        shards: whole.shards,
+        anchors: Arc::try_clone(whole.anchors)?,
+        channels: channels_of(alloc, whole.channels, whole.shards, number)?,
+        commons: handles_to(alloc, whole.commons)?,
+        keep: whole.keep,
+        limit: whole.limit,
     };
     Shard::new(alloc, plan)
 }
 
 /// The shards of a node in the order of their numbers, each with an empty journal and the channels
-/// that are its own. All their memory is taken here, but for what an Ask hands out.
+/// that are its own. All their memory is taken here, but for what Asks present and are handed out.
 pub fn open_shards(
     alloc: Global,
     channels: &[u32],
@@ -92,9 +95,15 @@ pub fn open_shards(
 {
     let mut opened = Vec::with_capacity(alloc, shards as usize)?;
     for number in 0..shards {
-        opened.push(open_shard(
-            alloc, channels, shards, number, anchors, commons, keep, limit,
-        )?)?;
+        let whole = Whole {
+            channels,
+            shards,
+            anchors,
+            commons,
+            keep,
+            limit,
+        };
+        opened.push(open_shard(alloc, whole, number)?)?;
     }
     Ok(opened)
 }

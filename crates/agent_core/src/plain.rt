@@ -61,8 +61,8 @@ pub(crate) fn expire(
     count
 }
 
-/// Holds certificates in common, and says how many are new; or, where there would be too many, how many
-/// there are.
+/// Holds certificates in common, and says how many are new; or, where there would be too many, how
+/// many there are.
 pub(crate) fn hold(
     plan: &ShardPlan,
     entries: &mut Vec<ShardEntry>,

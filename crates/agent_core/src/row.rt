@@ -2,7 +2,7 @@
 
 ghost use Rattle.std.specs.Prelude.{◌≡◌, ◌+◌, ◌≤◌, List, length, filter, map, slice_get, Some, MatchOption, Contains};
 ghost use Rattle.std.specs.List.Sorted.{IsStrictlyIncreasing};
-ghost use Rattle.agent_core.specs.Kept.{row_certs, stays};
+ghost use Rattle.agent_core.specs.Kept.{row_certs, stays, now_at};
 ghost use Rattle.agent_core.specs.Names.{certs_named, AreNames};
 ghost use Rattle.agent_core.specs.Letting.{LetsGo};
 ghost use Rattle.agent_core.specs.Views.{entry_of, plan_of};
@@ -37,7 +37,7 @@ pub(crate) fn settle(
     ensures swept { row.new.swept ≡ swept }
     ensures own { certs_named (plan_of plan.now).commons (map entry_of entries.now)
         row.new.own.items
-        ≡ row_certs (plan_of plan.now) (map entry_of entries.now) clock swept row.old }
+        ≡ row_certs (now_at (plan_of plan.now) (map entry_of entries.now) clock swept) row.old }
     ensures names { AreNames (plan_of plan.now).commons (map entry_of entries.now)
         row.new.own.items }
 {
@@ -63,11 +63,11 @@ pub(crate) fn let_go_of(
     stamp: u64,
 ) -> u32
     requires { AreNames (plan_of plan.now).commons (map entry_of entries.now) row.old.own.items }
-    ensures row { LetsGo (plan_of plan.now) (map entry_of entries.now) clock swept removal.now stamp
-        row.old row.new }
-    ensures count { result + length (filter (stays removal.now) (row_certs (plan_of plan.now)
-        (map entry_of entries.now) clock swept row.old))
-        ≡ length (row_certs (plan_of plan.now) (map entry_of entries.now) clock swept row.old) }
+    ensures row { LetsGo (now_at (plan_of plan.now) (map entry_of entries.now) clock swept)
+        removal.now stamp row.old row.new }
+    ensures count { let shard = now_at (plan_of plan.now) (map entry_of entries.now) clock swept in
+        result + length (filter (stays removal.now) (row_certs shard row.old))
+        ≡ length (row_certs shard row.old) }
     ensures few { result ≤ 32 }
 {
     settle(plan, entries, clock, swept, row);

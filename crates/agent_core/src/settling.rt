@@ -38,8 +38,8 @@ fn denial_of(link: Link, certs: &[Arc<Cert>]) -> Denial
     }
 }
 
-/// The verdict on an Ask by what it was handed out, as it is answered. The gate is passed between the
-/// decision and its answer.
+/// The verdict on an Ask by what it was handed out, as it is answered. The gate is passed between
+/// the decision and its answer.
 pub(crate) fn settle<D: Decide, G: Gate>(
     alloc: Global,
     anchors: &[Anchor],

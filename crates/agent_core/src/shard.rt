@@ -2,7 +2,7 @@
 
 ghost use Rattle.std.specs.Prelude.{◌≡◌, ◌↔◌, IsTrue, ◌<◌, ◌≤◌, [], map, length, IfOk, OnErr};
 ghost use Rattle.agent_core.specs.Plans.{IsPlan};
-ghost use Rattle.agent_core.specs.Views.{event_of, plan_of, entry_of};
+ghost use Rattle.agent_core.specs.Views.{certificates, event_of, plan_of, entry_of};
 ghost use Rattle.agent_core.specs.Journals.{IsMeant, IsLegalJournal, told_at};
 ghost use Rattle.agent_core.specs.Answers.{FitsEvent, Stepped};
 ghost use Rattle.agent_core.specs.Kept.{AreNew, first_names};
@@ -13,10 +13,13 @@ use crate::event::{Event, ShardEntry};
 use crate::meant::is_taken;
 use crate::name::{Name, Names};
 use crate::plan::ShardPlan;
+use crate::presented::Presented;
 use crate::store::{Row, Store};
 use crate::told::Answer;
 use std::alloc::{AllocError, Global};
 use std::marker::Model;
+use std::sync::Arc;
+use stmt_codec::Cert;
 
 /// A shard. A contract sees its plan and its journal: all else follows from these.
 #[derive(Drop)]
@@ -24,6 +27,7 @@ pub struct Shard {
     plan: ShardPlan,
     entries: Vec<ShardEntry>,
     store: Store,
+    presented: Presented,
 }
 
 impl Model for Shard {
@@ -31,7 +35,7 @@ impl Model for Shard {
     ghost use Rattle.std.specs.Coded.{codes};
     ghost use Rattle.prin_term.specs.Codes.{principal_code};
     ghost use Rattle.agent_core.specs.Journals.{ShardSeen};
-    ghost use Rattle.agent_core.specs.Kept.{IsKept};
+    ghost use Rattle.agent_core.specs.Presented.{IsShard};
     ghost use Rattle.agent_core.specs.Views.{entry_of, plan_of};
 
     ghost Value = { ShardSeen };
@@ -40,8 +44,9 @@ impl Model for Shard {
 
     ghost view = { λ s. record { plan = plan_of s.plan; journal = map entry_of s.entries.items } };
 
-    // What is kept stands for the state after the entries, which are legal and have room.
-    ghost invariant = { λ s. IsKept (plan_of s.plan) s.entries s.store };
+    // What is kept stands for the state after the entries, which are legal and have room; the
+    // certificates that Asks present are counted.
+    ghost invariant = { λ s. IsShard (plan_of s.plan) s.entries s.store s.presented };
 }
 
 // The names of the plan's commons.
@@ -72,8 +77,8 @@ fn rows_for(alloc: Global, count: usize) -> Result<Vec<Row>, AllocError>
 }
 
 impl Shard {
-    /// A shard of this plan, with an empty journal. All its memory is taken here, but for what an
-    /// Ask hands out.
+    /// A shard of this plan, with an empty journal. All its memory is taken here, but for what Asks
+    /// present and are handed out.
     pub fn new(alloc: Global, plan: ShardPlan) -> Result<Shard, AllocError>
         requires { IsPlan (plan_of plan) }
         ensures { IfOk result (λ s. s ≡ record { plan = plan_of plan; journal = [] }) }
@@ -86,10 +91,12 @@ impl Shard {
             commons: names_of(plan.commons.len()),
             rows,
         };
+        let presented = Presented::of(alloc, &plan.commons)?;
         Ok(Shard {
             plan,
             entries,
             store,
+            presented,
         })
     }
 
@@ -109,8 +116,8 @@ impl Shard {
         &self.entries
     }
 
-    /// Whether `step` takes the event: an Ask's subject speaks on its channel, which is the shard's, and
-    /// an event brings few certificates.
+    /// Whether `step` takes the event: an Ask's subject speaks on its channel, which is the
+    /// shard's, and an event brings few certificates.
     pub fn takes(&self, event: &Event) -> bool
         ensures { IsTrue result ↔ (IsMeant self.now.plan self.now.journal (event_of event.now)
             × FitsEvent (event_of event.now)) }
@@ -118,8 +125,23 @@ impl Shard {
         is_taken(&self.plan, event)
     }
 
-    /// Answers an event, and journals it at the place that comes with the answer. Only an Ask that is
-    /// to be judged takes memory. Nothing is done at a full journal.
+    /// Takes in what an Ask is to present: handles to equal certificates that the shard keeps
+    /// already, and from now on the others. So its journal keeps equal ones once. Memory is refused
+    /// where what is kept would take more than `MAX_PRESENTED_BYTES`.
+    pub fn take_in(
+        &mut self,
+        alloc: Global,
+        presented: &[Arc<Cert>],
+    ) -> Result<Vec<Arc<Cert>>, AllocError>
+        ensures same { IfOk result
+            (λ taken. certificates taken.items ≡ certificates presented.now) }
+        ensures unchanged { self.new ≡ self.old }
+    {
+        self.presented.take_in(alloc, presented)
+    }
+
+    /// Answers an event, and journals it at the place that comes with the answer. Only an Ask that
+    /// is to be judged takes memory. Nothing is done at a full journal.
     pub fn step(&mut self, alloc: Global, event: Event) -> Result<(u64, Answer), AllocError>
         requires meant { IsMeant self.old.plan self.old.journal (event_of event) }
         requires fits { FitsEvent (event_of event) }

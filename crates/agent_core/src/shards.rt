@@ -5,15 +5,16 @@ ghost use Rattle.agent_core.specs.Answers.{FitsEvent, SteppedTo};
 ghost use Rattle.agent_core.specs.Journals.{Entry, IsMeant, IsLegalJournal, told_at};
 ghost use Rattle.agent_core.specs.Plans.{AreShards, IsPlan};
 ghost use Rattle.agent_core.specs.State.{Plan};
-ghost use Rattle.agent_core.specs.Steps.{StepRefused};
-ghost use Rattle.agent_core.specs.Views.{event_of};
+ghost use Rattle.agent_core.specs.Steps.{StepRefused, seen_at};
+ghost use Rattle.agent_core.specs.Views.{certificates, event_of};
 ghost use Rattle.agent_core.specs.declared.told.Told.{Told as ToldValue};
 
 use crate::event::Event;
 use crate::told::Answer;
 use prin_term::Anchor;
 use std::alloc::{AllocError, Global};
-use std::sync::Wait;
+use std::sync::{Arc, Wait};
+use stmt_codec::Cert;
 
 /// All shards of a node, by their numbers. Others may step them too.
 pub trait Shards {
@@ -41,8 +42,22 @@ pub trait Shards {
     fn anchors(&self) -> &[Anchor]
         ensures { AreShards (plans self.now) result.now };
 
-    /// Answers an event at one shard, and journals it at the place that comes with the answer. Only an
-    /// Ask that is to be judged takes memory.
+    /// Takes in what an Ask is to present at one shard: handles to equal certificates that the
+    /// shard keeps already, and from now on the others. Memory is refused too where a shard keeps
+    /// as much as it may.
+    fn take_in(
+        &mut self,
+        alloc: Global,
+        number: u32,
+        presented: &[Arc<Cert>],
+    ) -> Result<Vec<Arc<Cert>>, AllocError>
+        requires there { number < length (plans self.old) }
+        ensures same { IfOk result
+            (λ taken. certificates taken.items ≡ certificates presented.now) }
+        ensures unchanged { self.new ≡ self.old };
+
+    /// Answers an event at one shard, and journals it at the place that comes with the answer. Only
+    /// an Ask that is to be judged takes memory.
     fn step<W: Wait + Sync>(
         &mut self,
         rt: &W,
@@ -55,14 +70,16 @@ pub trait Shards {
             → IsMeant plan (seen self.old number) (event_of event) }
         requires fits { FitsEvent (event_of event) }
         ensures steps { (plan : Plan) → slice_get (plans self.old) number ≡ Some plan
-            → IfOk result (λ r. SteppedTo plan (alone self.old) (seen self.old number)
-            (own self.old number) (event_of event) (seen self.new number) (own self.new number)
-            r.0 r.1) }
+            → IfOk result (λ r. SteppedTo plan
+            (seen_at (alone self.old) (seen self.old) (own self.old) number)
+            (seen_at (alone self.old) (seen self.new) (own self.new) number)
+            (event_of event) r.0 r.1) }
 
         // Where memory was refused, the shard is as it was found: with room, and the event an Ask.
         ensures refused { (plan : Plan) → slice_get (plans self.old) number ≡ Some plan
-            → OnErr result (StepRefused plan (alone self.old) (seen self.old number)
-            (own self.old number) (seen self.new number) (own self.new number)) }
+            → OnErr result (StepRefused plan
+            (seen_at (alone self.old) (seen self.old) (own self.old) number)
+            (seen_at (alone self.old) (seen self.new) (own self.new) number)) }
         ensures wanted { (plan : Plan) → slice_get (plans self.old) number ≡ Some plan
             → OnErr result (told_at plan (seen self.new number) (event_of event)
             ≡ ToldValue.Miss) }

@@ -7,7 +7,7 @@ ghost use Rattle.taos_calculus.specs.Monitor.{FirstEntry, Grants, MaySpeak};
 ghost use Rattle.taos_calculus.specs.Question.{IsAskable, question_of};
 ghost use Rattle.denial_link.specs.Revived.{claims};
 ghost use Rattle.denial_link.specs.Links.{IsFirstLink, NoEntryWith};
-ghost use Rattle.agent_core.specs.Views.{certificates};
+ghost use Rattle.agent_core.specs.Views.{ask_of, certificates};
 ghost use Rattle.agent_core.specs.Judged.{live_marks, IsGrant, Judges};
 
 use crate::event::Ask;
@@ -76,8 +76,8 @@ fn are_live(certs: &[Arc<Cert>], moment: u64) -> bool
     true
 }
 
-// What is missing, where the live certificates grant nothing and the decider was asked about them. Where none
-// has ended, it is not asked again.
+// What is missing, where the live certificates grant nothing and the decider was asked about them.
+// Where none has ended, it is not asked again.
 fn link_of<D: Decide>(
     bench: &mut D,
     anchors: &[Anchor],
@@ -103,8 +103,9 @@ fn link_of<D: Decide>(
     }
 }
 
-/// Judges an Ask by what it was handed out: the monitor's verdict on the live certificates, and what is
-/// missing where it grants nothing. Nothing is decided where no entry has the right. Takes no memory.
+/// Judges an Ask by what it was handed out: the monitor's verdict on the live certificates, and
+/// what is missing where it grants nothing. Nothing is decided where no entry has the right. Takes
+/// no memory.
 pub fn judge<D: Decide>(
     bench: &mut D,
     anchors: &[Anchor],
@@ -115,8 +116,7 @@ pub fn judge<D: Decide>(
         (replicate (length snapshot.now.certs.items) true) (principal asked.now.subject)
         (map grant asked.now.list.value.items) }
     ensures verdict { Judges anchors.now (certificates snapshot.now.certs.items) snapshot.now.moment
-        (principal asked.now.subject) (map grant asked.now.list.value.items) asked.now.right
-        result }
+        (ask_of asked.now) result }
 
     // Where it grants, the decider stays asked about the live certificates.
     ensures asked { IsGrant result → D.question bench.new ≡ question_of anchors.now

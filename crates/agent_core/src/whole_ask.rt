@@ -3,11 +3,11 @@
 ghost use Rattle.std.specs.Prelude.{◌≡◌, ◌≢◌, ◌<◌, ◌≤◌, ℕ, Some, slice_get, length, IfOk, OnErr};
 ghost use Rattle.agent_core.specs.declared.asked.Settled.TheVariants.{NoNeed};
 ghost use Rattle.agent_core.specs.Asked.{FitsAsk, AskedTo, AskEnds, Unanswered};
-ghost use Rattle.agent_core.specs.Journals.{IsMeant};
+ghost use Rattle.agent_core.specs.Journals.{IsLegalJournal, IsMeant};
 ghost use Rattle.agent_core.specs.Plans.{home};
 ghost use Rattle.agent_core.specs.Settling.{StepsAsk};
 ghost use Rattle.agent_core.specs.State.{Plan, Asks};
-ghost use Rattle.agent_core.specs.Steps.{StepRefused};
+ghost use Rattle.agent_core.specs.Steps.{StepRefused, seen_at};
 ghost use Rattle.agent_core.specs.Views.{ask_of};
 
 use crate::asked::{Asked, Settled, Verdict};
@@ -37,13 +37,15 @@ fn step_at_home<W: Wait + Sync, S: Shards>(
         < length (S.plans shards.old) }
     ensures steps { let s = home (S.plans shards.old) asked.now.value.channel in
         (plan : Plan) → slice_get (S.plans shards.old) s ≡ Some plan →
-        IfOk result (λ r. StepsAsk plan (S.alone shards.old) (S.seen shards.old s)
-        (S.own shards.old s) (ask_of asked.now.value) (S.seen shards.new s) (S.own shards.new s)
-        r.0 r.1) }
+        IfOk result (λ r. StepsAsk plan
+        (seen_at (S.alone shards.old) (S.seen shards.old) (S.own shards.old) s)
+        (seen_at (S.alone shards.old) (S.seen shards.new) (S.own shards.new) s)
+        (ask_of asked.now.value) r.0 r.1) }
     ensures refused { let s = home (S.plans shards.old) asked.now.value.channel in
         (plan : Plan) → slice_get (S.plans shards.old) s ≡ Some plan →
-        OnErr result (StepRefused plan (S.alone shards.old) (S.seen shards.old s)
-        (S.own shards.old s) (S.seen shards.new s) (S.own shards.new s)) }
+        OnErr result (StepRefused plan
+        (seen_at (S.alone shards.old) (S.seen shards.old) (S.own shards.old) s)
+        (seen_at (S.alone shards.old) (S.seen shards.new) (S.own shards.new) s)) }
     ensures others { (s : ℕ) → s ≢ home (S.plans shards.old) asked.now.value.channel →
         (S.seen shards.new s ≡ S.seen shards.old s) × (S.own shards.new s ≡ S.own shards.old s) }
     ensures plans { S.plans shards.new ≡ S.plans shards.old }
@@ -52,6 +54,32 @@ fn step_at_home<W: Wait + Sync, S: Shards>(
     let number = asked.channel % shards.count();
     let event = Event::Ask(Arc::try_clone(asked)?);
     shards.step(rt, alloc, number, event)
+}
+
+// The Ask with its certificates taken in at the shard of its channel. One that others hold too
+// stays as it is.
+fn taken_in<S: Shards>(
+    alloc: Global,
+    shards: &mut S,
+    asked: Arc<Ask>,
+) -> Result<Arc<Ask>, AllocError>
+    ensures same { IfOk result (λ taken. ask_of taken.value ≡ ask_of asked.value) }
+    ensures legal { (s : ℕ) (plan : Plan) → slice_get (S.plans shards.old) s ≡ Some plan
+        → IsLegalJournal plan (S.seen shards.old s) }
+    ensures unchanged { shards.new ≡ shards.old }
+{
+    let number = asked.channel % shards.count();
+    if asked.presented.is_empty() {
+        return Ok(asked);
+    }
+    let presented = shards.take_in(alloc, number, &asked.presented)?;
+    match Arc::try_unwrap(asked) {
+        Ok(mut own) => {
+            own.presented = presented;
+            Ok(Arc::new(alloc, own)?)
+        }
+        Err(shared) => Ok(shared),
+    }
 }
 
 // How an ask ended.
@@ -66,9 +94,8 @@ fn ended(place: u64, verdict: Verdict, kept: bool) -> Asked
     }
 }
 
-/// Asks at the shard of the channel, and says how that ended: the verdict on what the shard handed out,
-/// or what it told at once.
-pub fn ask<W: Wait + Sync, S: Shards, D: Decide, G: Gate>(
+// Asks with certificates that were taken in.
+fn ask_taken_in<W: Wait + Sync, S: Shards, D: Decide, G: Gate>(
     rt: &W,
     alloc: Global,
     shards: &mut S,
@@ -83,16 +110,18 @@ pub fn ask<W: Wait + Sync, S: Shards, D: Decide, G: Gate>(
     requires fits { FitsAsk (ask_of asked.value) }
     ensures asked { let s = home (S.plans shards.old) asked.value.channel in
         (plan : Plan) → slice_get (S.plans shards.old) s ≡ Some plan →
-        IfOk result (λ r. AskedTo plan (S.alone shards.old) (S.seen shards.old s)
-        (S.own shards.old s) (ask_of asked.value) (S.seen shards.new s) (S.own shards.new s)
-        (AskEnds plan (S.seen shards.new s) (ask_of asked.value) r)) }
+        IfOk result (λ r. AskedTo plan
+        (seen_at (S.alone shards.old) (S.seen shards.old) (S.own shards.old) s)
+        (seen_at (S.alone shards.old) (S.seen shards.new) (S.own shards.new) s)
+        (ask_of asked.value) (AskEnds plan (S.seen shards.new s) (ask_of asked.value) r)) }
 
     // Where memory was refused: before the Ask stood, or at a grant.
     ensures unanswered { let s = home (S.plans shards.old) asked.value.channel in
         (plan : Plan) → slice_get (S.plans shards.old) s ≡ Some plan →
-        OnErr result (AskedTo plan (S.alone shards.old) (S.seen shards.old s)
-        (S.own shards.old s) (ask_of asked.value) (S.seen shards.new s) (S.own shards.new s)
-        (Unanswered plan (S.seen shards.new s) (ask_of asked.value))) }
+        OnErr result (AskedTo plan
+        (seen_at (S.alone shards.old) (S.seen shards.old) (S.own shards.old) s)
+        (seen_at (S.alone shards.old) (S.seen shards.new) (S.own shards.new) s)
+        (ask_of asked.value) (Unanswered plan (S.seen shards.new s) (ask_of asked.value))) }
 
     ensures others { (s : ℕ) → s ≢ home (S.plans shards.old) asked.value.channel →
         (S.seen shards.new s ≡ S.seen shards.old s) × (S.own shards.new s ≡ S.own shards.old s) }
@@ -112,4 +141,44 @@ pub fn ask<W: Wait + Sync, S: Shards, D: Decide, G: Gate>(
         // An Ask is told none of these.
         Answer::Held { .. } | Answer::CommonsFull { .. } | Answer::Removed { .. } => unreachable!(),
     }
+}
+
+/// Asks at the shard of the channel, and says how that ended: the verdict on what the shard handed
+/// out, or what it told at once. Its certificates are taken in first; where its shard may keep no
+/// more of them, memory is refused and nothing has changed.
+pub fn ask<W: Wait + Sync, S: Shards, D: Decide, G: Gate>(
+    rt: &W,
+    alloc: Global,
+    shards: &mut S,
+    bench: &mut D,
+    gate: &mut G,
+    asked: Arc<Ask>,
+) -> Result<Asked, AllocError>
+    requires meant { (plan : Plan) →
+        slice_get (S.plans shards.old) (home (S.plans shards.old) asked.value.channel) ≡ Some plan →
+        IsMeant plan (S.seen shards.old (home (S.plans shards.old) asked.value.channel))
+        (Asks (ask_of asked.value)) }
+    requires fits { FitsAsk (ask_of asked.value) }
+    ensures asked { let s = home (S.plans shards.old) asked.value.channel in
+        (plan : Plan) → slice_get (S.plans shards.old) s ≡ Some plan →
+        IfOk result (λ r. AskedTo plan
+        (seen_at (S.alone shards.old) (S.seen shards.old) (S.own shards.old) s)
+        (seen_at (S.alone shards.old) (S.seen shards.new) (S.own shards.new) s)
+        (ask_of asked.value) (AskEnds plan (S.seen shards.new s) (ask_of asked.value) r)) }
+
+    // Where memory was refused: before the Ask stood, or at a grant.
+    ensures unanswered { let s = home (S.plans shards.old) asked.value.channel in
+        (plan : Plan) → slice_get (S.plans shards.old) s ≡ Some plan →
+        OnErr result (AskedTo plan
+        (seen_at (S.alone shards.old) (S.seen shards.old) (S.own shards.old) s)
+        (seen_at (S.alone shards.old) (S.seen shards.new) (S.own shards.new) s)
+        (ask_of asked.value) (Unanswered plan (S.seen shards.new s) (ask_of asked.value))) }
+
+    ensures others { (s : ℕ) → s ≢ home (S.plans shards.old) asked.value.channel →
+        (S.seen shards.new s ≡ S.seen shards.old s) × (S.own shards.new s ≡ S.own shards.old s) }
+    ensures plans { S.plans shards.new ≡ S.plans shards.old }
+    ensures alone { S.alone shards.new ≡ S.alone shards.old }
+{
+    let asked = taken_in(alloc, shards, asked)?;
+    ask_taken_in(rt, alloc, shards, bench, gate, asked)
 }

@@ -1,11 +1,6 @@
-ghost use Rattle.std.specs.Prelude.{◌≡◌, ◌≤◌, IfOk, length};
-ghost use Rattle.prin_term.specs.View.{principal};
-ghost use Rattle.agent_core.specs.Asked.{FitsAsk};
-ghost use Rattle.agent_core.specs.Journals.{IsOn};
-ghost use Rattle.agent_core.specs.Views.{ask_of};
-
+use crate::asks::{asked, one_shard};
 use agent_core::*;
-use prin_term::{Entry, Statement, Term};
+use prin_term::{Statement, Term};
 use std::alloc::Global;
 use std::sync::{Arc, Wait};
 use std::test::*;
@@ -22,32 +17,6 @@ impl Gate for Counting {
     fn between(&mut self) {
         self.passed = self.passed.wrapping_add(1);
     }
-}
-
-// One shard of channel 2, whose journal takes five entries.
-fn one_shard(alloc: Global) -> Result<Lone, Fail> {
-    let plan = ShardPlan {
-        number: 0,
-        shards: 1,
-        anchors: Arc::new(alloc, Vec::new(alloc))?,
-        channels: vec![in alloc; 2]?,
-        commons: Vec::new(alloc),
-        keep: 3600,
-        limit: 5,
-    };
-    if !plan.is_sound() {
-        return Err(Fail::new("no plan"));
-    }
-    let shards = open_shards(
-        alloc,
-        &plan.channels,
-        plan.shards,
-        &plan.anchors,
-        &plan.commons,
-        plan.keep,
-        plan.limit,
-    )?;
-    Ok(Lone::new(shards, plan.anchors))
 }
 
 // That key 1 says that key 2 speaks for name 10, with serial numbers from one on.
@@ -68,26 +37,6 @@ fn hand_offs(alloc: Global, first: u64, count: u64) -> Result<Vec<Arc<Cert>>, Fa
         certs.push(Arc::new(alloc, Cert::of(alloc, body)?)?)?;
     }
     Ok(certs)
-}
-
-// An Ask of channel 2 on an empty list.
-fn asked(alloc: Global, seq: u64, presented: Vec<Arc<Cert>>) -> Result<Arc<Ask>, Fail>
-    requires { length presented.items ≤ 16 }
-    ensures channel { IfOk result (λ a. a.value.channel ≡ 2) }
-    ensures subject { IfOk result (λ a. IsOn 2 (principal a.value.subject)) }
-    ensures fits { IfOk result (λ a. FitsAsk (ask_of a.value)) }
-{
-    let list: Vec<Entry> = Vec::new(alloc);
-    let made = Ask {
-        channel: 2,
-        seq,
-        reading: 1000,
-        subject: Term::Key(2),
-        list: Arc::new(alloc, list)?,
-        right: 1,
-        presented,
-    };
-    Ok(Arc::new(alloc, made)?)
 }
 
 // How often an ask passes the gate, and whether it was judged.
@@ -115,10 +64,10 @@ fn passes<W: Wait + Sync>(
 #[test]
 fn the_gate_is_passed_where_an_ask_is_judged(rt: HostRuntime) -> Result<(), Fail> {
     let alloc = rt.alloc();
-    let mut shards = one_shard(alloc)?;
+    let mut shards = one_shard(alloc, 5)?;
     let mut bench = Saturator::reserve(alloc)?;
-    // the number; the first serial number of what is presented and how many there are; how often it is
-    // passed. The second is replayed, the fourth finds the channel full, the last the journal.
+    // the number; the first serial number of what is presented and how many there are; how often it
+    // is passed. The second is replayed, the fourth finds the channel full, the last the journal.
     let asks = [
         (1, 100, 16, 1),
         (1, 100, 0, 0),

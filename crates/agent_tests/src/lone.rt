@@ -43,8 +43,8 @@ fn two_shards(alloc: Global) -> Result<Lone, Fail> {
     Ok(Lone::new(shards, anchors))
 }
 
-// What a channel's Ask is answered at its shard: the place; the moment of a miss, the last number, or
-// how long a full journal is.
+// What a channel's Ask is answered at its shard: the place; the moment of a miss, the last number,
+// or how long a full journal is.
 fn ask<W: Wait + Sync>(
     rt: &W,
     alloc: Global,
@@ -81,7 +81,8 @@ fn ask<W: Wait + Sync>(
 fn each_shard_has_its_own_journal_and_clock(rt: HostRuntime) -> Result<(), Fail> {
     let alloc = rt.alloc();
     let mut shards = two_shards(alloc)?;
-    // channel, number, reading; the place, and the moment, or the last number, or the journal's length
+    // channel, number, reading; the place, and the moment, or the last number, or the journal's
+    // length
     let asks = [
         (2, 1, 1000, 0, Ok(1000)),
         (3, 1, 900, 0, Ok(900)),

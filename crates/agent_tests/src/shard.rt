@@ -169,8 +169,8 @@ fn a_number_is_taken_once_and_the_clock_does_not_go_back(rt: HostRuntime) -> Res
 fn a_channel_holds_thirty_two(rt: HostRuntime) -> Result<(), Fail> {
     let alloc = rt.alloc();
     let mut shard = shard(alloc, 3600, 10)?;
-    // the request's number; the first serial number and how many there are; how many certificates it is
-    // judged by, or how many are held where they would be too many
+    // the request's number; the first serial number and how many there are; how many certificates
+    // it is judged by, or how many are held where they would be too many
     let asks = [
         (1, 100, 16, Ok(17)),
         (2, 116, 15, Ok(32)),
@@ -266,5 +266,35 @@ fn sweeps_of_others_reach_a_channel_when_it_is_met(rt: HostRuntime) -> Result<()
         tell(&mut shard, alloc, Event::Expire(0))?,
         (4, Told::Removed { count: 2 })
     );
+    Ok(())
+}
+
+#[test]
+fn what_is_taken_in_is_what_is_kept(rt: HostRuntime) -> Result<(), Fail> {
+    let alloc = rt.alloc();
+    let mut shard = shard(alloc, 3600, 10)?;
+    // serial number 1 is that of the certificate in common
+    let certs = hand_offs(alloc, 1, 2)?;
+    let again = hand_offs(alloc, 1, 2)?;
+    let first = shard.take_in(alloc, &certs)?;
+    let second = shard.take_in(alloc, &again)?;
+    let [common] = shard.plan().commons.as_slice() else {
+        return Err(Fail::new("not one in common"));
+    };
+    let [shared, new] = certs.as_slice() else {
+        return Err(Fail::new("not two"));
+    };
+    let [_, equal] = again.as_slice() else {
+        return Err(Fail::new("not two again"));
+    };
+    let handles = [
+        (Arc::strong_count(common), 4, "in common"),
+        (Arc::strong_count(shared), 1, "as one in common"),
+        (Arc::strong_count(new), 4, "new"),
+        (Arc::strong_count(equal), 1, "as before"),
+    ];
+    for (got, expected, which) in handles {
+        assert_eq!(rt; got, expected, "{which}");
+    }
     Ok(())
 }

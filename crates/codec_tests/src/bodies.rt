@@ -174,7 +174,7 @@ fn faults_print_their_place(rt: HostRuntime) -> Result<(), Fail> {
     let alloc = rt.alloc();
     let fault = BodyFault::Malformed { offset: 31 };
     let printed = format!(in alloc; "{fault}")?;
-    assert_eq!(rt; printed.as_str(), "the certificate is malformed at 31");
+    assert_eq!(rt; printed.as_str(), "byte 31: malformed");
     let large = CertFault::TooLarge;
     let printed = format!(in alloc; "{large}")?;
     assert_eq!(rt; printed.as_str(), "the certificate's terms are too large");

@@ -6,9 +6,10 @@ use std::alloc::Global;
 use std::process::Abort;
 use std::test::*;
 
-// The certificates of a login by bob (name 30, key 13) on the machine ws1 (name 20, key 11), whose node has the key
-// 12, the session the key 14 and the channel the key 15; a role of bob's, and the delegation to the machine with the
-// name 21. Each key is 32 bytes of its own number. The tags are by Python's hmac.
+// The certificates of a login by bob (name 30, key 13) on the machine ws1 (name 20, key 11), whose
+// node has the key 12, the session the key 14 and the channel the key 15; a role of bob's, and the
+// delegation to the machine with the name 21. Each key is 32 bytes of its own number. The tags are
+// by Python's hmac.
 const BOOT: [u8; 70] = [
     1, 1, 0, 0, 0, 11, 0, 1, 0, 0, 0, 12, 5, 2, 0, 0, 0, 20, 0, 0, 0, 1, 0, 0, 0, 0, 0, 0, 19, 136,
     0, 0, 0, 0, 0, 0, 0, 1, 154, 155, 49, 239, 239, 119, 99, 16, 150, 218, 75, 248, 148, 12, 174,

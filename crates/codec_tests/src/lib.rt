@@ -1,5 +1,5 @@
-//! Tests of principals, certificates, seals, credentials and operations. A crate with tests is proved twice, so
-//! they stand here.
+//! Tests of principals, certificates, seals, credentials and operations. A crate with tests is
+//! proved twice, so they stand here.
 #![tactic(auto)]
 
 #[cfg(test)]

@@ -8,8 +8,8 @@ use Rattle.prin_term.specs.Principal.{Principal, Key, Name, Quoting, For}
 use Rattle.stmt_codec.specs.Certificates.{Certificate, speaker_of, live}
 use Rattle.taos_calculus.specs.Rules.{Judgement, SpeaksFor, Says, Derivable}
 use Rattle.taos_calculus.specs.Question.{claim_of}
-use Rattle.credential_kit.specs.Forms.{in_role, seat, logged_in, channel_of, login_of, role_of, delegate_of}
-use Rattle.credential_kit.specs.Conclusions.{claims_of, HasAnchor, HasLive, IsBooted, IsLoggedIn, LoginSpeaks, DelegateSpeaks, RoleSpeaks}
+use Rattle.credential_kit.specs.Forms.{in_role, seat, channel_of, login_of, role_of, delegate_of}
+use Rattle.credential_kit.specs.Conclusions.{claims_of, HasAnchor, HasLive, Machine, Login, running, acting, IsBooted, IsLoggedIn, LoginSpeaks, DelegateSpeaks, RoleSpeaks}
 use Rattle.credential_kit.proofs.Deriving.{Known, chained, first_part, for_two, quotes, acts_for, takes_role, named, claimed, lifted, handed, delegated}
 
 -- x stands at a number
@@ -68,43 +68,44 @@ module _ (anchors : List Anchor) (certs : List Certificate) (moment : ℕ) where
   given_channel key c h = handed anchors (claims_of (live certs moment)) (Key c) (Key key) (says_known (channel_of key c) h)
 
   -- the channel of a machine that was booted speaks for its system
-  booted : (m kn w os c : ℕ) → IsBooted anchors certs moment m kn w os c → Holds (SpeaksFor (Key c) (in_role w os))
-  booted m kn w os c h =
-      chained anchors (claims_of (live certs moment)) (Key c) (Key kn) (in_role w os) (given_channel kn c h.channel) (given_role m w os kn h.machine h.boot)
+  booted : (m : Machine) → IsBooted anchors certs moment m → Holds (SpeaksFor (Key m.channel) (running m))
+  booted m h =
+      chained anchors (claims_of (live certs moment)) (Key m.channel) (Key m.node) (running m)
+      (given_channel m.node m.channel h.channel) (given_role m.key m.system.machine m.system.role m.node h.machine h.boot)
 
-  logged : (m kn w os user ks u c : ℕ) → IsBooted anchors certs moment m kn w os c → IsLoggedIn anchors certs moment w os user ks u c →
-      Holds (SpeaksFor (Quoting (Key c) (Name u)) (logged_in w os u))
-  logged m kn w os user ks u c b l =
+  logged : (m : Machine) (l : Login) → IsBooted anchors certs moment m → IsLoggedIn anchors certs moment m l → Holds (SpeaksFor (Quoting (Key m.channel) (Name l.user)) (acting m l))
+  logged m l b is =
       let claims = claims_of (live certs moment) in
-      let s : Principal = seat w os ks in
-      let taken : Holds (SpeaksFor (Key c) s) = for_two anchors claims (in_role w os) (Key ks) (Key c) (booted m kn w os c b) (given_channel ks c l.session) in
-      let said : Holds (Says (Name u) (Quoting s (Name u)) (For s (Name u))) =
-      lifted anchors claims (Key user) (Name u) (Quoting s (Name u)) (For s (Name u)) (says_known (login_of user w os ks u) l.login) (anchor_known user u l.anchor) in
-      let whole : Holds (SpeaksFor (Quoting s (Name u)) (For s (Name u))) = delegated anchors claims (Name u) s said in
-      let system : Holds (SpeaksFor (For s (Name u)) (logged_in w os u)) = acts_for anchors claims s (in_role w os) (Name u) (first_part anchors claims (in_role w os) (Key ks)) in
-      chained anchors claims (Quoting (Key c) (Name u)) (Quoting s (Name u)) (logged_in w os u) (quotes anchors claims (Key c) s (Name u) taken)
-      (chained anchors claims (Quoting s (Name u)) (For s (Name u)) (logged_in w os u) whole system)
+      let u : Principal = Name l.user in
+      let s : Principal = seat m.system.machine m.system.role l.session in
+      let taken : Holds (SpeaksFor (Key m.channel) s) = for_two anchors claims (running m) (Key l.session) (Key m.channel) (booted m b) (given_channel l.session m.channel is.session) in
+      let said : Holds (Says u (Quoting s u) (For s u)) =
+      lifted anchors claims (Key l.key) u (Quoting s u) (For s u) (says_known (login_of l.key m.system l.session l.user) is.login) (anchor_known l.key l.user is.anchor) in
+      let whole : Holds (SpeaksFor (Quoting s u) (For s u)) = delegated anchors claims u s said in
+      let system : Holds (SpeaksFor (For s u) (acting m l)) = acts_for anchors claims s (running m) u (first_part anchors claims (running m) (Key l.session)) in
+      chained anchors claims (Quoting (Key m.channel) u) (Quoting s u) (acting m l) (quotes anchors claims (Key m.channel) s u taken)
+      (chained anchors claims (Quoting s u) (For s u) (acting m l) whole system)
 
-  reached : (m kn w os user ks u c m2 kn2 v vos c2 : ℕ) → IsBooted anchors certs moment m kn w os c → IsLoggedIn anchors certs moment w os user ks u c →
-      IsBooted anchors certs moment m2 kn2 v vos c2 → HasLive certs moment (delegate_of c u w os v vos) →
-      Holds (SpeaksFor (Quoting (Key c2) (logged_in w os u)) (For (in_role v vos) (logged_in w os u)))
-  reached m kn w os user ks u c m2 kn2 v vos c2 b l b2 d =
+  reached : (m second : Machine) (l : Login) → IsBooted anchors certs moment m → IsLoggedIn anchors certs moment m l → IsBooted anchors certs moment second →
+      HasLive certs moment (delegate_of m.channel l.user m.system second.system) →
+      Holds (SpeaksFor (Quoting (Key second.channel) (acting m l)) (For (running second) (acting m l)))
+  reached m second l b is b2 d =
       let claims = claims_of (live certs moment) in
-      let a : Principal = logged_in w os u in
-      let s : Principal = in_role v vos in
+      let a : Principal = acting m l in
+      let s : Principal = running second in
       let said : Holds (Says a (Quoting s a) (For s a)) =
-      lifted anchors claims (Quoting (Key c) (Name u)) a (Quoting s a) (For s a) (says_known (delegate_of c u w os v vos) d) (logged m kn w os user ks u c b l) in
-      chained anchors claims (Quoting (Key c2) a) (Quoting s a) (For s a) (quotes anchors claims (Key c2) s a (booted m2 kn2 v vos c2 b2)) (delegated anchors claims a s said)
+      lifted anchors claims (Quoting (Key m.channel) (Name l.user)) a (Quoting s a) (For s a) (says_known (delegate_of m.channel l.user m.system second.system) d) (logged m l b is) in
+      chained anchors claims (Quoting (Key second.channel) a) (Quoting s a) (For s a) (quotes anchors claims (Key second.channel) s a (booted second b2)) (delegated anchors claims a s said)
 
   derivable : (fact : Judgement) → Holds fact → Derivable anchors (claims_of (live certs moment)) fact
   derivable fact k = record { lines = k.lines; proves = k.proves }
 
   pub login_speaks : LoginSpeaks anchors certs moment
-  login_speaks m kn w os user ks u c b l = derivable (SpeaksFor (Quoting (Key c) (Name u)) (logged_in w os u)) (logged m kn w os user ks u c b l)
+  login_speaks m l b is = derivable (SpeaksFor (Quoting (Key m.channel) (Name l.user)) (acting m l)) (logged m l b is)
 
   pub delegate_speaks : DelegateSpeaks anchors certs moment
-  delegate_speaks m kn w os user ks u c m2 kn2 v vos c2 b l b2 d =
-      derivable (SpeaksFor (Quoting (Key c2) (logged_in w os u)) (For (in_role v vos) (logged_in w os u))) (reached m kn w os user ks u c m2 kn2 v vos c2 b l b2 d)
+  delegate_speaks m second l b is b2 d =
+      derivable (SpeaksFor (Quoting (Key second.channel) (acting m l)) (For (running second) (acting m l))) (reached m second l b is b2 d)
 
   pub role_speaks : RoleSpeaks anchors certs moment
   role_speaks user k u r a h = derivable (SpeaksFor (Key k) (in_role u r)) (given_role user u r k a h)

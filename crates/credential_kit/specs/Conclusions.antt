@@ -6,7 +6,8 @@ use Rattle.stmt_codec.specs.Certificates.{Certificate, live}
 use Rattle.taos_calculus.specs.Rules.{Claim}
 use Rattle.taos_calculus.specs.Monitor.{MaySpeak}
 use Rattle.taos_calculus.specs.Question.{claim_of}
-use Rattle.credential_kit.specs.Forms.{in_role, logged_in, boot_of, channel_of, login_of, session_of, role_of, delegate_of}
+use Rattle.credential_kit.specs.Forms.{System, in_role, logged_in, boot_of, channel_of, login_of}
+use Rattle.credential_kit.specs.Forms.{session_of, role_of, delegate_of}
 
 -- what the calculus takes of certificates
 abbrev pub claims_of : List Certificate → List Claim
@@ -18,7 +19,8 @@ HasAnchor anchors key name = Contains anchors (record { key = key; name = name }
 
 -- a certificate of this form is there, and has not ended at the moment; the form's end and serial
 -- are the last that it takes
-pub record HasLive (certs : List Certificate) (moment : ℕ) (form : ℕ → ℕ → Certificate) : Type 0 where
+pub record HasLive
+    (certs : List Certificate) (moment : ℕ) (form : ℕ → ℕ → Certificate) : Type 0 where
   pub until : ℕ
   pub serial : ℕ
   pub there : Contains certs (form until serial)
@@ -28,38 +30,64 @@ pub record HasLive (certs : List Certificate) (moment : ℕ) (form : ℕ → ℕ
 abbrev pub Speaks : List Anchor → List Certificate → ℕ → Principal → Principal → Type 0
 Speaks anchors certs moment left right = MaySpeak anchors (claims_of (live certs moment)) left right
 
--- The node's key kn was booted by the machine's key m, and speaks through the channel c.
-pub record IsBooted (anchors : List Anchor) (certs : List Certificate) (moment m kn w os c : ℕ) : Type 0 where
-  -- the machine's key m is anchored to the name w
-  pub machine : HasAnchor anchors m w
-  -- the machine's key says that the key kn speaks for w in the role os
-  pub boot : HasLive certs moment (boot_of m kn w os)
-  -- the key kn says that the channel speaks for it
-  pub channel : HasLive certs moment (channel_of kn c)
+-- a machine: its key, the key of its node, the system that runs on it, and a channel of the node
+pub record Machine : Type 0 where
+  pub key : ℕ
+  pub node : ℕ
+  pub system : System
+  pub channel : ℕ
 
--- The user's key was used to log in there, in the session of the key ks, which speaks through the
--- channel too.
-pub record IsLoggedIn (anchors : List Anchor) (certs : List Certificate) (moment w os user ks u c : ℕ) : Type 0 where
-  -- the user's key is anchored to the name u
-  pub anchor : HasAnchor anchors user u
+-- a login: the user's key, the user's name, and the key of the session
+pub record Login : Type 0 where
+  pub key : ℕ
+  pub user : ℕ
+  pub session : ℕ
+
+-- the system of a machine as a principal
+abbrev pub running : Machine → Principal
+running m = in_role m.system.machine m.system.role
+
+-- the system of a machine for the user that logged in there
+abbrev pub acting : Machine → Login → Principal
+acting m l = logged_in m.system.machine m.system.role l.user
+
+-- the node's key was booted by the machine's key, and speaks through the channel
+pub record IsBooted
+    (anchors : List Anchor) (certs : List Certificate) (moment : ℕ) (m : Machine) : Type 0 where
+  -- the machine's key is anchored to its name
+  pub machine : HasAnchor anchors m.key m.system.machine
+  -- the machine's key says that the node's key speaks for the machine in the system's role
+  pub boot : HasLive certs moment (boot_of m.key m.node m.system.machine m.system.role)
+  -- the node's key says that the channel speaks for it
+  pub channel : HasLive certs moment (channel_of m.node m.channel)
+
+-- the user's key was used to log in there, in a session whose key speaks through the channel too
+pub record IsLoggedIn
+    (anchors : List Anchor) (certs : List Certificate) (moment : ℕ)
+    (m : Machine) (l : Login) : Type 0 where
+  -- the user's key is anchored to the user's name
+  pub anchor : HasAnchor anchors l.key l.user
   -- the user's key logged in at the machine's system, for the key of the session
-  pub login : HasLive certs moment (login_of user w os ks u)
+  pub login : HasLive certs moment (login_of l.key m.system l.session l.user)
   -- the session's key says that the channel speaks for it
-  pub session : HasLive certs moment (session_of ks c)
+  pub session : HasLive certs moment (session_of l.session m.channel)
 
 -- a login: the channel that quotes the user speaks for the machine's system for the user
 abbrev pub LoginSpeaks : List Anchor → List Certificate → ℕ → Type 0
 LoginSpeaks anchors certs moment =
-    (m kn w os user ks u c : ℕ) → IsBooted anchors certs moment m kn w os c → IsLoggedIn anchors certs moment w os user ks u c →
-    Speaks anchors certs moment (Quoting (Key c) (Name u)) (logged_in w os u)
+    (m : Machine) (l : Login) → IsBooted anchors certs moment m
+    → IsLoggedIn anchors certs moment m l
+    → Speaks anchors certs moment (Quoting (Key m.channel) (Name l.user)) (acting m l)
 
 -- a delegation: a second machine's channel that quotes the first system for the user speaks for the
 -- second system for the first for the user
 abbrev pub DelegateSpeaks : List Anchor → List Certificate → ℕ → Type 0
 DelegateSpeaks anchors certs moment =
-    (m kn w os user ks u c m2 kn2 v vos c2 : ℕ) → IsBooted anchors certs moment m kn w os c → IsLoggedIn anchors certs moment w os user ks u c →
-    IsBooted anchors certs moment m2 kn2 v vos c2 → HasLive certs moment (delegate_of c u w os v vos) →
-    Speaks anchors certs moment (Quoting (Key c2) (logged_in w os u)) (For (in_role v vos) (logged_in w os u))
+    (m second : Machine) (l : Login) → IsBooted anchors certs moment m
+    → IsLoggedIn anchors certs moment m l → IsBooted anchors certs moment second
+    → HasLive certs moment (delegate_of m.channel l.user m.system second.system)
+    → Speaks anchors certs moment (Quoting (Key second.channel) (acting m l))
+    (For (running second) (acting m l))
 
 -- a role: the key speaks for the user in the role
 abbrev pub RoleSpeaks : List Anchor → List Certificate → ℕ → Type 0

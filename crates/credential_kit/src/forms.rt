@@ -1,7 +1,7 @@
 //! The forms, one call for each. A call answers one certificate under its signer's seal.
 
 ghost use Rattle.std.specs.Prelude.{IfOk};
-ghost use Rattle.credential_kit.specs.Forms.{IsIssued, boot_of, channel_of, login_of};
+ghost use Rattle.credential_kit.specs.Forms.{IsIssued, system, boot_of, channel_of, login_of};
 ghost use Rattle.credential_kit.specs.Forms.{session_of, role_of, delegate_of};
 
 use crate::issuing::{for_both, in_role, issue, key, logged_in, quoting, seat};
@@ -43,8 +43,8 @@ pub fn channel(
     issue(alloc, node, None, left, right, until, serial)
 }
 
-/// The user's word, at the login on the machine `w` under the system `os`, that these together with the
-/// session's key `ks` may speak for it, whose name is `u`.
+/// The user's word, at the login on the machine `w` under the system `os`, that these together with
+/// the session's key `ks` may speak for it, whose name is `u`.
 pub fn login(
     alloc: Global,
     user: &Signer,
@@ -56,7 +56,7 @@ pub fn login(
     serial: u64,
 ) -> Result<Vec<u8>, AllocError>
     ensures { IfOk result (λ bytes. IsIssued user.now
-        (login_of user.now.issuer w os ks u until serial) bytes.items) }
+        (login_of user.now.issuer (system w os) ks u until serial) bytes.items) }
 {
     let left = quoting(alloc, seat(alloc, w, os, ks)?, Term::Name(u))?;
     let right = for_both(alloc, seat(alloc, w, os, ks)?, Term::Name(u))?;
@@ -93,8 +93,8 @@ pub fn role(
     boot(alloc, user, k, u, r, until, serial)
 }
 
-/// The word of the channel `c`, quoting the user `u`, that the system `vos` on a second machine `v` may
-/// speak for the first system, `os` on `w`, that speaks for the user.
+/// The word of the channel `c`, quoting the user `u`, that the system `vos` on a second machine `v`
+/// may speak for the first system, `os` on `w`, that speaks for the user.
 pub fn delegate(
     alloc: Global,
     c: &Signer,
@@ -107,7 +107,7 @@ pub fn delegate(
     serial: u64,
 ) -> Result<Vec<u8>, AllocError>
     ensures { IfOk result (λ bytes. IsIssued c.now
-        (delegate_of c.now.issuer u w os v vos until serial) bytes.items) }
+        (delegate_of c.now.issuer u (system w os) (system v vos) until serial) bytes.items) }
 {
     let left = quoting(alloc, in_role(alloc, v, vos)?, logged_in(alloc, w, os, u)?)?;
     let right = for_both(alloc, in_role(alloc, v, vos)?, logged_in(alloc, w, os, u)?)?;

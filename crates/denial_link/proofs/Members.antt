@@ -1,19 +1,8 @@
 -- What a list has, by place.
 use Rattle.std.proofs.Common.{◌≡◌, ◌⊎◌, inl, inr, ℕ, zero, suc, ◌≤◌, ◌∷◌, [], Bool, true, false, cond, List, take, map, filter, Contains, Some, slice_get, refl, sym, ◌∙◌, ap, subst, arith}
-use Rattle.std.proofs.lemmas.Option.{slice_get-get_or, slice_get_within, get_or_from_slice_get, none-some, same_Some}
-
-pub has-at : {X : Type 0} (xs : List X) (i : ℕ) (x : X) → slice_get xs i ≡ Some x → Contains xs x
-has-at xs i x e = (i, slice_get_within xs i x e, get_or_from_slice_get xs i x x e)
-
-pub at-has : {X : Type 0} (xs : List X) (x : X) → Contains xs x → (i : ℕ) × (slice_get xs i ≡ Some x)
-at-has xs x c = (c.0, slice_get-get_or xs c.0 x c.1 ∙ ap Some c.2)
-
--- by recursion on the list
-pub has-cons : {X : Type 0} (y : X) (xs : List X) (x : X) → Contains xs x → Contains (y ∷ xs) x
-has-cons y xs x c = let (i, e) = at-has xs x c in has-at (y ∷ xs) (suc i) x e
-
-pub has-head : {X : Type 0} (x : X) (xs : List X) → Contains (x ∷ xs) x
-has-head x xs = has-at (x ∷ xs) 0 x refl
+use Rattle.std.proofs.lemmas.Option.{none-some, same_Some}
+pub use Rattle.stmt_codec.proofs.Members.{here as has-head, there as has-cons}
+pub use Rattle.taos_calculus.proofs.Atoms.{Contains-at as has-at, at-Contains as at-has}
 
 at-cons : {X : Type 0} (y : X) (xs : List X) (x : X) (i : ℕ) → slice_get (y ∷ xs) i ≡ Some x → (y ≡ x) ⊎ Contains xs x
 at-cons y xs x zero e = inl (same_Some y x e)

@@ -118,14 +118,17 @@ pub speaks_more : (anchors : List Anchor) (said more : List Claim) (left right :
 speaks_more anchors said more left right sub d =
     derives_more anchors said more (λ i x e. at-has more x (sub x (has-at said i x e))) (rules.SpeaksFor left right) d
 
-pub speaks_by_marks : (anchors : List Anchor) (certs : List Certificate) (moment : ℕ) (places : List ℕ) (marks : List Bool) (left right : Principal) → AreMarked certs moment places (length certs) marks → MaySpeak anchors (picked_claims certs marks) left right ↔ MaySpeak anchors (claims (revived certs moment places)) left right
+pub speaks_by_marks : (anchors : List Anchor) (certs : List Certificate) (moment : ℕ) (places : List ℕ) (marks : List Bool) (left right : Principal) →
+    AreMarked certs moment places (length certs) marks →
+    MaySpeak anchors (picked_claims certs marks) left right ↔ MaySpeak anchors (claims (revived certs moment places)) left right
 speaks_by_marks anchors certs moment places marks left right m = (
   speaks_more anchors _ _ left right (λ x h. revived-taken certs moment places x (taken-picked certs moment places marks x m h)),
   speaks_more anchors _ _ left right (λ x h. picked-taken certs moment places marks x m (taken-revived certs moment places x h)),
 )
 
 -- the more places, the more is derivable
-pub speaks_by_more : (anchors : List Anchor) (certs : List Certificate) (moment : ℕ) (places : List ℕ) (m n : ℕ) (left right : Principal) → m ≤ n → MaySpeak anchors (claims (revived certs moment (take m places))) left right → MaySpeak anchors (claims (revived certs moment (take n places))) left right
+pub speaks_by_more : (anchors : List Anchor) (certs : List Certificate) (moment : ℕ) (places : List ℕ) (m n : ℕ) (left right : Principal) → m ≤ n →
+    MaySpeak anchors (claims (revived certs moment (take m places))) left right → MaySpeak anchors (claims (revived certs moment (take n places))) left right
 speaks_by_more anchors certs moment places m n left right le =
     speaks_more anchors _ _ left right (λ x h. revived-taken certs moment (take n places) x (longer x (taken-revived certs moment (take m places) x h)))
   where

@@ -1,5 +1,6 @@
 -- What the order is found by, and which certificates are asked about.
-use Rattle.std.specs.Prelude.{◌≡◌, ◌⊎◌, ◌↔◌, ℕ, ◌<◌, ◌≤◌, Bool, true, List, Some, slice_get, length, All, AllPairs, Contains}
+use Rattle.std.specs.Prelude.{◌≡◌, ◌⊎◌, ◌↔◌, ℕ, ◌<◌, ◌≤◌, Bool, true, List}
+use Rattle.std.specs.Prelude.{Some, slice_get, length, All, AllPairs, Contains}
 use Rattle.std.specs.declared.cmp.Reverse.{Reverse}
 use Rattle.stmt_codec.specs.Certificates.{Certificate, digest_of}
 
@@ -20,12 +21,15 @@ pub record KeysBelow (certs : List Certificate) (moment n : ℕ) (keys : List Ke
   pub sound : All (IsKeyOf certs moment) keys
   pub below : All (λ k. k.2 < n) keys
   -- each certificate below n that has ended has its key there
-  pub every : (i : ℕ) (c : Certificate) → i < n → slice_get certs i ≡ Some c → c.until ≤ moment → (k : Key) × Contains keys k × (k.2 ≡ i)
+  pub every : (i : ℕ) (c : Certificate) → i < n → slice_get certs i ≡ Some c →
+      c.until ≤ moment → (k : Key) × Contains keys k × (k.2 ≡ i)
   -- the places rise
   pub rising : AllPairs (λ j k. j.2 < k.2) keys
 
 -- of the certificates below n, the live ones and those at the places are marked
-pub record AreMarked (certs : List Certificate) (moment : ℕ) (places : List ℕ) (n : ℕ) (marks : List Bool) : Type 0 where
+pub record AreMarked (certs : List Certificate) (moment : ℕ)
+    (places : List ℕ) (n : ℕ) (marks : List Bool) : Type 0 where
   pub count : length marks ≡ n
   -- a place is marked exactly where its certificate is live or the place is among these
-  pub each : (i : ℕ) (c : Certificate) → i < n → slice_get certs i ≡ Some c → (slice_get marks i ≡ Some true) ↔ ((moment < c.until) ⊎ Contains places i)
+  pub each : (i : ℕ) (c : Certificate) → i < n → slice_get certs i ≡ Some c →
+      (slice_get marks i ≡ Some true) ↔ ((moment < c.until) ⊎ Contains places i)

@@ -13,7 +13,8 @@ use Rattle.denial_link.specs.Revived.{claims}
 
 -- some part of the subject speaks for p
 abbrev pub IsReached : List Anchor → List Claim → Principal → Principal → Type 0
-IsReached anchors said subject p = (s : Principal) × Contains (subterms subject) s × MaySpeak anchors said s p
+IsReached anchors said subject p =
+    (s : Principal) × Contains (subterms subject) s × MaySpeak anchors said s p
 
 -- The first part of p that is not reached while all that stands directly under it is: its place in
 -- pre-order. The walk goes from p, which is not reached, to the first operand that is not, and ends
@@ -28,13 +29,15 @@ pub data Lacks (Reached : Principal → Type 0) : Principal → ℕ → Type 0 w
 
 -- no entry has the right and this too
 abbrev pub NoEntryWith : List Grant → ℕ → (Grant → Type 0) → Type 0
-NoEntryWith list right P = (k : ℕ) (e : Grant) → slice_get list k ≡ Some e → HasRight e right → P e → ⊥
+NoEntryWith list right P =
+    (k : ℕ) (e : Grant) → slice_get list k ≡ Some e → HasRight e right → P e → ⊥
 
 -- what a denial names, where nothing is granted
-pub data IsFirstLink (anchors : List Anchor) (certs : List Certificate) (moment : ℕ) (subject : Principal)
-    (list : List Grant) (right : ℕ) : Link → Type 0 where
+pub data IsFirstLink (anchors : List Anchor) (certs : List Certificate) (moment : ℕ)
+    (subject : Principal) (list : List Grant) (right : ℕ) : Link → Type 0 where
   -- no entry has the right
-  no_entry : NoEntryWith list right (λ e. Unit {0}) → IsFirstLink anchors certs moment subject list right NoEntry
+  no_entry : NoEntryWith list right (λ e. Unit {0}) →
+      IsFirstLink anchors certs moment subject list right NoEntry
   -- all certificates together would do for some entry with the right: the first of these, and the
   -- certificate that is needed
   expired : {k c : ℕ} (e : Grant) →

@@ -9,7 +9,8 @@ use Rattle.denial_link.specs.Revived.{claims, revived}
 
 -- The live certificates and those that have ended up to c are enough, and no fewer are: the n
 -- before c in the order are not enough with the live ones, and with c they are.
-pub record IsNeeded (anchors : List Anchor) (certs : List Certificate) (moment : ℕ) (subject who : Principal) (c : ℕ) : Type 0 where
+pub record IsNeeded (anchors : List Anchor) (certs : List Certificate)
+    (moment : ℕ) (subject who : Principal) (c : ℕ) : Type 0 where
   -- how many that have ended come before c in the order
   pub n : ℕ
   -- the places of all that have ended, in order
@@ -18,5 +19,6 @@ pub record IsNeeded (anchors : List Anchor) (certs : List Certificate) (moment :
   -- with c, and those before it, there is enough
   pub enough : MaySpeak anchors (claims (revived certs moment (take (n + 1) places))) subject who
   -- without c there is not
-  pub no_fewer : (m : ℕ) → m ≤ n → MaySpeak anchors (claims (revived certs moment (take m places))) subject who → ⊥
+  pub no_fewer : (m : ℕ) → m ≤ n →
+      MaySpeak anchors (claims (revived certs moment (take m places))) subject who → ⊥
   pub stands : slice_get places n ≡ Some c

@@ -10,11 +10,15 @@ use Rattle.stmt_codec.specs.Certificates.{Certificate, digest_of}
 -- the lesser place
 abbrev pub order : ℕ → Certificate → ℕ → Certificate → Ordering
 order i c j d =
-    ordering_then (ordering_then (nat_cmp d.until c.until) (slice_cmp nat_cmp (digest_of c) (digest_of d))) (nat_cmp i j)
+    ordering_then
+    (ordering_then (nat_cmp d.until c.until) (slice_cmp nat_cmp (digest_of c) (digest_of d)))
+    (nat_cmp i j)
 
 -- the certificate at place i comes before the one at j
 abbrev pub GoesBefore : List Certificate → ℕ → ℕ → Type 0
-GoesBefore certs i j = (c d : Certificate) → slice_get certs i ≡ Some c → slice_get certs j ≡ Some d → order i c j d ≡ Less
+GoesBefore certs i j =
+    (c d : Certificate) → slice_get certs i ≡ Some c →
+    slice_get certs j ≡ Some d → order i c j d ≡ Less
 
 -- the certificate at the place has ended
 abbrev pub IsDead : List Certificate → ℕ → ℕ → Type 0

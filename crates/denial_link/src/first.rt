@@ -1,8 +1,10 @@
 //! The first missing or expired link.
 
-ghost use Rattle.std.specs.Prelude.{◌≡◌, ◌≤◌, ℕ, true, map, length, replicate, slice_get, Some, MatchOption};
+ghost use Rattle.std.specs.Prelude.{◌≡◌, ◌≤◌, ℕ, true, map, length};
+ghost use Rattle.std.specs.Prelude.{replicate, slice_get, Some, MatchOption};
 ghost use Rattle.prin_term.specs.View.{Grant, grant, principal};
-ghost use Rattle.stmt_codec.specs.Certificates.{certificate, live};
+ghost use Rattle.stmt_codec.specs.Certificates.{live};
+ghost use Rattle.stmt_codec.specs.View.{certificates};
 ghost use Rattle.taos_calculus.specs.Monitor.{FirstEntry, Grants};
 ghost use Rattle.taos_calculus.specs.Question.{IsAskable, IsTermOf, MayAnswer, question_of};
 ghost use Rattle.denial_link.specs.Revived.{claims};
@@ -58,9 +60,9 @@ pub fn first_derivable<D: Decide>(
     None
 }
 
-/// What is missing where nothing is granted: that an entry has the right; or, where the certificates
-/// that have ended would do, the first of these that is needed; or the first part of the first
-/// entry with the right that nobody whom the subject names speaks for. Takes no memory. A
+/// What is missing where nothing is granted: that an entry has the right; or, where the
+/// certificates that have ended would do, the first of these that is needed; or the first part of
+/// the first entry with the right that nobody whom the subject names speaks for. Takes no memory. A
 /// certificate is named by its place in `certs`, a part by its place in the entry, in pre-order.
 pub fn first_link<D: Decide>(
     bench: &mut D,
@@ -71,12 +73,11 @@ pub fn first_link<D: Decide>(
     list: &[Entry],
     right: u8,
 ) -> Link
-    requires askable { IsAskable anchors.now (map (λ c. certificate c.value.body) certs.now)
+    requires askable { IsAskable anchors.now (certificates certs.now)
         (replicate (length certs.now) true) (principal subject.now) (map grant list.now) }
-    requires denied { Grants anchors.now
-        (claims (live (map (λ c. certificate c.value.body) certs.now) moment))
+    requires denied { Grants anchors.now (claims (live (certificates certs.now) moment))
         (principal subject.now) (map grant list.now) right → ⊥ }
-    ensures { IsFirstLink anchors.now (map (λ c. certificate c.value.body) certs.now) moment
+    ensures { IsFirstLink anchors.now (certificates certs.now) moment
         (principal subject.now) (map grant list.now) right result }
 {
     let Some(_) = first_with(list, right) else {
@@ -98,15 +99,13 @@ pub fn first_link_by_all<D: Decide>(
     list: &[Entry],
     right: u8,
 ) -> Link
-    requires askable { IsAskable anchors.now (map (λ c. certificate c.value.body) certs.now)
+    requires askable { IsAskable anchors.now (certificates certs.now)
         (replicate (length certs.now) true) (principal subject.now) (map grant list.now) }
-    requires by_all { D.question bench.old ≡ question_of anchors.now
-        (map (λ c. certificate c.value.body) certs.now) (replicate (length certs.now) true)
-        (principal subject.now) (map grant list.now) }
-    requires denied { Grants anchors.now
-        (claims (live (map (λ c. certificate c.value.body) certs.now) moment))
+    requires by_all { D.question bench.old ≡ question_of anchors.now (certificates certs.now)
+        (replicate (length certs.now) true) (principal subject.now) (map grant list.now) }
+    requires denied { Grants anchors.now (claims (live (certificates certs.now) moment))
         (principal subject.now) (map grant list.now) right → ⊥ }
-    ensures { IsFirstLink anchors.now (map (λ c. certificate c.value.body) certs.now) moment
+    ensures { IsFirstLink anchors.now (certificates certs.now) moment
         (principal subject.now) (map grant list.now) right result }
 {
     let Some(first) = first_with(list, right) else {

@@ -1,7 +1,7 @@
 //! The order in which certificates that have ended are looked at again.
 
 ghost use Rattle.std.specs.Prelude.{◌≡◌, ◌≤◌, ◌<◌, ℕ, map, take, length};
-ghost use Rattle.stmt_codec.specs.Certificates.{certificate};
+ghost use Rattle.stmt_codec.specs.View.{certificates};
 ghost use Rattle.denial_link.specs.Order.{DeadInOrder};
 ghost use Rattle.denial_link.specs.Keys.{KeysBelow};
 
@@ -17,7 +17,7 @@ pub(crate) type Key = (Reverse<u64>, [u8; 32], u8);
 // The keys of those that have ended.
 fn dead_keys(certs: &[Arc<Cert>], moment: u64) -> ArrayVec<Key, MAX_CERTS>
     requires { length certs.now ≤ MAX_CERTS }
-    ensures { KeysBelow (map (λ c. certificate c.value.body) certs.now) moment (length certs.now)
+    ensures { KeysBelow (certificates certs.now) moment (length certs.now)
         result.items }
 {
     let mut keys = ArrayVec::new();
@@ -33,7 +33,7 @@ fn dead_keys(certs: &[Arc<Cert>], moment: u64) -> ArrayVec<Key, MAX_CERTS>
 /// The places of those that have ended at the moment, in their order.
 pub(crate) fn dead_in_order(certs: &[Arc<Cert>], moment: u64) -> ArrayVec<u8, MAX_CERTS>
     requires { length certs.now ≤ MAX_CERTS }
-    ensures { DeadInOrder (map (λ c. certificate c.value.body) certs.now) moment result.items }
+    ensures { DeadInOrder (certificates certs.now) moment result.items }
 {
     let mut keys = dead_keys(certs, moment);
     keys.sort_unstable();

@@ -2,7 +2,8 @@
 
 ghost use Rattle.std.specs.Prelude.{◌≡◌, ◌≤◌, ◌↔◌, true, map, length, replicate, IsTrue};
 ghost use Rattle.prin_term.specs.View.{grant, principal};
-ghost use Rattle.stmt_codec.specs.Certificates.{certificate, live};
+ghost use Rattle.stmt_codec.specs.Certificates.{live};
+ghost use Rattle.stmt_codec.specs.View.{certificates};
 ghost use Rattle.taos_calculus.specs.Monitor.{MaySpeak};
 ghost use Rattle.taos_calculus.specs.Question.{IsAskable, IsTermOf, question_of};
 ghost use Rattle.denial_link.specs.Revived.{claims, revived};
@@ -19,7 +20,7 @@ use taos_calculus::{Decide, MAX_CERTS};
 // Marks at the live certificates and at those of the places.
 fn marks_of(certs: &[Arc<Cert>], moment: u64, places: &[u8]) -> ArrayVec<bool, MAX_CERTS>
     requires { length certs.now ≤ MAX_CERTS }
-    ensures { AreMarked (map (λ c. certificate c.value.body) certs.now) moment places.now
+    ensures { AreMarked (certificates certs.now) moment places.now
         (length certs.now) result.items }
 {
     let mut marks = ArrayVec::new();
@@ -29,29 +30,35 @@ fn marks_of(certs: &[Arc<Cert>], moment: u64, places: &[u8]) -> ArrayVec<bool, M
     marks
 }
 
-// Whether the live certificates and those at the places are enough for a principal.
+// The live certificates, and those at the places.
+#[derive(Drop)]
+struct Revived<'a> {
+    certs: &'a [Arc<Cert>],
+    moment: u64,
+    places: &'a [u8],
+}
+
+// Whether these are enough for a principal.
 fn are_enough<D: Decide>(
     bench: &mut D,
     anchors: &[Anchor],
-    certs: &[Arc<Cert>],
-    moment: u64,
+    these: &Revived<'_>,
     subject: &Term,
     list: &[Entry],
     who: &Term,
-    places: &[u8],
 ) -> bool
-    requires askable { IsAskable anchors.now (map (λ c. certificate c.value.body) certs.now)
-        (replicate (length certs.now) true) (principal subject.now) (map grant list.now) }
-    requires listed { IsTermOf (question_of anchors.now
-        (map (λ c. certificate c.value.body) certs.now) (replicate (length certs.now) true)
-        (principal subject.now) (map grant list.now))
-        (principal who.now) }
+    requires askable { IsAskable anchors.now (certificates these.now.certs.now)
+        (replicate (length these.now.certs.now) true) (principal subject.now)
+        (map grant list.now) }
+    requires listed { IsTermOf (question_of anchors.now (certificates these.now.certs.now)
+        (replicate (length these.now.certs.now) true) (principal subject.now)
+        (map grant list.now)) (principal who.now) }
     ensures { IsTrue result ↔ MaySpeak anchors.now
-        (claims (revived (map (λ c. certificate c.value.body) certs.now) moment places.now))
-        (principal subject.now) (principal who.now) }
+        (claims (revived (certificates these.now.certs.now) these.now.moment
+        these.now.places.now)) (principal subject.now) (principal who.now) }
 {
-    let marks = marks_of(certs, moment, places);
-    bench.begin(anchors, certs, &marks, subject, list);
+    let marks = marks_of(these.certs, these.moment, these.places);
+    bench.begin(anchors, these.certs, &marks, subject, list);
     bench.derives(subject, who)
 }
 
@@ -66,18 +73,16 @@ pub(crate) fn first_needed<D: Decide>(
     list: &[Entry],
     who: &Term,
 ) -> u8
-    requires askable { IsAskable anchors.now (map (λ c. certificate c.value.body) certs.now)
+    requires askable { IsAskable anchors.now (certificates certs.now)
         (replicate (length certs.now) true) (principal subject.now) (map grant list.now) }
-    requires listed { IsTermOf (question_of anchors.now
-        (map (λ c. certificate c.value.body) certs.now) (replicate (length certs.now) true)
-        (principal subject.now) (map grant list.now))
+    requires listed { IsTermOf (question_of anchors.now (certificates certs.now)
+        (replicate (length certs.now) true) (principal subject.now) (map grant list.now))
         (principal who.now) }
-    requires lacking { MaySpeak anchors.now
-        (claims (live (map (λ c. certificate c.value.body) certs.now) moment))
+    requires lacking { MaySpeak anchors.now (claims (live (certificates certs.now) moment))
         (principal subject.now) (principal who.now) → ⊥ }
-    requires enough { MaySpeak anchors.now (claims (map (λ c. certificate c.value.body) certs.now))
+    requires enough { MaySpeak anchors.now (claims (certificates certs.now))
         (principal subject.now) (principal who.now) }
-    ensures { IsNeeded anchors.now (map (λ c. certificate c.value.body) certs.now) moment
+    ensures { IsNeeded anchors.now (certificates certs.now) moment
         (principal subject.now) (principal who.now) result }
 {
     let places = dead_in_order(certs, moment);
@@ -85,16 +90,12 @@ pub(crate) fn first_needed<D: Decide>(
     let mut high = places.len();
     while low + 1 < high {
         let middle = low + (high - low) / 2;
-        if are_enough(
-            bench,
-            anchors,
+        let these = Revived {
             certs,
             moment,
-            subject,
-            list,
-            who,
-            &places[..middle],
-        ) {
+            places: &places[..middle],
+        };
+        if are_enough(bench, anchors, &these, subject, list, who) {
             high = middle;
         } else {
             low = middle;

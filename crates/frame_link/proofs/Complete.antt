@@ -11,12 +11,12 @@ use Rattle.frame_link.specs.Served.{Line, FaultCounts, IsServed, HasCauses, IsCo
 use Rattle.frame_link.proofs.Splits.{split_once, frames_all}
 
 -- what is left after the bytes that were taken
-left_after : (xs read : List ℕ) (after : Option (List ℕ)) → Consumes (Some xs) after read → (ys : List ℕ) × (after ≡ Some ys) × (xs ≡ read ++ ys)
+pub left_after : (xs read : List ℕ) (after : Option (List ℕ)) → Consumes (Some xs) after read → (ys : List ℕ) × (after ≡ Some ys) × (xs ≡ read ++ ys)
 left_after xs read None took = absurd took
 left_after xs read (Some ys) took = (ys, refl, took)
 
 -- all was taken
-all_taken : (xs read : List ℕ) (after : Option (List ℕ)) → Consumes (Some xs) after read → IsAtEnd after → xs ≡ read
+pub all_taken : (xs read : List ℕ) (after : Option (List ℕ)) → Consumes (Some xs) after read → IsAtEnd after → xs ≡ read
 all_taken xs read None took at_end = absurd took
 all_taken xs read (Some ys) took at_end = took ∙ ap (λ (l : List ℕ). read ++ l) at_end ∙ append-nil read
 

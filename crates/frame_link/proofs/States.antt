@@ -44,3 +44,24 @@ module _ {S T : Type 0} (answers : S → List ℕ → List ℕ → S → Type 0)
     went = c.went;
     wrote = c.wrote;
   }
+
+-- what holds of the first state, and stays with each payload, holds of the last
+module _ {S : Type 0} (answers : S → List ℕ → List ℕ → S → Type 0) (gives_up : S → List ℕ → S → Type 0) (Holds : S → Type 0)
+    (answered : (s : S) (payload reply : List ℕ) (t : S) → Holds s → answers s payload reply t → Holds t)
+    (given_up : (s : S) (payload : List ℕ) (t : S) → Holds s → gives_up s payload t → Holds t) where
+  chain_holds : (s : S) (turns : List Turn) (t : S) → Holds s → Chain answers s turns t → Holds t
+  chain_holds s [] t holds chain = subst Holds (sym chain) holds
+  chain_holds s (turn ∷ turns) t holds chain = chain_holds chain.0 turns t (answered s turn.payload turn.reply chain.0 holds chain.1) chain.2
+
+  all_hold : (s : S) (payloads : List (List ℕ)) (turns : List Turn) (t : S) (outcome : Outcome) → Holds s → AreAnswered answers gives_up s payloads turns t outcome → Holds t
+  all_hold s payloads turns t ClockFault holds a = given_up a.middle a.last t (chain_holds s turns a.middle holds a.chain) a.given_up
+  all_hold s payloads turns t (End n) holds a = chain_holds s turns t holds a.1
+  all_hold s payloads turns t (Truncated have) holds a = chain_holds s turns t holds a.1
+  all_hold s payloads turns t (TooLong n) holds a = chain_holds s turns t holds a.1
+  all_hold s payloads turns t ReadFault holds a = chain_holds s turns t holds a.1
+  all_hold s payloads turns t WriteFault holds a = chain_holds s turns t holds a.1
+  all_hold s payloads turns t (Spent n) holds a = chain_holds s turns t holds a.1
+  all_hold s payloads turns t NoMemory holds a = chain_holds s turns t holds a.1
+
+  pub held_at_end : (limit : ℕ) (before after : Line S) (outcome : Outcome) → Holds before.service → IsServed answers gives_up limit before after outcome → Holds after.service
+  held_at_end limit before after outcome holds c = all_hold before.service c.payloads c.turns after.service outcome holds c.answered

@@ -14,7 +14,12 @@ abbrev pub Admits : {X E : Type 0} → Hall X → Hall X → Result (Option X) E
 Admits old new (Ok (Some x)) =
     (fails_now old.plan ≡ false)
     × (old.left ≡ x ∷ new.left)
-    × (new ≡ record { left = new.left; given = old.given + 1; back = old.back; plan = passed old.plan })
+    × (new ≡ record {
+      left = new.left;
+      given = old.given + 1;
+      back = old.back;
+      plan = passed old.plan;
+    })
 Admits old new (Ok None) =
     (fails_now old.plan ≡ false)
     × (old.left ≡ [])

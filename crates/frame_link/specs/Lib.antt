@@ -1,4 +1,5 @@
 pub mod Faults
+pub mod Streams
 pub mod Readings
 pub mod Relay
 pub mod Doors

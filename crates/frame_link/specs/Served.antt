@@ -50,7 +50,8 @@ module _ {S : Type 0} (answers : S → List ℕ → List ℕ → S → Type 0) w
 
   module _ (gives_up : S → List ℕ → S → Type 0) where
     -- the last payload was given up, and those before it were answered by these turns, in order
-    pub record IsGivenUp (s : S) (payloads : List (List ℕ)) (turns : List Turn) (t : S) : Type 0 where
+    pub record IsGivenUp (s : S) (payloads : List (List ℕ)) (turns : List Turn) (t : S) :
+        Type 0 where
       pub last : List ℕ
       pub middle : S
       pub all : payloads ≡ payloads_of turns ++ last ∷ []
@@ -102,7 +103,8 @@ module _ {S : Type 0} (answers : S → List ℕ → List ℕ → S → Type 0) w
       pub splits : Splits MAX_PAYLOAD taken payloads rest
       pub few : length payloads ≤ limit
       pub ended : EndsAs limit payloads rest after.input outcome
-      pub answered : AreAnswered answers gives_up before.service payloads turns after.service outcome
+      pub answered : AreAnswered answers gives_up before.service payloads turns after.service
+          outcome
       pub went : IsWritten outcome (replies_of turns) written
       pub wrote : Appends before.output after.output written
 

@@ -21,7 +21,11 @@ abbrev pub Stores : {E : Type 0} → Store → Store → List ℕ → Result ℕ
 Stores old new piece (Ok n) =
     (fails_now old.plan ≡ false)
     × (n ≡ min (length piece) (room_left old))
-    × (new ≡ record { written = old.written ++ take n piece; room = old.room; plan = passed old.plan })
+    × (new ≡ record {
+      written = old.written ++ take n piece;
+      room = old.room;
+      plan = passed old.plan;
+    })
 Stores old new piece (Err e) =
     ((fails_now old.plan ≡ true) ⊎ IsFullFor old piece)
     × (new ≡ record old { plan = failed old.plan })

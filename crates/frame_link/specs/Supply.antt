@@ -23,4 +23,5 @@ Supplies old new room (Ok n) =
     (fails_now old.plan ≡ false)
     × (n ≡ count_of old room)
     × (new ≡ record { left = drop n old.left; chunks = drop 1 old.chunks; plan = passed old.plan })
-Supplies old new room (Err e) = (fails_now old.plan ≡ true) × (new ≡ record old { plan = failed old.plan })
+Supplies old new room (Err e) =
+    (fails_now old.plan ≡ true) × (new ≡ record old { plan = failed old.plan })

@@ -44,8 +44,8 @@ fn length_of(word: [u8; 4]) -> u32
     u32::from_be_bytes(word)
 }
 
-// The next frame's payload at the front of the room, which is as long as the limit. It says how long
-// the payload is.
+// The next frame's payload at the front of the room, which is as long as the limit. It says how
+// long the payload is.
 fn next_into<S: Source>(source: &mut S, room: &mut [u8]) -> Result<usize, Next>
     ensures bound { IfOk result (λ n. n ≤ length room.new) }
     ensures frame { IfOk result (λ n.
@@ -120,10 +120,12 @@ impl FrameBuf {
     }
 }
 
-/// Takes the next frame from a source, and no byte past it. Where no frame came the buffer is empty.
+/// Takes the next frame from a source, and no byte past it. Where no frame came the buffer is
+/// empty.
 pub fn next_frame<S: Source>(source: &mut S, buf: &mut FrameBuf) -> Next
     ensures limit { buf.new.limit ≡ buf.old.limit }
-    ensures bytes { Takes buf.old.limit (S.left source.old) (S.left source.new) buf.new.payload result }
+    ensures bytes { Takes buf.old.limit (S.left source.old) (S.left source.new) buf.new.payload
+        result }
     ensures cause { HasReadCause (S.faults source.old) (S.faults source.new) result }
 {
     match next_into(source, &mut buf.room) {
@@ -181,8 +183,8 @@ fn put_large<K: Sink>(sink: &mut K, payload: &[u8]) -> Put
     }
 }
 
-/// Writes a frame: a small one with one call of the sink, where that takes all of it, a larger one with two.
-/// After a fault a proper front of the frame was written.
+/// Writes a frame: a small one with one call of the sink, where that takes all of it, a larger one
+/// with two. After a fault a proper front of the frame was written.
 pub fn put_frame<K: Sink>(sink: &mut K, payload: &[u8]) -> Put
     requires { length payload.now < 2 ^ 32 }
     ensures bytes { Puts (K.written sink.old) (K.written sink.new) payload.now result }

@@ -31,7 +31,8 @@ impl Model for MemClock {
 }
 
 impl MemClock {
-    /// A clock of at least one reading. `fails` has the numbers of the calls that fail, counted from 0.
+    /// A clock of at least one reading. `fails` has the numbers of the calls that fail, counted
+    /// from 0.
     pub fn new(readings: Vec<u64>, fails: Vec<u64>) -> MemClock
         requires { 0 < length readings.items }
         ensures { result ≡ record { readings = readings.items; plan = plan_of fails.items } }

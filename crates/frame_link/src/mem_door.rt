@@ -40,8 +40,8 @@ impl<I, O> Model for MemDoor<I, O> {
 }
 
 impl<I: Drop, O: Drop> MemDoor<I, O> {
-    /// A door of these connections, with room to take each of them back. `fails` has the numbers of the
-    /// calls of `accept` that fail, counted from 0.
+    /// A door of these connections, with room to take each of them back. `fails` has the numbers of
+    /// the calls of `accept` that fail, counted from 0.
     pub fn new(
         alloc: Global,
         connections: Vec<(I, O)>,
@@ -93,7 +93,8 @@ impl<I: Source + Send + Drop, O: Sink + Send + Drop> Door for MemDoor<I, O> {
     ghost faults = { λ d. d.plan.faults };
 
     fn accept(&mut self) -> Result<Option<(I, O)>, Failed>
-        ensures gives { Opens (Some self.old.left) (Some self.new.left) self.old.given self.new.given result }
+        ensures gives { Opens (Some self.old.left) (Some self.new.left)
+            self.old.given self.new.given result }
         ensures back { Some self.new.back ≡ Some self.old.back }
         ensures cause { HasCause self.old.plan.faults self.new.plan.faults result }
         ensures exact { Admits self.old self.new result }
@@ -107,7 +108,8 @@ impl<I: Source + Send + Drop, O: Sink + Send + Drop> Door for MemDoor<I, O> {
     }
 
     fn done(&mut self, input: I, output: O)
-        ensures back { TakesBack (Some self.old.back) (Some self.new.back) self.old.given (input, output) }
+        ensures back { TakesBack (Some self.old.back) (Some self.new.back) self.old.given
+            (input, output) }
         ensures left { Some self.new.left ≡ Some self.old.left }
         ensures given { self.new.given ≡ self.old.given }
         ensures faults { self.new.plan.faults ≡ self.old.plan.faults }

@@ -33,10 +33,11 @@ impl Model for MemSink {
 }
 
 impl MemSink {
-    /// An empty sink of so many bytes, which takes memory for all of them. `fails` has the numbers of the
-    /// calls that fail, counted from 0.
+    /// An empty sink of so many bytes, which takes memory for all of them. `fails` has the numbers
+    /// of the calls that fail, counted from 0.
     pub fn new(alloc: Global, room: usize, fails: Vec<u64>) -> Result<MemSink, AllocError>
-        ensures { IfOk result (λ s. s ≡ record { written = []; room = room; plan = plan_of fails.items }) }
+        ensures { IfOk result
+            (λ s. s ≡ record { written = []; room = room; plan = plan_of fails.items }) }
     {
         let bytes = Vec::with_capacity(alloc, room)?;
         Ok(MemSink {
@@ -70,7 +71,8 @@ impl Sink for MemSink {
     fn write(&mut self, piece: &[u8]) -> Result<usize, Failed>
         ensures bound { WritesAtMost result piece.now }
         ensures some { IfOk result (λ n. 0 < length piece.now → 0 < n) }
-        ensures bytes { WriteAppends (Some self.old.written) (Some self.new.written) result piece.now }
+        ensures bytes { WriteAppends (Some self.old.written) (Some self.new.written) result
+            piece.now }
         ensures cause { HasCause self.old.plan.faults self.new.plan.faults result }
         ensures exact { Stores self.old self.new piece.now result }
     {

@@ -27,16 +27,21 @@ impl Model for MemSource {
 
     ghost Value = { Supply };
 
-    ghost view = { λ s. record { left = drop s.at s.bytes.items; chunks = s.chunks.items; plan = s.plan } };
+    ghost view = { λ s. record {
+      left = drop s.at s.bytes.items;
+      chunks = s.chunks.items;
+      plan = s.plan;
+    } };
 
     // The place is in the bytes or at their end, and each chunk has a byte.
-    ghost invariant = { λ s. (s.at ≤ length s.bytes.items) × All (λ (n : ℕ). 0 < n) s.chunks.items };
+    ghost invariant = { λ s. (s.at ≤ length s.bytes.items)
+        × All (λ (n : ℕ). 0 < n) s.chunks.items };
 }
 
 impl MemSource {
-    /// A source of these bytes. The next read that does not fail takes at most the first chunk, the one
-    /// behind it the second; after the last chunk only the room bounds a read. `fails` has the numbers
-    /// of the calls that fail, counted from 0.
+    /// A source of these bytes. The next read that does not fail takes at most the first chunk, the
+    /// one behind it the second; after the last chunk only the room bounds a read. `fails` has the
+    /// numbers of the calls that fail, counted from 0.
     pub fn new(bytes: Vec<u8>, chunks: Vec<usize>, fails: Vec<u64>) -> MemSource
         requires { All (λ n. 0 < n) chunks.items }
         ensures { result ≡ record {

@@ -1,5 +1,5 @@
-//! What the program reads from, writes to and takes the time from. Each counts its faults, and may tell
-//! what it has left or holds.
+//! What the program reads from, writes to and takes the time from. Each counts its faults, and may
+//! tell what it has left or holds.
 
 ghost use Rattle.std.specs.Prelude.{◌≡◌, ◌<◌, ◌≤◌, List, ℕ, length, IfOk, Option};
 ghost use Rattle.std.specs.Io.{ReadsAtMost, WritesAtMost};
@@ -69,7 +69,8 @@ pub enum RelayAnswer {
 }
 
 pub trait RelayLink {
-    /// What the relay says of a node's certificate and the new one that it gives, where the link tells it.
+    /// What the relay says of a node's certificate and the new one that it gives, where the link
+    /// tells it.
     ghost says: { Self → Option (ℕ → List ℕ → Said) };
 
     /// How often a call has failed.
@@ -109,7 +110,8 @@ pub trait Door {
 
     /// The next connection. `None` is the end.
     fn accept(&mut self) -> Result<Option<(Self::In, Self::Out)>, Failed>
-        ensures gives { Opens (left self.old) (left self.new) (given self.old) (given self.new) result }
+        ensures gives { Opens (left self.old) (left self.new) (given self.old) (given self.new)
+            result }
         ensures back { back self.new ≡ back self.old }
         ensures cause { HasCause (faults self.old) (faults self.new) result };
 

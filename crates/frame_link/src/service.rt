@@ -24,10 +24,12 @@ pub trait Service {
     /// What has to hold of it before each payload.
     ghost stands: { Self → Type 0 } = { λ _. Unit {0} };
 
-    /// The ghost names of what it borrows to change, where its owner is to know what became of that.
+    /// The ghost names of what it borrows to change, where its owner is to know what became of
+    /// that.
     ghost borrows: { Self → List ℕ } = { λ _. [] };
 
-    /// Answers a payload, or gives it up since the clock failed. Any other want is told in the reply.
+    /// Answers a payload, or gives it up since the clock failed. Any other want is told in the
+    /// reply.
     fn answer(&mut self, payload: &[u8]) -> Result<(), Failed>
         requires stands { stands self.old }
         requires short { length payload.now ≤ MAX_PAYLOAD }

@@ -55,8 +55,8 @@ fn answer_frames<S: Service, I: Source, O: Sink>(
     }
 }
 
-/// Serves a connection: each frame of the input, at most so many, is answered by one frame of the output,
-/// before the next is read. The buffer is the room for a payload.
+/// Serves a connection: each frame of the input, at most so many, is answered by one frame of the
+/// output, before the next is read. The buffer is the room for a payload.
 pub fn serve_frames<S: Service, I: Source, O: Sink>(
     service: &mut S,
     buf: &mut FrameBuf,

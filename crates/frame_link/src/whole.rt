@@ -7,7 +7,8 @@ use crate::outside::{Failed, Sink, Source};
 /// Takes bytes until the room is full or the source has ended, and says how many it took.
 pub fn fill<S: Source>(source: &mut S, room: &mut [u8]) -> Result<usize, Failed>
     ensures bound { IfOk result (λ n. n ≤ length room.new) }
-    ensures bytes { IfOk result (λ n. Consumes (S.left source.old) (S.left source.new) (take n room.new)) }
+    ensures bytes { IfOk result
+        (λ n. Consumes (S.left source.old) (S.left source.new) (take n room.new)) }
     ensures end { IfOk result (λ n. n < length room.new → IsAtEnd (S.left source.new)) }
     ensures part { OnErr result ((part : List ℕ) × (length part < length room.new)
         × Consumes (S.left source.old) (S.left source.new) part) }

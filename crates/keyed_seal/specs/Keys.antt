@@ -1,5 +1,6 @@
 -- Key tables: pairs of a number and a key, ascending by number, and room for so many.
-use Rattle.std.specs.Prelude.{◌≡◌, ◌≢◌, ℕ, ◌+◌, ◌^◌, ◌<◌, ◌≤◌, All, List, [], ◌∷◌, length, ◌==◌, if◌then◌else◌, slice_index_or, Option, Some, None}
+use Rattle.std.specs.Prelude.{◌≡◌, ◌≢◌, ℕ, ◌+◌, ◌^◌, ◌<◌, ◌≤◌, All, List, [], ◌∷◌, length, ◌==◌}
+use Rattle.std.specs.Prelude.{if◌then◌else◌, slice_index_or, Option, Some, None}
 
 -- numbers, each with its key
 abbrev pub Entries : Type 0

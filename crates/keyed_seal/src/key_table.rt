@@ -1,8 +1,10 @@
 //! Keys by their numbers.
 
-ghost use Rattle.std.specs.Prelude.{◌≡◌, ◌↔◌, [], length, IsOk, IfOk, IfErr, OnOk, OnErr, IsErrOf, IsSome, None, slice_get};
+ghost use Rattle.std.specs.Prelude.{◌≡◌, ◌↔◌, [], length, IsOk, IfOk, IfErr, OnOk, OnErr, IsErrOf};
+ghost use Rattle.std.specs.Prelude.{IsSome, None, slice_get};
 ghost use Rattle.std.specs.Option.{option_copied, option_map};
-ghost use Rattle.keyed_seal.specs.Keys.{AddsKey, HasRoomFor, IsAt, IsGapFor, IsKeyTable, LacksRoomFor, key_of};
+ghost use Rattle.keyed_seal.specs.Keys.{AddsKey, HasRoomFor, IsAt, IsGapFor, IsKeyTable};
+ghost use Rattle.keyed_seal.specs.Keys.{LacksRoomFor, key_of};
 
 use crate::fault::KeyFault;
 use crate::sealer::Sealer;

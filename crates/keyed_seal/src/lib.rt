@@ -9,4 +9,4 @@ mod tag;
 pub use fault::KeyFault;
 pub use key_table::KeyTable;
 pub use sealer::Sealer;
-pub use tag::{hmac, tag_is};
+pub use tag::{TAG_LEN, hmac, tag_is};

@@ -14,6 +14,9 @@ pub(crate) const OUTER_PAD: u8 = 0x5c;
 
 const BLOCK_LEN: usize = 64;
 
+/// How many bytes a tag has.
+pub const TAG_LEN: usize = 32;
+
 /// The tag of `text` under `key`: HMAC-SHA-256, as RFC 2104 has it. A key may have any length.
 pub fn hmac(key: &[u8], text: &[u8]) -> [u8; 32]
     ensures { result ≡ tag_of key.now text.now }

@@ -42,8 +42,8 @@ fn a_frame_above_the_limit_is_too_long(rt: HostRuntime) -> Result<(), Fail> {
     Ok(())
 }
 
-// The calls of a source that gives each piece whole: a length, a payload, the length of an empty frame,
-// a length, a payload, two bytes of a length, the end.
+// The calls of a source that gives each piece whole: a length, a payload, the length of an empty
+// frame, a length, a payload, two bytes of a length, the end.
 #[test]
 fn each_read_may_fail(rt: HostRuntime) -> Result<(), Fail> {
     let alloc = rt.alloc();

@@ -5,8 +5,8 @@ use relay_core::*;
 use std::alloc::Global;
 use std::test::*;
 
-// Key 1 says that key 2 speaks for name 10, until 2000, with serial 1, as kind 1 under 32 bytes of value 1. The tag is
-// by Python's hmac.
+// Key 1 says that key 2 speaks for name 10, until 2000, with serial 1, as kind 1 under 32 bytes of
+// value 1. The tag is by Python's hmac.
 const FROM_ISSUER: [u8; 65] = [
     1, 1, 0, 0, 0, 1, 0, 1, 0, 0, 0, 2, 2, 0, 0, 0, 10, 0, 0, 0, 0, 0, 0, 7, 208, 0, 0, 0, 0, 0, 0,
     0, 1, 229, 211, 80, 58, 138, 140, 152, 71, 105, 215, 86, 194, 192, 152, 12, 52, 153, 188, 151,

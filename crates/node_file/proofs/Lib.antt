@@ -5,3 +5,4 @@ pub mod OpeningLaws
 pub mod Lookups
 pub mod Whole
 pub mod Listed
+pub mod Faults

@@ -44,7 +44,7 @@ in_fields : (mark node key shards keep limit cc cs an co oc os : List ℕ)
     → (mark ++ (node ++ (key ++ (shards ++ (keep ++ limit))))) ++ ((cc ++ cs) ++ (an ++ (co ++ (oc ++ os)))) ≡ mark ++ node ++ key ++ shards ++ keep ++ limit ++ cc ++ cs ++ an ++ co ++ oc ++ os
 in_fields mark node key shards keep limit cc cs an co oc os = simp append_assoc
 
-fields_bytes : (o : Opening) → head_bytes (head_of o) ++ ((to_be_bytes w16 (length o.channels) ++ flat_map channel_bytes o.channels) ++ ((length o.anchors ∷ flat_map anchor_bytes o.anchors) ++ ((length o.commons ∷ flat_map (common_bytes o.relay_key) o.commons) ++ (to_be_bytes w16 (length o.objects) ++ flat_map object_bytes o.objects)))) ≡ opening_bytes o
+fields_bytes : (o : Opening) → head_bytes (head_of o) ++ rest_bytes o.relay_key (o.channels, (o.anchors, (o.commons, o.objects))) ≡ opening_bytes o
 fields_bytes o =
     in_fields (0 ∷ 1 ∷ []) (to_be_bytes w32 o.node) o.relay_key (to_be_bytes w32 o.shards) (to_be_bytes w64 o.keep) (to_be_bytes w64 o.limit)
     (to_be_bytes w16 (length o.channels)) (flat_map channel_bytes o.channels) (length o.anchors ∷ flat_map anchor_bytes o.anchors)

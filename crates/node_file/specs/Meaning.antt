@@ -3,7 +3,8 @@ use Rattle.std.specs.Prelude.{◌≡◌, ℕ, ◌≤◌, map, length, Some}
 use Rattle.std.specs.Arc.{arc_value}
 use Rattle.keyed_seal.specs.Keys.{key_of}
 use Rattle.node_file.specs.declared.opening.Opening.{Opening}
-use Rattle.node_file.specs.declared.opening.TheConstants.{MAX_SHARDS, MAX_LIMIT, MAX_CHANNELS, MAX_ANCHORS, MAX_COMMONS}
+use Rattle.node_file.specs.declared.opening.TheConstants.{MAX_SHARDS, MAX_LIMIT, MAX_CHANNELS}
+use Rattle.node_file.specs.declared.opening.TheConstants.{MAX_ANCHORS, MAX_COMMONS}
 use Rattle.node_file.specs.Opening as plain
 use Rattle.node_file.specs.Opening.{FitsObject, plan_of}
 use Rattle.node_file.specs.OpeningView.{common}
@@ -31,7 +32,8 @@ pub record FitsByNumber (o : plain.Opening) : Type 0 where
   pub few_channels : length o.channels ≤ MAX_CHANNELS
   pub few_anchors : length o.anchors ≤ MAX_ANCHORS
   pub few_commons : length o.commons ≤ MAX_COMMONS
-  pub objects : (number : ℕ) (p : plain.ObjectPlan) → plan_of o.objects number ≡ Some p → FitsObject p
+  pub objects : (number : ℕ) (p : plain.ObjectPlan) → plan_of o.objects number ≡ Some p
+      → FitsObject p
 
 -- two openings with the same relay key and anchors, in which each look-up finds the same
 pub record SameNode (a b : plain.Opening) : Type 0 where

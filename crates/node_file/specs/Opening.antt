@@ -1,5 +1,6 @@
 -- What a node is opened with, and the bytes of its binary form.
-use Rattle.std.specs.Prelude.{◌≡◌, ◌≢◌, ℕ, ◌+◌, ◌*◌, ◌^◌, ◌<◌, ◌≤◌, ◌==◌, List, ◌∷◌, ◌++◌, length, All, AllPairs, Option, find}
+use Rattle.std.specs.Prelude.{◌≡◌, ◌≢◌, ℕ, ◌+◌, ◌*◌, ◌^◌, ◌<◌, ◌≤◌, ◌==◌, List, ◌∷◌, ◌++◌, length}
+use Rattle.std.specs.Prelude.{All, AllPairs, Option, find}
 use Rattle.std.specs.List.{flat_map}
 use Rattle.std.specs.Int.{w16, w32, w64, to_be_bytes}
 pub use Rattle.keyed_seal.specs.Keys.{key_of}
@@ -10,7 +11,9 @@ use Rattle.prin_term.specs.View.{Grant}
 use Rattle.sealed_cert.specs.declared.kind.TheConstants.{RELAYED}
 use Rattle.sealed_cert.specs.Seals.{sealed}
 use Rattle.stmt_codec.specs.Certificates.{Certificate, HasBodySpelling, IsWithinLimits}
-use Rattle.node_file.specs.declared.opening.TheConstants.{MAX_SHARDS, MAX_KEEP, MAX_LIMIT, MAX_CHANNELS, MAX_ANCHORS, MAX_COMMONS, MAX_OBJECTS, MAX_ROOM}
+use Rattle.node_file.specs.declared.opening.TheConstants.{MAX_SHARDS, MAX_KEEP, MAX_LIMIT}
+use Rattle.node_file.specs.declared.opening.TheConstants.{MAX_CHANNELS, MAX_ANCHORS, MAX_COMMONS}
+use Rattle.node_file.specs.declared.opening.TheConstants.{MAX_OBJECTS, MAX_ROOM}
 use Rattle.taos_wire.specs.Request.{grant_bytes}
 
 -- a guarded object: its number, its content and its access list
@@ -54,12 +57,15 @@ common_bytes relay_key c = counted w16 (sealed RELAYED relay_key c)
 
 -- the number, the content after its length, and the entries after their count
 abbrev pub object_bytes : ObjectPlan → List ℕ
-object_bytes p = to_be_bytes w32 p.number ++ counted w16 p.content ++ length p.list ∷ flat_map grant_bytes p.list
+object_bytes p =
+    to_be_bytes w32 p.number ++ counted w16 p.content
+    ++ length p.list ∷ flat_map grant_bytes p.list
 
 -- its one spelling: the mark, the node's own fields, and four lists, each after its count
 abbrev pub opening_bytes : Opening → List ℕ
 opening_bytes o =
-    0 ∷ 1 ∷ to_be_bytes w32 o.node ++ o.relay_key ++ to_be_bytes w32 o.shards ++ to_be_bytes w64 o.keep ++ to_be_bytes w64 o.limit
+    0 ∷ 1 ∷ to_be_bytes w32 o.node ++ o.relay_key
+    ++ to_be_bytes w32 o.shards ++ to_be_bytes w64 o.keep ++ to_be_bytes w64 o.limit
     ++ to_be_bytes w16 (length o.channels) ++ flat_map channel_bytes o.channels
     ++ length o.anchors ∷ flat_map anchor_bytes o.anchors
     ++ length o.commons ∷ flat_map (common_bytes o.relay_key) o.commons

@@ -1,5 +1,6 @@
 -- Reading an opening from left to right, with the first fault that is met.
-use Rattle.std.specs.Prelude.{ℕ, Bool, ◌&&◌, List, length, Result, Ok, Err, nat_le, nat_lt, ◌==◌, if◌then◌else◌}
+use Rattle.std.specs.Prelude.{ℕ, ◌≤◌, Bool, ◌&&◌, List, length, Result, Ok, Err, nat_le, nat_lt}
+use Rattle.std.specs.Prelude.{◌==◌, if◌then◌else◌}
 use Rattle.std.specs.Int.{w16, w32, w64}
 use Rattle.prin_term.specs.declared.term.Anchor.{Anchor}
 use Rattle.prin_term.specs.declared.fault.TermFault.{TermFault}
@@ -15,7 +16,9 @@ use Rattle.stmt_codec.specs.Certificates.{Certificate}
 use Rattle.stmt_codec.specs.Equality.{same_certificate}
 use Rattle.node_file.specs.declared.opening.OpeningFault.{OpeningFault}
 use Rattle.node_file.specs.declared.opening.OpeningFault.TheVariants.{Byte, NoMemory}
-use Rattle.node_file.specs.declared.opening.TheConstants.{MAX_KEEP, MAX_LIMIT, MAX_CHANNELS, MAX_ANCHORS, MAX_COMMONS, MAX_OBJECTS, MAX_SHARDS, MAX_ROOM}
+use Rattle.node_file.specs.declared.opening.TheConstants.{MAX_KEEP, MAX_LIMIT, MAX_CHANNELS}
+use Rattle.node_file.specs.declared.opening.TheConstants.{MAX_ANCHORS, MAX_COMMONS, MAX_OBJECTS}
+use Rattle.node_file.specs.declared.opening.TheConstants.{MAX_SHARDS, MAX_ROOM}
 use Rattle.node_file.specs.declared.opening.head.Head.{Head}
 use Rattle.node_file.specs.Opening.{Opening, ObjectPlan, journal_room}
 use Rattle.prin_term.specs.Readers.{Reader, followed, passing, made, counted, is_new}
@@ -27,6 +30,11 @@ OpeningReader A = Reader A OpeningFault
 -- the fault of bytes that are lacking, whose place is the end of the bytes
 abbrev pub ended : List ℕ → OpeningFault
 ended bytes = Byte (length bytes)
+
+-- the fault's place is one of the bytes, or right after the last, and it is not out of memory
+abbrev pub IsFaultIn : List ℕ → OpeningFault → Type 0
+IsFaultIn bytes (Byte o) = o ≤ length bytes
+IsFaultIn bytes NoMemory = ⊥
 
 -- a number of one byte
 abbrev pub u8_in : List ℕ → OpeningReader ℕ
@@ -85,7 +93,13 @@ shards_at bytes = passing (is_within 1 MAX_SHARDS) Byte (u32_in bytes)
 -- the mark, the node's number, its relay key, how many shards, `keep` and `limit`
 unfoldable pub head_at : List ℕ → OpeningReader Head
 head_at bytes =
-    made (λ x. record { node = x.1.0; relay_key = x.1.1.0; shards = x.1.1.1.0; keep = x.1.1.1.1.0; limit = x.1.1.1.1.1 })
+    made (λ x. record {
+      node = x.1.0;
+      relay_key = x.1.1.0;
+      shards = x.1.1.1.0;
+      keep = x.1.1.1.1.0;
+      limit = x.1.1.1.1.1;
+    })
     (followed (mark_at bytes)
     (λ _. followed (u32_in bytes)
     (λ _. followed (key_in bytes)
@@ -97,7 +111,8 @@ head_at bytes =
 
 -- a channel's number that none of the channels before has
 unfoldable pub new_channel_at : List ℕ → List (ℕ × List ℕ) → OpeningReader ℕ
-new_channel_at bytes before = passing (λ n. is_new (λ (c : ℕ × List ℕ). c.0 == n) before) Byte (u32_in bytes)
+new_channel_at bytes before =
+    passing (λ n. is_new (λ (c : ℕ × List ℕ). c.0 == n) before) Byte (u32_in bytes)
 
 -- a channel whose number is new, with its key
 unfoldable pub channel_at : List ℕ → List (ℕ × List ℕ) → OpeningReader (ℕ × List ℕ)
@@ -139,7 +154,8 @@ unfoldable pub common_at : List ℕ → List ℕ → List Certificate → Openin
 common_at bytes relay_key before =
     made (λ p. p.1)
     (followed (u16_in bytes)
-    (λ count. passing (λ c. is_new (same_certificate c) before) Byte (opened_in bytes relay_key count)))
+    (λ count. passing (λ c. is_new (same_certificate c) before) Byte
+    (opened_in bytes relay_key count)))
 
 -- the certificates held in common, after their count
 unfoldable pub commons_at : List ℕ → List ℕ → OpeningReader (List Certificate)
@@ -169,7 +185,8 @@ content_at bytes =
 
 -- an object's number that none of the objects before has
 unfoldable pub new_object_at : List ℕ → List ObjectPlan → OpeningReader ℕ
-new_object_at bytes before = passing (λ n. is_new (λ (p : ObjectPlan). p.number == n) before) Byte (u32_in bytes)
+new_object_at bytes before =
+    passing (λ n. is_new (λ (p : ObjectPlan). p.number == n) before) Byte (u32_in bytes)
 
 -- an object whose number is new: then its content and its access list
 unfoldable pub object_at : List ℕ → List ObjectPlan → OpeningReader ObjectPlan
@@ -187,7 +204,17 @@ objects_at bytes = counted MAX_OBJECTS Byte (u16_in bytes) (object_at bytes)
 -- all fields in their order; the commons open under the relay key that was read
 unfoldable pub fields_at : List ℕ → OpeningReader Opening
 fields_at bytes =
-    made (λ x. record { node = x.0.node; relay_key = x.0.relay_key; shards = x.0.shards; keep = x.0.keep; limit = x.0.limit; channels = x.1.0; anchors = x.1.1.0; commons = x.1.1.1.0; objects = x.1.1.1.1 })
+    made (λ x. record {
+      node = x.0.node;
+      relay_key = x.0.relay_key;
+      shards = x.0.shards;
+      keep = x.0.keep;
+      limit = x.0.limit;
+      channels = x.1.0;
+      anchors = x.1.1.0;
+      commons = x.1.1.1.0;
+      objects = x.1.1.1.1;
+    })
     (followed (head_at bytes)
     (λ head. followed (channels_at bytes)
     (λ _. followed (anchors_at bytes)
@@ -199,4 +226,5 @@ fields_at bytes =
 unfoldable pub opening_of : List ℕ → Result Opening OpeningFault
 opening_of bytes = do
   x ← fields_at bytes 0
-  if nat_lt x.1 (length bytes) then Err (Byte x.1) else (if nat_le (journal_room x.0) MAX_ROOM then Ok x.0 else Err (ended bytes))
+  if nat_lt x.1 (length bytes) then Err (Byte x.1)
+      else (if nat_le (journal_room x.0) MAX_ROOM then Ok x.0 else Err (ended bytes))

@@ -22,11 +22,17 @@ pub record HoldsKeys (table : Keys) (keys : List (ℕ × List ℕ)) : Type 0 whe
 
 -- the program's object, with its number
 abbrev pub plan : ℕ → code_plan.ObjectPlan → ObjectPlan
-plan number p = record { number = number; content = p.content.items; list = map grant (arc_value p.list).items }
+plan number p = record {
+  number = number;
+  content = p.content.items;
+  list = map grant (arc_value p.list).items;
+}
 
 -- a look-up in the map of objects gives what the list has, and they have as many objects
-pub record HoldsPlans (plans : BTreeMap ℕ code_plan.ObjectPlan) (list : List ObjectPlan) : Type 0 where
-  pub each : (number : ℕ) → option_map (plan number) (get nat_cmp plans number) ≡ plan_of list number
+pub record HoldsPlans (plans : BTreeMap ℕ code_plan.ObjectPlan)
+    (list : List ObjectPlan) : Type 0 where
+  pub each : (number : ℕ)
+      → option_map (plan number) (get nat_cmp plans number) ≡ plan_of list number
   pub count : btree_map_len plans ≡ length list
 
 -- the certificate that the program shares, wherever it lies
@@ -51,6 +57,7 @@ abbrev pub WithEnd : {X Y : Type 0} → (X → Y → Type 0) → X × ℕ → Y 
 WithEnd Stands x y = Stands x.0 y.0 × (x.1 ≡ y.1)
 
 -- what was returned stands for what reading gives, unless memory ran out
-abbrev pub Agrees : {X Y : Type 0} → (X → Y → Type 0) → Result X OpeningFault → Result Y OpeningFault → Type 0
+abbrev pub Agrees : {X Y : Type 0} → (X → Y → Type 0) → Result X OpeningFault
+    → Result Y OpeningFault → Type 0
 Agrees {X} {Y} Stands (Ok x) read = (y : Y) × (read ≡ Ok y) × Stands x y
 Agrees Stands (Err e) read = (e ≡ NoMemory) ⊎ (read ≡ Err e)

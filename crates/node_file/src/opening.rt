@@ -13,7 +13,7 @@ mod table;
 
 use keyed_seal::KeyTable;
 use prin_term::{Anchor, Entry, TermFault};
-pub use reading::{one_opening, read_opening};
+pub use reading::read_opening;
 use std::alloc::{AllocError, AllocFailed};
 use std::collections::BTreeMap;
 use std::error::Error;

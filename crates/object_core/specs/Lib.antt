@@ -1,2 +1,4 @@
 pub mod Operation
 pub mod View
+pub mod Spelling
+pub mod Reading

@@ -1,8 +1,15 @@
-//! Guarded objects: what is asked of them, and the right that each operation needs.
+//! Guarded objects: what is asked of them, the right that each operation needs, and the bytes of
+//! their contents and access lists.
 #![tactic(auto)]
 
+mod laws;
 mod limits;
 mod operation;
+mod reading;
+mod writing;
 
+pub use laws::{contents_are_read, lists_are_read};
 pub use limits::{MAX_CONTENT, MAX_ENTRIES, MAX_RIGHTS};
 pub use operation::{Op, right_of};
+pub use reading::{read_content, read_list};
+pub use writing::write_list;

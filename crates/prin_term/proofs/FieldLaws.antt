@@ -1,5 +1,6 @@
 -- Fields: what is read there was spelled, and what is spelled there is read.
-use Rattle.std.proofs.Common.{◌≡◌, ℕ, zero, suc, ◌+◌, ◌-◌, ◌/◌, ◌^◌, ◌<◌, ◌≤◌, true, false, cond, eqb, ltb, List, [], ◌∷◌, ◌++◌, length, get_or, take, drop, Option, Some, None, Result, Ok, Err, refl, sym, ap, subst, ◌∙◌, append_assoc, arith, inl, inr, length-append, length-take, length-drop, drop-cons, All}
+use Rattle.std.proofs.Common.{◌≡◌, ℕ, zero, suc, ◌+◌, ◌-◌, ◌/◌, ◌^◌, ◌<◌, ◌≤◌, true, false, cond, eqb, ltb, List, [], ◌∷◌, ◌++◌, length, get_or, take, drop}
+use Rattle.std.proofs.Common.{Option, Some, None, Result, Ok, Err, refl, sym, ap, subst, ◌∙◌, append_assoc, arith, inl, inr, length-append, length-take, length-drop, drop-cons, All}
 use Rattle.std.specs.Int.{Width, w16, w32, w64, byte_len, from_be_bytes, to_be_bytes, bytes_high_first, byte_at as byte_of}
 use Rattle.std.proofs.lemmas.Bool.{cases_lt, eq-eqb, eqb-true, ltb-false, ltb-true, le-ltb, lt-ltb}
 use Rattle.std.proofs.lemmas.List.{take_at, drop_at, drop-drop, take-append-drop, get_or-drop, get_or-take, get_or_past}
@@ -281,7 +282,8 @@ abbrev pub OptionFits : {A : Type 0} → (A → Type 0) → Option A → Type 0
 OptionFits Fits None = Unit {0}
 OptionFits Fits (Some x) = Fits x
 
-pub optional_takes : {A E : Type 0} (short bad : E) (item : ℕ → Result (A × ℕ) E) (spell : A → List ℕ) (Fits : A → Type 0) (bytes : List ℕ) (at : ℕ) (x : Option A × ℕ) → ItemTakes item spell Fits bytes → at ≤ length bytes → optional_at short bad item bytes at ≡ Ok x → TakesAt bytes at (optional spell x.0) x.1 × OptionFits Fits x.0
+pub optional_takes : {A E : Type 0} (short bad : E) (item : ℕ → Result (A × ℕ) E) (spell : A → List ℕ) (Fits : A → Type 0) (bytes : List ℕ) (at : ℕ) (x : Option A × ℕ)
+    → ItemTakes item spell Fits bytes → at ≤ length bytes → optional_at short bad item bytes at ≡ Ok x → TakesAt bytes at (optional spell x.0) x.1 × OptionFits Fits x.0
 unfolding optional_at
 optional_takes {A} {E} short bad item spell Fits bytes at x takes le e =
     let a = bind_ok _ _ x e in
@@ -302,7 +304,9 @@ optional_takes {A} {E} short bad item spell Fits bytes at x takes le e =
       ]
     ]
 
-pub optional_again : {A E : Type 0} (short bad : E) (item : ℕ → Result (A × ℕ) E) (spell : A → List ℕ) (Fits : A → Type 0) (bytes rest : List ℕ) (at : ℕ) (o : Option A) → ItemAgain item spell Fits bytes → at ≤ length bytes → OptionFits Fits o → drop at bytes ≡ optional spell o ++ rest → optional_at short bad item bytes at ≡ Ok (o, at + length (optional spell o))
+pub optional_again : {A E : Type 0} (short bad : E) (item : ℕ → Result (A × ℕ) E) (spell : A → List ℕ) (Fits : A → Type 0) (bytes rest : List ℕ) (at : ℕ) (o : Option A)
+    → ItemAgain item spell Fits bytes → at ≤ length bytes → OptionFits Fits o → drop at bytes ≡ optional spell o ++ rest
+    → optional_at short bad item bytes at ≡ Ok (o, at + length (optional spell o))
 unfolding optional_at
 optional_again short bad item spell Fits bytes rest at None again le fit e = rw (byte_again short bytes rest at 0 e) refl
 optional_again short bad item spell Fits bytes rest at (Some x) again le fit e =

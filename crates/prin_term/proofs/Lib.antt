@@ -8,6 +8,8 @@ pub mod Whole
 pub mod Parts
 pub mod ReaderLaws
 pub mod Loops
+pub mod Pieces
 pub mod FieldReaders
+pub mod FormatFields
 pub mod Cuts
 pub mod Sizes

@@ -8,8 +8,8 @@ use Rattle.std.proofs.Math.Seq.{get_or-append_seam}
 use Rattle.std.proofs.lemmas.List.{get_or_append_left}
 use Rattle.std.proofs.lemmas.List.Elements.{All-nil, All-cons, All-head, All-tail}
 use Rattle.std.proofs.lemmas.List.Quantifiers.{all_pairs_push}
-use Rattle.prin_term.specs.Steps.{◌>>=◌, byte_at, bytes_at, number_at}
-use Rattle.prin_term.proofs.Results.{bind_ok, ok_is, chosen_ok}
+use Rattle.prin_term.specs.Steps.{◌>>=◌, with_fault, byte_at, bytes_at, number_at}
+use Rattle.prin_term.proofs.Results.{bind_ok, ok_is, chosen_ok, with_fault_ok}
 use Rattle.prin_term.proofs.FieldLaws.{IsBytes, IsBytes-drop, IsWide, TakesAt, TakesAt-then, TakesAt-none, TakesAt-within, behind, byte_takes, byte_below, byte_again, bytes_takes, bytes_again, number_takes, number_again}
 use Rattle.prin_term.specs.Readers.{Reader, followed, passing, made, items_behind, counted, is_new}
 
@@ -111,6 +111,14 @@ reads_as {A} {E} {bytes} {r} {sa} {Fa} sb Fb reads forth back = record {
       let from = back a fits in
       let same : sb a ≡ sa a = sym (forth a from).1 in
       reads.again at a rest from (e ∙ ap (λ (l : List ℕ). l ++ rest) same) ∙ ap (λ (l : List ℕ). Ok (a, at + length l)) (sym same);
+}
+
+-- the same values, where a fault is seen as another's
+pub reads_seen_as : {A E F : Type 0} {bytes : List ℕ} {r : Reader A E} {spell : A → List ℕ} {Fits : A → Type 0} (f : E → F)
+    → Reads bytes r spell Fits → Reads bytes (λ at. with_fault f (r at)) spell Fits
+reads_seen_as {A} {E} {F} {bytes} {r} {spell} {Fits} f reads = record {
+  takes = λ ok at x le e. reads.takes ok at x le (with_fault_ok f (r at) x e);
+  again = λ at a rest fits e. ap (with_fault f) (reads.again at a rest fits e);
 }
 
 -- ---- items, each of which is apart from those before it

@@ -78,7 +78,9 @@ atom_refused end levels nodes at tag bytes f make is total e = elim (bind_err _ 
   | inr other ↦ absurd (cc (other.2))
 ]
 
-pair_refused : (operand : ℕ → List ℕ → Result Operand TermFault) (end levels nodes at : ℕ) (kind : Kind) (bytes : List ℕ) (f : TermFault) → OperandTakes operand levels → OperandRefuses operand end levels → IsBytes bytes → end ≡ at + length (tag_of kind ∷ bytes) → front_pair operand kind nodes bytes ≡ Err f → IsRefused (suc levels) (suc nodes) (tag_of kind ∷ bytes) at f
+pair_refused : (operand : ℕ → List ℕ → Result Operand TermFault) (end levels nodes at : ℕ) (kind : Kind) (bytes : List ℕ) (f : TermFault) → OperandTakes operand levels
+    → OperandRefuses operand end levels → IsBytes bytes → end ≡ at + length (tag_of kind ∷ bytes) → front_pair operand kind nodes bytes ≡ Err f
+    → IsRefused (suc levels) (suc nodes) (tag_of kind ∷ bytes) at f
 unfolding front_pair
 pair_refused operand end levels nodes at kind bytes f takes ih fits total e = elim (bind_err _ _ f e) [
   | inl first ↦ in_first levels nodes at kind bytes f (ih nodes (at + 1) bytes f fits (omega (arith, total)) first)
@@ -92,7 +94,9 @@ pair_refused operand end levels nodes at kind bytes f takes ih fits total e = el
   ]
 ]
 
-role_refused : (operand : ℕ → List ℕ → Result Operand TermFault) (end levels nodes at : ℕ) (bytes : List ℕ) (f : TermFault) → OperandTakes operand levels → OperandRefuses operand end levels → IsBytes bytes → end ≡ at + length (5 ∷ bytes) → front_tagged operand end nodes 5 bytes ≡ Err f → IsRefused (suc levels) (suc nodes) (5 ∷ bytes) at f
+role_refused : (operand : ℕ → List ℕ → Result Operand TermFault) (end levels nodes at : ℕ) (bytes : List ℕ) (f : TermFault) → OperandTakes operand levels
+    → OperandRefuses operand end levels → IsBytes bytes → end ≡ at + length (5 ∷ bytes) → front_tagged operand end nodes 5 bytes ≡ Err f
+    → IsRefused (suc levels) (suc nodes) (5 ∷ bytes) at f
 unfolding front_tagged
 role_refused operand end levels nodes at bytes f takes ih fits total e = elim (bind_err _ _ f e) [
   | inl first ↦ in_base levels nodes at bytes f (ih nodes (at + 1) bytes f fits (omega (arith, total)) first)
@@ -106,7 +110,9 @@ role_refused operand end levels nodes at bytes f takes ih fits total e = elim (b
   ]
 ]
 
-tagged_refused : (operand : ℕ → List ℕ → Result Operand TermFault) (end levels nodes at tag : ℕ) (bytes : List ℕ) (f : TermFault) → OperandTakes operand levels → OperandRefuses operand end levels → IsHead tag → IsBytes bytes → end ≡ at + length (tag ∷ bytes) → front_tagged operand end nodes tag bytes ≡ Err f → IsRefused (suc levels) (suc nodes) (tag ∷ bytes) at f
+tagged_refused : (operand : ℕ → List ℕ → Result Operand TermFault) (end levels nodes at tag : ℕ) (bytes : List ℕ) (f : TermFault) → OperandTakes operand levels
+    → OperandRefuses operand end levels → IsHead tag → IsBytes bytes → end ≡ at + length (tag ∷ bytes) → front_tagged operand end nodes tag bytes ≡ Err f
+    → IsRefused (suc levels) (suc nodes) (tag ∷ bytes) at f
 unfolding front_tagged
 tagged_refused operand end levels nodes at tag bytes f takes ih (is_key t) fits total e =
     subst (λ (k : ℕ). end ≡ at + length (k ∷ bytes) → front_tagged operand end nodes k bytes ≡ Err f → IsRefused (suc levels) (suc nodes) (k ∷ bytes) at f) (sym t) (atom_refused end levels nodes at 1 bytes f (λ n. (Key n.0, nodes, n.1)) (inl refl)) total e
@@ -121,7 +127,9 @@ tagged_refused operand end levels nodes at tag bytes f takes ih (is_pair For t) 
 tagged_refused operand end levels nodes at tag bytes f takes ih (is_role t) fits total e =
     subst (λ (k : ℕ). end ≡ at + length (k ∷ bytes) → front_tagged operand end nodes k bytes ≡ Err f → IsRefused (suc levels) (suc nodes) (k ∷ bytes) at f) (sym t) (role_refused operand end levels nodes at bytes f takes ih fits) total e
 
-step_refused : (operand : ℕ → List ℕ → Result Operand TermFault) (end levels nodes at tag : ℕ) (rest : List ℕ) (f : TermFault) (r : Result Operand TermFault) → ((d : ℕ) → levels ≡ suc d → OperandTakes operand d) → ((d : ℕ) → levels ≡ suc d → OperandRefuses operand end d) → IsBytes (tag ∷ rest) → end ≡ at + length (tag ∷ rest)
+step_refused : (operand : ℕ → List ℕ → Result Operand TermFault) (end levels nodes at tag : ℕ) (rest : List ℕ) (f : TermFault) (r : Result Operand TermFault)
+    → ((d : ℕ) → levels ≡ suc d → OperandTakes operand d) → ((d : ℕ) → levels ≡ suc d → OperandRefuses operand end d) → IsBytes (tag ∷ rest)
+    → end ≡ at + length (tag ∷ rest)
     → AtTag operand end levels nodes tag rest r → r ≡ Err f → IsRefused levels nodes (tag ∷ rest) at f
 step_refused operand end levels nodes at tag rest f r takes ih fits total (no_tag is e) err =
     subst (λ (g : TermFault). IsRefused levels nodes (tag ∷ rest) at g) (err_is Operand _ f (sym e ∙ err)) (here levels nodes at (tag ∷ rest) _ (is, omega (arith, total)))
@@ -222,7 +230,8 @@ wrong_again : (p : Beginning) (end levels nodes at : ℕ) (rest : List ℕ) (f :
 wrong_again Here end levels nodes at rest f numbers deep many total w =
     wrong_here end levels nodes at rest f total (moved (levels - 0) levels (nodes - 0) nodes (at + 0) at rest f (omega arith) (omega arith) (omega arith) w)
 wrong_again (InFirst kind p) end levels nodes at rest f numbers deep many total w =
-    let e = wrong_again p end (levels - 1) (nodes - 1) (at + 1) rest f numbers (omega arith) (omega arith) (omega (arith, total)) (moved (levels - level_of (InFirst kind p)) _ (nodes - count_of (InFirst kind p)) _ (at + length (before (InFirst kind p))) _ rest f (omega arith) (omega arith) (omega arith) w) in
+    let e = wrong_again p end (levels - 1) (nodes - 1) (at + 1) rest f numbers (omega arith) (omega arith) (omega (arith, total))
+    (moved (levels - level_of (InFirst kind p)) _ (nodes - count_of (InFirst kind p)) _ (at + length (before (InFirst kind p))) _ rest f (omega arith) (omega arith) (omega arith) w) in
     behind_tag end levels nodes (tag_of kind) (before p ++ rest) (tag_is_tag kind) (omega arith) (omega arith)
     ∙ tagged-pair (front_term end (levels - 1)) end (nodes - 1) kind (before p ++ rest) ∙ pair_fails_first (front_term end (levels - 1)) kind (nodes - 1) (before p ++ rest) f e
 wrong_again (InSecond kind a p) end levels nodes at rest f numbers deep many total w =
@@ -230,7 +239,8 @@ wrong_again (InSecond kind a p) end levels nodes at rest f numbers deep many tot
     let len : length ((spelling a ++ before p) ++ rest) ≡ length (spelling a) + length (before p ++ rest) = ap length regrouped ∙ length-append (spelling a) (before p ++ rest) in
     let left : ℕ = nodes - 1 - node_count a in
     let first = term_again end (levels - 1) (nodes - 1) left a (before p ++ rest) numbers.0 (omega arith) (omega arith) in
-    let e = wrong_again p end (levels - 1) left (at + 1 + length (spelling a)) rest f numbers.1 (omega arith) (omega arith) (omega (arith, total, len)) (moved (levels - level_of (InSecond kind a p)) _ (nodes - count_of (InSecond kind a p)) _ (at + length (before (InSecond kind a p))) _ rest f (omega arith) (omega arith) (omega (arith, length-append (spelling a) (before p))) w) in
+    let e = wrong_again p end (levels - 1) left (at + 1 + length (spelling a)) rest f numbers.1 (omega arith) (omega arith) (omega (arith, total, len))
+    (moved (levels - level_of (InSecond kind a p)) _ (nodes - count_of (InSecond kind a p)) _ (at + length (before (InSecond kind a p))) _ rest f (omega arith) (omega arith) (omega (arith, length-append (spelling a) (before p))) w) in
     ap (λ (l : List ℕ). front_term end levels nodes (tag_of kind ∷ l)) regrouped
     ∙ behind_tag end levels nodes (tag_of kind) (spelling a ++ (before p ++ rest)) (tag_is_tag kind) (omega arith) (omega arith)
     ∙ tagged-pair (front_term end (levels - 1)) end (nodes - 1) kind (spelling a ++ (before p ++ rest))

@@ -57,7 +57,8 @@ pair_takes operand levels kind nodes bytes x ih fits e =
       nodes_are = omega (arith, first.nodes_are, second.nodes_are, node_count-pair kind a.0.0 b.0.0);
     })
 
-role_takes : (operand : ℕ → List ℕ → Result Operand TermFault) (end levels nodes : ℕ) (bytes : List ℕ) (x : Operand) → OperandTakes operand levels → IsBytes bytes → (operand nodes bytes >>= λ a. front_number (Short end) w32 a.2 >>= λ r. Ok (InRole a.0 r.0, a.1, r.1)) ≡ Ok x → TakesTerm (suc levels) (suc nodes) (5 ∷ bytes) x
+role_takes : (operand : ℕ → List ℕ → Result Operand TermFault) (end levels nodes : ℕ) (bytes : List ℕ) (x : Operand) → OperandTakes operand levels → IsBytes bytes
+    → (operand nodes bytes >>= λ a. front_number (Short end) w32 a.2 >>= λ r. Ok (InRole a.0 r.0, a.1, r.1)) ≡ Ok x → TakesTerm (suc levels) (suc nodes) (5 ∷ bytes) x
 role_takes operand end levels nodes bytes x ih fits e =
     let a = bind_ok _ _ x e in
     let b = bind_ok _ _ x a.2 in
@@ -157,7 +158,8 @@ name_again : (operand : ℕ → List ℕ → Result Operand TermFault) (end node
 unfolding front_tagged
 name_again operand end nodes k rest lt = ap (λ r. r >>= λ n. Ok (Name n.0, nodes, n.1)) (front_number_again (Short end) w32 (2 ^ 32) wide32 k rest lt)
 
-pair_again : (operand : ℕ → List ℕ → Result Operand TermFault) (kind : Kind) (nodes mid left : ℕ) (a b : Principal) (bytes middle rest : List ℕ) → operand nodes bytes ≡ Ok (a, mid, middle) → operand mid middle ≡ Ok (b, left, rest) → front_pair operand kind nodes bytes ≡ Ok (pair kind a b, left, rest)
+pair_again : (operand : ℕ → List ℕ → Result Operand TermFault) (kind : Kind) (nodes mid left : ℕ) (a b : Principal) (bytes middle rest : List ℕ)
+    → operand nodes bytes ≡ Ok (a, mid, middle) → operand mid middle ≡ Ok (b, left, rest) → front_pair operand kind nodes bytes ≡ Ok (pair kind a b, left, rest)
 unfolding front_pair
 pair_again operand kind nodes mid left a b bytes middle rest first second =
     ap (λ r. r >>= λ x. operand x.1 x.2 >>= λ y. Ok (pair kind x.0 y.0, y.1, y.2)) first ∙ ap (λ r. r >>= λ y. Ok (pair kind a y.0, y.1, y.2)) second

@@ -156,7 +156,8 @@ none_read nodes end t front more x fits bytes e some read =
     let len : 0 ≡ length x.2 + length more = ap length same.1 ∙ length-append x.2 more in
     omega (arith, len, some)
 
-prefix_by : (nodes at : ℕ) (t : Principal) (front more : List ℕ) (r : Result Operand TermFault) → FitsLimits nodes t → IsBytes front → spelling t ≡ front ++ more → 0 < length more → front_term (at + length front) MAX_DEPTH nodes front ≡ r → IsRefused MAX_DEPTH nodes front at (Short (at + length front))
+prefix_by : (nodes at : ℕ) (t : Principal) (front more : List ℕ) (r : Result Operand TermFault) → FitsLimits nodes t → IsBytes front → spelling t ≡ front ++ more
+    → 0 < length more → front_term (at + length front) MAX_DEPTH nodes front ≡ r → IsRefused MAX_DEPTH nodes front at (Short (at + length front))
 prefix_by nodes at t front more (Ok x) fits bytes e some read = absurd (none_read nodes (at + length front) t front more x fits bytes e some read)
 prefix_by nodes at t front more (Err (Short o)) fits bytes e some read =
     let r = refused (at + length front) MAX_DEPTH nodes at front (Short o) bytes refl read in

@@ -35,13 +35,17 @@ top [] = Key 0
 top (p ∷ rest) = p
 
 -- reading what was written of a principal puts it on the stack
-pub read-written : (p : Principal) (rest : List (ℕ × ℕ)) (stack : List Principal) → read (written p ++ rest) stack ≡ read rest (p ∷ stack)
+pub read-written : (p : Principal) (rest : List (ℕ × ℕ)) (stack : List Principal)
+    → read (written p ++ rest) stack ≡ read rest (p ∷ stack)
 read-written (Key k) rest stack = refl
 read-written (Name n) rest stack = refl
-read-written (And a b) rest stack = rw (append_assoc, append_assoc, read-written a, read-written b) refl
-read-written (Quoting a b) rest stack = rw (append_assoc, append_assoc, read-written a, read-written b) refl
+read-written (And a b) rest stack =
+    rw (append_assoc, append_assoc, read-written a, read-written b) refl
+read-written (Quoting a b) rest stack =
+    rw (append_assoc, append_assoc, read-written a, read-written b) refl
 read-written (InRole a r) rest stack = rw (append_assoc, read-written a) refl
-read-written (For a b) rest stack = rw (append_assoc, append_assoc, read-written a, read-written b) refl
+read-written (For a b) rest stack =
+    rw (append_assoc, append_assoc, read-written a, read-written b) refl
 
 -- what is read of what was written of a principal is the principal
 pub gives_back : (p : Principal) → top (read (written p) []) ≡ p
@@ -49,4 +53,6 @@ gives_back p = rw (← append-nil (written p)) (rw read-written refl)
 
 -- principals as lists of numbers
 abbrev pub principal_code : Coded Principal
-principal_code = code_by (List (ℕ × ℕ)) (coded_list (coded× coded_ℕ coded_ℕ)) written (λ xs. top (read xs [])) gives_back
+principal_code =
+    code_by (List (ℕ × ℕ)) (coded_list (coded× coded_ℕ coded_ℕ)) written
+    (λ xs. top (read xs [])) gives_back

@@ -3,6 +3,8 @@ pub mod View
 pub mod Codes
 pub mod Kind
 pub mod Steps
+pub mod Appends
 pub mod Refusal
 pub mod Reading
 pub mod Readers
+pub mod Formats

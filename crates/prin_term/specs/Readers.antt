@@ -1,5 +1,6 @@
 -- Readers: what stands at an offset of some bytes and the offset after it, or a fault.
-use Rattle.std.specs.Prelude.{ℕ, zero, suc, Bool, not, List, [], ◌∷◌, ◌++◌, Result, Ok, Err, nat_le, if◌then◌else◌}
+use Rattle.std.specs.Prelude.{ℕ, zero, suc, Bool, not, List, [], ◌∷◌, ◌++◌, Result, Ok, Err, nat_le}
+use Rattle.std.specs.Prelude.{if◌then◌else◌}
 use Rattle.std.specs.List.{list_any}
 use Rattle.prin_term.specs.Steps.{◌>>=◌}
 
@@ -31,16 +32,19 @@ abbrev pub given : {A E : Type 0} → A → Reader A E
 given x at = Ok (x, at)
 
 -- n items after those of `before`; each is read in view of all before it
-unfoldable pub items_behind : {A E : Type 0} → (List A → Reader A E) → ℕ → List A → Reader (List A) E
+unfoldable pub items_behind : {A E : Type 0}
+    → (List A → Reader A E) → ℕ → List A → Reader (List A) E
 items_behind item zero before at = Ok (before, at)
 items_behind item (suc n) before at = do
   next ← item before at
   items_behind item n (before ++ next.0 ∷ []) next.1
 
 -- a count of at most so many, and that many items
-abbrev pub counted : {A E : Type 0} → ℕ → (ℕ → E) → Reader ℕ E → (List A → Reader A E) → Reader (List A) E
+abbrev pub counted : {A E : Type 0}
+    → ℕ → (ℕ → E) → Reader ℕ E → (List A → Reader A E) → Reader (List A) E
 counted most fault count item =
-    made (λ p. p.1) (followed (passing (λ n. nat_le n most) fault count) (λ n. items_behind item n []))
+    made (λ p. p.1)
+    (followed (passing (λ n. nat_le n most) fault count) (λ n. items_behind item n []))
 
 -- none of those before passes the test
 abbrev pub is_new : {A : Type 0} → (A → Bool) → List A → Bool

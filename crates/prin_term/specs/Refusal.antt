@@ -1,8 +1,10 @@
 -- Which terms bytes spell, and where bytes that spell none are refused, without reading them from
 -- left to right.
-use Rattle.std.specs.Prelude.{◌≡◌, ◌⊎◌, ℕ, ◌+◌, ◌-◌, ◌<◌, ◌≤◌, max, List, [], ◌∷◌, ◌++◌, length, drop, false, true}
+use Rattle.std.specs.Prelude.{◌≡◌, ◌⊎◌, ℕ, ◌+◌, ◌-◌, ◌<◌, ◌≤◌, max, List, [], ◌∷◌, ◌++◌, length}
+use Rattle.std.specs.Prelude.{drop, false, true}
 use Rattle.prin_term.specs.declared.fault.TermFault.{TermFault}
-use Rattle.prin_term.specs.declared.fault.TermFault.TheVariants.{Tag, Short, TooDeep, TooLarge, NoMemory}
+use Rattle.prin_term.specs.declared.fault.TermFault.TheVariants.{Tag, Short, TooDeep, TooLarge}
+use Rattle.prin_term.specs.declared.fault.TermFault.TheVariants.{NoMemory}
 use Rattle.prin_term.specs.declared.limits.TheConstants.{MAX_DEPTH}
 use Rattle.prin_term.specs.Principal.{Principal, node_count, depth, spelling, HasSpelling, is_tag}
 use Rattle.prin_term.specs.Kind.{Kind, tag_of}
@@ -80,24 +82,31 @@ BeginsWithOther (b ∷ rest) = is_tag b ≡ false
 -- and nodes left.
 pub data EndsInTerm (levels nodes : ℕ) (bytes : List ℕ) : Type 0 where
   at_tag : bytes ≡ [] → EndsInTerm levels nodes bytes
-  in_atom : (tag : ℕ) (front : List ℕ) → (tag ≡ 1) ⊎ (tag ≡ 2) → 0 < levels → 0 < nodes → length front < 4 → bytes ≡ tag ∷ front → EndsInTerm levels nodes bytes
-  in_role : (base : Principal) (front : List ℕ) → HasSpelling base → depth base < levels → node_count base < nodes → length front < 4 → bytes ≡ 5 ∷ (spelling base ++ front) → EndsInTerm levels nodes bytes
+  in_atom : (tag : ℕ) (front : List ℕ) → (tag ≡ 1) ⊎ (tag ≡ 2) → 0 < levels → 0 < nodes
+      → length front < 4 → bytes ≡ tag ∷ front → EndsInTerm levels nodes bytes
+  in_role : (base : Principal) (front : List ℕ) → HasSpelling base → depth base < levels
+      → node_count base < nodes → length front < 4 → bytes ≡ 5 ∷ (spelling base ++ front)
+      → EndsInTerm levels nodes bytes
 
 -- what is wrong where a tag is due, at an offset, with so many levels and nodes left
 abbrev pub IsWrongAt : ℕ → ℕ → List ℕ → ℕ → TermFault → Type 0
 IsWrongAt levels nodes bytes offset (Tag o) = BeginsWithOther bytes × (o ≡ offset)
 IsWrongAt levels nodes bytes offset (TooDeep o) = BeginsWithTag bytes × (levels ≡ 0) × (o ≡ offset)
-IsWrongAt levels nodes bytes offset (TooLarge o) = BeginsWithTag bytes × (0 < levels) × (nodes ≡ 0) × (o ≡ offset)
-IsWrongAt levels nodes bytes offset (Short o) = EndsInTerm levels nodes bytes × (o ≡ offset + length bytes)
+IsWrongAt levels nodes bytes offset (TooLarge o) =
+    BeginsWithTag bytes × (0 < levels) × (nodes ≡ 0) × (o ≡ offset)
+IsWrongAt levels nodes bytes offset (Short o) =
+    EndsInTerm levels nodes bytes × (o ≡ offset + length bytes)
 IsWrongAt levels nodes bytes offset NoMemory = ⊥
 
 -- The bytes are refused with this fault: they begin as a term does, within the limits, up to a
 -- place where a tag is due and what stands there is wrong. The first of the bytes is at an offset.
-pub record IsRefused (levels nodes : ℕ) (bytes : List ℕ) (offset : ℕ) (fault : TermFault) : Type 0 where
+pub record IsRefused
+    (levels nodes : ℕ) (bytes : List ℕ) (offset : ℕ) (fault : TermFault) : Type 0 where
   pub beginning : Beginning
   pub rest : List ℕ
   pub text : bytes ≡ before beginning ++ rest
   pub numbers : NumbersFit beginning
   pub height_fits : height_of beginning ≤ levels
   pub count_fits : count_of beginning ≤ nodes
-  pub wrong : IsWrongAt (levels - level_of beginning) (nodes - count_of beginning) rest (offset + length (before beginning)) fault
+  pub wrong : IsWrongAt (levels - level_of beginning) (nodes - count_of beginning) rest
+      (offset + length (before beginning)) fault

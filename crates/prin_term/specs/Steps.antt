@@ -1,5 +1,7 @@
 -- What every format has: steps that may fail, and fields that are read at an offset.
-use Rattle.std.specs.Prelude.{◌≡◌, ◌⊎◌, ℕ, ◌+◌, ◌-◌, Bool, List, [], ◌∷◌, ◌++◌, length, take, drop, Option, None, Some, Result, Ok, Err, nat_lt, ◌==◌, if◌then◌else◌, slice_index}
+use Rattle.std.specs.Prelude.{◌≡◌, ◌⊎◌, ℕ, ◌+◌, ◌-◌, Bool, List, [], ◌∷◌, ◌++◌, length, take, drop}
+use Rattle.std.specs.Prelude.{Option, None, Some, Result, Ok, Err, nat_lt, ◌==◌, if◌then◌else◌}
+use Rattle.std.specs.Prelude.{slice_index}
 use Rattle.std.specs.Int.{Width, byte_len, from_be_bytes, to_be_bytes}
 
 infixl 10 ◌>>=◌
@@ -29,11 +31,14 @@ tested test fault x = if test x then Ok x else Err fault
 
 -- a number of the width at the front of the bytes, and the bytes after it
 unfoldable pub front_number : {E : Type 0} → E → Width → List ℕ → Result (ℕ × List ℕ) E
-front_number short w bytes = if nat_lt (length bytes) (byte_len w) then Err short else Ok (from_be_bytes w (take (byte_len w) bytes), drop (byte_len w) bytes)
+front_number short w bytes =
+    if nat_lt (length bytes) (byte_len w) then Err short
+    else Ok (from_be_bytes w (take (byte_len w) bytes), drop (byte_len w) bytes)
 
 -- one byte; where bytes are lacking the fault is short, as in each reader that follows
 unfoldable pub byte_at : {E : Type 0} → E → List ℕ → ℕ → Result (ℕ × ℕ) E
-byte_at short bytes at = if nat_lt at (length bytes) then Ok (slice_index bytes at, at + 1) else Err short
+byte_at short bytes at =
+    if nat_lt at (length bytes) then Ok (slice_index bytes at, at + 1) else Err short
 
 -- this very byte, and the offset after it; another is bad
 unfoldable pub mark_at : {E : Type 0} → E → E → ℕ → List ℕ → ℕ → Result ℕ E
@@ -43,11 +48,14 @@ mark_at short bad b bytes at = do
 
 -- so many bytes, and the offset after them
 unfoldable pub bytes_at : {E : Type 0} → E → ℕ → List ℕ → ℕ → Result (List ℕ × ℕ) E
-bytes_at short n bytes at = if nat_lt (length bytes - at) n then Err short else Ok (take n (drop at bytes), at + n)
+bytes_at short n bytes at =
+    if nat_lt (length bytes - at) n then Err short else Ok (take n (drop at bytes), at + n)
 
 -- a number of the width, and the offset after it
 unfoldable pub number_at : {E : Type 0} → E → Width → List ℕ → ℕ → Result (ℕ × ℕ) E
-number_at short w bytes at = if nat_lt (length bytes - at) (byte_len w) then Err short else Ok (from_be_bytes w (take (byte_len w) (drop at bytes)), at + byte_len w)
+number_at short w bytes at =
+    if nat_lt (length bytes - at) (byte_len w) then Err short
+    else Ok (from_be_bytes w (take (byte_len w) (drop at bytes)), at + byte_len w)
 
 -- the bytes after their length, which is a number of the width
 abbrev pub counted : Width → List ℕ → List ℕ
@@ -65,7 +73,9 @@ optional spell None = 0 ∷ []
 optional spell (Some x) = 1 ∷ spell x
 
 -- nothing at 0, an item at 1; another byte is bad
-unfoldable pub optional_at : {A E : Type 0} → E → E → (ℕ → Result (A × ℕ) E) → List ℕ → ℕ → Result (Option A × ℕ) E
+unfoldable pub optional_at : {A E : Type 0}
+    → E → E → (ℕ → Result (A × ℕ) E) → List ℕ → ℕ → Result (Option A × ℕ) E
 optional_at short bad item bytes at = do
   flag ← byte_at short bytes at
-  if flag.0 == 0 then Ok (None, flag.1) else (if flag.0 == 1 then (item flag.1 >>= λ x. Ok (Some x.0, x.1)) else Err bad)
+  if flag.0 == 0 then Ok (None, flag.1)
+      else (if flag.0 == 1 then (item flag.1 >>= λ x. Ok (Some x.0, x.1)) else Err bad)

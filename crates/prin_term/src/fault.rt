@@ -1,7 +1,9 @@
-//! Why bytes are no term.
+//! Why bytes are no term, and why they are nothing of another format.
 
 ghost use Rattle.std.specs.Prelude.{◌≡◌};
+ghost use Rattle.prin_term.specs.declared.fault.FormatFault.TheVariants as formats;
 ghost use Rattle.prin_term.specs.declared.fault.TermFault.TheVariants.{NoMemory};
+ghost use Rattle.prin_term.specs.Formats.{seen_as};
 
 use std::alloc::{AllocError, AllocFailed};
 use std::error::Error;
@@ -49,5 +51,55 @@ impl<T: Drop> From<AllocFailed<T>> for TermFault {
 
     fn from(_e: AllocFailed<T>) -> TermFault {
         TermFault::NoMemory
+    }
+}
+
+/// Why bytes are nothing of a format: the first fault in the order of reading.
+#[derive(Clone, Copy, Debug, PartialEq, Eq, Hash)]
+pub enum FormatFault {
+    /// The first byte that can't stand where it does, or the length where bytes are lacking.
+    Malformed { offset: usize },
+    /// Memory was refused.
+    NoMemory,
+}
+
+impl fmt::Display for FormatFault {
+    fn fmt<W: fmt::Write>(&self, f: &mut fmt::Formatter<W>) -> fmt::Result {
+        match self {
+            FormatFault::Malformed { offset } => write!(f, "byte {offset}: malformed"),
+            FormatFault::NoMemory => write!(f, "out of memory"),
+        }
+    }
+}
+
+impl Error for FormatFault {}
+
+impl From<TermFault> for FormatFault {
+    ghost from_gives = { λ fault e. e ≡ seen_as fault };
+
+    fn from(fault: TermFault) -> FormatFault {
+        match fault {
+            TermFault::Tag { offset }
+            | TermFault::Short { offset }
+            | TermFault::TooDeep { offset }
+            | TermFault::TooLarge { offset } => FormatFault::Malformed { offset },
+            TermFault::NoMemory => FormatFault::NoMemory,
+        }
+    }
+}
+
+impl From<AllocError> for FormatFault {
+    ghost from_gives = { λ _ e. e ≡ formats.NoMemory };
+
+    fn from(_e: AllocError) -> FormatFault {
+        FormatFault::NoMemory
+    }
+}
+
+impl<T: Drop> From<AllocFailed<T>> for FormatFault {
+    ghost from_gives = { λ _ e. e ≡ formats.NoMemory };
+
+    fn from(_e: AllocFailed<T>) -> FormatFault {
+        FormatFault::NoMemory
     }
 }

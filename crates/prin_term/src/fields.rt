@@ -1,10 +1,15 @@
 //! Fields that every format has, read at an offset: numbers, fixed and counted bytes.
 //!
-//! Each answers the field and the offset after it. `short` is the fault for bytes that are lacking.
+//! Each answers the field and the offset after it. `short` is the fault for bytes that are lacking;
+//! those that bound a number have the faults of formats.
 
 ghost use Rattle.std.specs.Prelude.{◌≡◌, ◌≤◌, length, IfOk};
 ghost use Rattle.std.specs.Int.{w16, w32, w64};
-ghost use Rattle.prin_term.specs.Steps.{with_value, byte_at, bytes_at, mark_at, number_at, counted_at};
+ghost use Rattle.prin_term.specs.Formats.{ended, u8_in, u16_in, within, at_most};
+ghost use Rattle.prin_term.specs.Steps.{with_value, byte_at, bytes_at, mark_at};
+ghost use Rattle.prin_term.specs.Steps.{number_at, counted_at};
+
+use crate::fault::FormatFault;
 
 /// A byte.
 #[tactic(auto, unfolding(crate::specs::Steps::byte_at))]
@@ -114,4 +119,57 @@ pub fn counted16_at<E: Copy + Drop>(bytes: &[u8], at: usize, short: E) -> Result
 {
     let (count, next) = u16_at(bytes, at, short)?;
     slice_at(bytes, next, count as usize, short)
+}
+
+/// The fault of bytes that are lacking, whose place is their end.
+pub fn ended(bytes: &[u8]) -> FormatFault
+    ensures { result ≡ ended bytes.now }
+{
+    FormatFault::Malformed {
+        offset: bytes.len(),
+    }
+}
+
+/// A byte that lies between the two, or is one of them; another is refused at its place.
+pub fn byte_within(bytes: &[u8], at: usize, low: u8, high: u8) -> Result<(u8, usize), FormatFault>
+    requires { at ≤ length bytes.now }
+    ensures value { result ≡ within low high (u8_in bytes.now) at }
+    ensures within { IfOk result (λ x. x.1 ≤ length bytes.now) }
+{
+    let (byte, next) = u8_at(bytes, at, ended(bytes))?;
+    if low <= byte && byte <= high {
+        Ok((byte, next))
+    } else {
+        Err(FormatFault::Malformed { offset: at })
+    }
+}
+
+/// A count of one byte, at most so much; another is refused at its place.
+pub fn count_up_to(bytes: &[u8], at: usize, most: u8) -> Result<(u8, usize), FormatFault>
+    requires { at ≤ length bytes.now }
+    ensures value { result ≡ at_most most (u8_in bytes.now) at }
+    ensures most { IfOk result (λ x. x.0 ≤ most) }
+    ensures within { IfOk result (λ x. x.1 ≤ length bytes.now) }
+{
+    let (count, next) = u8_at(bytes, at, ended(bytes))?;
+    if count <= most {
+        Ok((count, next))
+    } else {
+        Err(FormatFault::Malformed { offset: at })
+    }
+}
+
+/// A length of two bytes, at most so much; another is refused at its first byte.
+pub fn length_up_to(bytes: &[u8], at: usize, most: u16) -> Result<(u16, usize), FormatFault>
+    requires { at ≤ length bytes.now }
+    ensures value { result ≡ at_most most (u16_in bytes.now) at }
+    ensures most { IfOk result (λ x. x.0 ≤ most) }
+    ensures within { IfOk result (λ x. x.1 ≤ length bytes.now) }
+{
+    let (count, next) = u16_at(bytes, at, ended(bytes))?;
+    if count <= most {
+        Ok((count, next))
+    } else {
+        Err(FormatFault::Malformed { offset: at })
+    }
 }

@@ -10,7 +10,7 @@ mod shape;
 mod term;
 mod writing;
 
-pub use fault::TermFault;
+pub use fault::{FormatFault, TermFault};
 pub use laws::{one_spelling, prefixes_are_short, terms_are_read};
 pub use limits::{CERT_NODES, ENTRY_NODES, MAX_DEPTH, QUOTED_NODES};
 pub use reading::read_term;

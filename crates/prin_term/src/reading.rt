@@ -1,6 +1,7 @@
 //! Reading a term from its spelling.
 
-ghost use Rattle.std.specs.Prelude.{◌≡◌, ◌≢◌, ◌⊎◌, ◌+◌, ◌≤◌, ◌<◌, ◌-◌, List, length, drop, IfOk, IfErr, MatchResult, Ok};
+ghost use Rattle.std.specs.Prelude.{◌≡◌, ◌≢◌, ◌⊎◌, ◌+◌, ◌≤◌, ◌<◌, ◌-◌, List, length, drop, IfOk};
+ghost use Rattle.std.specs.Prelude.{IfErr, MatchResult, Ok};
 ghost use Rattle.prin_term.specs.declared.fault.TermFault.{TermFault};
 ghost use Rattle.prin_term.specs.declared.fault.TermFault.TheVariants.{Short, NoMemory};
 ghost use Rattle.prin_term.specs.Principal.{Principal, spelling};
@@ -17,7 +18,8 @@ use std::alloc::Global;
 
 #[tactic(auto, unfolding(crate::specs::Steps::front_number))]
 fn number_of(end: usize, bytes: &[u8]) -> Result<(u32, &[u8]), TermFault>
-    ensures value { Gives NoMemory (λ x. (x.0, x.1.now)) result (front_number (Short end) w32 bytes.now) }
+    ensures value { Gives NoMemory (λ x. (x.0, x.1.now)) result
+        (front_number (Short end) w32 bytes.now) }
     ensures shorter { IfOk result (λ x. length x.1.now ≤ length bytes.now) }
 {
     let Some((front, rest)) = bytes.split_first_chunk::<4>() else {

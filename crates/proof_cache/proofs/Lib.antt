@@ -1,1 +1,5 @@
-pub mod Least
+mod Least
+mod Lists
+mod Marks
+mod One
+mod Rows

@@ -1,9 +1,9 @@
 -- Proofs that are kept, as mathematics has them.
-use Rattle.std.specs.Prelude.{ℕ, ◌-◌, ◌^◌, min, List, [], ◌∷◌, map}
+use Rattle.std.specs.Prelude.{ℕ, ◌-◌, ◌^◌, min, List, [], ◌∷◌}
 use Rattle.prin_term.specs.Principal.{Principal}
 use Rattle.prin_term.specs.View.{principal}
-use Rattle.stmt_codec.specs.declared.cert.Cert.{Cert}
-use Rattle.stmt_codec.specs.Certificates.{Certificate, certificate}
+use Rattle.stmt_codec.specs.Certificates.{Certificate}
+use Rattle.stmt_codec.specs.View.{certificates}
 use Rattle.taos_calculus.specs.Rules.{Line}
 use Rattle.taos_calculus.specs.Tables.{lines_of}
 use Rattle.std.specs.Arc.{arc_value}
@@ -32,6 +32,6 @@ cached c = record {
   subject = principal c.subject;
   who = principal c.who;
   proof = lines_of (arc_value c.proof);
-  cites = map (λ x. certificate (arc_value {X = Cert} x).body) c.cites.items;
+  cites = certificates c.cites.items;
   lease = c.lease;
 }

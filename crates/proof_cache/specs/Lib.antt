@@ -1,1 +1,3 @@
 pub mod Cached
+pub mod Cache
+pub mod Mark

@@ -1,7 +1,7 @@
 //! What is kept of a proof.
 
-ghost use Rattle.std.specs.Prelude.{◌≡◌, map};
-ghost use Rattle.stmt_codec.specs.Certificates.{certificate};
+ghost use Rattle.std.specs.Prelude.{◌≡◌};
+ghost use Rattle.stmt_codec.specs.View.{certificates};
 ghost use Rattle.proof_cache.specs.Cached as math;
 
 use prin_term::Term;
@@ -9,8 +9,8 @@ use std::sync::Arc;
 use stmt_codec::Cert;
 use taos_calculus::Proof;
 
-/// A proof that the subject speaks for someone, with the certificates that it cites, in the order of
-/// its numbers.
+/// A proof that the subject speaks for someone, with the certificates that it cites, in the order
+/// of its numbers.
 #[derive(Debug, Drop)]
 pub struct Cached {
     pub subject: Term,
@@ -24,7 +24,7 @@ pub struct Cached {
 /// The moment at which the first of the certificates ends, or the last moment where there is none.
 /// Takes no memory.
 pub fn lease_of(cites: &[Arc<Cert>]) -> u64
-    ensures { result ≡ math.lease_of (map (λ c. certificate c.value.body) cites.now) }
+    ensures { result ≡ math.lease_of (certificates cites.now) }
 {
     let mut lease = u64::MAX;
     for cert in cites {

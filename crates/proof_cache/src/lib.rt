@@ -1,6 +1,12 @@
-//! Proofs that are kept for later requests. Begun: what is kept of each.
+//! Proofs that are kept for later requests.
 #![tactic(auto)]
 
+mod cache;
 mod cached;
+mod kept;
+mod mark;
+mod row;
 
+pub use cache::Cache;
 pub use cached::{Cached, lease_of};
+pub use row::MAX_KEPT;

@@ -1,6 +1,6 @@
-ghost use Rattle.std.specs.Prelude.{IfOk};
+ghost use Rattle.std.specs.Prelude.{◌≤◌, IfOk};
+ghost use Rattle.prin_term.specs.Principal.{node_count};
 ghost use Rattle.prin_term.specs.View.{principal};
-ghost use Rattle.taos_calculus.specs.Question.{IsSubject};
 
 mod building;
 mod cases;
@@ -30,7 +30,7 @@ const ANCHORS: [Anchor; 6] = [
 
 // The key, or the key quoting somebody.
 fn channel(alloc: Global, key: u32, quoted: &[Word]) -> Result<Term, Fail>
-    ensures { IfOk result (λ t. IsSubject (principal t)) }
+    ensures { IfOk result (λ t. node_count (principal t) ≤ ENTRY_NODES) }
 {
     match some_term(alloc, quoted)? {
         None => Ok(Term::Key(key)),
@@ -95,7 +95,7 @@ fn ask(
     subject: &Term,
     who: Term,
 ) -> Result<Option<Taken>, Fail>
-    requires { IsSubject (principal subject.now) }
+    requires { node_count (principal subject.now) ≤ ENTRY_NODES }
 {
     if certs.len() > MAX_CERTS || chosen.len() != certs.len() || !who.fits(ENTRY_NODES, MAX_DEPTH) {
         return Err("too large".into());
@@ -174,6 +174,20 @@ fn a_hand_off_is_proved_by_four_lines(rt: HostRuntime) -> Result<(), Fail> {
         Term::Name(10),
     )?;
     assert!(rt; taken.is_none(), "by the key of bob");
+    Ok(())
+}
+
+#[test]
+fn who_asks_may_be_any_small_principal(rt: HostRuntime) -> Result<(), Fail> {
+    let alloc = rt.alloc();
+    let mut decider = Saturator::reserve(alloc)?;
+    let subject = term(alloc, &[Key(1), Key(3), And])?;
+    if !subject.fits(ENTRY_NODES, MAX_DEPTH) {
+        return Err("too large".into());
+    }
+    let who = term(alloc, &[Name(10), Name(30), And])?;
+    let taken = ask(&rt, &mut decider, &[], &[], &subject, who)?.ok_or("denied")?;
+    assert_eq!(rt; taken.cites.len(), 0);
     Ok(())
 }
 

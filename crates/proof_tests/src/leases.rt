@@ -6,7 +6,7 @@ use std::test::*;
 use stmt_codec::{Cert, CertBody};
 
 // Key 1 says that key 2 speaks for name 10.
-fn hand_off(alloc: Global, until: u64) -> Result<Arc<Cert>, Fail> {
+pub(crate) fn hand_off(alloc: Global, until: u64) -> Result<Arc<Cert>, Fail> {
     let statement = Statement {
         left: Term::Key(2),
         right: Term::Name(10),

@@ -3,6 +3,8 @@
 #![tactic(auto)]
 
 #[cfg(test)]
+mod caching;
+#[cfg(test)]
 mod checking;
 #[cfg(test)]
 mod deciding;

@@ -18,7 +18,8 @@ asked_at payload = do
 
 -- the answer to what was read, and the new certificate: a payload that asks for none is refused
 abbrev pub AnswersTo : Entries → Entries → List ℕ → Result (ℕ × ℕ) ℕ → RelayAnswer → List ℕ → Type 0
-AnswersTo issuers nodes payload (Ok x) answer out = IsSaid (resealed issuers nodes x.0 (drop x.1 payload)) answer out
+AnswersTo issuers nodes payload (Ok x) answer out =
+    IsSaid (resealed issuers nodes x.0 (drop x.1 payload)) answer out
 AnswersTo issuers nodes payload (Err code) answer out = (answer ≡ Refused code) × (out ≡ [])
 
 -- the second byte of an answer

@@ -34,13 +34,15 @@ IsNoAnswer payload = (answer : RelayAnswer) (out : List ℕ) → ¬ IsAnswer pay
 
 -- the payload asks for no certificate
 abbrev pub IsNoAsking : List ℕ → Type 0
-IsNoAsking payload = (node : ℕ) (certificate : List ℕ) → node < 2 ^ 32 → payload ≢ asking node certificate
+IsNoAsking payload =
+    (node : ℕ) (certificate : List ℕ) → node < 2 ^ 32 → payload ≢ asking node certificate
 
 -- What a relay that has these keys writes to a payload: one that asks is answered by what is said
 -- of its certificate, or that memory is lacking, and any other by code 1.
 pub data Replies (issuers nodes : Entries) (payload reply : List ℕ) : Type 0 where
   is_said : (node : ℕ) (certificate : List ℕ) →
-      node < 2 ^ 32 → payload ≡ asking node certificate → reply ≡ answering (resealed issuers nodes node certificate) →
+      node < 2 ^ 32 → payload ≡ asking node certificate →
+      reply ≡ answering (resealed issuers nodes node certificate) →
       Replies issuers nodes payload reply
   is_lacking : (node : ℕ) (certificate : List ℕ) →
       node < 2 ^ 32 → payload ≡ asking node certificate → reply ≡ lacking →

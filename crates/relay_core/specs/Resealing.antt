@@ -54,7 +54,8 @@ pub data IsResealed (issuers nodes : Entries) (node : ℕ) (bytes : List ℕ) : 
       Spells ISSUED bytes c tag → key_of issuers c.issuer ≡ None →
       IsResealed issuers nodes node bytes (Refuses UNKNOWN_ISSUER)
   is_badly_sealed : (c : Certificate) (tag key : List ℕ) →
-      Spells ISSUED bytes c tag → key_of issuers c.issuer ≡ Some key → tag ≢ tag_of key (sealed_text ISSUED c) →
+      Spells ISSUED bytes c tag → key_of issuers c.issuer ≡ Some key →
+      tag ≢ tag_of key (sealed_text ISSUED c) →
       IsResealed issuers nodes node bytes (Refuses BAD_SEAL)
   is_for_no_node : (c : Certificate) →
       OpensIssued issuers bytes c → key_of nodes node ≡ None →

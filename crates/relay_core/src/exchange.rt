@@ -2,9 +2,10 @@
 
 ghost use Rattle.std.specs.Prelude.{◌≡◌, ◌≤◌, ◌+◌, [], length};
 ghost use Rattle.frame_link.specs.Next.{Puts, HasWriteCause};
+ghost use Rattle.frame_link.specs.Streams.{stream};
 ghost use Rattle.relay_core.specs.declared.message.TheConstants.{MAX_FRAME};
 ghost use Rattle.relay_core.specs.Messages.{asking};
-ghost use Rattle.relay_core.specs.Links.{Hears, Asks};
+ghost use Rattle.relay_core.specs.Links.{Hears, Asks, streams};
 
 use crate::message::{lay_asking, read_answer};
 use arrayvec::ArrayVec;
@@ -30,8 +31,8 @@ fn read_reply<I: Source>(
     requires limit { buf.old.limit ≡ MAX_FRAME }
     requires empty { out.old.items ≡ [] }
     ensures limit { buf.new.limit ≡ MAX_FRAME }
-    ensures hears { Hears (I.left input.old) (I.left input.new)
-        (I.faults input.old) (I.faults input.new) result out.new.items }
+    ensures hears { Hears (stream (I.left input.old) (I.faults input.old))
+        (stream (I.left input.new) (I.faults input.new)) result out.new.items }
 {
     match next_frame(input, buf) {
         Next::Frame => match read_answer(buf.payload(), out) {
@@ -62,9 +63,10 @@ pub(crate) fn ask<I: Source, O: Sink>(
     ensures same_room { length room.new ≡ length room.old }
     ensures limit { buf.new.limit ≡ MAX_FRAME }
     ensures asks { Asks (asking node sealed.now)
-        (I.left input.old) (I.left input.new) (O.written output.old) (O.written output.new)
-        (I.faults input.old) (I.faults input.new) (O.faults output.old) (O.faults output.new)
-        result out.new.items }
+        (streams (stream (I.left input.old) (I.faults input.old))
+        (stream (O.written output.old) (O.faults output.old)))
+        (streams (stream (I.left input.new) (I.faults input.new))
+        (stream (O.written output.new) (O.faults output.new))) result out.new.items }
 {
     match write_asking(output, room, node, sealed) {
         Put::WriteFault => Err(Failed),

@@ -27,8 +27,8 @@ pub fn sealed_certificates_are_short()
         → length (sealed kind key c) ≤ 1015 }
 {}
 
-/// Each turn of a connection that a table serves has the reply of a relay with the table's keys, and
-/// each whole frame has its turn.
+/// Each turn of a connection that a table serves has the reply of a relay with the table's keys,
+/// and each whole frame has its turn.
 pub fn each_turn_is_a_reply()
     ensures replies { (limit : ℕ) (before after : Line RelayTable) (outcome : Outcome)
         → (served : IsServed Answers GivesUp limit before after outcome)

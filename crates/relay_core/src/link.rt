@@ -4,8 +4,9 @@ ghost use Rattle.std.specs.Prelude.{◌≡◌, ◌≤◌, [], length, IfOk, Opti
 ghost use Rattle.frame_link.specs.Faults.{HasCause};
 ghost use Rattle.frame_link.specs.Plan.{counted};
 ghost use Rattle.frame_link.specs.Relay.{AnswersAs, HasRelayCode};
+ghost use Rattle.frame_link.specs.Streams.{stream};
 ghost use Rattle.relay_core.specs.Messages.{asking};
-ghost use Rattle.relay_core.specs.Links.{Asks};
+ghost use Rattle.relay_core.specs.Links.{Asks, streams};
 
 use crate::exchange::ask;
 use crate::message::MAX_FRAME;
@@ -14,8 +15,8 @@ use frame_link::{Failed, FrameBuf, RelayAnswer, RelayLink, Sink, Source};
 use std::alloc::{AllocError, Global};
 use std::marker::Model;
 
-/// Asks a relay by a frame of the output for each call, and reads the answer as a frame of the input. Contracts see
-/// both, and how often a call has failed.
+/// Asks a relay by a frame of the output for each call, and reads the answer as a frame of the
+/// input. Contracts see both, and how often a call has failed.
 #[derive(Drop)]
 pub struct LinkRelay<I, O> {
     input: I,
@@ -90,10 +91,10 @@ impl<I: Source + Drop, O: Sink + Drop> RelayLink for LinkRelay<I, O> {
     ) -> Result<RelayAnswer, Failed>
         requires { length sealed.now ≤ 65531 }
         ensures asks { Asks (asking node sealed.now)
-            (I.left self.old.input) (I.left self.new.input)
-            (O.written self.old.output) (O.written self.new.output)
-            (I.faults self.old.input) (I.faults self.new.input)
-            (O.faults self.old.output) (O.faults self.new.output) result out.new.items }
+            (streams (stream (I.left self.old.input) (I.faults self.old.input))
+            (stream (O.written self.old.output) (O.faults self.old.output)))
+            (streams (stream (I.left self.new.input) (I.faults self.new.input))
+            (stream (O.written self.new.output) (O.faults self.new.output))) result out.new.items }
         ensures count { MatchResult result (λ _. self.new.faults ≡ self.old.faults)
             (λ _. self.new.faults ≡ counted self.old.faults) }
         ensures answer { AnswersAs None node sealed.now result out.new.items }

@@ -11,8 +11,8 @@ use crate::local::LocalRelay;
 use arrayvec::ArrayVec;
 use frame_link::{Failed, RelayAnswer, RelayLink};
 
-/// A relay that counts its calls from 0, and fails at those of the list alone. `faults` is how often it has failed.
-/// Both counts stay at their last value.
+/// A relay that counts its calls from 0, and fails at those of the list alone. `faults` is how
+/// often it has failed. Both counts stay at their last value.
 #[derive(Drop)]
 pub struct MemRelay {
     pub relay: LocalRelay,

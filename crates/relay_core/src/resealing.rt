@@ -15,7 +15,8 @@ use sealed_cert::{RELAYED, SealFault, open_issued_body, seal_relayed_with};
 use std::alloc::{AllocError, Global};
 use stmt_codec::CertBody;
 
-/// The keys of the issuers that a relay knows, and those that it shares with the nodes that it serves.
+/// The keys of the issuers that a relay knows, and those that it shares with the nodes that it
+/// serves.
 #[derive(Debug, Drop)]
 pub struct RelayTable {
     pub issuers: KeyTable,
@@ -41,7 +42,8 @@ fn seal_into(
 ) -> RelayAnswer
     requires limits { IsWithinLimits (certificate body.now) }
     requires empty { out.old.items ≡ [] }
-    ensures { IsSaid (Gave (sealed RELAYED sealer.now (certificate body.now))) result out.new.items }
+    ensures { IsSaid (Gave (sealed RELAYED sealer.now (certificate body.now))) result
+        out.new.items }
 {
     let Ok(bytes) = sealed(alloc, sealer, body) else {
         return RelayAnswer::NoMemory;
@@ -88,8 +90,8 @@ fn answer(
     }
 }
 
-/// Opens the bytes under their issuer's seal, and seals what they say for the node. `out` has the new certificate,
-/// or is empty.
+/// Opens the bytes under their issuer's seal, and seals what they say for the node. `out` has the
+/// new certificate, or is empty.
 pub fn reseal(
     alloc: Global,
     table: &RelayTable,
@@ -102,7 +104,8 @@ pub fn reseal(
         → IsResealed table.now.issuers.entries table.now.nodes.entries node bytes.now said
         → IsSaid said result out.new.items }
     // The same as one function.
-    ensures exact { IsSaid (resealed table.now.issuers.entries table.now.nodes.entries node bytes.now)
+    ensures exact { IsSaid
+        (resealed table.now.issuers.entries table.now.nodes.entries node bytes.now)
         result out.new.items }
     ensures codes { HasRelayCode result }
 {

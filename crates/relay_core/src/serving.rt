@@ -39,9 +39,9 @@ impl<'a> Service for Answering<'a> {
     }
 }
 
-/// Serves a connection: each frame of the input, at most so many, is answered by one frame of the output,
-/// before the next is read. That memory ran out at one of them is answered too; `NoMemory` comes only before
-/// the first.
+/// Serves a connection: each frame of the input, at most so many, is answered by one frame of the
+/// output, before the next is read. That memory ran out at one of them is answered too; `NoMemory`
+/// comes only before the first.
 pub fn serve_relay<I: Source, O: Sink>(
     alloc: Global,
     table: &RelayTable,

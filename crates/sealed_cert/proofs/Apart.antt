@@ -21,7 +21,7 @@ pub issued_opens : (entries : Entries) (key : List ℕ) (c : Certificate) → Ha
 issued_opens entries key c numbers limits is =
     issued_again entries (sealed 1 key c) c (record { key = key; known = is; seal = record { text = refl; numbers = numbers; limits = limits } })
 
-wrong_kind : (kind other : ℕ) (rest : List ℕ) → carried kind other (other ∷ rest) ≡ Err (WrongKind other)
+pub wrong_kind : (kind other : ℕ) (rest : List ℕ) → carried kind other (other ∷ rest) ≡ Err (WrongKind other)
 unfolding carried kind_at
 wrong_kind kind other rest =
     let same : (other == other) ≡ true = eq-eqb other other refl in

@@ -18,26 +18,26 @@ use Rattle.sealed_cert.specs.Refusals.{kind_at, ends_in_tag, carried, opened, op
 use Rattle.sealed_cert.proofs.Opened.{kind_again}
 use Rattle.sealed_cert.proofs.Apart.{relayed_refused, issued_refused}
 
-tag_short : (bytes : List ℕ) (at : ℕ) → length bytes - at < 32 → ends_in_tag bytes at ≡ Err (Malformed (length bytes))
+pub tag_short : (bytes : List ℕ) (at : ℕ) → length bytes - at < 32 → ends_in_tag bytes at ≡ Err (Malformed (length bytes))
 unfolding ends_in_tag
 tag_short bytes at less = let test : nat_lt (length bytes - at) 32 ≡ true = lt-ltb _ _ less in rw test refl
 
-tag_long : (bytes : List ℕ) (at : ℕ) → at + 32 < length bytes → ends_in_tag bytes at ≡ Err (Malformed (at + 32))
+pub tag_long : (bytes : List ℕ) (at : ℕ) → at + 32 < length bytes → ends_in_tag bytes at ≡ Err (Malformed (at + 32))
 unfolding ends_in_tag
 tag_long bytes at more =
     let enough : nat_lt (length bytes - at) 32 ≡ false = le-ltb _ _ (omega arith) in
     let test : nat_lt (at + 32) (length bytes) ≡ true = lt-ltb _ _ more in
     rw (enough, test) refl
 
-some : (b : ℕ) (l bytes : List ℕ) → bytes ≡ b ∷ l → 1 ≤ length bytes
+pub some : (b : ℕ) (l bytes : List ℕ) → bytes ≡ b ∷ l → 1 ≤ length bytes
 some b l bytes e = omega (arith, ap length e)
 
-none_carried : (kind other : ℕ) → carried kind other [] ≡ Err (Malformed 0)
+pub none_carried : (kind other : ℕ) → carried kind other [] ≡ Err (Malformed 0)
 unfolding carried kind_at byte_at
 none_carried kind other = refl
 
 -- a whole body, and something else than a tag behind it
-tail_refused : (kind other : ℕ) (bytes left : List ℕ) (c : Certificate) (f : SealFault) → (kind == other) ≡ false → HasBodySpelling c → IsWithinLimits c → bytes ≡ kind ∷ (body_spelling c ++ left)
+pub tail_refused : (kind other : ℕ) (bytes left : List ℕ) (c : Certificate) (f : SealFault) → (kind == other) ≡ false → HasBodySpelling c → IsWithinLimits c → bytes ≡ kind ∷ (body_spelling c ++ left)
     → ends_in_tag bytes (1 + length (body_spelling c)) ≡ Err f → carried kind other bytes ≡ Err f
 unfolding carried
 tail_refused kind other bytes left c f differs numbers limits e tail =

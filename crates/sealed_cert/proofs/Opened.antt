@@ -28,7 +28,7 @@ pub record IsCarried (kind : ℕ) (bytes : List ℕ) (c : Certificate) (end : �
 
 -- ---- the byte of the kind
 
-kind_takes : (kind other : ℕ) (bytes : List ℕ) (begin : ℕ) → kind_at kind other bytes ≡ Ok begin → (begin ≡ 1) × (bytes ≡ kind ∷ drop 1 bytes)
+pub kind_takes : (kind other : ℕ) (bytes : List ℕ) (begin : ℕ) → kind_at kind other bytes ≡ Ok begin → (begin ≡ 1) × (bytes ≡ kind ∷ drop 1 bytes)
 unfolding kind_at
 kind_takes kind other bytes begin e =
     let first = bind_ok _ _ begin e in
@@ -70,8 +70,15 @@ tag_again bytes at len =
 
 -- ---- the certificate, whatever its tag
 
-carried_parts : (kind : ℕ) (bytes : List ℕ) (c : Certificate) (begin end : ℕ) → begin ≡ 1 → bytes ≡ kind ∷ drop 1 bytes → IsBodyAt bytes begin c → end ≡ begin + length (body_spelling c) → length (drop end bytes) ≡ 32 → IsCarried kind bytes c end
-carried_parts kind bytes c begin end one first is place len =
+-- the bytes are the body of a kind, and others from an offset on
+pub record HasBody (kind : ℕ) (bytes : List ℕ) (c : Certificate) (end : ℕ) : Type 0 where
+  pub text : bytes ≡ sealed_text kind c ++ drop end bytes
+  pub place : end ≡ length (sealed_text kind c)
+  pub numbers : HasBodySpelling c
+  pub limits : IsWithinLimits c
+
+pub body_parts : (kind : ℕ) (bytes : List ℕ) (c : Certificate) (begin end : ℕ) → begin ≡ 1 → bytes ≡ kind ∷ drop 1 bytes → IsBodyAt bytes begin c → end ≡ begin + length (body_spelling c) → HasBody kind bytes c end
+body_parts kind bytes c begin end one first is place =
     let rest = is.text.0 in
     let start : drop 1 bytes ≡ body_spelling c ++ rest = ap (λ (n : ℕ). drop n bytes) (sym one) ∙ is.text.1 in
     let left : drop (1 + length (body_spelling c)) bytes ≡ rest = behind bytes (body_spelling c) rest 1 start in
@@ -80,13 +87,15 @@ carried_parts kind bytes c begin end one first is place len =
     record {
       text = first ∙ ap (λ (l : List ℕ). kind ∷ l) (start ∙ ap (λ (l : List ℕ). body_spelling c ++ l) tail);
       place = at_end ∙ behind_one kind (body_spelling c);
-      tag = len;
       numbers = is.numbers;
       limits = is.limits;
     }
   where
     behind_one : (b : ℕ) (l : List ℕ) → 1 + length l ≡ length (b ∷ l)
     behind_one b l = omega arith
+
+carried_parts : (kind : ℕ) (bytes : List ℕ) (c : Certificate) (end : ℕ) → HasBody kind bytes c end → length (drop end bytes) ≡ 32 → IsCarried kind bytes c end
+carried_parts kind bytes c end is len = record { text = is.text; place = is.place; tag = len; numbers = is.numbers; limits = is.limits }
 
 pub carried_takes : (kind other : ℕ) (bytes : List ℕ) (x : Certificate × ℕ) → IsBytes bytes → carried kind other bytes ≡ Ok x → IsCarried kind bytes x.0 x.1
 unfolding carried
@@ -100,7 +109,7 @@ carried_takes kind other bytes x fits e =
     let f = found_at bytes begin.0 body.0 within fits read in
     let t = tag_takes bytes body.0.1 end.0 end.1 in
     subst (λ (y : Certificate × ℕ). IsCarried kind bytes y.0 y.1) (ok_is SealFault (body.0.0, end.0) x end.2)
-    (carried_parts kind bytes body.0.0 begin.0 end.0 k.0 k.1 f.0 (sym t.0 ∙ f.1) (ap (λ (n : ℕ). length (drop n bytes)) (sym t.0) ∙ t.1))
+    (carried_parts kind bytes body.0.0 end.0 (body_parts kind bytes body.0.0 begin.0 end.0 k.0 k.1 f.0 (sym t.0 ∙ f.1)) (ap (λ (n : ℕ). length (drop n bytes)) (sym t.0) ∙ t.1))
   where
     some : (b : ℕ) (l bytes : List ℕ) (begin : ℕ) → begin ≡ 1 → bytes ≡ b ∷ l → begin ≤ length bytes
     some b l bytes begin one e = omega (arith, one, ap length e)

@@ -1,2 +1,3 @@
 pub mod Seals
 pub mod Refusals
+pub mod Causes

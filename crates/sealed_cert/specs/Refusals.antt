@@ -1,19 +1,22 @@
 -- Opening bytes from left to right, with the first refusal that is met.
-use Rattle.std.specs.Prelude.{ℕ, ◌+◌, ◌-◌, Bool, ◌==◌, if◌then◌else◌, nat_lt, List, length, take, drop, Option, Some, None, Result, Ok, Err}
+use Rattle.std.specs.Prelude.{ℕ, ◌+◌, ◌-◌, Bool, ◌==◌, if◌then◌else◌, nat_lt, List, length, take}
+use Rattle.std.specs.Prelude.{drop, Option, Some, None, Result, Ok, Err}
 use Rattle.std.specs.Str.{bytes_eq}
 use Rattle.keyed_seal.specs.Keys.{Entries, key_of}
 use Rattle.keyed_seal.specs.Tag.{tag_of}
 use Rattle.prin_term.specs.Steps.{◌>>=◌, with_fault, byte_at}
-use Rattle.stmt_codec.specs.declared.fault.BodyFault.{BodyFault}
-use Rattle.stmt_codec.specs.declared.fault.BodyFault.TheVariants as bodies
+use Rattle.prin_term.specs.declared.fault.FormatFault.{FormatFault}
+use Rattle.prin_term.specs.declared.fault.FormatFault.TheVariants as bodies
 use Rattle.stmt_codec.specs.Certificates.{Certificate}
 use Rattle.stmt_codec.specs.Reading.{body_at}
 use Rattle.sealed_cert.specs.declared.fault.SealFault.{SealFault}
-use Rattle.sealed_cert.specs.declared.fault.SealFault.TheVariants.{Malformed, UnknownIssuer, BadSeal, WrongKind, NoMemory}
-use Rattle.sealed_cert.specs.declared.kind.TheConstants.{ISSUED, RELAYED, TAG_LEN}
+use Rattle.sealed_cert.specs.declared.fault.SealFault.TheVariants.{Malformed, UnknownIssuer}
+use Rattle.sealed_cert.specs.declared.fault.SealFault.TheVariants.{BadSeal, WrongKind, NoMemory}
+use Rattle.keyed_seal.specs.declared.tag.TheConstants.{TAG_LEN}
+use Rattle.sealed_cert.specs.declared.kind.TheConstants.{ISSUED, RELAYED}
 
 -- a body's fault, as a seal's
-abbrev pub seen_as : BodyFault → SealFault
+abbrev pub seen_as : FormatFault → SealFault
 seen_as (bodies.Malformed o) = Malformed o
 seen_as bodies.NoMemory = NoMemory
 
@@ -21,12 +24,14 @@ seen_as bodies.NoMemory = NoMemory
 unfoldable pub kind_at : ℕ → ℕ → List ℕ → Result ℕ SealFault
 kind_at kind other bytes = do
   first ← byte_at (Malformed 0) bytes 0
-  if first.0 == other then Err (WrongKind other) else (if first.0 == kind then Ok first.1 else Err (Malformed 0))
+  if first.0 == other then Err (WrongKind other)
+      else (if first.0 == kind then Ok first.1 else Err (Malformed 0))
 
 -- a tag is left, and nothing after it
 unfoldable pub ends_in_tag : List ℕ → ℕ → Result ℕ SealFault
 ends_in_tag bytes at =
-    if nat_lt (length bytes - at) TAG_LEN then Err (Malformed (length bytes)) else (if nat_lt (at + TAG_LEN) (length bytes) then Err (Malformed (at + TAG_LEN)) else Ok at)
+    if nat_lt (length bytes - at) TAG_LEN then Err (Malformed (length bytes))
+    else (if nat_lt (at + TAG_LEN) (length bytes) then Err (Malformed (at + TAG_LEN)) else Ok at)
 
 -- the certificate of a kind, whatever its tag, and where its body ends; the other kind is refused
 unfoldable pub carried : ℕ → ℕ → List ℕ → Result (Certificate × ℕ) SealFault

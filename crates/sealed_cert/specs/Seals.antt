@@ -2,8 +2,10 @@
 use Rattle.std.specs.Prelude.{◌≡◌, ℕ, List, ◌∷◌, ◌++◌, length, Some}
 use Rattle.keyed_seal.specs.Keys.{Entries, key_of}
 use Rattle.keyed_seal.specs.Tag.{tag_of}
-use Rattle.stmt_codec.specs.Certificates.{Certificate, body_spelling, HasBodySpelling, IsWithinLimits}
-use Rattle.sealed_cert.specs.declared.kind.TheConstants.{ISSUED, RELAYED, TAG_LEN}
+use Rattle.stmt_codec.specs.Certificates.{Certificate, body_spelling, HasBodySpelling}
+use Rattle.stmt_codec.specs.Certificates.{IsWithinLimits}
+use Rattle.keyed_seal.specs.declared.tag.TheConstants.{TAG_LEN}
+use Rattle.sealed_cert.specs.declared.kind.TheConstants.{ISSUED, RELAYED}
 
 -- what is sealed
 abbrev pub sealed_text : ℕ → Certificate → List ℕ
@@ -13,7 +15,7 @@ sealed_text kind c = kind ∷ body_spelling c
 abbrev pub sealed : ℕ → List ℕ → Certificate → List ℕ
 sealed kind key c = sealed_text kind c ++ tag_of key (sealed_text kind c)
 
--- the bytes are c, within the limits, and 32 more, whichever they are
+-- the bytes are c, within the limits, and as many more as a tag has, whichever they are
 pub record Spells (kind : ℕ) (bytes : List ℕ) (c : Certificate) (tag : List ℕ) : Type 0 where
   pub text : bytes ≡ sealed_text kind c ++ tag
   -- the tag has its whole length

@@ -4,10 +4,10 @@ ghost use Rattle.std.specs.Prelude.{◌≡◌};
 ghost use Rattle.sealed_cert.specs.declared.fault.SealFault.TheVariants.{NoMemory};
 ghost use Rattle.sealed_cert.specs.Refusals.{seen_as};
 
+use prin_term::FormatFault;
 use std::alloc::AllocError;
 use std::error::Error;
 use std::fmt;
-use stmt_codec::BodyFault;
 
 /// Why bytes do not open to a certificate.
 #[derive(Clone, Copy, Debug, PartialEq, Eq, Hash)]
@@ -40,13 +40,13 @@ impl fmt::Display for SealFault {
 
 impl Error for SealFault {}
 
-impl From<BodyFault> for SealFault {
+impl From<FormatFault> for SealFault {
     ghost from_gives = { λ fault e. e ≡ seen_as fault };
 
-    fn from(fault: BodyFault) -> SealFault {
+    fn from(fault: FormatFault) -> SealFault {
         match fault {
-            BodyFault::Malformed { offset } => SealFault::Malformed { offset },
-            BodyFault::NoMemory => SealFault::NoMemory,
+            FormatFault::Malformed { offset } => SealFault::Malformed { offset },
+            FormatFault::NoMemory => SealFault::NoMemory,
         }
     }
 }

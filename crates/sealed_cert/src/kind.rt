@@ -1,10 +1,7 @@
-//! The two kinds of sealed certificates, and the length of their tag.
+//! The two kinds of sealed certificates.
 
 /// The first byte of a certificate under its issuer's seal.
 pub const ISSUED: u8 = 1;
 
 /// The first byte of a certificate under a relay's seal for one node.
 pub const RELAYED: u8 = 2;
-
-/// How many bytes a tag has.
-pub const TAG_LEN: usize = 32;

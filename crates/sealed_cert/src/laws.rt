@@ -5,6 +5,8 @@ ghost use Rattle.std.specs.Prelude.{None, Some, Ok, Err};
 ghost use Rattle.keyed_seal.specs.Keys.{Entries, key_of};
 ghost use Rattle.keyed_seal.specs.Tag.{tag_of};
 ghost use Rattle.stmt_codec.specs.Certificates.{Certificate, HasBodySpelling, IsWithinLimits};
+ghost use Rattle.sealed_cert.specs.Causes.{IsRefused, IsRefusedIssued};
+ghost use Rattle.sealed_cert.specs.declared.fault.SealFault.{SealFault};
 ghost use Rattle.sealed_cert.specs.declared.fault.SealFault.TheVariants.{Malformed, WrongKind};
 ghost use Rattle.sealed_cert.specs.declared.fault.SealFault.TheVariants.{UnknownIssuer, BadSeal};
 ghost use Rattle.sealed_cert.specs.Seals.{sealed_text, sealed, Spells};
@@ -22,13 +24,19 @@ pub fn a_sealed_body_opens()
         → opened_issued entries (sealed ISSUED key c) ≡ Ok c }
 {}
 
-/// Opening as a function gives exactly the certificates that the bytes are sealed for.
+/// Opening as a function gives exactly the certificates that the bytes are sealed for, and refuses
+/// other bytes exactly by what is wrong with them first, which is never memory.
 pub fn sealed_bytes_are_opened()
     ensures relayed { (key bytes : List ℕ) (c : Certificate) → All (λ b. b < 256) bytes
         → (opened key bytes ≡ Ok c) ↔ Opens key bytes c }
     ensures issued { (entries : Entries) (bytes : List ℕ) (c : Certificate)
         → All (λ b. b < 256) bytes
         → (opened_issued entries bytes ≡ Ok c) ↔ OpensIssued entries bytes c }
+    ensures relayed_refused { (key bytes : List ℕ) (f : SealFault) → All (λ b. b < 256) bytes
+        → (opened key bytes ≡ Err f) ↔ IsRefused key bytes f }
+    ensures issued_refused { (entries : Entries) (bytes : List ℕ) (f : SealFault)
+        → All (λ b. b < 256) bytes
+        → (opened_issued entries bytes ≡ Err f) ↔ IsRefusedIssued entries bytes f }
 {}
 
 /// Bytes of one kind never open as the other.

@@ -8,7 +8,8 @@ mod opening;
 mod sealing;
 
 pub use fault::SealFault;
-pub use kind::{ISSUED, RELAYED, TAG_LEN};
+pub use keyed_seal::TAG_LEN;
+pub use kind::{ISSUED, RELAYED};
 pub use laws::{
     a_sealed_body_opens, bytes_behind_are_refused, cut_seals_are_refused, kinds_are_apart,
     one_body_opens, sealed_bytes_are_opened, spelled_bytes_are_judged,

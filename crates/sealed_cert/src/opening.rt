@@ -9,8 +9,8 @@ ghost use Rattle.sealed_cert.specs.Refusals.{kind_at, ends_in_tag, carried, is_t
 ghost use Rattle.sealed_cert.specs.Refusals.{opened, opened_issued};
 
 use crate::fault::SealFault;
-use crate::kind::{ISSUED, RELAYED, TAG_LEN};
-use keyed_seal::{KeyTable, Sealer};
+use crate::kind::{ISSUED, RELAYED};
+use keyed_seal::{KeyTable, Sealer, TAG_LEN};
 use prin_term::fields::u8_at;
 use std::alloc::Global;
 use stmt_codec::{Cert, CertBody, read_bare_body};

@@ -1,7 +1,7 @@
 //! Sealing certificates.
 
-ghost use Rattle.std.specs.Prelude.{◌≡◌, ◌++◌, ◌+◌, ◌<◌, ◌≤◌, length, drop, vec_capacity};
-ghost use Rattle.std.specs.Prelude.{List, ℕ, OnOk, OnErr};
+ghost use Rattle.std.specs.Prelude.{length, drop, OnOk};
+ghost use Rattle.prin_term.specs.Appends.{Appends, Pushes};
 ghost use Rattle.stmt_codec.specs.Certificates.{certificate, HasBodySpelling, IsWithinLimits};
 ghost use Rattle.sealed_cert.specs.Seals.{sealed, IsSealed, Opens};
 
@@ -13,15 +13,10 @@ use stmt_codec::{CertBody, write_body};
 /// Appends the body under its issuer's seal, whose key is `key`. An `Err` changes nothing.
 pub fn seal_issued(out: &mut Vec<u8>, key: &[u8; 32], body: &CertBody) -> Result<(), AllocError>
     requires { IsWithinLimits (certificate body.now) }
-    ensures ok { OnOk result (out.new.items
-        ≡ out.old.items ++ sealed ISSUED key.now (certificate body.now)) }
+    ensures appends { Appends out.old out.new
+        (sealed ISSUED key.now (certificate body.now)) result }
     ensures opens { OnOk result (IsSealed ISSUED key.now
         (drop (length out.old.items) out.new.items) (certificate body.now)) }
-    ensures err { OnErr result (out.new.items ≡ out.old.items) }
-    ensures capacity { vec_capacity out.old ≤ vec_capacity out.new }
-    // Memory is refused only where the room behind what is there is too small.
-    ensures room { OnErr result (vec_capacity out.old
-        < length out.old.items + length (sealed ISSUED key.now (certificate body.now))) }
 {
     seal(out, ISSUED, &Sealer::of(key), body)
 }
@@ -30,14 +25,10 @@ pub fn seal_issued(out: &mut Vec<u8>, key: &[u8; 32], body: &CertBody) -> Result
 /// for. An `Err` changes nothing.
 pub fn seal_relayed(out: &mut Vec<u8>, key: &[u8; 32], body: &CertBody) -> Result<(), AllocError>
     requires { IsWithinLimits (certificate body.now) }
-    ensures ok { OnOk result (out.new.items
-        ≡ out.old.items ++ sealed RELAYED key.now (certificate body.now)) }
+    ensures appends { Appends out.old out.new
+        (sealed RELAYED key.now (certificate body.now)) result }
     ensures opens { OnOk result (Opens key.now
         (drop (length out.old.items) out.new.items) (certificate body.now)) }
-    ensures err { OnErr result (out.new.items ≡ out.old.items) }
-    ensures capacity { vec_capacity out.old ≤ vec_capacity out.new }
-    ensures room { OnErr result (vec_capacity out.old
-        < length out.old.items + length (sealed RELAYED key.now (certificate body.now))) }
 {
     seal_relayed_with(out, &Sealer::of(key), body)
 }
@@ -49,26 +40,18 @@ pub fn seal_relayed_with(
     body: &CertBody,
 ) -> Result<(), AllocError>
     requires { IsWithinLimits (certificate body.now) }
-    ensures ok { OnOk result (out.new.items
-        ≡ out.old.items ++ sealed RELAYED sealer.now (certificate body.now)) }
+    ensures appends { Appends out.old out.new
+        (sealed RELAYED sealer.now (certificate body.now)) result }
     ensures opens { OnOk result (Opens sealer.now
         (drop (length out.old.items) out.new.items) (certificate body.now)) }
-    ensures err { OnErr result (out.new.items ≡ out.old.items) }
-    ensures capacity { vec_capacity out.old ≤ vec_capacity out.new }
-    ensures room { OnErr result (vec_capacity out.old
-        < length out.old.items + length (sealed RELAYED sealer.now (certificate body.now))) }
 {
     seal(out, RELAYED, sealer, body)
 }
 
 fn seal(out: &mut Vec<u8>, kind: u8, sealer: &Sealer, body: &CertBody) -> Result<(), AllocError>
-    ensures ok { OnOk result (out.new.items
-        ≡ out.old.items ++ sealed kind sealer.now (certificate body.now)) }
+    ensures appends { Appends out.old out.new
+        (sealed kind sealer.now (certificate body.now)) result }
     ensures numbers { OnOk result (HasBodySpelling (certificate body.now)) }
-    ensures err { OnErr result (out.new.items ≡ out.old.items) }
-    ensures capacity { vec_capacity out.old ≤ vec_capacity out.new }
-    ensures room { OnErr result (vec_capacity out.old
-        < length out.old.items + length (sealed kind sealer.now (certificate body.now))) }
 {
     let len = out.len();
     let written = push_sealed(out, kind, sealer, body);
@@ -78,20 +61,15 @@ fn seal(out: &mut Vec<u8>, kind: u8, sealer: &Sealer, body: &CertBody) -> Result
     written
 }
 
-// What an `Err` leaves has the old bytes in front.
 fn push_sealed(
     out: &mut Vec<u8>,
     kind: u8,
     sealer: &Sealer,
     body: &CertBody,
 ) -> Result<(), AllocError>
-    ensures ok { OnOk result (out.new.items
-        ≡ out.old.items ++ sealed kind sealer.now (certificate body.now)) }
+    ensures pushes { Pushes out.old out.new
+        (sealed kind sealer.now (certificate body.now)) result }
     ensures numbers { OnOk result (HasBodySpelling (certificate body.now)) }
-    ensures err { OnErr result ((more : List ℕ) × (out.new.items ≡ out.old.items ++ more)) }
-    ensures capacity { vec_capacity out.old ≤ vec_capacity out.new }
-    ensures room { OnErr result (vec_capacity out.old
-        < length out.old.items + length (sealed kind sealer.now (certificate body.now))) }
 {
     let len = out.len();
     out.push(kind)?;

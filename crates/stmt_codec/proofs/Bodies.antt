@@ -10,9 +10,9 @@ use Rattle.prin_term.specs.Steps.{optional}
 use Rattle.prin_term.proofs.Results.{bind_ok, ok_is, chosen_ok}
 use Rattle.prin_term.proofs.FieldLaws.{IsBytes, TakesAt, TakesAt-then, TakesAt-within, OptionFits, behind, took, mark_takes, mark_again, number_takes, number_again, optional_takes, optional_again, wide32, wide64}
 use Rattle.prin_term.proofs.Whole.{term_takes_at, term_again_at}
-use Rattle.stmt_codec.specs.declared.fault.BodyFault.{BodyFault}
-use Rattle.stmt_codec.specs.declared.fault.BodyFault.TheVariants.{Malformed}
-use Rattle.stmt_codec.specs.Faults.{seen_as}
+use Rattle.prin_term.specs.declared.fault.FormatFault.{FormatFault}
+use Rattle.prin_term.specs.declared.fault.FormatFault.TheVariants.{Malformed}
+use Rattle.prin_term.specs.Formats.{seen_as}
 use Rattle.stmt_codec.specs.Certificates.{Certificate, body_spelling, key_quoting, distinct_parts, IsSmall, IsWithinLimits, HasBodySpelling, IsBodyAt}
 use Rattle.stmt_codec.specs.Reading.{part_at, right_at, body_at}
 
@@ -85,7 +85,7 @@ body_takes bytes at x le fits e =
     let a4 = TakesAt-then bytes at _ l.0.1 _ r.0.1 a3 t4.0 in
     let a5 = TakesAt-then bytes at _ r.0.1 _ u.0.1 a4 t5.0 in
     let a6 = TakesAt-then bytes at _ u.0.1 _ s.0.1 a5 t6.0 in
-    subst (λ (y : Certificate × ℕ). TakesAt bytes at (body_spelling y.0) y.1 × HasBodySpelling y.0 × IsWithinLimits y.0) (ok_is BodyFault _ x s.2) (
+    subst (λ (y : Certificate × ℕ). TakesAt bytes at (body_spelling y.0) y.1 × HasBodySpelling y.0 × IsWithinLimits y.0) (ok_is FormatFault _ x s.2) (
       a6,
       record { issuer = t1.1; quoted = quoted_numbers q.0.0 t2.1; left = t3.1.numbers; right = t4.1.numbers; until = t5.1; serial = t6.1 },
       record { quoted_fits = quoted_small q.0.0 t2.1; left_fits = small l.0.0 t3.1; right_fits = small r.0.0 t4.1; few_subterms = g.1 },

@@ -4,24 +4,24 @@ use Rattle.std.specs.Prelude.{IfOk, MatchResult}
 use Rattle.prin_term.specs.Steps.{Gives}
 use Rattle.prin_term.proofs.Results.{gives_found, gives_only}
 use Rattle.prin_term.proofs.FieldLaws.{IsBytes}
-use Rattle.stmt_codec.specs.declared.fault.BodyFault.{BodyFault}
-use Rattle.stmt_codec.specs.declared.fault.BodyFault.TheVariants.{NoMemory}
+use Rattle.prin_term.specs.declared.fault.FormatFault.{FormatFault}
+use Rattle.prin_term.specs.declared.fault.FormatFault.TheVariants.{NoMemory}
 use Rattle.stmt_codec.specs.Certificates.{Certificate, body_spelling, IsBodyAt}
 use Rattle.stmt_codec.specs.Reading.{body_at}
 use Rattle.stmt_codec.proofs.Bodies.{found_at, again_at}
 
 -- of a reader whose values are seen as certificates
-pub is_found : {X : Type 0} (see : X → Certificate) (at : ℕ) (bytes : List ℕ) (r : Result (X × ℕ) BodyFault) → at ≤ length bytes → IsBytes bytes → Gives NoMemory (λ x. (see x.0, x.1)) r (body_at bytes at)
+pub is_found : {X : Type 0} (see : X → Certificate) (at : ℕ) (bytes : List ℕ) (r : Result (X × ℕ) FormatFault) → at ≤ length bytes → IsBytes bytes → Gives NoMemory (λ x. (see x.0, x.1)) r (body_at bytes at)
     → IfOk r (λ x. IsBodyAt bytes at (see x.0) × (x.1 ≡ at + length (body_spelling (see x.0))))
 is_found see at bytes r le fits given =
     gives_found (λ (y : Certificate × ℕ). IsBodyAt bytes at y.0 × (y.1 ≡ at + length (body_spelling y.0))) NoMemory (λ x. (see x.0, x.1)) r (body_at bytes at) given (λ y e. found_at bytes at y le fits e)
 
-pub is_only : {X : Type 0} (see : X → Certificate) (at : ℕ) (bytes : List ℕ) (r : Result (X × ℕ) BodyFault) → at ≤ length bytes → Gives NoMemory (λ x. (see x.0, x.1)) r (body_at bytes at)
+pub is_only : {X : Type 0} (see : X → Certificate) (at : ℕ) (bytes : List ℕ) (r : Result (X × ℕ) FormatFault) → at ≤ length bytes → Gives NoMemory (λ x. (see x.0, x.1)) r (body_at bytes at)
     → (c : Certificate) → IsBodyAt bytes at c → MatchResult r (λ x. see x.0 ≡ c) (λ e. e ≡ NoMemory)
 is_only {X} see at bytes r le given c is =
     let end = at + length (body_spelling c) in
     gives_first r (c, end) (gives_only NoMemory (λ x. (see x.0, x.1)) r (body_at bytes at) (c, end) given (again_at bytes at c le is))
   where
-    gives_first : (r : Result (X × ℕ) BodyFault) (y : Certificate × ℕ) → MatchResult r (λ x. (see x.0, x.1) ≡ y) (λ e. e ≡ NoMemory) → MatchResult r (λ x. see x.0 ≡ y.0) (λ e. e ≡ NoMemory)
+    gives_first : (r : Result (X × ℕ) FormatFault) (y : Certificate × ℕ) → MatchResult r (λ x. (see x.0, x.1) ≡ y) (λ e. e ≡ NoMemory) → MatchResult r (λ x. see x.0 ≡ y.0) (λ e. e ≡ NoMemory)
     gives_first (Ok x) y h = ap (λ (p : Certificate × ℕ). p.0) h
     gives_first (Err e) y h = h

@@ -18,7 +18,7 @@ Apart-cond : (b : Bool) (p : Principal) (xs : List Principal) → All (λ q. q �
 Apart-cond true p xs h a = (h, a)
 Apart-cond false p xs h a = a
 
-Apart-filter : (t : Principal → Bool) (ps : List Principal) → Apart ps → Apart (filter t ps)
+pub Apart-filter : (t : Principal → Bool) (ps : List Principal) → Apart ps → Apart (filter t ps)
 Apart-filter t [] a = tt
 Apart-filter t (p ∷ ps) a = Apart-cond (t p) p (filter t ps) (All-filter t (λ q. q ≢ p) ps a.0) (Apart-filter t ps a.1)
 

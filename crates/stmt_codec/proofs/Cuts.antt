@@ -79,7 +79,9 @@ one_left flag bytes text m at e some = by (drop at bytes) refl
         let tail : text ≡ r ++ m = cc in
         inr (r, is ∙ ap (λ (k : ℕ). k ∷ r) (sym head), tail)
 
-pub optional_cut : {A E : Type 0} (short bad : E) (item : ℕ → Result (A × ℕ) E) (spell : A → List ℕ) (Fits : A → Type 0) (bytes m : List ℕ) (at : ℕ) (o : Option A) → ItemCut short item spell Fits bytes → at ≤ length bytes → OptionFits Fits o → optional spell o ≡ drop at bytes ++ m → 0 < length m → optional_at short bad item bytes at ≡ Err short
+pub optional_cut : {A E : Type 0} (short bad : E) (item : ℕ → Result (A × ℕ) E) (spell : A → List ℕ) (Fits : A → Type 0) (bytes m : List ℕ) (at : ℕ) (o : Option A)
+    → ItemCut short item spell Fits bytes → at ≤ length bytes → OptionFits Fits o → optional spell o ≡ drop at bytes ++ m → 0 < length m
+    → optional_at short bad item bytes at ≡ Err short
 unfolding optional_at
 optional_cut short bad item spell Fits bytes m at None cuts le fits e some = elim (one_left 0 bytes [] m at e some) [
   | inl none ↦ rw (byte_cut short bytes at none) refl

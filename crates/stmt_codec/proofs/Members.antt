@@ -8,10 +8,10 @@ use Rattle.prin_term.specs.Principal.{Principal}
 use Rattle.stmt_codec.specs.Distinct.{same_principal, first_of_each}
 use Rattle.stmt_codec.proofs.Same.{same_principal-true, same_principal-itself}
 
-here : {X : Type 0} (x : X) (xs : List X) → Contains (x ∷ xs) x
+pub here : {X : Type 0} (x : X) (xs : List X) → Contains (x ∷ xs) x
 here x xs = Contains-append_left (x ∷ []) xs x (Contains-push [] x)
 
-there : {X : Type 0} (x : X) (xs : List X) (y : X) → Contains xs y → Contains (x ∷ xs) y
+pub there : {X : Type 0} (x : X) (xs : List X) (y : X) → Contains xs y → Contains (x ∷ xs) y
 there x xs y h = Contains-append_right (x ∷ []) xs y h
 
 first_comes : (ps : List Principal) → All (λ q. Contains ps q) (first_of_each ps)
@@ -25,7 +25,7 @@ later : {X : Type 0} (b : Bool) (x : X) (xs : List X) (y : X) → Contains xs y 
 later true x xs y h = there x xs y h
 later false x xs y h = h
 
-kept : {X : Type 0} (t : X → Bool) (xs : List X) → All (λ q. t q ≡ true → Contains (filter t xs) q) xs
+pub kept : {X : Type 0} (t : X → Bool) (xs : List X) → All (λ q. t q ≡ true → Contains (filter t xs) q) xs
 kept t [] = All-nil (λ q. t q ≡ true → Contains (filter t []) q)
 kept {X} t (x ∷ xs) =
     All-cons (λ q. t q ≡ true → Contains (filter t (x ∷ xs)) q) x xs

@@ -12,18 +12,18 @@ use Rattle.prin_term.specs.Steps.{◌>>=◌, byte_at, mark_at, number_at, option
 use Rattle.prin_term.proofs.Results.{bind_err, err_is, chosen, chosen_err, with_fault_err}
 use Rattle.prin_term.proofs.FieldLaws.{IsBytes, TakesAt-within, byte_takes, byte_refused, mark_takes, number_takes, number_refused, optional_takes, wide32}
 use Rattle.prin_term.proofs.Whole.{refused_at, term_takes_at}
-use Rattle.stmt_codec.specs.declared.fault.BodyFault.{BodyFault}
-use Rattle.stmt_codec.specs.declared.fault.BodyFault.TheVariants.{Malformed, NoMemory}
-use Rattle.stmt_codec.specs.Faults.{seen_as}
+use Rattle.prin_term.specs.declared.fault.FormatFault.{FormatFault}
+use Rattle.prin_term.specs.declared.fault.FormatFault.TheVariants.{Malformed, NoMemory}
+use Rattle.prin_term.specs.Formats.{seen_as}
 use Rattle.stmt_codec.specs.Certificates.{key_quoting, distinct_parts}
 use Rattle.stmt_codec.specs.Reading.{part_at, quoted_at, right_at, body_at}
 
 -- the fault says an offset
-abbrev HasOffset : BodyFault → Type 0
+abbrev HasOffset : FormatFault → Type 0
 HasOffset (Malformed o) = Unit {0}
 HasOffset NoMemory = ⊥
 
-at_offset : (o : ℕ) (f : BodyFault) → f ≡ Malformed o → HasOffset f
+at_offset : (o : ℕ) (f : FormatFault) → f ≡ Malformed o → HasOffset f
 at_offset o f e = subst HasOffset (sym e) tt
 
 -- ---- the fields
@@ -35,22 +35,22 @@ term_has bytes at (TooLarge o) le fits e = tt
 term_has bytes at (Short o) le fits e = tt
 term_has bytes at terms.NoMemory le fits e = absurd ((refused_at 64 at bytes terms.NoMemory le fits e).wrong)
 
-part_has : (bytes : List ℕ) (at : ℕ) (f : BodyFault) → at ≤ length bytes → IsBytes bytes → part_at bytes at ≡ Err f → HasOffset f
+part_has : (bytes : List ℕ) (at : ℕ) (f : FormatFault) → at ≤ length bytes → IsBytes bytes → part_at bytes at ≡ Err f → HasOffset f
 part_has bytes at f le fits e =
     let g = with_fault_err seen_as (term_at 64 bytes at) f e in
     subst HasOffset (sym g.2) (term_has bytes at g.0 le fits g.1)
 
-mark_has : (bytes : List ℕ) (at b o p : ℕ) (f : BodyFault) → mark_at (Malformed o) (Malformed p) b bytes at ≡ Err f → HasOffset f
+mark_has : (bytes : List ℕ) (at b o p : ℕ) (f : FormatFault) → mark_at (Malformed o) (Malformed p) b bytes at ≡ Err f → HasOffset f
 unfolding mark_at
 mark_has bytes at b o p f e = elim (bind_err (byte_at (Malformed o) bytes at) (λ x. if x.0 == b then Ok x.1 else Err (Malformed p)) f e) [
   | inl short ↦ at_offset o f (byte_refused (Malformed o) bytes at f short).1
   | inr x ↦ at_offset p f (chosen_err (eqb x.0.0 b) (Malformed p) f x.0.1 x.2).1
 ]
 
-number_has : (w : Width) (bytes : List ℕ) (at : ℕ) (f : BodyFault) → number_at (Malformed (length bytes)) w bytes at ≡ Err f → HasOffset f
+number_has : (w : Width) (bytes : List ℕ) (at : ℕ) (f : FormatFault) → number_at (Malformed (length bytes)) w bytes at ≡ Err f → HasOffset f
 number_has w bytes at f e = at_offset (length bytes) f (number_refused (Malformed (length bytes)) w bytes at f e).1
 
-quoted_has : (bytes : List ℕ) (at : ℕ) (f : BodyFault) → at ≤ length bytes → IsBytes bytes → quoted_at bytes at ≡ Err f → HasOffset f
+quoted_has : (bytes : List ℕ) (at : ℕ) (f : FormatFault) → at ≤ length bytes → IsBytes bytes → quoted_at bytes at ≡ Err f → HasOffset f
 unfolding optional_at
 quoted_has bytes at f le fits e = elim (bind_err (byte_at (Malformed (length bytes)) bytes at) _ f e) [
   | inl short ↦ at_offset (length bytes) f (byte_refused (Malformed (length bytes)) bytes at f short).1
@@ -66,7 +66,7 @@ quoted_has bytes at f le fits e = elim (bind_err (byte_at (Malformed (length byt
   ]
 ]
 
-right_has : (speaker left : Principal) (bytes : List ℕ) (at : ℕ) (f : BodyFault) → at ≤ length bytes → IsBytes bytes → right_at speaker left bytes at ≡ Err f → HasOffset f
+right_has : (speaker left : Principal) (bytes : List ℕ) (at : ℕ) (f : FormatFault) → at ≤ length bytes → IsBytes bytes → right_at speaker left bytes at ≡ Err f → HasOffset f
 unfolding right_at
 right_has speaker left bytes at f le fits e = elim (bind_err (part_at bytes at) _ f e) [
   | inl part ↦ part_has bytes at f le fits part
@@ -75,7 +75,7 @@ right_has speaker left bytes at f le fits e = elim (bind_err (part_at bytes at) 
 
 -- ---- the body
 
-body_has : (bytes : List ℕ) (at : ℕ) (f : BodyFault) → at ≤ length bytes → IsBytes bytes → body_at bytes at ≡ Err f → HasOffset f
+body_has : (bytes : List ℕ) (at : ℕ) (f : FormatFault) → at ≤ length bytes → IsBytes bytes → body_at bytes at ≡ Err f → HasOffset f
 unfolding body_at
 body_has bytes at f le fits e =
     let short = Malformed (length bytes) in

@@ -6,16 +6,16 @@ use Rattle.prin_term.specs.Refusal.{FitsLimits}
 use Rattle.prin_term.specs.Steps.{number_at, optional}
 use Rattle.prin_term.proofs.FieldLaws.{ItemAgain, OptionFits, wide32, wide64, number_again, optional_again}
 use Rattle.prin_term.proofs.Whole.{term_again_at}
-use Rattle.stmt_codec.specs.declared.fault.BodyFault.{BodyFault}
-use Rattle.stmt_codec.specs.declared.fault.BodyFault.TheVariants.{Malformed}
-use Rattle.stmt_codec.specs.Faults.{seen_as}
+use Rattle.prin_term.specs.declared.fault.FormatFault.{FormatFault}
+use Rattle.prin_term.specs.declared.fault.FormatFault.TheVariants.{Malformed}
+use Rattle.prin_term.specs.Formats.{seen_as}
 use Rattle.stmt_codec.specs.Certificates.{Certificate, body_spelling, key_quoting, distinct_parts, IsWithinLimits, HasBodySpelling}
 use Rattle.stmt_codec.specs.Reading.{part_at, quoted_at, right_at, body_at}
 use Rattle.stmt_codec.proofs.Bodies.{fitting, quoted_fitting, right_again}
 use Rattle.stmt_codec.proofs.Once.{text}
 use Rattle.stmt_codec.proofs.Cuts.{ItemCut, mark_then, cut_then, number_cut, term_cut, optional_cut}
 
-abbrev short : List ℕ → BodyFault
+abbrev short : List ℕ → FormatFault
 short bytes = Malformed (length bytes)
 
 again32 : (bytes : List ℕ) → ItemAgain (number_at (short bytes) w32 bytes) (to_be_bytes w32) (λ n. n < 2 ^ 32) bytes
@@ -58,7 +58,8 @@ body_cut bytes more at c le has limits e some =
     cut_then (short bytes) (number_at (short bytes) w32 bytes) (to_be_bytes w32) (λ n. n < 2 ^ 32) bytes more _ (at + 1) c.issuer _ (again32 bytes) (number_cut (short bytes) w32 (2 ^ 32) wide32 bytes) w1 has.issuer e1 (λ w2 e2.
     cut_then (short bytes) (quoted_at bytes) (optional spelling) (OptionFits (FitsLimits 64)) bytes more _ _ c.quoted _ (quoted_again bytes) (quoted_cut bytes) w2 (quoted_fitting c.quoted has.quoted limits.quoted_fits) e2 (λ w3 e3.
     cut_then (short bytes) (part_at bytes) spelling (FitsLimits 64) bytes more _ _ c.left _ (part_again bytes) (part_cut bytes) w3 (fitting c.left has.left limits.left_fits) e3 (λ w4 e4.
-    cut_then (short bytes) (right_at (key_quoting c.issuer c.quoted) c.left bytes) spelling (Right (key_quoting c.issuer c.quoted) c.left) bytes more _ _ c.right _ (right_whole (key_quoting c.issuer c.quoted) c.left bytes) (right_cut (key_quoting c.issuer c.quoted) c.left bytes) w4 (fitting c.right has.right limits.right_fits, limits.few_subterms) e4 (λ w5 e5.
+    cut_then (short bytes) (right_at (key_quoting c.issuer c.quoted) c.left bytes) spelling (Right (key_quoting c.issuer c.quoted) c.left) bytes more _ _ c.right _
+    (right_whole (key_quoting c.issuer c.quoted) c.left bytes) (right_cut (key_quoting c.issuer c.quoted) c.left bytes) w4 (fitting c.right has.right limits.right_fits, limits.few_subterms) e4 (λ w5 e5.
     cut_then (short bytes) (number_at (short bytes) w64 bytes) (to_be_bytes w64) (λ n. n < 2 ^ 64) bytes more _ _ c.until _ (again64 bytes) (number_cut (short bytes) w64 (2 ^ 64) wide64 bytes) w5 has.until e5 (λ w6 e6.
     cut_then (short bytes) (number_at (short bytes) w64 bytes) (to_be_bytes w64) (λ n. n < 2 ^ 64) bytes more [] _ c.serial _ (again64 bytes) (number_cut (short bytes) w64 (2 ^ 64) wide64 bytes) w6 has.serial e6 (λ w7 e7.
     absurd (none_left _ more e7 some))))))))

@@ -1,10 +1,12 @@
 -- Certificates, as mathematics has them, and the one spelling of their bodies.
-use Rattle.std.specs.Prelude.{◌≡◌, ℕ, ◌<◌, ◌≤◌, ◌^◌, drop, List, [], ◌∷◌, ◌++◌, length, filter, nat_lt, Option, None, Some, IfSome}
+use Rattle.std.specs.Prelude.{◌≡◌, ℕ, ◌<◌, ◌≤◌, ◌^◌, drop, List, [], ◌∷◌, ◌++◌, length, filter}
+use Rattle.std.specs.Prelude.{nat_lt, Option, None, Some, IfSome}
 use Rattle.std.specs.Option.{option_map}
 use Rattle.std.specs.Int.{w32, w64, to_be_bytes}
 use Rattle.sha2.specs.Sha256.{sha256}
 use Rattle.prin_term.specs.declared.limits.TheConstants.{CERT_NODES, MAX_DEPTH}
-use Rattle.prin_term.specs.Principal.{Principal, Key, Quoting, subterms, node_count, depth, spelling, HasSpelling}
+use Rattle.prin_term.specs.Principal.{Principal, Key, Quoting, subterms, node_count, depth}
+use Rattle.prin_term.specs.Principal.{spelling, HasSpelling}
 use Rattle.prin_term.specs.Steps.{optional}
 use Rattle.prin_term.specs.View.{principal}
 use Rattle.stmt_codec.specs.declared.body.CertBody.{CertBody}
@@ -46,7 +48,9 @@ speaker_of c = key_quoting c.issuer c.quoted
 
 -- the bytes of the body: version 1, then the fields in their order, the numbers big-endian
 abbrev pub body_spelling : Certificate → List ℕ
-body_spelling c = 1 ∷ [] ++ to_be_bytes w32 c.issuer ++ optional spelling c.quoted ++ spelling c.left ++ spelling c.right ++ to_be_bytes w64 c.until ++ to_be_bytes w64 c.serial
+body_spelling c =
+    1 ∷ [] ++ to_be_bytes w32 c.issuer ++ optional spelling c.quoted ++ spelling c.left
+    ++ spelling c.right ++ to_be_bytes w64 c.until ++ to_be_bytes w64 c.serial
 
 -- the SHA-256 of the body's bytes
 abbrev pub digest_of : Certificate → List ℕ
@@ -54,7 +58,8 @@ digest_of c = sha256 (body_spelling c)
 
 -- every part of these principals, each once
 abbrev pub distinct_parts : Principal → Principal → Principal → List Principal
-distinct_parts speaker left right = first_of_each (subterms speaker ++ (subterms left ++ subterms right))
+distinct_parts speaker left right =
+    first_of_each (subterms speaker ++ (subterms left ++ subterms right))
 
 -- every part of speaker, left and right, each once
 abbrev pub distinct_subterms : Certificate → List Principal

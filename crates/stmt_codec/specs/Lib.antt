@@ -1,7 +1,7 @@
 pub mod Distinct
 pub mod Certificates
-pub mod Faults
 pub mod Reading
 pub mod Seen
 pub mod Unique
 pub mod Equality
+pub mod View

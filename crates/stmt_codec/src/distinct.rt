@@ -23,7 +23,7 @@ struct Seen<'a> {
     terms: [&'a Term; MAX_DISTINCT],
     count: usize,
     // The terms that count lie in the array.
-    ghost within: { count ≤ 16 },
+    ghost within: { count ≤ MAX_DISTINCT },
 }
 
 impl<'a> Seen<'a> {

@@ -3,7 +3,7 @@
 ghost use Rattle.std.specs.Prelude.{◌≡◌, ◌≢◌, ◌↔◌, ◌+◌, ◌-◌, ◌<◌, ◌≤◌, ◌++◌};
 ghost use Rattle.std.specs.Prelude.{ℕ, List, length, drop, Ok, Err, All, AllPairs, Contains};
 ghost use Rattle.prin_term.specs.Principal.{Principal};
-ghost use Rattle.stmt_codec.specs.declared.fault.BodyFault.TheVariants.{Malformed, NoMemory};
+ghost use Rattle.prin_term.specs.declared.fault.FormatFault.TheVariants.{Malformed, NoMemory};
 ghost use Rattle.stmt_codec.specs.declared.limits.TheConstants.{MAX_BODY_LEN};
 ghost use Rattle.stmt_codec.specs.Certificates.{Certificate, body_spelling};
 ghost use Rattle.stmt_codec.specs.Certificates.{HasBodySpelling, IsBodyAt, IsWithinLimits};

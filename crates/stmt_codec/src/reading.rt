@@ -4,7 +4,7 @@ ghost use Rattle.std.specs.Prelude.{◌≡◌, ◌+◌, ◌≤◌, length, IfOk,
 ghost use Rattle.std.specs.Option.{option_map};
 ghost use Rattle.prin_term.specs.Steps.{Gives};
 ghost use Rattle.prin_term.specs.View.{principal};
-ghost use Rattle.stmt_codec.specs.declared.fault.BodyFault.TheVariants.{NoMemory};
+ghost use Rattle.prin_term.specs.declared.fault.FormatFault.TheVariants.{NoMemory};
 ghost use Rattle.stmt_codec.specs.Certificates.{Certificate, certificate, key_quoting};
 ghost use Rattle.stmt_codec.specs.Certificates.{body_spelling, IsBodyAt};
 ghost use Rattle.stmt_codec.specs.Reading.{part_at, quoted_at, right_at, body_at};

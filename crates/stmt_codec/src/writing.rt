@@ -1,8 +1,8 @@
 //! Writing the spelling of a body.
 
-ghost use Rattle.std.specs.Prelude.{◌≡◌, ◌++◌, ◌∷◌, ◌+◌, ◌<◌, ◌≤◌, length, vec_capacity};
-ghost use Rattle.std.specs.Prelude.{List, ℕ, OnOk, OnErr, IfSome};
+ghost use Rattle.std.specs.Prelude.{OnOk, IfSome};
 ghost use Rattle.stmt_codec.specs.Certificates.{certificate, body_spelling, HasBodySpelling};
+ghost use Rattle.prin_term.specs.Appends.{Appends, Pushes};
 ghost use Rattle.prin_term.specs.Steps.{optional};
 ghost use Rattle.prin_term.specs.Principal.{spelling, HasSpelling};
 ghost use Rattle.std.specs.Option.{option_map};
@@ -14,16 +14,9 @@ use std::alloc::AllocError;
 
 /// Appends the one spelling of a body. An `Err` changes nothing.
 pub fn write_body(out: &mut Vec<u8>, body: &CertBody) -> Result<(), AllocError>
-    ensures ok { OnOk result
-        (out.new.items ≡ out.old.items ++ body_spelling (certificate body.now)) }
+    ensures appends { Appends out.old out.new (body_spelling (certificate body.now)) result }
     // The numbers of a body fit their fields, so what is written is read again.
     ensures numbers { OnOk result (HasBodySpelling (certificate body.now)) }
-    ensures err { OnErr result (out.new.items ≡ out.old.items) }
-    ensures capacity { vec_capacity out.old ≤ vec_capacity out.new }
-    // Memory is refused only where the room behind what is there is too small.
-    ensures room { OnErr result
-        (vec_capacity out.old < length out.old.items
-        + length (body_spelling (certificate body.now))) }
 {
     let len = out.len();
     let written = push_body(out, body);
@@ -33,16 +26,9 @@ pub fn write_body(out: &mut Vec<u8>, body: &CertBody) -> Result<(), AllocError>
     written
 }
 
-// What an `Err` leaves has the old bytes in front.
 fn push_body(out: &mut Vec<u8>, body: &CertBody) -> Result<(), AllocError>
-    ensures ok { OnOk result
-        (out.new.items ≡ out.old.items ++ body_spelling (certificate body.now)) }
+    ensures pushes { Pushes out.old out.new (body_spelling (certificate body.now)) result }
     ensures numbers { OnOk result (HasBodySpelling (certificate body.now)) }
-    ensures err { OnErr result ((more : List ℕ) × (out.new.items ≡ out.old.items ++ more)) }
-    ensures capacity { vec_capacity out.old ≤ vec_capacity out.new }
-    ensures room { OnErr result
-        (vec_capacity out.old < length out.old.items
-        + length (body_spelling (certificate body.now))) }
 {
     out.push(1)?;
     out.extend_from_slice(&body.issuer.to_be_bytes())?;
@@ -55,14 +41,9 @@ fn push_body(out: &mut Vec<u8>, body: &CertBody) -> Result<(), AllocError>
 }
 
 fn push_quoted(out: &mut Vec<u8>, quoted: &Option<Term>) -> Result<(), AllocError>
-    ensures ok { OnOk result
-        (out.new.items ≡ out.old.items ++ optional spelling (option_map principal quoted.now)) }
+    ensures pushes { Pushes out.old out.new
+        (optional spelling (option_map principal quoted.now)) result }
     ensures numbers { OnOk result (IfSome (option_map principal quoted.now) HasSpelling) }
-    ensures err { OnErr result ((more : List ℕ) × (out.new.items ≡ out.old.items ++ more)) }
-    ensures capacity { vec_capacity out.old ≤ vec_capacity out.new }
-    ensures room { OnErr result
-        (vec_capacity out.old < length out.old.items + length
-        (optional spelling (option_map principal quoted.now))) }
 {
     match quoted {
         None => {

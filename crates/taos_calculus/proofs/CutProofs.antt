@@ -6,8 +6,8 @@ use Rattle.prin_term.specs.Steps.{◌>>=◌, bytes_at}
 use Rattle.prin_term.proofs.FieldLaws.{bytes_takes}
 use Rattle.prin_term.proofs.Results.{bind_ok, ok_is}
 use Rattle.prin_term.proofs.Cuts.{Cuts, cuts_followed, cuts_passing, cuts_made, cuts_given, cuts_if, cuts_counted, cuts_byte, cuts_bytes, cuts_number}
-use Rattle.taos_calculus.specs.declared.fault.ProofFault.{ProofFault}
-use Rattle.taos_calculus.specs.declared.fault.ProofFault.TheVariants.{Malformed}
+use Rattle.prin_term.specs.declared.fault.FormatFault.{FormatFault as ProofFault}
+use Rattle.prin_term.specs.declared.fault.FormatFault.TheVariants.{Malformed}
 use Rattle.taos_calculus.specs.declared.reading_nodes.NodeShape.{NodeShape}
 use Rattle.taos_calculus.specs.declared.reading_nodes.NodeShape.TheVariants.{Atom, Role, Pair}
 use Rattle.taos_calculus.specs.declared.reading_lines.StepShape.{StepShape}

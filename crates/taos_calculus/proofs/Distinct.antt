@@ -1,40 +1,14 @@
 -- A list of first places holds nothing twice, so a canonical table is a table of nodes.
-use Rattle.std.proofs.Common.{◌≡◌, ◌≢◌, inl, inr, ℕ, zero, suc, ◌<◌, Bool, true, false, not, cond, List, [], ◌∷◌, Some, slice_get, length, get_or, sym, ◌∙◌, subst, arith, All}
-use Rattle.std.specs.Prelude.{filter}
-use Rattle.std.proofs.lemmas.List.Elements.{All-filter, All-weaker, All-get_or, filter_passes}
+use Rattle.std.proofs.Common.{◌≡◌, ◌≢◌, inl, inr, ℕ, zero, suc, ◌<◌, List, [], ◌∷◌, Some, slice_get, length, get_or, sym, ◌∙◌, arith}
+use Rattle.std.proofs.lemmas.List.Elements.{All-get_or}
 use Rattle.std.proofs.lemmas.Option.{slice_get_within}
-use Rattle.std.proofs.lemmas.Bool.{cases_order, both_ways, not-true}
+use Rattle.std.proofs.lemmas.Bool.{cases_order}
 use Rattle.std.specs.List.{flat_map}
 use Rattle.prin_term.specs.Principal.{Principal, Key}
 use Rattle.taos_calculus.specs.Tables.{Parts, shape, IsNodeTable, principals_of, named, lines_of}
-use Rattle.stmt_codec.specs.Distinct.{same_principal, first_of_each}
 use Rattle.taos_calculus.specs.Canonical.{IsCanonical, post_order, terms_of}
 use Rattle.taos_calculus.proofs.Naming.{ordered_reads, length-principals_of}
-use Rattle.stmt_codec.proofs.Same.{same_principal-itself}
-
--- no element comes again
-abbrev pub Apart : List Principal → Type 0
-Apart [] = Unit {0}
-Apart (p ∷ ps) = All (λ q. q ≢ p) ps × Apart ps
-
-Apart-cond : (b : Bool) (p : Principal) (xs : List Principal) → All (λ q. q ≢ p) xs → Apart xs → Apart (cond b (p ∷ xs) xs)
-Apart-cond true p xs h a = (h, a)
-Apart-cond false p xs h a = a
-
-pub Apart-filter : (t : Principal → Bool) (ps : List Principal) → Apart ps → Apart (filter t ps)
-Apart-filter t [] a = tt
-Apart-filter t (p ∷ ps) a = Apart-cond (t p) p (filter t ps) (All-filter t (λ q. q ≢ p) ps a.0) (Apart-filter t ps a.1)
-
-differs : (p q : Principal) → not (same_principal q p) ≡ true → q ≢ p
-differs p q t e = both_ways (same_principal q p) (not-true (same_principal q p) t) (subst (λ (x : Principal). same_principal q x ≡ true) e (same_principal-itself q))
-
-pub Apart-first_of_each : (ps : List Principal) → Apart (first_of_each ps)
-Apart-first_of_each [] = tt
-Apart-first_of_each (p ∷ ps) = (
-  All-weaker (λ q. not (same_principal q p) ≡ true) (λ q. q ≢ p) (differs p) (filter (λ q. not (same_principal q p)) (first_of_each ps))
-      (filter_passes (λ q. not (same_principal q p)) (first_of_each ps)),
-  Apart-filter (λ q. not (same_principal q p)) (first_of_each ps) (Apart-first_of_each ps),
-)
+use Rattle.stmt_codec.proofs.Counts.{Apart, Apart-first_of_each}
 
 apart_at : (ps : List Principal) → Apart ps → (i j : ℕ) (d : Principal) → i < j → j < length ps → get_or ps j d ≢ get_or ps i d
 apart_at [] a i j d h fits = absurd (omega arith)

@@ -14,8 +14,8 @@ use Rattle.prin_term.proofs.ReaderLaws.{Reads, reads_followed, reads_made, reads
 use Rattle.prin_term.proofs.Results.{bind_ok, ok_is, gives_found, gives_only}
 use Rattle.stmt_codec.specs.Distinct.{same_principal}
 use Rattle.stmt_codec.proofs.Same.{same_principal-true, same_principal-itself}
-use Rattle.taos_calculus.specs.declared.fault.ProofFault.{ProofFault}
-use Rattle.taos_calculus.specs.declared.fault.ProofFault.TheVariants.{Malformed, NoMemory}
+use Rattle.prin_term.specs.declared.fault.FormatFault.{FormatFault as ProofFault}
+use Rattle.prin_term.specs.declared.fault.FormatFault.TheVariants.{Malformed, NoMemory}
 use Rattle.taos_calculus.specs.declared.line.Node.{Node}
 use Rattle.taos_calculus.specs.declared.line.Fact.{Fact}
 use Rattle.taos_calculus.specs.declared.line.Line.{Line}

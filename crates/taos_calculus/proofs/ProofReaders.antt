@@ -6,7 +6,7 @@ use Rattle.std.proofs.lemmas.Bool.Decides.{nat_tests}
 use Rattle.prin_term.proofs.FieldLaws.{wide16, wide32}
 use Rattle.prin_term.proofs.FieldReaders.{reads_given, reads_if}
 use Rattle.prin_term.proofs.ReaderLaws.{Reads, reads_byte, reads_number, reads_followed, reads_passing, reads_made, reads_as}
-use Rattle.taos_calculus.specs.declared.fault.ProofFault.TheVariants.{Malformed}
+use Rattle.prin_term.specs.declared.fault.FormatFault.TheVariants.{Malformed}
 use Rattle.taos_calculus.specs.declared.line.Node.{Node}
 use Rattle.taos_calculus.specs.declared.line.Fact.{Fact}
 use Rattle.taos_calculus.specs.declared.line.Step.{Step}

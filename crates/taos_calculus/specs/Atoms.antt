@@ -23,4 +23,5 @@ IsAnchoredTo anchors k _ = ⊥
 -- w is an atom: without a certificate it is derivable that the key k speaks for w exactly where w
 -- is the key k or a name that some anchor gives to it
 abbrev pub AtomIsDecided : List Anchor → ℕ → Principal → Type 0
-AtomIsDecided anchors k w = IsAtom w → Derivable anchors [] (SpeaksFor (Key k) w) ↔ IsAnchoredTo anchors k w
+AtomIsDecided anchors k w =
+    IsAtom w → Derivable anchors [] (SpeaksFor (Key k) w) ↔ IsAnchoredTo anchors k w

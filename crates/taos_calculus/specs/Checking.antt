@@ -1,13 +1,24 @@
 -- What a check of a proof tells, over principals.
-use Rattle.std.specs.Prelude.{◌≡◌, ◌≢◌, ℕ, List, [], Some, slice_get, take, length, Result, Ok, Err}
+use Rattle.std.specs.Prelude.{◌≡◌, ◌≢◌, ℕ, List, [], Some, Result, Ok, Err}
+use Rattle.std.specs.Prelude.{slice_get, take, length, map}
+use Rattle.std.specs.declared.alloc.Global.{Global}
+use Rattle.std.specs.declared.sync.Arc.{Arc}
 use Rattle.prin_term.specs.declared.term.Anchor.{Anchor}
 use Rattle.prin_term.specs.Principal.{Principal}
+use Rattle.stmt_codec.specs.declared.cert.Cert.{Cert}
+use Rattle.stmt_codec.specs.Certificates.{certificate}
 use Rattle.taos_calculus.specs.declared.check.Conclusion.{Conclusion}
 use Rattle.taos_calculus.specs.declared.check.BadLine.{BadLine}
 use Rattle.taos_calculus.specs.declared.line.Fact.{Fact}
-use Rattle.taos_calculus.specs.Rules.{Claim, Line, SpeaksFor, Follows, EachFollows, last_fact, Proves}
+use Rattle.taos_calculus.specs.Rules.{Claim, Line, SpeaksFor, Follows}
+use Rattle.taos_calculus.specs.Rules.{EachFollows, last_fact, Proves}
 use Rattle.taos_calculus.specs.Tables.{Parts, named, lines_of, IsBelow}
 use Rattle.taos_calculus.specs.Tidy.{facts}
+use Rattle.taos_calculus.specs.Question.{claim_of}
+
+-- what the certificates behind the handles say, in order
+abbrev pub said_by : List (Arc Cert Global) → List Claim
+said_by handles = map (λ (c : Arc Cert Global). claim_of (certificate c.value.body)) handles
 
 -- k is the number of the first line that does not follow, or of all lines where they follow and
 -- conclude nothing
@@ -24,9 +35,11 @@ pub data IsBad (anchors : List Anchor) (claims : List Claim) (lines : List Line)
       IsBad anchors claims lines k
 
 -- the lines prove that the one number speaks for the other
-pub record Concludes (anchors : List Anchor) (claims : List Claim) (parts : Parts) (left right : ℕ) : Type 0 where
+pub record Concludes (anchors : List Anchor) (claims : List Claim)
+    (parts : Parts) (left right : ℕ) : Type 0 where
   pub below : IsBelow (length parts.nodes) (Fact.Speaks left right)
-  pub proves : Proves anchors claims (lines_of parts) (SpeaksFor (named parts.nodes left) (named parts.nodes right))
+  pub proves : Proves anchors claims (lines_of parts)
+      (SpeaksFor (named parts.nodes left) (named parts.nodes right))
 
 -- what the answer of a check tells
 abbrev pub IsChecked : List Anchor → List Claim → Parts → Result Conclusion BadLine → Type 0

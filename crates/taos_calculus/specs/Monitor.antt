@@ -14,15 +14,18 @@ abbrev pub MaySpeak : List Anchor → List Claim → Principal → Principal →
 MaySpeak anchors claims left right = Derivable anchors claims (SpeaksFor left right)
 
 -- the first entry with the right of which P holds
-pub record FirstEntry (list : List Grant) (right : ℕ) (P : Grant → Type 0) (place : ℕ) (entry : Grant) : Type 0 where
+pub record FirstEntry (list : List Grant) (right : ℕ)
+    (P : Grant → Type 0) (place : ℕ) (entry : Grant) : Type 0 where
   pub stands : slice_get list place ≡ Some entry
   pub has_right : HasRight entry right
   pub holds : P entry
   -- no entry before it has the right and P
-  pub first : (k : ℕ) (e : Grant) → k < place → slice_get list k ≡ Some e → HasRight e right → P e → ⊥
+  pub first : (k : ℕ) (e : Grant) → k < place →
+      slice_get list k ≡ Some e → HasRight e right → P e → ⊥
 
 -- the subject is derivable to some entry with the right
-pub record Grants (anchors : List Anchor) (claims : List Claim) (subject : Principal) (list : List Grant) (right : ℕ) : Type 0 where
+pub record Grants (anchors : List Anchor) (claims : List Claim)
+    (subject : Principal) (list : List Grant) (right : ℕ) : Type 0 where
   pub place : ℕ
   pub entry : Grant
   pub stands : slice_get list place ≡ Some entry

@@ -9,33 +9,40 @@ use Rattle.taos_calculus.specs.Rules.{Claim}
 use Rattle.taos_calculus.specs.Tables.{named, IsBelow}
 
 -- the step gives the fact from earlier facts: one case for each rule
-pub data Gives (nodes : List Node) (anchors : List Anchor) (claims : List Claim) (earlier : List Fact) : Fact → Step → Type 0 where
+pub data Gives (nodes : List Node) (anchors : List Anchor)
+    (claims : List Claim) (earlier : List Fact) : Fact → Step → Type 0 where
   same : {a : ℕ} → Gives nodes anchors claims earlier (Fact.Speaks a a) Step.Same
   chain : {a b c i j : ℕ} →
       slice_get earlier i ≡ Some (Fact.Speaks a b) → slice_get earlier j ≡ Some (Fact.Speaks b c) →
       Gives nodes anchors claims earlier (Fact.Speaks a c) (Step.Chain i j)
-  left : {a b c : ℕ} → slice_get nodes c ≡ Some (Node.And a b) → Gives nodes anchors claims earlier (Fact.Speaks c a) Step.Left
-  right : {a b c : ℕ} → slice_get nodes c ≡ Some (Node.And a b) → Gives nodes anchors claims earlier (Fact.Speaks c b) Step.Right
+  left : {a b c : ℕ} → slice_get nodes c ≡ Some (Node.And a b) →
+      Gives nodes anchors claims earlier (Fact.Speaks c a) Step.Left
+  right : {a b c : ℕ} → slice_get nodes c ≡ Some (Node.And a b) →
+      Gives nodes anchors claims earlier (Fact.Speaks c b) Step.Right
   both : {a b c d i j : ℕ} →
       slice_get nodes d ≡ Some (Node.And a b) →
       slice_get earlier i ≡ Some (Fact.Speaks c a) → slice_get earlier j ≡ Some (Fact.Speaks c b) →
       Gives nodes anchors claims earlier (Fact.Speaks c d) (Step.Both i j)
   quoting : {a a' b b' c d i j : ℕ} →
       slice_get nodes c ≡ Some (Node.Quote a b) → slice_get nodes d ≡ Some (Node.Quote a' b') →
-      slice_get earlier i ≡ Some (Fact.Speaks a a') → slice_get earlier j ≡ Some (Fact.Speaks b b') →
+      slice_get earlier i ≡ Some (Fact.Speaks a a') →
+      slice_get earlier j ≡ Some (Fact.Speaks b b') →
       Gives nodes anchors claims earlier (Fact.Speaks c d) (Step.Quote i j)
   for_both : {a a' b b' c d i j : ℕ} →
       slice_get nodes c ≡ Some (Node.For a b) → slice_get nodes d ≡ Some (Node.For a' b') →
-      slice_get earlier i ≡ Some (Fact.Speaks a a') → slice_get earlier j ≡ Some (Fact.Speaks b b') →
+      slice_get earlier i ≡ Some (Fact.Speaks a a') →
+      slice_get earlier j ≡ Some (Fact.Speaks b b') →
       Gives nodes anchors claims earlier (Fact.Speaks c d) (Step.For i j)
-  role : {a r c : ℕ} → slice_get nodes c ≡ Some (Node.AsRole a r) → Gives nodes anchors claims earlier (Fact.Speaks a c) Step.Role
+  role : {a r c : ℕ} → slice_get nodes c ≡ Some (Node.AsRole a r) →
+      Gives nodes anchors claims earlier (Fact.Speaks a c) Step.Role
   role_under : {a b r c d i : ℕ} →
       slice_get nodes c ≡ Some (Node.AsRole a r) → slice_get nodes d ≡ Some (Node.AsRole b r) →
       slice_get earlier i ≡ Some (Fact.Speaks a b) →
       Gives nodes anchors claims earlier (Fact.Speaks c d) (Step.RoleUnder i)
   anchored : {anchor : Anchor} {c d i : ℕ} →
       slice_get anchors i ≡ Some anchor →
-      slice_get nodes c ≡ Some (Node.Key anchor.key) → slice_get nodes d ≡ Some (Node.Name anchor.name) →
+      slice_get nodes c ≡ Some (Node.Key anchor.key) →
+      slice_get nodes d ≡ Some (Node.Name anchor.name) →
       Gives nodes anchors claims earlier (Fact.Speaks c d) (Step.Anchor i)
   said : {claim : Claim} {w l r i : ℕ} →
       slice_get claims i ≡ Some claim →
@@ -64,9 +71,11 @@ facts_at lines = map (λ (l : Line). l.fact) lines
 abbrev pub EachGives : List Node → List Anchor → List Claim → List Fact → List Line → Type 0
 EachGives nodes anchors claims earlier [] = Unit {0}
 EachGives nodes anchors claims earlier (l ∷ rest) =
-    Gives nodes anchors claims earlier l.fact l.step × EachGives nodes anchors claims (earlier ++ l.fact ∷ []) rest
+    Gives nodes anchors claims earlier l.fact l.step ×
+    EachGives nodes anchors claims (earlier ++ l.fact ∷ []) rest
 
 -- what a step gives from the known facts is known
 abbrev pub IsClosed : List Node → List Anchor → List Claim → List Fact → Type 0
 IsClosed nodes anchors claims known =
-    (fact : Fact) (step : Step) → IsBelow (length nodes) fact → Gives nodes anchors claims known fact step → Contains known fact
+    (fact : Fact) (step : Step) → IsBelow (length nodes) fact →
+    Gives nodes anchors claims known fact step → Contains known fact

@@ -1,12 +1,13 @@
 -- Reading a proof from left to right, with the first fault that is met.
-use Rattle.std.specs.Prelude.{ℕ, ◌+◌, Bool, true, false, ◌&&◌, ◌||◌, List, [], ◌∷◌, length, take, Result, Ok, Err, nat_lt, nat_le, ◌==◌, if◌then◌else◌}
+use Rattle.std.specs.Prelude.{ℕ, ◌+◌, Bool, true, false, ◌&&◌, ◌||◌, List, [], ◌∷◌, length}
+use Rattle.std.specs.Prelude.{take, Result, Ok, Err, nat_lt, nat_le, ◌==◌, if◌then◌else◌}
 use Rattle.std.specs.Int.{w16, w32}
 use Rattle.prin_term.specs.Principal.{Principal}
 use Rattle.prin_term.specs.Readers.{Reader, followed, passing, made, given, counted}
 use Rattle.prin_term.specs.Steps.{◌>>=◌, byte_at, bytes_at, number_at}
 use Rattle.stmt_codec.specs.Distinct.{same_principal}
-use Rattle.taos_calculus.specs.declared.fault.ProofFault.{ProofFault}
-use Rattle.taos_calculus.specs.declared.fault.ProofFault.TheVariants.{Malformed}
+use Rattle.prin_term.specs.declared.fault.FormatFault.{FormatFault as ProofFault}
+use Rattle.prin_term.specs.declared.fault.FormatFault.TheVariants.{Malformed}
 use Rattle.taos_calculus.specs.declared.line.Node.{Node}
 use Rattle.taos_calculus.specs.declared.line.Fact.{Fact}
 use Rattle.taos_calculus.specs.declared.line.Step.{Step}
@@ -14,7 +15,8 @@ use Rattle.taos_calculus.specs.declared.line.Line.{Line}
 use Rattle.taos_calculus.specs.declared.reading_nodes.NodeShape.{NodeShape}
 use Rattle.taos_calculus.specs.declared.reading_nodes.NodeShape.TheVariants.{Atom, Role, Pair}
 use Rattle.taos_calculus.specs.declared.reading_lines.StepShape.{StepShape}
-use Rattle.taos_calculus.specs.declared.reading_lines.StepShape.TheVariants.{Bare, Place, OneLine, TwoLines}
+use Rattle.taos_calculus.specs.declared.reading_lines.StepShape.TheVariants.{Bare, Place}
+use Rattle.taos_calculus.specs.declared.reading_lines.StepShape.TheVariants.{OneLine, TwoLines}
 use Rattle.taos_calculus.specs.declared.proof.TheConstants.{MAX_NODES, MAX_LINES}
 use Rattle.taos_calculus.specs.Tables.{Parts, parts_of, principals_of, lines_of}
 use Rattle.taos_calculus.specs.Canonical.{canonical_table}
@@ -64,7 +66,8 @@ node_shape tag = if tag == 1 || tag == 2 then Atom else (if tag == 5 then Role e
 -- the fields of a node of this shape, whose operands are among n others
 unfoldable pub node_fields_at : List ℕ → ℕ → NodeShape → ProofReader NodeFields
 node_fields_at bytes n Atom = made (λ k. ((0, 0), k)) (u32_in bytes)
-node_fields_at bytes n Role = made (λ x. ((x.0, 0), x.1)) (followed (number_in n bytes) (λ _. u32_in bytes))
+node_fields_at bytes n Role =
+    made (λ x. ((x.0, 0), x.1)) (followed (number_in n bytes) (λ _. u32_in bytes))
 node_fields_at bytes n Pair = made (λ p. (p, 0)) (pair_in n bytes)
 
 -- the node of a tag from 1 to 6
@@ -81,11 +84,13 @@ node_tagged tag x =
 unfoldable pub node_at : List ℕ → ℕ → ProofReader Node
 node_at bytes n =
     made (λ x. x.1)
-    (followed (byte_up_to 6 bytes) (λ tag. made (node_tagged tag) (node_fields_at bytes n (node_shape tag))))
+    (followed (byte_up_to 6 bytes)
+    (λ tag. made (node_tagged tag) (node_fields_at bytes n (node_shape tag))))
 
 -- the nodes, after their count
 unfoldable pub nodes_at : List ℕ → ProofReader (List Node)
-nodes_at bytes = counted MAX_NODES Malformed (u16_in bytes) (λ before. node_at bytes (length before))
+nodes_at bytes =
+    counted MAX_NODES Malformed (u16_in bytes) (λ before. node_at bytes (length before))
 
 -- ---- lines
 
@@ -96,7 +101,9 @@ gives_says rule = rule == 10 || (rule == 11 || rule == 12)
 -- the fact of a rule, over the numbers of n nodes
 unfoldable pub fact_at : List ℕ → ℕ → ℕ → ProofReader Fact
 fact_at bytes n rule at =
-    if gives_says rule then made (λ x. Fact.Says x.0 x.1.0 x.1.1) (followed (number_in n bytes) (λ _. pair_in n bytes)) at
+    if gives_says rule
+    then made (λ x. Fact.Says x.0 x.1.0 x.1.1)
+    (followed (number_in n bytes) (λ _. pair_in n bytes)) at
     else made (λ p. Fact.Speaks p.0 p.1) (pair_in n bytes) at
 
 -- what stands after a fact: the number of an anchor or a certificate, or those of two lines or one;
@@ -157,7 +164,9 @@ lines_at bytes n = counted MAX_LINES Malformed (u32_in bytes) (λ _. line_at byt
 
 -- the nodes and the lines
 unfoldable pub parts_at : List ℕ → ProofReader Parts
-parts_at bytes = made (λ x. parts_of x.0 x.1) (followed (nodes_at bytes) (λ nodes. lines_at bytes (length nodes)))
+parts_at bytes =
+    made (λ x. parts_of x.0 x.1)
+    (followed (nodes_at bytes) (λ nodes. lines_at bytes (length nodes)))
 
 -- whether two lists of principals are equal
 abbrev pub same_principals : List Principal → List Principal → Bool
@@ -174,7 +183,9 @@ is_canonical parts = same_principals (principals_of parts.nodes) (canonical_tabl
 unfoldable pub proof_from : List ℕ → ℕ → Result Parts ProofFault
 proof_from bytes at = do
   x ← parts_at bytes at
-  if is_canonical x.0 then (if nat_lt x.1 (length bytes) then Err (Malformed x.1) else Ok x.0) else Err (Malformed at)
+  if is_canonical x.0
+      then (if nat_lt x.1 (length bytes) then Err (Malformed x.1) else Ok x.0)
+      else Err (Malformed at)
 
 -- the proof that all of the bytes spell, or the fault. The clauses of `read_proof` pin it to
 -- `Spells`, which does not read

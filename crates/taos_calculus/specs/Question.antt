@@ -1,8 +1,9 @@
 -- What a decider is asked about, and what it answers.
-use Rattle.std.specs.Prelude.{◌≡◌, ◌⊎◌, ℕ, ◌+◌, ◌≤◌, Bool, true, false, List, [], ◌∷◌, length, map, All, Any, Contains}
-use Rattle.prin_term.specs.declared.limits.TheConstants.{ENTRY_NODES, QUOTED_NODES}
+use Rattle.std.specs.Prelude.{◌≡◌, ◌⊎◌, ℕ, ◌+◌, ◌≤◌, Bool, true, false, List}
+use Rattle.std.specs.Prelude.{[], ◌∷◌, length, map, All, Any, Contains}
+use Rattle.prin_term.specs.declared.limits.TheConstants.{ENTRY_NODES}
 use Rattle.prin_term.specs.declared.term.Anchor.{Anchor}
-use Rattle.prin_term.specs.Principal.{Principal, Key, Quoting, subterms, node_count}
+use Rattle.prin_term.specs.Principal.{Principal, subterms, node_count}
 use Rattle.prin_term.specs.View.{Grant}
 use Rattle.stmt_codec.specs.Certificates.{Certificate, speaker_of}
 use Rattle.taos_calculus.specs.declared.decide.TheConstants.{MAX_ANCHORS, MAX_CERTS, MAX_ENTRIES}
@@ -30,7 +31,8 @@ pub record Question : Type 0 where
   pub list : List Principal
 
 -- the question of these
-abbrev pub question_of : List Anchor → List Certificate → List Bool → Principal → List Grant → Question
+abbrev pub question_of : List Anchor → List Certificate →
+    List Bool → Principal → List Grant → Question
 question_of anchors certs chosen subject list = record {
   anchors = anchors;
   chosen = picked 0 (map claim_of certs) chosen;
@@ -42,25 +44,21 @@ question_of anchors certs chosen subject list = record {
 abbrev pub claims_of : Question → List Claim
 claims_of q = map (λ (c : ℕ × Claim). c.1) q.chosen
 
--- a channel's key, or that key quoting another principal
-abbrev pub IsSubject : Principal → Type 0
-IsSubject (Key k) = Unit {0}
-IsSubject (Quoting (Key k) quoted) = node_count quoted ≤ QUOTED_NODES
-IsSubject _ = ⊥
-
 -- the limits of a question
-pub record IsAskable (anchors : List Anchor) (certs : List Certificate) (chosen : List Bool) (subject : Principal) (list : List Grant) : Type 0 where
+pub record IsAskable (anchors : List Anchor) (certs : List Certificate)
+    (chosen : List Bool) (subject : Principal) (list : List Grant) : Type 0 where
   pub anchors_fit : length anchors ≤ MAX_ANCHORS
   pub certs_fit : length certs ≤ MAX_CERTS
   -- there is a mark for each certificate
   pub chosen_fit : length chosen ≡ length certs
-  pub subject_fits : IsSubject subject
+  pub subject_fits : node_count subject ≤ ENTRY_NODES
   pub list_fits : length list ≤ MAX_ENTRIES
   pub entries_fit : All (λ (e : Grant). node_count e.who ≤ ENTRY_NODES) list
 
 -- p is a part of the subject or of an entry
 abbrev pub IsTermOf : Question → Principal → Type 0
-IsTermOf q p = Contains (subterms q.subject) p ⊎ Any (λ (who : Principal). Contains (subterms who) p) q.list
+IsTermOf q p =
+    Contains (subterms q.subject) p ⊎ Any (λ (who : Principal). Contains (subterms who) p) q.list
 
 -- `left => right` is derivable
 abbrev pub MayAnswer : Question → Principal → Principal → Type 0
@@ -70,10 +68,12 @@ MayAnswer q left right = MaySpeak q.anchors (claims_of q) left right
 pub data AreCited (chosen : List (ℕ × Claim)) : List ℕ → List Claim → Type 0 where
   no_cite : AreCited chosen [] []
   a_cite : {place : ℕ} {claim : Claim} {places : List ℕ} {said : List Claim} →
-      Contains chosen (place, claim) → AreCited chosen places said → AreCited chosen (place ∷ places) (claim ∷ said)
+      Contains chosen (place, claim) → AreCited chosen places said →
+      AreCited chosen (place ∷ places) (claim ∷ said)
 
 -- a proof without waste of `left => right` from the cited certificates
-pub record IsProofOf (q : Question) (left right : Principal) (lines : List Line) (cites : List ℕ) : Type 0 where
+pub record IsProofOf (q : Question) (left right : Principal)
+    (lines : List Line) (cites : List ℕ) : Type 0 where
   -- what the cited certificates say, in the order of the cites
   pub said : List Claim
   pub cited : AreCited q.chosen cites said

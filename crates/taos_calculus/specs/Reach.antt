@@ -5,7 +5,8 @@ use Rattle.prin_term.specs.Principal.{Principal, Key, Name, And, Quoting, InRole
 use Rattle.taos_calculus.specs.Rules.{Claim, Judgement, SpeaksFor, Says, Line, Follows}
 use Rattle.taos_calculus.specs.Saturation.{IsTable, IsSaturated}
 
--- The principal, in the table or not, reaches the member: its parts, anchors and known facts force it.
+-- The principal, in the table or not, reaches the member: its parts, anchors and known facts
+-- force it.
 -- U holds of the members, and Known of the facts.
 pub data Reach (U : Principal → Type 0) (Known : Judgement → Type 0) (anchors : List Anchor) :
     Principal → Principal → Type 0 where

@@ -31,7 +31,8 @@ abbrev pub IsAt : List Judgement → ℕ → Judgement → Type 0
 IsAt facts i fact = slice_get facts i ≡ Some fact
 
 -- the line's fact is given by its rule: one case for each rule
-pub data Follows (anchors : List Anchor) (claims : List Claim) (earlier : List Judgement) : Line → Type 0 where
+pub data Follows (anchors : List Anchor) (claims : List Claim)
+    (earlier : List Judgement) : Line → Type 0 where
   -- everyone speaks for himself
   same : {a : Principal} → Follows anchors claims earlier (line (SpeaksFor a a) Step.Same)
   -- who speaks for one that speaks for a third speaks for the third
@@ -41,7 +42,8 @@ pub data Follows (anchors : List Anchor) (claims : List Claim) (earlier : List J
   -- both together speak for the left one
   left : {a b : Principal} → Follows anchors claims earlier (line (SpeaksFor (And a b) a) Step.Left)
   -- both together speak for the right one
-  right : {a b : Principal} → Follows anchors claims earlier (line (SpeaksFor (And a b) b) Step.Right)
+  right : {a b : Principal} →
+      Follows anchors claims earlier (line (SpeaksFor (And a b) b) Step.Right)
   -- who speaks for each of two speaks for both together
   both : {a b c : Principal} {i j : ℕ} →
       IsAt earlier i (SpeaksFor c a) → IsAt earlier j (SpeaksFor c b) →
@@ -49,13 +51,15 @@ pub data Follows (anchors : List Anchor) (claims : List Claim) (earlier : List J
   -- one quoting speaks for another, part by part
   quoting : {a a' b b' : Principal} {i j : ℕ} →
       IsAt earlier i (SpeaksFor a a') → IsAt earlier j (SpeaksFor b b') →
-      Follows anchors claims earlier (line (SpeaksFor (Quoting a b) (Quoting a' b')) (Step.Quote i j))
+      Follows anchors claims earlier
+      (line (SpeaksFor (Quoting a b) (Quoting a' b')) (Step.Quote i j))
   -- one delegation speaks for another, part by part
   for_both : {a a' b b' : Principal} {i j : ℕ} →
       IsAt earlier i (SpeaksFor a a') → IsAt earlier j (SpeaksFor b b') →
       Follows anchors claims earlier (line (SpeaksFor (For a b) (For a' b')) (Step.For i j))
   -- a principal speaks for itself in a role
-  role : {a : Principal} {r : ℕ} → Follows anchors claims earlier (line (SpeaksFor a (InRole a r)) Step.Role)
+  role : {a : Principal} {r : ℕ} →
+      Follows anchors claims earlier (line (SpeaksFor a (InRole a r)) Step.Role)
   -- who speaks for another speaks, in a role, for the other in that role
   role_under : {a b : Principal} {r i : ℕ} →
       IsAt earlier i (SpeaksFor a b) →
@@ -63,11 +67,13 @@ pub data Follows (anchors : List Anchor) (claims : List Claim) (earlier : List J
   -- an anchor's key speaks for its name
   anchored : {anchor : Anchor} {i : ℕ} →
       slice_get anchors i ≡ Some anchor →
-      Follows anchors claims earlier (line (SpeaksFor (Key anchor.key) (Name anchor.name)) (Step.Anchor i))
+      Follows anchors claims earlier
+      (line (SpeaksFor (Key anchor.key) (Name anchor.name)) (Step.Anchor i))
   -- a certificate's speaker says its statement
   said : {claim : Claim} {i : ℕ} →
       slice_get claims i ≡ Some claim →
-      Follows anchors claims earlier (line (Says claim.speaker claim.left claim.right) (Step.Said i))
+      Follows anchors claims earlier
+      (line (Says claim.speaker claim.left claim.right) (Step.Said i))
   -- what a speaker says, those for whom it speaks say
   lift : {a b l r : Principal} {i j : ℕ} →
       IsAt earlier i (Says a l r) → IsAt earlier j (SpeaksFor a b) →
@@ -98,7 +104,8 @@ last_fact (l ∷ []) = Some l.fact
 last_fact (l ∷ m ∷ rest) = last_fact (m ∷ rest)
 
 -- each line follows from those before it, and the last one's fact is this
-pub record Proves (anchors : List Anchor) (claims : List Claim) (lines : List Line) (fact : Judgement) : Type 0 where
+pub record Proves (anchors : List Anchor) (claims : List Claim)
+    (lines : List Line) (fact : Judgement) : Type 0 where
   -- each line follows from those before it
   pub follow : EachFollows anchors claims [] lines
   pub last : last_fact lines ≡ Some fact

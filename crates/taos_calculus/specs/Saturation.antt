@@ -15,10 +15,12 @@ pub record IsTable (U : Principal → Type 0) (claims : List Claim) : Type 0 whe
   -- with a principal, its operands are in it
   pub operands_in : (p : Principal) → U p → All U (operands p)
   -- the principals of the certificates are in it
-  pub claims_in : (i : ℕ) (claim : Claim) → slice_get claims i ≡ Some claim → U claim.speaker × U claim.left × U claim.right
+  pub claims_in : (i : ℕ) (claim : Claim) → slice_get claims i ≡ Some claim →
+      U claim.speaker × U claim.left × U claim.right
 
 -- what follows from known facts by one rule is known, as far as U goes
-abbrev pub IsSaturated : (Principal → Type 0) → (Judgement → Type 0) → List Anchor → List Claim → Type 0
+abbrev pub IsSaturated : (Principal → Type 0) →
+    (Judgement → Type 0) → List Anchor → List Claim → Type 0
 IsSaturated U Known anchors claims =
     (earlier : List Judgement) (line : Line) →
     All Known earlier → Follows anchors claims earlier line → IsWithin U line.fact → Known line.fact
@@ -29,4 +31,5 @@ abbrev pub HasEveryFact : List Anchor → List Claim → List Principal → List
 HasEveryFact anchors claims table known =
     IsTable (Contains table) claims →
     IsSaturated (Contains table) (Contains known) anchors claims →
-    (fact : Judgement) → IsWithin (Contains table) fact → Derivable anchors claims fact → Contains known fact
+    (fact : Judgement) → IsWithin (Contains table) fact →
+    Derivable anchors claims fact → Contains known fact

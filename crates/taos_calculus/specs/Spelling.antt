@@ -37,7 +37,8 @@ line_of number l = record { fact = fact_of number l.fact; step = l.step }
 -- the parts that lines over principals have: their canonical table, and themselves by its numbers
 abbrev pub numbered : List Meaning → Parts
 numbered lines =
-    parts_of (map (node_of (place_in (canonical_table lines))) (canonical_table lines)) (map (line_of (place_in (canonical_table lines))) lines)
+    parts_of (map (node_of (place_in (canonical_table lines))) (canonical_table lines))
+    (map (line_of (place_in (canonical_table lines))) lines)
 
 -- two numbers of principals
 abbrev pub pair16 : ℕ → ℕ → List ℕ
@@ -59,7 +60,8 @@ node_bytes (Node.For a b) = 6 ∷ pair16 a b
 -- the numbers that a fact names
 abbrev pub fact_bytes : Fact → List ℕ
 fact_bytes (Fact.Speaks left right) = pair16 left right
-fact_bytes (Fact.Says who left right) = to_be_bytes w16 who ++ to_be_bytes w16 left ++ to_be_bytes w16 right
+fact_bytes (Fact.Says who left right) =
+    to_be_bytes w16 who ++ to_be_bytes w16 left ++ to_be_bytes w16 right
 
 -- the byte that names a rule
 abbrev pub rule_byte : Step → ℕ
@@ -104,7 +106,8 @@ line_bytes l = rule_byte l.step ∷ (fact_bytes l.fact ++ premise_bytes l.step)
 -- the bytes of parts: the nodes after their count, and the lines after theirs
 abbrev pub parts_spelling : Parts → List ℕ
 parts_spelling parts =
-    to_be_bytes w16 (length parts.nodes) ++ flat_map node_bytes parts.nodes ++ to_be_bytes w32 (length parts.lines) ++ flat_map line_bytes parts.lines
+    to_be_bytes w16 (length parts.nodes) ++ flat_map node_bytes parts.nodes ++
+    to_be_bytes w32 (length parts.lines) ++ flat_map line_bytes parts.lines
 
 -- the one spelling of lines over principals
 unfoldable pub proof_spelling : List Meaning → List ℕ

@@ -1,5 +1,6 @@
 -- Tables of principals by their nodes, and what lines over their numbers mean.
-use Rattle.std.specs.Prelude.{◌≡◌, ℕ, ◌<◌, List, [], ◌∷◌, ◌++◌, Some, slice_get, slice_index_or, map}
+use Rattle.std.specs.Prelude.{◌≡◌, ℕ, ◌<◌, List, [], ◌∷◌, ◌++◌}
+use Rattle.std.specs.Prelude.{Some, slice_get, slice_index_or, map}
 use Rattle.prin_term.specs.Principal.{Principal, Key, Name, And, Quoting, InRole, For}
 use Rattle.taos_calculus.specs.declared.line.Node.{Node}
 use Rattle.taos_calculus.specs.declared.line.Fact.{Fact}
@@ -27,7 +28,8 @@ OperandsBelow n (Node.For a b) = (a < n) × (b < n)
 -- the principals so far, and those of the nodes that follow
 abbrev pub grown : List Principal → List Node → List Principal
 grown earlier [] = earlier
-grown earlier (node ∷ rest) = grown (earlier ++ shape (λ i. slice_index_or earlier i (Key 0)) node ∷ []) rest
+grown earlier (node ∷ rest) =
+    grown (earlier ++ shape (λ i. slice_index_or earlier i (Key 0)) node ∷ []) rest
 
 -- the principal of each node, in order
 abbrev pub principals_of : List Node → List Principal
@@ -69,4 +71,5 @@ pub record IsNodeTable (nodes : List Node) : Type 0 where
   -- each node's operands stand before it
   pub ordered : (i : ℕ) (node : Node) → slice_get nodes i ≡ Some node → OperandsBelow i node
   -- no node stands twice
-  pub distinct : (i j : ℕ) (node : Node) → slice_get nodes i ≡ Some node → slice_get nodes j ≡ Some node → i ≡ j
+  pub distinct : (i j : ℕ) (node : Node) → slice_get nodes i ≡ Some node →
+      slice_get nodes j ≡ Some node → i ≡ j

@@ -1,5 +1,6 @@
 -- Derivations without waste, and derivations that name only some principals.
-use Rattle.std.specs.Prelude.{◌≡◌, ◌≢◌, ℕ, ◌+◌, ◌<◌, List, [], ◌∷◌, Some, slice_get, length, map, Contains, All, AllPairs}
+use Rattle.std.specs.Prelude.{◌≡◌, ◌≢◌, ℕ, ◌+◌, ◌<◌, List, [], ◌∷◌, Some}
+use Rattle.std.specs.Prelude.{slice_get, length, map, Contains, All, AllPairs}
 use Rattle.prin_term.specs.declared.term.Anchor.{Anchor}
 use Rattle.taos_calculus.specs.declared.line.Step.{Step}
 use Rattle.prin_term.specs.Principal.{Principal}
@@ -52,7 +53,8 @@ abbrev pub facts : List Line → List Judgement
 facts lines = map (λ l. l.fact) lines
 
 -- some derivation of the fact names only principals of which U holds
-pub record DerivableWithin (U : Principal → Type 0) (anchors : List Anchor) (claims : List Claim) (fact : Judgement) : Type 0 where
+pub record DerivableWithin (U : Principal → Type 0) (anchors : List Anchor)
+    (claims : List Claim) (fact : Judgement) : Type 0 where
   pub lines : List Line
   pub proves : Proves anchors claims lines fact
   pub within : All (λ l. IsWithin U l.fact) lines
@@ -64,9 +66,11 @@ pub record IsTidy (lines : List Line) (cites : List ℕ) : Type 0 where
   pub distinct : AllPairs (λ l m. l.fact ≢ m.fact) lines
   -- each line but the last is a premise of a later one
   pub used : (k : ℕ) → k + 1 < length lines →
-      (i : ℕ) × (l : Line) × (k < i) × (slice_get lines i ≡ Some l) × Contains (premises_of l.step) k
+      (i : ℕ) × (l : Line) × (k < i) ×
+      (slice_get lines i ≡ Some l) × Contains (premises_of l.step) k
   -- each cite is used
-  pub cited : (k : ℕ) → k < length cites → (i : ℕ) × (l : Line) × (slice_get lines i ≡ Some l) × Contains (cites_of l.step) k
+  pub cited : (k : ℕ) → k < length cites →
+      (i : ℕ) × (l : Line) × (slice_get lines i ≡ Some l) × Contains (cites_of l.step) k
   -- no two cites are alike
   pub apart : AllPairs (λ c d. c ≢ d) cites
 
@@ -74,7 +78,8 @@ pub record IsTidy (lines : List Line) (cites : List ℕ) : Type 0 where
 abbrev pub StaysWithin : List Anchor → List Claim → List Principal → Type 0
 StaysWithin anchors claims table =
     IsTable (Contains table) claims →
-    (fact : Judgement) → IsWithin (Contains table) fact → Derivable anchors claims fact → DerivableWithin (Contains table) anchors claims fact
+    (fact : Judgement) → IsWithin (Contains table) fact →
+    Derivable anchors claims fact → DerivableWithin (Contains table) anchors claims fact
 
 -- which certificates there are counts, and not their order
 abbrev pub DerivesMore : List Anchor → List Claim → List Claim → Type 0

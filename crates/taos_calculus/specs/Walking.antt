@@ -22,7 +22,8 @@ pub record Reaches (nodes : List Node) (due : ℕ) (ids : List ℕ) (k : ℕ) : 
   pub within : k ≤ length nodes
   pub below : All (λ i. i < length nodes) ids
   -- what the numbers name, added to those first, is the beginning of the table that ends at k
-  pub front : met (take due (principals_of nodes)) (parts_under nodes ids) ≡ take k (principals_of nodes)
+  pub front :
+      met (take due (principals_of nodes)) (parts_under nodes ids) ≡ take k (principals_of nodes)
 
 -- these numbers lead to no beginning of the table
 abbrev pub Strays : List Node → ℕ → List ℕ → Type 0

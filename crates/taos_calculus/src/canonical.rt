@@ -1,4 +1,5 @@
-ghost use Rattle.std.specs.Prelude.{◌≡◌, ◌↔◌, ◌<◌, ◌≤◌, ◌^◌, ◌+◌, ◌∷◌, [], IsTrue, IfSome, MatchOption, SomeIff, slice_get, length, max, Contains};
+ghost use Rattle.std.specs.Prelude.{◌≡◌, ◌↔◌, ◌<◌, ◌≤◌, ◌^◌, ◌+◌, ◌∷◌, [], IsTrue, IfSome};
+ghost use Rattle.std.specs.Prelude.{MatchOption, SomeIff, slice_get, length, max, Contains};
 ghost use Rattle.taos_calculus.specs.Tables.{IsNodeTable, OperandsBelow, parts_of};
 ghost use Rattle.taos_calculus.specs.Canonical.{IsCanonical};
 ghost use Rattle.taos_calculus.specs.Walking.{IsPlaced, Reaches, Strays, numbers_in};

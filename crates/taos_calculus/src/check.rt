@@ -1,21 +1,20 @@
 //! Checking a proof against anchors and certificates.
 
-ghost use Rattle.std.specs.Prelude.{◌≡◌, ◌≢◌, ◌↔◌, ◌<◌, ◌≤◌, ◌-◌, [], ℕ, List, Some, IsOk, IsTrue, MatchOption, slice_get, take, length, map, All};
+ghost use Rattle.std.specs.Prelude.{◌≡◌, ◌≢◌, ◌↔◌, ◌<◌, ◌≤◌, ◌-◌, [], ℕ, List, Some, IsOk};
+ghost use Rattle.std.specs.Prelude.{IsTrue, MatchOption, slice_get, take, length, map, All};
 ghost use Rattle.prin_term.specs.declared.term.Anchor.{Anchor};
 ghost use Rattle.prin_term.specs.Principal.{Principal};
-ghost use Rattle.stmt_codec.specs.Certificates.{certificate};
 ghost use Rattle.taos_calculus.specs.declared.line.Fact.{Fact};
 ghost use Rattle.taos_calculus.specs.Rules as rules;
 ghost use Rattle.taos_calculus.specs.Rules.{Claim, SpeaksFor, Follows, EachFollows, Proves};
 ghost use Rattle.taos_calculus.specs.Tables.{IsNodeTable, IsBelow, named, parts_of, lines_of};
 ghost use Rattle.taos_calculus.specs.Tidy.{facts};
 ghost use Rattle.taos_calculus.specs.Numbered.{Gives, facts_at};
-ghost use Rattle.taos_calculus.specs.Question.{claim_of};
 ghost use Rattle.taos_calculus.specs.Premises.{IsClaimed, Asks};
-ghost use Rattle.taos_calculus.specs.Checking.{IsChecked};
+ghost use Rattle.taos_calculus.specs.Checking.{IsChecked, said_by};
 
 use crate::line::{Fact, Line, Node, Step};
-use crate::node_is::node_is;
+use crate::nodes::node_is;
 use crate::proof::Proof;
 use crate::rules::{
     acts_for, chains, delegates, hands_off, is_anchored, is_left_of, is_right_of, is_role_of,
@@ -113,8 +112,7 @@ fn is_claimed(
 ) -> bool
     requires table { IsNodeTable nodes.now }
     requires below { IsBelow (length nodes.now) (Fact.Says who left right) }
-    ensures { IsTrue result ↔ IsClaimed (named nodes.now)
-        (slice_get (map (λ c. claim_of (certificate c.value.body)) cites.now) cite)
+    ensures { IsTrue result ↔ IsClaimed (named nodes.now) (slice_get (said_by cites.now) cite)
         who left right }
 {
     match cites.get(cite as usize) {
@@ -138,8 +136,7 @@ fn gives_says(
     requires table { IsNodeTable nodes.now }
     requires below { IsBelow (length nodes.now) (Fact.Says fact.0 fact.1 fact.2) }
     ensures { (anchors : List Anchor) → IsTrue result ↔ Asks nodes.now anchors
-        (map (λ c. claim_of (certificate c.value.body)) cites.now) (facts_at earlier.now)
-        (Fact.Says fact.0 fact.1 fact.2) step }
+        (said_by cites.now) (facts_at earlier.now) (Fact.Says fact.0 fact.1 fact.2) step }
 {
     let (who, left, right) = fact;
     match step {
@@ -172,9 +169,8 @@ fn is_given(
 ) -> bool
     requires table { IsNodeTable nodes.now }
     requires below { IsBelow (length nodes.now) line.fact }
-    ensures { IsTrue result ↔ Gives nodes.now anchors.now
-        (map (λ c. claim_of (certificate c.value.body)) cites.now) (facts_at earlier.now)
-        line.fact line.step }
+    ensures { IsTrue result ↔ Gives nodes.now anchors.now (said_by cites.now)
+        (facts_at earlier.now) line.fact line.step }
 {
     match line.fact {
         Fact::Speaks { left, right } => {
@@ -191,12 +187,11 @@ fn first_bad(anchors: &[Anchor], cites: &[Arc<Cert>], nodes: &[Node], lines: &[L
     requires table { IsNodeTable nodes.now }
     requires below { All (λ l. IsBelow (length nodes.now) l.fact) lines.now }
     ensures within { result ≤ length lines.now }
-    ensures before { EachFollows anchors.now
-        (map (λ c. claim_of (certificate c.value.body)) cites.now) []
+    ensures before { EachFollows anchors.now (said_by cites.now) []
         (take result (lines_of (parts_of nodes.now lines.now))) }
     ensures here { (l : rules.Line) → slice_get (lines_of (parts_of nodes.now lines.now)) result
         ≡ Some l
-        → ¬ Follows anchors.now (map (λ c. claim_of (certificate c.value.body)) cites.now)
+        → ¬ Follows anchors.now (said_by cites.now)
         (facts (take result (lines_of (parts_of nodes.now lines.now)))) l }
 {
     for k in 0..lines.len() {
@@ -225,8 +220,7 @@ fn conclusion_of(lines: &[Line]) -> Option<Conclusion>
 }
 
 fn checked(anchors: &[Anchor], cites: &[Arc<Cert>], proof: &Proof) -> Result<Conclusion, BadLine>
-    ensures { IsChecked anchors.now (map (λ c. claim_of (certificate c.value.body)) cites.now)
-        proof.now result }
+    ensures { IsChecked anchors.now (said_by cites.now) proof.now result }
 {
     let nodes = proof.nodes();
     let lines = proof.lines();
@@ -248,12 +242,10 @@ pub fn check_proof(
     proof: &Proof,
 ) -> Result<Conclusion, BadLine>
     // What the answer tells.
-    ensures checked { IsChecked anchors.now
-        (map (λ c. claim_of (certificate c.value.body)) cites.now) proof.now result }
+    ensures checked { IsChecked anchors.now (said_by cites.now) proof.now result }
     // What proves that somebody speaks for somebody is not refused.
-    ensures only { (left right : Principal) → Proves anchors.now
-        (map (λ c. claim_of (certificate c.value.body)) cites.now) (lines_of proof.now)
-        (SpeaksFor left right) → IsOk result }
+    ensures only { (left right : Principal) → Proves anchors.now (said_by cites.now)
+        (lines_of proof.now) (SpeaksFor left right) → IsOk result }
 {
     checked(anchors, cites, proof)
 }

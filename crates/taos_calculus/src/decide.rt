@@ -2,9 +2,10 @@
 
 ghost use Rattle.std.specs.Prelude.{◌≡◌, ◌↔◌, List, ℕ, map, IsTrue, IfOk};
 ghost use Rattle.prin_term.specs.View.{grant, principal};
-ghost use Rattle.stmt_codec.specs.Certificates.{certificate};
+ghost use Rattle.stmt_codec.specs.View.{certificates};
 ghost use Rattle.taos_calculus.specs.Tables.{lines_of};
-ghost use Rattle.taos_calculus.specs.Question.{Question, question_of, IsAskable, IsTermOf, MayAnswer, IsProofOf};
+ghost use Rattle.taos_calculus.specs.Question.{Question, question_of, IsAskable};
+ghost use Rattle.taos_calculus.specs.Question.{IsTermOf, MayAnswer, IsProofOf};
 
 use crate::proof::Proof;
 use prin_term::{Anchor, Entry, Term};
@@ -42,11 +43,10 @@ pub trait Decide {
         subject: &Term,
         list: &[Entry],
     )
-        requires { IsAskable anchors.now (map (λ c. certificate c.value.body) certs.now) chosen.now
+        requires { IsAskable anchors.now (certificates certs.now) chosen.now
             (principal subject.now) (map grant list.now) }
-        ensures { question self.new ≡ question_of anchors.now
-            (map (λ c. certificate c.value.body) certs.now) chosen.now (principal subject.now)
-            (map grant list.now) };
+        ensures { question self.new ≡ question_of anchors.now (certificates certs.now) chosen.now
+            (principal subject.now) (map grant list.now) };
 
     /// Whether `left => right` is derivable. Takes no memory.
     fn derives(&mut self, left: &Term, right: &Term) -> bool

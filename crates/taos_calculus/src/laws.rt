@@ -1,9 +1,9 @@
 //! The laws of the calculus, each the contract of a function that does nothing.
 
-ghost use Rattle.std.specs.Prelude.{◌≡◌, ◌<◌, ◌++◌, [], List, ℕ, Ok, Err, length};
+ghost use Rattle.std.specs.Prelude.{◌≡◌, ◌≢◌, ◌↔◌, ◌<◌, ◌++◌, [], List, ℕ, Ok, Err, length, All};
 ghost use Rattle.prin_term.specs.declared.term.Anchor.{Anchor};
 ghost use Rattle.prin_term.specs.Principal.{Principal};
-ghost use Rattle.taos_calculus.specs.declared.fault.ProofFault.TheVariants.{Malformed};
+ghost use Rattle.prin_term.specs.declared.fault.FormatFault.TheVariants.{Malformed, NoMemory};
 ghost use Rattle.taos_calculus.specs.Rules.{Judgement, Claim, Line};
 ghost use Rattle.taos_calculus.specs.Tables.{Parts, lines_of};
 ghost use Rattle.taos_calculus.specs.Spelling.{numbered, proof_spelling};
@@ -71,6 +71,14 @@ pub fn written_is_read()
     ensures read { (p : Parts) → FitsProof p → proof_of (proof_spelling (lines_of p)) ≡ Ok p }
     ensures lines { (lines : List Line) → FitsProof (numbered lines)
         → proof_of (proof_spelling lines) ≡ Ok (numbered lines) }
+{}
+
+/// Reading as a function gives exactly the proof that all of the bytes spell. Other bytes are
+/// refused at an offset, and never for memory.
+pub fn proofs_are_read()
+    ensures read { (bytes : List ℕ) (p : Parts) → All (λ b. b < 256) bytes
+        → (proof_of bytes ≡ Ok p) ↔ Spells p bytes }
+    ensures refused { (bytes : List ℕ) → proof_of bytes ≢ Err NoMemory }
 {}
 
 /// No spelling begins another: one that is cut is refused at the cut, and what follows one at its

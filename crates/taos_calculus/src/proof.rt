@@ -3,7 +3,7 @@ ghost use Rattle.taos_calculus.specs.Tables.{parts_of};
 
 use crate::canonical::{is_met_in_order, is_node_table};
 use crate::line::{Line, Node};
-use crate::node_is::node_is;
+use crate::nodes::node_is;
 use prin_term::Term;
 use std::marker::Model;
 

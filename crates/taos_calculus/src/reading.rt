@@ -2,7 +2,7 @@
 
 ghost use Rattle.std.specs.Prelude.{◌≡◌, ◌≤◌, length, IfOk, MatchResult};
 ghost use Rattle.prin_term.specs.Steps.{Gives};
-ghost use Rattle.taos_calculus.specs.declared.fault.ProofFault.TheVariants.{NoMemory};
+ghost use Rattle.prin_term.specs.declared.fault.FormatFault.TheVariants.{NoMemory};
 ghost use Rattle.taos_calculus.specs.Tables.{Parts, parts_of};
 ghost use Rattle.taos_calculus.specs.Spells.{Spells};
 ghost use Rattle.taos_calculus.specs.ProofReading.{parts_at, proof_from, proof_of, proof_filling};

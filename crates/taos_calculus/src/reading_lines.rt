@@ -3,8 +3,9 @@
 ghost use Rattle.std.specs.Prelude.{◌≡◌, ◌≤◌, [], length, IfOk};
 ghost use Rattle.prin_term.specs.Readers.{items_behind};
 ghost use Rattle.prin_term.specs.Steps.{Gives};
-ghost use Rattle.taos_calculus.specs.declared.fault.ProofFault.TheVariants.{NoMemory};
-ghost use Rattle.taos_calculus.specs.ProofReading.{gives_says, fact_at, step_shape, premises_at, step_ruled, step_at, line_at, lines_at};
+ghost use Rattle.prin_term.specs.declared.fault.FormatFault.TheVariants.{NoMemory};
+ghost use Rattle.taos_calculus.specs.ProofReading.{gives_says, fact_at, step_shape, premises_at};
+ghost use Rattle.taos_calculus.specs.ProofReading.{step_ruled, step_at, line_at, lines_at};
 
 use crate::fault::ProofFault;
 use crate::line::{Fact, Line, Step};

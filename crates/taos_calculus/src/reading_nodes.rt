@@ -3,8 +3,9 @@
 ghost use Rattle.std.specs.Prelude.{◌≡◌, ◌≤◌, [], length, IfOk};
 ghost use Rattle.prin_term.specs.Readers.{items_behind};
 ghost use Rattle.prin_term.specs.Steps.{Gives};
-ghost use Rattle.taos_calculus.specs.declared.fault.ProofFault.TheVariants.{NoMemory};
-ghost use Rattle.taos_calculus.specs.ProofReading.{node_shape, node_fields_at, node_tagged, node_at, nodes_at};
+ghost use Rattle.prin_term.specs.declared.fault.FormatFault.TheVariants.{NoMemory};
+ghost use Rattle.taos_calculus.specs.ProofReading.{node_shape, node_fields_at};
+ghost use Rattle.taos_calculus.specs.ProofReading.{node_tagged, node_at, nodes_at};
 
 use crate::fault::ProofFault;
 use crate::line::Node;

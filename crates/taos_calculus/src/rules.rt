@@ -1,7 +1,9 @@
 //! What each rule takes for a fact, by the numbers of a table: one function for each rule.
 
 ghost use Rattle.std.specs.Prelude.{◌≡◌, ◌↔◌, IsTrue, Some};
-ghost use Rattle.taos_calculus.specs.Premises.{IsSpeaks, IsSays, Chains, IsLeftOf, IsRightOf, ReachBoth, Quotes, ActsFor, IsRoleOf, UnderRole, IsAnchored, Lifts, JoinIn, HandsOff, Delegates};
+ghost use Rattle.taos_calculus.specs.Premises.{IsSpeaks, IsSays, Chains, IsLeftOf, IsRightOf};
+ghost use Rattle.taos_calculus.specs.Premises.{ReachBoth, Quotes, ActsFor, IsRoleOf, UnderRole};
+ghost use Rattle.taos_calculus.specs.Premises.{IsAnchored, Lifts, JoinIn, HandsOff, Delegates};
 
 use crate::line::{Fact, Node};
 use prin_term::Anchor;

@@ -1,8 +1,13 @@
-ghost use Rattle.std.specs.Prelude.{◌≡◌, ◌++◌, ◌∷◌, ◌+◌, ◌<◌, ◌≤◌, ◌^◌, ℕ, List, length, vec_capacity, OnOk, OnErr};
+//! Writing the spelling of a proof.
+
+ghost use Rattle.std.specs.Prelude.{◌≡◌, ◌++◌, ◌∷◌, ◌<◌, ◌≤◌, ◌^◌, length};
 ghost use Rattle.std.specs.Int.{w16, w32, to_be_bytes};
 ghost use Rattle.std.specs.List.{flat_map};
+ghost use Rattle.prin_term.specs.Appends.{Appends, Pushes};
 ghost use Rattle.taos_calculus.specs.Tables.{lines_of, parts_of};
-ghost use Rattle.taos_calculus.specs.Spelling.{proof_spelling, parts_spelling, node_bytes, fact_bytes, premise_bytes, line_bytes, rule_byte, pair16, pair32};
+ghost use Rattle.taos_calculus.specs.Spelling.{proof_spelling, parts_spelling, node_bytes};
+ghost use Rattle.taos_calculus.specs.Spelling.{fact_bytes, premise_bytes, line_bytes, rule_byte};
+ghost use Rattle.taos_calculus.specs.Spelling.{pair16, pair32};
 
 use crate::line::{Fact, Line, Node, Step};
 use crate::proof::{MAX_LINES, MAX_NODES, Proof};
@@ -10,13 +15,7 @@ use std::alloc::AllocError;
 
 /// Appends the one spelling of a proof. An `Err` leaves the bytes as they were.
 pub fn write_proof(out: &mut Vec<u8>, proof: &Proof) -> Result<(), AllocError>
-    ensures ok { OnOk result
-        (out.new.items ≡ out.old.items ++ proof_spelling (lines_of proof.now)) }
-    ensures err { OnErr result (out.new.items ≡ out.old.items) }
-    ensures capacity { vec_capacity out.old ≤ vec_capacity out.new }
-    // Memory is refused only where the room behind what is there is too small.
-    ensures room { OnErr result (vec_capacity out.old
-        < length out.old.items + length (proof_spelling (lines_of proof.now))) }
+    ensures appends { Appends out.old out.new (proof_spelling (lines_of proof.now)) result }
     // A proof within its limits is short.
     ensures short { length (proof_spelling (lines_of proof.now)) < 2 ^ 25 }
 {
@@ -26,12 +25,7 @@ pub fn write_proof(out: &mut Vec<u8>, proof: &Proof) -> Result<(), AllocError>
 fn write_parts(out: &mut Vec<u8>, nodes: &[Node], lines: &[Line]) -> Result<(), AllocError>
     requires nodes_fit { length nodes.now ≤ MAX_NODES }
     requires lines_fit { length lines.now ≤ MAX_LINES }
-    ensures ok { OnOk result
-        (out.new.items ≡ out.old.items ++ parts_spelling (parts_of nodes.now lines.now)) }
-    ensures err { OnErr result (out.new.items ≡ out.old.items) }
-    ensures capacity { vec_capacity out.old ≤ vec_capacity out.new }
-    ensures room { OnErr result (vec_capacity out.old
-        < length out.old.items + length (parts_spelling (parts_of nodes.now lines.now))) }
+    ensures { Appends out.old out.new (parts_spelling (parts_of nodes.now lines.now)) result }
 {
     let len = out.len();
     let written = push_parts(out, nodes, lines);
@@ -41,16 +35,10 @@ fn write_parts(out: &mut Vec<u8>, nodes: &[Node], lines: &[Line]) -> Result<(), 
     written
 }
 
-// What an `Err` leaves has the old bytes in front.
 fn push_parts(out: &mut Vec<u8>, nodes: &[Node], lines: &[Line]) -> Result<(), AllocError>
     requires nodes_fit { length nodes.now ≤ MAX_NODES }
     requires lines_fit { length lines.now ≤ MAX_LINES }
-    ensures ok { OnOk result
-        (out.new.items ≡ out.old.items ++ parts_spelling (parts_of nodes.now lines.now)) }
-    ensures err { OnErr result ((more : List ℕ) × (out.new.items ≡ out.old.items ++ more)) }
-    ensures capacity { vec_capacity out.old ≤ vec_capacity out.new }
-    ensures room { OnErr result (vec_capacity out.old
-        < length out.old.items + length (parts_spelling (parts_of nodes.now lines.now))) }
+    ensures { Pushes out.old out.new (parts_spelling (parts_of nodes.now lines.now)) result }
 {
     out.extend_from_slice(&(nodes.len() as u16).to_be_bytes())?;
     push_nodes(out, nodes)?;
@@ -60,11 +48,7 @@ fn push_parts(out: &mut Vec<u8>, nodes: &[Node], lines: &[Line]) -> Result<(), A
 }
 
 fn push_nodes(out: &mut Vec<u8>, nodes: &[Node]) -> Result<(), AllocError>
-    ensures ok { OnOk result (out.new.items ≡ out.old.items ++ flat_map node_bytes nodes.now) }
-    ensures err { OnErr result ((more : List ℕ) × (out.new.items ≡ out.old.items ++ more)) }
-    ensures capacity { vec_capacity out.old ≤ vec_capacity out.new }
-    ensures room { OnErr result
-        (vec_capacity out.old < length out.old.items + length (flat_map node_bytes nodes.now)) }
+    ensures { Pushes out.old out.new (flat_map node_bytes nodes.now) result }
 {
     for node in nodes {
         push_node(out, *node)?;
@@ -73,11 +57,7 @@ fn push_nodes(out: &mut Vec<u8>, nodes: &[Node]) -> Result<(), AllocError>
 }
 
 fn push_lines(out: &mut Vec<u8>, lines: &[Line]) -> Result<(), AllocError>
-    ensures ok { OnOk result (out.new.items ≡ out.old.items ++ flat_map line_bytes lines.now) }
-    ensures err { OnErr result ((more : List ℕ) × (out.new.items ≡ out.old.items ++ more)) }
-    ensures capacity { vec_capacity out.old ≤ vec_capacity out.new }
-    ensures room { OnErr result
-        (vec_capacity out.old < length out.old.items + length (flat_map line_bytes lines.now)) }
+    ensures { Pushes out.old out.new (flat_map line_bytes lines.now) result }
 {
     for line in lines {
         push_line(out, *line)?;
@@ -86,11 +66,7 @@ fn push_lines(out: &mut Vec<u8>, lines: &[Line]) -> Result<(), AllocError>
 }
 
 fn push_line(out: &mut Vec<u8>, line: Line) -> Result<(), AllocError>
-    ensures ok { OnOk result (out.new.items ≡ out.old.items ++ line_bytes line) }
-    ensures err { OnErr result ((more : List ℕ) × (out.new.items ≡ out.old.items ++ more)) }
-    ensures capacity { vec_capacity out.old ≤ vec_capacity out.new }
-    ensures room { OnErr result
-        (vec_capacity out.old < length out.old.items + length (line_bytes line)) }
+    ensures { Pushes out.old out.new (line_bytes line) result }
 {
     out.push(rule_of(line.step))?;
     push_fact(out, line.fact)?;
@@ -99,11 +75,7 @@ fn push_line(out: &mut Vec<u8>, line: Line) -> Result<(), AllocError>
 }
 
 fn push_node(out: &mut Vec<u8>, node: Node) -> Result<(), AllocError>
-    ensures ok { OnOk result (out.new.items ≡ out.old.items ++ node_bytes node) }
-    ensures err { OnErr result ((more : List ℕ) × (out.new.items ≡ out.old.items ++ more)) }
-    ensures capacity { vec_capacity out.old ≤ vec_capacity out.new }
-    ensures room { OnErr result
-        (vec_capacity out.old < length out.old.items + length (node_bytes node)) }
+    ensures { Pushes out.old out.new (node_bytes node) result }
 {
     match node {
         Node::Key(key) => push_atom(out, 1, key),
@@ -116,31 +88,21 @@ fn push_node(out: &mut Vec<u8>, node: Node) -> Result<(), AllocError>
 }
 
 fn push_atom(out: &mut Vec<u8>, tag: u8, number: u32) -> Result<(), AllocError>
-    ensures ok { OnOk result (out.new.items ≡ out.old.items ++ tag ∷ to_be_bytes w32 number) }
-    ensures err { OnErr result ((more : List ℕ) × (out.new.items ≡ out.old.items ++ more)) }
-    ensures capacity { vec_capacity out.old ≤ vec_capacity out.new }
-    ensures room { OnErr result (vec_capacity out.old < length out.old.items + 5) }
+    ensures { Pushes out.old out.new (tag ∷ to_be_bytes w32 number) result }
 {
     out.push(tag)?;
     out.extend_from_slice(&number.to_be_bytes())
 }
 
 fn push_compound(out: &mut Vec<u8>, tag: u8, left: u16, right: u16) -> Result<(), AllocError>
-    ensures ok { OnOk result (out.new.items ≡ out.old.items ++ tag ∷ pair16 left right) }
-    ensures err { OnErr result ((more : List ℕ) × (out.new.items ≡ out.old.items ++ more)) }
-    ensures capacity { vec_capacity out.old ≤ vec_capacity out.new }
-    ensures room { OnErr result (vec_capacity out.old < length out.old.items + 5) }
+    ensures { Pushes out.old out.new (tag ∷ pair16 left right) result }
 {
     out.push(tag)?;
     push_pair16(out, left, right)
 }
 
 fn push_role(out: &mut Vec<u8>, base: u16, role: u32) -> Result<(), AllocError>
-    ensures ok { OnOk result
-        (out.new.items ≡ out.old.items ++ 5 ∷ (to_be_bytes w16 base ++ to_be_bytes w32 role)) }
-    ensures err { OnErr result ((more : List ℕ) × (out.new.items ≡ out.old.items ++ more)) }
-    ensures capacity { vec_capacity out.old ≤ vec_capacity out.new }
-    ensures room { OnErr result (vec_capacity out.old < length out.old.items + 7) }
+    ensures { Pushes out.old out.new (5 ∷ (to_be_bytes w16 base ++ to_be_bytes w32 role)) result }
 {
     out.push(5)?;
     out.extend_from_slice(&base.to_be_bytes())?;
@@ -148,11 +110,7 @@ fn push_role(out: &mut Vec<u8>, base: u16, role: u32) -> Result<(), AllocError>
 }
 
 fn push_fact(out: &mut Vec<u8>, fact: Fact) -> Result<(), AllocError>
-    ensures ok { OnOk result (out.new.items ≡ out.old.items ++ fact_bytes fact) }
-    ensures err { OnErr result ((more : List ℕ) × (out.new.items ≡ out.old.items ++ more)) }
-    ensures capacity { vec_capacity out.old ≤ vec_capacity out.new }
-    ensures room { OnErr result
-        (vec_capacity out.old < length out.old.items + length (fact_bytes fact)) }
+    ensures { Pushes out.old out.new (fact_bytes fact) result }
 {
     match fact {
         Fact::Speaks { left, right } => push_pair16(out, left, right),
@@ -164,11 +122,7 @@ fn push_fact(out: &mut Vec<u8>, fact: Fact) -> Result<(), AllocError>
 }
 
 fn push_premises(out: &mut Vec<u8>, step: Step) -> Result<(), AllocError>
-    ensures ok { OnOk result (out.new.items ≡ out.old.items ++ premise_bytes step) }
-    ensures err { OnErr result ((more : List ℕ) × (out.new.items ≡ out.old.items ++ more)) }
-    ensures capacity { vec_capacity out.old ≤ vec_capacity out.new }
-    ensures room { OnErr result
-        (vec_capacity out.old < length out.old.items + length (premise_bytes step)) }
+    ensures { Pushes out.old out.new (premise_bytes step) result }
 {
     match step {
         Step::Same | Step::Left | Step::Right | Step::Role => Ok(()),
@@ -188,20 +142,14 @@ fn push_premises(out: &mut Vec<u8>, step: Step) -> Result<(), AllocError>
 }
 
 fn push_pair16(out: &mut Vec<u8>, first: u16, second: u16) -> Result<(), AllocError>
-    ensures ok { OnOk result (out.new.items ≡ out.old.items ++ pair16 first second) }
-    ensures err { OnErr result ((more : List ℕ) × (out.new.items ≡ out.old.items ++ more)) }
-    ensures capacity { vec_capacity out.old ≤ vec_capacity out.new }
-    ensures room { OnErr result (vec_capacity out.old < length out.old.items + 4) }
+    ensures { Pushes out.old out.new (pair16 first second) result }
 {
     out.extend_from_slice(&first.to_be_bytes())?;
     out.extend_from_slice(&second.to_be_bytes())
 }
 
 fn push_pair32(out: &mut Vec<u8>, first: u32, second: u32) -> Result<(), AllocError>
-    ensures ok { OnOk result (out.new.items ≡ out.old.items ++ pair32 first second) }
-    ensures err { OnErr result ((more : List ℕ) × (out.new.items ≡ out.old.items ++ more)) }
-    ensures capacity { vec_capacity out.old ≤ vec_capacity out.new }
-    ensures room { OnErr result (vec_capacity out.old < length out.old.items + 8) }
+    ensures { Pushes out.old out.new (pair32 first second) result }
 {
     out.extend_from_slice(&first.to_be_bytes())?;
     out.extend_from_slice(&second.to_be_bytes())

@@ -66,7 +66,8 @@ fn checked<W: Threads + Wait + Sync>(
     Ok((status, around.output))
 }
 
-// Whether the line tells a grant of this entry by so many certificates, whatever the lines of its proof.
+// Whether the line tells a grant of this entry by so many certificates, whatever the lines of its
+// proof.
 fn tells(alloc: Global, line: &[u8], entry: u8, certificates: u64) -> Result<bool, AllocError> {
     let front = format!(in alloc; "granted entry {entry} lines ")?;
     let back = format!(in alloc; " certificates {certificates}\n")?;

@@ -15,7 +15,7 @@ use Rattle.agent_core.proofs.Few.{one_verdict}
 use Rattle.agent_core.proofs.Onward.{granted_verdict, denied_verdict}
 use Rattle.taos_monitor.specs.Cells.{ObjectPlan, object_of, Node, home, HasPlan, Journals, Place, in_shard}
 use Rattle.taos_monitor.specs.Credentials.{LinkCall, AreOpened, IsFirstRefused, IsFirstFailed}
-use Rattle.taos_monitor.specs.Course.{IsUnbuilt, IsRuled, full, replayed, channel_full, denied, granted, unanswered, Course, malformed, unknown_channel, bad_seal, unbuilt, cert_refused, relay_failed, unknown_object, ruled, unread, unopened}
+use Rattle.taos_monitor.specs.Course.{asking, Used, uses, IsUnbuilt, IsRuled, full, replayed, channel_full, denied, granted, unanswered, Course, malformed, unknown_channel, bad_seal, unbuilt, cert_refused, relay_failed, unknown_object, ruled, unread, unopened}
 use Rattle.taos_monitor.specs.Laws.{CoursesAgree}
 use Rattle.taos_monitor.proofs.Firsts.{opened_or_refused, opened_or_failed, refused_or_link}
 
@@ -85,7 +85,7 @@ record Ended (plan : Plan) (journal : List Entry) (own : List ℕ) (status : ℕ
 abbrev IsRuledBy : Plan → List Entry → List ℕ → ℕ → Type 0
 IsRuledBy plan journal own status = ((own ≡ []) × (status ≡ 10)) ⊎ Ended plan journal own status
 
-ways : (plan : Plan) (journal : List Entry) (shard : ℕ) (a : Ask) (object : ObjectPlan) (own : List ℕ) (reply : Reply) → IsRuled plan journal shard a object own reply → status_of reply ≢ 11 →
+ways : (plan : Plan) (journal : List Entry) (shard : ℕ) (a : Ask) (object : ObjectPlan) (own : List ℕ) (reply : Reply) → IsRuled plan journal (asking shard a object) own reply → status_of reply ≢ 11 →
     IsRuledBy plan journal own (status_of reply)
 ways plan journal shard a object own reply (full at) known = inl (refl, refl)
 ways plan journal shard a object own reply (replayed {place} {last} t) known = inr (record { place = place; before = t.0; ask = a; told = Told.Replayed last; at = refl; stands = t.1; ends = by_number })
@@ -220,20 +220,20 @@ rulings_agree n J places r s t x y =
     (subst₂ (λ (p : Plan) (o : List ℕ). IsRuledBy p (J.shards h) o t) (same_Some y.plan x.plan (sym y.planned ∙ x.planned)) own y.ways)
 
 module _ (n : Node) (J : Journals) (payload : List ℕ) where
-  comes : (readings : List ℕ) (calls : List LinkCall) (places : List Place) (sent : Sent) → Course n J payload readings calls places sent → status_of sent.reply ≢ 11 →
-      Comes n payload calls (RuledAt n J places) (status_of sent.reply)
-  comes readings calls places sent (malformed none reads) known = inl (none, refl)
-  comes readings calls places sent (unknown_channel r spelled none) known = inr (r, spelled, inl (none, refl))
-  comes readings calls places sent (bad_seal r key spelled keyed other) known = inr (r, spelled, inr (key, keyed, inl (other, refl)))
-  comes readings calls places sent (unbuilt {r} {key} asked is) known = inr (r, asked.spelled, inr (key, asked.keyed, inr (asked.seal, inl (is, refl))))
-  comes readings calls places sent (cert_refused {r} {key} {calls = by} {index} {code} built first) known =
+  comes : (used : Used) (sent : Sent) → Course n J payload used sent → status_of sent.reply ≢ 11 →
+      Comes n payload used.calls (RuledAt n J used.places) (status_of sent.reply)
+  comes used sent (malformed none reads) known = inl (none, refl)
+  comes used sent (unknown_channel r spelled none) known = inr (r, spelled, inl (none, refl))
+  comes used sent (bad_seal r key spelled keyed other) known = inr (r, spelled, inr (key, keyed, inl (other, refl)))
+  comes used sent (unbuilt {r} {key} asked is) known = inr (r, asked.spelled, inr (key, asked.keyed, inr (asked.seal, inl (is, refl))))
+  comes used sent (cert_refused {r} {key} {calls = by} {index} {code} built first) known =
       inr (r, built.asked.spelled, inr (key, built.asked.keyed, inr (built.asked.seal, inr (built.built, inl ((index, code, first), refl)))))
-  comes readings calls places sent (relay_failed {r} {key} {calls = by} {index} built first) known =
+  comes used sent (relay_failed {r} {key} {calls = by} {index} built first) known =
       inr (r, built.asked.spelled, inr (key, built.asked.keyed, inr (built.asked.seal, inr (built.built, inr (inl ((index, first), refl))))))
-  comes readings calls places sent (unknown_object {r} {key} {calls = by} {certs} opened none) known =
+  comes used sent (unknown_object {r} {key} {calls = by} {certs} opened none) known =
       let built = opened.taken in
       inr (r, built.asked.spelled, inr (key, built.asked.keyed, inr (built.asked.seal, inr (built.built, inr (inr ((certs, opened.opened), inl (none, refl)))))))
-  comes readings calls places sent (ruled {own} {reply} t reading plan planned is) known =
+  comes used sent (ruled {own} {reply} t reading plan planned is) known =
       let opened = t.arrived.presented in
       let built = opened.taken in
       inr (
@@ -258,12 +258,12 @@ module _ (n : Node) (J : Journals) (payload : List ℕ) where
           ),
         ),
       )
-  comes readings calls places sent unread known = absurd (known refl)
-  comes readings calls places sent (unopened built interrupted) known = absurd (known refl)
+  comes used sent unread known = absurd (known refl)
+  comes used sent (unopened built interrupted) known = absurd (known refl)
 
 pub courses_agree : (n : Node) → CoursesAgree n
 courses_agree n J payload readings others calls places first second a b known also =
     let s = status_of first.reply in
     let t = status_of second.reply in
     all_agree n payload calls (RuledAt n J places) s t (λ r. rulings_agree n J places r s t)
-    (comes n J payload readings calls places first a known) (comes n J payload others calls places second b also)
+    (comes n J payload (uses readings calls places) first a known) (comes n J payload (uses others calls places) second b also)

@@ -1,11 +1,10 @@
 -- What is known of a request that is built, and what is answered where its certificates do not come.
-use Rattle.std.proofs.Common.{◌≡◌, ℕ, suc, Bool, true, false, List, [], length, Some, None, refl, sym, ap, ◌∙◌}
+use Rattle.std.proofs.Common.{◌≡◌, ◌≤◌, ℕ, suc, Bool, true, false, List, [], length, Some, None, refl, sym, ap, ◌∙◌, arith}
 use Rattle.std.specs.Prelude.{Option, IfSome}
-use Rattle.prin_term.specs.declared.limits.TheConstants.{QUOTED_NODES}
-use Rattle.prin_term.specs.Principal.{Principal}
+use Rattle.prin_term.specs.declared.limits.TheConstants.{ENTRY_NODES, QUOTED_NODES}
+use Rattle.prin_term.specs.Principal.{Principal, node_count}
 use Rattle.prin_term.specs.Refusal.{FitsLimits}
 use Rattle.stmt_codec.specs.Certificates.{Certificate, key_quoting}
-use Rattle.taos_calculus.specs.Question.{IsSubject}
 use Rattle.taos_wire.specs.Request.{Request}
 use Rattle.taos_wire.specs.Reply.{sealed}
 use Rattle.agent_core.specs.Journals.{IsOn}
@@ -15,7 +14,7 @@ use Rattle.taos_monitor.specs.Refusals.{refusal}
 use Rattle.taos_monitor.specs.Cells.{Node, Journals}
 use Rattle.taos_monitor.specs.Credentials.{LinkCall, AreOpened, none_more, one_more}
 use Rattle.taos_monitor.specs.Presenting.{AreStopped}
-use Rattle.taos_monitor.specs.Course.{IsUnbuilt, IsAsked, Course, cert_refused, relay_failed, unopened}
+use Rattle.taos_monitor.specs.Course.{IsUnbuilt, IsAsked, Course, only_calls, cert_refused, relay_failed, unopened}
 
 pub opened_count : (key : List ℕ) (texts : List (List ℕ)) (calls : List LinkCall) (certs : List Certificate) → AreOpened key texts calls certs → length certs ≡ length texts
 opened_count key texts calls certs none_more = refl
@@ -26,7 +25,7 @@ is_built r refused unbuilt isnt is = let bad : true ≡ false = sym (unbuilt is)
 
 -- the first certificate that comes to none, or no memory for those that do
 pub not_opened : (n : Node) (J : Journals) (r : Request) (calls : List LinkCall) (f : Refusal) → (IsUnbuilt r → ⊥) → AreStopped n.relay_key r.certs calls f →
-    (payload key : List ℕ) → IsAsked n payload r key → Course n J payload [] calls [] (sealed key r (refusal f))
+    (payload key : List ℕ) → IsAsked n payload r key → Course n J payload (only_calls calls) (sealed key r (refusal f))
 not_opened n J r calls (refusals.CertRefused index code) built stops payload key asked = cert_refused (record { asked = asked; built = built }) stops
 not_opened n J r calls (refusals.RelayFailed index) built stops payload key asked = relay_failed (record { asked = asked; built = built }) stops
 not_opened n J r calls refusals.NoMemory built stops payload key asked = unopened (record { asked = asked; built = built }) stops
@@ -37,9 +36,10 @@ not_opened n J r calls (refusals.UnknownObject number) built stops payload key a
 not_opened n J r calls refusals.Unbuilt built stops payload key asked = absurd stops
 
 -- who asks is a key, or a key that quotes a small term, and speaks on the key's channel
-pub subject_fits : (channel : ℕ) (quoted : Option Principal) → IfSome quoted (FitsLimits QUOTED_NODES) → IsSubject (key_quoting channel quoted)
-subject_fits channel None fits = tt
-subject_fits channel (Some who) fits = fits.nodes_fit
+pub subject_fits : (channel : ℕ) (quoted : Option Principal) →
+    IfSome quoted (FitsLimits QUOTED_NODES) → node_count (key_quoting channel quoted) ≤ ENTRY_NODES
+subject_fits channel None fits = omega arith
+subject_fits channel (Some who) fits = omega (arith, fits.nodes_fit)
 
 pub is_on : (channel : ℕ) (quoted : Option Principal) → IsOn channel (key_quoting channel quoted)
 is_on channel None = refl

@@ -1,10 +1,11 @@
 -- An ask at the shard of its channel, by what is promised of it.
-use Rattle.std.proofs.Common.{◌≡◌, ◌≢◌, ℕ, Bool, List, [], Contains, Some, slice_get, Result, IfOk, sym, ap, subst, ◌∙◌, inl, inr, arith}
+use Rattle.std.proofs.Common.{◌≡◌, ◌≢◌, ◌≤◌, ℕ, Bool, List, [], Contains, Some, slice_get, Result, IfOk, sym, ap, subst, ◌∙◌, inl, inr, arith}
 use Rattle.std.specs.Prelude.{OnErr, ◌==◌}
 use Rattle.std.proofs.lemmas.Bool.{cases_Bool, eqb-true, eq-eqb, false≢true}
 use Rattle.std.proofs.lemmas.List.{length-map}
 use Rattle.std.proofs.lemmas.Option.{same_Some}
-use Rattle.taos_calculus.specs.Question.{IsSubject}
+use Rattle.prin_term.specs.declared.limits.TheConstants.{ENTRY_NODES}
+use Rattle.prin_term.specs.Principal.{Principal, node_count}
 use Rattle.taos_wire.specs.Request.{Request, FitsRequest}
 use Rattle.taos_wire.specs.View.{cited as shared}
 use Rattle.agent_core.specs.declared.asked.Asked.{Asked}
@@ -12,6 +13,7 @@ use Rattle.agent_core.specs.State.{Plan, Ask, Asks}
 use Rattle.agent_core.specs.Plans.{home}
 use Rattle.agent_core.specs.Journals.{Entry, IsMeant, IsOn, IsLegalJournal}
 use Rattle.agent_core.specs.Asked.{AskedTo, AskEnds, FitsAsk, Unanswered}
+use Rattle.agent_core.specs.Steps.{seen_at}
 use Rattle.taos_monitor.specs.declared.arrival.Arrived.{Arrived}
 use Rattle.taos_monitor.specs.Arriving.{StandsFor}
 use Rattle.taos_monitor.specs.Cells.{seen_of}
@@ -26,7 +28,8 @@ is_meant r a reading plan before stands has = (subst (IsOn r.channel) (sym stand
 
 pub fits_ask : (r : Request) (a : Arrived) (reading : ℕ) → FitsRequest r → StandsFor r a → FitsAsk (ask_seen r a reading)
 fits_ask r a reading limits stands = record {
-  subject = subst IsSubject (sym stands.subject) (subject_fits r.channel r.quoted limits.quoted);
+  subject = subst (λ (p : Principal). node_count p ≤ ENTRY_NODES) (sym stands.subject)
+      (subject_fits r.channel r.quoted limits.quoted);
   few_entries = stands.list.0;
   entries = λ k d lt. (stands.list.1 k d lt).who.nodes_fit;
   few_presented = omega (arith, stands.few_certs, length-map a.certs.items shared);
@@ -38,19 +41,19 @@ module _ {E : Type 0} (plans : List Plan) (alone : Bool) (seen0 seen1 : ℕ → 
   abbrev pub IsAskedAs : Result Asked E → Ask → Type 0
   IsAskedAs result a =
       (plan : Plan) → slice_get plans (home plans a.channel) ≡ Some plan →
-      IfOk result (λ r. AskedTo plan alone (seen0 (home plans a.channel)) (own0 (home plans a.channel)) a (seen1 (home plans a.channel)) (own1 (home plans a.channel)) (AskEnds plan (seen1 (home plans a.channel)) a r))
+      IfOk result (λ r. AskedTo plan (seen_at alone seen0 own0 (home plans a.channel)) (seen_at alone seen1 own1 (home plans a.channel)) a (AskEnds plan (seen1 (home plans a.channel)) a r))
 
   abbrev pub IsLackedAs : Result Asked E → Ask → Type 0
   IsLackedAs result a =
       (plan : Plan) → slice_get plans (home plans a.channel) ≡ Some plan →
-      OnErr result (AskedTo plan alone (seen0 (home plans a.channel)) (own0 (home plans a.channel)) a (seen1 (home plans a.channel)) (own1 (home plans a.channel)) (Unanswered plan (seen1 (home plans a.channel)) a))
+      OnErr result (AskedTo plan (seen_at alone seen0 own0 (home plans a.channel)) (seen_at alone seen1 own1 (home plans a.channel)) a (Unanswered plan (seen1 (home plans a.channel)) a))
 
 abbrev pub AreLegalAt : List Plan → (ℕ → List Entry) → Type 0
 AreLegalAt plans seen = (s : ℕ) (p : Plan) → slice_get plans s ≡ Some p → IsLegalJournal p (seen s)
 
 module _ (plans : List Plan) (alone : Bool) (h : ℕ) (seen0 seen1 : ℕ → List Entry) (own0 own1 : ℕ → List ℕ) (legal : AreLegalAt plans seen0)
     (others : (s : ℕ) → s ≢ h → (seen1 s ≡ seen0 s) × (own1 s ≡ own0 s)) where
-  pub asked_at : (plan : Plan) (a : Ask) (Ends : Plan → List Entry → List ℕ → Type 0) → slice_get plans h ≡ Some plan → AskedTo plan alone (seen0 h) (own0 h) a (seen1 h) (own1 h) (Ends plan (seen1 h)) →
+  pub asked_at : (plan : Plan) (a : Ask) (Ends : Plan → List Entry → List ℕ → Type 0) → slice_get plans h ≡ Some plan → AskedTo plan (seen_at alone seen0 own0 h) (seen_at alone seen1 own1 h) a (Ends plan (seen1 h)) →
       AskedAt plans alone (seen_of seen0 own0) (seen_of seen1 own1) h Ends
   asked_at plan a Ends planned asked = record {
     plan = plan;

@@ -6,7 +6,7 @@ use Rattle.agent_core.specs.Journals.{Entry}
 use Rattle.taos_monitor.specs.Cells.{ObjectPlan, Node}
 use Rattle.taos_monitor.specs.Credentials.{LinkAnswer, Resealed, Refused, Lacked, Failed, LinkCall, IsRefused, refused, bad_reseal, CountsAs, FailedAs}
 use Rattle.taos_monitor.specs.Credentials as cert
-use Rattle.taos_monitor.specs.Course.{IsRuled, full, replayed, channel_full, denied, granted, unanswered, malformed, unknown_channel, bad_seal, unbuilt, cert_refused, relay_failed, unknown_object, ruled, unread, unopened}
+use Rattle.taos_monitor.specs.Course.{asking, IsRuled, full, replayed, channel_full, denied, granted, unanswered, malformed, unknown_channel, bad_seal, unbuilt, cert_refused, relay_failed, unknown_object, ruled, unread, unopened}
 use Rattle.taos_monitor.specs.Laws.{CodesAreKnown, FaultsAreCounted, failed_in}
 
 abbrev IsCode : ℕ → Type 0
@@ -21,7 +21,7 @@ one_code key text calls code (bad_reseal issued none) = (omega arith, omega arit
 same_code : (i j c d : ℕ) → CertRefused i c ≡ CertRefused j d → c ≡ d
 same_code i j c d e = cc
 
-ruled_code : (plan : Plan) (journal : List Entry) (shard : ℕ) (a : Ask) (object : ObjectPlan) (own : List ℕ) (reply : Reply) → IsRuled plan journal shard a object own reply →
+ruled_code : (plan : Plan) (journal : List Entry) (shard : ℕ) (a : Ask) (object : ObjectPlan) (own : List ℕ) (reply : Reply) → IsRuled plan journal (asking shard a object) own reply →
     (index code : ℕ) → reply ≡ CertRefused index code → ⊥
 ruled_code plan journal shard a object own reply (full at) index code e = absurd cc
 ruled_code plan journal shard a object own reply (replayed t) index code e = absurd cc
@@ -31,17 +31,17 @@ ruled_code plan journal shard a object own reply (granted g) index code e = absu
 ruled_code plan journal shard a object own reply (unanswered u) index code e = absurd cc
 
 pub codes_are_known : (n : Node) → CodesAreKnown n
-codes_are_known n J payload readings calls places sent (malformed none reads) index code e = absurd cc
-codes_are_known n J payload readings calls places sent (unknown_channel r spelled none) index code e = absurd cc
-codes_are_known n J payload readings calls places sent (bad_seal r key spelled keyed other) index code e = absurd cc
-codes_are_known n J payload readings calls places sent (unbuilt asked is) index code e = absurd cc
-codes_are_known n J payload readings calls places sent (cert_refused {r} {key} {calls = by} {index = i} {code = c} built first) index code e =
+codes_are_known n J payload used sent (malformed none reads) index code e = absurd cc
+codes_are_known n J payload used sent (unknown_channel r spelled none) index code e = absurd cc
+codes_are_known n J payload used sent (bad_seal r key spelled keyed other) index code e = absurd cc
+codes_are_known n J payload used sent (unbuilt asked is) index code e = absurd cc
+codes_are_known n J payload used sent (cert_refused {r} {key} {calls = by} {index = i} {code = c} built first) index code e =
     subst IsCode (same_code i index c code e) (one_code n.relay_key first.text first.last c first.refused)
-codes_are_known n J payload readings calls places sent (relay_failed built first) index code e = absurd cc
-codes_are_known n J payload readings calls places sent (unknown_object opened none) index code e = absurd cc
-codes_are_known n J payload readings calls places sent (ruled {own} {reply} t reading plan planned is) index code e = absurd (ruled_code plan _ _ _ t.object own reply is index code e)
-codes_are_known n J payload readings calls places sent unread index code e = absurd cc
-codes_are_known n J payload readings calls places sent (unopened built interrupted) index code e = absurd cc
+codes_are_known n J payload used sent (relay_failed built first) index code e = absurd cc
+codes_are_known n J payload used sent (unknown_object opened none) index code e = absurd cc
+codes_are_known n J payload used sent (ruled {own} {reply} t reading plan planned is) index code e = absurd (ruled_code plan _ _ _ t.object own reply is index code e)
+codes_are_known n J payload used sent unread index code e = absurd cc
+codes_are_known n J payload used sent (unopened built interrupted) index code e = absurd cc
 
 -- ---- faults of the link
 

@@ -1,187 +1,173 @@
--- What serving does, told without the steps in between.
-use Rattle.std.proofs.Common.{◌⊎◌, ℕ, ◌+◌, ◌<◌, ◌≤◌, ◌≡◌, ◌^◌, Bool, List, [], ◌∷◌, ◌++◌, length, refl, sym, ap, subst, ◌∙◌, append-nil, arith, inl, inr}
-use Rattle.std.specs.Prelude.{Option, All}
-use Rattle.std.specs.Int.{w32, to_be_bytes}
-use Rattle.std.specs.Io.KnownBytes.{Consumes}
-use Rattle.std.proofs.KnownBytes.{Consumes-nil, Consumes-trans, Appends-nil, Appends-kept, Appends-trans, Keeps-refl}
-use Rattle.std.proofs.lemmas.List.{length-append, length-map}
-use Rattle.std.proofs.lemmas.List.Elements.{All-nil, All-push}
+-- A connection that was served, told by the journals at its end.
+use Rattle.std.proofs.Common.{◌≡◌, ℕ, List, [], ◌∷◌, ◌++◌, refl, sym, ap, subst, ◌∙◌, append-nil, append_assoc}
+use Rattle.std.specs.Prelude.{Bool, Option}
 use Rattle.frame_link.specs.declared.outcome.Outcome.{Outcome}
 use Rattle.frame_link.specs.declared.outcome.Outcome.TheVariants.{End, Truncated, TooLong, ReadFault, WriteFault, ClockFault, Spent, NoMemory}
-use Rattle.frame_link.specs.Frames.{frame, framed, IsPart, in_word, IsTooLong, Splits}
 use Rattle.frame_link.specs.Relay.{Said}
+use Rattle.frame_link.specs.Served as link
+use Rattle.frame_link.specs.Served.{Line, line, Chain, IsServed}
+use Rattle.frame_link.proofs.Ends.{unserved}
+use Rattle.frame_link.proofs.States.{served_as, held_at_end}
 use Rattle.taos_wire.specs.Reply.{spelling}
-use Rattle.taos_monitor.specs.Cells.{Node, AreLegal}
+use Rattle.std.proofs.lemmas.List.{map_push}
+use Rattle.agent_core.specs.State.{Plan}
+use Rattle.taos_monitor.specs.declared.node_keys.NodeKeys.{NodeKeys}
+use Rattle.taos_monitor.specs.Arriving.{node_of}
+use Rattle.taos_monitor.specs.Cells.{ObjectPlan, AreLegal}
+use Rattle.taos_monitor.specs.World.{Setting, World, setting_of}
 use Rattle.taos_monitor.specs.Credentials.{LinkCall}
-use Rattle.taos_monitor.specs.Connection.{World, max_request, EndsAs, IsWritten, IsConnection}
-use Rattle.taos_monitor.specs.Run.{Turn, IsCourse, frames_of, readings_of, calls_of, places_of, replies_of, AreTurns}
-use Rattle.taos_monitor.specs.Serving.{Progress, EndsInReply, EndsAtClock, Serves}
-use Rattle.taos_monitor.proofs.Filling.{none_filled}
-use Rattle.taos_monitor.proofs.Going.{stood}
-use Rattle.taos_monitor.proofs.Presenting.{none_called, quiet_linked}
-use Rattle.taos_monitor.proofs.Steps.{gave_on, linked_both, replies_on, framed_on, frames_taken, frames_within, turn_of, one_more}
+use Rattle.taos_monitor.specs.Course.{uses}
+use Rattle.taos_monitor.specs.Connection.{AnswersFrame, GivesUpFrame, IsConnection}
+use Rattle.taos_monitor.specs.Serving.{State, StepsTo, StopsIn}
+use Rattle.taos_monitor.specs.Run.{Turn, frames_of, readings_of, calls_of, places_of, replies_of, AreTurns}
+use Rattle.taos_monitor.proofs.Steps.{gave_on, linked_both, Made, none_made, turn_of, one_more}
 
-empty_part : IsPart max_request []
-empty_part = in_word (omega arith)
+module _ (s : Setting) where
+  -- these frames had courses, and these replies
+  record Told (w0 w1 : World) (frames replies : List (List ℕ)) : Type 0 where
+    turns : List Turn
+    made : Made s w0 w1 turns
+    frames_are : frames_of turns ≡ frames
+    replies_are : replies_of turns ≡ replies
 
--- frames, and then a rest that is no frame
-splits : (frames : List (List ℕ)) (rest : List ℕ) → All (λ p. length p ≤ max_request) frames → IsPart max_request rest ⊎ IsTooLong max_request rest → Splits max_request (framed frames ++ rest) frames rest
-splits frames rest within no_more = record { whole = refl; each = within; no_more = no_more }
-
-counted : (turns : List Turn) (n : ℕ) → length turns ≡ n → length (frames_of turns) ≡ n
-counted turns n is = length-map turns (λ (t : Turn). t.frame) ∙ is
-
-too_long : (n : ℕ) → max_request < n → n < 2 ^ 32 → IsTooLong max_request (to_be_bytes w32 n)
-too_long n above fits = record { length_word = n; behind = []; above = above; fits = fits; text = sym (append-nil (to_be_bytes w32 n)) }
-
-module _ (n : Node) (alone : Bool) (says : Option (ℕ → List ℕ → Said)) where
-  -- a connection whose frames have all a turn, and whose replies were all written; nothing but the input moved then
-  ends : (count limit : ℕ) (w0 middle : World) (in1 : Option (List ℕ)) (outcome : Outcome) (p : Progress n alone says count w0 middle) → count ≤ limit →
-      (rest : List ℕ) → Consumes middle.input in1 rest → IsPart max_request rest ⊎ IsTooLong max_request rest → EndsAs limit (frames_of p.turns) rest in1 outcome →
-      AreTurns n outcome p.turns (frames_of p.turns) (calls_of p.turns) → IsWritten outcome (replies_of p.turns) (framed (replies_of p.turns)) →
-      IsConnection n alone says limit w0 (record { input = in1; output = middle.output; clock = middle.clock; faults = middle.faults; seen = middle.seen }) outcome
-  ends count limit w0 middle in1 outcome p few rest came no_more ended in_order went = record {
-    taken = framed (frames_of p.turns) ++ rest;
-    frames = frames_of p.turns;
-    rest = rest;
-    replies = replies_of p.turns;
-    readings = readings_of p.turns;
-    calls = calls_of p.turns;
-    places = places_of p.turns;
-    written = framed (replies_of p.turns);
-    took = Consumes-trans w0.input middle.input in1 (framed (frames_of p.turns)) rest p.taken came;
-    splits = splits (frames_of p.turns) rest p.within no_more;
-    few = omega (arith, counted p.turns count p.counted, few);
-    ended = ended;
-    goes_on = p.goes_on;
-    legal = p.legal;
-    answered = record { turns = p.turns; courses = p.courses; in_order = in_order; read = refl; owned = refl; ascending = p.goes_on.ascending; filled = p.filled; replies_are = refl };
-    gave = p.gave;
-    linked = p.linked;
-    went = went;
-    wrote = p.wrote;
-  }
-
-  -- the same, where the world is said to have moved so
-  ended_so : (count limit : ℕ) (w0 w1 middle : World) (outcome : Outcome) (p : Progress n alone says count w0 middle) → count ≤ limit →
-      w1 ≡ record { input = w1.input; output = middle.output; clock = middle.clock; faults = middle.faults; seen = middle.seen } →
-      (rest : List ℕ) → Consumes middle.input w1.input rest → IsPart max_request rest ⊎ IsTooLong max_request rest → EndsAs limit (frames_of p.turns) rest w1.input outcome →
-      AreTurns n outcome p.turns (frames_of p.turns) (calls_of p.turns) → IsWritten outcome (replies_of p.turns) (framed (replies_of p.turns)) → IsConnection n alone says limit w0 w1 outcome
-  ended_so count limit w0 w1 middle outcome p few same rest came no_more ended in_order went =
-      subst (λ (w : World). IsConnection n alone says limit w0 w outcome) (sym same) (ends count limit w0 middle w1.input outcome p few rest came no_more ended in_order went)
-
-  -- the last reply was cut
-  cut : (limit : ℕ) (w0 w1 : World) → EndsInReply n alone says limit w0 w1 → IsConnection n alone says limit w0 w1 WriteFault
-  cut limit w0 w1 e =
-      let p = e.progress in
-      let t : Turn = turn_of n alone says e.payload e.middle w1 _ e.reply in
-      let more = one_more n alone says e.count w0 e.middle w1 e.payload _ p e.reply in
-      let turns : List Turn = p.turns ++ t ∷ [] in
-      let put = e.reply.holds in
-      let k : length turns ≡ e.count + 1 = length-append p.turns (t ∷ []) ∙ ap (λ i. i + 1) p.counted in
-      let whole = frames_taken p.turns t w0.input e.middle.input w1.input p.taken e.frame.1 in
+  told_more : (w0 w1 w2 : World) (frames replies : List (List ℕ)) (payload reply : List ℕ) → Told w0 w1 frames replies → AnswersFrame s w1 payload reply w2 →
+      Told w0 w2 (frames ++ payload ∷ []) (replies ++ reply ∷ [])
+  told_more w0 w1 w2 frames replies payload reply told x =
+      let t = turn_of s w1 payload reply w2 x in
       record {
-        taken = framed (frames_of turns) ++ [];
-        frames = frames_of turns;
-        rest = [];
-        replies = replies_of turns;
-        readings = readings_of turns;
-        calls = calls_of turns;
-        places = places_of turns;
-        written = framed (replies_of p.turns) ++ put.0;
-        took = subst (Consumes w0.input w1.input) (sym (append-nil (framed (frames_of turns)))) whole;
-        splits = splits (frames_of turns) [] (frames_within p.turns t p.within e.frame.0) (inl empty_part);
-        few = omega (arith, counted turns (e.count + 1) k, e.few);
-        ended = (refl, omega (arith, counted turns (e.count + 1) k));
-        goes_on = more.goes_on;
-        legal = more.legal;
-        answered = record { turns = turns; courses = more.courses; in_order = (refl, refl); read = refl; owned = refl; ascending = more.goes_on.ascending; filled = more.filled; replies_are = refl };
-        gave = more.gave;
-        linked = more.linked;
-        went = (replies_of p.turns, spelling e.reply.takes.sent, put.0, put.1, replies_on p.turns t, ap frame (sym e.reply.takes.spelled) ∙ put.2, put.3, refl);
-        wrote = Appends-trans w0.output e.middle.output w1.output (framed (replies_of p.turns)) put.0 p.wrote put.4;
+        turns = told.turns ++ t ∷ [];
+        made = one_more s w0 w1 w2 told.turns payload reply told.made x;
+        frames_are = map_push (λ (u : Turn). u.frame) told.turns t ∙ ap (λ (l : List (List ℕ)). l ++ payload ∷ []) told.frames_are;
+        replies_are = map_push (λ (u : Turn). spelling u.sent) told.turns t ∙ ap (λ (l : List (List ℕ)). l ++ spelling x.sent ∷ []) told.replies_are
+            ∙ ap (λ (b : List ℕ). replies ++ b ∷ []) (sym x.spelled);
       }
 
-  -- the clock failed at the last frame
-  unclocked : (limit : ℕ) (w0 w1 : World) → EndsAtClock n alone says limit w0 w1 → IsConnection n alone says limit w0 w1 ClockFault
-  unclocked limit w0 w1 e =
-      let p = e.progress in
-      let u = e.unanswered in
-      let frames : List (List ℕ) = frames_of p.turns ++ e.payload ∷ [] in
-      let whole : Consumes w0.input w1.input (framed frames) =
-      subst (Consumes w0.input w1.input) (sym (framed_on (frames_of p.turns) e.payload)) (Consumes-trans w0.input e.middle.input w1.input (framed (frames_of p.turns)) (frame e.payload) p.taken e.frame.1) in
+  told_on : (w0 w1 w2 : World) (frames replies : List (List ℕ)) (turns : List link.Turn) → Told w0 w1 frames replies → Chain (AnswersFrame s) w1 turns w2 →
+      Told w0 w2 (frames ++ link.payloads_of turns) (replies ++ link.replies_of turns)
+  told_on w0 w1 w2 frames replies [] told chain = record {
+    turns = told.turns;
+    made = subst (λ (w : World). Made s w0 w told.turns) (sym chain) told.made;
+    frames_are = told.frames_are ∙ sym (append-nil frames);
+    replies_are = told.replies_are ∙ sym (append-nil replies);
+  }
+  told_on w0 w1 w2 frames replies (turn ∷ turns) told chain =
+      let next = told_more w0 w1 chain.0 frames replies turn.payload turn.reply told chain.1 in
+      let all = told_on w0 chain.0 w2 (frames ++ turn.payload ∷ []) (replies ++ turn.reply ∷ []) turns next chain.2 in
       record {
-        taken = framed frames ++ [];
-        frames = frames;
-        rest = [];
-        replies = replies_of p.turns;
-        readings = readings_of p.turns ++ [];
-        calls = calls_of p.turns ++ u.calls;
-        places = places_of p.turns;
-        written = framed (replies_of p.turns);
-        took = subst (Consumes w0.input w1.input) (sym (append-nil (framed frames))) whole;
-        splits = splits frames [] (All-push (λ q. length q ≤ max_request) (frames_of p.turns) e.payload p.within e.frame.0) (inl empty_part);
-        few = omega (arith, counted p.turns e.count p.counted, e.few, length-append (frames_of p.turns) (e.payload ∷ []));
-        ended = refl;
-        goes_on = rw u.unchanged p.goes_on;
-        legal = rw u.unchanged p.legal;
-        answered = record {
-          turns = p.turns;
-          courses = rw u.unchanged p.courses;
-          in_order = (e.payload, u.come.0, refl, ap (λ (l : List LinkCall). calls_of p.turns ++ l) (sym u.come.1));
-          read = append-nil (readings_of p.turns);
-          owned = refl;
-          ascending = p.goes_on.ascending;
-          filled = p.filled;
-          replies_are = refl;
-        };
-        gave = gave_on w0.clock e.middle.clock w1.clock (readings_of p.turns) [] p.gave u.keeps;
-        linked = linked_both says n.number w0.faults e.middle.faults w1.faults (calls_of p.turns) u.calls p.linked u.linked;
-        went = refl;
-        wrote = Appends-kept w0.output e.middle.output w1.output (framed (replies_of p.turns)) p.wrote e.kept;
+        turns = all.turns;
+        made = all.made;
+        frames_are = all.frames_are ∙ append_assoc frames (turn.payload ∷ []) (link.payloads_of turns);
+        replies_are = all.replies_are ∙ append_assoc replies (turn.reply ∷ []) (link.replies_of turns);
       }
 
-  none_served : (limit : ℕ) (w : World) → AreLegal n w.seen.journals → IsConnection n alone says limit w w NoMemory
-  none_served limit w legal = record {
-    taken = [];
-    frames = [];
-    rest = [];
-    replies = [];
-    readings = [];
-    calls = [];
-    places = [];
-    written = [];
-    took = Consumes-nil w.input;
-    splits = record { whole = refl; each = All-nil (λ q. length q ≤ max_request); no_more = inl empty_part };
-    few = omega arith;
-    ended = (refl, refl);
-    goes_on = stood alone w.seen;
-    legal = legal;
-    answered = record { turns = []; courses = All-nil (IsCourse n w.seen.journals); in_order = (refl, refl); read = refl; owned = refl; ascending = (stood alone w.seen).ascending; filled = none_filled; replies_are = refl };
-    gave = Keeps-refl w.clock;
-    linked = quiet_linked says n.number w.faults w.faults [] (none_called says n.number w.faults);
-    went = refl;
-    wrote = Appends-nil w.output;
-  }
+  told_all : (w0 w1 : World) (turns : List link.Turn) → AreLegal s.node w0.seen.journals → Chain (AnswersFrame s) w0 turns w1 → Told w0 w1 (link.payloads_of turns) (link.replies_of turns)
+  told_all w0 w1 turns legal chain = told_on w0 w0 w1 [] [] turns (record { turns = []; made = none_made s w0 legal; frames_are = refl; replies_are = refl }) chain
 
-  pub is_connection : (limit : ℕ) (w0 w1 : World) (outcome : Outcome) → Serves n alone says limit w0 w1 outcome → IsConnection n alone says limit w0 w1 outcome
-  is_connection limit w0 w1 (End m) e =
-      let p = e.progress in
-      ended_so e.count limit w0 w1 e.middle (End m) p e.few e.same [] e.last.1.0 (inl empty_part) (refl, e.last.0 ∙ sym (counted p.turns e.count p.counted), e.last.1.1) (refl, refl) refl
-  is_connection limit w0 w1 (Truncated have) e =
-      let l = e.last in
-      ended_so e.count limit w0 w1 e.middle (Truncated have) e.progress e.few e.same l.0 l.4 (inl l.1) (l.1, l.2, l.3, l.5) (refl, refl) refl
-  is_connection limit w0 w1 (TooLong m) e =
-      let l = e.last in
-      ended_so e.count limit w0 w1 e.middle (TooLong m) e.progress e.few e.same (to_be_bytes w32 m) l.2 (inr (too_long m l.0 l.1)) (refl, l.0, l.1) (refl, refl) refl
-  is_connection limit w0 w1 ReadFault e =
-      let l = e.last in
-      ended_so e.count limit w0 w1 e.middle ReadFault e.progress e.few e.same l.0 l.2 (inl l.1) l.1 (refl, refl) refl
-  is_connection limit w0 w1 (Spent m) e =
-      let p = e.progress in
-      let byte = e.last.2 in
-      ended_so e.count limit w0 w1 e.middle (Spent m) p e.few e.same (byte.0 ∷ []) byte.1 (inl (in_word (omega arith)))
-      (refl, e.last.0 ∙ sym e.last.1 ∙ sym (counted p.turns e.count p.counted), e.last.0) (refl, refl) refl
-  is_connection limit w0 w1 WriteFault e = cut limit w0 w1 e
-  is_connection limit w0 w1 ClockFault e = unclocked limit w0 w1 e
-  is_connection limit w0 w1 NoMemory e = subst (λ (w : World). IsConnection n alone says limit w0 w NoMemory) (sym e.0) (none_served limit w0 (subst (λ (w : World). AreLegal n w.seen.journals) e.0 e.1))
+  module _ (limit : ℕ) (before after : Line World) (legal : AreLegal s.node before.service.seen.journals) where
+    -- each frame was answered
+    answered_all : (outcome : Outcome) (served : IsServed (AnswersFrame s) (GivesUpFrame s) limit before after outcome) (told : Told before.service after.service (link.payloads_of served.turns) (link.replies_of served.turns)) →
+        AreTurns s.node outcome told.turns served.payloads (calls_of told.turns) → IsConnection s limit before after outcome
+    answered_all outcome served told in_order = record {
+      served = served;
+      used = uses (readings_of told.turns) (calls_of told.turns) (places_of told.turns);
+      goes_on = told.made.goes_on;
+      legal = told.made.legal;
+      answered = record {
+        turns = told.turns;
+        courses = told.made.courses;
+        in_order = in_order;
+        read = refl;
+        owned = refl;
+        ascending = told.made.goes_on.ascending;
+        filled = told.made.filled;
+        replies_are = sym told.replies_are;
+      };
+      gave = told.made.gave;
+      linked = told.made.linked;
+    }
+
+    -- the clock failed at the last frame
+    unclocked : (served : IsServed (AnswersFrame s) (GivesUpFrame s) limit before after ClockFault) → IsConnection s limit before after ClockFault
+    unclocked served =
+        let a = served.answered in
+        let u = a.given_up in
+        let told = told_all before.service a.middle served.turns legal a.chain in
+        record {
+          served = served;
+          used = uses (readings_of told.turns ++ []) (calls_of told.turns ++ u.calls) (places_of told.turns);
+          goes_on = rw u.unchanged told.made.goes_on;
+          legal = rw u.unchanged told.made.legal;
+          answered = record {
+            turns = told.turns;
+            courses = rw u.unchanged told.made.courses;
+            in_order = (
+              a.last,
+              u.come.0,
+              a.all ∙ ap (λ (l : List (List ℕ)). l ++ a.last ∷ []) (sym told.frames_are),
+              ap (λ (l : List LinkCall). calls_of told.turns ++ l) (sym u.come.1),
+            );
+            read = append-nil (readings_of told.turns);
+            owned = refl;
+            ascending = told.made.goes_on.ascending;
+            filled = told.made.filled;
+            replies_are = sym told.replies_are;
+          };
+          gave = gave_on before.service.clock a.middle.clock after.service.clock (readings_of told.turns) [] told.made.gave u.keeps;
+          linked = linked_both s.says s.node.number before.service.faults a.middle.faults after.service.faults (calls_of told.turns) u.calls told.made.linked u.linked;
+        }
+
+    whole : (outcome : Outcome) (served : IsServed (AnswersFrame s) (GivesUpFrame s) limit before after outcome) → (a : (served.payloads ≡ link.payloads_of served.turns) × Chain (AnswersFrame s) before.service served.turns after.service) →
+        ((turns : List Turn) → served.payloads ≡ frames_of turns → AreTurns s.node outcome turns served.payloads (calls_of turns)) → IsConnection s limit before after outcome
+    whole outcome served a in_order =
+        let told = told_all before.service after.service served.turns legal a.1 in
+        answered_all outcome served told (in_order told.turns (a.0 ∙ sym told.frames_are))
+
+    pub connection_of : (outcome : Outcome) → IsServed (AnswersFrame s) (GivesUpFrame s) limit before after outcome → IsConnection s limit before after outcome
+    connection_of (End n) served = whole (End n) served served.answered (λ turns are. (are, refl))
+    connection_of (Truncated have) served = whole (Truncated have) served served.answered (λ turns are. (are, refl))
+    connection_of (TooLong n) served = whole (TooLong n) served served.answered (λ turns are. (are, refl))
+    connection_of ReadFault served = whole ReadFault served served.answered (λ turns are. (are, refl))
+    connection_of WriteFault served = whole WriteFault served served.answered (λ turns are. (are, refl))
+    connection_of ClockFault served = unclocked served
+    connection_of (Spent n) served = whole (Spent n) served served.answered (λ turns are. (are, refl))
+    connection_of NoMemory served = whole NoMemory served served.answered (λ turns are. (are, refl))
+
+  -- memory was refused before the first frame
+  pub none_served : (limit : ℕ) (l : Line World) → AreLegal s.node l.service.seen.journals → IsConnection s limit l l NoMemory
+  none_served limit l legal = connection_of limit l l legal NoMemory (unserved (AnswersFrame s) (GivesUpFrame s) limit l)
+
+-- ---- a service that has such states
+
+module _ {S : Type 0} (state : S → State) (setting : Setting) where
+  abbrev pub Steps : S → List ℕ → List ℕ → S → Type 0
+  Steps s payload reply t = StepsTo (state s) payload reply (state t)
+
+  abbrev pub Stops : S → List ℕ → S → Type 0
+  Stops s payload t = StopsIn (state s) payload (state t)
+
+  -- the setting is that one
+  abbrev Holds : S → Type 0
+  Holds s = (state s).setting ≡ setting
+
+  abbrev world : S → World
+  world s = (state s).world
+
+  steps_on : (s : S) (payload reply : List ℕ) (t : S) → Holds s → Steps s payload reply t → Holds t × AnswersFrame setting (world s) payload reply (world t)
+  steps_on s payload reply t holds a = (a.0 ∙ holds, subst (λ (x : Setting). AnswersFrame x (world s) payload reply (world t)) holds a.1)
+
+  stops_on : (s : S) (payload : List ℕ) (t : S) → Holds s → Stops s payload t → GivesUpFrame setting (world s) payload (world t)
+  stops_on s payload t holds a = subst (λ (x : Setting). GivesUpFrame x (world s) payload (world t)) holds a.1
+
+  -- a connection that it served, and that what stays did so to the end
+  pub connection_by : (limit : ℕ) (before after : Line S) (outcome : Outcome) → Holds before.service → AreLegal setting.node (world before.service).seen.journals → IsServed Steps Stops limit before after outcome →
+      IsConnection setting limit (line before.input before.output (world before.service)) (line after.input after.output (world after.service)) outcome × Holds after.service
+  connection_by limit before after outcome holds legal served = (
+    connection_of setting limit (line before.input before.output (world before.service)) (line after.input after.output (world after.service)) legal outcome
+        (served_as Steps Stops (AnswersFrame setting) (GivesUpFrame setting) Holds world steps_on stops_on limit before after outcome holds served),
+    held_at_end Steps Stops Holds (λ s payload reply t h a. a.0 ∙ h) (λ s payload t h a. a.0 ∙ h) limit before after outcome holds served,
+  )
+
+-- nothing that stays changed
+pub same_setting : (keys : NodeKeys) (objects : List ObjectPlan) {plans0 plans1 : List Plan} {alone0 alone1 : Bool} {says0 says1 : Option (ℕ → List ℕ → Said)} → plans1 ≡ plans0 → alone1 ≡ alone0 → says1 ≡ says0 →
+    setting_of (node_of keys plans1 objects) alone1 says1 ≡ setting_of (node_of keys plans0 objects) alone0 says0
+same_setting keys objects plans alone says = rw (plans, alone, says) refl

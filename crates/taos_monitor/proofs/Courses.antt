@@ -20,9 +20,10 @@ use Rattle.taos_monitor.specs.declared.handling.Handled.TheVariants as handled
 use Rattle.taos_monitor.specs.declared.node_keys.NodeKeys.{NodeKeys}
 use Rattle.taos_monitor.specs.declared.refusal.Refusal.{Refusal}
 use Rattle.taos_monitor.specs.Refusals.{refusal}
-use Rattle.taos_monitor.specs.Cells.{ObjectPlan, Node, Journals, Place, Seen, in_shard, seen_of}
-use Rattle.taos_monitor.specs.Credentials.{LinkCall}
-use Rattle.taos_monitor.specs.Course.{IsAsked, Arrival, Course, IsRuled, ask_of, ruled}
+use Rattle.taos_monitor.specs.Cells.{ObjectPlan, Node, Journals, Place, in_shard, seen_of}
+use Rattle.taos_monitor.specs.World.{Setting, World, setting_of, world_of}
+use Rattle.taos_monitor.specs.Credentials.{LinkCall, link_use}
+use Rattle.taos_monitor.specs.Course.{IsAsked, Arrival, Used, uses, nothing, only_calls, Course, IsRuled, asking, ask_of, ruled}
 use Rattle.taos_monitor.specs.Arriving.{node_of, object_seen, StandsFor, IsNotAsked, Arrives, NotArrives}
 use Rattle.taos_monitor.specs.Ruling.{Leaves, RuledTo, ask_seen}
 use Rattle.taos_monitor.specs.Handling.{HandledTo, StoppedAtClock, Handles, Answers}
@@ -41,34 +42,32 @@ module _ (keys : NodeKeys) (plans : List Plan) (objects : List ObjectPlan) (alon
   node = node_of keys plans objects
 
   -- the key of the payload's channel is that one
-  under_key : (J : Journals) (readings : List ℕ) (calls : List LinkCall) (places : List Place) (reply : Reply) →
-      ((payload k : List ℕ) → IsAsked node payload r k → Course node J payload readings calls places (sealed k r reply)) →
-      (payload k : List ℕ) → IsAsked node payload r k → Course node J payload readings calls places (sealed key r reply)
-  under_key J readings calls places reply f payload k asked =
-      subst (λ (other : List ℕ). Course node J payload readings calls places (sealed other r reply)) (same_Some k key (sym asked.keyed ∙ known)) (f payload k asked)
+  under_key : (J : Journals) (used : Used) (reply : Reply) →
+      ((payload k : List ℕ) → IsAsked node payload r k → Course node J payload used (sealed k r reply)) →
+      (payload k : List ℕ) → IsAsked node payload r k → Course node J payload used (sealed key r reply)
+  under_key J used reply f payload k asked =
+      subst (λ (other : List ℕ). Course node J payload used (sealed other r reply)) (same_Some k key (sym asked.keyed ∙ known)) (f payload k asked)
 
-  pub refused_to : (clock : Option (List ℕ)) (f : Refusal) (bytes : List ℕ) → AreLegalAt plans seen0 → NotArrives keys objects says faults0 faults1 r f →
+  pub refused_to : (clock : Option (List ℕ)) (f : Refusal) (bytes : List ℕ) → AreLegalAt plans seen0 → NotArrives keys objects (link_use says keys.node faults0 faults1) r f →
       bytes ≡ spelling (sealed key r (refusal f)) → length bytes < 2 ^ 32 →
-      HandledTo node alone (seen_of seen0 own0) (seen_of seen0 own0) says faults0 faults1 clock clock r bytes
+      HandledTo (setting_of node alone says) (world_of clock faults0 seen0 own0) (world_of clock faults1 seen0 own0) r bytes
   refused_to clock f bytes legal stops spelled short = record {
-    readings = [];
-    calls = stops.calls;
-    places = [];
+    used = only_calls stops.calls;
     sent = sealed key r (refusal f);
     goes_on = stood alone (seen_of seen0 own0);
     legal = legal;
-    course = under_key (record { shards = seen0 }) [] stops.calls [] (refusal f) (λ payload k asked. stops.course plans (record { shards = seen0 }) payload k asked);
+    course = under_key (record { shards = seen0 }) (only_calls stops.calls) (refusal f) (λ payload k asked. stops.course plans (record { shards = seen0 }) payload k asked);
     gave = Keeps-refl clock;
     linked = stops.linked;
     spelled = spelled;
     short = short;
   }
 
-  module _ (a : Arrived) (came : Arrives keys objects says faults0 faults1 r a) where
+  module _ (a : Arrived) (came : Arrives keys objects (link_use says keys.node faults0 faults1) r a) where
     abbrev arrival : (payload k : List ℕ) → IsAsked node payload r k → Arrival node payload
     arrival payload k asked = record { request = r; key = k; calls = came.calls; certs = map shared a.certs.items; object = object_seen r.object a.shown; arrived = came.arrived plans payload k asked }
 
-    pub stopped_at_clock : (clock0 clock1 : Option (List ℕ)) → Keeps clock0 clock1 → StoppedAtClock node alone (seen_of seen0 own0) (seen_of seen0 own0) says faults0 faults1 clock0 clock1 r
+    pub stopped_at_clock : (clock0 clock1 : Option (List ℕ)) → Keeps clock0 clock1 → StoppedAtClock (setting_of node alone says) (world_of clock0 faults0 seen0 own0) (world_of clock1 faults1 seen0 own0) r
     stopped_at_clock clock0 clock1 keeps = record {
       calls = came.calls;
       unchanged = refl;
@@ -78,21 +77,19 @@ module _ (keys : NodeKeys) (plans : List Plan) (objects : List ObjectPlan) (alon
     }
 
     pub ruled_to : (seen1 : ℕ → List Entry) (own1 : ℕ → List ℕ) (clock0 clock1 : Option (List ℕ)) (reading : ℕ) (bytes : List ℕ) → ShowsKnown clock0 clock1 reading →
-        Leaves r.channel r.seq key bytes (RuledTo plans alone (seen_of seen0 own0) (seen_of seen1 own1) (home plans r.channel) (ask_seen r a reading) (object_seen r.object a.shown)) →
-        HandledTo node alone (seen_of seen0 own0) (seen_of seen1 own1) says faults0 faults1 clock0 clock1 r bytes
+        Leaves r.channel r.seq key bytes (RuledTo plans alone (seen_of seen0 own0) (seen_of seen1 own1) (asking (home plans r.channel) (ask_seen r a reading) (object_seen r.object a.shown))) →
+        HandledTo (setting_of node alone says) (world_of clock0 faults0 seen0 own0) (world_of clock1 faults1 seen1 own1) r bytes
     ruled_to seen1 own1 clock0 clock1 reading bytes shows left =
         let x = left.holds in
         let h = home plans r.channel in
         record {
-          readings = reading ∷ [];
-          calls = came.calls;
-          places = map (in_shard h) x.own;
+          used = uses (reading ∷ []) came.calls (map (in_shard h) x.own);
           sent = sealed key r left.reply;
           goes_on = x.goes_on;
           legal = x.legal;
-          course = under_key (record { shards = seen1 }) (reading ∷ []) came.calls (map (in_shard h) x.own) left.reply
+          course = under_key (record { shards = seen1 }) (uses (reading ∷ []) came.calls (map (in_shard h) x.own)) left.reply
               (λ payload k asked. ruled (arrival payload k asked) reading x.plan x.planned
-              (subst (λ (b : Ask). IsRuled x.plan (seen1 h) h b (object_seen r.object a.shown) x.own left.reply) (same_ask r a reading came.stands) x.ends));
+              (subst (λ (b : Ask). IsRuled x.plan (seen1 h) (asking h b (object_seen r.object a.shown)) x.own left.reply) (same_ask r a reading came.stands) x.ends));
           gave = (clock1, shows, Keeps-refl clock1);
           linked = came.linked;
           spelled = left.spelled;
@@ -104,11 +101,9 @@ module _ (keys : NodeKeys) (plans : List Plan) (objects : List ObjectPlan) (alon
 -- no request under its seal
 pub unasked_to : (keys : NodeKeys) (plans : List Plan) (objects : List ObjectPlan) (alone : Bool) (says : Option (ℕ → List ℕ → Said)) (faults : ℕ) (seen : ℕ → List Entry) (own : ℕ → List ℕ) (clock : Option (List ℕ)) (payload : List ℕ) (f : Refusal) (bytes : List ℕ) →
     AreLegalAt plans seen → IsNotAsked keys payload f → bytes ≡ spelling (unsealed (refusal f)) → length bytes < 2 ^ 32 →
-    Answers (node_of keys plans objects) alone (seen_of seen own) (seen_of seen own) says faults faults clock clock payload bytes handled.Replied
+    Answers (setting_of (node_of keys plans objects) alone says) (world_of clock faults seen own) (world_of clock faults seen own) payload bytes handled.Replied
 unasked_to keys plans objects alone says faults seen own clock payload f bytes legal stops spelled short = record {
-  readings = [];
-  calls = [];
-  places = [];
+  used = nothing;
   sent = unsealed (refusal f);
   goes_on = stood alone (seen_of seen own);
   legal = legal;
@@ -120,12 +115,9 @@ unasked_to keys plans objects alone says faults seen own clock payload f bytes l
 }
 
 -- what is promised of a request holds of the payload that it is
-pub answers_as : (n : Node) (alone : Bool) (old new : Seen) (says : Option (ℕ → List ℕ → Said)) (faults0 faults1 : ℕ) (clock0 clock1 : Option (List ℕ)) (r : Request) (payload key bytes : List ℕ) → IsAsked n payload r key →
-    (h : Handled) → Handles n alone old new says faults0 faults1 clock0 clock1 r bytes h → Answers n alone old new says faults0 faults1 clock0 clock1 payload bytes h
-answers_as n alone old new says faults0 faults1 clock0 clock1 r payload key bytes asked handled.Replied t = record {
-  readings = t.readings;
-  calls = t.calls;
-  places = t.places;
+pub answers_as : (s : Setting) (w0 w1 : World) (r : Request) (payload key bytes : List ℕ) → IsAsked s.node payload r key → (h : Handled) → Handles s w0 w1 r bytes h → Answers s w0 w1 payload bytes h
+answers_as s w0 w1 r payload key bytes asked handled.Replied t = record {
+  used = t.used;
   sent = t.sent;
   goes_on = t.goes_on;
   legal = t.legal;
@@ -135,12 +127,12 @@ answers_as n alone old new says faults0 faults1 clock0 clock1 r payload key byte
   spelled = t.spelled;
   short = t.short;
 }
-answers_as n alone old new says faults0 faults1 clock0 clock1 r payload key bytes asked handled.ClockFault s =
-    let (certs, object, arrived) = s.come in
+answers_as s w0 w1 r payload key bytes asked handled.ClockFault stop =
+    let (certs, object, arrived) = stop.come in
     record {
-      calls = s.calls;
-      unchanged = s.unchanged;
-      come = (record { request = r; key = key; calls = s.calls; certs = certs; object = object; arrived = arrived payload key asked }, refl);
-      keeps = s.keeps;
-      linked = s.linked;
+      calls = stop.calls;
+      unchanged = stop.unchanged;
+      come = (record { request = r; key = key; calls = stop.calls; certs = certs; object = object; arrived = arrived payload key asked }, refl);
+      keeps = stop.keeps;
+      linked = stop.linked;
     }

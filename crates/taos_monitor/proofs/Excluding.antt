@@ -9,7 +9,7 @@ use Rattle.agent_core.specs.State.{Plan, Ask}
 use Rattle.agent_core.specs.Journals.{Entry}
 use Rattle.taos_monitor.specs.Cells.{ObjectPlan, object_of, Node}
 use Rattle.taos_monitor.specs.Credentials.{LinkCall, AreOpened}
-use Rattle.taos_monitor.specs.Course.{IsUnbuilt, IsRuled, full, replayed, channel_full, denied, granted, unanswered, Arrival, malformed, unknown_channel, bad_seal, unbuilt, cert_refused, relay_failed, unknown_object, ruled, unread, unopened}
+use Rattle.taos_monitor.specs.Course.{asking, IsUnbuilt, IsRuled, full, replayed, channel_full, denied, granted, unanswered, Arrival, malformed, unknown_channel, bad_seal, unbuilt, cert_refused, relay_failed, unknown_object, ruled, unread, unopened}
 use Rattle.taos_monitor.specs.Laws.{ArrivalExcludes}
 use Rattle.taos_monitor.proofs.Firsts.{opened_or_refused, opened_or_failed}
 
@@ -19,7 +19,7 @@ IsLate s = (s ≢ 2) × (s ≢ 3) × (s ≢ 4) × (s ≢ 255) × (s ≢ 6) × (s
 late : (s : ℕ) → (s ≡ 0) ⊎ ((s ≡ 1) ⊎ ((s ≡ 5) ⊎ ((s ≡ 7) ⊎ ((s ≡ 10) ⊎ (s ≡ 11))))) → IsLate s
 late s e = (λ f. omega (arith, e, f), λ f. omega (arith, e, f), λ f. omega (arith, e, f), λ f. omega (arith, e, f), λ f. omega (arith, e, f), λ f. omega (arith, e, f), λ f. omega (arith, e, f))
 
-ruled_late : (plan : Plan) (journal : List Entry) (shard : ℕ) (a : Ask) (object : ObjectPlan) (own : List ℕ) (reply : Reply) → IsRuled plan journal shard a object own reply → IsLate (status_of reply)
+ruled_late : (plan : Plan) (journal : List Entry) (shard : ℕ) (a : Ask) (object : ObjectPlan) (own : List ℕ) (reply : Reply) → IsRuled plan journal (asking shard a object) own reply → IsLate (status_of reply)
 ruled_late plan journal shard a object own reply (granted g) = late 0 (inl refl)
 ruled_late plan journal shard a object own reply (denied d tells) = late 1 (inr (inl refl))
 ruled_late plan journal shard a object own reply (replayed t) = late 5 (inr (inr (inl refl)))
@@ -56,22 +56,22 @@ module _ (n : Node) (payload : List ℕ) (t : Arrival n payload) where
       (subst (λ (x : Request). AreOpened n.relay_key x.certs t.calls t.certs) (sym (same_request r spelled)) t.arrived.presented.opened)
 
 pub arrival_excludes : (n : Node) → ArrivalExcludes n
-arrival_excludes n J payload readings calls places sent t (malformed none reads) = absurd (none t.request t.arrived.presented.taken.asked.spelled)
-arrival_excludes n J payload readings calls places sent t (unknown_channel r spelled none) = absurd (nothing_there t.key (sym none ∙ keyed_so n payload t r spelled))
-arrival_excludes n J payload readings calls places sent t (bad_seal r key spelled keyed other) =
+arrival_excludes n J payload used sent t (malformed none reads) = absurd (none t.request t.arrived.presented.taken.asked.spelled)
+arrival_excludes n J payload used sent t (unknown_channel r spelled none) = absurd (nothing_there t.key (sym none ∙ keyed_so n payload t r spelled))
+arrival_excludes n J payload used sent t (bad_seal r key spelled keyed other) =
     absurd (other (subst (λ (k : List ℕ). IsSealed k payload) (same_Some t.key key (sym (keyed_so n payload t r spelled) ∙ keyed)) t.arrived.presented.taken.asked.seal))
-arrival_excludes n J payload readings calls places sent t (unbuilt {r} {key} asked is) =
+arrival_excludes n J payload used sent t (unbuilt {r} {key} asked is) =
     absurd (t.arrived.presented.taken.built (subst (λ (x : Request). IsUnbuilt x) (same_request n payload t r asked.spelled) is))
-arrival_excludes n J payload readings calls places sent t (cert_refused {r} {key} {calls = by} {index} {code} built first) =
-    excluded 6 (calls ≡ t.calls) (λ e. cc, λ e. cc, λ e. cc, λ e. cc)
-    (λ same. opened_or_refused n.relay_key r.certs calls t.certs index code (opened_so n payload t r calls built.asked.spelled same) first)
-arrival_excludes n J payload readings calls places sent t (relay_failed {r} {key} {calls = by} {index} built first) =
-    excluded 8 (calls ≡ t.calls) (λ e. cc, λ e. cc, λ e. cc, λ e. cc)
-    (λ same. opened_or_failed n.relay_key r.certs calls t.certs index (opened_so n payload t r calls built.asked.spelled same) first)
-arrival_excludes n J payload readings calls places sent t (unknown_object {r} {key} {calls = by} {certs} opened none) =
+arrival_excludes n J payload used sent t (cert_refused {r} {key} {calls = by} {index} {code} built first) =
+    excluded 6 (used.calls ≡ t.calls) (λ e. cc, λ e. cc, λ e. cc, λ e. cc)
+    (λ same. opened_or_refused n.relay_key r.certs used.calls t.certs index code (opened_so n payload t r used.calls built.asked.spelled same) first)
+arrival_excludes n J payload used sent t (relay_failed {r} {key} {calls = by} {index} built first) =
+    excluded 8 (used.calls ≡ t.calls) (λ e. cc, λ e. cc, λ e. cc, λ e. cc)
+    (λ same. opened_or_failed n.relay_key r.certs used.calls t.certs index (opened_so n payload t r used.calls built.asked.spelled same) first)
+arrival_excludes n J payload used sent t (unknown_object {r} {key} {calls = by} {certs} opened none) =
     absurd (nothing_there t.object (sym none ∙ subst (λ (x : Request). object_of n.objects x.object ≡ Some t.object) (sym (same_request n payload t r opened.taken.asked.spelled)) t.arrived.there))
-arrival_excludes n J payload readings calls places sent t (ruled {own} {reply} came reading plan planned is) =
+arrival_excludes n J payload used sent t (ruled {own} {reply} came reading plan planned is) =
     let (a, b, c, d, e, f, g) = ruled_late plan _ _ _ came.object own reply is in
     (a, b, c, d, λ same. (e, f, g))
-arrival_excludes n J payload readings calls places sent t unread = (λ e. cc, λ e. cc, λ e. cc, λ e. cc, λ same. (λ e. cc, λ e. cc, λ e. cc))
-arrival_excludes n J payload readings calls places sent t (unopened built interrupted) = (λ e. cc, λ e. cc, λ e. cc, λ e. cc, λ same. (λ e. cc, λ e. cc, λ e. cc))
+arrival_excludes n J payload used sent t unread = (λ e. cc, λ e. cc, λ e. cc, λ e. cc, λ same. (λ e. cc, λ e. cc, λ e. cc))
+arrival_excludes n J payload used sent t (unopened built interrupted) = (λ e. cc, λ e. cc, λ e. cc, λ e. cc, λ same. (λ e. cc, λ e. cc, λ e. cc))

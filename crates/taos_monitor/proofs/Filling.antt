@@ -7,7 +7,7 @@ use Rattle.agent_core.specs.State.{Plan, Ask}
 use Rattle.agent_core.specs.Journals.{Entry, Stands}
 use Rattle.taos_monitor.specs.Cells.{ObjectPlan, Node, HasPlan, Journals, OfShard, Place, in_shard, entries_in, AreLegal}
 use Rattle.taos_monitor.specs.Credentials.{LinkCall}
-use Rattle.taos_monitor.specs.Course.{shard_full, IsRuled, full, replayed, channel_full, denied, granted, unanswered, Course, malformed, unknown_channel, bad_seal, unbuilt, cert_refused, relay_failed, unknown_object, ruled, unread, unopened}
+use Rattle.taos_monitor.specs.Course.{asking, Used, shard_full, IsRuled, full, replayed, channel_full, denied, granted, unanswered, Course, malformed, unknown_channel, bad_seal, unbuilt, cert_refused, relay_failed, unknown_object, ruled, unread, unopened}
 use Rattle.taos_monitor.specs.Run.{Turn, IsCourse, IsFilledBefore}
 use Rattle.taos_monitor.specs.Laws.{NoEntryAfterFull}
 use Rattle.taos_monitor.proofs.Staying.{short}
@@ -21,7 +21,7 @@ abbrev IsFull : Node → Journals → ℕ → Type 0
 IsFull n J s = (plan : Plan) × HasPlan n s plan × (length (J.shards s) ≡ plan.limit)
 
 module _ (n : Node) (J : Journals) (h : ℕ) (plan : Plan) (planned : HasPlan n h plan) (a : Ask) (object : ObjectPlan) where
-  ruled_full : (own : List ℕ) (reply : Reply) → IsRuled plan (J.shards h) h a object own reply → (s limit : ℕ) → reply ≡ shard_full s limit → IsFull n J s
+  ruled_full : (own : List ℕ) (reply : Reply) → IsRuled plan (J.shards h) (asking h a object) own reply → (s limit : ℕ) → reply ≡ shard_full s limit → IsFull n J s
   ruled_full own reply (full at) s limit e = subst (IsFull n J) (same_number h s plan.limit limit e) (plan, planned, at)
   ruled_full own reply (replayed t) s limit e = absurd cc
   ruled_full own reply (channel_full t) s limit e = absurd cc
@@ -29,18 +29,18 @@ module _ (n : Node) (J : Journals) (h : ℕ) (plan : Plan) (planned : HasPlan n 
   ruled_full own reply (granted g) s limit e = absurd cc
   ruled_full own reply (unanswered u) s limit e = absurd cc
 
-full_at : (n : Node) (J : Journals) (payload readings : List ℕ) (calls : List LinkCall) (places : List Place) (sent : Sent) → Course n J payload readings calls places sent →
+full_at : (n : Node) (J : Journals) (payload : List ℕ) (used : Used) (sent : Sent) → Course n J payload used sent →
     (s limit : ℕ) → sent.reply ≡ shard_full s limit → IsFull n J s
-full_at n J payload readings calls places sent (malformed none reads) s limit e = absurd cc
-full_at n J payload readings calls places sent (unknown_channel r spelled none) s limit e = absurd cc
-full_at n J payload readings calls places sent (bad_seal r key spelled keyed other) s limit e = absurd cc
-full_at n J payload readings calls places sent (unbuilt asked is) s limit e = absurd cc
-full_at n J payload readings calls places sent (cert_refused built first) s limit e = absurd cc
-full_at n J payload readings calls places sent (relay_failed built first) s limit e = absurd cc
-full_at n J payload readings calls places sent (unknown_object opened none) s limit e = absurd cc
-full_at n J payload readings calls places sent (ruled {own} {reply} t reading plan planned r) s limit e = ruled_full n J _ plan planned _ t.object own reply r s limit e
-full_at n J payload readings calls places sent unread s limit e = absurd cc
-full_at n J payload readings calls places sent (unopened built interrupted) s limit e = absurd cc
+full_at n J payload used sent (malformed none reads) s limit e = absurd cc
+full_at n J payload used sent (unknown_channel r spelled none) s limit e = absurd cc
+full_at n J payload used sent (bad_seal r key spelled keyed other) s limit e = absurd cc
+full_at n J payload used sent (unbuilt asked is) s limit e = absurd cc
+full_at n J payload used sent (cert_refused built first) s limit e = absurd cc
+full_at n J payload used sent (relay_failed built first) s limit e = absurd cc
+full_at n J payload used sent (unknown_object opened none) s limit e = absurd cc
+full_at n J payload used sent (ruled {own} {reply} t reading plan planned r) s limit e = ruled_full n J _ plan planned _ t.object own reply r s limit e
+full_at n J payload used sent unread s limit e = absurd cc
+full_at n J payload used sent (unopened built interrupted) s limit e = absurd cc
 
 -- ---- the places of a course are there
 
@@ -53,7 +53,7 @@ AreIn journal own = All (λ (p : ℕ). p < length journal) own
 one_in : (journal : List Entry) (place : ℕ) → place < length journal → AreIn journal (place ∷ [])
 one_in journal place within = All-cons (λ (p : ℕ). p < length journal) place [] within (All-nil (λ (p : ℕ). p < length journal))
 
-ruled_there : (plan : Plan) (journal : List Entry) (shard : ℕ) (a : Ask) (object : ObjectPlan) (own : List ℕ) (reply : Reply) → IsRuled plan journal shard a object own reply → AreIn journal own
+ruled_there : (plan : Plan) (journal : List Entry) (shard : ℕ) (a : Ask) (object : ObjectPlan) (own : List ℕ) (reply : Reply) → IsRuled plan journal (asking shard a object) own reply → AreIn journal own
 ruled_there plan journal shard a object own reply (full at) = All-nil (λ (p : ℕ). p < length journal)
 ruled_there plan journal shard a object own reply (replayed {place} {last} t) = one_in journal place (stands_within journal t.0 place _ t.1)
 ruled_there plan journal shard a object own reply (channel_full {place} {held} t) = one_in journal place (stands_within journal t.0 place _ t.1)
@@ -70,37 +70,37 @@ in_journal J h [] all = All-nil (λ (p : Place). p.number < entries_in J p.cell)
 in_journal J h (p ∷ own) all = All-cons (λ (q : Place). q.number < entries_in J q.cell) (in_shard h p) (map (in_shard h) own)
     (All-head (λ (q : ℕ). q < length (J.shards h)) p own all) (in_journal J h own (All-tail (λ (q : ℕ). q < length (J.shards h)) p own all))
 
-course_there : (n : Node) (J : Journals) (payload readings : List ℕ) (calls : List LinkCall) (places : List Place) (sent : Sent) → Course n J payload readings calls places sent → AreThere J places
-course_there n J payload readings calls places sent (malformed none reads) = All-nil (λ (p : Place). p.number < entries_in J p.cell)
-course_there n J payload readings calls places sent (unknown_channel r spelled none) = All-nil (λ (p : Place). p.number < entries_in J p.cell)
-course_there n J payload readings calls places sent (bad_seal r key spelled keyed other) = All-nil (λ (p : Place). p.number < entries_in J p.cell)
-course_there n J payload readings calls places sent (unbuilt asked is) = All-nil (λ (p : Place). p.number < entries_in J p.cell)
-course_there n J payload readings calls places sent (cert_refused built first) = All-nil (λ (p : Place). p.number < entries_in J p.cell)
-course_there n J payload readings calls places sent (relay_failed built first) = All-nil (λ (p : Place). p.number < entries_in J p.cell)
-course_there n J payload readings calls places sent (unknown_object opened none) = All-nil (λ (p : Place). p.number < entries_in J p.cell)
-course_there n J payload readings calls places sent (ruled {own} {reply} t reading plan planned r) = in_journal J _ own (ruled_there plan _ _ _ t.object own reply r)
-course_there n J payload readings calls places sent unread = All-nil (λ (p : Place). p.number < entries_in J p.cell)
-course_there n J payload readings calls places sent (unopened built interrupted) = All-nil (λ (p : Place). p.number < entries_in J p.cell)
+course_there : (n : Node) (J : Journals) (payload : List ℕ) (used : Used) (sent : Sent) → Course n J payload used sent → AreThere J used.places
+course_there n J payload used sent (malformed none reads) = All-nil (λ (p : Place). p.number < entries_in J p.cell)
+course_there n J payload used sent (unknown_channel r spelled none) = All-nil (λ (p : Place). p.number < entries_in J p.cell)
+course_there n J payload used sent (bad_seal r key spelled keyed other) = All-nil (λ (p : Place). p.number < entries_in J p.cell)
+course_there n J payload used sent (unbuilt asked is) = All-nil (λ (p : Place). p.number < entries_in J p.cell)
+course_there n J payload used sent (cert_refused built first) = All-nil (λ (p : Place). p.number < entries_in J p.cell)
+course_there n J payload used sent (relay_failed built first) = All-nil (λ (p : Place). p.number < entries_in J p.cell)
+course_there n J payload used sent (unknown_object opened none) = All-nil (λ (p : Place). p.number < entries_in J p.cell)
+course_there n J payload used sent (ruled {own} {reply} t reading plan planned r) = in_journal J _ own (ruled_there plan _ _ _ t.object own reply r)
+course_there n J payload used sent unread = All-nil (λ (p : Place). p.number < entries_in J p.cell)
+course_there n J payload used sent (unopened built interrupted) = All-nil (λ (p : Place). p.number < entries_in J p.cell)
 
 -- ---- one turn more
 
-module _ (n : Node) (J K : Journals) (legal : AreLegal n K) (t : Turn) (course : IsCourse n K t) (new : All (λ (p : Place). entries_in J p.cell ≤ p.number) t.places) where
+module _ (n : Node) (J K : Journals) (legal : AreLegal n K) (t : Turn) (course : IsCourse n K t) (new : All (λ (p : Place). entries_in J p.cell ≤ p.number) t.used.places) where
   -- a new place would stand past the limit
   comes_after : (u : Turn) → IsCourse n J u → IsFilledBefore u t
   comes_after u done (OfShard s) (limit, e) =
-      let (plan, planned, at) = full_at n J u.frame u.readings u.calls u.places u.sent done s limit e in
-      λ k d lt same. omega (arith, new k d lt, course_there n K t.frame t.readings t.calls t.places t.sent course k d lt, ap (entries_in J) same, ap (entries_in K) same, at, short plan (K.shards s) (legal s plan planned))
+      let (plan, planned, at) = full_at n J u.frame u.used u.sent done s limit e in
+      λ k d lt same. omega (arith, new k d lt, course_there n K t.frame t.used t.sent course k d lt, ap (entries_in J) same, ap (entries_in K) same, at, short plan (K.shards s) (legal s plan planned))
 
 pub none_filled : AllPairs IsFilledBefore []
 none_filled = λ i j d lt within. absurd (omega (arith, within))
 
 pub filled_more : (n : Node) (J K : Journals) → AreLegal n K → (turns : List Turn) → All (IsCourse n J) turns → AllPairs IsFilledBefore turns →
-    (t : Turn) → IsCourse n K t → All (λ (p : Place). entries_in J p.cell ≤ p.number) t.places → AllPairs IsFilledBefore (turns ++ t ∷ [])
+    (t : Turn) → IsCourse n K t → All (λ (p : Place). entries_in J p.cell ≤ p.number) t.used.places → AllPairs IsFilledBefore (turns ++ t ∷ [])
 filled_more n J K legal turns courses filled t course new =
     all_pairs_push IsFilledBefore turns t filled (λ k d lt. comes_after n J K legal t course new _ (courses k d lt))
 
 pub no_entry_after_full : (n : Node) → NoEntryAfterFull n
-no_entry_after_full n J own frames replies outcome readings calls a first second is shard limit number found placed =
+no_entry_after_full n J used frames replies outcome a first second is shard limit number found placed =
     let pairs = subst (AllPairs IsFilledBefore) is a.filled in
     let none = pairs 0 1 first (omega arith) (omega arith) (OfShard shard) (limit, found) in
     subst (λ (l : List Place). All (λ (p : Place). p.cell ≢ OfShard shard) l) placed none 0 (in_shard shard number) (omega arith) refl

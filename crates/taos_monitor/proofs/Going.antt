@@ -8,6 +8,7 @@ use Rattle.agent_core.specs.State.{Plan, Ask}
 use Rattle.agent_core.specs.Journals.{Entry, Begins}
 use Rattle.agent_core.proofs.Onward.{begins_itself, begins_on}
 use Rattle.agent_core.specs.Asked.{AskedTo}
+use Rattle.agent_core.specs.Steps.{seen_at}
 use Rattle.taos_monitor.specs.Cells.{Cell, OfShard, Place, in_shard, IsAfter, number_in, numbers_in, entries_in, Seen, GoesOn, seen_of}
 
 here : (s number : ℕ) → number_in (OfShard s) (in_shard s number) ≡ Some number
@@ -28,7 +29,7 @@ module _ (h : ℕ) (seen0 seen1 : ℕ → List Entry) (own0 own1 : ℕ → List 
   apart : (s : ℕ) → (s == h) ≡ false → s ≢ h
   apart s e = λ same. false≢true (sym e ∙ eq-eqb s h same)
 
-  pub went_on : (plan : Plan) (alone : Bool) (a : Ask) (Ends : List ℕ → Type 0) (asked : AskedTo plan alone (seen0 h) (own0 h) a (seen1 h) (own1 h) Ends) →
+  pub went_on : (plan : Plan) (alone : Bool) (a : Ask) (Ends : List ℕ → Type 0) (asked : AskedTo plan (seen_at alone seen0 own0 h) (seen_at alone seen1 own1 h) a Ends) →
       GoesOn alone (seen_of seen0 own0) (seen_of seen1 own1) (map (in_shard h) asked.places)
   went_on plan alone a Ends asked = record {
     goes_on = λ s. elim (cases_Bool (s == h)) [

@@ -12,9 +12,7 @@ mod Filling
 mod Running
 mod Payloads
 mod Steps
-pub mod Complete
 mod Connections
-mod Turning
 pub mod Keyed
 mod Firsts
 mod Agreeing

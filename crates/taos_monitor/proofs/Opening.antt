@@ -10,8 +10,8 @@ use Rattle.prin_term.proofs.Results.{bind_err, err_is, chosen, chosen_err, refus
 use Rattle.prin_term.proofs.FieldLaws.{IsBytes}
 use Rattle.stmt_codec.specs.Certificates.{Certificate}
 use Rattle.stmt_codec.specs.Reading.{body_at}
-use Rattle.stmt_codec.specs.declared.fault.BodyFault.{BodyFault}
-use Rattle.stmt_codec.specs.declared.fault.BodyFault.TheVariants as bodies
+use Rattle.prin_term.specs.declared.fault.FormatFault.{FormatFault}
+use Rattle.prin_term.specs.declared.fault.FormatFault.TheVariants as bodies
 use Rattle.sealed_cert.specs.declared.fault.SealFault.{SealFault}
 use Rattle.sealed_cert.specs.declared.fault.SealFault.TheVariants.{Malformed, UnknownIssuer, BadSeal, WrongKind, NoMemory}
 use Rattle.sealed_cert.specs.Seals.{sealed_text, Spells}
@@ -40,7 +40,7 @@ kind_err bytes f e = elim (bind_err (byte_at (Malformed 0) bytes 0) (λ first. i
   ]
 ]
 
-body_err : (d : BodyFault) → IsOfForm (seen_as d)
+body_err : (d : FormatFault) → IsOfForm (seen_as d)
 body_err (bodies.Malformed o) = tt
 body_err bodies.NoMemory = tt
 

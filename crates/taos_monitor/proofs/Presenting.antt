@@ -14,7 +14,7 @@ use Rattle.sealed_cert.specs.Seals.{Opens}
 use Rattle.taos_wire.specs.View.{text_of, cited as shared}
 use Rattle.taos_monitor.specs.declared.refusal.Refusal.{Refusal}
 use Rattle.taos_monitor.specs.declared.refusal.Refusal.TheVariants as refusals
-use Rattle.taos_monitor.specs.Credentials.{LinkAnswer, Resealed, Refused, Lacked, LinkCall, call, Failed, IsIssued, IsResealed, Comes, by_node, by_relay, IsRefused, bad_reseal, AreOpened, none_more, one_more, StopsAt, at_text, after_call, IsToldAs, CountsAs, FailedAs, IsLinked, IsQuiet}
+use Rattle.taos_monitor.specs.Credentials.{LinkAnswer, Resealed, Refused, Lacked, LinkCall, link_use, call, Failed, IsIssued, IsResealed, Comes, by_node, by_relay, IsRefused, bad_reseal, AreOpened, none_more, one_more, StopsAt, at_text, after_call, IsToldAs, CountsAs, FailedAs, IsLinked, IsQuiet}
 use Rattle.taos_monitor.specs.Presenting.{IsOneRefused, IsNoReseal, IsOneStopped, AreStopped, OneComes, OneStops, AllCome, AllStop}
 
 -- ---- what the link is counted by
@@ -125,16 +125,16 @@ module _ (key : List ℕ) (texts : List (Vec ℕ Global)) (place : ℕ) (d : Vec
   stopped before more certs (refusals.UnknownObject n) opened why = absurd why
   stopped before more certs refusals.Unbuilt opened why = absurd why
 
-  pub first_stopped : (says : Option (ℕ → List ℕ → Said)) (node n middle now : ℕ) (certs : List Certificate) (f : Refusal) → AllCome key says node n middle front certs →
-      OneStops key says node middle now place here f → AllStop key says node n now (map text_of texts) f
+  pub first_stopped : (says : Option (ℕ → List ℕ → Said)) (node n middle now : ℕ) (certs : List Certificate) (f : Refusal) → AllCome key (link_use says node n middle) front certs →
+      OneStops key (link_use says node middle now) place here f → AllStop key (link_use says node n now) (map text_of texts) f
   first_stopped says node n middle now certs f came stops = record {
     calls = came.calls ++ stops.calls;
     stops = stopped came.calls stops.calls certs f came.opened stops.stops;
     linked = linked_on says node n middle now came.calls stops.calls came.quiet stops.linked;
   }
 
-  pub one_more_comes : (says : Option (ℕ → List ℕ → Said)) (node n middle now : ℕ) (certs : List (Arc Cert Global)) (c : Arc Cert Global) → AllCome key says node n middle front (map shared certs) →
-      OneComes key says node middle now here (shared c) → AllCome key says node n now (map text_of (take (place + 1) texts)) (map shared (certs ++ c ∷ []))
+  pub one_more_comes : (says : Option (ℕ → List ℕ → Said)) (node n middle now : ℕ) (certs : List (Arc Cert Global)) (c : Arc Cert Global) → AllCome key (link_use says node n middle) front (map shared certs) →
+      OneComes key (link_use says node middle now) here (shared c) → AllCome key (link_use says node n now) (map text_of (take (place + 1) texts)) (map shared (certs ++ c ∷ []))
   one_more_comes says node n middle now certs c came comes = record {
     calls = came.calls ++ comes.calls;
     opened = subst (λ (l : List (List ℕ)). AreOpened key l (came.calls ++ comes.calls) (map shared (certs ++ c ∷ []))) (sym front_more)
@@ -146,17 +146,17 @@ module _ (key : List ℕ) (texts : List (Vec ℕ Global)) (place : ℕ) (d : Vec
 -- ---- one of them
 
 module _ (says : Option (ℕ → List ℕ → Said)) (node : ℕ) where
-  pub comes_uncalled : (key text : List ℕ) (n : ℕ) (c : Certificate) → Opens key text c → OneComes key says node n n text c
+  pub comes_uncalled : (key text : List ℕ) (n : ℕ) (c : Certificate) → Opens key text c → OneComes key (link_use says node n n) text c
   comes_uncalled key text n c opens = record { calls = []; comes = by_node opens; quiet = none_called says node n }
 
-  pub comes_by_relay : (key text new : List ℕ) (before now : ℕ) (c : Certificate) → IsToldAs says node (call text (Resealed new)) → now ≡ before → IsResealed key text new c → OneComes key says node before now text c
+  pub comes_by_relay : (key text new : List ℕ) (before now : ℕ) (c : Certificate) → IsToldAs says node (call text (Resealed new)) → now ≡ before → IsResealed key text new c → OneComes key (link_use says node before now) text c
   comes_by_relay key text new before now c told steady is = record {
     calls = call text (Resealed new) ∷ [];
     comes = by_relay is;
     quiet = called_once says node before now (call text (Resealed new)) told (λ e. cc) steady;
   }
 
-  pub stops_uncalled : (key text : List ℕ) (n index : ℕ) (f : Refusal) → IsOneRefused key index text f → OneStops key says node n n index text f
+  pub stops_uncalled : (key text : List ℕ) (n index : ℕ) (f : Refusal) → IsOneRefused key index text f → OneStops key (link_use says node n n) index text f
   stops_uncalled key text n index f why = record { calls = []; stops = alone f why; linked = quiet_linked says node n n [] (none_called says node n) }
     where
       alone : (f : Refusal) → IsOneRefused key index text f → IsOneStopped key index text [] f
@@ -171,7 +171,7 @@ module _ (says : Option (ℕ → List ℕ → Said)) (node : ℕ) where
 
   -- after a call that did not fail
   pub stops_called : (key text : List ℕ) (before now index : ℕ) (answer : LinkAnswer) (f : Refusal) → IsIssued text → IsToldAs says node (call text answer) → answer ≢ Failed → now ≡ before →
-      IsOneStopped key index text (call text answer ∷ []) f → OneStops key says node before now index text f
+      IsOneStopped key index text (call text answer ∷ []) f → OneStops key (link_use says node before now) index text f
   stops_called key text before now index answer f issued told answered steady why = record {
     calls = call text answer ∷ [];
     stops = why;
@@ -189,10 +189,10 @@ module _ (says : Option (ℕ → List ℕ → Said)) (node : ℕ) where
   no_reseal key text new index (refusals.UnknownObject n) issued h = absurd h
   no_reseal key text new index refusals.Unbuilt issued h = absurd h
 
-  pub stops_resealed : (key text new : List ℕ) (before now index : ℕ) (f : Refusal) → IsIssued text → IsToldAs says node (call text (Resealed new)) → now ≡ before → IsNoReseal key index text new f → OneStops key says node before now index text f
+  pub stops_resealed : (key text new : List ℕ) (before now index : ℕ) (f : Refusal) → IsIssued text → IsToldAs says node (call text (Resealed new)) → now ≡ before → IsNoReseal key index text new f → OneStops key (link_use says node before now) index text f
   stops_resealed key text new before now index f issued told steady why = stops_called key text before now index (Resealed new) f issued told (λ e. cc) steady (no_reseal key text new index f issued why)
 
-  pub stops_failed : (key text : List ℕ) (before now index : ℕ) → IsIssued text → before ≤ now → Rose before now → OneStops key says node before now index text (refusals.RelayFailed index)
+  pub stops_failed : (key text : List ℕ) (before now index : ℕ) → IsIssued text → before ≤ now → Rose before now → OneStops key (link_use says node before now) index text (refusals.RelayFailed index)
   stops_failed key text before now index issued grew rose = record {
     calls = call text Failed ∷ [];
     stops = (refl, issued, refl);
@@ -230,7 +230,7 @@ on_err (Err e) f h = f e h
 
 -- memory was refused for one that came
 pub interrupted : (key : List ℕ) (says : Option (ℕ → List ℕ → Said)) (node n middle now index : ℕ) (texts : List (List ℕ)) (text : List ℕ) (before more : List LinkCall) (c : Certificate) →
-    StopsAt key texts index text before → IsQuiet says node n middle before → Comes key text more c → IsQuiet says node middle now more → AllStop key says node n now texts refusals.NoMemory
+    StopsAt key texts index text before → IsQuiet says node n middle before → Comes key text more c → IsQuiet says node middle now more → AllStop key (link_use says node n now) texts refusals.NoMemory
 interrupted key says node n middle now index texts text before more c stops quiet (by_node opens) more_quiet = record {
   calls = before ++ [];
   stops = at_text text (subst (λ (l : List LinkCall). StopsAt key texts index text l) (sym (append-nil before)) stops);

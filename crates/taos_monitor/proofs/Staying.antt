@@ -6,7 +6,7 @@ use Rattle.agent_core.specs.Journals.{Entry, Begins, IsLegalJournal}
 use Rattle.agent_core.specs.Asked.{Unanswered}
 use Rattle.agent_core.proofs.Onward.{stands_on, granted_stays, denied_stays, told_stays}
 use Rattle.taos_monitor.specs.Cells.{ObjectPlan, Node}
-use Rattle.taos_monitor.specs.Course.{IsRuled, full, replayed, channel_full, denied, granted, unanswered, malformed, unknown_channel, bad_seal, unbuilt, cert_refused, relay_failed, unknown_object, ruled, unread, unopened}
+use Rattle.taos_monitor.specs.Course.{asking, IsRuled, full, replayed, channel_full, denied, granted, unanswered, malformed, unknown_channel, bad_seal, unbuilt, cert_refused, relay_failed, unknown_object, ruled, unread, unopened}
 use Rattle.taos_monitor.specs.Laws.{CourseStays}
 
 last_of : (e : Entry) (es : List Entry) → (before : List Entry) × (last : Entry) × (e ∷ es ≡ before ++ last ∷ [])
@@ -29,7 +29,7 @@ module _ (plan : Plan) (xs ys : List Entry) (shard : ℕ) (a : Ask) (object : Ob
   unanswered_stays own (inl none) = inl none
   unanswered_stays own (inr (place, before, stands, verdict, is)) = inr (place, before, stands_on stands goes, verdict, is)
 
-  ruled_stays : (own : List ℕ) (reply : Reply) → IsRuled plan xs shard a object own reply → IsRuled plan ys shard a object own reply
+  ruled_stays : (own : List ℕ) (reply : Reply) → IsRuled plan xs (asking shard a object) own reply → IsRuled plan ys (asking shard a object) own reply
   ruled_stays own reply (full at) = full (still_full plan xs ys goes legal at)
   ruled_stays own reply (replayed {place} {last} t) = replayed (told_stays plan xs ys a goes place _ t)
   ruled_stays own reply (channel_full {place} {held} t) = channel_full (told_stays plan xs ys a goes place _ t)
@@ -38,14 +38,14 @@ module _ (plan : Plan) (xs ys : List Entry) (shard : ℕ) (a : Ask) (object : Ob
   ruled_stays own reply (unanswered {own = places} u) = unanswered (unanswered_stays places u)
 
 pub course_stays : (n : Node) → CourseStays n
-course_stays n J K goes legal payload readings calls places sent (malformed none reads) = malformed none reads
-course_stays n J K goes legal payload readings calls places sent (unknown_channel r spelled none) = unknown_channel r spelled none
-course_stays n J K goes legal payload readings calls places sent (bad_seal r key spelled keyed other) = bad_seal r key spelled keyed other
-course_stays n J K goes legal payload readings calls places sent (unbuilt asked is) = unbuilt asked is
-course_stays n J K goes legal payload readings calls places sent (cert_refused built first) = cert_refused built first
-course_stays n J K goes legal payload readings calls places sent (relay_failed built first) = relay_failed built first
-course_stays n J K goes legal payload readings calls places sent (unknown_object opened none) = unknown_object opened none
-course_stays n J K goes legal payload readings calls places sent (ruled {own} {reply} t reading plan planned r) =
+course_stays n J K goes legal payload used sent (malformed none reads) = malformed none reads
+course_stays n J K goes legal payload used sent (unknown_channel r spelled none) = unknown_channel r spelled none
+course_stays n J K goes legal payload used sent (bad_seal r key spelled keyed other) = bad_seal r key spelled keyed other
+course_stays n J K goes legal payload used sent (unbuilt asked is) = unbuilt asked is
+course_stays n J K goes legal payload used sent (cert_refused built first) = cert_refused built first
+course_stays n J K goes legal payload used sent (relay_failed built first) = relay_failed built first
+course_stays n J K goes legal payload used sent (unknown_object opened none) = unknown_object opened none
+course_stays n J K goes legal payload used sent (ruled {own} {reply} t reading plan planned r) =
     ruled t reading plan planned (ruled_stays plan _ _ _ _ t.object (goes _) (legal _ plan planned) own reply r)
-course_stays n J K goes legal payload readings calls places sent unread = unread
-course_stays n J K goes legal payload readings calls places sent (unopened built interrupted) = unopened built interrupted
+course_stays n J K goes legal payload used sent unread = unread
+course_stays n J K goes legal payload used sent (unopened built interrupted) = unopened built interrupted

@@ -9,15 +9,15 @@ use Rattle.agent_core.specs.Journals.{Entry}
 use Rattle.agent_core.specs.Asked.{EndsBy}
 use Rattle.agent_core.proofs.Onward.{granted_verdict}
 use Rattle.taos_monitor.specs.Cells.{ObjectPlan}
-use Rattle.taos_monitor.specs.Course.{IsRuled, full, replayed, channel_full, denied, granted, unanswered}
+use Rattle.taos_monitor.specs.Course.{asking, IsRuled, full, replayed, channel_full, denied, granted, unanswered}
 use Rattle.taos_monitor.specs.Ruling.{IsToldBy}
 
 module _ (plan : Plan) (journal : List Entry) (shard : ℕ) (a : Ask) (object : ObjectPlan) where
-  by_own : (own wanted : List ℕ) (reply said : Reply) → own ≡ wanted → reply ≡ said → IsRuled plan journal shard a object wanted said → IsRuled plan journal shard a object own reply
+  by_own : (own wanted : List ℕ) (reply said : Reply) → own ≡ wanted → reply ≡ said → IsRuled plan journal (asking shard a object) wanted said → IsRuled plan journal (asking shard a object) own reply
   by_own own wanted reply said same alike r =
-      subst (λ (l : List ℕ). IsRuled plan journal shard a object l reply) (sym same) (subst (IsRuled plan journal shard a object wanted) (sym alike) r)
+      subst (λ (l : List ℕ). IsRuled plan journal (asking shard a object) l reply) (sym same) (subst (IsRuled plan journal (asking shard a object) wanted) (sym alike) r)
 
-  pub ruled_by : (place : ℕ) (v : Verdict) (own : List ℕ) (reply : Reply) → EndsBy plan journal a place v own → IsToldBy object shard place v reply → IsRuled plan journal shard a object own reply
+  pub ruled_by : (place : ℕ) (v : Verdict) (own : List ℕ) (reply : Reply) → EndsBy plan journal a place v own → IsToldBy object shard place v reply → IsRuled plan journal (asking shard a object) own reply
   ruled_by place (verdict.Granted e c) own reply (g, is) (inl told) = by_own own (place ∷ []) reply _ is told (granted g)
   ruled_by place (verdict.Granted e c) own reply (g, is) (inr lacked) =
       by_own own own reply replies.NoMemory refl lacked (unanswered (inr (place, g.before, g.stands, granted_verdict plan journal a place e _ g, is)))

@@ -1,9 +1,8 @@
 -- What is promised of the way to the object.
-use Rattle.std.specs.Prelude.{◌≡◌, ℕ, ◌≤◌, List, [], length, map, Option}
+use Rattle.std.specs.Prelude.{◌≡◌, ℕ, ◌≤◌, List, length, map}
 use Rattle.std.specs.Arc.{arc_value}
 use Rattle.object_core.specs.Operation.{right_of, IsAccessList, IsContent}
 use Rattle.prin_term.specs.View.{grant, principal}
-use Rattle.frame_link.specs.Relay.{Said}
 use Rattle.taos_wire.specs.Request.{Request, subject_of}
 use Rattle.taos_wire.specs.Reply.{sealed, unsealed}
 use Rattle.taos_wire.specs.View.{cited as shared}
@@ -13,8 +12,8 @@ use Rattle.taos_monitor.specs.declared.node_keys.NodeKeys.{NodeKeys}
 use Rattle.taos_monitor.specs.declared.refusal.Refusal.{Refusal}
 use Rattle.taos_monitor.specs.declared.shelf.Shown.{Shown}
 use Rattle.taos_monitor.specs.Cells.{Journals, Node, ObjectPlan}
-use Rattle.taos_monitor.specs.Credentials.{LinkCall, IsLinked}
-use Rattle.taos_monitor.specs.Course.{IsAsked, HasArrived, Course}
+use Rattle.taos_monitor.specs.Credentials.{LinkCall, LinkUse, IsLinked}
+use Rattle.taos_monitor.specs.Course.{IsAsked, brought, HasArrived, Course, nothing, only_calls}
 use Rattle.taos_monitor.specs.Refusals.{refusal}
 
 -- the node of these keys, plans and objects
@@ -29,7 +28,12 @@ node_of keys plans objects = record {
 
 -- the object of the number, as it is shown
 abbrev pub object_seen : ℕ → Shown → ObjectPlan
-object_seen number s = record { number = number; content = s.content.now; list = map grant (arc_value s.list.now).items }
+object_seen number s =
+    record {
+      number = number;
+      content = s.content.now;
+      list = map grant (arc_value s.list.now).items;
+    }
 
 -- what came stands for what is asked, and is within the limits
 pub record StandsFor (r : Request) (a : Arrived) : Type 0 where
@@ -42,26 +46,32 @@ pub record StandsFor (r : Request) (a : Arrived) : Type 0 where
 -- the payload is the request, under the seal of its channel's key, however the cells are opened
 pub record IsAskedBy (keys : NodeKeys) (payload : List ℕ) (r : Request) : Type 0 where
   pub key : List ℕ
-  pub asked : (plans : List Plan) (objects : List ObjectPlan) → IsAsked (node_of keys plans objects) payload r key
+  pub asked : (plans : List Plan) (objects : List ObjectPlan) →
+      IsAsked (node_of keys plans objects) payload r key
 
 -- a course ends at the payload, without a seal, as the refusal says
 abbrev pub IsNotAsked : NodeKeys → List ℕ → Refusal → Type 0
 IsNotAsked keys payload f =
-    (plans : List Plan) (objects : List ObjectPlan) (J : Journals) → Course (node_of keys plans objects) J payload [] [] [] (unsealed (refusal f))
+    (plans : List Plan) (objects : List ObjectPlan) (J : Journals) →
+    Course (node_of keys plans objects) J payload nothing (unsealed (refusal f))
 
-module _ (keys : NodeKeys) (objects : List ObjectPlan) (says : Option (ℕ → List ℕ → Said)) (before now : ℕ) (r : Request) where
+module _ (keys : NodeKeys) (objects : List ObjectPlan) (u : LinkUse) (r : Request) where
   -- the request came to its object, whichever payload under its channel's seal it was, and however
   -- the shards are opened
   pub record Arrives (a : Arrived) : Type 0 where
     pub calls : List LinkCall
-    pub linked : IsLinked says keys.node before now calls
-    pub arrived : (plans : List Plan) (payload key : List ℕ) → IsAsked (node_of keys plans objects) payload r key →
-        HasArrived (node_of keys plans objects) payload r key calls (map shared a.certs.items) (object_seen r.object a.shown)
+    pub linked : IsLinked u.says u.node u.before u.after calls
+    pub arrived : (plans : List Plan) (payload key : List ℕ) →
+        IsAsked (node_of keys plans objects) payload r key →
+        HasArrived (node_of keys plans objects) payload r key
+        (brought calls (map shared a.certs.items) (object_seen r.object a.shown))
     pub stands : StandsFor r a
 
   -- a course of the request ends before its object, as the refusal says
   pub record NotArrives (f : Refusal) : Type 0 where
     pub calls : List LinkCall
-    pub linked : IsLinked says keys.node before now calls
-    pub course : (plans : List Plan) (J : Journals) (payload key : List ℕ) → IsAsked (node_of keys plans objects) payload r key →
-        Course (node_of keys plans objects) J payload [] calls [] (sealed key r (refusal f))
+    pub linked : IsLinked u.says u.node u.before u.after calls
+    pub course : (plans : List Plan) (J : Journals) (payload key : List ℕ) →
+        IsAsked (node_of keys plans objects) payload r key →
+        Course (node_of keys plans objects) J payload (only_calls calls)
+        (sealed key r (refusal f))

@@ -6,7 +6,7 @@ use Rattle.prin_term.specs.Principal.{Principal, subterms}
 use Rattle.prin_term.specs.View.{Grant}
 use Rattle.proof_cache.specs.Cached.{Cached}
 use Rattle.stmt_codec.specs.Certificates.{Certificate}
-use Rattle.taos_wire.specs.declared.fault.WireFault.TheVariants as wire
+use Rattle.prin_term.specs.declared.fault.FormatFault.TheVariants as wire
 use Rattle.taos_wire.specs.Request.{Request, Spells, IsSealed, subject_of}
 use Rattle.taos_wire.specs.RequestReading.{request_of}
 use Rattle.taos_wire.specs.Reply as replies
@@ -28,7 +28,8 @@ IsUnbuilt r = r.op ≢ Read
 abbrev pub Tells : List Grant → Denial → LinkSent → Type 0
 Tells list (denials.Expired entry digest) told = told ≡ replies.Expired entry digest
 Tells list (denials.Missing entry node) told =
-    (g : Grant) × (part : Principal) × (slice_get list entry ≡ Some g) × (slice_get (subterms g.who) node ≡ Some part) × (told ≡ replies.Missing entry part)
+    (g : Grant) × (part : Principal) × (slice_get list entry ≡ Some g)
+    × (slice_get (subterms g.who) node ≡ Some part) × (told ≡ replies.Missing entry part)
 Tells list denials.NoEntry told = told ≡ replies.NoEntry
 
 -- a journal that stands at its limit, by the mark of its sort, its number and its length
@@ -47,17 +48,69 @@ ask_of r certs object reading = record {
   presented = certs;
 }
 
+-- where an ask goes, what it says, and the object that it is for
+pub record Asking : Type 0 where
+  -- the number of the shard
+  pub shard : ℕ
+  pub ask : Ask
+  pub object : ObjectPlan
+
+-- an ask with its shard and its object
+abbrev pub asking : ℕ → Ask → ObjectPlan → Asking
+asking shard ask object = record { shard = shard; ask = ask; object = object }
+
 -- What comes of an ask at the shard of its channel: the own places there, and the reply. Once the
 -- Ask stands, a node that is out of memory says so only where it is granted.
-pub data IsRuled (plan : Plan) (journal : List Entry) (shard : ℕ) (a : Ask) (object : ObjectPlan) : List ℕ → Reply → Type 0 where
-  full : length journal ≡ plan.limit → IsRuled plan journal shard a object [] (shard_full shard plan.limit)
-  replayed : {place last : ℕ} → IsTold plan journal a place (Told.Replayed last) → IsRuled plan journal shard a object (place ∷ []) (replies.Replayed last)
-  channel_full : {place held : ℕ} → IsTold plan journal a place (Told.Full held) → IsRuled plan journal shard a object (place ∷ []) (replies.ChannelFull held)
-  denied : {place : ℕ} {denial : Denial} {told : LinkSent} → IsDeniedAt plan journal a place denial → Tells object.list denial told →
-      IsRuled plan journal shard a object (place ∷ []) (replies.Denied shard place told)
-  granted : {place entry : ℕ} {c : Cached} → IsGrantedAt plan journal a place entry c →
-      IsRuled plan journal shard a object (place ∷ []) (replies.Granted false entry shard place c.proof c.cites object.content)
-  unanswered : {own : List ℕ} → Unanswered plan journal a own → IsRuled plan journal shard a object own replies.NoMemory
+pub data IsRuled (plan : Plan) (journal : List Entry) (x : Asking) : List ℕ → Reply → Type 0 where
+  full : length journal ≡ plan.limit →
+      IsRuled plan journal x [] (shard_full x.shard plan.limit)
+  replayed : {place last : ℕ} →
+      IsTold plan journal x.ask place (Told.Replayed last) →
+      IsRuled plan journal x (place ∷ []) (replies.Replayed last)
+  channel_full : {place held : ℕ} →
+      IsTold plan journal x.ask place (Told.Full held) →
+      IsRuled plan journal x (place ∷ []) (replies.ChannelFull held)
+  denied : {place : ℕ} {denial : Denial} {told : LinkSent} →
+      IsDeniedAt plan journal x.ask place denial → Tells x.object.list denial told →
+      IsRuled plan journal x (place ∷ []) (replies.Denied x.shard place told)
+  granted : {place entry : ℕ} {c : Cached} →
+      IsGrantedAt plan journal x.ask place entry c →
+      IsRuled plan journal x (place ∷ [])
+      (replies.Granted false entry x.shard place c.proof c.cites x.object.content)
+  unanswered : {own : List ℕ} →
+      Unanswered plan journal x.ask own →
+      IsRuled plan journal x own replies.NoMemory
+
+-- ---- the whole
+
+-- what a course used: readings of the clock, answers of the link, and own places
+pub record Used : Type 0 where
+  pub readings : List ℕ
+  pub calls : List LinkCall
+  pub places : List Place
+
+-- what was used, of these
+abbrev pub uses : List ℕ → List LinkCall → List Place → Used
+uses readings calls places = record { readings = readings; calls = calls; places = places }
+
+-- nothing was used
+abbrev pub nothing : Used
+nothing = uses [] [] []
+
+-- calls of the link alone
+abbrev pub only_calls : List LinkCall → Used
+only_calls calls = uses [] calls []
+
+-- what a request came to its object with
+pub record Brought : Type 0 where
+  -- what the link was asked and answered for its certificates
+  pub calls : List LinkCall
+  pub certs : List Certificate
+  pub object : ObjectPlan
+
+-- what it came with, of these
+abbrev pub brought : List LinkCall → List Certificate → ObjectPlan → Brought
+brought calls certs object = record { calls = calls; certs = certs; object = object }
 
 module _ (n : Node) where
   -- the payload is this request, under the seal of its channel's key
@@ -72,14 +125,16 @@ module _ (n : Node) where
     pub built : IsUnbuilt r → ⊥
 
   -- such a request, whose certificates open, by these calls of the link
-  pub record IsOpened (payload : List ℕ) (r : Request) (key : List ℕ) (calls : List LinkCall) (certs : List Certificate) : Type 0 where
+  pub record IsOpened (payload : List ℕ) (r : Request) (key : List ℕ) (calls : List LinkCall)
+      (certs : List Certificate) : Type 0 where
     pub taken : IsBuilt payload r key
     pub opened : AreOpened n.relay_key r.certs calls certs
 
   -- such a request, which came to its object
-  pub record HasArrived (payload : List ℕ) (r : Request) (key : List ℕ) (calls : List LinkCall) (certs : List Certificate) (object : ObjectPlan) : Type 0 where
-    pub presented : IsOpened payload r key calls certs
-    pub there : object_of n.objects r.object ≡ Some object
+  pub record HasArrived (payload : List ℕ) (r : Request) (key : List ℕ) (b : Brought) :
+      Type 0 where
+    pub presented : IsOpened payload r key b.calls b.certs
+    pub there : object_of n.objects r.object ≡ Some b.object
 
   -- a request that came to its object, whatever it is; the clock is read next
   pub record Arrival (payload : List ℕ) : Type 0 where
@@ -88,7 +143,7 @@ module _ (n : Node) where
     pub calls : List LinkCall
     pub certs : List Certificate
     pub object : ObjectPlan
-    pub arrived : HasArrived payload request key calls certs object
+    pub arrived : HasArrived payload request key (brought calls certs object)
 
   -- the reply to the request, under its channel's key
   abbrev pub answering : {payload : List ℕ} → Arrival payload → Reply → Sent
@@ -99,34 +154,43 @@ module _ (n : Node) where
   its_home t = home n t.request.channel
 
   -- the ask that the request makes there, at a reading of the clock
-  abbrev pub its_ask : {payload : List ℕ} → Arrival payload → ℕ → Ask
-  its_ask t reading = ask_of t.request t.certs t.object reading
+  abbrev pub its_asking : {payload : List ℕ} → Arrival payload → ℕ → Asking
+  its_asking t reading =
+      asking (its_home t) (ask_of t.request t.certs t.object reading) t.object
 
-  -- The whole, with the readings of the clock, the answers of the link and the own places that it
-  -- used. What is held, and where the entries stand, is read off the journals of the shards. A node
-  -- that is out of memory may say so to any request, under a seal only where the request's own was
-  -- right.
-  pub data Course (J : Journals) (payload : List ℕ) : List ℕ → List LinkCall → List Place → Sent → Type 0 where
-    malformed : {offset : ℕ} → ((r : Request) → Spells r payload → ⊥) → request_of payload ≡ Err (wire.Malformed offset) →
-        Course J payload [] [] [] (unsealed (replies.Malformed offset))
-    unknown_channel : (r : Request) → Spells r payload → key_of n.channels r.channel ≡ None →
-        Course J payload [] [] [] (unsealed (replies.UnknownChannel r.channel))
-    bad_seal : (r : Request) (key : List ℕ) → Spells r payload → key_of n.channels r.channel ≡ Some key → (IsSealed key payload → ⊥) →
-        Course J payload [] [] [] (unsealed replies.BadSeal)
-    unbuilt : {r : Request} {key : List ℕ} → IsAsked payload r key → IsUnbuilt r →
-        Course J payload [] [] [] (sealed key r replies.Unbuilt)
-    cert_refused : {r : Request} {key : List ℕ} {calls : List LinkCall} {index code : ℕ} → IsBuilt payload r key →
-        IsFirstRefused n.relay_key r.certs calls index code →
-        Course J payload [] calls [] (sealed key r (replies.CertRefused index code))
-    relay_failed : {r : Request} {key : List ℕ} {calls : List LinkCall} {index : ℕ} → IsBuilt payload r key →
-        IsFirstFailed n.relay_key r.certs calls index →
-        Course J payload [] calls [] (sealed key r (replies.RelayFailed index))
-    unknown_object : {r : Request} {key : List ℕ} {calls : List LinkCall} {certs : List Certificate} → IsOpened payload r key calls certs →
-        object_of n.objects r.object ≡ None →
-        Course J payload [] calls [] (sealed key r (replies.UnknownObject r.object))
-    ruled : {own : List ℕ} {reply : Reply} (t : Arrival payload) (reading : ℕ) (plan : Plan) → HasPlan n (its_home t) plan →
-        IsRuled plan (J.shards (its_home t)) (its_home t) (its_ask t reading) t.object own reply →
-        Course J payload (reading ∷ []) t.calls (map (in_shard (its_home t)) own) (answering t reply)
-    unread : Course J payload [] [] [] (unsealed replies.NoMemory)
-    unopened : {r : Request} {key : List ℕ} {calls : List LinkCall} → IsBuilt payload r key → IsInterrupted n.relay_key r.certs calls →
-        Course J payload [] calls [] (sealed key r replies.NoMemory)
+  -- The whole, with what it used. What is held, and where the entries stand, is read off the
+  -- journals of the shards. A node that is out of memory may say so to any request, under a seal
+  -- only where the request's own was right.
+  pub data Course (J : Journals) (payload : List ℕ) : Used → Sent → Type 0 where
+    malformed : {offset : ℕ} →
+        ((r : Request) → Spells r payload → ⊥) →
+        request_of payload ≡ Err (wire.Malformed offset) →
+        Course J payload nothing (unsealed (replies.Malformed offset))
+    unknown_channel : (r : Request) →
+        Spells r payload → key_of n.channels r.channel ≡ None →
+        Course J payload nothing (unsealed (replies.UnknownChannel r.channel))
+    bad_seal : (r : Request) (key : List ℕ) →
+        Spells r payload → key_of n.channels r.channel ≡ Some key → (IsSealed key payload → ⊥) →
+        Course J payload nothing (unsealed replies.BadSeal)
+    unbuilt : {r : Request} {key : List ℕ} →
+        IsAsked payload r key → IsUnbuilt r →
+        Course J payload nothing (sealed key r replies.Unbuilt)
+    cert_refused : {r : Request} {key : List ℕ} {calls : List LinkCall} {index code : ℕ} →
+        IsBuilt payload r key → IsFirstRefused n.relay_key r.certs calls index code →
+        Course J payload (only_calls calls) (sealed key r (replies.CertRefused index code))
+    relay_failed : {r : Request} {key : List ℕ} {calls : List LinkCall} {index : ℕ} →
+        IsBuilt payload r key → IsFirstFailed n.relay_key r.certs calls index →
+        Course J payload (only_calls calls) (sealed key r (replies.RelayFailed index))
+    unknown_object : {r : Request} {key : List ℕ} {calls : List LinkCall}
+        {certs : List Certificate} →
+        IsOpened payload r key calls certs → object_of n.objects r.object ≡ None →
+        Course J payload (only_calls calls) (sealed key r (replies.UnknownObject r.object))
+    ruled : {own : List ℕ} {reply : Reply} (t : Arrival payload) (reading : ℕ) (plan : Plan) →
+        HasPlan n (its_home t) plan →
+        IsRuled plan (J.shards (its_home t)) (its_asking t reading) own reply →
+        Course J payload (uses (reading ∷ []) t.calls (map (in_shard (its_home t)) own))
+        (answering t reply)
+    unread : Course J payload nothing (unsealed replies.NoMemory)
+    unopened : {r : Request} {key : List ℕ} {calls : List LinkCall} →
+        IsBuilt payload r key → IsInterrupted n.relay_key r.certs calls →
+        Course J payload (only_calls calls) (sealed key r replies.NoMemory)

@@ -43,26 +43,39 @@ pub record IsResealed (key text new : List ℕ) (c : Certificate) : Type 0 where
 
 -- the bytes come to this certificate: opened by the node, or resealed for it with the same body
 pub data Comes (key text : List ℕ) : List LinkCall → Certificate → Type 0 where
-  by_node : {c : Certificate} → Opens key text c → Comes key text [] c
-  by_relay : {c : Certificate} {new : List ℕ} → IsResealed key text new c → Comes key text (call text (Resealed new) ∷ []) c
+  by_node : {c : Certificate} →
+      Opens key text c →
+      Comes key text [] c
+  by_relay : {c : Certificate} {new : List ℕ} →
+      IsResealed key text new c →
+      Comes key text (call text (Resealed new) ∷ []) c
 
 -- the bytes come to no certificate, and the code says why
 pub data IsRefused (key text : List ℕ) : List LinkCall → ℕ → Type 0 where
-  malformed : (IsIssued text → ⊥) → ((c : Certificate) (tag : List ℕ) → Spells RELAYED text c tag → ⊥) → IsRefused key text [] MALFORMED
-  bad_seal : (c : Certificate) (tag : List ℕ) → Spells RELAYED text c tag → tag ≢ tag_of key (sealed_text RELAYED c) →
+  malformed :
+      (IsIssued text → ⊥) → ((c : Certificate) (tag : List ℕ) → Spells RELAYED text c tag → ⊥) →
+      IsRefused key text [] MALFORMED
+  bad_seal : (c : Certificate) (tag : List ℕ) →
+      Spells RELAYED text c tag → tag ≢ tag_of key (sealed_text RELAYED c) →
       IsRefused key text [] BAD_SEAL
-  refused : {code : ℕ} → IsIssued text → IsRelayCode code → IsRefused key text (call text (Refused code) ∷ []) code
-  bad_reseal : {new : List ℕ} → IsIssued text → ((c : Certificate) → IsResealed key text new c → ⊥) →
+  refused : {code : ℕ} →
+      IsIssued text → IsRelayCode code →
+      IsRefused key text (call text (Refused code) ∷ []) code
+  bad_reseal : {new : List ℕ} →
+      IsIssued text → ((c : Certificate) → IsResealed key text new c → ⊥) →
       IsRefused key text (call text (Resealed new) ∷ []) BAD_RESEAL
 
 -- the bytes come to these certificates, one by one, by these calls
 pub data AreOpened (key : List ℕ) : List (List ℕ) → List LinkCall → List Certificate → Type 0 where
   none_more : AreOpened key [] [] []
-  one_more : {text : List ℕ} {first calls : List LinkCall} {c : Certificate} {texts : List (List ℕ)} {certs : List Certificate} →
-      Comes key text first c → AreOpened key texts calls certs → AreOpened key (text ∷ texts) (first ++ calls) (c ∷ certs)
+  one_more : {text : List ℕ} {first calls : List LinkCall} {c : Certificate}
+      {texts : List (List ℕ)} {certs : List Certificate} →
+      Comes key text first c → AreOpened key texts calls certs →
+      AreOpened key (text ∷ texts) (first ++ calls) (c ∷ certs)
 
 -- those before the index were opened, by these calls; this one is next
-pub record StopsAt (key : List ℕ) (texts : List (List ℕ)) (index : ℕ) (text : List ℕ) (before : List LinkCall) : Type 0 where
+pub record StopsAt (key : List ℕ) (texts : List (List ℕ)) (index : ℕ) (text : List ℕ)
+    (before : List LinkCall) : Type 0 where
   -- the certificates before the index, which were opened
   pub front : List (List ℕ)
   pub rest : List (List ℕ)
@@ -72,7 +85,8 @@ pub record StopsAt (key : List ℕ) (texts : List (List ℕ)) (index : ℕ) (tex
   pub opened : AreOpened key front before certs
 
 -- the first that comes to no certificate has this index, and the code says why
-pub record IsFirstRefused (key : List ℕ) (texts : List (List ℕ)) (calls : List LinkCall) (index code : ℕ) : Type 0 where
+pub record IsFirstRefused (key : List ℕ) (texts : List (List ℕ)) (calls : List LinkCall)
+    (index code : ℕ) : Type 0 where
   pub text : List ℕ
   -- the calls for those before the index
   pub before : List LinkCall
@@ -83,7 +97,8 @@ pub record IsFirstRefused (key : List ℕ) (texts : List (List ℕ)) (calls : Li
   pub calls_are : calls ≡ before ++ last
 
 -- the first that comes to no certificate has this index: for it the link failed
-pub record IsFirstFailed (key : List ℕ) (texts : List (List ℕ)) (calls : List LinkCall) (index : ℕ) : Type 0 where
+pub record IsFirstFailed (key : List ℕ) (texts : List (List ℕ)) (calls : List LinkCall)
+    (index : ℕ) : Type 0 where
   pub text : List ℕ
   -- the calls for those before the index
   pub before : List LinkCall
@@ -93,11 +108,18 @@ pub record IsFirstFailed (key : List ℕ) (texts : List (List ℕ)) (calls : Lis
 
 -- all were opened; or memory was refused at this one, perhaps after the link answered, which did
 -- not fail
-pub data IsInterrupted (key : List ℕ) (texts : List (List ℕ)) (calls : List LinkCall) : Type 0 where
-  at_end : {certs : List Certificate} → AreOpened key texts calls certs → IsInterrupted key texts calls
-  at_text : {index : ℕ} (text : List ℕ) → StopsAt key texts index text calls → IsInterrupted key texts calls
-  after_call : {index : ℕ} (text : List ℕ) (before : List LinkCall) (answer : LinkAnswer) → StopsAt key texts index text before →
-      IsIssued text → answer ≢ Failed → calls ≡ before ++ call text answer ∷ [] → IsInterrupted key texts calls
+pub data IsInterrupted (key : List ℕ) (texts : List (List ℕ)) (calls : List LinkCall) :
+    Type 0 where
+  at_end : {certs : List Certificate} →
+      AreOpened key texts calls certs →
+      IsInterrupted key texts calls
+  at_text : {index : ℕ} (text : List ℕ) →
+      StopsAt key texts index text calls →
+      IsInterrupted key texts calls
+  after_call : {index : ℕ} (text : List ℕ) (before : List LinkCall) (answer : LinkAnswer) →
+      StopsAt key texts index text before → IsIssued text → answer ≢ Failed →
+      calls ≡ before ++ call text answer ∷ [] →
+      IsInterrupted key texts calls
 
 -- ---- what a link tells
 
@@ -123,15 +145,31 @@ CountsAs before now Failed = (before ≤ now) × Rose before now
 -- the same of calls, one after the other
 abbrev pub FailedAs : ℕ → ℕ → List LinkCall → Type 0
 FailedAs before now [] = now ≡ before
-FailedAs before now (c ∷ calls) = (middle : ℕ) × CountsAs before middle c.answer × FailedAs middle now calls
+FailedAs before now (c ∷ calls) =
+    (middle : ℕ) × CountsAs before middle c.answer × FailedAs middle now calls
+
+-- what a link was asked in: what it tells of its answers, the node that asks, and how often the
+-- link had failed before and after
+pub record LinkUse : Type 0 where
+  pub says : Option (ℕ → List ℕ → Said)
+  pub node : ℕ
+  pub before : ℕ
+  pub after : ℕ
+
+-- what it was asked in, of these
+abbrev pub link_use : Option (ℕ → List ℕ → Said) → ℕ → ℕ → ℕ → LinkUse
+link_use says node before after =
+    record { says = says; node = node; before = before; after = after }
 
 -- the calls answer as the link tells, and its count of failures went with them
-pub record IsLinked (says : Option (ℕ → List ℕ → Said)) (node before now : ℕ) (calls : List LinkCall) : Type 0 where
+pub record IsLinked (says : Option (ℕ → List ℕ → Said)) (node before now : ℕ)
+    (calls : List LinkCall) : Type 0 where
   pub told : All (IsToldAs says node) calls
   pub failed : FailedAs before now calls
 
 -- the calls answer as the link tells, and none failed
-pub record IsQuiet (says : Option (ℕ → List ℕ → Said)) (node before now : ℕ) (calls : List LinkCall) : Type 0 where
+pub record IsQuiet (says : Option (ℕ → List ℕ → Said)) (node before now : ℕ)
+    (calls : List LinkCall) : Type 0 where
   pub told : All (IsToldAs says node) calls
   pub steady : now ≡ before
   pub none : All (λ (c : LinkCall). c.answer ≢ Failed) calls

@@ -1,5 +1,6 @@
 pub mod Planned
 pub mod Cells
+pub mod World
 pub mod Credentials
 pub mod Refusals
 pub mod Presenting

@@ -6,8 +6,12 @@ use Rattle.agent_core.specs.Plans.{home}
 
 -- the channel is in the plan of its shard
 abbrev pub IsPlanned : List Plan → ℕ → Type 0
-IsPlanned plans channel = (plan : Plan) → slice_get plans (home plans channel) ≡ Some plan → Contains plan.channels channel
+IsPlanned plans channel =
+    (plan : Plan) → slice_get plans (home plans channel) ≡ Some plan →
+    Contains plan.channels channel
 
 -- each channel that has a key is in the plan of its shard
 abbrev pub ArePlanned : Entries → List Plan → Type 0
-ArePlanned entries plans = (channel : ℕ) (plan : Plan) → IsSome (key_of entries channel) → slice_get plans (home plans channel) ≡ Some plan → Contains plan.channels channel
+ArePlanned entries plans =
+    (channel : ℕ) (plan : Plan) → IsSome (key_of entries channel) →
+    slice_get plans (home plans channel) ≡ Some plan → Contains plan.channels channel

@@ -7,14 +7,12 @@ use Rattle.frame_link.specs.declared.outcome.Outcome.TheVariants.{ClockFault}
 use Rattle.taos_wire.specs.Reply.{Sent, spelling}
 use Rattle.taos_monitor.specs.Cells.{Node, Journals, Cell, OfShard, Place, IsAfter}
 use Rattle.taos_monitor.specs.Credentials.{LinkCall}
-use Rattle.taos_monitor.specs.Course.{Arrival, Course, shard_full}
+use Rattle.taos_monitor.specs.Course.{Arrival, Used, Course, shard_full}
 
--- a frame with its reply, and what its course used
+-- a frame with what its course used, and its reply
 pub record Turn : Type 0 where
   pub frame : List ℕ
-  pub readings : List ℕ
-  pub calls : List LinkCall
-  pub places : List Place
+  pub used : Used
   pub sent : Sent
 
 -- the frames of turns
@@ -23,15 +21,15 @@ frames_of turns = map (λ (t : Turn). t.frame) turns
 
 -- the readings of the clock in turns
 abbrev pub readings_of : List Turn → List ℕ
-readings_of turns = flat_map (λ (t : Turn). t.readings) turns
+readings_of turns = flat_map (λ (t : Turn). t.used.readings) turns
 
 -- the calls of the link in turns
 abbrev pub calls_of : List Turn → List LinkCall
-calls_of turns = flat_map (λ (t : Turn). t.calls) turns
+calls_of turns = flat_map (λ (t : Turn). t.used.calls) turns
 
 -- the own places of turns
 abbrev pub places_of : List Turn → List Place
-places_of turns = flat_map (λ (t : Turn). t.places) turns
+places_of turns = flat_map (λ (t : Turn). t.used.places) turns
 
 -- the replies of turns, as bytes
 abbrev pub replies_of : List Turn → List (List ℕ)
@@ -39,12 +37,13 @@ replies_of turns = map (λ (t : Turn). spelling t.sent) turns
 
 -- the course of a turn stands in the journals
 abbrev pub IsCourse : Node → Journals → Turn → Type 0
-IsCourse n J t = Course n J t.frame t.readings t.calls t.places t.sent
+IsCourse n J t = Course n J t.frame t.used t.sent
 
 -- each frame has its turn; but where the clock failed, one frame more came to it
 abbrev pub AreTurns : Node → Outcome → List Turn → List (List ℕ) → List LinkCall → Type 0
 AreTurns n ClockFault turns frames calls =
-    (last : List ℕ) × (t : Arrival n last) × (frames ≡ frames_of turns ++ last ∷ []) × (calls ≡ calls_of turns ++ t.calls)
+    (last : List ℕ) × (t : Arrival n last) × (frames ≡ frames_of turns ++ last ∷ [])
+    × (calls ≡ calls_of turns ++ t.calls)
 AreTurns n _ turns frames calls = (frames ≡ frames_of turns) × (calls ≡ calls_of turns)
 
 -- the turn's reply says that the journal of the cell is full
@@ -53,16 +52,18 @@ FoundFull (OfShard s) t = (limit : ℕ) × (t.sent.reply ≡ shard_full s limit)
 
 -- a journal that the earlier turn found full has no place of the later one
 abbrev pub IsFilledBefore : Turn → Turn → Type 0
-IsFilledBefore earlier later = (cell : Cell) → FoundFull cell earlier → All (λ (p : Place). p.cell ≢ cell) later.places
+IsFilledBefore earlier later =
+    (cell : Cell) → FoundFull cell earlier → All (λ (p : Place). p.cell ≢ cell) later.used.places
 
--- The frames have one course each, in order, with these readings and answers of the link in theirs;
--- these places are own, and no others.
-pub record Answered (n : Node) (J : Journals) (own : List Place) (frames replies : List (List ℕ)) (outcome : Outcome) (readings : List ℕ) (calls : List LinkCall) : Type 0 where
+-- The frames have one course each, in order. Together these used the readings, the answers of the
+-- link and the own places that are given, and no others.
+pub record Answered (n : Node) (J : Journals) (used : Used) (frames replies : List (List ℕ))
+    (outcome : Outcome) : Type 0 where
   pub turns : List Turn
   pub courses : All (IsCourse n J) turns
-  pub in_order : AreTurns n outcome turns frames calls
-  pub read : readings ≡ readings_of turns
-  pub owned : own ≡ places_of turns
-  pub ascending : AllPairs IsAfter own
+  pub in_order : AreTurns n outcome turns frames used.calls
+  pub read : used.readings ≡ readings_of turns
+  pub owned : used.places ≡ places_of turns
+  pub ascending : AllPairs IsAfter used.places
   pub filled : AllPairs IsFilledBefore turns
   pub replies_are : replies ≡ replies_of turns

@@ -1,14 +1,13 @@
 //! The course of one payload.
 
-ghost use Rattle.std.specs.Prelude.{◌≡◌, ◌≤◌, ℕ, Contains, IfErr, IfOk, IsSome, Some, length, slice_get};
-ghost use Rattle.keyed_seal.specs.Keys.{key_of};
-ghost use Rattle.agent_core.specs.Plans.{home};
-ghost use Rattle.agent_core.specs.State.{Plan};
+ghost use Rattle.std.specs.Prelude.{◌≡◌, ◌≤◌, IfErr, IfOk, length};
 ghost use Rattle.taos_wire.specs.View.{request as request_of};
 ghost use Rattle.taos_monitor.specs.Arriving.{IsAskedBy, IsNotAsked, node_of};
-ghost use Rattle.taos_monitor.specs.Cells.{seen_of};
 ghost use Rattle.taos_monitor.specs.Handling.{Answers, HandlesCause, LeavesReply};
+ghost use Rattle.taos_monitor.specs.Planned.{ArePlanned};
+ghost use Rattle.taos_monitor.specs.World.{setting_of, world_of};
 
+use crate::connection::MAX_REQUEST;
 use crate::handling::{Handled, request};
 use crate::node_keys::NodeKeys;
 use crate::refusal::Refusal;
@@ -21,9 +20,10 @@ use std::sync::Wait;
 use taos_calculus::Decide;
 use taos_wire::{Request, WireFault, read_request, sealed_with};
 
-// The request that a payload is, under the seal of its channel's key; or what is answered without a seal.
+// The request that a payload is, under the seal of its channel's key; or what is answered without a
+// seal.
 fn asked_of(alloc: Global, keys: &NodeKeys, payload: &[u8]) -> Result<Request, Refusal>
-    requires { length payload.now ≤ 65536 }
+    requires { length payload.now ≤ MAX_REQUEST }
     ensures asked { IfOk result (λ r. IsAskedBy keys.now payload.now (request_of r)) }
     ensures refused { IfErr result (IsNotAsked keys.now payload.now) }
 {
@@ -47,8 +47,8 @@ fn asked_of(alloc: Global, keys: &NodeKeys, payload: &[u8]) -> Result<Request, R
     Ok(asked)
 }
 
-/// Answers one request from its payload to its reply, which is left in the buffer: under the channel's
-/// seal, but where the payload is no request, or not under that seal.
+/// Answers one request from its payload to its reply, which is left in the buffer: under the
+/// channel's seal, but where the payload is no request, or not under that seal.
 pub fn answer<W: Wait + Sync, H: Shelf, S: Shards, R: RelayLink, C: Clock, D: Decide, G: Gate>(
     rt: &W,
     alloc: Global,
@@ -62,15 +62,15 @@ pub fn answer<W: Wait + Sync, H: Shelf, S: Shards, R: RelayLink, C: Clock, D: De
     payload: &[u8],
     out: &mut ReplyBuf,
 ) -> Handled
-    requires short { length payload.now ≤ 65536 }
-    requires planned { (channel : ℕ) (plan : Plan) → IsSome (key_of keys.now.channels.entries channel)
-        → slice_get (S.plans shards.old) (home (S.plans shards.old) channel) ≡ Some plan
-        → Contains plan.channels channel }
-    ensures answered { Answers (node_of keys.now (S.plans shards.old) (H.objects shelf.now))
-        (S.alone shards.old) (seen_of (S.seen shards.old) (S.own shards.old))
-        (seen_of (S.seen shards.new) (S.own shards.new))
-        (R.says relay.old) (R.faults relay.old) (R.faults relay.new)
-        (C.readings clock.old) (C.readings clock.new) payload.now out.new result }
+    requires short { length payload.now ≤ MAX_REQUEST }
+    requires planned { ArePlanned keys.now.channels.entries (S.plans shards.old) }
+    ensures answered { Answers
+        (setting_of (node_of keys.now (S.plans shards.old) (H.objects shelf.now))
+        (S.alone shards.old) (R.says relay.old))
+        (world_of (C.readings clock.old) (R.faults relay.old) (S.seen shards.old)
+        (S.own shards.old))
+        (world_of (C.readings clock.new) (R.faults relay.new) (S.seen shards.new)
+        (S.own shards.new)) payload.now out.new result }
     ensures cause { HandlesCause (C.faults clock.old) (C.faults clock.new) result }
     ensures left { LeavesReply out.old out.new result }
 

@@ -10,6 +10,7 @@ ghost use Rattle.taos_wire.specs.Request.{FitsRequest};
 ghost use Rattle.taos_wire.specs.View.{request};
 ghost use Rattle.taos_monitor.specs.Course.{IsUnbuilt};
 ghost use Rattle.taos_monitor.specs.Arriving.{Arrives, NotArrives};
+ghost use Rattle.taos_monitor.specs.Credentials.{link_use};
 
 use crate::node_keys::NodeKeys;
 use crate::presented::open_all;
@@ -69,10 +70,12 @@ pub(crate) fn arrive<'a, H: Shelf, R: RelayLink>(
 ) -> Result<Arrived<'a>, Refusal>
     requires limits { FitsRequest (request asked.now) }
     requires short { All (λ t. length t ≤ 65531) (request asked.now).certs }
-    ensures arrived { IfOk result (Arrives keys.now (H.objects shelf.now) (R.says relay.old)
-        (R.faults relay.old) (R.faults relay.new) (request asked.now)) }
-    ensures refused { IfErr result (NotArrives keys.now (H.objects shelf.now) (R.says relay.old)
-        (R.faults relay.old) (R.faults relay.new) (request asked.now)) }
+    ensures arrived { IfOk result (Arrives keys.now (H.objects shelf.now)
+        (link_use (R.says relay.old) keys.now.node (R.faults relay.old) (R.faults relay.new))
+        (request asked.now)) }
+    ensures refused { IfErr result (NotArrives keys.now (H.objects shelf.now)
+        (link_use (R.says relay.old) keys.now.node (R.faults relay.old) (R.faults relay.new))
+        (request asked.now)) }
     ensures same { R.says relay.new ≡ R.says relay.old }
 {
     if is_unbuilt(asked) {

@@ -1,12 +1,15 @@
 //! A connection: one reply frame for each request frame, in order.
 
-ghost use Rattle.std.specs.Prelude.{◌≡◌, ◌≤◌, ℕ, List, Contains, IfOk, IsSome, Option, Some, length, slice_get};
-ghost use Rattle.keyed_seal.specs.Keys.{key_of};
-ghost use Rattle.agent_core.specs.Plans.{home};
+ghost use Rattle.std.specs.Prelude.{◌≡◌, ℕ, [], ◌∷◌, IfOk, Some, slice_get};
+ghost use Rattle.std.specs.Thread.{IsSync};
+ghost use Rattle.frame_link.specs.Served.{line, counts, HasCauses, IsComplete};
+ghost use Rattle.agent_core.specs.Journals.{IsLegalJournal};
 ghost use Rattle.agent_core.specs.State.{Plan};
 ghost use Rattle.taos_monitor.specs.Arriving.{node_of};
-ghost use Rattle.taos_monitor.specs.Connection.{HasCauses, IsComplete, IsConnection, world_of};
-ghost use Rattle.taos_monitor.specs.Serving.{Serves, Turns, TurnsCause};
+ghost use Rattle.taos_monitor.specs.Connection.{IsConnection};
+ghost use Rattle.taos_monitor.specs.Planned.{ArePlanned};
+ghost use Rattle.taos_monitor.specs.Serving.{StepsTo, StopsIn, state_of};
+ghost use Rattle.taos_monitor.specs.World.{setting_of, world_of};
 
 use crate::answering::answer;
 use crate::handling::Handled;
@@ -15,75 +18,87 @@ use crate::reply::ReplyBuf;
 use crate::shelf::Shelf;
 use agent_core::{FreeGate, Shards};
 use frame_link::{
-    Clock, Failed, FrameBuf, Next, Outcome, Put, RelayLink, Sink, Source, next_frame, put_frame,
+    Clock, Failed, FrameBuf, MAX_PAYLOAD, Outcome, RelayLink, Service, Sink, Source, serve_frames,
 };
 use std::alloc::{AllocError, Global};
 use std::sync::Wait;
 use taos_calculus::Decide;
 
 /// The most bytes of a request.
-pub const MAX_REQUEST: u32 = 65_536;
+pub const MAX_REQUEST: u32 = MAX_PAYLOAD;
 
-/// How a frame's turn ended.
-#[derive(Clone, Copy, Debug, PartialEq, Eq)]
-pub(crate) enum Turned {
-    Replied,
-    WriteFault,
-    ClockFault,
+// What a node answers by, and the reply that stands ready.
+#[derive(Drop)]
+struct Answering<'w, 'k, 'h, 's, 'r, 'c, 'd, 'b, W, H, S, R, C, D> {
+    rt: &'w W,
+    alloc: Global,
+    keys: &'k NodeKeys,
+    shelf: &'h H,
+    shards: &'s mut S,
+    relay: &'r mut R,
+    clock: &'c mut C,
+    bench: &'d mut D,
+    reply: &'b mut ReplyBuf,
 }
 
-// Answers one request by one frame.
-fn turn<W: Wait + Sync, H: Shelf, S: Shards, R: RelayLink, C: Clock, D: Decide, O: Sink>(
-    rt: &W,
-    alloc: Global,
-    keys: &NodeKeys,
-    shelf: &H,
-    shards: &mut S,
-    relay: &mut R,
-    clock: &mut C,
-    bench: &mut D,
-    payload: &[u8],
-    reply: &mut ReplyBuf,
-    output: &mut O,
-) -> Turned
-    requires short { length payload.now ≤ MAX_REQUEST }
-    requires planned { (channel : ℕ) (plan : Plan) → IsSome (key_of keys.now.channels.entries channel)
-        → slice_get (S.plans shards.old) (home (S.plans shards.old) channel) ≡ Some plan
-        → Contains plan.channels channel }
-    ensures steps { (input0 input1 : Option (List ℕ)) →
-        Turns (node_of keys.now (S.plans shards.old) (H.objects shelf.now)) (S.alone shards.old)
-        (R.says relay.old) payload.now
-        (world_of input0 (O.written output.old) (C.readings clock.old) (R.faults relay.old)
-        (S.seen shards.old) (S.own shards.old))
-        (world_of input1 (O.written output.new) (C.readings clock.new) (R.faults relay.new)
-        (S.seen shards.new) (S.own shards.new)) result }
-    ensures cause { TurnsCause (O.faults output.old) (O.faults output.new)
-        (C.faults clock.old) (C.faults clock.new) result }
-    ensures plans { S.plans shards.new ≡ S.plans shards.old }
-    ensures alone { S.alone shards.new ≡ S.alone shards.old }
-    ensures says { R.says relay.new ≡ R.says relay.old }
-{
-    let mut gate = FreeGate;
-    match answer(
-        rt, alloc, keys, shelf, shards, relay, clock, bench, &mut gate, payload, reply,
-    ) {
-        Handled::ClockFault => Turned::ClockFault,
-        Handled::Replied => match put_frame(output, reply.bytes()) {
-            Put::Done => Turned::Replied,
-            Put::WriteFault => Turned::WriteFault,
-        },
+impl<W: Wait + Sync, H: Shelf, S: Shards, R: RelayLink, C: Clock, D: Decide> Service
+    for Answering<'_, '_, '_, '_, '_, '_, '_, '_, W, H, S, R, C, D> {
+    ghost answers = { λ s payload reply t. StepsTo
+        (state_of (setting_of (node_of s.keys.now (S.plans s.shards.now) (H.objects s.shelf.now))
+        (S.alone s.shards.now) (R.says s.relay.now))
+        (world_of (C.readings s.clock.now) (R.faults s.relay.now) (S.seen s.shards.now)
+        (S.own s.shards.now))) payload reply
+        (state_of (setting_of (node_of t.keys.now (S.plans t.shards.now) (H.objects t.shelf.now))
+        (S.alone t.shards.now) (R.says t.relay.now))
+        (world_of (C.readings t.clock.now) (R.faults t.relay.now) (S.seen t.shards.now)
+        (S.own t.shards.now))) };
+
+    ghost gives_up = { λ s payload t. StopsIn
+        (state_of (setting_of (node_of s.keys.now (S.plans s.shards.now) (H.objects s.shelf.now))
+        (S.alone s.shards.now) (R.says s.relay.now))
+        (world_of (C.readings s.clock.now) (R.faults s.relay.now) (S.seen s.shards.now)
+        (S.own s.shards.now))) payload
+        (state_of (setting_of (node_of t.keys.now (S.plans t.shards.now) (H.objects t.shelf.now))
+        (S.alone t.shards.now) (R.says t.relay.now))
+        (world_of (C.readings t.clock.now) (R.faults t.relay.now) (S.seen t.shards.now)
+        (S.own t.shards.now))) };
+
+    ghost ready = { λ s. s.reply.now };
+
+    ghost faults = { λ s. C.faults s.clock.now };
+
+    ghost stands = { λ s. IsSync W.row
+        × ArePlanned s.keys.now.channels.entries (S.plans s.shards.now) };
+
+    ghost borrows = { λ s. s.shards.ghost_name ∷ s.relay.ghost_name ∷ s.clock.ghost_name ∷ [] };
+
+    fn answer(&mut self, payload: &[u8]) -> Result<(), Failed> {
+        let mut gate = FreeGate;
+        match answer(
+            self.rt,
+            self.alloc,
+            self.keys,
+            self.shelf,
+            self.shards,
+            self.relay,
+            self.clock,
+            self.bench,
+            &mut gate,
+            payload,
+            self.reply,
+        ) {
+            Handled::Replied => Ok(()),
+            Handled::ClockFault => Err(Failed),
+        }
+    }
+
+    fn reply(&self) -> &[u8] {
+        self.reply.bytes()
     }
 }
 
-// The room that a connection takes, before its first frame.
-fn room_of(alloc: Global) -> Result<(FrameBuf, ReplyBuf), AllocError>
-    ensures { IfOk result (λ r. r.0.limit ≡ MAX_REQUEST) }
-{
-    Ok((FrameBuf::new(alloc, MAX_REQUEST)?, ReplyBuf::new(alloc)?))
-}
-
-// The loop, with what stands between two frames.
-fn serve_frames<
+// Serves a connection by a service, which keeps what it borrows. What was seen is legal.
+fn serve_by<
     W: Wait + Sync,
     H: Shelf,
     S: Shards,
@@ -93,71 +108,50 @@ fn serve_frames<
     I: Source,
     O: Sink,
 >(
-    rt: &W,
-    alloc: Global,
-    keys: &NodeKeys,
-    shelf: &H,
-    shards: &mut S,
-    relay: &mut R,
-    clock: &mut C,
-    bench: &mut D,
+    service: &mut Answering<'_, '_, '_, '_, '_, '_, '_, '_, W, H, S, R, C, D>,
+    buf: &mut FrameBuf,
     input: &mut I,
     output: &mut O,
     frames: u64,
 ) -> Outcome
-    requires planned { (channel : ℕ) (plan : Plan) → IsSome (key_of keys.now.channels.entries channel)
-        → slice_get (S.plans shards.old) (home (S.plans shards.old) channel) ≡ Some plan
-        → Contains plan.channels channel }
-    ensures served { Serves (node_of keys.now (S.plans shards.old) (H.objects shelf.now))
-        (S.alone shards.old) (R.says relay.old) frames
-        (world_of (I.left input.old) (O.written output.old) (C.readings clock.old)
-        (R.faults relay.old) (S.seen shards.old) (S.own shards.old))
-        (world_of (I.left input.new) (O.written output.new) (C.readings clock.new)
-        (R.faults relay.new) (S.seen shards.new) (S.own shards.new)) result }
-    ensures causes { HasCauses (I.faults input.old) (I.faults input.new)
-        (O.faults output.old) (O.faults output.new) (C.faults clock.old) (C.faults clock.new)
+    requires planned { ArePlanned service.old.keys.now.channels.entries
+        (S.plans service.old.shards.now) }
+    requires legal { (s : ℕ) (p : Plan) → slice_get (S.plans service.old.shards.now) s ≡ Some p
+        → IsLegalJournal p (S.seen service.old.shards.now s) }
+    requires limit { buf.old.limit ≡ MAX_REQUEST }
+    ensures connection { IsConnection
+        (setting_of (node_of service.old.keys.now (S.plans service.old.shards.now)
+        (H.objects service.old.shelf.now)) (S.alone service.old.shards.now)
+        (R.says service.old.relay.now)) frames
+        (line (I.left input.old) (O.written output.old)
+        (world_of (C.readings service.old.clock.now) (R.faults service.old.relay.now)
+        (S.seen service.old.shards.now) (S.own service.old.shards.now)))
+        (line (I.left input.new) (O.written output.new)
+        (world_of (C.readings service.new.clock.now) (R.faults service.new.relay.now)
+        (S.seen service.new.shards.now) (S.own service.new.shards.now))) result }
+    ensures causes { HasCauses
+        (counts (I.faults input.old) (O.faults output.old) (C.faults service.old.clock.now))
+        (counts (I.faults input.new) (O.faults output.new) (C.faults service.new.clock.now))
         result }
-    ensures plans { S.plans shards.new ≡ S.plans shards.old }
-    ensures alone { S.alone shards.new ≡ S.alone shards.old }
-    ensures says { R.says relay.new ≡ R.says relay.old }
+    ensures complete { IsComplete frames (I.left input.old)
+        (counts (I.faults input.old) (O.faults output.old) (C.faults service.old.clock.now))
+        (counts (I.faults input.new) (O.faults output.new) (C.faults service.new.clock.now))
+        result }
+    ensures plans { S.plans service.new.shards.now ≡ S.plans service.old.shards.now }
+    ensures alone { S.alone service.new.shards.now ≡ S.alone service.old.shards.now }
+    ensures says { R.says service.new.relay.now ≡ R.says service.old.relay.now }
+    ensures same_shards { service.new.shards.ghost_name ≡ service.old.shards.ghost_name }
+    ensures same_relay { service.new.relay.ghost_name ≡ service.old.relay.ghost_name }
+    ensures same_clock { service.new.clock.ghost_name ≡ service.old.clock.ghost_name }
 {
-    // It says that what was seen is legal.
-    let _count = shards.count();
-    let Ok((mut buf, mut reply)) = room_of(alloc) else {
-        return Outcome::NoMemory;
-    };
-    for answered in 0..frames {
-        match next_frame(input, &mut buf) {
-            Next::Frame => {}
-            Next::End => return Outcome::End { frames: answered },
-            Next::Truncated { have } => return Outcome::Truncated { have },
-            Next::TooLong { length } => return Outcome::TooLong { length },
-            Next::ReadFault => return Outcome::ReadFault,
-        }
-        match turn(
-            rt,
-            alloc,
-            keys,
-            shelf,
-            shards,
-            relay,
-            clock,
-            bench,
-            buf.payload(),
-            &mut reply,
-            output,
-        ) {
-            Turned::Replied => {}
-            Turned::WriteFault => return Outcome::WriteFault,
-            Turned::ClockFault => return Outcome::ClockFault,
-        }
-    }
-    let mut byte = [0u8; 1];
-    match input.read(&mut byte) {
-        Err(Failed) => Outcome::ReadFault,
-        Ok(0) => Outcome::End { frames },
-        Ok(_) => Outcome::Spent { frames },
-    }
+    serve_frames(service, buf, input, output, frames)
+}
+
+// The room that a connection takes, before its first frame.
+fn room_of(alloc: Global) -> Result<(FrameBuf, ReplyBuf), AllocError>
+    ensures { IfOk result (λ r. r.0.limit ≡ MAX_REQUEST) }
+{
+    Ok((FrameBuf::new(alloc, MAX_REQUEST)?, ReplyBuf::new(alloc)?))
 }
 
 /// Serves a connection: each request frame of the input, at most so many, is answered by one reply
@@ -184,28 +178,43 @@ pub fn serve_connection<
     output: &mut O,
     frames: u64,
 ) -> Outcome
-    requires planned { (channel : ℕ) (plan : Plan) → IsSome (key_of keys.now.channels.entries channel)
-        → slice_get (S.plans shards.old) (home (S.plans shards.old) channel) ≡ Some plan
-        → Contains plan.channels channel }
-    ensures connection { IsConnection (node_of keys.now (S.plans shards.old) (H.objects shelf.now))
-        (S.alone shards.old) (R.says relay.old) frames
-        (world_of (I.left input.old) (O.written output.old) (C.readings clock.old)
-        (R.faults relay.old) (S.seen shards.old) (S.own shards.old))
-        (world_of (I.left input.new) (O.written output.new) (C.readings clock.new)
-        (R.faults relay.new) (S.seen shards.new) (S.own shards.new)) result }
-    ensures causes { HasCauses (I.faults input.old) (I.faults input.new)
-        (O.faults output.old) (O.faults output.new) (C.faults clock.old) (C.faults clock.new)
-        result }
+    requires planned { ArePlanned keys.now.channels.entries (S.plans shards.old) }
+    ensures connection { IsConnection
+        (setting_of (node_of keys.now (S.plans shards.old) (H.objects shelf.now))
+        (S.alone shards.old) (R.says relay.old)) frames
+        (line (I.left input.old) (O.written output.old)
+        (world_of (C.readings clock.old) (R.faults relay.old) (S.seen shards.old)
+        (S.own shards.old)))
+        (line (I.left input.new) (O.written output.new)
+        (world_of (C.readings clock.new) (R.faults relay.new) (S.seen shards.new)
+        (S.own shards.new))) result }
+    ensures causes { HasCauses
+        (counts (I.faults input.old) (O.faults output.old) (C.faults clock.old))
+        (counts (I.faults input.new) (O.faults output.new) (C.faults clock.new)) result }
     ensures complete { IsComplete frames (I.left input.old)
-        (I.faults input.old) (I.faults input.new) (O.faults output.old) (O.faults output.new)
-        (C.faults clock.old) (C.faults clock.new) result }
+        (counts (I.faults input.old) (O.faults output.old) (C.faults clock.old))
+        (counts (I.faults input.new) (O.faults output.new) (C.faults clock.new)) result }
 
     // What nobody changes.
     ensures plans { S.plans shards.new ≡ S.plans shards.old }
     ensures alone { S.alone shards.new ≡ S.alone shards.old }
     ensures says { R.says relay.new ≡ R.says relay.old }
 {
-    serve_frames(
-        rt, alloc, keys, shelf, shards, relay, clock, bench, input, output, frames,
-    )
+    // It says that what was seen is legal.
+    let _count = shards.count();
+    let Ok((mut buf, mut reply)) = room_of(alloc) else {
+        return Outcome::NoMemory;
+    };
+    let mut service = Answering {
+        rt,
+        alloc,
+        keys,
+        shelf,
+        shards,
+        relay,
+        clock,
+        bench,
+        reply: &mut reply,
+    };
+    serve_by(&mut service, &mut buf, input, output, frames)
 }

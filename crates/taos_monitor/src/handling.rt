@@ -1,19 +1,18 @@
 //! The course of one request, from where it was read on.
 
-ghost use Rattle.std.specs.Prelude.{◌≡◌, ◌≤◌, Contains, IsSome, Some, length, slice_get, All};
+ghost use Rattle.std.specs.Prelude.{◌≡◌, ◌≤◌, IsSome, length, All};
 ghost use Rattle.keyed_seal.specs.Keys.{key_of};
-ghost use Rattle.agent_core.specs.Plans.{home};
-ghost use Rattle.agent_core.specs.State.{Plan};
 ghost use Rattle.taos_wire.specs.Request.{FitsRequest};
 ghost use Rattle.taos_wire.specs.View.{request as request_of};
 ghost use Rattle.taos_monitor.specs.Arriving.{node_of};
-ghost use Rattle.taos_monitor.specs.Cells.{seen_of};
 ghost use Rattle.taos_monitor.specs.Handling.{Handles, HandlesCause, LeavesReply};
+ghost use Rattle.taos_monitor.specs.Planned.{IsPlanned};
+ghost use Rattle.taos_monitor.specs.World.{setting_of, world_of};
 
 use crate::arrival::arrive;
 use crate::node_keys::NodeKeys;
 use crate::reply::ReplyBuf;
-use crate::ruling::rule;
+use crate::ruling::{Came, rule};
 use crate::shelf::Shelf;
 use agent_core::{Gate, Shards};
 use frame_link::{Clock, RelayLink};
@@ -31,8 +30,9 @@ pub enum Handled {
     ClockFault,
 }
 
-/// Handles one request, which was found to be under the seal of its channel's key, and leaves the sealed
-/// reply in the buffer. The moment is the clock's reading, or what the shard's clock had come to.
+/// Handles one request, which was found to be under the seal of its channel's key, and leaves the
+/// sealed reply in the buffer. The moment is the clock's reading, or what the shard's clock had
+/// come to.
 pub fn request<W: Wait + Sync, H: Shelf, S: Shards, R: RelayLink, C: Clock, D: Decide, G: Gate>(
     rt: &W,
     alloc: Global,
@@ -49,14 +49,14 @@ pub fn request<W: Wait + Sync, H: Shelf, S: Shards, R: RelayLink, C: Clock, D: D
     requires limits { FitsRequest (request_of asked.now) }
     requires short { All (λ t. length t ≤ 65531) (request_of asked.now).certs }
     requires keyed { IsSome (key_of keys.now.channels.entries asked.now.channel) }
-    requires planned { (plan : Plan)
-        → slice_get (S.plans shards.old) (home (S.plans shards.old) asked.now.channel) ≡ Some plan
-        → Contains plan.channels asked.now.channel }
-    ensures handled { Handles (node_of keys.now (S.plans shards.old) (H.objects shelf.now))
-        (S.alone shards.old) (seen_of (S.seen shards.old) (S.own shards.old))
-        (seen_of (S.seen shards.new) (S.own shards.new))
-        (R.says relay.old) (R.faults relay.old) (R.faults relay.new)
-        (C.readings clock.old) (C.readings clock.new) (request_of asked.now) out.new result }
+    requires planned { IsPlanned (S.plans shards.old) asked.now.channel }
+    ensures handled { Handles
+        (setting_of (node_of keys.now (S.plans shards.old) (H.objects shelf.now))
+        (S.alone shards.old) (R.says relay.old))
+        (world_of (C.readings clock.old) (R.faults relay.old) (S.seen shards.old)
+        (S.own shards.old))
+        (world_of (C.readings clock.new) (R.faults relay.new) (S.seen shards.new)
+        (S.own shards.new)) (request_of asked.now) out.new result }
     ensures cause { HandlesCause (C.faults clock.old) (C.faults clock.new) result }
     ensures left { LeavesReply out.old out.new result }
 
@@ -77,8 +77,13 @@ pub fn request<W: Wait + Sync, H: Shelf, S: Shards, R: RelayLink, C: Clock, D: D
     let Ok(reading) = clock.now() else {
         return Handled::ClockFault;
     };
-    rule(
-        rt, alloc, shards, bench, gate, shard, sealer, asked, arrived, reading, out,
-    );
+    let came = Came {
+        asked,
+        sealer,
+        shard,
+        arrived,
+        reading,
+    };
+    rule(rt, alloc, shards, bench, gate, came, out);
     Handled::Replied
 }

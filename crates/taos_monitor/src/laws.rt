@@ -13,7 +13,8 @@ pub fn going_on_goes_on()
     ensures { GoesOnTwice }
 {}
 
-/// What is answered in journals is so, with the same own places, in all legal journals that go on from these.
+/// What is answered in journals is so, with the same own places, in all legal journals that go on
+/// from these.
 pub fn what_is_answered_stays()
     ensures { (n : Node) → AnsweredStays n }
 {}
@@ -23,19 +24,22 @@ pub fn one_more_is_answered()
     ensures { (n : Node) → AnswersMore n }
 {}
 
-/// Of two frames the first is not answered that a journal is full, where the second has an entry there.
+/// Of two frames the first is not answered that a journal is full, where the second has an entry
+/// there.
 pub fn nothing_follows_a_full_journal()
     ensures { (n : Node) → NoEntryAfterFull n }
 {}
 
-/// Courses of one payload in the same journals, with the same answers of the link and the same own places,
-/// have one status, unless memory was refused; and what came to its object is refused for nothing before that.
+/// Courses of one payload in the same journals, with the same answers of the link and the same own
+/// places, have one status, unless memory was refused; and what came to its object is refused for
+/// nothing before that.
 pub fn courses_exclude_each_other()
     ensures agree { (n : Node) → CoursesAgree n }
     ensures arrived { (n : Node) → ArrivalExcludes n }
 {}
 
-/// A certificate is refused by a code of 1 to 6, and each call of the link that failed has a fault of its own.
+/// A certificate is refused by a code of 1 to 6, and each call of the link that failed has a fault
+/// of its own.
 pub fn refusals_have_causes()
     ensures codes { (n : Node) → CodesAreKnown n }
     ensures faults { FaultsAreCounted }

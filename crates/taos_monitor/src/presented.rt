@@ -5,7 +5,7 @@ ghost use Rattle.sealed_cert.specs.Seals.{Opens};
 ghost use Rattle.stmt_codec.specs.Certificates.{certificate};
 ghost use Rattle.taos_wire.specs.View.{text_of, cited as shared};
 ghost use Rattle.taos_monitor.specs.declared.refusal.Refusal.TheVariants as refusals;
-ghost use Rattle.taos_monitor.specs.Credentials.{IsIssued, IsResealed};
+ghost use Rattle.taos_monitor.specs.Credentials.{IsIssued, IsResealed, link_use};
 ghost use Rattle.taos_monitor.specs.Presenting.{AllCome, AllStop, CarriesSame, IsNoReseal, IsOneRefused, OneComes, OneStops, refused_as};
 
 use crate::node_keys::NodeKeys;
@@ -106,10 +106,12 @@ fn reseal_one<R: RelayLink>(
 ) -> Result<Arc<Cert>, Refusal>
     requires issued { IsIssued text.now }
     requires short { length text.now ≤ 65531 }
-    ensures came { IfOk result (λ c. OneComes keys.now.relay_key (R.says relay.old) keys.now.node
-        (R.faults relay.old) (R.faults relay.new) text.now (shared c)) }
-    ensures stopped { IfErr result (OneStops keys.now.relay_key (R.says relay.old) keys.now.node
-        (R.faults relay.old) (R.faults relay.new) index text.now) }
+    ensures came { IfOk result (λ c. OneComes keys.now.relay_key
+        (link_use (R.says relay.old) keys.now.node (R.faults relay.old) (R.faults relay.new))
+        text.now (shared c)) }
+    ensures stopped { IfErr result (OneStops keys.now.relay_key
+        (link_use (R.says relay.old) keys.now.node (R.faults relay.old) (R.faults relay.new))
+        index text.now) }
     ensures same { R.says relay.new ≡ R.says relay.old }
 {
     let mut new = ArrayVec::new();
@@ -130,10 +132,12 @@ fn come<R: RelayLink>(
     text: &[u8],
 ) -> Result<Arc<Cert>, Refusal>
     requires short { length text.now ≤ 65531 }
-    ensures came { IfOk result (λ c. OneComes keys.now.relay_key (R.says relay.old) keys.now.node
-        (R.faults relay.old) (R.faults relay.new) text.now (shared c)) }
-    ensures stopped { IfErr result (OneStops keys.now.relay_key (R.says relay.old) keys.now.node
-        (R.faults relay.old) (R.faults relay.new) index text.now) }
+    ensures came { IfOk result (λ c. OneComes keys.now.relay_key
+        (link_use (R.says relay.old) keys.now.node (R.faults relay.old) (R.faults relay.new))
+        text.now (shared c)) }
+    ensures stopped { IfErr result (OneStops keys.now.relay_key
+        (link_use (R.says relay.old) keys.now.node (R.faults relay.old) (R.faults relay.new))
+        index text.now) }
     ensures same { R.says relay.new ≡ R.says relay.old }
 {
     if is_issued(text) {
@@ -143,8 +147,8 @@ fn come<R: RelayLink>(
     }
 }
 
-/// Opens each of them, in order: those under their issuer's own seal go to the relay with the node's
-/// number. The first that comes to none is the refusal, by its place.
+/// Opens each of them, in order: those under their issuer's own seal go to the relay with the
+/// node's number. The first that comes to none is the refusal, by its place.
 pub(crate) fn open_all<R: RelayLink>(
     alloc: Global,
     keys: &NodeKeys,
@@ -153,10 +157,12 @@ pub(crate) fn open_all<R: RelayLink>(
 ) -> Result<Vec<Arc<Cert>>, Refusal>
     requires few { length texts.now ≤ 16 }
     requires short { All (λ t. length t ≤ 65531) (map text_of texts.now) }
-    ensures came { IfOk result (λ certs. AllCome keys.now.relay_key (R.says relay.old) keys.now.node
-        (R.faults relay.old) (R.faults relay.new) (map text_of texts.now) (map shared certs.items)) }
-    ensures stopped { IfErr result (AllStop keys.now.relay_key (R.says relay.old) keys.now.node
-        (R.faults relay.old) (R.faults relay.new) (map text_of texts.now)) }
+    ensures came { IfOk result (λ certs. AllCome keys.now.relay_key
+        (link_use (R.says relay.old) keys.now.node (R.faults relay.old) (R.faults relay.new))
+        (map text_of texts.now) (map shared certs.items)) }
+    ensures stopped { IfErr result (AllStop keys.now.relay_key
+        (link_use (R.says relay.old) keys.now.node (R.faults relay.old) (R.faults relay.new))
+        (map text_of texts.now)) }
     ensures same { R.says relay.new ≡ R.says relay.old }
 {
     let mut certs = Vec::new(alloc);

@@ -1,23 +1,21 @@
 //! Room for a reply.
 
-ghost use Rattle.std.specs.Prelude.{◌≡◌, ◌<◌, ◌≤◌, ◌^◌, ◌⊎◌, [], Some, length, map, IfOk, false};
+ghost use Rattle.std.specs.Prelude.{◌≡◌, ◌<◌, ◌≤◌, ◌^◌, ◌⊎◌, [], Some, length, IfOk};
 ghost use Rattle.std.specs.Option.{option_copied};
-ghost use Rattle.taos_calculus.specs.Tables.{lines_of};
 ghost use Rattle.prin_term.specs.Refusal.{FitsLimits};
 ghost use Rattle.prin_term.specs.View.{principal};
-ghost use Rattle.taos_wire.specs.Reply.{Denied, FitsReply, Granted, Missing, NoMemory, sent, spelling, status_of, unsealed};
-ghost use Rattle.taos_wire.specs.View.{reply, cited as cited_of};
+ghost use Rattle.taos_wire.specs.Reply.{FitsReply, NoMemory, sent, spelling, status_of, unsealed};
+ghost use Rattle.taos_wire.specs.View.{lent_grant, lent_part, reply};
 ghost use Rattle.taos_monitor.specs.Refusals.{refusal};
 
 use crate::refusal::{Refusal, reply_of};
 use keyed_seal::Sealer;
-use prin_term::{ENTRY_NODES, Term};
+use prin_term::ENTRY_NODES;
 use std::alloc::{AllocError, Global};
 use std::marker::Model;
-use std::sync::Arc;
-use stmt_codec::Cert;
-use taos_calculus::Proof;
-use taos_wire::{MAX_CITED, Reply, write_granted_with, write_missing_with, write_reply_with};
+use taos_wire::{
+    LentGrant, LentPart, MAX_CITED, Reply, write_granted, write_missing_with, write_reply_with,
+};
 
 /// Every reply but a grant fits this many bytes.
 pub const REPLY_ROOM: usize = 256;
@@ -88,7 +86,8 @@ impl ReplyBuf {
     pub(crate) fn leave_sealed(&mut self, sealer: &Sealer, channel: u32, seq: u64, answer: &Reply)
         requires limits { FitsReply (reply answer.now) }
         requires no_grant { 0 < status_of (reply answer.now) }
-        ensures reply { self.new ≡ spelling (sent (Some sealer.now) channel seq (reply answer.now)) }
+        ensures reply { self.new
+            ≡ spelling (sent (Some sealer.now) channel seq (reply answer.now)) }
         ensures short { length self.new < 2 ^ 32 }
     {
         self.leave(Some(sealer), channel, seq, answer);
@@ -100,56 +99,34 @@ impl ReplyBuf {
         sealer: &Sealer,
         channel: u32,
         seq: u64,
-        shard: u32,
-        place: u64,
-        entry: u8,
-        part: &Term,
+        denial: &LentPart<'_>,
     )
-        requires limits { FitsLimits ENTRY_NODES (principal part.now) }
-        ensures reply { self.new ≡ spelling (sent (Some sealer.now) channel seq
-            (Denied shard place (Missing entry (principal part.now)))) }
+        requires limits { FitsLimits ENTRY_NODES (principal denial.now.part.now) }
+        ensures reply { self.new
+            ≡ spelling (sent (Some sealer.now) channel seq (lent_part denial.now)) }
         ensures short { length self.new < 2 ^ 32 }
     {
         self.bytes.clear();
-        write_missing_with(
-            &mut self.bytes,
-            sealer,
-            channel,
-            seq,
-            shard,
-            place,
-            entry,
-            part,
-        )
-        .unwrap();
+        write_missing_with(&mut self.bytes, sealer, channel, seq, denial).unwrap();
     }
 
-    /// Leaves a grant of an entry by the cited certificates, with the content that was read; or the
-    /// reply of want of memory.
+    /// Leaves a grant, with the content that was read; or the reply of want of memory.
     pub(crate) fn leave_granted(
         &mut self,
         sealer: &Sealer,
         channel: u32,
         seq: u64,
-        shard: u32,
-        place: u64,
-        entry: u8,
-        proof: &Proof,
-        cited: &[Arc<Cert>],
-        content: &[u8],
+        grant: &LentGrant<'_>,
     )
-        requires few { length cited.now ≤ MAX_CITED }
-        requires short { length content.now < 2 ^ 16 }
+        requires few { length grant.now.certs.now ≤ MAX_CITED }
+        requires short { length grant.now.content.now < 2 ^ 16 }
         ensures reply { (self.new ≡ spelling (sent (Some sealer.now) channel seq
-            (Granted false entry shard place (lines_of proof.now) (map cited_of cited.now)
-            content.now))) ⊎ (self.new ≡ spelling (sent (Some sealer.now) channel seq NoMemory)) }
+            (lent_grant grant.now)))
+            ⊎ (self.new ≡ spelling (sent (Some sealer.now) channel seq NoMemory)) }
         ensures short { length self.new < 2 ^ 32 }
     {
         self.bytes.clear();
-        let out = &mut self.bytes;
-        let written = write_granted_with(
-            out, sealer, channel, seq, false, entry, shard, place, proof, cited, content,
-        );
+        let written = write_granted(&mut self.bytes, sealer, channel, seq, grant);
         if written.is_err() {
             self.leave_refused(sealer, channel, seq, Refusal::NoMemory);
         }

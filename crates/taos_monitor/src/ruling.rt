@@ -1,6 +1,7 @@
-//! The ruling on a request that came to its object: its ask, and the reply that tells how that ended.
+//! The ruling on a request that came to its object: its ask, and the reply that tells how that
+//! ended.
 
-ghost use Rattle.std.specs.Prelude.{◌≡◌, ◌<◌, All, Contains, IfOk, OnErr, Some, length, slice_get, ℕ};
+ghost use Rattle.std.specs.Prelude.{◌≡◌, ◌<◌, All, IfOk, OnErr, Some, length, slice_get, ℕ};
 ghost use Rattle.object_core.specs.Operation.{IsAccessList, IsContent};
 ghost use Rattle.agent_core.specs.declared.asked.Verdict.TheVariants as verdicts;
 ghost use Rattle.agent_core.specs.Asked.{AskEnds, Unanswered};
@@ -12,7 +13,9 @@ ghost use Rattle.taos_wire.specs.Request.{FitsRequest};
 ghost use Rattle.taos_wire.specs.View.{request};
 ghost use Rattle.taos_monitor.specs.Arriving.{StandsFor, object_seen};
 ghost use Rattle.taos_monitor.specs.Cells.{seen_of};
-ghost use Rattle.taos_monitor.specs.Ruling.{AskedAt, HasPart, IsToldBy, Leaves, MayTell, RuledTo, ask_seen};
+ghost use Rattle.taos_monitor.specs.Course.{asking};
+ghost use Rattle.taos_monitor.specs.Planned.{IsPlanned};
+ghost use Rattle.taos_monitor.specs.Ruling.{AskedAt, HasPart, IsToldBy, Leaves, MayTell, RuledTo, ask_came, ask_seen};
 
 use crate::arrival::Arrived;
 use crate::refusal::Refusal;
@@ -23,7 +26,18 @@ use keyed_seal::Sealer;
 use std::alloc::{AllocError, Global};
 use std::sync::{Arc, Wait};
 use taos_calculus::Decide;
-use taos_wire::{LinkSent, Reply, Request};
+use taos_wire::{LentGrant, LentPart, LinkSent, Reply, Request};
+
+/// A request that came to its object and to the clock: whom it is answered, at which shard it is
+/// asked, and what the clock read.
+#[derive(Drop)]
+pub(crate) struct Came<'a> {
+    pub(crate) asked: &'a Request,
+    pub(crate) sealer: &'a Sealer,
+    pub(crate) shard: u32,
+    pub(crate) arrived: Arrived<'a>,
+    pub(crate) reading: u64,
+}
 
 // The mark of a shard's journal.
 const SHARD: u8 = 1;
@@ -35,7 +49,8 @@ fn ask_for(
     arrived: Arrived<'_>,
     reading: u64,
 ) -> Result<Arc<Ask>, AllocError>
-    ensures { IfOk result (λ a. ask_of a.value ≡ ask_seen (request asked.now) arrived.entry reading) }
+    ensures { IfOk result
+        (λ a. ask_of a.value ≡ ask_seen (request asked.now) arrived.entry reading) }
 {
     let list = Arc::try_clone(arrived.shown.list)?;
     let made = Ask {
@@ -57,32 +72,29 @@ fn ask_at_home<W: Wait + Sync, S: Shards, D: Decide, G: Gate>(
     shards: &mut S,
     bench: &mut D,
     gate: &mut G,
-    asked: &Request,
-    arrived: Arrived<'_>,
-    reading: u64,
+    came: Came<'_>,
 ) -> Result<Asked, AllocError>
-    requires limits { FitsRequest (request asked.now) }
-    requires stands { StandsFor (request asked.now) arrived }
-    requires there { home (S.plans shards.old) asked.now.channel < length (S.plans shards.old) }
+    requires limits { FitsRequest (request came.asked.now) }
+    requires stands { StandsFor (request came.asked.now) came.arrived }
+    requires there { home (S.plans shards.old) came.asked.now.channel
+        < length (S.plans shards.old) }
     requires legal { (s : ℕ) (p : Plan) → slice_get (S.plans shards.old) s ≡ Some p
         → IsLegalJournal p (S.seen shards.old s) }
-    requires planned { (plan : Plan)
-        → slice_get (S.plans shards.old) (home (S.plans shards.old) asked.now.channel) ≡ Some plan
-        → Contains plan.channels asked.now.channel }
+    requires planned { IsPlanned (S.plans shards.old) came.asked.now.channel }
     ensures ended { IfOk result (λ r. AskedAt (S.plans shards.old) (S.alone shards.old)
         (seen_of (S.seen shards.old) (S.own shards.old))
         (seen_of (S.seen shards.new) (S.own shards.new))
-        (home (S.plans shards.old) asked.now.channel) (λ plan journal own.
-        AskEnds plan journal (ask_seen (request asked.now) arrived.entry reading) r own)) }
+        (home (S.plans shards.old) came.entry.asked.now.channel) (λ plan journal own.
+        AskEnds plan journal (ask_came came.entry) r own)) }
     ensures lacked { OnErr result (AskedAt (S.plans shards.old) (S.alone shards.old)
         (seen_of (S.seen shards.old) (S.own shards.old))
         (seen_of (S.seen shards.new) (S.own shards.new))
-        (home (S.plans shards.old) asked.now.channel) (λ plan journal own.
-        Unanswered plan journal (ask_seen (request asked.now) arrived.entry reading) own)) }
+        (home (S.plans shards.old) came.entry.asked.now.channel) (λ plan journal own.
+        Unanswered plan journal (ask_came came.entry) own)) }
     ensures plans { S.plans shards.new ≡ S.plans shards.old }
     ensures alone { S.alone shards.new ≡ S.alone shards.old }
 {
-    let made = ask_for(alloc, asked, arrived, reading)?;
+    let made = ask_for(alloc, came.asked, came.arrived, came.reading)?;
     ask(rt, alloc, shards, bench, gate, made)
 }
 
@@ -105,7 +117,13 @@ fn leave_denied(
     let link = match denial {
         Denial::Missing { entry, node } => {
             let part = shown.list[entry as usize].who.part(node).unwrap();
-            out.leave_missing(sealer, channel, seq, shard, place, entry, part);
+            let missing = LentPart {
+                shard,
+                place,
+                entry,
+                part,
+            };
+            out.leave_missing(sealer, channel, seq, &missing);
             return;
         }
         Denial::Expired { entry, digest } => LinkSent::Expired { entry, digest },
@@ -128,22 +146,22 @@ fn leave_asked(
     requires list { IsAccessList (object_seen asked.now.object shown).list }
     requires named { MayTell (object_seen asked.now.object shown).list ended.now.verdict }
     ensures { Leaves asked.now.channel asked.now.seq sealer.now out.new
-        (IsToldBy (object_seen asked.now.object shown.entry) shard ended.now.place ended.now.verdict) }
+        (IsToldBy (object_seen asked.now.object shown.entry) shard ended.now.place
+        ended.now.verdict) }
 {
     let (channel, seq, place) = (asked.channel, asked.seq, ended.place);
     let answer = match &ended.verdict {
         Verdict::Granted { entry, cached } => {
-            out.leave_granted(
-                sealer,
-                channel,
-                seq,
+            let grant = LentGrant {
+                kept: false,
+                entry: *entry,
                 shard,
                 place,
-                *entry,
-                &cached.proof,
-                &cached.cites,
-                shown.content,
-            );
+                proof: &cached.proof,
+                certs: &cached.cites,
+                content: shown.content,
+            };
+            out.leave_granted(sealer, channel, seq, &grant);
             return;
         }
         Verdict::Denied(denial) => {
@@ -161,41 +179,38 @@ fn leave_asked(
     out.leave_sealed(sealer, channel, seq, &answer);
 }
 
-/// Asks at the shard of the channel, which has this number, and leaves what came of it.
+/// Asks at the shard of the channel, and leaves what came of it.
 pub(crate) fn rule<W: Wait + Sync, S: Shards, D: Decide, G: Gate>(
     rt: &W,
     alloc: Global,
     shards: &mut S,
     bench: &mut D,
     gate: &mut G,
-    shard: u32,
-    sealer: &Sealer,
-    asked: &Request,
-    arrived: Arrived<'_>,
-    reading: u64,
+    came: Came<'_>,
     out: &mut ReplyBuf,
 )
-    requires shard { shard ≡ home (S.plans shards.old) asked.now.channel }
-    requires there { home (S.plans shards.old) asked.now.channel < length (S.plans shards.old) }
+    requires shard { came.shard ≡ home (S.plans shards.old) came.asked.now.channel }
+    requires there { home (S.plans shards.old) came.asked.now.channel
+        < length (S.plans shards.old) }
     requires sound { All IsPlan (S.plans shards.old) }
     requires legal { (s : ℕ) (p : Plan) → slice_get (S.plans shards.old) s ≡ Some p
         → IsLegalJournal p (S.seen shards.old s) }
-    requires limits { FitsRequest (request asked.now) }
-    requires stands { StandsFor (request asked.now) arrived }
-    requires planned { (plan : Plan)
-        → slice_get (S.plans shards.old) (home (S.plans shards.old) asked.now.channel) ≡ Some plan
-        → Contains plan.channels asked.now.channel }
-    ensures ruled { Leaves asked.now.channel asked.now.seq sealer.now out.new
+    requires limits { FitsRequest (request came.asked.now) }
+    requires stands { StandsFor (request came.asked.now) came.arrived }
+    requires planned { IsPlanned (S.plans shards.old) came.asked.now.channel }
+    ensures ruled { Leaves came.entry.asked.now.channel came.entry.asked.now.seq
+        came.entry.sealer.now out.new
         (RuledTo (S.plans shards.old) (S.alone shards.old)
         (seen_of (S.seen shards.old) (S.own shards.old))
         (seen_of (S.seen shards.new) (S.own shards.new))
-        (home (S.plans shards.old) asked.now.channel) (ask_seen (request asked.now) arrived.entry reading)
-        (object_seen asked.now.object arrived.entry.shown)) }
+        (asking (home (S.plans shards.old) came.entry.asked.now.channel) (ask_came came.entry)
+        (object_seen came.entry.asked.now.object came.entry.arrived.shown))) }
     ensures plans { S.plans shards.new ≡ S.plans shards.old }
     ensures alone { S.alone shards.new ≡ S.alone shards.old }
 {
-    let shown = arrived.shown;
-    match ask_at_home(rt, alloc, shards, bench, gate, asked, arrived, reading) {
+    let (asked, sealer, shard) = (came.asked, came.sealer, came.shard);
+    let shown = came.arrived.shown;
+    match ask_at_home(rt, alloc, shards, bench, gate, came) {
         Ok(ended) => leave_asked(out, sealer, asked, shown, shard, &ended),
         Err(AllocError) => {
             out.leave_refused(sealer, asked.channel, asked.seq, Refusal::NoMemory);

@@ -1,5 +1,5 @@
 -- What a file decides, and what the first lane tells.
-use Rattle.std.proofs.Common.{◌≡◌, ◌≢◌, ℕ, ◌<◌, ◌≤◌, true, List, [], ◌∷◌, length, slice_index_or, slice_set, Some, refl, sym, ap, subst, arith, inl, inr}
+use Rattle.std.proofs.Common.{◌≡◌, ◌≢◌, ℕ, ◌-◌, ◌^◌, ◌<◌, ◌≤◌, true, List, [], ◌∷◌, length, slice_index_or, slice_set, Some, refl, sym, ap, subst, arith, inl, inr}
 use Rattle.std.specs.Prelude.{Option}
 use Rattle.std.specs.Io.KnownBytes.{Consumes, IsAtEnd}
 use Rattle.std.proofs.lemmas.List.{length-append}
@@ -15,9 +15,15 @@ use Rattle.taos_node.specs.declared.ending.FileFault.{FileFault}
 use Rattle.taos_node.specs.declared.ending.FileFault.TheVariants as fault
 use Rattle.taos_node.specs.declared.ending.FileFault.TheVariants.{Malformed, TooLarge}
 use Rattle.taos_node.specs.Ending.{file_status}
-use Rattle.taos_node.specs.Command.{IsOpeningFile, Opens, IsMalformed, IsTooLarge, FileFails, FaultHasCause, FileDecides, Stream, Link, stream, link, touched, with_seen, first_clock, first_link, max_file, max_frames}
+use Rattle.frame_link.specs.Streams.{Stream, stream}
+use Rattle.taos_node.specs.Command.{IsOpeningFile, Opens, IsMalformed, IsTooLarge, FileFails, FaultHasCause, FileDecides, Link, link, touched, with_seen, first_clock, first_link, max_file, max_frames}
 use Rattle.node_file.proofs.OpeningLaws.{opening_again}
-use Rattle.taos_monitor.proofs.Complete.{left_behind, all_taken, still}
+use Rattle.frame_link.proofs.Complete.{left_after, all_taken}
+use Rattle.taos_monitor.specs.World.{setting_of}
+
+-- a count that stood still did not rise
+pub still : (before now : ℕ) → (now ≡ before) × (before < 2 ^ 64 - 1) → Rose before now → ⊥
+still before now s rose = omega (arith, s.0, s.1, rose)
 
 -- what a file tells is what was read to its end
 pub told_is : (file0 file1 : Option (List ℕ)) (bytes read : List ℕ) → Consumes file0 file1 read → IsAtEnd file1 → file0 ≡ Some bytes → bytes ≡ read
@@ -31,7 +37,7 @@ not_malformed file0 file1 bytes o offset bad told is =
 
 pub not_too_large : (file0 file1 : Stream) (bytes : List ℕ) (o : Opening) → IsTooLarge file0 file1 → file0.told ≡ Some bytes → IsOpeningFile o bytes → ⊥
 not_too_large file0 file1 bytes o bad told is =
-    let behind = left_behind bytes bad.bytes file1.told (subst (λ (f : Option (List ℕ)). Consumes f file1.told bad.bytes) told bad.read) in
+    let behind = left_after bytes bad.bytes file1.told (subst (λ (f : Option (List ℕ)). Consumes f file1.told bad.bytes) told bad.read) in
     absurd (omega (arith, bad.large, is.1, ap length behind.2, length-append bad.bytes behind.0))
 
 -- and one that was opened tells nothing else
@@ -96,6 +102,6 @@ module _ {C R D I O : Type 0} where
 -- a connection over what is touched, as the first lane tells it
 pub touches : (n : Node) (file0 file1 in0 in1 out0 out1 clock0 clock0' clock1 clock1' : Stream) (relay0 relay0' relay1 relay1' : Link) (seen seen' last : Seen) (outcome : Outcome) →
     clock0' ≡ clock0 → clock1' ≡ clock1 → relay0' ≡ relay0 → relay1' ≡ relay1 → seen' ≡ seen →
-    IsConnection n true relay0.says max_frames (with_seen (touched file0 in0 out0 clock0 relay0) seen) (with_seen (touched file1 in1 out1 clock1 relay1) last) outcome →
-    IsConnection n true relay0'.says max_frames (with_seen (touched file0 in0 out0 clock0' relay0') seen') (with_seen (touched file1 in1 out1 clock1' relay1') last) outcome
+    IsConnection (setting_of n true relay0.says) max_frames (with_seen (touched file0 in0 out0 clock0 relay0) seen) (with_seen (touched file1 in1 out1 clock1 relay1) last) outcome →
+    IsConnection (setting_of n true relay0'.says) max_frames (with_seen (touched file0 in0 out0 clock0' relay0') seen') (with_seen (touched file1 in1 out1 clock1' relay1') last) outcome
 touches n file0 file1 in0 in1 out0 out1 clock0 clock0' clock1 clock1' relay0 relay0' relay1 relay1' seen seen' last outcome e1 e2 e3 e4 e5 c = rw (e1, e2, e3, e4, e5) c

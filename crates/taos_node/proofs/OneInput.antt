@@ -10,24 +10,24 @@ use Rattle.frame_link.proofs.Splits.{word_once, same_front, no_frame}
 use Rattle.node_file.specs.Opening.{Opening}
 use Rattle.taos_node.specs.declared.finding.Finding.{Finding}
 use Rattle.taos_node.specs.Checking.{Finds}
-use Rattle.taos_monitor.specs.Connection.{max_request}
+use Rattle.taos_monitor.specs.declared.connection.TheConstants.{MAX_REQUEST}
 use Rattle.taos_node.specs.Findings.{IsMissing, TakesFrame, TakesFrames, Shows, max_reply}
-use Rattle.taos_monitor.proofs.Complete.{left_behind, all_taken}
+use Rattle.frame_link.proofs.Complete.{left_after, all_taken}
 use Rattle.taos_node.proofs.OneFinding as law
 
 missing_by : (limit : ℕ) (bytes : List ℕ) (x : Option (List ℕ)) (other : Next) → IsMissing other → Takes limit (Some bytes) x [] other → IsPart limit bytes ⊎ IsTooLong limit bytes
 missing_by limit bytes x next.End is t = inl (in_word (omega (arith, ap length (all_taken bytes [] x t.0 t.1))))
 missing_by limit bytes x (next.Truncated have) is t = inl (subst (IsPart limit) (sym (all_taken bytes t.0 x t.4 t.5)) t.1)
 missing_by limit bytes x (next.TooLong n) is t =
-    let rest = left_behind bytes (to_be_bytes w32 n) x t.2 in
+    let rest = left_after bytes (to_be_bytes w32 n) x t.2 in
     inr (record { length_word = n; behind = rest.0; above = t.0; fits = t.1; text = rest.2 })
 missing_by limit bytes x next.Frame is t = absurd is
 missing_by limit bytes x next.ReadFault is t = absurd is
 
 one_whole : (limit : ℕ) (bytes p q : List ℕ) (x y : Option (List ℕ)) → limit < 2 ^ 32 → TakesFrame limit (Some bytes) x (Some p) → TakesFrame limit (Some bytes) y (Some q) → (p ≡ q) × (x ≡ y)
 one_whole limit bytes p q x y small t u =
-    let r = left_behind bytes (frame p) x t.1 in
-    let s = left_behind bytes (frame q) y u.1 in
+    let r = left_after bytes (frame p) x t.1 in
+    let s = left_after bytes (frame q) y u.1 in
     let same = word_once (length p) (length q) (p ++ r.0) (q ++ s.0) (omega (arith, t.0, small)) (omega (arith, u.0, small))
     (sym (append_assoc (to_be_bytes w32 (length p)) p r.0) ∙ sym r.2 ∙ s.2 ∙ append_assoc (to_be_bytes w32 (length q)) q s.0) in
     let payload = same_front p q r.0 s.0 same.0 same.1 in
@@ -35,7 +35,7 @@ one_whole limit bytes p q x y small t u =
 
 not_both : (limit : ℕ) (bytes p : List ℕ) (x y : Option (List ℕ)) → limit < 2 ^ 32 → TakesFrame limit (Some bytes) x (Some p) → TakesFrame limit (Some bytes) y None → ⊥
 not_both limit bytes p x y small t u =
-    let r = left_behind bytes (frame p) x t.1 in
+    let r = left_after bytes (frame p) x t.1 in
     no_frame limit p r.0 bytes small t.0 (missing_by limit bytes y u.0 u.1 u.2) r.2
 
 one_frame : (limit : ℕ) (bytes : List ℕ) (x y p q : Option (List ℕ)) → limit < 2 ^ 32 → TakesFrame limit (Some bytes) x p → TakesFrame limit (Some bytes) y q → p ≡ q
@@ -46,13 +46,13 @@ one_frame limit bytes x y None None small t u = refl
 
 one_pair : (bytes : List ℕ) (x y q p r s : Option (List ℕ)) → TakesFrames (Some bytes) x q p → TakesFrames (Some bytes) y r s → (q ≡ r) × (p ≡ s)
 one_pair bytes x y (Some q) p (Some r) s t u =
-    let first = one_whole max_request bytes q r t.middle u.middle (omega arith) t.first u.first in
-    let rest = left_behind bytes (frame q) t.middle t.first.1 in
+    let first = one_whole MAX_REQUEST bytes q r t.middle u.middle (omega arith) t.first u.first in
+    let rest = left_after bytes (frame q) t.middle t.first.1 in
     let mine = subst (λ (m : Option (List ℕ)). TakesFrame max_reply m x p) rest.1 t.behind in
     let other = subst (λ (m : Option (List ℕ)). TakesFrame max_reply m y s) (sym first.1 ∙ rest.1) u.behind in
     (ap (λ (l : List ℕ). Some l) first.0, one_frame max_reply rest.0 x y p s (omega arith) mine other)
-one_pair bytes x y (Some q) p None s t u = absurd (not_both max_request bytes q t.middle y (omega arith) t.first u.0)
-one_pair bytes x y None p (Some r) s t u = absurd (not_both max_request bytes r u.middle x (omega arith) u.first t.0)
+one_pair bytes x y (Some q) p None s t u = absurd (not_both MAX_REQUEST bytes q t.middle y (omega arith) t.first u.0)
+one_pair bytes x y None p (Some r) s t u = absurd (not_both MAX_REQUEST bytes r u.middle x (omega arith) u.first t.0)
 one_pair bytes x y None p None s t u = (refl, t.1 ∙ sym u.1)
 
 pub one_check : (o : Opening) (bytes : List ℕ) (x y : Option (List ℕ)) (a b : Finding) → Shows o (Some bytes) x a → Shows o (Some bytes) y b → a ≡ b

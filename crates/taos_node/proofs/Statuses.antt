@@ -5,18 +5,18 @@ use Rattle.std.specs.declared.alloc.Global.{Global}
 use Rattle.frame_link.specs.declared.outcome.Outcome.{Outcome}
 use Rattle.frame_link.specs.declared.outcome.Outcome.TheVariants.{End, Truncated, TooLong, ReadFault, WriteFault, ClockFault, Spent, NoMemory}
 use Rattle.node_file.specs.Opening.{Opening}
-use Rattle.taos_monitor.specs.Connection.{IsComplete, HasCauses}
-use Rattle.taos_monitor.proofs.Complete.{still}
+use Rattle.frame_link.specs.Served.{FaultCounts, counts, IsComplete, HasCauses}
 use Rattle.taos_node.specs.declared.check.CheckEnd.{CheckEnd}
 use Rattle.taos_node.specs.declared.check.CheckEnd.TheVariants as ends
 use Rattle.taos_node.specs.declared.ending.FileFault.{FileFault}
 use Rattle.taos_node.specs.declared.ending.FileFault.TheVariants as fault
 use Rattle.taos_node.specs.declared.ending.FileFault.TheVariants.{Malformed, TooLarge}
 use Rattle.taos_node.specs.declared.finding.Finding.TheVariants.{Granted, Refused}
-use Rattle.taos_node.specs.Command.{IsRun, IsCheck, IsCommand, Opens, FileFails, FaultHasCause, Stream, Touched, HasFailed, EndsWell, ChecksWell, IsCaused, TellsFaults, IsStatus, max_frames}
+use Rattle.frame_link.specs.Streams.{Stream}
+use Rattle.taos_node.specs.Command.{IsRun, IsCheck, IsCommand, Opens, FileFails, FaultHasCause, Touched, HasFailed, EndsWell, ChecksWell, IsCaused, TellsFaults, IsStatus, counts_of, max_frames}
 use Rattle.taos_node.specs.Ending.{file_status, served_status, checked_status}
 use Rattle.taos_node.specs.Findings.{CheckCauses}
-use Rattle.taos_node.proofs.Commands.{not_malformed, not_too_large, decided_opened, decided_fault}
+use Rattle.taos_node.proofs.Commands.{not_malformed, not_too_large, decided_opened, decided_fault, still}
 
 stayed : {P : Type 0} (a b : ℕ) → b ≡ a → a < b → P
 stayed a b same rose = absurd (omega (arith, same, rose))
@@ -95,16 +95,19 @@ unserved words before after f command fails cause input output clock = record {
 
 -- ---- a connection that was served
 
+same_counts : (i o c i' o' c' : ℕ) → i' ≡ i → o' ≡ o → c' ≡ c → counts i' o' c' ≡ counts i o c
+same_counts i o c i' o' c' input output clock = rw (input, output, clock) refl
+
 module _ (before after : Touched) where
   -- how it ended had its cause
   abbrev Causes : Outcome → Type 0
-  Causes outcome =
-      HasCauses before.input.faults after.input.faults before.output.faults after.output.faults before.clock.faults after.clock.faults outcome
+  Causes outcome = HasCauses (counts_of before) (counts_of after) outcome
 
-  ends_well : (outcome : Outcome) → IsComplete max_frames before.input.told before.input.faults after.input.faults before.output.faults after.output.faults before.clock.faults after.clock.faults outcome →
+  ends_well : (outcome : Outcome) → IsComplete max_frames before.input.told (counts_of before) (counts_of after) outcome →
       EndsWell before after (served_status outcome)
   ends_well outcome complete bytes o told is frames whole within few sf si so sc =
-      elim (complete frames whole within few si so sc) [
+      let same = same_counts before.input.faults before.output.faults before.clock.faults after.input.faults after.output.faults after.clock.faults si.0 so.0 sc.0 in
+      elim (complete frames whole within few (record { same = same; input = si.1; output = so.1; clock = sc.1 })) [
         | inl ended ↦ inl (ap served_status ended)
         | inr want ↦ inr (ap served_status want)
       ]
@@ -114,8 +117,8 @@ module _ (before after : Touched) where
 
   serving_caused : (outcome : Outcome) → Causes outcome → IsCaused before after (served_status outcome)
   serving_caused ReadFault h = record { read = λ e. inr h.1; write = λ e. absurd (omega (arith, e)); clock = λ e. absurd (omega (arith, e)) }
-  serving_caused WriteFault h = record { read = λ e. absurd (omega (arith, e)); write = λ e. h.2; clock = λ e. absurd (omega (arith, e)) }
-  serving_caused ClockFault h = record { read = λ e. absurd (omega (arith, e)); write = λ e. absurd (omega (arith, e)); clock = λ e. h.3 }
+  serving_caused WriteFault h = record { read = λ e. absurd (omega (arith, e)); write = λ e. h.1; clock = λ e. absurd (omega (arith, e)) }
+  serving_caused ClockFault h = record { read = λ e. absurd (omega (arith, e)); write = λ e. absurd (omega (arith, e)); clock = λ e. h.1 }
   serving_caused (End n) h = not_caused 0 (λ e. omega (arith, e)) (λ e. omega (arith, e)) (λ e. omega (arith, e))
   serving_caused (Truncated n) h = not_caused 7 (λ e. omega (arith, e)) (λ e. omega (arith, e)) (λ e. omega (arith, e))
   serving_caused (TooLong n) h = not_caused 8 (λ e. omega (arith, e)) (λ e. omega (arith, e)) (λ e. omega (arith, e))
@@ -131,6 +134,10 @@ module _ (before after : Touched) where
     clock = stayed before.clock.faults after.clock.faults c;
   }
 
+  none_rose : (status : ℕ) → after.file.faults ≡ before.file.faults → counts_of after ≡ counts_of before → TellsFaults before after status
+  none_rose status file h =
+      all_still status file (ap (λ (f : FaultCounts). f.input) h) (ap (λ (f : FaultCounts). f.output) h) (ap (λ (f : FaultCounts). f.clock) h)
+
   serving_told : (outcome : Outcome) → after.file.faults ≡ before.file.faults → Causes outcome → TellsFaults before after (served_status outcome)
   serving_told ReadFault same h = record {
     file = stayed before.file.faults after.file.faults same;
@@ -140,21 +147,21 @@ module _ (before after : Touched) where
   }
   serving_told WriteFault same h = record {
     file = stayed before.file.faults after.file.faults same;
-    input = stayed before.input.faults after.input.faults h.0;
+    input = stayed before.input.faults after.input.faults h.2;
     output = λ _. refl;
     clock = stayed before.clock.faults after.clock.faults h.3;
   }
   serving_told ClockFault same h = record {
     file = stayed before.file.faults after.file.faults same;
-    input = stayed before.input.faults after.input.faults h.0;
-    output = stayed before.output.faults after.output.faults h.1;
+    input = stayed before.input.faults after.input.faults h.2;
+    output = stayed before.output.faults after.output.faults h.3;
     clock = λ _. refl;
   }
-  serving_told (End n) same h = all_still 0 same h.0 h.1 h.2
-  serving_told (Truncated n) same h = all_still 7 same h.0 h.1 h.2
-  serving_told (TooLong n) same h = all_still 8 same h.0 h.1 h.2
-  serving_told (Spent n) same h = all_still 10 same h.0 h.1 h.2
-  serving_told NoMemory same h = all_still 6 same h.0 h.1 h.2
+  serving_told (End n) same h = none_rose 0 same h
+  serving_told (Truncated n) same h = none_rose 7 same h
+  serving_told (TooLong n) same h = none_rose 8 same h
+  serving_told (Spent n) same h = none_rose 10 same h
+  serving_told NoMemory same h = none_rose 6 same h
 
 not_one : (outcome : Outcome) → served_status outcome ≢ 1
 not_one (End n) = λ e. omega (arith, e)
@@ -177,7 +184,7 @@ not_two (Spent n) = λ e. omega (arith, e)
 not_two NoMemory = λ e. omega (arith, e)
 
 pub served : (words : List (String Global)) (before after : Touched) (o : Opening) (outcome : Outcome) → IsRun words → (IsCheck words → ⊥) → Opens before.file after.file o →
-    after.file.faults ≡ before.file.faults → IsComplete max_frames before.input.told before.input.faults after.input.faults before.output.faults after.output.faults before.clock.faults after.clock.faults outcome →
+    after.file.faults ≡ before.file.faults → IsComplete max_frames before.input.told (counts_of before) (counts_of after) outcome →
     Causes before after outcome → IsStatus words before after (served_status outcome)
 served words before after o outcome run other opens same complete h = record {
   usage = (λ e. absurd (not_one outcome e), λ none. absurd (none (inl run)));

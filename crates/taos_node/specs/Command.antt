@@ -1,9 +1,11 @@
 -- The top call: the words, the file, and then the work.
-use Rattle.std.specs.Prelude.{◌≡◌, ◌≢◌, ◌⊎◌, ◌↔◌, ℕ, true, ◌<◌, ◌≤◌, List, [], ◌∷◌, length, All, Option, Some, None, Result, Ok, Err, codes, string_bytes, String}
+use Rattle.std.specs.Prelude.{◌≡◌, ◌≢◌, ◌⊎◌, ◌↔◌, ℕ, true, ◌-◌, ◌^◌, ◌<◌, ◌≤◌, List, [], ◌∷◌, length, All, Option, Some, None, Result, Ok, Err, codes, string_bytes, String}
 use Rattle.std.specs.Io.KnownBytes.{Keeps, Consumes, IsAtEnd}
 use Rattle.std.specs.declared.alloc.Global.{Global}
 use Rattle.frame_link.specs.declared.outcome.Outcome.{Outcome}
 use Rattle.frame_link.specs.Frames.{framed}
+use Rattle.frame_link.specs.Served.{Line, line, FaultCounts, counts}
+use Rattle.frame_link.specs.Streams.{Stream, stream}
 use Rattle.frame_link.specs.Faults.{Rose}
 use Rattle.taos_node.specs.declared.ending.FileFault.{FileFault}
 use Rattle.taos_node.specs.declared.ending.FileFault.TheVariants as fault
@@ -19,7 +21,9 @@ use Rattle.node_file.specs.OpeningReading.{opening_of}
 use Rattle.node_file.specs.Opening.{Opening, Spells}
 use Rattle.frame_link.specs.Relay.{Said}
 use Rattle.taos_monitor.specs.Cells.{Node, Seen}
-use Rattle.taos_monitor.specs.Connection.{World, IsConnection, StandsStill, max_request}
+use Rattle.taos_monitor.specs.declared.connection.TheConstants.{MAX_REQUEST}
+use Rattle.taos_monitor.specs.Connection.{IsConnection}
+use Rattle.taos_monitor.specs.World.{World, setting_of}
 use Rattle.taos_node.specs.Opened.{IsNodeOf, nothing_seen}
 use Rattle.taos_node.specs.Findings.{Checks}
 
@@ -52,15 +56,6 @@ abbrev pub IsOpeningFile : Opening → List ℕ → Type 0
 IsOpeningFile o bytes = Spells o bytes × (length bytes ≤ max_file)
 
 -- ---- what a call touches
-
--- What is told of a source, a sink or a clock: what it has left or holds, and how often it failed.
-pub record Stream : Type 0 where
-  pub told : Option (List ℕ)
-  pub faults : ℕ
-
--- what is told of it, of these
-abbrev pub stream : Option (List ℕ) → ℕ → Stream
-stream told faults = record { told = told; faults = faults }
 
 -- what a link to a relay tells of its answers, and how often it failed
 pub record Link : Type 0 where
@@ -98,7 +93,7 @@ first_link says faults (lane ∷ lanes) = link (says lane.relay) (faults lane.re
 
 -- it did not fail in between, and its count does not stand at the largest u64
 abbrev pub IsSteady : Stream → Stream → Type 0
-IsSteady s0 s1 = StandsStill s0.faults s1.faults
+IsSteady s0 s1 = (s1.faults ≡ s0.faults) × (s0.faults < 2 ^ 64 - 1)
 
 -- its count of faults rose in between, or stands at the largest u64
 abbrev pub HasFailed : Stream → Stream → Type 0
@@ -155,14 +150,13 @@ FileHasCause {A} file0 file1 (Err fault) = FaultHasCause file0 file1 fault
 -- ---- what is done
 
 -- what a connection is served over, of what is touched, beside journals
-abbrev pub with_seen : Touched → Seen → World
-with_seen t seen = record {
-  input = t.input.told;
-  output = t.output.told;
-  clock = t.clock.told;
-  faults = t.relay.faults;
-  seen = seen;
-}
+abbrev pub with_seen : Touched → Seen → Line World
+with_seen t seen = line t.input.told t.output.told
+    (record { clock = t.clock.told; faults = t.relay.faults; seen = seen })
+
+-- how often what it is served over failed
+abbrev pub counts_of : Touched → FaultCounts
+counts_of t = counts t.input.faults t.output.faults t.clock.faults
 
 -- the first lane's clock and link were not used
 pub record UsesNoLane (before after : Touched) : Type 0 where
@@ -177,19 +171,21 @@ pub record LeavesRest (before after : Touched) : Type 0 where
 
 -- A node of the opening serves the connection, from empty journals on. The journals at the
 -- end are those of this connection alone: all their entries are its own.
-pub record ServesConnection (o : Opening) (before after : Touched) (outcome : Outcome) : Type 0 where
+pub record ServesConnection (o : Opening) (before after : Touched)
+    (outcome : Outcome) : Type 0 where
   pub node : Node
   pub is_node : IsNodeOf o node
   -- the journals at the end, whose entries are all its own
   pub seen : Seen
-  pub connection : IsConnection node true before.relay.says max_frames
+  pub connection : IsConnection (setting_of node true before.relay.says) max_frames
       (with_seen before nothing_seen) (with_seen after seen) outcome
 
 -- a request and its reply were looked over, by the node that the file opens
 pub record LooksOver (before after : Touched) (end : CheckEnd) : Type 0 where
   pub node : Opening
   pub opens : Opens before.file after.file node
-  pub checks : Checks node before.input.told after.input.told before.output.told after.output.told end
+  pub checks : Checks node before.input.told after.input.told before.output.told
+      after.output.told end
   pub lane : UsesNoLane before after
 
 -- What is done, by how it ends. Other words do nothing. A file that is malformed or too large, or
@@ -230,7 +226,7 @@ abbrev pub EndsWell : Touched → Touched → ℕ → Type 0
 EndsWell before after status =
     (bytes : List ℕ) (o : Opening) → before.file.told ≡ Some bytes → IsOpeningFile o bytes →
     (frames : List (List ℕ)) → before.input.told ≡ Some (framed frames) →
-    All (λ p. length p ≤ max_request) frames → length frames ≤ max_frames →
+    All (λ p. length p ≤ MAX_REQUEST) frames → length frames ≤ max_frames →
     IsSteady before.file after.file → IsSteady before.input after.input →
     IsSteady before.output after.output → IsSteady before.clock after.clock →
     (status ≡ 0) ⊎ (status ≡ 6)
@@ -258,7 +254,8 @@ pub record TellsFaults (before after : Touched) (status : ℕ) : Type 0 where
 
 -- What the status tells, whatever was done: the words decide status 1 and the file status 2; what
 -- can come to its end does; a fault is answered where there was one, and only there.
-pub record IsStatus (words : List (String Global)) (before after : Touched) (status : ℕ) : Type 0 where
+pub record IsStatus (words : List (String Global)) (before after : Touched)
+    (status : ℕ) : Type 0 where
   pub usage : (status ≡ 1) ↔ (IsCommand words → ⊥)
   pub file : IsCommand words → FileDecides before.file after.file status
   pub complete : IsRun words → EndsWell before after status

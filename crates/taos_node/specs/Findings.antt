@@ -7,7 +7,7 @@ use Rattle.frame_link.specs.declared.frame.Next.TheVariants as next
 use Rattle.frame_link.specs.Faults.{Rose}
 use Rattle.frame_link.specs.Next.{Takes}
 use Rattle.node_file.specs.Opening.{Opening}
-use Rattle.taos_monitor.specs.Connection.{max_request}
+use Rattle.taos_monitor.specs.declared.connection.TheConstants.{MAX_REQUEST}
 use Rattle.taos_node.specs.Checking.{Finds}
 use Rattle.taos_node.specs.declared.check.CheckEnd.{CheckEnd}
 use Rattle.taos_node.specs.declared.check.CheckEnd.TheVariants as ends
@@ -34,7 +34,8 @@ word_text word.Conclusion = codes "conclusion"
 
 -- the line that is printed
 abbrev pub finding_line : Finding → List ℕ
-finding_line (Granted entry lines certs) = codes "granted entry " ++ decimal entry ++ codes " lines " ++ decimal lines ++ codes " certificates " ++ decimal certs ++ codes "\n"
+finding_line (Granted entry lines certs) = codes "granted entry " ++ decimal entry
+    ++ codes " lines " ++ decimal lines ++ codes " certificates " ++ decimal certs ++ codes "\n"
 finding_line (Refused w) = codes "refused: " ++ word_text w ++ codes "\n"
 
 -- the exit status of a finding
@@ -59,29 +60,36 @@ IsMissing next.ReadFault = ⊥
 -- the payload of the next frame, where that is there
 abbrev pub TakesFrame : ℕ → Option (List ℕ) → Option (List ℕ) → Option (List ℕ) → Type 0
 TakesFrame limit before after (Some payload) = Takes limit before after payload next.Frame
-TakesFrame limit before after None = (other : Next) × IsMissing other × Takes limit before after [] other
+TakesFrame limit before after None =
+    (other : Next) × IsMissing other × Takes limit before after [] other
 
 -- after a frame that is there, this holds of what the input has left
-pub record TakesBehind (before : Option (List ℕ)) (payload : List ℕ) (Then : Option (List ℕ) → Type 0) : Type 0 where
+pub record TakesBehind (before : Option (List ℕ)) (payload : List ℕ) (Then : Option (List ℕ) →
+    Type 0) : Type 0 where
   -- what the input has left after the first frame
   pub middle : Option (List ℕ)
-  pub first : TakesFrame max_request before middle (Some payload)
+  pub first : TakesFrame MAX_REQUEST before middle (Some payload)
   pub behind : Then middle
 
 -- the request's frame, and where that is there the reply's
-abbrev pub TakesFrames : Option (List ℕ) → Option (List ℕ) → Option (List ℕ) → Option (List ℕ) → Type 0
-TakesFrames before after None reply = TakesFrame max_request before after None × (reply ≡ None)
-TakesFrames before after (Some payload) reply = TakesBehind before payload (λ middle. TakesFrame max_reply middle after reply)
+abbrev pub TakesFrames : Option (List ℕ) → Option (List ℕ) → Option (List ℕ) →
+    Option (List ℕ) → Type 0
+TakesFrames before after None reply = TakesFrame MAX_REQUEST before after None × (reply ≡ None)
+TakesFrames before after (Some payload) reply =
+    TakesBehind before payload (λ middle. TakesFrame max_reply middle after reply)
 
 -- a read failed in a frame, or memory was refused for one, once its length was read
 abbrev pub HaltsAt : ℕ → Option (List ℕ) → Option (List ℕ) → Halt → Type 0
 HaltsAt limit before after halt.ReadFault = Takes limit before after [] next.ReadFault
-HaltsAt limit before after halt.NoMemory = (n : ℕ) × (n ≤ limit) × Consumes before after (to_be_bytes w32 n)
+HaltsAt limit before after halt.NoMemory =
+    (n : ℕ) × (n ≤ limit) × Consumes before after (to_be_bytes w32 n)
 
 -- a read failed, or memory was refused, in the first frame or in the second
 pub data Halts (before after : Option (List ℕ)) (why : Halt) : Type 0 where
-  at_request : HaltsAt max_request before after why → Halts before after why
-  at_reply : (payload : List ℕ) → TakesBehind before payload (λ middle. HaltsAt max_reply middle after why) → Halts before after why
+  at_request : HaltsAt MAX_REQUEST before after why → Halts before after why
+  at_reply : (payload : List ℕ) →
+      TakesBehind before payload (λ middle. HaltsAt max_reply middle after why) →
+      Halts before after why
 
 -- ---- what is done
 
@@ -95,14 +103,18 @@ pub record Shows (o : Opening) (in0 in1 : Option (List ℕ)) (finding : Finding)
 -- memory was refused for a frame, or once both were taken
 pub data LacksMemory (in0 in1 : Option (List ℕ)) : Type 0 where
   for_frame : Halts in0 in1 halt.NoMemory → LacksMemory in0 in1
-  behind_frames : (request reply : Option (List ℕ)) → TakesFrames in0 in1 request reply → LacksMemory in0 in1
+  behind_frames : (request reply : Option (List ℕ)) → TakesFrames in0 in1 request reply →
+      LacksMemory in0 in1
 
 -- what is done, by how it ends: the line of the finding was written, or a proper front of it
-abbrev pub Checks : Opening → Option (List ℕ) → Option (List ℕ) → Option (List ℕ) → Option (List ℕ) → CheckEnd → Type 0
-Checks o in0 in1 out0 out1 (ends.Done finding) = Shows o in0 in1 finding × Appends out0 out1 (finding_line finding)
+abbrev pub Checks : Opening → Option (List ℕ) → Option (List ℕ) → Option (List ℕ) →
+    Option (List ℕ) → CheckEnd → Type 0
+Checks o in0 in1 out0 out1 (ends.Done finding) =
+    Shows o in0 in1 finding × Appends out0 out1 (finding_line finding)
 Checks o in0 in1 out0 out1 ends.WriteFault =
     (finding : Finding) × Shows o in0 in1 finding ×
-    ((part more : List ℕ) × (finding_line finding ≡ part ++ more) × (0 < length more) × Appends out0 out1 part)
+    ((part more : List ℕ) × (finding_line finding ≡ part ++ more) × (0 < length more)
+    × Appends out0 out1 part)
 Checks o in0 in1 out0 out1 ends.ReadFault = Halts in0 in1 halt.ReadFault × Keeps out0 out1
 Checks o in0 in1 out0 out1 ends.NoMemory = LacksMemory in0 in1 × Keeps out0 out1
 

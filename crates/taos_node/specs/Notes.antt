@@ -14,7 +14,8 @@ use Rattle.taos_node.specs.declared.check.CheckEnd.TheVariants as ends
 
 -- the note where the file is not served
 abbrev pub file_note : FileFault → List ℕ
-file_note (Malformed offset) = codes "taos: node file: byte " ++ decimal offset ++ codes ": malformed\n"
+file_note (Malformed offset) = codes "taos: node file: byte " ++ decimal offset
+    ++ codes ": malformed\n"
 file_note TooLarge = codes "taos: node file: line 0: limit\n"
 file_note fault.ReadFault = codes "taos: read fault\n"
 file_note fault.NoMemory = codes "taos: no memory\n"
@@ -26,7 +27,8 @@ served_note ReadFault = codes "taos: read fault\n"
 served_note WriteFault = codes "taos: write fault\n"
 served_note ClockFault = codes "taos: clock fault\n"
 served_note NoMemory = codes "taos: no memory\n"
-served_note (Truncated have) = codes "taos: input ends inside a frame, " ++ decimal have ++ codes " bytes kept\n"
+served_note (Truncated have) = codes "taos: input ends inside a frame, " ++ decimal have
+    ++ codes " bytes kept\n"
 served_note (TooLong n) = codes "taos: frame too long: " ++ decimal n ++ codes "\n"
 served_note (Spent frames) = codes "taos: frames spent: " ++ decimal frames ++ codes "\n"
 
@@ -46,7 +48,9 @@ note_of (Checked end) = checked_note end
 
 -- the note was written, or a proper front of it where the notes failed; what was told of the notes,
 -- and how often they had failed, before and after
-pub data IsNoted (before after : Option (List ℕ)) (faults0 faults1 : ℕ) (note : List ℕ) : Type 0 where
+pub data IsNoted (before after : Option (List ℕ)) (faults0 faults1 : ℕ)
+    (note : List ℕ) : Type 0 where
   whole : faults1 ≡ faults0 → Appends before after note → IsNoted before after faults0 faults1 note
-  cut : (part more : List ℕ) → note ≡ part ++ more → 0 < length more → faults0 ≤ faults1 → Rose faults0 faults1 → Appends before after part →
+  cut : (part more : List ℕ) → note ≡ part ++ more → 0 < length more → faults0 ≤ faults1 →
+      Rose faults0 faults1 → Appends before after part →
       IsNoted before after faults0 faults1 note

@@ -8,7 +8,11 @@ use Rattle.taos_monitor.specs.Cells.{ObjectPlan, object_of}
 
 -- the program's object, with its number
 abbrev pub shown : ℕ → code.ObjectPlan → ObjectPlan
-shown number p = record { number = number; content = p.content.items; list = map grant (arc_value p.list).items }
+shown number p = record {
+  number = number;
+  content = p.content.items;
+  list = map grant (arc_value p.list).items;
+}
 
 -- all objects, as a look-up goes over them
 abbrev pub listed : List (ℕ × code.ObjectPlan) → List ObjectPlan
@@ -16,4 +20,5 @@ listed entries = map (λ e. shown e.0 e.1) entries
 
 -- each object that a look-up finds is within the limits
 abbrev pub AllFit : List ObjectPlan → Type 0
-AllFit objects = (number : ℕ) (p : ObjectPlan) → object_of objects number ≡ Some p → IsContent p.content × IsAccessList p.list
+AllFit objects = (number : ℕ) (p : ObjectPlan) → object_of objects number ≡ Some p →
+    IsContent p.content × IsAccessList p.list

@@ -31,7 +31,8 @@ pub record IsNodeOf (o : Opening) (n : Node) : Type 0 where
   pub channels : (number : ℕ) → key_of n.channels number ≡ key_of o.channels number
   pub count : length n.channels ≡ length o.channels
   pub ascending : IsStrictlyIncreasing (numbers_of n.channels)
-  pub objects : (number : ℕ) → object_of n.objects number ≡ option_map as_cell (plan_of o.objects number)
+  pub objects : (number : ℕ) → object_of n.objects number
+      ≡ option_map as_cell (plan_of o.objects number)
   pub plans : n.plans ≡ its_plans o n.channels
 
 -- journals without entries
@@ -41,4 +42,5 @@ nothing_seen = seen_of (λ shard. []) (λ shard. [])
 -- the program's node is one of the opening, and its journals are empty
 pub record IsOpenedBy (o : Opening) (node : OpenNode) : Type 0 where
   pub is_node : IsNodeOf o (node_of node.keys (plans_in node.shards.shards) node.shelf)
-  pub unseen : seen_of (λ shard. seen_in node.shards.shards shard) (λ shard. own_in node.shards shard) ≡ nothing_seen
+  pub unseen : seen_of (λ shard. seen_in node.shards.shards shard)
+      (λ shard. own_in node.shards shard) ≡ nothing_seen

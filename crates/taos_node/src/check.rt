@@ -118,9 +118,9 @@ fn payload_of(frame: &Option<Vec<u8>>) -> Option<&[u8]>
     }
 }
 
-/// Reads the frame of a request and that of its reply, and writes the line of what is found in them.
-/// A frame that is cut off, or longer than it may be, is not there. Bytes behind the second frame are not
-/// read.
+/// Reads the frame of a request and that of its reply, and writes the line of what is found in
+/// them. A frame that is cut off, or longer than it may be, is not there. Bytes behind the second
+/// frame are not read.
 pub fn check_connection<I: Source, O: Sink>(
     alloc: Global,
     node: &Opening,

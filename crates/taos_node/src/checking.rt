@@ -75,7 +75,8 @@ fn replied_of(
 ) -> Result<Reply, Stop>
     ensures believed { IfOk result (λ a. (o : Node) (q : Option (List ℕ))
         → HasAsked o q (request_is asked.now) sealer.now
-        → IsBelieved o q (option_copied frame.entry) (request_is asked.now) sealer.now (reply_is a)) }
+        → IsBelieved o q (option_copied frame.entry) (request_is asked.now) sealer.now
+        (reply_is a)) }
     ensures fits { IfOk result (λ a. FitsReply (reply_is a)) }
     ensures stops { IfErr result (λ stop. (o : Node) (q : Option (List ℕ))
         → HasAsked o q (request_is asked.now) sealer.now
@@ -224,8 +225,8 @@ fn told(stop: Stop) -> Result<Finding, AllocError>
 }
 
 /// What is found in the payloads of a request's frame and its reply's, where these are there: the
-/// first thing that is wrong, or a grant that its proof bears out. No clock is read, and nothing that
-/// is sealed in the reply is opened: it is the node's word.
+/// first thing that is wrong, or a grant that its proof bears out. No clock is read, and nothing
+/// that is sealed in the reply is opened: it is the node's word.
 pub fn check_frames(
     alloc: Global,
     node: &Opening,
@@ -248,5 +249,6 @@ pub fn check_frames(
 
 /// Two frames show one finding: what is wrong first leaves no other, and a grant neither.
 pub fn one_finding()
-    ensures { (o : Node) (q p : Option (List ℕ)) (a b : Found) → Finds o q p a → Finds o q p b → a ≡ b }
+    ensures { (o : Node) (q p : Option (List ℕ)) (a b : Found) → Finds o q p a →
+        Finds o q p b → a ≡ b }
 {}

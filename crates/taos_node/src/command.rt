@@ -3,13 +3,14 @@
 ghost use Rattle.std.specs.Prelude.{◌≡◌, ◌⊎◌, ◌↔◌, ◌<◌, ◌≤◌, List, String, drop, length, IsTrue, IfOk};
 ghost use Rattle.std.specs.declared.alloc.Global.{Global};
 ghost use Rattle.agent_core.specs.Alone.{plans_in};
+ghost use Rattle.frame_link.specs.Served.{counts, HasCauses, IsComplete};
 ghost use Rattle.node_file.specs.Meaning.{opening, FitsByNumber};
 ghost use Rattle.node_file.specs.Opening.{Opening as Meaning};
 ghost use Rattle.node_file.specs.OpeningView.{Represents};
-ghost use Rattle.taos_monitor.specs.Connection.{HasCauses, IsComplete};
 ghost use Rattle.taos_monitor.specs.Planned.{ArePlanned};
 ghost use Rattle.taos_node.specs.Ending.{status_of};
-ghost use Rattle.taos_node.specs.Command.{Stream, Link, stream, touched, first_clock, first_link, IsCheck, IsRun, Runs, Ends, IsStatus, FileGives, FileHasCause, ServesConnection};
+ghost use Rattle.frame_link.specs.Streams.{Stream, stream};
+ghost use Rattle.taos_node.specs.Command.{Link, touched, first_clock, first_link, IsCheck, IsRun, Runs, Ends, IsStatus, FileGives, FileHasCause, ServesConnection};
 ghost use Rattle.taos_node.specs.Opened.{IsOpenedBy};
 
 use crate::check::check_connection;
@@ -90,7 +91,8 @@ fn file_opening<F: Source>(alloc: Global, file: &mut F) -> Result<Opening, FileF
 
 // The node that it opens, with the room that decisions take.
 fn node_file_of<F: Source>(alloc: Global, file: &mut F) -> Result<(OpenNode, Saturator), FileFault>
-    ensures gives { FileGives (λ o x. IsOpenedBy o x.0) (stream (F.left file.old) (F.faults file.old))
+    ensures gives { FileGives (λ o x. IsOpenedBy o x.0)
+        (stream (F.left file.old) (F.faults file.old))
         (stream (F.left file.new) (F.faults file.new)) result }
     ensures planned { IfOk result (λ x. ArePlanned x.0.keys.channels.entries
         (plans_in x.0.shards.shards)) }
@@ -129,14 +131,16 @@ fn serve<W: Wait + Sync, I: Source, O: Sink, C: Clock, R: RelayLink, D: Door, B:
         (touched file1 (stream (I.left input.new) (I.faults input.new))
         (stream (O.written output.new) (O.faults output.new))
         (first_clock C.readings C.faults lanes.new) (first_link R.says R.faults lanes.new)) result }
-    ensures causes { HasCauses (I.faults input.old) (I.faults input.new)
-        (O.faults output.old) (O.faults output.new)
-        (first_clock C.readings C.faults lanes.old).faults
-        (first_clock C.readings C.faults lanes.new).faults result }
+    ensures causes { HasCauses
+        (counts (I.faults input.old) (O.faults output.old)
+        (first_clock C.readings C.faults lanes.old).faults)
+        (counts (I.faults input.new) (O.faults output.new)
+        (first_clock C.readings C.faults lanes.new).faults) result }
     ensures complete { IsComplete MAX_FRAMES (I.left input.old)
-        (I.faults input.old) (I.faults input.new) (O.faults output.old) (O.faults output.new)
-        (first_clock C.readings C.faults lanes.old).faults
-        (first_clock C.readings C.faults lanes.new).faults result }
+        (counts (I.faults input.old) (O.faults output.old)
+        (first_clock C.readings C.faults lanes.old).faults)
+        (counts (I.faults input.new) (O.faults output.new)
+        (first_clock C.readings C.faults lanes.new).faults) result }
     ensures others { drop 1 lanes.new ≡ drop 1 lanes.old }
 {
     let lane = &mut lanes[0];
@@ -224,8 +228,8 @@ fn run<W: Wait + Sync, F: Source, I: Source, O: Sink, C: Clock, R: RelayLink, D:
 /// two command lines, and both read the file to a node's opening. By `run` each request frame of
 /// the input is answered by one reply frame of the output, by a node of that opening whose journals
 /// are empty at first, with the first lane's clock and its link to the relay. By `check` the frames
-/// of a request and its reply are looked over, and one line of the output says what is found. A note
-/// tells how it ended.
+/// of a request and its reply are looked over, and one line of the output says what is found. A
+/// note tells how it ended.
 pub fn taos<
     W: Threads + Wait + Sync,
     F: Source,
@@ -248,9 +252,9 @@ pub fn taos<
     requires some { 0 < length lanes.old }
     requires few { length lanes.old ≤ 16 }
 
-    // Every whole frame has its course in the journals of this connection alone, and the bytes that are
-    // written are the replies; or the line is written of what a request and its reply show. The note
-    // and the status tell how it ended.
+    // Every whole frame has its course in the journals of this connection alone, and the bytes that
+    // are written are the replies; or the line is written of what a request and its reply show. The
+    // note and the status tell how it ended.
     ensures run { let before = touched (stream (F.left file.old) (F.faults file.old))
         (stream (I.left input.old) (I.faults input.old))
         (stream (O.written output.old) (O.faults output.old))

@@ -27,7 +27,8 @@ pub enum CheckWord {
     Object,
     /// The object's list has no entry of the grant's number with the right.
     Entry,
-    /// A line of the proof does not follow, or the last does not say that somebody speaks for another.
+    /// A line of the proof does not follow, or the last does not say that somebody speaks for
+    /// another.
     Proof,
     /// The proof proves something else.
     Conclusion,

@@ -1,9 +1,9 @@
 -- Lines carried over, one line more.
 use Rattle.std.proofs.Common.{◌≡◌, ◌⊎◌, inl, inr, ℕ, ◌<◌, ◌≤◌, List, [], ◌∷◌, ◌++◌, Some, slice_get, get_or, length, sym, ap, ap₂, subst, ◌∙◌, arith}
 use Rattle.std.specs.List.{flat_map}
-use Rattle.std.proofs.lemmas.List.{append-nil, length-append, get_or_append_left}
+use Rattle.std.proofs.lemmas.List.{append-nil, length-append}
 use Rattle.std.proofs.lemmas.List.Concat.{flat_map-append}
-use Rattle.prin_term.specs.Principal.{Principal, Key}
+use Rattle.prin_term.specs.Principal.{Principal}
 use Rattle.taos_calculus.specs.declared.line.Node.{Node}
 use Rattle.taos_calculus.specs.declared.line.Fact.{Fact}
 use Rattle.taos_calculus.specs.declared.line.Line.{Line}
@@ -13,23 +13,18 @@ use Rattle.taos_calculus.specs.Canonical.{post_order, terms_of}
 use Rattle.stmt_codec.specs.Distinct.{met}
 use Rattle.taos_calculus.specs.Tables.{IsBelow, judgement, named, principals_of}
 use Rattle.taos_calculus.proofs.Building.{slice_get-front, slice_get-back}
-use Rattle.taos_calculus.proofs.Naming.{length-principals_of}
-use Rattle.stmt_codec.proofs.Firsts.{met-append, met-grows}
+use Rattle.stmt_codec.proofs.Firsts.{met-append}
 use Rattle.taos_saturate.specs.Citing.{IsRecited}
 use Rattle.taos_saturate.specs.Carrying.{CarriesFact, IsCarriedLine, CarriesLines}
-use Rattle.taos_saturate.proofs.Interned.{pushed_at}
+use Rattle.taos_saturate.proofs.Interned.{pushed_at, met_length, met_named}
 
--- a table that has grown keeps the principals of its numbers
+-- a table that has grown keeps what facts say
 module _ (old new : List Node) (ps : List Principal) (e : principals_of new ≡ met (principals_of old) ps) where
   grown_length : length old ≤ length new
-  grown_length =
-      let (more, f) = met-grows (principals_of old) ps in
-      omega (arith, ap length e, ap length f, length-append (principals_of old) more, length-principals_of old, length-principals_of new)
+  grown_length = met_length old new ps e
 
   grown_named : (i : ℕ) → i < length old → named new i ≡ named old i
-  grown_named i h =
-      let (more, f) = met-grows (principals_of old) ps in
-      ap (λ (xs : List Principal). get_or xs i (Key 0)) (e ∙ f) ∙ get_or_append_left (principals_of old) more (Key 0) i (omega (arith, h, length-principals_of old))
+  grown_named i h = met_named old new ps e i h
 
   grown_below : (f : Fact) → IsBelow (length old) f → IsBelow (length new) f
   grown_below (Fact.Speaks a b) h = (omega (arith, h.0, grown_length), omega (arith, h.1, grown_length))

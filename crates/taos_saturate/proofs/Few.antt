@@ -2,35 +2,18 @@
 use Rattle.std.proofs.Common.{◌≡◌, ◌≢◌, ℕ, zero, suc, ◌+◌, ◌<◌, ◌≤◌, Bool, true, false, not, cond, List, [], ◌∷◌, ◌++◌, length, get_or, refl, sym, ap, subst, arith, All, Contains}
 use Rattle.std.specs.Prelude.{filter}
 use Rattle.std.proofs.lemmas.List.{length-append}
-use Rattle.std.proofs.lemmas.List.Elements.{All-nil, All-cons, All-append, All-weaker, All-filter, All-contains, Contains-append_left, Contains-append_right, Contains-push}
+use Rattle.std.proofs.lemmas.List.Elements.{All-nil, All-cons, All-append, All-weaker, All-filter, All-contains, Contains-append_left, Contains-append_right}
 use Rattle.std.proofs.lemmas.List.Sums.{length-filter, count_by-le-length}
 use Rattle.std.proofs.lemmas.Bool.{false_from_ne_true}
 use Rattle.prin_term.specs.Principal.{Principal, Key, Name, And, Quoting, InRole, For, subterms, node_count}
 use Rattle.stmt_codec.specs.Certificates.{Certificate, speaker_of, IsWithinLimits, distinct_subterms}
-use Rattle.stmt_codec.proofs.Members.{members_same}
+use Rattle.stmt_codec.proofs.Members.{here, there, kept, members_same}
 use Rattle.stmt_codec.specs.Distinct.{same_principal, first_of_each}
 use Rattle.taos_calculus.specs.Canonical.{post_order}
 use Rattle.stmt_codec.specs.Distinct.{met}
 use Rattle.stmt_codec.proofs.Same.{same_principal-true, same_principal-itself}
 use Rattle.stmt_codec.proofs.Firsts.{is_new, met-is}
-use Rattle.taos_calculus.proofs.Distinct.{Apart, Apart-filter, Apart-first_of_each}
-
-pub here : {X : Type 0} (x : X) (xs : List X) → Contains (x ∷ xs) x
-here x xs = Contains-append_left (x ∷ []) xs x (Contains-push [] x)
-
-there : {X : Type 0} (x : X) (xs : List X) (y : X) → Contains xs y → Contains (x ∷ xs) y
-there x xs y h = Contains-append_right (x ∷ []) xs y h
-
-later : {X : Type 0} (b : Bool) (x : X) (xs : List X) (y : X) → Contains xs y → Contains (cond b (x ∷ xs) xs) y
-later true x xs y h = there x xs y h
-later false x xs y h = h
-
-kept : {X : Type 0} (t : X → Bool) (xs : List X) → All (λ q. t q ≡ true → Contains (filter t xs) q) xs
-kept t [] = All-nil (λ q. t q ≡ true → Contains (filter t []) q)
-kept {X} t (x ∷ xs) =
-    All-cons (λ q. t q ≡ true → Contains (filter t (x ∷ xs)) q) x xs
-    (λ e. subst (λ (b : Bool). Contains (cond b (x ∷ filter t xs) (filter t xs)) x) (sym e) (here x (filter t xs)))
-    (All-weaker (λ q. t q ≡ true → Contains (filter t xs) q) (λ q. t q ≡ true → Contains (filter t (x ∷ xs)) q) (λ q h e. later (t x) x (filter t xs) q (h e)) xs (kept t xs))
+use Rattle.stmt_codec.proofs.Counts.{Apart, Apart-filter, Apart-first_of_each}
 
 -- those that are not p
 abbrev without : Principal → List Principal → List Principal

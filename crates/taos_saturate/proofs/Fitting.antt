@@ -2,7 +2,9 @@
 use Rattle.std.proofs.Common.{◌≡◌, ℕ, ◌<◌, ◌≤◌, List, [], ◌∷◌, ◌++◌, length, refl, sym, ap, ◌∙◌, arith, All, Contains, lit<}
 use Rattle.std.specs.List.{flat_map}
 use Rattle.std.proofs.lemmas.List.Elements.{All-nil, All-cons, All-append, All-weaker, All-contains, All-head, All-tail}
+use Rattle.prin_term.specs.declared.term.Anchor.{Anchor}
 use Rattle.prin_term.specs.Principal.{Principal, Key, Name, And, Quoting, InRole, For, subterms, operands}
+use Rattle.taos_calculus.specs.Rules.{Claim}
 use Rattle.taos_calculus.specs.declared.line.Node.{Node}
 use Rattle.taos_calculus.specs.declared.line.Fact.{Fact}
 use Rattle.taos_calculus.specs.declared.line.Line.{Line}
@@ -21,12 +23,13 @@ All-flat_map P f [] all = All-nil P
 All-flat_map P f (x ∷ xs) all =
     All-append P (f x) (flat_map f xs) (All-head (λ y. All P (f y)) x xs all) (All-flat_map P f xs (All-tail (λ y. All P (f y)) x xs all))
 
-module _ (nodes : List Node) (table : IsNodeTable nodes) where
+-- with a principal of a table its parts are members of it
+module _ (nodes : List Node) (table : IsNodeTable nodes) (anchors : List Anchor) (claims : List Claim) where
   abbrev Has : Principal → Type 0
-  Has q = Numbered nodes table [] [] q
+  Has q = Numbered nodes table anchors claims q
 
   operands_have : (q : Principal) → Has q → All Has (operands q)
-  operands_have q u = numbered_operands nodes table [] [] q u
+  operands_have q u = numbered_operands nodes table anchors claims q u
 
   pub parts_have : (q : Principal) → Has q → All Has (subterms q)
   parts_have (Key k) u = All-one Has (Key k) u
@@ -43,13 +46,14 @@ module _ (nodes : List Node) (table : IsNodeTable nodes) where
   parts_have (InRole a r) u =
       All-cons Has (InRole a r) (subterms a) u (parts_have a (operands_have (InRole a r) u 0 a (lit< tt)))
 
+module _ (nodes : List Node) (table : IsNodeTable nodes) where
   abbrev In : Principal → Type 0
   In q = Contains (principals_of nodes) q
 
   posts_in : (i : ℕ) → i < length nodes → All In (post_order (named nodes i))
   posts_in i h =
       let q : Principal = named nodes i in
-      All-weaker (Contains (subterms q)) In (λ p c. number_member nodes table [] [] p (All-contains Has (subterms q) p (parts_have q (i, h, refl)) c)) (post_order q) (post_in q)
+      All-weaker (Contains (subterms q)) In (λ p c. number_member nodes table [] [] p (All-contains (Has nodes table [] []) (subterms q) p (parts_have nodes table [] [] q (i, h, refl)) c)) (post_order q) (post_in q)
 
   abbrev PostIn : Principal → Type 0
   PostIn q = All In (post_order q)

@@ -19,7 +19,7 @@ use Rattle.taos_saturate.specs.Gathering.{Widens, CitedIn, chosen_by, Gathers}
 use Rattle.taos_saturate.specs.Interning.{IsRoomy, Fits, TakesIn}
 use Rattle.taos_saturate.specs.Saturating.{claim_by}
 use Rattle.stmt_codec.specs.Certificates.{Certificate, speaker_of, IsWithinLimits}
-use Rattle.taos_saturate.proofs.Interned.{pushed_at, length_grown, named_stays, fits_next}
+use Rattle.taos_saturate.proofs.Interned.{length_grown, longer_length, longer_named, named_stays, fits_next}
 use Rattle.taos_saturate.proofs.Few.{cert_few}
 
 map_same : {X Y : Type 0} (f g : X → Y) (xs : List X) → All (λ x. f x ≡ g x) xs → map f xs ≡ map g xs
@@ -50,11 +50,10 @@ widens_taken old new ps p id n t few =
 
 module _ (old new : List Node) (n : ℕ) (w : Widens old new n) where
   pub widens_length : length old ≤ length new
-  widens_length = omega (arith, ap length w.longer, length-append (principals_of old) w.more, length-principals_of old, length-principals_of new)
+  widens_length = longer_length old new w.more w.longer
 
   pub widens_named : (i : ℕ) → i < length old → named new i ≡ named old i
-  widens_named i h =
-      ap (λ (xs : List Principal). get_or xs i (Key 0)) w.longer ∙ get_or_append_left (principals_of old) w.more (Key 0) i (omega (arith, h, length-principals_of old))
+  widens_named i h = longer_named old new w.more w.longer i h
 
   pub widens_contains : (p : Principal) → Contains (principals_of old) p → Contains (principals_of new) p
   widens_contains p c = subst (λ (xs : List Principal). Contains xs p) (sym w.longer) (Contains-append_left (principals_of old) w.more p c)

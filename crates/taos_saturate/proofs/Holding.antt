@@ -5,9 +5,9 @@ use Rattle.std.proofs.lemmas.List.{length-map}
 use Rattle.std.proofs.lemmas.Nat.{mul-le}
 use Rattle.std.proofs.lemmas.Option.{none-some, same_Some, slice_get-map}
 use Rattle.prin_term.specs.declared.term.Entry.{Entry}
-use Rattle.prin_term.specs.Principal.{Principal, Key, Quoting, node_count}
+use Rattle.prin_term.specs.Principal.{Principal}
 use Rattle.prin_term.specs.View.{Grant, grant, principal}
-use Rattle.taos_calculus.specs.Question.{picked, IsSubject}
+use Rattle.taos_calculus.specs.Question.{picked}
 use Rattle.taos_calculus.proofs.Induction.{All-at}
 use Rattle.taos_calculus.proofs.Asking.{IsPicked, picked-at}
 use Rattle.taos_saturate.specs.declared.found.Pair.{Pair}
@@ -19,11 +19,6 @@ use Rattle.taos_saturate.specs.Gathering.{CitedIn, statement_of}
 use Rattle.taos_saturate.specs.Held.{IsGathered}
 use Rattle.taos_saturate.specs.Saturating.{IsReady}
 use Rattle.taos_saturate.proofs.Growing.{with_found}
-
-pub subject_few : (p : Principal) → IsSubject p → node_count p ≤ 16
-subject_few (Key k) h = omega arith
-subject_few (Quoting (Key k) q) h = omega (arith, h)
-subject_few _ h = absurd h
 
 pub few_mapped : {X Y : Type 0} (f : X → Y) (xs : List X) (n : ℕ) → length (map f xs) ≤ n → length xs ≤ n
 few_mapped f xs n h = omega (arith, h, length-map xs f)

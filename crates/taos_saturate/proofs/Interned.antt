@@ -8,7 +8,7 @@ use Rattle.std.proofs.lemmas.Bool.{false_from_ne_true}
 use Rattle.std.proofs.lemmas.Map.Views.{Contains-from_any}
 use Rattle.std.proofs.lemmas.Option.{none-some, same_Some, slice_get-get_or, slice_get_within}
 use Rattle.prin_term.specs.Kind.{Kind, And, Quoting, For, pair}
-use Rattle.prin_term.specs.Principal.{Principal, Key, InRole, node_count}
+use Rattle.prin_term.specs.Principal.{Principal, Key, InRole}
 use Rattle.taos_calculus.specs.declared.line.Node.{Node}
 use Rattle.stmt_codec.specs.Distinct.{same_principal}
 use Rattle.taos_calculus.specs.Canonical.{post_order}
@@ -120,18 +120,30 @@ module _ (nodes : List Node) (table : IsNodeTable nodes) (node : Node) (below : 
           (subst (λ n. get_or (principals_of nodes ++ it ∷ []) n (Key 0) ≡ it) (length-principals_of nodes) (get_or-append_seam (principals_of nodes) it [] (Key 0)));
     }
 
--- a table that has grown
-module _ (old new : List Node) (ps : List Principal) (p : Principal) (id : ℕ) (t : TakesIn old new ps p id) where
-  longer : (more : List Principal) × (principals_of new ≡ principals_of old ++ more)
-  longer = let (more, e) = met-grows (principals_of old) ps in (more, t.grown ∙ e)
+-- a table with more principals after its own keeps those of its numbers
+module _ (old new : List Node) (more : List Principal) (e : principals_of new ≡ principals_of old ++ more) where
+  pub longer_length : length old ≤ length new
+  longer_length = omega (arith, ap length e, length-append (principals_of old) more, length-principals_of old, length-principals_of new)
 
+  pub longer_named : (i : ℕ) → i < length old → named new i ≡ named old i
+  longer_named i h =
+      ap (λ (xs : List Principal). get_or xs i (Key 0)) e ∙ get_or_append_left (principals_of old) more (Key 0) i (omega (arith, h, length-principals_of old))
+
+-- and so does one that has met principals
+module _ (old new : List Node) (ps : List Principal) (e : principals_of new ≡ met (principals_of old) ps) where
+  pub met_length : length old ≤ length new
+  met_length = let (more, f) = met-grows (principals_of old) ps in longer_length old new more (e ∙ f)
+
+  pub met_named : (i : ℕ) → i < length old → named new i ≡ named old i
+  met_named i h = let (more, f) = met-grows (principals_of old) ps in longer_named old new more (e ∙ f) i h
+
+-- a table that has taken principals in
+module _ (old new : List Node) (ps : List Principal) (p : Principal) (id : ℕ) (t : TakesIn old new ps p id) where
   pub length_grown : length old ≤ length new
-  length_grown = let (more, e) = longer in omega (arith, ap length e, length-append (principals_of old) more, length-principals_of old, length-principals_of new)
+  length_grown = met_length old new ps t.grown
 
   pub named_stays : (i : ℕ) → i < length old → named new i ≡ named old i
-  named_stays i h =
-      let (more, e) = longer in
-      ap (λ (xs : List Principal). get_or xs i (Key 0)) e ∙ get_or_append_left (principals_of old) more (Key 0) i (omega (arith, h, length-principals_of old))
+  named_stays i h = met_named old new ps t.grown i h
 
   pub fits_next : (qs : List Principal) → Fits old (ps ++ qs) → Fits new qs
   fits_next qs f = rw (t.grown) (subst (λ (xs : List Principal). length xs ≤ 1296) (met-append (principals_of old) ps qs) f)
@@ -165,11 +177,6 @@ module _ (o n : List Node) (a : Principal) (r x : ℕ) (h : TakesIn o n (post_or
         within = k.within;
         named_is = k.named_is ∙ same;
       }
-
-pub node_count-pair : (kind : Kind) (a b : Principal) → node_count (pair kind a b) ≡ 1 + (node_count a + node_count b)
-node_count-pair And a b = refl
-node_count-pair Quoting a b = refl
-node_count-pair For a b = refl
 
 post_order-pair : (kind : Kind) (a b : Principal) → post_order (pair kind a b) ≡ (post_order a ++ post_order b) ++ pair kind a b ∷ []
 post_order-pair And a b = refl

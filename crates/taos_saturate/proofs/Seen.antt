@@ -1,20 +1,20 @@
 -- What a held decider knows of the terms of its question.
 use Rattle.std.proofs.Common.{◌≡◌, ◌↔◌, inl, inr, ℕ, ◌<◌, List, [], ◌∷◌, ◌++◌, Option, Some, None, length, map, refl, ap, subst, All, lit<}
 use Rattle.std.specs.Prelude.{MatchOption, IsSome}
-use Rattle.std.proofs.lemmas.List.Elements.{All-cons, All-append, All-weaker, All-map, All-contains}
-use Rattle.prin_term.specs.Principal.{Principal, Key, Name, And, Quoting, InRole, For, subterms, operands}
+use Rattle.std.proofs.lemmas.List.Elements.{All-weaker, All-map, All-contains}
+use Rattle.prin_term.specs.Principal.{Principal, subterms}
 use Rattle.taos_calculus.specs.declared.line.Fact.{Fact}
 use Rattle.taos_calculus.specs.Question.{Question, claims_of, IsTermOf, MayAnswer}
 use Rattle.taos_calculus.specs.Rules.{Claim}
 use Rattle.taos_calculus.specs.Tables.{named}
-use Rattle.taos_calculus.proofs.Induction.{All-one}
-use Rattle.taos_calculus.proofs.Numbers.{Numbered, numbered_operands}
+use Rattle.taos_calculus.proofs.Numbers.{Numbered}
 use Rattle.taos_saturate.specs.declared.held.Held.{Held}
 use Rattle.taos_saturate.specs.declared.saturation.Cited.{Cited}
 use Rattle.taos_saturate.specs.Gathering.{chosen_by}
 use Rattle.taos_saturate.specs.Held.{IsHeld, seen}
 use Rattle.taos_saturate.specs.Saturating.{IsNumber, IsKnown, claims_in, claim_by}
 use Rattle.taos_saturate.proofs.Deciding.{good_decides}
+use Rattle.taos_saturate.proofs.Fitting.{parts_have}
 
 -- what is not none is some
 pub some_if : {X : Type 0} (o : Option X) (N : Type 0) (S : X → Type 0) → MatchOption o N S → (N → ⊥) → IsSome o
@@ -32,23 +32,8 @@ module _ (h : Held) (held : IsHeld h) where
   abbrev Has : Principal → Type 0
   Has q = Numbered h.table.nodes.items held.good.ready.table h.table.anchors.items (claims_in h.table) q
 
-  operands_have : (q : Principal) → Has q → All Has (operands q)
-  operands_have q u = numbered_operands h.table.nodes.items held.good.ready.table h.table.anchors.items (claims_in h.table) q u
-
-  parts_have : (q : Principal) → Has q → All Has (subterms q)
-  parts_have (Key k) u = All-one Has (Key k) u
-  parts_have (Name n) u = All-one Has (Name n) u
-  parts_have (And a b) u =
-      All-cons Has (And a b) (subterms a ++ subterms b) u
-      (All-append Has (subterms a) (subterms b) (parts_have a (operands_have (And a b) u 0 a (lit< tt))) (parts_have b (operands_have (And a b) u 1 b (lit< tt))))
-  parts_have (Quoting a b) u =
-      All-cons Has (Quoting a b) (subterms a ++ subterms b) u
-      (All-append Has (subterms a) (subterms b) (parts_have a (operands_have (Quoting a b) u 0 a (lit< tt))) (parts_have b (operands_have (Quoting a b) u 1 b (lit< tt))))
-  parts_have (For a b) u =
-      All-cons Has (For a b) (subterms a ++ subterms b) u
-      (All-append Has (subterms a) (subterms b) (parts_have a (operands_have (For a b) u 0 a (lit< tt))) (parts_have b (operands_have (For a b) u 1 b (lit< tt))))
-  parts_have (InRole a r) u =
-      All-cons Has (InRole a r) (subterms a) u (parts_have a (operands_have (InRole a r) u 0 a (lit< tt)))
+  parts_in : (q : Principal) → Has q → All Has (subterms q)
+  parts_in q u = parts_have h.table.nodes.items held.good.ready.table h.table.anchors.items (claims_in h.table) q u
 
   entries_have : All Has (seen h).list
   entries_have =
@@ -56,9 +41,9 @@ module _ (h : Held) (held : IsHeld h) where
       (All-weaker (λ i. i < length h.table.nodes.items) (λ i. Has (named h.table.nodes.items i)) (λ i b. (i, b, refl)) h.list.items held.list_in)
 
   has_term : (p : Principal) → IsTermOf (seen h) p → Has p
-  has_term p (inl c) = All-contains Has (subterms (seen h).subject) p (parts_have (seen h).subject (h.subject, held.subject_in, refl)) c
+  has_term p (inl c) = All-contains Has (subterms (seen h).subject) p (parts_in (seen h).subject (h.subject, held.subject_in, refl)) c
   has_term p (inr (k, x, b, e, c)) =
-      All-contains Has (subterms x) p (parts_have x (subst Has e (entries_have k x b))) c
+      All-contains Has (subterms x) p (parts_in x (subst Has e (entries_have k x b))) c
 
   -- the same, as it is seen from outside
   module _ (q : Question) (view : q ≡ seen h) where

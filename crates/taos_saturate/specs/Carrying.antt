@@ -17,20 +17,28 @@ FactFits nodes new fact = Fits new (flat_map post_order (terms_of (judgement (na
 -- the new table has grown by the fact's terms, and the carried fact says the same
 pub record CarriesFact (nodes old new : List Node) (fact carried : Fact) : Type 0 where
   pub table : IsNodeTable new
-  pub grown : principals_of new ≡ met (principals_of old) (flat_map post_order (terms_of (judgement (named nodes) fact)))
+  pub grown :
+      principals_of new ≡
+      met (principals_of old) (flat_map post_order (terms_of (judgement (named nodes) fact)))
   pub below : IsBelow (length new) carried
   pub says : judgement (named new) carried ≡ judgement (named nodes) fact
 
 -- the line m over the new table says what l says, with its certificate by the place in used
-pub record IsCarriedLine (nodes : List Node) (used : List ℕ) (new : List Node) (l m : Line) : Type 0 where
+pub record IsCarriedLine (nodes : List Node) (used : List ℕ)
+    (new : List Node) (l m : Line) : Type 0 where
   pub below : IsBelow (length new) m.fact
   pub says : judgement (named new) m.fact ≡ judgement (named nodes) l.fact
   pub recited : IsRecited used l.step m.step
 
 -- out are the lines over the table of their own terms, with their certificates by the places in
 -- used
-pub record CarriesLines (nodes : List Node) (used : List ℕ) (lines : List Line) (new : List Node) (out : List Line) : Type 0 where
+pub record CarriesLines (nodes : List Node) (used : List ℕ)
+    (lines : List Line) (new : List Node) (out : List Line) : Type 0 where
   pub table : IsNodeTable new
-  pub grown : principals_of new ≡ met [] (flat_map post_order (flat_map (λ (l : Line). terms_of (judgement (named nodes) l.fact)) lines))
+  pub grown :
+      principals_of new ≡
+      met [] (flat_map post_order
+      (flat_map (λ (l : Line). terms_of (judgement (named nodes) l.fact)) lines))
   pub long : length out ≡ length lines
-  pub each : (i : ℕ) (l : Line) → slice_get lines i ≡ Some l → (m : Line) × (slice_get out i ≡ Some m) × IsCarriedLine nodes used new l m
+  pub each : (i : ℕ) (l : Line) → slice_get lines i ≡ Some l →
+      (m : Line) × (slice_get out i ≡ Some m) × IsCarriedLine nodes used new l m

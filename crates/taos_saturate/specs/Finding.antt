@@ -1,5 +1,6 @@
 -- The table that finds a fact's line.
-use Rattle.std.specs.Prelude.{◌≡◌, ◌≢◌, ℕ, suc, ◌+◌, ◌*◌, ◌<◌, ◌≤◌, ◌^◌, List, Some, slice_get, slice_index, length, sum_by, zero, vec_capacity}
+use Rattle.std.specs.Prelude.{◌≡◌, ◌≢◌, ℕ, suc, ◌+◌, ◌*◌, ◌<◌, ◌≤◌, ◌^◌, List, Some}
+use Rattle.std.specs.Prelude.{slice_get, slice_index, length, sum_by, zero, vec_capacity}
 use Rattle.taos_calculus.specs.declared.line.Fact.{Fact}
 use Rattle.taos_calculus.specs.declared.line.Line.{Line}
 use Rattle.taos_saturate.specs.declared.found.Pair.{Pair}
@@ -19,8 +20,10 @@ pub record IsFirstOf (statements : List Pair) (left right k : ℕ) : Type 0 wher
 -- the fact's place in the table: a row is a number for what it speaks for, or a statement for who
 -- says it
 pub data IsCell (width : ℕ) (statements : List Pair) : Fact → ℕ → Type 0 where
-  of_speaks : {l r c : ℕ} → l < width → r < width → c ≡ l * width + r → IsCell width statements (Fact.Speaks l r) c
-  of_says : {w l r c : ℕ} (k : ℕ) → w < width → IsFirstOf statements l r k → c ≡ (width + k) * width + w →
+  of_speaks : {l r c : ℕ} → l < width → r < width →
+      c ≡ l * width + r → IsCell width statements (Fact.Speaks l r) c
+  of_says : {w l r c : ℕ} (k : ℕ) → w < width →
+      IsFirstOf statements l r k → c ≡ (width + k) * width + w →
       IsCell width statements (Fact.Says w l r) c
 
 -- 1 at a cell that holds no number
@@ -29,7 +32,8 @@ vacancy zero = 1
 vacancy (suc n) = 0
 
 -- the numbers tell the line of each fact, as the number and one more; 0 tells that there is none
-pub record IsIndex (width : ℕ) (statements : List Pair) (numbers : List ℕ) (lines : List Line) : Type 0 where
+pub record IsIndex (width : ℕ) (statements : List Pair)
+    (numbers : List ℕ) (lines : List Line) : Type 0 where
   -- a cell for each two numbers, and one for each statement with each number
   pub sized : length numbers ≡ width * (width + length statements)
   pub fits : width * (width + length statements) < 2 ^ 32
@@ -68,7 +72,8 @@ pub record IsFound (s : Found) : Type 0 where
 -- the row knows each column that the other row knows
 abbrev pub Covers : Found → ℕ → ℕ → Type 0
 Covers s row through =
-    (c : ℕ) → c < s.width → slice_index s.numbers.items (through * s.width + c) ≢ 0 → slice_index s.numbers.items (row * s.width + c) ≢ 0
+    (c : ℕ) → c < s.width → slice_index s.numbers.items (through * s.width + c) ≢ 0 →
+    slice_index s.numbers.items (row * s.width + c) ≢ 0
 
 -- a column that the row does not know and the other row knows
 pub record IsGap (s : Found) (row through c : ℕ) : Type 0 where

@@ -39,6 +39,7 @@ abbrev pub place_at : List Cited → ℕ → ℕ
 place_at cited k = (cited_or cited k).place
 
 -- the certificates by their numbers are these
-pub record Gathers (nodes : List Node) (cited : List Cited) (chosen : List (ℕ × Claim)) : Type 0 where
+pub record Gathers (nodes : List Node) (cited : List Cited)
+    (chosen : List (ℕ × Claim)) : Type 0 where
   pub cited_in : All (CitedIn (length nodes)) cited
   pub chosen_is : map (chosen_by (named nodes)) cited ≡ chosen

@@ -1,5 +1,6 @@
 -- A decider with what it was asked.
-use Rattle.std.specs.Prelude.{◌≡◌, ℕ, ◌<◌, ◌≤◌, List, Some, slice_get, length, map, All, vec_capacity}
+use Rattle.std.specs.Prelude.{◌≡◌, ℕ, ◌<◌, ◌≤◌, List, Some, slice_get}
+use Rattle.std.specs.Prelude.{length, map, All, vec_capacity}
 use Rattle.taos_calculus.specs.declared.decide.TheConstants.{MAX_ANCHORS, MAX_CERTS, MAX_ENTRIES}
 use Rattle.taos_calculus.specs.declared.proof.TheConstants.{MAX_LINES, MAX_NODES}
 use Rattle.taos_calculus.specs.Question.{Question}
@@ -30,7 +31,9 @@ seen h = record {
 
 -- no place comes twice
 abbrev pub ArePlacesApart : List (ℕ × Claim) → Type 0
-ArePlacesApart chosen = (i j place : ℕ) (x y : Claim) → slice_get chosen i ≡ Some (place, x) → slice_get chosen j ≡ Some (place, y) → i ≡ j
+ArePlacesApart chosen =
+    (i j place : ℕ) (x y : Claim) → slice_get chosen i ≡ Some (place, x) →
+    slice_get chosen j ≡ Some (place, y) → i ≡ j
 
 -- the question is taken in; nothing need be decided yet
 pub record IsGathered (h : Held) : Type 0 where

@@ -18,7 +18,8 @@ abbrev pub Fits : List Node → List Principal → Type 0
 Fits nodes ps = length (met (principals_of nodes) ps) ≤ MAX_NODES
 
 -- the table has grown by what was not there of ps, and p has the number id
-pub record TakesIn (old new : List Node) (ps : List Principal) (p : Principal) (id : ℕ) : Type 0 where
+pub record TakesIn (old new : List Node) (ps : List Principal)
+    (p : Principal) (id : ℕ) : Type 0 where
   pub table : IsNodeTable new
   pub grown : principals_of new ≡ met (principals_of old) ps
   pub within : id < length new

@@ -1,5 +1,6 @@
 -- What a saturation holds.
-use Rattle.std.specs.Prelude.{◌≡◌, ℕ, ◌<◌, ◌≤◌, ◌^◌, List, [], Some, slice_get, length, map, Contains, vec_capacity}
+use Rattle.std.specs.Prelude.{◌≡◌, ℕ, ◌<◌, ◌≤◌, ◌^◌, List, [], Some}
+use Rattle.std.specs.Prelude.{slice_get, length, map, Contains, vec_capacity}
 use Rattle.prin_term.specs.declared.term.Anchor.{Anchor}
 use Rattle.prin_term.specs.Principal.{Principal, Key, Name}
 use Rattle.taos_calculus.specs.declared.line.Step.{Step}
@@ -26,11 +27,13 @@ pub record IsSaying (c : Cited) (speaker left right : ℕ) : Type 0 where
 
 -- no certificate is this statement by this speaker
 abbrev pub LacksSaying : List Cited → ℕ → ℕ → ℕ → Type 0
-LacksSaying cited speaker left right = (i : ℕ) (c : Cited) → slice_get cited i ≡ Some c → IsSaying c speaker left right → ⊥
+LacksSaying cited speaker left right =
+    (i : ℕ) (c : Cited) → slice_get cited i ≡ Some c → IsSaying c speaker left right → ⊥
 
 -- the certificate of number i is this statement by this speaker
 abbrev pub HasSaying : List Cited → ℕ → ℕ → ℕ → ℕ → Type 0
-HasSaying cited speaker left right i = (c : Cited) × (slice_get cited i ≡ Some c) × IsSaying c speaker left right
+HasSaying cited speaker left right i =
+    (c : Cited) × (slice_get cited i ≡ Some c) × IsSaying c speaker left right
 
 -- what its certificates say
 abbrev pub claims_in : Saturation → List Claim
@@ -61,10 +64,12 @@ pub record IsReady (s : Saturation) : Type 0 where
   pub anchors_fit : length s.anchors.items < 2 ^ 16
   pub cited_fit : length s.cited.items < 2 ^ 16
   -- the sides of each statement are numbers of the table
-  pub statements_in : (k : ℕ) (p : Pair) → slice_get s.found.statements.items k ≡ Some p → IsNumber s p.left × IsNumber s p.right
+  pub statements_in : (k : ℕ) (p : Pair) → slice_get s.found.statements.items k ≡ Some p →
+      IsNumber s p.left × IsNumber s p.right
   -- each certificate's speaker is a number of the table, and what it says a statement
   pub cited_in : (k : ℕ) (c : Cited) → slice_get s.cited.items k ≡ Some c →
-      IsNumber s c.speaker × ((m : ℕ) × (slice_get s.found.statements.items m ≡ Some (pair c.left c.right)))
+      IsNumber s c.speaker ×
+      ((m : ℕ) × (slice_get s.found.statements.items m ≡ Some (pair c.left c.right)))
 
 -- the fact was found
 abbrev pub IsKnown : Saturation → Fact → Type 0
@@ -100,25 +105,32 @@ LacksSays s w l r = (step : Step) → IsNoLift step → Lacks s (Fact.Says w l r
 
 -- what a step without a chain gives between these is known
 abbrev pub SpeaksFull : Saturation → ℕ → ℕ → Type 0
-SpeaksFull s l r = (step : Step) → IsNoChain step → GivesIn s (Fact.Speaks l r) step → IsKnown s (Fact.Speaks l r)
+SpeaksFull s l r =
+    (step : Step) → IsNoChain step → GivesIn s (Fact.Speaks l r) step → IsKnown s (Fact.Speaks l r)
 
 -- what a step without a lift gives, that w says this statement, is known
 abbrev pub SaysFull : Saturation → ℕ → Pair → Type 0
-SaysFull s w p = (step : Step) → IsNoLift step → GivesIn s (Fact.Says w p.left p.right) step → IsKnown s (Fact.Says w p.left p.right)
+SaysFull s w p =
+    (step : Step) → IsNoLift step → GivesIn s (Fact.Says w p.left p.right) step →
+    IsKnown s (Fact.Says w p.left p.right)
 
 -- what m speaks for, l is known to speak for too, if it speaks for m
 abbrev pub ChainFull : Saturation → ℕ → ℕ → Type 0
 ChainFull s l m = (i j r : ℕ) →
-    slice_get (facts_of s) i ≡ Some (Fact.Speaks l m) → slice_get (facts_of s) j ≡ Some (Fact.Speaks m r) → IsKnown s (Fact.Speaks l r)
+    slice_get (facts_of s) i ≡ Some (Fact.Speaks l m) →
+    slice_get (facts_of s) j ≡ Some (Fact.Speaks m r) → IsKnown s (Fact.Speaks l r)
 
 -- what this line gives by a chain is known, unless it comes by a chain itself
 abbrev pub LineFull : Saturation → ℕ → Type 0
-LineFull s k = (line : Line) (l m : ℕ) → slice_get s.found.lines.items k ≡ Some line → line.fact ≡ Fact.Speaks l m → IsNoChain line.step → ChainFull s l m
+LineFull s k =
+    (line : Line) (l m : ℕ) → slice_get s.found.lines.items k ≡ Some line →
+    line.fact ≡ Fact.Speaks l m → IsNoChain line.step → ChainFull s l m
 
 -- for whom w speaks, they are known to say what w says
 abbrev pub LiftFull : Saturation → ℕ → Pair → Type 0
 LiftFull s w p = (i j b : ℕ) →
-    slice_get (facts_of s) i ≡ Some (Fact.Says w p.left p.right) → slice_get (facts_of s) j ≡ Some (Fact.Speaks w b) → IsKnown s (Fact.Says b p.left p.right)
+    slice_get (facts_of s) i ≡ Some (Fact.Says w p.left p.right) →
+    slice_get (facts_of s) j ≡ Some (Fact.Speaks w b) → IsKnown s (Fact.Says b p.left p.right)
 
 -- no step gives anything new
 pub record IsFull (s : Saturation) : Type 0 where
@@ -127,9 +139,11 @@ pub record IsFull (s : Saturation) : Type 0 where
   -- what a chain gives is known
   pub chains : (l m : ℕ) → IsNumber s l → IsNumber s m → ChainFull s l m
   -- what a step without a lift gives is known
-  pub says : (k w : ℕ) (p : Pair) → slice_get s.found.statements.items k ≡ Some p → IsNumber s w → SaysFull s w p
+  pub says : (k w : ℕ) (p : Pair) → slice_get s.found.statements.items k ≡ Some p →
+      IsNumber s w → SaysFull s w p
   -- what a lift gives is known
-  pub lifts : (k w : ℕ) (p : Pair) → slice_get s.found.statements.items k ≡ Some p → IsNumber s w → LiftFull s w p
+  pub lifts : (k w : ℕ) (p : Pair) →
+      slice_get s.found.statements.items k ≡ Some p → IsNumber s w → LiftFull s w p
 
 -- each line's step gives its fact from the lines before it
 abbrev pub IsSound : Saturation → Type 0

@@ -1,6 +1,7 @@
 //! The certificates that lines cite.
 
-ghost use Rattle.std.specs.Prelude.{◌≡◌, ◌↔◌, ℕ, ◌+◌, ◌<◌, ◌^◌, Some, IsTrue, IfOk, MatchOption, OnOk, slice_get, length, Contains};
+ghost use Rattle.std.specs.Prelude.{◌≡◌, ◌↔◌, ℕ, ◌+◌, ◌<◌, ◌^◌, Some, IsTrue, IfOk};
+ghost use Rattle.std.specs.Prelude.{MatchOption, OnOk, slice_get, length, Contains};
 ghost use Rattle.taos_calculus.specs.Tidy.{cites_of};
 ghost use Rattle.taos_saturate.specs.Citing.{IsCite, HasPlace, UsedBelow, IsRecited};
 

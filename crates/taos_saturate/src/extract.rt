@@ -1,9 +1,12 @@
 //! The lines that a goal needs.
 
-ghost use Rattle.std.specs.Prelude.{◌≡◌, ◌≢◌, ◌⊎◌, ℕ, ◌+◌, ◌<◌, ◌≤◌, ◌^◌, ◌++◌, Some, IfOk, slice_get, slice_index, length, Contains, option_to_list, option_map};
+ghost use Rattle.std.specs.Prelude.{◌≡◌, ◌≢◌, ◌⊎◌, ℕ, ◌+◌, ◌<◌, ◌≤◌, ◌^◌, ◌++◌};
+ghost use Rattle.std.specs.Prelude.{Some, IfOk, slice_get, slice_index, length};
+ghost use Rattle.std.specs.Prelude.{Contains, option_to_list, option_map};
 ghost use Rattle.taos_calculus.specs.declared.line.Line.{Line};
 ghost use Rattle.taos_calculus.specs.Tidy.{premises_of, moved};
-ghost use Rattle.taos_saturate.specs.Extract.{Marked, IsMarked, IsMarkedFrom, IsExtract, PremisesBelow};
+ghost use Rattle.taos_saturate.specs.Extract.{Marked, IsMarked, IsMarkedFrom};
+ghost use Rattle.taos_saturate.specs.Extract.{IsExtract, PremisesBelow};
 
 use std::alloc::{AllocError, Global};
 use taos_calculus::{Line, Step};

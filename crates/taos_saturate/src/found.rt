@@ -1,6 +1,7 @@
 //! The facts that were found, each at one line, with a table that finds a fact's line at once.
 
-ghost use Rattle.std.specs.Prelude.{◌≡◌, ℕ, ◌+◌, ◌*◌, ◌<◌, ◌≤◌, ◌^◌, List, [], ◌∷◌, ◌++◌, Some, None, MatchOption, slice_get, length, vec_capacity};
+ghost use Rattle.std.specs.Prelude.{◌≡◌, ℕ, ◌+◌, ◌*◌, ◌<◌, ◌≤◌, ◌^◌, List, [], ◌∷◌, ◌++◌};
+ghost use Rattle.std.specs.Prelude.{Some, None, MatchOption, slice_get, length, vec_capacity};
 ghost use Rattle.taos_calculus.specs.declared.line.Fact.{Fact};
 ghost use Rattle.taos_saturate.specs.declared.found.Pair.{Pair};
 ghost use Rattle.taos_saturate.specs.Finding.{IsCell, IsFirstOf, IsFound, facts_in, HasCell, room};
@@ -14,8 +15,8 @@ pub struct Pair {
     pub right: u16,
 }
 
-/// The lines, and for each fact the number of its line and one more, or 0. A row of the table is a principal
-/// for what it speaks for, or a statement for who says it.
+/// The lines, and for each fact the number of its line and one more, or 0. A row of the table is
+/// a principal for what it speaks for, or a statement for who says it.
 #[derive(Drop)]
 pub struct Found {
     pub width: usize,

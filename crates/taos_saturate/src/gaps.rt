@@ -1,11 +1,13 @@
 //! What one row of the table knows and another does not.
 
-ghost use Rattle.std.specs.Prelude.{◌≡◌, ◌≢◌, ℕ, ◌+◌, ◌*◌, ◌^◌, ◌<◌, ◌↔◌, IsTrue, MatchOption, length, slice_index};
+ghost use Rattle.std.specs.Prelude.{◌≡◌, ◌≢◌, ℕ, ◌+◌, ◌*◌, ◌^◌, ◌<◌, ◌↔◌};
+ghost use Rattle.std.specs.Prelude.{IsTrue, MatchOption, length, slice_index};
 ghost use Rattle.taos_saturate.specs.Finding.{IsFound, Covers, IsGap};
 
 use crate::found::Found;
 
-// Whether each place that the second knows is known to the first. It looks at all places, which is faster than to stop at one.
+// Whether each place that the second knows is known to the first. It looks at all places, which is
+// faster than to stop at one.
 fn covers(over: &[u32], under: &[u32]) -> bool
     requires { length over.now ≡ length under.now }
     ensures { IsTrue result → (c : ℕ) → c < length under.now → slice_index under.now c ≢ 0

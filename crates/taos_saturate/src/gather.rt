@@ -1,9 +1,11 @@
 //! Taking a question into a table of nodes.
 
-ghost use Rattle.std.specs.Prelude.{◌≡◌, ℕ, ◌+◌, ◌*◌, ◌<◌, ◌≤◌, [], All, length, map, take, vec_capacity};
+ghost use Rattle.std.specs.Prelude.{◌≡◌, ℕ, ◌+◌, ◌*◌, ◌<◌, ◌≤◌, [], All};
+ghost use Rattle.std.specs.Prelude.{length, map, take, vec_capacity};
 ghost use Rattle.prin_term.specs.Principal.{node_count};
 ghost use Rattle.prin_term.specs.View.{grant, principal};
 ghost use Rattle.stmt_codec.specs.Certificates.{certificate};
+ghost use Rattle.stmt_codec.specs.View.{certificates};
 ghost use Rattle.taos_calculus.specs.declared.proof.TheConstants.{MAX_NODES};
 ghost use Rattle.taos_calculus.specs.Question.{claim_of, picked};
 ghost use Rattle.taos_calculus.specs.Tables.{named};
@@ -80,11 +82,10 @@ fn take_at(
     requires cited_few { length cited.old.items ≤ place }
     requires cited_room { length certs.now ≤ vec_capacity cited.old }
     requires gathers { Gathers nodes.old.items cited.old.items
-        (picked 0 (take place (map claim_of (map (λ c. certificate c.value.body) certs.now)))
-        (take place chosen.now)) }
+        (picked 0 (take place (map claim_of (certificates certs.now))) (take place chosen.now)) }
     ensures widens { Widens nodes.old.items nodes.new.items 16 }
     ensures gathers { Gathers nodes.new.items cited.new.items
-        (picked 0 (take (place + 1) (map claim_of (map (λ c. certificate c.value.body) certs.now)))
+        (picked 0 (take (place + 1) (map claim_of (certificates certs.now)))
         (take (place + 1) chosen.now)) }
     ensures cited_few { length cited.new.items ≤ place + 1 }
     ensures capacity { vec_capacity nodes.old ≤ vec_capacity nodes.new }
@@ -111,7 +112,7 @@ pub fn take_certs(
     requires cited_room { length certs.now ≤ vec_capacity cited.old }
     ensures widens { Widens nodes.old.items nodes.new.items (16 * length certs.now) }
     ensures gathers { Gathers nodes.new.items cited.new.items
-        (picked 0 (map claim_of (map (λ c. certificate c.value.body) certs.now)) chosen.now) }
+        (picked 0 (map claim_of (certificates certs.now)) chosen.now) }
     ensures cited_few { length cited.new.items ≤ length certs.now }
     ensures capacity { vec_capacity nodes.old ≤ vec_capacity nodes.new }
     ensures cited_capacity { vec_capacity cited.old ≤ vec_capacity cited.new }

@@ -2,7 +2,7 @@
 
 ghost use Rattle.std.specs.Prelude.{◌≡◌, ◌<◌, ℕ, [], All, IfOk, Some, length, map, slice_get};
 ghost use Rattle.prin_term.specs.View.{grant, principal};
-ghost use Rattle.stmt_codec.specs.Certificates.{certificate};
+ghost use Rattle.stmt_codec.specs.View.{certificates};
 ghost use Rattle.taos_calculus.specs.declared.line.Fact.{Fact};
 ghost use Rattle.taos_calculus.specs.Question.{question_of, IsAskable, IsProofOf};
 ghost use Rattle.taos_calculus.specs.Tables.{named, lines_of};
@@ -97,14 +97,12 @@ impl Held {
         requires cited { self.old.table.cited.items ≡ [] }
         requires statements { self.old.table.found.statements.items ≡ [] }
         requires list { self.old.list.items ≡ [] }
-        requires askable { IsAskable anchors.now
-            (map (λ c. certificate c.value.body) certs.now) chosen.now (principal subject.now)
-            (map grant list.now) }
+        requires askable { IsAskable anchors.now (certificates certs.now) chosen.now
+            (principal subject.now) (map grant list.now) }
         ensures reserved { IsReserved self.new }
         ensures gathered { IsGathered self.new }
-        ensures seen_is { seen self.new ≡ question_of anchors.now
-            (map (λ c. certificate c.value.body) certs.now) chosen.now (principal subject.now)
-            (map grant list.now) }
+        ensures seen_is { seen self.new ≡ question_of anchors.now (certificates certs.now)
+            chosen.now (principal subject.now) (map grant list.now) }
         ensures apart { ArePlacesApart (seen self.new).chosen }
     {
         keep_anchors(&mut self.table.anchors, anchors);
@@ -136,13 +134,11 @@ impl Held {
         list: &[Entry],
     )
         requires reserved { IsReserved self.old }
-        requires askable { IsAskable anchors.now
-            (map (λ c. certificate c.value.body) certs.now) chosen.now (principal subject.now)
-            (map grant list.now) }
+        requires askable { IsAskable anchors.now (certificates certs.now) chosen.now
+            (principal subject.now) (map grant list.now) }
         ensures held { IsHeld self.new }
-        ensures seen_is { seen self.new ≡ question_of anchors.now
-            (map (λ c. certificate c.value.body) certs.now) chosen.now (principal subject.now)
-            (map grant list.now) }
+        ensures seen_is { seen self.new ≡ question_of anchors.now (certificates certs.now)
+            chosen.now (principal subject.now) (map grant list.now) }
     {
         self.forget();
         self.gather(anchors, certs, chosen, subject, list);

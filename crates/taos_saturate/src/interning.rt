@@ -1,13 +1,15 @@
 //! A term among the nodes of a table.
 
-ghost use Rattle.std.specs.Prelude.{◌≡◌, ℕ, ◌<◌, ◌≤◌, ◌^◌, [], ◌∷◌, length, MatchOption, Some, slice_get, vec_capacity};
+ghost use Rattle.std.specs.Prelude.{◌≡◌, ℕ, ◌<◌, ◌≤◌, ◌^◌, [], ◌∷◌, length};
+ghost use Rattle.std.specs.Prelude.{MatchOption, Some, slice_get, vec_capacity};
 ghost use Rattle.prin_term.specs.Kind.{Kind, pair};
 ghost use Rattle.prin_term.specs.Principal.{Principal};
 ghost use Rattle.prin_term.specs.View.{principal};
 ghost use Rattle.taos_calculus.specs.declared.proof.TheConstants.{MAX_NODES};
 ghost use Rattle.taos_calculus.specs.Canonical.{post_order};
 ghost use Rattle.stmt_codec.specs.Distinct.{met};
-ghost use Rattle.taos_calculus.specs.Tables.{IsNodeTable, OperandsBelow, named, principals_of, shape};
+ghost use Rattle.taos_calculus.specs.Tables.{IsNodeTable, OperandsBelow};
+ghost use Rattle.taos_calculus.specs.Tables.{named, principals_of, shape};
 ghost use Rattle.taos_saturate.specs.Interning.{IsRoomy, TakesIn, Fits, node_pair};
 
 use prin_term::Term;

@@ -3,7 +3,8 @@
 ghost use Rattle.std.specs.Prelude.{◌≡◌, ℕ, ◌<◌, Some, MatchOption, slice_get, length};
 ghost use Rattle.taos_calculus.specs.declared.line.Fact.{Fact};
 ghost use Rattle.taos_saturate.specs.declared.found.Pair.{Pair};
-ghost use Rattle.taos_saturate.specs.Saturating.{IsReady, IsSound, IsNumber, IsNew, SpeaksFull, SaysFull, ChainFull, LineFull, LiftFull, IsFull};
+ghost use Rattle.taos_saturate.specs.Saturating.{IsReady, IsSound, IsNumber, IsNew, SpeaksFull};
+ghost use Rattle.taos_saturate.specs.Saturating.{SaysFull, ChainFull, LineFull, LiftFull, IsFull};
 
 use crate::saturation::Saturation;
 use taos_calculus::{Fact, Line, Step};
@@ -151,8 +152,8 @@ impl Saturation {
         None
     }
 
-    // A new fact by a chain that begins with this line. A line that comes by a chain itself needs no look, since what
-    // follows through it follows through the lines that it comes from.
+    // A new fact by a chain that begins with this line. A line that comes by a chain itself needs
+    // no look, since what follows through it follows through the lines that it comes from.
     fn new_by_line(&self, number: usize) -> Option<Line>
         requires ready { IsReady self.now }
         requires number_in { number < length self.now.found.lines.items }

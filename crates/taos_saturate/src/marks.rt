@@ -1,10 +1,17 @@
-//! Which cells of a table are filled, by rows and by columns. Nothing rests on these bits: they tell where to look.
+//! Which cells of a table are filled, by rows and by columns. Nothing rests on these bits: they tell
+//! where to look.
+
+ghost use Rattle.std.specs.Prelude.{◌≡◌, ◌+◌, ◌/◌, ◌≤◌, vec_capacity};
+ghost use Rattle.taos_saturate.specs.declared.marks.TheConstants.{MAX_ROWS, MAX_WORDS};
 
 use std::alloc::{AllocError, Global};
 use taos_calculus::{MAX_CERTS, MAX_NODES};
 
+// A row for each principal, and one for each statement.
+const MAX_ROWS: usize = MAX_NODES + MAX_CERTS;
+
 // How many words of 64 bits the largest table takes.
-const MAX_WORDS: usize = (MAX_NODES + MAX_CERTS) * (MAX_NODES / 64 + 2);
+const MAX_WORDS: usize = MAX_ROWS * (MAX_NODES / 64 + 2);
 
 /// Bits for the cells of a table, once by rows and once by columns.
 #[derive(Drop)]
@@ -13,18 +20,34 @@ pub struct Marks {
     column_words: usize,
     rows: Vec<u64>,
     columns: Vec<u64>,
+    /// There is room for the largest table, by rows and by columns.
+    ghost row_room: { MAX_WORDS ≤ vec_capacity rows },
+    ghost column_room: { MAX_WORDS ≤ vec_capacity columns },
 }
 
 // How many words hold so many bits.
-fn words_for(bits: usize) -> usize {
+fn words_for(bits: usize) -> usize
+    ensures { result ≡ bits / 64 + 1 }
+{
     bits / 64 + 1
 }
 
+// How many words so many lines of so many bits take.
+fn words_of(lines: usize, bits: usize) -> usize
+    requires lines_fit { lines ≤ MAX_ROWS }
+    requires bits_fit { bits ≤ MAX_ROWS }
+    ensures { result ≤ MAX_WORDS }
+{
+    lines * words_for(bits)
+}
+
 // Sets a bit of one line, where lines have so many words.
-fn set_bit(words: &mut Vec<u64>, line: usize, line_words: usize, bit: usize) {
+fn set_bit(words: &mut Vec<u64>, line: usize, line_words: usize, bit: usize)
+    ensures { vec_capacity words.old ≤ vec_capacity words.new }
+{
     let at = line.wrapping_mul(line_words).wrapping_add(bit / 64);
-    if let Some(word) = words.get_mut(at) {
-        *word |= 1 << (bit % 64);
+    if at < words.len() {
+        words[at] |= 1 << (bit % 64);
     }
 }
 
@@ -49,16 +72,17 @@ impl Marks {
         })
     }
 
-    /// No mark yet, in a table of this size.
-    pub fn restart(&mut self, rows: usize, columns: usize) {
+    /// No mark yet, in a table of this size. Takes no memory.
+    pub fn restart(&mut self, rows: usize, columns: usize)
+        requires rows_fit { rows ≤ MAX_ROWS }
+        requires columns_fit { columns ≤ MAX_ROWS }
+    {
         self.row_words = words_for(columns);
         self.column_words = words_for(rows);
         self.rows.clear();
         self.columns.clear();
-        let _ = self.rows.resize(rows.wrapping_mul(self.row_words), 0);
-        let _ = self
-            .columns
-            .resize(columns.wrapping_mul(self.column_words), 0);
+        self.rows.resize(words_of(rows, columns), 0).unwrap();
+        self.columns.resize(words_of(columns, rows), 0).unwrap();
     }
 
     pub fn mark(&mut self, row: usize, column: usize) {

@@ -1,14 +1,20 @@
 //! Which compounds have a node as an operand. Nothing rests on it: it tells where to look.
 
+ghost use Rattle.std.specs.Prelude.{◌*◌, ◌≤◌, length, vec_capacity};
+ghost use Rattle.taos_calculus.specs.declared.proof.TheConstants.{MAX_NODES};
+
 use std::alloc::{AllocError, Global};
 use taos_calculus::{MAX_NODES, Node};
 
-/// For each node a chain of its places as an operand. A place is twice the compound's number, and one more
-/// for the right operand; it is kept as one more, and 0 ends a chain.
+/// For each node a chain of its places as an operand. A place is twice the compound's number, and
+/// one more for the right operand; it is kept as one more, and 0 ends a chain.
 #[derive(Drop)]
 pub struct Parents {
     first: Vec<u16>,
     next: Vec<u16>,
+    /// There is room for the largest table.
+    ghost first_room: { MAX_NODES ≤ vec_capacity first },
+    ghost next_room: { 2 * MAX_NODES ≤ vec_capacity next },
 }
 
 impl Parents {
@@ -22,28 +28,22 @@ impl Parents {
 
     // Puts a place in front of the operand's chain.
     fn link(&mut self, operand: u16, place: usize) {
-        if place >= 65_535 {
+        let operand = operand as usize;
+        if place >= 65_535 || place >= self.next.len() || operand >= self.first.len() {
             return;
         }
-        let next = match self.first.get_mut(operand as usize) {
-            Some(first) => {
-                let next = *first;
-                *first = place as u16 + 1;
-                next
-            }
-            None => 0,
-        };
-        if let Some(slot) = self.next.get_mut(place) {
-            *slot = next;
-        }
+        self.next[place] = self.first[operand];
+        self.first[operand] = place as u16 + 1;
     }
 
-    /// The compounds of these nodes.
-    pub fn restart(&mut self, nodes: &[Node]) {
+    /// The compounds of these nodes. Takes no memory.
+    pub fn restart(&mut self, nodes: &[Node])
+        requires { length nodes.now ≤ MAX_NODES }
+    {
         self.first.clear();
         self.next.clear();
-        let _ = self.first.resize(nodes.len(), 0);
-        let _ = self.next.resize(nodes.len().wrapping_mul(2), 0);
+        self.first.resize(nodes.len(), 0).unwrap();
+        self.next.resize(2 * nodes.len(), 0).unwrap();
         for i in 0..nodes.len() {
             let place = i.wrapping_mul(2);
             match nodes[i] {

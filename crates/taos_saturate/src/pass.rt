@@ -1,4 +1,5 @@
-//! Passing on what another speaks for: to who speaks for it, and of what it says to those for whom it speaks.
+//! Passing on what another speaks for: to who speaks for it, and of what it says to those for whom
+//! it speaks.
 
 ghost use Rattle.std.specs.Prelude.{◌<◌, IfSome, length};
 ghost use Rattle.taos_saturate.specs.Saturating.{IsReady, IsNumber, IsNew, IsSound, IsGrown};

@@ -1,6 +1,7 @@
 //! Lines over the table of their own terms.
 
-ghost use Rattle.std.specs.Prelude.{◌≡◌, ℕ, ◌<◌, ◌≤◌, ◌^◌, Some, IfOk, slice_get, length, Contains, vec_capacity};
+ghost use Rattle.std.specs.Prelude.{◌≡◌, ℕ, ◌<◌, ◌≤◌, ◌^◌, Some, IfOk};
+ghost use Rattle.std.specs.Prelude.{slice_get, length, Contains, vec_capacity};
 ghost use Rattle.prin_term.specs.Kind.{Kind};
 ghost use Rattle.taos_calculus.specs.Canonical.{post_order};
 ghost use Rattle.taos_calculus.specs.Tables.{IsNodeTable, IsBelow, named};
@@ -87,8 +88,8 @@ pub struct Carried {
     pub lines: Vec<Line>,
 }
 
-/// The lines over the table of their own terms, with their certificates by the places in `used`. There
-/// is no spare room in them, since proofs are kept.
+/// The lines over the table of their own terms, with their certificates by the places in `used`.
+/// There is no spare room in them, since proofs are kept.
 pub fn carry_lines(
     alloc: Global,
     nodes: &[Node],

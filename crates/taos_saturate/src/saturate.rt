@@ -1,6 +1,8 @@
 //! Adding lines until no step gives anything new.
 
-ghost use Rattle.std.specs.Prelude.{◌<◌, IfSome};
+ghost use Rattle.std.specs.Prelude.{◌<◌, ◌≤◌, IfSome, length};
+ghost use Rattle.taos_calculus.specs.declared.decide.TheConstants.{MAX_CERTS};
+ghost use Rattle.taos_calculus.specs.declared.proof.TheConstants.{MAX_NODES};
 ghost use Rattle.taos_saturate.specs.declared.saturation.Saturation.{Saturation};
 ghost use Rattle.taos_saturate.specs.Finding.{room};
 ghost use Rattle.taos_saturate.specs.Saturating.{IsReady, IsNew, IsFull, IsSound, IsGrown};
@@ -54,10 +56,12 @@ impl Saturation {
     fn prepare(&mut self)
         requires ready { IsReady self.old }
         requires sound { IsSound self.old }
+        requires nodes_fit { length self.old.nodes.items ≤ MAX_NODES }
+        requires statements_fit { length self.old.found.statements.items ≤ MAX_CERTS }
         ensures { IsGrown self.old self.new }
     {
         let columns = self.found.width;
-        let rows = columns.wrapping_add(self.found.statements.len());
+        let rows = columns + self.found.statements.len();
         self.marks.restart(rows, columns);
         self.parents.restart(&self.nodes);
     }
@@ -67,6 +71,8 @@ impl Saturation {
     pub fn saturate(&mut self) -> u32
         requires ready { IsReady self.old }
         requires sound { IsSound self.old }
+        requires nodes_fit { length self.old.nodes.items ≤ MAX_NODES }
+        requires statements_fit { length self.old.found.statements.items ≤ MAX_CERTS }
         ensures grown { IsGrown self.old self.new }
         ensures full { IsFull self.new }
     {

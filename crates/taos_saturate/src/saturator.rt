@@ -1,9 +1,10 @@
 //! The decider, seen by what it was asked.
 
-ghost use Rattle.std.specs.Prelude.{◌≡◌, ◌≢◌, ◌↔◌, ℕ, ◌<◌, ◌^◌, IsTrue, IfOk, MatchOption, [], length, map};
+ghost use Rattle.std.specs.Prelude.{◌≡◌, ◌≢◌, ◌↔◌, ℕ, ◌<◌, ◌^◌, IsTrue};
+ghost use Rattle.std.specs.Prelude.{IfOk, MatchOption, [], length, map};
 ghost use Rattle.prin_term.specs.Principal.{Key};
 ghost use Rattle.prin_term.specs.View.{principal};
-ghost use Rattle.taos_calculus.specs.Tables.{IsNodeTable, lines_of, named, shape, OperandsBelow};
+ghost use Rattle.taos_calculus.specs.Tables.{IsNodeTable, lines_of, named};
 ghost use Rattle.taos_calculus.specs.Question.{question_of, IsProofOf, IsTermOf, MayAnswer};
 ghost use Rattle.taos_saturate.specs.Held.{IsHeld, seen};
 
@@ -13,51 +14,7 @@ use std::alloc::{AllocError, Global};
 use std::marker::Model;
 use std::sync::Arc;
 use stmt_codec::Cert;
-use taos_calculus::{Decide, Node, Taken};
-
-// The node of a number.
-fn node_at(nodes: &[Node], id: u16) -> Node
-    requires table { IsNodeTable nodes.now }
-    requires id_in { id < length nodes.now }
-    ensures reads { named nodes.now id ≡ shape (named nodes.now) result }
-    ensures operands { OperandsBelow (length nodes.now) result }
-{
-    nodes[id as usize]
-}
-
-// Whether the number stands for the term.
-fn node_is(nodes: &[Node], id: u16, term: &Term) -> bool
-    requires table { IsNodeTable nodes.now }
-    requires id_in { id < length nodes.now }
-    ensures { IsTrue result ↔ (named nodes.now id ≡ principal term.now) }
-{
-    match term {
-        Term::Key(k) => match node_at(nodes, id) {
-            Node::Key(n) => *k == n,
-            _ => false,
-        },
-        Term::Name(k) => match node_at(nodes, id) {
-            Node::Name(n) => *k == n,
-            _ => false,
-        },
-        Term::And(a, b) => match node_at(nodes, id) {
-            Node::And(x, y) => node_is(nodes, x, a) && node_is(nodes, y, b),
-            _ => false,
-        },
-        Term::Quote(a, b) => match node_at(nodes, id) {
-            Node::Quote(x, y) => node_is(nodes, x, a) && node_is(nodes, y, b),
-            _ => false,
-        },
-        Term::AsRole(a, r) => match node_at(nodes, id) {
-            Node::AsRole(x, s) => *r == s && node_is(nodes, x, a),
-            _ => false,
-        },
-        Term::For(a, b) => match node_at(nodes, id) {
-            Node::For(x, y) => node_is(nodes, x, a) && node_is(nodes, y, b),
-            _ => false,
-        },
-    }
-}
+use taos_calculus::{Decide, Node, Taken, node_is};
 
 // The number of the term.
 fn find(nodes: &[Node], term: &Term) -> Option<u16>
@@ -113,7 +70,8 @@ impl Model for Saturator {
 }
 
 impl Saturator {
-    /// A decider with room for the largest question. The key 0 is asked about, of which nothing is known.
+    /// A decider with room for the largest question. The key 0 is asked about, of which nothing is
+    /// known.
     pub fn reserve(alloc: Global) -> Result<Saturator, AllocError>
         ensures { IfOk result (λ s. s ≡ question_of [] [] [] (Key 0) []) }
     {

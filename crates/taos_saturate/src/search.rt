@@ -3,7 +3,8 @@
 ghost use Rattle.std.specs.Prelude.{◌≡◌, ℕ, ◌<◌, ◌^◌, Some, MatchOption, slice_get, length};
 ghost use Rattle.taos_calculus.specs.declared.line.Fact.{Fact};
 ghost use Rattle.taos_calculus.specs.declared.line.Step.{Step};
-ghost use Rattle.taos_saturate.specs.Saturating.{GivesIn, Lacks, LacksSpeaks, LacksSays, LacksSaying, HasSaying, IsReady, IsNumber};
+ghost use Rattle.taos_saturate.specs.Saturating.{GivesIn, Lacks, LacksSpeaks, LacksSays};
+ghost use Rattle.taos_saturate.specs.Saturating.{LacksSaying, HasSaying, IsReady, IsNumber};
 
 use crate::saturation::Saturation;
 use prin_term::Anchor;

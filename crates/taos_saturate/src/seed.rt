@@ -24,7 +24,8 @@ impl Saturation {
         }
     }
 
-    /// Adds that somebody says the statement at this place, where it is not known and a step gives it.
+    /// Adds that somebody says the statement at this place, where it is not known and a step gives
+    /// it.
     pub fn try_says(&mut self, who: u16, place: usize)
         requires ready { IsReady self.old }
         requires sound { IsSound self.old }

@@ -3,27 +3,16 @@ use Rattle.std.proofs.Common.{◌≡◌, ℕ, ◌+◌, ◌<◌, eqb, List, [], �
 use Rattle.std.specs.Prelude.{All}
 use Rattle.std.specs.Int.{w16, w32, w64}
 use Rattle.object_core.specs.Operation.{IsByte}
-use Rattle.prin_term.specs.Steps.{with_fault}
 use Rattle.prin_term.proofs.Cuts.{Cuts, cuts_followed, cuts_passing, cuts_made, cuts_given, cuts_if, cuts_counted, cuts_byte, cuts_bytes, cuts_number, cuts_counted_bytes, cuts_term}
 use Rattle.prin_term.proofs.FieldLaws.{IsBytes}
-use Rattle.prin_term.proofs.Results.{with_fault_ok}
 use Rattle.taos_calculus.proofs.CutProofs as proofs
-use Rattle.taos_wire.specs.declared.fault.WireFault.TheVariants as faults
-use Rattle.taos_wire.specs.Fields.{ended, seen_as, seen_as_proof, u8_in, u32_in, u64_in}
+use Rattle.prin_term.specs.declared.fault.FormatFault.TheVariants as faults
+use Rattle.taos_wire.specs.Fields.{ended, seen_as, u8_in, u32_in, u64_in}
 use Rattle.taos_wire.specs.Reply.{Reply, Malformed, UnknownChannel, BadSeal, Replayed, ChannelFull, RelayFailed, UnknownObject, NoMemory, NotHeld, Unbuilt, NoEntry, SpellsReply}
 use Rattle.taos_wire.specs.ReplyReading.{answered_at, place_at, proof_at, cert_at, cited_at, granted_at, named_at, link_at, denied_at, fields_at, status_at, reply_at, reply_of}
 use Rattle.taos_wire.proofs.CutRequests.{in_bytes, tag_cut}
 use Rattle.taos_wire.proofs.Fillings.{filling_cut}
 use Rattle.taos_wire.proofs.ReplyLaws.{Tagged, tagged, reply_in}
-
--- the same with other faults
-cuts_seen : {A E F : Type 0} {front : List ℕ} {lack : E} {cut whole : ℕ → Result (A × ℕ) E} (f : E → F) → Cuts front lack cut whole → Cuts front (f lack) (λ at. with_fault f (cut at)) (λ at. with_fault f (whole at))
-cuts_seen {A} {E} {F} {front} {lack} {cut} {whole} f one = record {
-  at_cut = λ at x le e. elim (one.at_cut at x le (with_fault_ok f (whole at) x e)) [
-    | inl read ↦ inl (ap (with_fault f) read.0, read.1)
-    | inr lacking ↦ inr (ap (with_fault f) lacking)
-  ];
-}
 
 module _ (front more : List ℕ) (ok : IsBytes (front ++ more)) where
   byte_cut : Cuts front (ended front) (u8_in front) (u8_in (front ++ more))
@@ -45,7 +34,7 @@ module _ (front more : List ℕ) (ok : IsBytes (front ++ more)) where
 
   proof_cut : Cuts front (ended front) (proof_at front) (proof_at (front ++ more))
   unfolding proof_at
-  proof_cut = cuts_made _ (cuts_followed word_cut (λ n. cuts_seen seen_as_proof (proofs.filling_cut front more n)))
+  proof_cut = cuts_made _ (cuts_followed word_cut (λ n. proofs.filling_cut front more n))
 
   cert_cut : Cuts front (ended front) (cert_at front) (cert_at (front ++ more))
   unfolding cert_at

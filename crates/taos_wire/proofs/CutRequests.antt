@@ -7,7 +7,7 @@ use Rattle.std.proofs.lemmas.List.{get_or_past}
 use Rattle.object_core.specs.Operation.{Read, Write, SetList, Hold, Discard, Forget, Sweep, IsByte}
 use Rattle.prin_term.proofs.Cuts.{Cuts, cuts_followed, cuts_passing, cuts_made, cuts_given, cuts_if, cuts_counted, cuts_byte, cuts_bytes, cuts_number, cuts_counted_bytes, cuts_optional, cuts_term}
 use Rattle.prin_term.proofs.FieldLaws.{IsBytes}
-use Rattle.taos_wire.specs.declared.fault.WireFault.TheVariants.{Malformed}
+use Rattle.prin_term.specs.declared.fault.FormatFault.TheVariants.{Malformed}
 use Rattle.taos_wire.specs.Fields.{ended, seen_as, u8_in}
 use Rattle.taos_wire.specs.Request.{Request, request_text, Spells}
 use Rattle.taos_wire.specs.RequestReading.{origin_at, quoted_at, content_at, entry_at, list_at, fields_at, asked_at, cert_at, certs_at, tag_at, request_at, request_of}

@@ -2,17 +2,17 @@
 use Rattle.std.proofs.Common.{◌≡◌, ℕ, ◌+◌, ◌-◌, ◌<◌, ◌≤◌, true, false, cond, ltb, List, [], ◌++◌, length, take, drop, Ok, Err, refl, sym, ap, subst, ◌∙◌, append-nil, arith, inl, inr, length-append, length-drop}
 use Rattle.std.proofs.lemmas.Bool.{ltb-false, le-ltb, lt-ltb}
 use Rattle.std.proofs.lemmas.List.{take_at, drop-take, drop_all, length-take-le, take-append-le}
-use Rattle.prin_term.specs.Steps.{◌>>=◌, with_fault, bytes_at}
+use Rattle.prin_term.specs.Steps.{◌>>=◌, bytes_at}
 use Rattle.prin_term.proofs.Cuts.{Cuts, cuts_bytes}
 use Rattle.prin_term.proofs.FieldLaws.{IsBytes-take, TakesAt, TakesAt-within, bytes_takes, bytes_again}
 use Rattle.prin_term.proofs.ReaderLaws.{Reads}
-use Rattle.prin_term.proofs.Results.{bind_ok, refused_ok, with_fault_ok}
-use Rattle.stmt_codec.specs.declared.fault.BodyFault.{BodyFault}
+use Rattle.prin_term.proofs.Results.{bind_ok, refused_ok}
+use Rattle.prin_term.specs.declared.fault.FormatFault.{FormatFault}
 use Rattle.stmt_codec.specs.Certificates.{Certificate, body_spelling}
 use Rattle.stmt_codec.specs.Reading.{body_at}
 use Rattle.stmt_codec.proofs.Bodies.{body_takes, body_again}
-use Rattle.taos_wire.specs.declared.fault.WireFault.TheVariants.{Malformed}
-use Rattle.taos_wire.specs.Fields.{ended, seen_as_body}
+use Rattle.prin_term.specs.declared.fault.FormatFault.TheVariants.{Malformed}
+use Rattle.taos_wire.specs.Fields.{ended}
 use Rattle.taos_wire.specs.Reply.{FitsCited}
 use Rattle.taos_wire.specs.ReplyReading.{body_filling}
 
@@ -26,7 +26,7 @@ module _ (bytes : List ℕ) (at n : ℕ) (le : at ≤ length bytes) (text : List
   pub front_within : at ≤ length (take text.1 bytes)
   front_within = omega (arith, end_is, end_in, length-take-le text.1 bytes end_in)
 
-  pub body_refused : (f : BodyFault) → body_at (take text.1 bytes) at ≡ Err f → body_filling bytes n at ≡ Err (seen_as_body f)
+  pub body_refused : (f : FormatFault) → body_at (take text.1 bytes) at ≡ Err f → body_filling bytes n at ≡ Err f
   unfolding body_filling
   body_refused f e =
       let refused : body_at (take (at + n) bytes) at ≡ Err f = ap (λ (k : ℕ). body_at (take k bytes) at) (sym end_is) ∙ e in
@@ -59,9 +59,9 @@ pub reads_filling : (bytes : List ℕ) (n : ℕ) → Reads bytes (body_filling b
 unfolding body_filling
 reads_filling bytes n = record {
   takes = λ ok at x le e.
-      let a = bind_ok (bytes_at (ended bytes) n bytes at) (λ text. with_fault seen_as_body (body_at (take (at + n) bytes) at) >>= λ c. cond (ltb c.1 (at + n)) (Err (Malformed c.1)) (Ok (c.0, text.1))) x e in
-      let b = bind_ok (with_fault seen_as_body (body_at (take (at + n) bytes) at)) (λ c. cond (ltb c.1 (at + n)) (Err (Malformed c.1)) (Ok (c.0, a.0.1))) x a.2 in
-      let read : body_at (take (at + n) bytes) at ≡ Ok b.0 = with_fault_ok seen_as_body (body_at (take (at + n) bytes) at) b.0 b.1 in
+      let a = bind_ok (bytes_at (ended bytes) n bytes at) (λ text. body_at (take (at + n) bytes) at >>= λ c. cond (ltb c.1 (at + n)) (Err (Malformed c.1)) (Ok (c.0, text.1))) x e in
+      let b = bind_ok (body_at (take (at + n) bytes) at) (λ c. cond (ltb c.1 (at + n)) (Err (Malformed c.1)) (Ok (c.0, a.0.1))) x a.2 in
+      let read : body_at (take (at + n) bytes) at ≡ Ok b.0 = b.1 in
       let made : Certificate × ℕ = (b.0.0, a.0.1) in
       let g = refused_ok (ltb b.0.1 (at + n)) (Malformed b.0.1) made x b.2 in
       let t = bytes_takes (ended bytes) n bytes at a.0 a.1 in
@@ -94,15 +94,15 @@ pub filling_cut : (front more : List ℕ) (n : ℕ) → Cuts front (ended front)
 unfolding body_filling
 filling_cut front more n = record {
   at_cut = λ at x le e.
-      let a = bind_ok (bytes_at (ended (front ++ more)) n (front ++ more) at) (λ text. with_fault seen_as_body (body_at (take (at + n) (front ++ more)) at) >>= λ c. cond (ltb c.1 (at + n)) (Err (Malformed c.1)) (Ok (c.0, text.1))) x e in
-      let b = bind_ok (with_fault seen_as_body (body_at (take (at + n) (front ++ more)) at)) (λ c. cond (ltb c.1 (at + n)) (Err (Malformed c.1)) (Ok (c.0, a.0.1))) x a.2 in
+      let a = bind_ok (bytes_at (ended (front ++ more)) n (front ++ more) at) (λ text. body_at (take (at + n) (front ++ more)) at >>= λ c. cond (ltb c.1 (at + n)) (Err (Malformed c.1)) (Ok (c.0, text.1))) x e in
+      let b = bind_ok (body_at (take (at + n) (front ++ more)) at) (λ c. cond (ltb c.1 (at + n)) (Err (Malformed c.1)) (Ok (c.0, a.0.1))) x a.2 in
       let made : Certificate × ℕ = (b.0.0, a.0.1) in
       let g = refused_ok (ltb b.0.1 (at + n)) (Malformed b.0.1) made x b.2 in
       elim ((cuts_bytes (ended front) (ended (front ++ more)) front more n).at_cut at a.0 le a.1) [
         | inl there ↦
             let t = bytes_takes (ended front) n front at a.0 there.0 in
             let within : at + n ≤ length front = omega (arith, there.1, t.0.end_is, t.1) in
-            let read : with_fault seen_as_body (body_at (take (at + n) front) at) ≡ Ok b.0 = ap (λ (l : List ℕ). with_fault seen_as_body (body_at l at)) (sym (take-append-le (at + n) front more within)) ∙ b.1 in
+            let read : body_at (take (at + n) front) at ≡ Ok b.0 = ap (λ (l : List ℕ). body_at l at) (sym (take-append-le (at + n) front more within)) ∙ b.1 in
             inl (rw (there.0, read) b.2, subst (λ (y : Certificate × ℕ). y.1 ≤ length front) g.1 there.1)
         | inr lacking ↦ inr (rw lacking refl)
       ];

@@ -3,6 +3,7 @@ pub mod RequestLaws
 pub mod Seals
 pub mod Pieces
 pub mod CutRequests
+pub mod Staying
 pub mod Places
 pub mod ShortReplies
 pub mod ReplyPieces

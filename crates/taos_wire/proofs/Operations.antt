@@ -15,8 +15,8 @@ use Rattle.prin_term.specs.View.{Grant}
 use Rattle.prin_term.proofs.FieldLaws.{wide16, wide32, wide64}
 use Rattle.prin_term.proofs.FieldReaders.{reads_given, reads_if, reads_term, reads_optional, reads_counted_bytes}
 use Rattle.prin_term.proofs.ReaderLaws.{Reads, reads_byte, reads_number, reads_bytes, reads_followed, reads_passing, reads_made, reads_as, reads_counted}
-use Rattle.taos_wire.specs.declared.fault.WireFault.{WireFault}
-use Rattle.taos_wire.specs.declared.fault.WireFault.TheVariants.{Malformed}
+use Rattle.prin_term.specs.declared.fault.FormatFault.{FormatFault as WireFault}
+use Rattle.prin_term.specs.declared.fault.FormatFault.TheVariants.{Malformed}
 use Rattle.taos_wire.specs.declared.request.TheConstants.{MAX_CERTS}
 use Rattle.taos_wire.specs.Fields.{WireReader, ended, seen_as, is_within, within, u8_in, u16_in, u32_in, u64_in}
 use Rattle.taos_wire.specs.Request.{kind_of, grant_bytes, op_fields, certs_bytes, IsCertText, IsTag}

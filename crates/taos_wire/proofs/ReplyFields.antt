@@ -9,11 +9,11 @@ use Rattle.prin_term.specs.declared.limits.TheConstants.{ENTRY_NODES}
 use Rattle.prin_term.specs.Principal.{Principal, spelling as term_spelling}
 use Rattle.prin_term.specs.Readers.{given, made, followed}
 use Rattle.prin_term.specs.Refusal.{FitsLimits}
-use Rattle.prin_term.specs.Steps.{with_fault, bytes_at, counted, counted_at}
+use Rattle.prin_term.specs.Steps.{bytes_at, counted, counted_at}
 use Rattle.prin_term.proofs.FieldLaws.{IsBytes, TakesAt, wide16}
 use Rattle.prin_term.proofs.FieldReaders.{reads_given, reads_term, reads_counted_bytes}
 use Rattle.prin_term.proofs.ReaderLaws.{Reads, reads_bytes, reads_followed, reads_passing, reads_made, reads_as, reads_counted}
-use Rattle.prin_term.proofs.Results.{bind_ok, ok_is, with_fault_ok}
+use Rattle.prin_term.proofs.Results.{bind_ok, ok_is}
 use Rattle.stmt_codec.specs.Certificates.{Certificate, body_spelling}
 use Rattle.taos_calculus.specs.Rules.{Line}
 use Rattle.taos_calculus.specs.Spelling.{numbered, proof_spelling}
@@ -22,11 +22,13 @@ use Rattle.taos_calculus.specs.Tables.{Parts, lines_of}
 use Rattle.taos_calculus.proofs.ProofLaws as proofs
 use Rattle.taos_calculus.proofs.Short.{parts_short}
 use Rattle.taos_calculus.proofs.Spelled.{numbered-lines_of, spelling_is}
-use Rattle.taos_wire.specs.declared.fault.WireFault.{WireFault}
-use Rattle.taos_wire.specs.declared.fault.WireFault.TheVariants as faults
+use Rattle.prin_term.specs.declared.fault.FormatFault.{FormatFault as WireFault}
+use Rattle.prin_term.specs.declared.fault.FormatFault.TheVariants as faults
 use Rattle.taos_wire.specs.declared.reply.TheConstants.{MAX_CITED}
-use Rattle.taos_wire.specs.Fields.{WireReader, ended, seen_as, seen_as_proof, u8_in, u32_in, u64_in, within, term_in}
-use Rattle.taos_wire.specs.Reply.{Reply, Granted, Denied, Malformed, UnknownChannel, BadSeal, Replayed, CertRefused, ChannelFull, RelayFailed, UnknownObject, JournalFull, NoMemory, CommonsFull, NotHeld, Unbuilt, LinkSent, Expired, Missing, NoEntry, flag, link_bytes, cert_bytes, cited_bytes, proof_bytes, granted_bytes, status_of, fields_of, answered_bytes, IsProof, FitsCited, FitsLink, FitsReply, FitsGranted}
+use Rattle.taos_wire.specs.Fields.{WireReader, ended, seen_as, u8_in, u32_in, u64_in, within, term_in}
+use Rattle.taos_wire.specs.Reply.{Reply, Granted, Denied, Malformed, UnknownChannel, BadSeal, Replayed, CertRefused, ChannelFull, RelayFailed, UnknownObject, JournalFull, NoMemory, CommonsFull}
+use Rattle.taos_wire.specs.Reply.{NotHeld, Unbuilt, LinkSent, Expired, Missing, NoEntry, flag, link_bytes, cert_bytes, cited_bytes, proof_bytes, status_of, fields_of, answered_bytes, IsProof}
+use Rattle.taos_wire.specs.Reply.{FitsCited, FitsLink, FitsReply, FitsGranted}
 use Rattle.taos_wire.specs.ReplyReading.{answered_at, place_at, proof_at, cert_at, cited_at, granted_at, named_at, link_at, denied_at, is_status, fields_at, status_at}
 use Rattle.taos_wire.proofs.Fillings.{reads_filling}
 use Rattle.taos_wire.proofs.Operations.{Anyhow, reads_u8, reads_u16, reads_u32, reads_u64, reads_u8_in}
@@ -64,12 +66,6 @@ again_made f reads at a rest fits e = rw (reads.again at a rest fits e) refl
 
 again_given : {B : Type 0} (b : B) (at : ℕ) → given {E = WireFault} b at ≡ Ok (b, at + 0)
 again_given b at = let place : at + 0 ≡ at = omega arith in rw place refl
-
-reads_seen : {A E F : Type 0} {bytes : List ℕ} {r : ℕ → Result (A × ℕ) E} {spell : A → List ℕ} {Fits : A → Type 0} (f : E → F) → Reads bytes r spell Fits → Reads bytes (λ at. with_fault f (r at)) spell Fits
-reads_seen {A} {E} {F} {bytes} {r} f reads = record {
-  takes = λ ok at x le e. reads.takes ok at x le (with_fault_ok f (r at) x e);
-  again = λ at a rest fits e. ap (with_fault f) (reads.again at a rest fits e);
-}
 
 -- ---- a link
 
@@ -174,7 +170,7 @@ module _ (bytes : List ℕ) where
   unfolding proof_at proof_bytes
   reads_proof =
       reads_made (λ (x : ℕ × Parts). lines_of x.1) (λ (lines : List Line). (length (proof_spelling lines), numbered lines)) proof_bytes IsProof
-      (reads_followed (reads_u32 bytes) (λ n _. reads_seen seen_as_proof (proofs.reads_filling bytes n)))
+      (reads_followed (reads_u32 bytes) (λ n _. proofs.reads_filling bytes n))
       (λ x is. (record { parts = x.1; limits = is.1.0; meaning = refl }, ap (λ (k : ℕ). to_be_bytes w32 k ++ proof_spelling (lines_of x.1)) (sym is.1.1)))
       (λ lines is.
       let n = numbered_fits lines is in
@@ -240,16 +236,16 @@ module _ (bytes : List ℕ) where
       ))
 
   granted_again : (kept : Bool) (entry shard place : ℕ) (proof : List Line) (certs : List Certificate) (result : List ℕ) (at : ℕ) (rest : List ℕ) → FitsGranted entry shard place proof certs result
-      → drop at bytes ≡ granted_bytes kept entry shard place proof certs result ++ rest → granted_at bytes at ≡ Ok (Granted kept entry shard place proof certs result, at + length (granted_bytes kept entry shard place proof certs result))
+      → drop at bytes ≡ fields_of (Granted kept entry shard place proof certs result) ++ rest → granted_at bytes at ≡ Ok (Granted kept entry shard place proof certs result, at + length (fields_of (Granted kept entry shard place proof certs result)))
   unfolding granted_at
   granted_again kept entry shard place proof certs result at rest fits e =
       let x : GrantFields = (flag kept, (entry, ((shard, place), (proof, (certs, result))))) in
-      let same : grant_spell x ≡ granted_bytes kept entry shard place proof certs result = granted_grouped (flag kept) entry shard place proof certs result in
+      let same : grant_spell x ≡ fields_of (Granted kept entry shard place proof certs result) = granted_grouped (flag kept) entry shard place proof certs result in
       let text : drop at bytes ≡ grant_spell x ++ rest = e ∙ ap (λ (l : List ℕ). l ++ rest) (sym same) in
       let is : GrantFits x = (flag_within kept, (fits.entry_fits, ((fits.shard_fits, fits.place_fits), (fits.proof_fits, ((fits.few_certs, fits.certs_fit), fits.result_fits))))) in
       let read = again_made (λ (x : GrantFields). Granted (eqb x.0 1) x.1.0 x.1.1.0.0 x.1.1.0.1 x.1.1.1.0 x.1.1.1.1.0 x.1.1.1.1.1) reads_grant at x rest is text in
       read ∙ ap (λ (l : List ℕ). Ok (Granted (eqb (flag kept) 1) entry shard place proof certs result, at + length l)) same
-      ∙ ap (λ (k : Bool). Ok (Granted k entry shard place proof certs result, at + length (granted_bytes kept entry shard place proof certs result))) (flag_again kept)
+      ∙ ap (λ (k : Bool). Ok (Granted k entry shard place proof certs result, at + length (fields_of (Granted kept entry shard place proof certs result)))) (flag_again kept)
 
   -- ---- a denial
 
@@ -337,7 +333,8 @@ module _ (bytes : List ℕ) where
       takes_if bytes (eqb s 7) (made ChannelFull (u8_in bytes)) _ fields_of (IsOf s) (λ t. takes_made ChannelFull fields_of (IsOf s) (reads_u8 bytes) (λ x is. ((is, sym (eqb-true s 7 t)), refl))) (λ n7.
       takes_if bytes (eqb s 8) (made RelayFailed (u8_in bytes)) _ fields_of (IsOf s) (λ t. takes_made RelayFailed fields_of (IsOf s) (reads_u8 bytes) (λ x is. ((is, sym (eqb-true s 8 t)), refl))) (λ n8.
       takes_if bytes (eqb s 9) (made UnknownObject (u32_in bytes)) _ fields_of (IsOf s) (λ t. takes_made UnknownObject fields_of (IsOf s) (reads_u32 bytes) (λ x is. ((is, sym (eqb-true s 9 t)), refl))) (λ n9.
-      takes_if bytes (eqb s 10) (made (λ (x : ℕ × (ℕ × ℕ)). JournalFull x.0 x.1.0 x.1.1) (followed (within 0 1 (u8_in bytes)) (λ _. place_at bytes))) _ fields_of (IsOf s) (λ t. takes_made (λ (x : ℕ × (ℕ × ℕ)). JournalFull x.0 x.1.0 x.1.1) fields_of (IsOf s) reads_journal (λ x is. (((is.0.1, is.1.0, is.1.1), sym (eqb-true s 10 t)), refl))) (λ n10.
+      takes_if bytes (eqb s 10) (made (λ (x : ℕ × (ℕ × ℕ)). JournalFull x.0 x.1.0 x.1.1) (followed (within 0 1 (u8_in bytes)) (λ _. place_at bytes))) _ fields_of (IsOf s)
+      (λ t. takes_made (λ (x : ℕ × (ℕ × ℕ)). JournalFull x.0 x.1.0 x.1.1) fields_of (IsOf s) reads_journal (λ x is. (((is.0.1, is.1.0, is.1.1), sym (eqb-true s 10 t)), refl))) (λ n10.
       takes_if bytes (eqb s 11) (given NoMemory) _ fields_of (IsOf s) (λ t. takes_given bytes NoMemory fields_of (IsOf s) refl (tt, sym (eqb-true s 11 t))) (λ n11.
       takes_if bytes (eqb s 12) (made (λ (x : ℕ × ℕ). CommonsFull x.0 x.1) (followed (u8_in bytes) (λ _. u32_in bytes))) _ fields_of (IsOf s) (λ t. takes_made (λ (x : ℕ × ℕ). CommonsFull x.0 x.1) fields_of (IsOf s) reads_commons (λ x is. ((is, sym (eqb-true s 12 t)), refl))) (λ n12.
       takes_if bytes (eqb s 13) (made NotHeld (bytes_at (ended bytes) 32 bytes)) (given Unbuilt) fields_of (IsOf s) (λ t. takes_made NotHeld fields_of (IsOf s) (reads_bytes (ended bytes) 32 bytes) (λ x is. ((is, sym (eqb-true s 13 t)), refl))) (λ n13.

@@ -10,8 +10,8 @@ use Rattle.prin_term.specs.Steps.{Gives}
 use Rattle.prin_term.proofs.FieldLaws.{IsBytes}
 use Rattle.prin_term.proofs.ReaderLaws.{Reads, reads_followed, reads_made}
 use Rattle.prin_term.proofs.Results.{bind_ok, ok_is, refused_ok, gives_found, gives_only}
-use Rattle.taos_wire.specs.declared.fault.WireFault.{WireFault}
-use Rattle.taos_wire.specs.declared.fault.WireFault.TheVariants as faults
+use Rattle.prin_term.specs.declared.fault.FormatFault.{FormatFault as WireFault}
+use Rattle.prin_term.specs.declared.fault.FormatFault.TheVariants as faults
 use Rattle.taos_wire.specs.declared.reply.Reply as code
 use Rattle.taos_wire.specs.Request.{IsTag}
 use Rattle.taos_wire.specs.Reply.{Reply, answered_bytes, status_of, fields_of, reply_text, FitsReply, SpellsReply, seal_of, sent, spelling}

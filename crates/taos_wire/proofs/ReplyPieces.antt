@@ -1,23 +1,35 @@
 -- The bytes of a reply, piece by piece.
-use Rattle.std.proofs.Common.{◌≡◌, ℕ, Bool, List, [], ◌∷◌, ◌++◌, ap, ◌∙◌, append_assoc}
+use Rattle.std.proofs.Common.{◌≡◌, ℕ, List, [], ◌∷◌, ◌++◌, map, ap, ◌∙◌, append_assoc}
 use Rattle.std.specs.Int.{w16, w32, w64, to_be_bytes}
-use Rattle.prin_term.specs.Principal.{Principal, spelling}
+use Rattle.prin_term.specs.Principal.{spelling}
 use Rattle.prin_term.specs.Steps.{counted}
-use Rattle.stmt_codec.specs.Certificates.{Certificate}
-use Rattle.taos_calculus.specs.Rules.{Line}
-use Rattle.taos_wire.specs.Reply.{Reply, Denied, Missing, answered_bytes, status_of, fields_of, reply_text, flag, proof_bytes, cited_bytes, granted_bytes}
+use Rattle.prin_term.specs.View.{principal}
+use Rattle.taos_calculus.specs.Tables.{lines_of}
+use Rattle.taos_wire.specs.declared.reply.LentGrant.{LentGrant}
+use Rattle.taos_wire.specs.declared.reply.LentPart.{LentPart}
+use Rattle.taos_wire.specs.Reply.{Reply, answered_bytes, status_of, fields_of, reply_text, flag, proof_bytes, cited_bytes}
+use Rattle.taos_wire.specs.View.{cited, lent_grant, lent_part}
 
 five : (old a b c d e : List ℕ) → ((((old ++ a) ++ b) ++ c) ++ d) ++ e ≡ old ++ ((((a ++ b) ++ c) ++ d) ++ e)
 five old a b c d e = simp append_assoc
 
-pub granted_is : (kept : Bool) (entry shard place : ℕ) (proof : List Line) (certs : List Certificate) (result old v1 v2 v3 v4 v5 : List ℕ)
-    → v1 ≡ old ++ flag kept ∷ entry ∷ [] → v2 ≡ v1 ++ (to_be_bytes w32 shard ++ to_be_bytes w64 place) → v3 ≡ v2 ++ proof_bytes proof → v4 ≡ v3 ++ cited_bytes certs → v5 ≡ v4 ++ counted w16 result
-    → v5 ≡ old ++ granted_bytes kept entry shard place proof certs result
-granted_is kept entry shard place proof certs result old v1 v2 v3 v4 v5 a b c d e =
-    let spelled : v4 ≡ (((old ++ flag kept ∷ entry ∷ []) ++ (to_be_bytes w32 shard ++ to_be_bytes w64 place)) ++ proof_bytes proof) ++ cited_bytes certs =
-    d ∙ ap (λ (x : List ℕ). x ++ cited_bytes certs) (c ∙ ap (λ (x : List ℕ). x ++ proof_bytes proof) (b ∙ ap (λ (x : List ℕ). x ++ (to_be_bytes w32 shard ++ to_be_bytes w64 place)) a)) in
-    e ∙ ap (λ (x : List ℕ). x ++ counted w16 result) spelled
-    ∙ five old (flag kept ∷ entry ∷ []) (to_be_bytes w32 shard ++ to_be_bytes w64 place) (proof_bytes proof) (cited_bytes certs) (counted w16 result)
+module _ (g : LentGrant) (old v1 v2 v3 v4 v5 : List ℕ) where
+  abbrev place_bytes : List ℕ
+  place_bytes = to_be_bytes w32 g.shard ++ to_be_bytes w64 g.place
+
+  abbrev proof_text : List ℕ
+  proof_text = proof_bytes (lines_of g.proof.now)
+
+  abbrev certs_text : List ℕ
+  certs_text = cited_bytes (map cited g.certs.now)
+
+  pub granted_is : v1 ≡ old ++ flag g.kept ∷ g.entry ∷ [] → v2 ≡ v1 ++ place_bytes → v3 ≡ v2 ++ proof_text → v4 ≡ v3 ++ certs_text
+      → v5 ≡ v4 ++ counted w16 g.content.now → v5 ≡ old ++ fields_of (lent_grant g)
+  granted_is a b c d e =
+      let spelled : v4 ≡ (((old ++ flag g.kept ∷ g.entry ∷ []) ++ place_bytes) ++ proof_text) ++ certs_text =
+      d ∙ ap (λ (x : List ℕ). x ++ certs_text) (c ∙ ap (λ (x : List ℕ). x ++ proof_text) (b ∙ ap (λ (x : List ℕ). x ++ place_bytes) a)) in
+      e ∙ ap (λ (x : List ℕ). x ++ counted w16 g.content.now) spelled
+      ∙ five old (flag g.kept ∷ g.entry ∷ []) place_bytes proof_text certs_text (counted w16 g.content.now)
 
 two : (old a : List ℕ) (s : ℕ) (f : List ℕ) → (old ++ (a ++ s ∷ [])) ++ f ≡ old ++ (a ++ s ∷ f)
 two old a s f = append_assoc old (a ++ s ∷ []) f ∙ ap (λ (x : List ℕ). old ++ x) (append_assoc a (s ∷ []) f)
@@ -29,9 +41,11 @@ text_is channel seq r old v1 v2 a b = b ∙ ap (λ (x : List ℕ). x ++ fields_o
 three : (old a : List ℕ) (s : ℕ) (f g : List ℕ) → ((old ++ (a ++ s ∷ [])) ++ f) ++ g ≡ old ++ (a ++ s ∷ (f ++ g))
 three old a s f g = append_assoc (old ++ (a ++ s ∷ [])) f g ∙ two old a s (f ++ g)
 
-pub missing_is : (channel seq shard place entry : ℕ) (part : Principal) (old v1 v2 v3 : List ℕ) → v1 ≡ old ++ (answered_bytes channel seq ++ 1 ∷ []) → v2 ≡ v1 ++ (to_be_bytes w32 shard ++ to_be_bytes w64 place)
-    → v3 ≡ v2 ++ 2 ∷ entry ∷ spelling part → v3 ≡ old ++ reply_text channel seq (Denied shard place (Missing entry part))
-unfolding reply_text
-missing_is channel seq shard place entry part old v1 v2 v3 a b c =
-    c ∙ ap (λ (x : List ℕ). x ++ 2 ∷ entry ∷ spelling part) (b ∙ ap (λ (x : List ℕ). x ++ (to_be_bytes w32 shard ++ to_be_bytes w64 place)) a)
-    ∙ three old (answered_bytes channel seq) 1 (to_be_bytes w32 shard ++ to_be_bytes w64 place) (2 ∷ entry ∷ spelling part)
+module _ (channel seq : ℕ) (d : LentPart) (old v1 v2 v3 : List ℕ) where
+  pub missing_is : v1 ≡ old ++ (answered_bytes channel seq ++ 1 ∷ []) → v2 ≡ v1 ++ (to_be_bytes w32 d.shard ++ to_be_bytes w64 d.place)
+      → v3 ≡ v2 ++ 2 ∷ d.entry ∷ spelling (principal d.part.now) → v3 ≡ old ++ reply_text channel seq (lent_part d)
+  unfolding reply_text
+  missing_is a b c =
+      let place = to_be_bytes w32 d.shard ++ to_be_bytes w64 d.place in
+      let link = 2 ∷ d.entry ∷ spelling (principal d.part.now) in
+      c ∙ ap (λ (x : List ℕ). x ++ link) (b ∙ ap (λ (x : List ℕ). x ++ place) a) ∙ three old (answered_bytes channel seq) 1 place link

@@ -11,8 +11,8 @@ use Rattle.prin_term.specs.Steps.{Gives, optional}
 use Rattle.prin_term.proofs.FieldLaws.{IsBytes}
 use Rattle.prin_term.proofs.ReaderLaws.{Reads, reads_followed, reads_made}
 use Rattle.prin_term.proofs.Results.{bind_ok, ok_is, refused_ok, gives_found, gives_only}
-use Rattle.taos_wire.specs.declared.fault.WireFault.{WireFault}
-use Rattle.taos_wire.specs.declared.fault.WireFault.TheVariants.{Malformed, NoMemory}
+use Rattle.prin_term.specs.declared.fault.FormatFault.{FormatFault as WireFault}
+use Rattle.prin_term.specs.declared.fault.FormatFault.TheVariants.{Malformed, NoMemory}
 use Rattle.taos_wire.specs.declared.request.Request as code
 use Rattle.taos_wire.specs.Request.{Request, request_text, FitsRequest, kind_of, op_fields, certs_bytes, IsTag, Spells, sealed}
 use Rattle.taos_wire.specs.RequestReading.{request_at, request_of}

@@ -9,9 +9,14 @@ use Rattle.std.proofs.lemmas.List.Concat.{flat_map-cons}
 use Rattle.stmt_codec.specs.declared.cert.Cert.{Cert}
 use Rattle.prin_term.specs.Principal.{Principal, Key, Name, And, Quoting, InRole, For, node_count, spelling as term_spelling}
 use Rattle.prin_term.specs.Steps.{counted, optional}
-use Rattle.taos_calculus.specs.Rules.{Line}
-use Rattle.taos_wire.specs.Reply.{Reply, Granted, Denied, Malformed, UnknownChannel, BadSeal, Replayed, CertRefused, ChannelFull, RelayFailed, UnknownObject, JournalFull, NoMemory, CommonsFull, NotHeld, Unbuilt, LinkSent, Expired, Missing, NoEntry, FitsReply, FitsLink, link_bytes, flag, cert_bytes, cited_bytes, proof_bytes, granted_bytes, status_of, fields_of, answered_bytes, reply_text, seal_of, sent, spelling}
-use Rattle.taos_wire.specs.View.{cited}
+use Rattle.prin_term.specs.View.{principal}
+use Rattle.taos_calculus.specs.Tables.{lines_of}
+use Rattle.taos_wire.specs.declared.reply.LentGrant.{LentGrant}
+use Rattle.taos_wire.specs.declared.reply.LentPart.{LentPart}
+use Rattle.taos_wire.specs.Reply.{Reply, Granted, Denied, Malformed, UnknownChannel, BadSeal, Replayed, CertRefused, ChannelFull, RelayFailed, UnknownObject, JournalFull, NoMemory, CommonsFull}
+use Rattle.taos_wire.specs.Reply.{NotHeld, Unbuilt, LinkSent, Expired, Missing, NoEntry, FitsReply, FitsLink, link_bytes, flag, cert_bytes, cited_bytes, proof_bytes, status_of, fields_of}
+use Rattle.taos_wire.specs.Reply.{answered_bytes, reply_text, seal_of, sent, spelling}
+use Rattle.taos_wire.specs.View.{cited, lent_grant, lent_part}
 use Rattle.taos_wire.proofs.Seals.{length-seal_of}
 use Rattle.stmt_codec.specs.Certificates.{Certificate, body_spelling, IsWithinLimits}
 use Rattle.stmt_codec.proofs.BodyLengths.{short_body}
@@ -30,12 +35,14 @@ certs_short (c ∷ certs) =
     omega (arith, ap length (flat_map-cons cert_bytes (cited c) (map cited certs)), length-append (cert_bytes (cited c)) (flat_map cert_bytes (map cited certs)), certs_short certs, cert_short (cited c) (arc_value c).limits)
 
 -- a grant's fields
-pub granted_short : {Z : Type 0} (kept : Bool) (entry shard place : ℕ) (proof : List Line) (certs : List (Arc Cert Z)) (result : List ℕ)
-    → length (proof_bytes proof) < 2 ^ 25 + 4 → length certs ≤ 64 → length result < 2 ^ 16
-    → length (granted_bytes kept entry shard place proof (map cited certs) result) < 2 ^ 25 + 2 ^ 17 + 2 ^ 16
-granted_short kept entry shard place proof certs result p few r =
-    let front = flag kept ∷ entry ∷ to_be_bytes w32 shard ++ to_be_bytes w64 place in
-    omega (arith, p, few, r, certs_short certs, length-append front (proof_bytes proof), length-append (front ++ proof_bytes proof) (cited_bytes (map cited certs)), length-append (front ++ proof_bytes proof ++ cited_bytes (map cited certs)) (counted w16 result), length-append (to_be_bytes w16 (length result)) result)
+pub granted_short : (g : LentGrant) → length (proof_bytes (lines_of g.proof.now)) < 2 ^ 25 + 4 → length g.certs.now ≤ 64 → length g.content.now < 2 ^ 16
+    → length (fields_of (lent_grant g)) < 2 ^ 25 + 2 ^ 17 + 2 ^ 16
+granted_short g p few r =
+    let front = flag g.kept ∷ g.entry ∷ to_be_bytes w32 g.shard ++ to_be_bytes w64 g.place in
+    let proof = proof_bytes (lines_of g.proof.now) in
+    let certs = cited_bytes (map cited g.certs.now) in
+    let content = g.content.now in
+    omega (arith, p, few, r, certs_short g.certs.now, length-append front proof, length-append (front ++ proof) certs, length-append (front ++ proof ++ certs) (counted w16 content), length-append (to_be_bytes w16 (length content)) content)
 
 -- a reply to which its text's length is known
 pub text_short : (channel seq : ℕ) (r : Reply) → length (fields_of r) < 2 ^ 25 + 2 ^ 17 + 2 ^ 16 → length (reply_text channel seq r) < 2 ^ 25 + 2 ^ 18
@@ -79,8 +86,8 @@ unfolding reply_text
 small_reply key channel seq r fits lt =
     omega (arith, small_fields r fits lt, length-append (answered_bytes channel seq) (status_of r ∷ fields_of r), length-append (reply_text channel seq r) (seal_of key (reply_text channel seq r)), length-seal_of key (reply_text channel seq r))
 
-pub missing_short : (key : List ℕ) (channel seq shard place entry : ℕ) (part : Principal) → node_count part ≤ 16 → length (spelling (sent (Some key) channel seq (Denied shard place (Missing entry part)))) ≤ 256
+pub missing_short : (key : List ℕ) (channel seq : ℕ) (d : LentPart) → node_count (principal d.part.now) ≤ 16 → length (spelling (sent (Some key) channel seq (lent_part d))) ≤ 256
 unfolding reply_text
-missing_short key channel seq shard place entry part few =
-    let r = Denied shard place (Missing entry part) in
-    omega (arith, few, term_bound part, length-append (reply_text channel seq r) (seal_of (Some key) (reply_text channel seq r)), length-seal_of (Some key) (reply_text channel seq r))
+missing_short key channel seq d few =
+    let r = lent_part d in
+    omega (arith, few, term_bound (principal d.part.now), length-append (reply_text channel seq r) (seal_of (Some key) (reply_text channel seq r)), length-seal_of (Some key) (reply_text channel seq r))

@@ -1,78 +1,16 @@
--- Fields that every message has, read at an offset with the faults of messages.
-use Rattle.std.specs.Prelude.{ℕ, ◌≤◌, Bool, ◌&&◌, List, length, nat_le}
-use Rattle.std.specs.Int.{w16, w32, w64}
-use Rattle.prin_term.specs.declared.fault.TermFault.{TermFault}
-use Rattle.prin_term.specs.declared.fault.TermFault.TheVariants as terms
-use Rattle.prin_term.specs.Principal.{Principal}
-use Rattle.prin_term.specs.Readers.{Reader, passing}
-use Rattle.prin_term.specs.Reading.{term_at}
-use Rattle.prin_term.specs.Steps.{with_fault, byte_at, number_at}
-use Rattle.stmt_codec.specs.declared.fault.BodyFault.{BodyFault}
-use Rattle.stmt_codec.specs.declared.fault.BodyFault.TheVariants as bodies
-use Rattle.taos_calculus.specs.declared.fault.ProofFault.{ProofFault}
-use Rattle.taos_calculus.specs.declared.fault.ProofFault.TheVariants as proofs
-use Rattle.taos_wire.specs.declared.fault.WireFault.{WireFault}
-use Rattle.taos_wire.specs.declared.fault.WireFault.TheVariants.{Malformed, NoMemory}
+-- Fields that every message has, read at an offset.
+use Rattle.std.specs.Prelude.{ℕ, ◌≤◌, List, length}
+use Rattle.prin_term.specs.declared.fault.FormatFault.{FormatFault}
+use Rattle.prin_term.specs.declared.fault.FormatFault.TheVariants.{Malformed, NoMemory}
+use Rattle.prin_term.specs.Formats.{FormatReader}
+pub use Rattle.prin_term.specs.Formats.{ended, IsPlaceIn, u8_in, u16_in, u32_in, u64_in}
+pub use Rattle.prin_term.specs.Formats.{is_within, within, at_most, seen_as, term_in}
 
 -- a reader of some bytes, with the faults of messages
 abbrev pub WireReader : Type 0 → Type 0
-WireReader A = Reader A WireFault
+WireReader A = FormatReader A
 
--- the fault of bytes that are lacking, whose place is the end of the bytes
-abbrev pub ended : List ℕ → WireFault
-ended bytes = Malformed (length bytes)
-
--- the fault's place is one of the bytes, or right after the last; out of memory has no place
-abbrev pub IsPlaceIn : List ℕ → WireFault → Type 0
-IsPlaceIn bytes (Malformed o) = o ≤ length bytes
-IsPlaceIn bytes NoMemory = Unit {0}
-
--- a number of one byte, and the offset after it
-abbrev pub u8_in : List ℕ → WireReader ℕ
-u8_in bytes = byte_at (ended bytes) bytes
-
--- a number of two bytes, and the offset after it
-abbrev pub u16_in : List ℕ → WireReader ℕ
-u16_in bytes = number_at (ended bytes) w16 bytes
-
--- a number of four bytes, and the offset after it
-abbrev pub u32_in : List ℕ → WireReader ℕ
-u32_in bytes = number_at (ended bytes) w32 bytes
-
--- a number of eight bytes, and the offset after it
-abbrev pub u64_in : List ℕ → WireReader ℕ
-u64_in bytes = number_at (ended bytes) w64 bytes
-
--- the number lies between the two, or is one of them
-abbrev pub is_within : ℕ → ℕ → ℕ → Bool
-is_within low high n = nat_le low n && nat_le n high
-
--- a number that lies between the two; another is refused at its first byte
-abbrev pub within : ℕ → ℕ → WireReader ℕ → WireReader ℕ
-within low high r = passing (is_within low high) Malformed r
-
--- a number that is not above; another is refused at its first byte
-abbrev pub at_most : ℕ → WireReader ℕ → WireReader ℕ
-at_most most r = passing (λ n. nat_le n most) Malformed r
-
--- a term's fault, as a message's
-abbrev pub seen_as : TermFault → WireFault
-seen_as (terms.Tag o) = Malformed o
-seen_as (terms.Short o) = Malformed o
-seen_as (terms.TooDeep o) = Malformed o
-seen_as (terms.TooLarge o) = Malformed o
-seen_as terms.NoMemory = NoMemory
-
--- a body's fault, as a message's
-abbrev pub seen_as_body : BodyFault → WireFault
-seen_as_body (bodies.Malformed o) = Malformed o
-seen_as_body bodies.NoMemory = NoMemory
-
--- a proof's fault, as a message's
-abbrev pub seen_as_proof : ProofFault → WireFault
-seen_as_proof (proofs.Malformed o) = Malformed o
-seen_as_proof proofs.NoMemory = NoMemory
-
--- a term of at most so many nodes
-abbrev pub term_in : ℕ → List ℕ → WireReader Principal
-term_in nodes bytes at = with_fault seen_as (term_at nodes bytes at)
+-- the fault's place is one of the bytes, or right after the last, and it is not out of memory
+abbrev pub IsFaultIn : List ℕ → FormatFault → Type 0
+IsFaultIn bytes (Malformed o) = o ≤ length bytes
+IsFaultIn bytes NoMemory = ⊥

@@ -1,5 +1,6 @@
 -- Replies as values, and the bytes of each.
-use Rattle.std.specs.Prelude.{◌≡◌, ℕ, ◌<◌, ◌≤◌, ◌^◌, Bool, true, false, List, [], ◌∷◌, ◌++◌, length, All, Option, Some, None, replicate}
+use Rattle.std.specs.Prelude.{◌≡◌, ℕ, ◌<◌, ◌≤◌, ◌^◌, Bool, true, false, List, [], ◌∷◌, ◌++◌, length}
+use Rattle.std.specs.Prelude.{All, Option, Some, None, replicate}
 use Rattle.std.specs.List.{flat_map}
 use Rattle.std.specs.Int.{w16, w32, w64, to_be_bytes}
 use Rattle.keyed_seal.specs.Tag.{tag_of}
@@ -8,7 +9,8 @@ use Rattle.prin_term.specs.declared.limits.TheConstants.{ENTRY_NODES}
 use Rattle.prin_term.specs.Principal.{Principal, spelling as term_spelling}
 use Rattle.prin_term.specs.Refusal.{FitsLimits}
 use Rattle.prin_term.specs.Steps.{counted}
-use Rattle.stmt_codec.specs.Certificates.{Certificate, body_spelling, HasBodySpelling, IsWithinLimits}
+use Rattle.stmt_codec.specs.Certificates.{Certificate, body_spelling, HasBodySpelling}
+use Rattle.stmt_codec.specs.Certificates.{IsWithinLimits}
 use Rattle.taos_calculus.specs.Rules.{Line}
 use Rattle.taos_calculus.specs.Spelling.{proof_spelling}
 use Rattle.taos_calculus.specs.Spells.{FitsProof}
@@ -27,7 +29,8 @@ pub data LinkSent : Type 0 where
 pub data Reply : Type 0 where
   -- `entry` is the list's entry that gives the right, by the proof and its certificates; `kept`
   -- tells that the proof was kept from an earlier request; `result` is what the operation gives
-  Granted : (kept : Bool) (entry shard place : ℕ) (proof : List Line) (certs : List Certificate) (result : List ℕ) → Reply
+  Granted : (kept : Bool) (entry shard place : ℕ) (proof : List Line)
+      (certs : List Certificate) (result : List ℕ) → Reply
   -- the live certificates do not give the right; the link names the first thing that is missing
   Denied : (shard place : ℕ) (link : LinkSent) → Reply
   -- the byte at the offset can't stand there
@@ -82,11 +85,6 @@ cited_bytes certs = length certs ∷ flat_map cert_bytes certs
 unfoldable pub proof_bytes : List Line → List ℕ
 proof_bytes proof = counted w32 (proof_spelling proof)
 
--- the fields of a grant, in their order
-abbrev pub granted_bytes : Bool → ℕ → ℕ → ℕ → List Line → List Certificate → List ℕ → List ℕ
-granted_bytes kept entry shard place proof certs result =
-    flag kept ∷ entry ∷ to_be_bytes w32 shard ++ to_be_bytes w64 place ++ proof_bytes proof ++ cited_bytes certs ++ counted w16 result
-
 -- the byte that names what kind of reply it is
 abbrev pub status_of : Reply → ℕ
 status_of (Granted kept entry shard place proof certs result) = 0
@@ -107,8 +105,11 @@ status_of Unbuilt = 255
 
 -- what it says besides its status
 abbrev pub fields_of : Reply → List ℕ
-fields_of (Granted kept entry shard place proof certs result) = granted_bytes kept entry shard place proof certs result
-fields_of (Denied shard place link) = to_be_bytes w32 shard ++ to_be_bytes w64 place ++ link_bytes link
+fields_of (Granted kept entry shard place proof certs result) =
+    flag kept ∷ entry ∷ to_be_bytes w32 shard ++ to_be_bytes w64 place
+    ++ proof_bytes proof ++ cited_bytes certs ++ counted w16 result
+fields_of (Denied shard place link) =
+    to_be_bytes w32 shard ++ to_be_bytes w64 place ++ link_bytes link
 fields_of (Malformed offset) = to_be_bytes w32 offset
 fields_of (UnknownChannel number) = to_be_bytes w32 number
 fields_of BadSeal = []
@@ -151,7 +152,8 @@ FitsLink (Missing entry part) = IsByte entry × FitsLimits ENTRY_NODES part
 FitsLink NoEntry = Unit {0}
 
 -- the fields of a grant fit, and there are at most so many certificates
-pub record FitsGranted (entry shard place : ℕ) (proof : List Line) (certs : List Certificate) (result : List ℕ) : Type 0 where
+pub record FitsGranted (entry shard place : ℕ) (proof : List Line)
+    (certs : List Certificate) (result : List ℕ) : Type 0 where
   pub entry_fits : IsByte entry
   pub shard_fits : shard < 2 ^ 32
   pub place_fits : place < 2 ^ 64
@@ -162,7 +164,8 @@ pub record FitsGranted (entry shard place : ℕ) (proof : List Line) (certs : Li
 
 -- each number fits its field, and what the reply carries is within the limits
 abbrev pub FitsReply : Reply → Type 0
-FitsReply (Granted kept entry shard place proof certs result) = FitsGranted entry shard place proof certs result
+FitsReply (Granted kept entry shard place proof certs result) =
+    FitsGranted entry shard place proof certs result
 FitsReply (Denied shard place link) = (shard < 2 ^ 32) × (place < 2 ^ 64) × FitsLink link
 FitsReply (Malformed offset) = offset < 2 ^ 32
 FitsReply (UnknownChannel number) = number < 2 ^ 32

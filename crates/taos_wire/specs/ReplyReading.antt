@@ -1,19 +1,24 @@
 -- Reading a reply from left to right, with the first fault that is met.
-use Rattle.std.specs.Prelude.{ℕ, ◌+◌, Bool, ◌||◌, List, length, take, Result, Ok, Err, nat_le, nat_lt, ◌==◌, if◌then◌else◌}
+use Rattle.std.specs.Prelude.{ℕ, ◌+◌, Bool, ◌||◌, List, length, take, Result, Ok, Err, nat_le}
+use Rattle.std.specs.Prelude.{nat_lt, ◌==◌, if◌then◌else◌}
 use Rattle.std.specs.Int.{w16}
 use Rattle.prin_term.specs.declared.limits.TheConstants.{ENTRY_NODES}
 use Rattle.prin_term.specs.Readers.{followed, passing, made, given, counted}
-use Rattle.prin_term.specs.Steps.{◌>>=◌, with_fault, bytes_at, counted_at}
+use Rattle.prin_term.specs.Steps.{◌>>=◌, bytes_at, counted_at}
 use Rattle.stmt_codec.specs.Certificates.{Certificate}
 use Rattle.stmt_codec.specs.Reading.{body_at}
 use Rattle.taos_calculus.specs.ProofReading.{proof_filling}
 use Rattle.taos_calculus.specs.Rules.{Line}
 use Rattle.taos_calculus.specs.Tables.{lines_of}
-use Rattle.taos_wire.specs.declared.fault.WireFault.{WireFault}
-use Rattle.taos_wire.specs.declared.fault.WireFault.TheVariants as faults
+use Rattle.prin_term.specs.declared.fault.FormatFault.{FormatFault as WireFault}
+use Rattle.prin_term.specs.declared.fault.FormatFault.TheVariants as faults
 use Rattle.taos_wire.specs.declared.reply.TheConstants.{MAX_CITED}
-use Rattle.taos_wire.specs.Fields.{WireReader, ended, seen_as_body, seen_as_proof, u8_in, u16_in, u32_in, u64_in, within, term_in}
-use Rattle.taos_wire.specs.Reply.{Reply, Granted, Denied, Malformed, UnknownChannel, BadSeal, Replayed, CertRefused, ChannelFull, RelayFailed, UnknownObject, JournalFull, NoMemory, CommonsFull, NotHeld, Unbuilt, LinkSent, Expired, Missing, NoEntry}
+use Rattle.taos_wire.specs.Fields.{WireReader, ended, u8_in, u16_in}
+use Rattle.taos_wire.specs.Fields.{u32_in, u64_in, within, term_in}
+use Rattle.taos_wire.specs.Reply.{Reply, Granted, Denied, Malformed, UnknownChannel, BadSeal}
+use Rattle.taos_wire.specs.Reply.{Replayed, CertRefused, ChannelFull, RelayFailed, UnknownObject}
+use Rattle.taos_wire.specs.Reply.{JournalFull, NoMemory, CommonsFull, NotHeld, Unbuilt, LinkSent}
+use Rattle.taos_wire.specs.Reply.{Expired, Missing, NoEntry}
 use Rattle.taos_wire.specs.RequestReading.{tag_at}
 
 -- the version, the channel and the number that are answered
@@ -33,13 +38,13 @@ place_at bytes = followed (u32_in bytes) (λ _. u64_in bytes)
 unfoldable pub proof_at : List ℕ → WireReader (List Line)
 proof_at bytes =
     made (λ x. lines_of x.1)
-    (followed (u32_in bytes) (λ n at. with_fault seen_as_proof (proof_filling bytes n at)))
+    (followed (u32_in bytes) (λ n. proof_filling bytes n))
 
 -- so many bytes stand there, and spell a body; faults are told by their offsets in all of the bytes
 unfoldable pub body_filling : List ℕ → ℕ → WireReader Certificate
 body_filling bytes n at = do
   text ← bytes_at (ended bytes) n bytes at
-  c ← with_fault seen_as_body (body_at (take (at + n) bytes) at)
+  c ← body_at (take (at + n) bytes) at
   if nat_lt c.1 (at + n) then Err (faults.Malformed c.1) else Ok (c.0, text.1)
 
 -- a length, and a body that fills it
@@ -66,8 +71,10 @@ granted_at bytes =
 -- the link that a byte names
 unfoldable pub named_at : List ℕ → ℕ → WireReader LinkSent
 named_at bytes kind at =
-    if kind == 1 then made (λ x. Expired x.0 x.1) (followed (u8_in bytes) (λ _. bytes_at (ended bytes) 32 bytes)) at
-    else (if kind == 2 then made (λ x. Missing x.0 x.1) (followed (u8_in bytes) (λ _. term_in ENTRY_NODES bytes)) at
+    if kind == 1 then made (λ x. Expired x.0 x.1)
+    (followed (u8_in bytes) (λ _. bytes_at (ended bytes) 32 bytes)) at
+    else (if kind == 2 then made (λ x. Missing x.0 x.1)
+    (followed (u8_in bytes) (λ _. term_in ENTRY_NODES bytes)) at
     else given NoEntry at)
 
 -- what a denial names, by the byte before it
@@ -76,7 +83,8 @@ link_at bytes = made (λ x. x.1) (followed (within 1 3 (u8_in bytes)) (λ kind. 
 
 -- the fields of a denial
 unfoldable pub denied_at : List ℕ → WireReader Reply
-denied_at bytes = made (λ x. Denied x.0.0 x.0.1 x.1) (followed (place_at bytes) (λ _. link_at bytes))
+denied_at bytes =
+    made (λ x. Denied x.0.0 x.0.1 x.1) (followed (place_at bytes) (λ _. link_at bytes))
 
 -- ---- the whole
 
@@ -93,19 +101,24 @@ fields_at bytes status at =
     else (if status == 3 then made UnknownChannel (u32_in bytes) at
     else (if status == 4 then given BadSeal at
     else (if status == 5 then made Replayed (u64_in bytes) at
-    else (if status == 6 then made (λ x. CertRefused x.0 x.1) (followed (u8_in bytes) (λ _. u8_in bytes)) at
+    else (if status == 6 then made (λ x. CertRefused x.0 x.1)
+    (followed (u8_in bytes) (λ _. u8_in bytes)) at
     else (if status == 7 then made ChannelFull (u8_in bytes) at
     else (if status == 8 then made RelayFailed (u8_in bytes) at
     else (if status == 9 then made UnknownObject (u32_in bytes) at
-    else (if status == 10 then made (λ x. JournalFull x.0 x.1.0 x.1.1) (followed (within 0 1 (u8_in bytes)) (λ _. place_at bytes)) at
+    else (if status == 10 then made (λ x. JournalFull x.0 x.1.0 x.1.1)
+    (followed (within 0 1 (u8_in bytes)) (λ _. place_at bytes)) at
     else (if status == 11 then given NoMemory at
-    else (if status == 12 then made (λ x. CommonsFull x.0 x.1) (followed (u8_in bytes) (λ _. u32_in bytes)) at
+    else (if status == 12 then made (λ x. CommonsFull x.0 x.1)
+    (followed (u8_in bytes) (λ _. u32_in bytes)) at
     else (if status == 13 then made NotHeld (bytes_at (ended bytes) 32 bytes) at
     else given Unbuilt at)))))))))))))
 
 -- the status, and the fields that it has
 unfoldable pub status_at : List ℕ → WireReader Reply
-status_at bytes = made (λ x. x.1) (followed (passing is_status faults.Malformed (u8_in bytes)) (λ status. fields_at bytes status))
+status_at bytes =
+    made (λ x. x.1)
+    (followed (passing is_status faults.Malformed (u8_in bytes)) (λ status. fields_at bytes status))
 
 -- the channel, the number and the reply; and the tag
 unfoldable pub reply_at : List ℕ → WireReader ((ℕ × ℕ × Reply) × List ℕ)

@@ -1,9 +1,11 @@
 -- Requests as values, and the bytes of each.
-use Rattle.std.specs.Prelude.{◌≡◌, ℕ, ◌≤◌, ◌<◌, ◌^◌, List, [], ◌∷◌, ◌++◌, length, All, Option, IfSome}
+use Rattle.std.specs.Prelude.{◌≡◌, ℕ, ◌≤◌, ◌<◌, ◌^◌, List, [], ◌∷◌, ◌++◌, length, All, Option}
+use Rattle.std.specs.Prelude.{IfSome}
 use Rattle.std.specs.List.{flat_map}
 use Rattle.std.specs.Int.{w16, w32, w64, to_be_bytes}
 use Rattle.keyed_seal.specs.Tag.{tag_of}
-use Rattle.object_core.specs.Operation.{Op, Read, Write, SetList, Hold, Discard, Forget, Sweep, FitsOperation, IsByte}
+use Rattle.object_core.specs.Operation.{Op, Read, Write, SetList, Hold, Discard, Forget, Sweep}
+use Rattle.object_core.specs.Operation.{FitsOperation, IsByte}
 use Rattle.prin_term.specs.declared.limits.TheConstants.{QUOTED_NODES}
 use Rattle.prin_term.specs.Principal.{Principal, spelling}
 use Rattle.prin_term.specs.Refusal.{FitsLimits}
@@ -60,7 +62,8 @@ certs_bytes certs = length certs ∷ flat_map (counted w16) certs
 -- the version, the channel, the number, and who is quoted, after a byte that says whether
 -- anybody is
 abbrev pub origin_bytes : ℕ → ℕ → Option Principal → List ℕ
-origin_bytes channel seq quoted = 3 ∷ to_be_bytes w32 channel ++ to_be_bytes w64 seq ++ optional spelling quoted
+origin_bytes channel seq quoted =
+    3 ∷ to_be_bytes w32 channel ++ to_be_bytes w64 seq ++ optional spelling quoted
 
 -- the operation's name, the object, and the operation's fields
 abbrev pub asked_bytes : ℕ → Op → List ℕ
@@ -68,7 +71,8 @@ asked_bytes object op = kind_of op ∷ to_be_bytes w32 object ++ op_fields op
 
 -- the one spelling of a request, up to the tag
 abbrev pub request_text : Request → List ℕ
-request_text r = origin_bytes r.channel r.seq r.quoted ++ asked_bytes r.object r.op ++ certs_bytes r.certs
+request_text r =
+    origin_bytes r.channel r.seq r.quoted ++ asked_bytes r.object r.op ++ certs_bytes r.certs
 
 -- ---- limits
 

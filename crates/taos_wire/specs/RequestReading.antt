@@ -8,10 +8,11 @@ use Rattle.prin_term.specs.Principal.{Principal}
 use Rattle.prin_term.specs.Readers.{followed, made, given, counted}
 use Rattle.prin_term.specs.Steps.{◌>>=◌, bytes_at, counted_at, optional_at}
 use Rattle.prin_term.specs.View.{Grant}
-use Rattle.taos_wire.specs.declared.fault.WireFault.{WireFault}
-use Rattle.taos_wire.specs.declared.fault.WireFault.TheVariants.{Malformed}
+use Rattle.prin_term.specs.declared.fault.FormatFault.{FormatFault as WireFault}
+use Rattle.prin_term.specs.declared.fault.FormatFault.TheVariants.{Malformed}
 use Rattle.taos_wire.specs.declared.request.TheConstants.{MAX_CERTS}
-use Rattle.taos_wire.specs.Fields.{WireReader, ended, u8_in, u16_in, u32_in, u64_in, within, at_most, term_in}
+use Rattle.taos_wire.specs.Fields.{WireReader, ended, u8_in, u16_in, u32_in, u64_in, within}
+use Rattle.taos_wire.specs.Fields.{at_most, term_in}
 use Rattle.taos_wire.specs.Request.{Request}
 
 -- ---- who asks
@@ -82,7 +83,17 @@ tag_at bytes = bytes_at (ended bytes) 32 bytes
 -- the request, and its tag
 unfoldable pub request_at : List ℕ → WireReader (Request × List ℕ)
 request_at bytes =
-    made (λ x. (record { channel = x.0.0; seq = x.0.1; quoted = x.1.0; object = x.1.1.0.0; op = x.1.1.0.1; certs = x.1.1.1.0 }, x.1.1.1.1))
+    made (λ x. (
+      record {
+        channel = x.0.0;
+        seq = x.0.1;
+        quoted = x.1.0;
+        object = x.1.1.0.0;
+        op = x.1.1.0.1;
+        certs = x.1.1.1.0;
+      },
+      x.1.1.1.1,
+    ))
     (followed (origin_at bytes)
     (λ _. followed (quoted_at bytes)
     (λ _. followed (asked_at bytes)

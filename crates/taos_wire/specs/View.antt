@@ -11,9 +11,14 @@ use Rattle.stmt_codec.specs.Certificates.{Certificate, certificate}
 use Rattle.taos_calculus.specs.Tables.{lines_of}
 use Rattle.taos_wire.specs.declared.reply.Reply as code_reply
 use Rattle.taos_wire.specs.declared.reply.Reply.TheVariants as replies
+use Rattle.taos_wire.specs.declared.reply.LentGrant.{LentGrant}
+use Rattle.taos_wire.specs.declared.reply.LentPart.{LentPart}
 use Rattle.taos_wire.specs.declared.reply.LinkSent as code_link
 use Rattle.taos_wire.specs.declared.reply.LinkSent.TheVariants as links
-use Rattle.taos_wire.specs.Reply.{Reply, Granted, Denied, Malformed, UnknownChannel, BadSeal, Replayed, CertRefused, ChannelFull, RelayFailed, UnknownObject, JournalFull, NoMemory, CommonsFull, NotHeld, Unbuilt, LinkSent, Expired, Missing, NoEntry}
+use Rattle.taos_wire.specs.Reply.{Reply, Granted, Denied, Malformed, UnknownChannel, BadSeal}
+use Rattle.taos_wire.specs.Reply.{Replayed, CertRefused, ChannelFull, RelayFailed, UnknownObject}
+use Rattle.taos_wire.specs.Reply.{JournalFull, NoMemory, CommonsFull, NotHeld, Unbuilt, LinkSent}
+use Rattle.taos_wire.specs.Reply.{Expired, Missing, NoEntry}
 use Rattle.taos_wire.specs.Request.{Request}
 
 -- the bytes alone
@@ -43,7 +48,9 @@ link links.NoEntry = NoEntry
 
 -- the reply that the program's one stands for
 abbrev pub reply : code_reply.Reply → Reply
-reply (replies.Granted kept entry shard place proof certs result) = Granted kept entry shard place (lines_of (arc_value proof)) (map cited certs.items) result.items
+reply (replies.Granted kept entry shard place proof certs result) =
+    Granted kept entry shard place (lines_of (arc_value proof)) (map cited certs.items)
+    result.items
 reply (replies.Denied shard place l) = Denied shard place (link l)
 reply (replies.Malformed offset) = Malformed offset
 reply (replies.UnknownChannel number) = UnknownChannel number
@@ -58,3 +65,13 @@ reply replies.NoMemory = NoMemory
 reply (replies.CommonsFull held shard) = CommonsFull held shard
 reply (replies.NotHeld digest) = NotHeld digest
 reply replies.Unbuilt = Unbuilt
+
+-- the reply of a grant whose parts are lent
+abbrev pub lent_grant : LentGrant → Reply
+lent_grant g =
+    Granted g.kept g.entry g.shard g.place (lines_of g.proof.now) (map cited g.certs.now)
+    g.content.now
+
+-- the reply of a denial whose part is lent
+abbrev pub lent_part : LentPart → Reply
+lent_part d = Denied d.shard d.place (Missing d.entry (principal d.part.now))

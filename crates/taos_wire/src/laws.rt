@@ -1,9 +1,12 @@
 //! Laws of requests and replies, stated as contracts of functions that do nothing.
 
-ghost use Rattle.std.specs.Prelude.{◌≡◌, ◌<◌, ◌^◌, ◌++◌, [], All, List, ℕ, Option, Ok, Err, length};
+ghost use Rattle.std.specs.Prelude.{◌≡◌, ◌↔◌, ◌<◌, ◌^◌, ◌++◌, [], All, List, ℕ, Option, Ok};
+ghost use Rattle.std.specs.Prelude.{Err, length};
 ghost use Rattle.object_core.specs.Operation.{IsByte};
 ghost use Rattle.taos_wire.specs.Request.{Request, FitsRequest, IsSealed, Spells, sealed};
-ghost use Rattle.taos_wire.specs.declared.fault.WireFault.TheVariants.{Malformed};
+ghost use Rattle.prin_term.specs.declared.fault.FormatFault.{FormatFault as WireFault};
+ghost use Rattle.prin_term.specs.declared.fault.FormatFault.TheVariants.{Malformed};
+ghost use Rattle.taos_wire.specs.Fields.{IsFaultIn};
 ghost use Rattle.taos_wire.specs.RequestReading.{request_of};
 ghost use Rattle.taos_wire.specs.Reply.{Reply, FitsReply, SpellsReply, sent, spelling};
 ghost use Rattle.taos_wire.specs.ReplyReading.{reply_of};
@@ -33,6 +36,15 @@ pub fn no_proper_prefix()
         → request_of (bytes ++ more) ≡ Err (Malformed (length bytes)) }
 {}
 
+/// Reading as a function gives exactly the request that the bytes spell. Other bytes are refused at
+/// one of them or right after the last, and never for memory.
+pub fn requests_are_read()
+    ensures read { (bytes : List ℕ) (r : Request) → All IsByte bytes
+        → (request_of bytes ≡ Ok r) ↔ Spells r bytes }
+    ensures refused { (bytes : List ℕ) (f : WireFault) → All IsByte bytes
+        → request_of bytes ≡ Err f → IsFaultIn bytes f }
+{}
+
 /// No bytes spell two replies.
 pub fn one_reply()
     ensures { (c d n m : ℕ) (q r : Reply) (bytes : List ℕ) → SpellsReply c n q bytes
@@ -60,4 +72,11 @@ pub fn no_reply_begins_another()
     ensures longer { (channel seq : ℕ) (r : Reply) (bytes more : List ℕ)
         → SpellsReply channel seq r bytes → 0 < length more
         → reply_of (bytes ++ more) ≡ Err (Malformed (length bytes)) }
+{}
+
+/// Reading as a function gives exactly the reply that the bytes spell, with the channel and the
+/// number that it answers.
+pub fn replies_are_read()
+    ensures { (bytes : List ℕ) (channel seq : ℕ) (r : Reply) → All IsByte bytes
+        → (reply_of bytes ≡ Ok (channel, seq, r)) ↔ SpellsReply channel seq r bytes }
 {}

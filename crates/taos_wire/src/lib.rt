@@ -17,12 +17,12 @@ mod writing;
 
 pub use fault::WireFault;
 pub use laws::{
-    no_proper_prefix, no_reply_begins_another, one_reply, one_request, reply_is_read,
-    written_is_read,
+    no_proper_prefix, no_reply_begins_another, one_reply, one_request, replies_are_read,
+    reply_is_read, requests_are_read, written_is_read,
 };
 pub use reading::read_request;
-pub use reply::{LinkSent, MAX_CITED, Reply};
-pub use reply_lent::{write_granted, write_granted_with, write_missing, write_missing_with};
+pub use reply::{LentGrant, LentPart, LinkSent, MAX_CITED, Reply};
+pub use reply_lent::{write_granted, write_missing, write_missing_with};
 pub use reply_reading::read_reply;
 pub use reply_writing::{write_reply, write_reply_with};
 pub use request::{MAX_CERTS, Request};

@@ -6,11 +6,13 @@ ghost use Rattle.prin_term.specs.Readers.{made, items_behind};
 ghost use Rattle.prin_term.specs.Steps.{Gives};
 ghost use Rattle.prin_term.specs.View.{principal, grant};
 ghost use Rattle.object_core.specs.View.{operation};
-ghost use Rattle.taos_wire.specs.declared.fault.WireFault.TheVariants.{NoMemory};
+ghost use Rattle.prin_term.specs.declared.fault.FormatFault.TheVariants.{NoMemory};
 ghost use Rattle.taos_wire.specs.Fields.{ended, IsPlaceIn, u8_in, u16_in, within, at_most};
 ghost use Rattle.taos_wire.specs.Request as math;
 ghost use Rattle.taos_wire.specs.Request.{Spells};
-ghost use Rattle.taos_wire.specs.RequestReading.{origin_at, quoted_at, content_at, entry_at, list_at, fields_at, asked_at, cert_at, certs_at, request_at, request_of};
+ghost use Rattle.taos_wire.specs.RequestReading.{origin_at, quoted_at, content_at, entry_at};
+ghost use Rattle.taos_wire.specs.RequestReading.{list_at, fields_at, asked_at, cert_at, certs_at};
+ghost use Rattle.taos_wire.specs.RequestReading.{request_at, request_of};
 ghost use Rattle.taos_wire.specs.View.{request, text_of};
 
 use crate::fault::WireFault;
@@ -93,7 +95,8 @@ fn origin_of(bytes: &[u8], at: usize) -> Result<(u32, u64, usize), WireFault>
 #[tactic(auto, unfolding(crate::specs::RequestReading::quoted_at, prin_term::specs::Steps::optional_at))]
 fn quoted_of(alloc: Global, bytes: &[u8], at: usize) -> Result<(Option<Term>, usize), WireFault>
     requires { at ≤ length bytes.now }
-    ensures value { Gives NoMemory (λ x. (option_map principal x.0, x.1)) result (quoted_at bytes.now at) }
+    ensures value { Gives NoMemory (λ x. (option_map principal x.0, x.1)) result
+        (quoted_at bytes.now at) }
     ensures within { IfOk result (λ x. x.1 ≤ length bytes.now) }
 {
     let (flag, next) = u8_at(bytes, at, ended(bytes))?;
@@ -165,7 +168,8 @@ fn list_of(alloc: Global, bytes: &[u8], at: usize) -> Result<(Vec<Entry>, usize)
 #[tactic(auto, unfolding(crate::specs::RequestReading::fields_at))]
 fn fields_of(alloc: Global, bytes: &[u8], at: usize, kind: u8) -> Result<(Op, usize), WireFault>
     requires { at ≤ length bytes.now }
-    ensures value { Gives NoMemory (λ x. (operation x.0, x.1)) result (fields_at bytes.now kind at) }
+    ensures value { Gives NoMemory (λ x. (operation x.0, x.1)) result
+        (fields_at bytes.now kind at) }
     ensures within { IfOk result (λ x. x.1 ≤ length bytes.now) }
 {
     match kind {
@@ -195,7 +199,8 @@ fn fields_of(alloc: Global, bytes: &[u8], at: usize, kind: u8) -> Result<(Op, us
 #[tactic(auto, unfolding(crate::specs::RequestReading::asked_at))]
 fn asked_of(alloc: Global, bytes: &[u8], at: usize) -> Result<(u32, Op, usize), WireFault>
     requires { at ≤ length bytes.now }
-    ensures value { Gives NoMemory (λ x. ((x.0, operation x.1), x.2)) result (asked_at bytes.now at) }
+    ensures value { Gives NoMemory (λ x. ((x.0, operation x.1), x.2)) result
+        (asked_at bytes.now at) }
     ensures within { IfOk result (λ x. x.2 ≤ length bytes.now) }
 {
     let (kind, next) = byte_within(bytes, at, 1, 7)?;
@@ -239,7 +244,8 @@ fn texts_of(
 #[tactic(auto, unfolding(crate::specs::RequestReading::certs_at))]
 fn certs_of(alloc: Global, bytes: &[u8], at: usize) -> Result<(Vec<Vec<u8>>, usize), WireFault>
     requires { at ≤ length bytes.now }
-    ensures value { Gives NoMemory (λ x. (map text_of x.0.items, x.1)) result (certs_at bytes.now at) }
+    ensures value { Gives NoMemory (λ x. (map text_of x.0.items, x.1)) result
+        (certs_at bytes.now at) }
     ensures within { IfOk result (λ x. x.1 ≤ length bytes.now) }
 {
     let (count, next) = count_up_to(bytes, at, MAX_CERTS)?;

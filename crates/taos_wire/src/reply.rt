@@ -86,3 +86,26 @@ pub enum Reply {
     /// What was asked is not built yet.
     Unbuilt,
 }
+
+/// What the reply of a grant carries, of which nothing is copied: the right of an entry, told at a
+/// place of a shard's journal, by a proof and the certificates that it cites; whether the proof was
+/// kept; and what the operation gives.
+#[derive(Clone, Copy)]
+pub struct LentGrant<'a> {
+    pub kept: bool,
+    pub entry: u8,
+    pub shard: u32,
+    pub place: u64,
+    pub proof: &'a Proof,
+    pub certs: &'a [Arc<Cert>],
+    pub content: &'a [u8],
+}
+
+/// What the reply of a denial carries that names a part of an entry, of which nothing is copied.
+#[derive(Clone, Copy)]
+pub struct LentPart<'a> {
+    pub shard: u32,
+    pub place: u64,
+    pub entry: u8,
+    pub part: &'a Term,
+}

@@ -5,8 +5,9 @@ ghost use Rattle.prin_term.specs.Readers.{items_behind};
 ghost use Rattle.prin_term.specs.Steps.{Gives};
 ghost use Rattle.stmt_codec.specs.Certificates.{certificate};
 ghost use Rattle.taos_calculus.specs.Tables.{lines_of};
-ghost use Rattle.taos_wire.specs.declared.fault.WireFault.TheVariants.{NoMemory};
-ghost use Rattle.taos_wire.specs.ReplyReading.{body_filling, cert_at, cited_at, granted_at, proof_at};
+ghost use Rattle.prin_term.specs.declared.fault.FormatFault.TheVariants.{NoMemory};
+ghost use Rattle.taos_wire.specs.ReplyReading.{body_filling, cert_at, cited_at, granted_at};
+ghost use Rattle.taos_wire.specs.ReplyReading.{proof_at};
 ghost use Rattle.taos_wire.specs.View.{cited, reply};
 
 use crate::fault::WireFault;
@@ -83,7 +84,8 @@ fn certs_of(
 #[tactic(auto, unfolding(crate::specs::ReplyReading::cited_at))]
 fn cited_of(alloc: Global, bytes: &[u8], at: usize) -> Result<(Vec<Arc<Cert>>, usize), WireFault>
     requires { at ≤ length bytes.now }
-    ensures value { Gives NoMemory (λ x. (map cited x.0.items, x.1)) result (cited_at bytes.now at) }
+    ensures value { Gives NoMemory (λ x. (map cited x.0.items, x.1)) result
+        (cited_at bytes.now at) }
     ensures within { IfOk result (λ x. x.1 ≤ length bytes.now) }
 {
     let (count, next) = count_up_to(bytes, at, MAX_CITED)?;

@@ -1,13 +1,14 @@
 //! Writing the fields of a grant.
 
-ghost use Rattle.std.specs.Prelude.{◌≡◌, ◌++◌, ◌+◌, ◌<◌, ◌≤◌, ◌^◌, List, ℕ, drop, take, length, map, vec_capacity, OnOk, OnErr};
+ghost use Rattle.std.specs.Prelude.{◌≡◌, ◌++◌, ◌+◌, ◌<◌, ◌≤◌, ◌^◌, List, ℕ, drop, take, length};
+ghost use Rattle.std.specs.Prelude.{map, vec_capacity, OnOk, OnErr};
 ghost use Rattle.std.specs.List.{flat_map};
 ghost use Rattle.stmt_codec.specs.Certificates.{certificate};
 ghost use Rattle.taos_calculus.specs.Tables.{lines_of};
-ghost use Rattle.taos_wire.specs.Reply.{cert_bytes, cited_bytes, flag, granted_bytes, proof_bytes};
-ghost use Rattle.taos_wire.specs.View.{cited};
+ghost use Rattle.taos_wire.specs.Reply.{cert_bytes, cited_bytes, fields_of, flag, proof_bytes};
+ghost use Rattle.taos_wire.specs.View.{cited, lent_grant};
 
-use crate::reply::MAX_CITED;
+use crate::reply::{LentGrant, MAX_CITED};
 use crate::reply_writing::place_of;
 use crate::writing::push_counted;
 use std::alloc::AllocError;
@@ -22,33 +23,22 @@ fn flag_of(kept: bool) -> u8
 }
 
 // The fields of a grant.
-pub(crate) fn push_granted(
-    out: &mut Vec<u8>,
-    kept: bool,
-    entry: u8,
-    shard: u32,
-    place: u64,
-    proof: &Proof,
-    certs: &[Arc<Cert>],
-    content: &[u8],
-) -> Result<(), AllocError>
-    requires few_certs { length certs.now ≤ MAX_CITED }
-    requires short { length content.now < 2 ^ 16 }
-    ensures ok { OnOk result (out.new.items ≡ out.old.items ++ granted_bytes kept entry shard place
-        (lines_of proof.now) (map cited certs.now) content.now) }
+pub(crate) fn push_granted(out: &mut Vec<u8>, grant: &LentGrant<'_>) -> Result<(), AllocError>
+    requires few_certs { length grant.now.certs.now ≤ MAX_CITED }
+    requires short { length grant.now.content.now < 2 ^ 16 }
+    ensures ok { OnOk result (out.new.items ≡ out.old.items ++ fields_of (lent_grant grant.now)) }
     ensures err { OnErr result ((more : List ℕ) × (out.new.items ≡ out.old.items ++ more)) }
     ensures capacity { vec_capacity out.old ≤ vec_capacity out.new }
-    ensures room { OnErr result (vec_capacity out.old < length out.old.items
-        + length (granted_bytes kept entry shard place (lines_of proof.now) (map cited certs.now)
-        content.now)) }
-    ensures short { OnOk result (length (granted_bytes kept entry shard place (lines_of proof.now)
-        (map cited certs.now) content.now) < 2 ^ 25 + 2 ^ 17 + 2 ^ 16) }
+    ensures room { OnErr result
+        (vec_capacity out.old < length out.old.items + length (fields_of (lent_grant grant.now))) }
+    ensures short { OnOk result
+        (length (fields_of (lent_grant grant.now)) < 2 ^ 25 + 2 ^ 17 + 2 ^ 16) }
 {
-    out.extend_from_slice(&[flag_of(kept), entry])?;
-    out.extend_from_slice(&place_of(shard, place))?;
-    push_proof(out, proof)?;
-    push_cited(out, certs)?;
-    push_counted(out, content)
+    out.extend_from_slice(&[flag_of(grant.kept), grant.entry])?;
+    out.extend_from_slice(&place_of(grant.shard, grant.place))?;
+    push_proof(out, grant.proof)?;
+    push_cited(out, grant.certs)?;
+    push_counted(out, grant.content)
 }
 
 // Writes bytes over those that stand at `start`.

@@ -1,124 +1,71 @@
 //! Writing a reply whose parts are lent.
 
-ghost use Rattle.std.specs.Prelude.{◌≡◌, ◌++◌, ◌+◌, ◌<◌, ◌≤◌, ◌^◌, List, ℕ, Some, length, map, vec_capacity, OnOk, OnErr};
+ghost use Rattle.std.specs.Prelude.{◌≡◌, ◌++◌, ◌+◌, ◌<◌, ◌≤◌, ◌^◌, List, ℕ, Some, length};
+ghost use Rattle.std.specs.Prelude.{vec_capacity, OnOk, OnErr};
 ghost use Rattle.prin_term.specs.Refusal.{FitsLimits};
 ghost use Rattle.prin_term.specs.View.{principal};
-ghost use Rattle.taos_calculus.specs.Tables.{lines_of};
 ghost use Rattle.taos_wire.specs.Reply as math;
 ghost use Rattle.taos_wire.specs.Reply.{reply_text, sent, spelling};
-ghost use Rattle.taos_wire.specs.View.{cited};
+ghost use Rattle.taos_wire.specs.View.{lent_grant, lent_part};
 
-use crate::reply::MAX_CITED;
+use crate::reply::{LentGrant, LentPart, MAX_CITED};
 use crate::reply_granting::push_granted;
 use crate::reply_writing::{DENIED, GRANTED, head_of, place_of, push_part, push_seal};
 use keyed_seal::Sealer;
 use prin_term::{ENTRY_NODES, Term};
 use std::alloc::AllocError;
-use std::sync::Arc;
-use stmt_codec::Cert;
-use taos_calculus::Proof;
 
-/// Appends the reply of a grant, whose parts are lent: what `write_reply` appends for a `Granted` of
-/// these.
+/// Appends the reply of a grant whose parts are lent: what `write_reply_with` appends for a
+/// `Granted` of these.
 pub fn write_granted(
-    out: &mut Vec<u8>,
-    key: &[u8; 32],
-    channel: u32,
-    seq: u64,
-    kept: bool,
-    entry: u8,
-    shard: u32,
-    place: u64,
-    proof: &Proof,
-    certs: &[Arc<Cert>],
-    content: &[u8],
-) -> Result<(), AllocError>
-    requires few_certs { length certs.now ≤ MAX_CITED }
-    requires short { length content.now < 2 ^ 16 }
-    ensures ok { OnOk result (out.new.items ≡ out.old.items
-        ++ spelling (sent (Some key.now) channel seq (math.Granted kept entry shard place
-        (lines_of proof.now) (map cited certs.now) content.now))) }
-    ensures err { OnErr result (out.new.items ≡ out.old.items) }
-    ensures capacity { vec_capacity out.old ≤ vec_capacity out.new }
-    ensures room { OnErr result (vec_capacity out.old < length out.old.items
-        + length (spelling (sent (Some key.now) channel seq (math.Granted kept entry shard place
-        (lines_of proof.now) (map cited certs.now) content.now)))) }
-    ensures short { OnOk result (length (spelling (sent (Some key.now) channel seq (math.Granted kept
-        entry shard place (lines_of proof.now) (map cited certs.now) content.now))) < 2 ^ 26) }
-{
-    let sealer = Sealer::of(key);
-    write_granted_with(
-        out, &sealer, channel, seq, kept, entry, shard, place, proof, certs, content,
-    )
-}
-
-/// The same under a key that is ready to seal.
-pub fn write_granted_with(
     out: &mut Vec<u8>,
     sealer: &Sealer,
     channel: u32,
     seq: u64,
-    kept: bool,
-    entry: u8,
-    shard: u32,
-    place: u64,
-    proof: &Proof,
-    certs: &[Arc<Cert>],
-    content: &[u8],
+    grant: &LentGrant<'_>,
 ) -> Result<(), AllocError>
-    requires few_certs { length certs.now ≤ MAX_CITED }
-    requires short { length content.now < 2 ^ 16 }
-    ensures ok { OnOk result (out.new.items ≡ out.old.items
-        ++ spelling (sent (Some sealer.now) channel seq (math.Granted kept entry shard place
-        (lines_of proof.now) (map cited certs.now) content.now))) }
+    requires few_certs { length grant.now.certs.now ≤ MAX_CITED }
+    requires short { length grant.now.content.now < 2 ^ 16 }
+    ensures ok { OnOk result (out.new.items
+        ≡ out.old.items ++ spelling (sent (Some sealer.now) channel seq (lent_grant grant.now))) }
     ensures err { OnErr result (out.new.items ≡ out.old.items) }
     ensures capacity { vec_capacity out.old ≤ vec_capacity out.new }
+    // Memory is refused only where the room behind what is there is too small.
     ensures room { OnErr result (vec_capacity out.old < length out.old.items
-        + length (spelling (sent (Some sealer.now) channel seq (math.Granted kept entry shard place
-        (lines_of proof.now) (map cited certs.now) content.now)))) }
-    ensures short { OnOk result (length (spelling (sent (Some sealer.now) channel seq (math.Granted
-        kept entry shard place (lines_of proof.now) (map cited certs.now) content.now))) < 2 ^ 26) }
+        + length (spelling (sent (Some sealer.now) channel seq (lent_grant grant.now)))) }
+    // A reply's frame is short enough for a frame of replies.
+    ensures short { OnOk result
+        (length (spelling (sent (Some sealer.now) channel seq (lent_grant grant.now))) < 2 ^ 26) }
 {
     let len = out.len();
-    let written = push_sealed_grant(
-        out, sealer, channel, seq, kept, entry, shard, place, proof, certs, content,
-    );
+    let written = push_sealed_grant(out, sealer, channel, seq, grant);
     if written.is_err() {
         out.truncate(len);
     }
     written
 }
 
+// What an `Err` leaves has the old bytes in front, here and below.
 fn push_sealed_grant(
     out: &mut Vec<u8>,
     sealer: &Sealer,
     channel: u32,
     seq: u64,
-    kept: bool,
-    entry: u8,
-    shard: u32,
-    place: u64,
-    proof: &Proof,
-    certs: &[Arc<Cert>],
-    content: &[u8],
+    grant: &LentGrant<'_>,
 ) -> Result<(), AllocError>
-    requires few_certs { length certs.now ≤ MAX_CITED }
-    requires short { length content.now < 2 ^ 16 }
-    ensures ok { OnOk result (out.new.items ≡ out.old.items
-        ++ spelling (sent (Some sealer.now) channel seq (math.Granted kept entry shard place
-        (lines_of proof.now) (map cited certs.now) content.now))) }
+    requires few_certs { length grant.now.certs.now ≤ MAX_CITED }
+    requires short { length grant.now.content.now < 2 ^ 16 }
+    ensures ok { OnOk result (out.new.items
+        ≡ out.old.items ++ spelling (sent (Some sealer.now) channel seq (lent_grant grant.now))) }
     ensures err { OnErr result ((more : List ℕ) × (out.new.items ≡ out.old.items ++ more)) }
     ensures capacity { vec_capacity out.old ≤ vec_capacity out.new }
     ensures room { OnErr result (vec_capacity out.old < length out.old.items
-        + length (spelling (sent (Some sealer.now) channel seq (math.Granted kept entry shard place
-        (lines_of proof.now) (map cited certs.now) content.now)))) }
-    ensures short { OnOk result (length (spelling (sent (Some sealer.now) channel seq (math.Granted
-        kept entry shard place (lines_of proof.now) (map cited certs.now) content.now))) < 2 ^ 26) }
+        + length (spelling (sent (Some sealer.now) channel seq (lent_grant grant.now)))) }
+    ensures short { OnOk result
+        (length (spelling (sent (Some sealer.now) channel seq (lent_grant grant.now))) < 2 ^ 26) }
 {
     let start = out.len();
-    push_grant_text(
-        out, channel, seq, kept, entry, shard, place, proof, certs, content,
-    )?;
+    push_grant_text(out, channel, seq, grant)?;
     push_seal(out, Some(sealer), start)
 }
 
@@ -127,29 +74,21 @@ fn push_grant_text(
     out: &mut Vec<u8>,
     channel: u32,
     seq: u64,
-    kept: bool,
-    entry: u8,
-    shard: u32,
-    place: u64,
-    proof: &Proof,
-    certs: &[Arc<Cert>],
-    content: &[u8],
+    grant: &LentGrant<'_>,
 ) -> Result<(), AllocError>
-    requires few_certs { length certs.now ≤ MAX_CITED }
-    requires short { length content.now < 2 ^ 16 }
-    ensures ok { OnOk result (out.new.items ≡ out.old.items
-        ++ reply_text channel seq (math.Granted kept entry shard place (lines_of proof.now)
-        (map cited certs.now) content.now)) }
+    requires few_certs { length grant.now.certs.now ≤ MAX_CITED }
+    requires short { length grant.now.content.now < 2 ^ 16 }
+    ensures ok { OnOk result
+        (out.new.items ≡ out.old.items ++ reply_text channel seq (lent_grant grant.now)) }
     ensures err { OnErr result ((more : List ℕ) × (out.new.items ≡ out.old.items ++ more)) }
     ensures capacity { vec_capacity out.old ≤ vec_capacity out.new }
-    ensures room { OnErr result (vec_capacity out.old < length out.old.items
-        + length (reply_text channel seq (math.Granted kept entry shard place (lines_of proof.now)
-        (map cited certs.now) content.now))) }
-    ensures short { OnOk result (length (reply_text channel seq (math.Granted kept entry shard
-        place (lines_of proof.now) (map cited certs.now) content.now)) < 2 ^ 25 + 2 ^ 18) }
+    ensures room { OnErr result (vec_capacity out.old
+        < length out.old.items + length (reply_text channel seq (lent_grant grant.now))) }
+    ensures short { OnOk result
+        (length (reply_text channel seq (lent_grant grant.now)) < 2 ^ 25 + 2 ^ 18) }
 {
     out.extend_from_slice(&head_of(channel, seq, GRANTED))?;
-    push_granted(out, kept, entry, shard, place, proof, certs, content)
+    push_granted(out, grant)
 }
 
 /// Appends the reply of a denial whose part is lent: what `write_reply` appends for a `Denied` with
@@ -177,7 +116,13 @@ pub fn write_missing(
         (math.Denied shard place (math.Missing entry (principal part.now))))) ≤ 256 }
 {
     let sealer = Sealer::of(key);
-    write_missing_with(out, &sealer, channel, seq, shard, place, entry, part)
+    let denial = LentPart {
+        shard,
+        place,
+        entry,
+        part,
+    };
+    write_missing_with(out, &sealer, channel, seq, &denial)
 }
 
 /// The same under a key that is ready to seal.
@@ -186,25 +131,20 @@ pub fn write_missing_with(
     sealer: &Sealer,
     channel: u32,
     seq: u64,
-    shard: u32,
-    place: u64,
-    entry: u8,
-    part: &Term,
+    denial: &LentPart<'_>,
 ) -> Result<(), AllocError>
-    requires limits { FitsLimits ENTRY_NODES (principal part.now) }
-    ensures ok { OnOk result (out.new.items ≡ out.old.items
-        ++ spelling (sent (Some sealer.now) channel seq
-        (math.Denied shard place (math.Missing entry (principal part.now))))) }
+    requires limits { FitsLimits ENTRY_NODES (principal denial.now.part.now) }
+    ensures ok { OnOk result (out.new.items
+        ≡ out.old.items ++ spelling (sent (Some sealer.now) channel seq (lent_part denial.now))) }
     ensures err { OnErr result (out.new.items ≡ out.old.items) }
     ensures capacity { vec_capacity out.old ≤ vec_capacity out.new }
     ensures room { OnErr result (vec_capacity out.old < length out.old.items
-        + length (spelling (sent (Some sealer.now) channel seq
-        (math.Denied shard place (math.Missing entry (principal part.now)))))) }
-    ensures short { length (spelling (sent (Some sealer.now) channel seq
-        (math.Denied shard place (math.Missing entry (principal part.now))))) ≤ 256 }
+        + length (spelling (sent (Some sealer.now) channel seq (lent_part denial.now)))) }
+    ensures short { length (spelling (sent (Some sealer.now) channel seq (lent_part denial.now)))
+        ≤ 256 }
 {
     let len = out.len();
-    let written = push_sealed_part(out, sealer, channel, seq, shard, place, entry, part);
+    let written = push_sealed_part(out, sealer, channel, seq, denial);
     if written.is_err() {
         out.truncate(len);
     }
@@ -216,22 +156,17 @@ fn push_sealed_part(
     sealer: &Sealer,
     channel: u32,
     seq: u64,
-    shard: u32,
-    place: u64,
-    entry: u8,
-    part: &Term,
+    denial: &LentPart<'_>,
 ) -> Result<(), AllocError>
-    ensures ok { OnOk result (out.new.items ≡ out.old.items
-        ++ spelling (sent (Some sealer.now) channel seq
-        (math.Denied shard place (math.Missing entry (principal part.now))))) }
+    ensures ok { OnOk result (out.new.items
+        ≡ out.old.items ++ spelling (sent (Some sealer.now) channel seq (lent_part denial.now))) }
     ensures err { OnErr result ((more : List ℕ) × (out.new.items ≡ out.old.items ++ more)) }
     ensures capacity { vec_capacity out.old ≤ vec_capacity out.new }
     ensures room { OnErr result (vec_capacity out.old < length out.old.items
-        + length (spelling (sent (Some sealer.now) channel seq
-        (math.Denied shard place (math.Missing entry (principal part.now)))))) }
+        + length (spelling (sent (Some sealer.now) channel seq (lent_part denial.now)))) }
 {
     let start = out.len();
-    push_part_text(out, channel, seq, shard, place, entry, part)?;
+    push_part_text(out, channel, seq, denial)?;
     push_seal(out, Some(sealer), start)
 }
 
@@ -240,21 +175,16 @@ fn push_part_text(
     out: &mut Vec<u8>,
     channel: u32,
     seq: u64,
-    shard: u32,
-    place: u64,
-    entry: u8,
-    part: &Term,
+    denial: &LentPart<'_>,
 ) -> Result<(), AllocError>
-    ensures ok { OnOk result (out.new.items ≡ out.old.items
-        ++ reply_text channel seq
-        (math.Denied shard place (math.Missing entry (principal part.now)))) }
+    ensures ok { OnOk result
+        (out.new.items ≡ out.old.items ++ reply_text channel seq (lent_part denial.now)) }
     ensures err { OnErr result ((more : List ℕ) × (out.new.items ≡ out.old.items ++ more)) }
     ensures capacity { vec_capacity out.old ≤ vec_capacity out.new }
-    ensures room { OnErr result (vec_capacity out.old < length out.old.items
-        + length (reply_text channel seq
-        (math.Denied shard place (math.Missing entry (principal part.now))))) }
+    ensures room { OnErr result (vec_capacity out.old
+        < length out.old.items + length (reply_text channel seq (lent_part denial.now))) }
 {
     out.extend_from_slice(&head_of(channel, seq, DENIED))?;
-    out.extend_from_slice(&place_of(shard, place))?;
-    push_part(out, entry, part)
+    out.extend_from_slice(&place_of(denial.shard, denial.place))?;
+    push_part(out, denial.entry, denial.part)
 }

@@ -3,10 +3,12 @@
 ghost use Rattle.std.specs.Prelude.{◌≡◌, ◌≤◌, ℕ, length, IfOk, MatchResult};
 ghost use Rattle.prin_term.specs.Readers.{made};
 ghost use Rattle.prin_term.specs.Steps.{Gives};
-ghost use Rattle.taos_wire.specs.declared.fault.WireFault.TheVariants.{NoMemory};
+ghost use Rattle.prin_term.specs.declared.fault.FormatFault.TheVariants.{NoMemory};
 ghost use Rattle.taos_wire.specs.Reply as math;
 ghost use Rattle.taos_wire.specs.Reply.{SpellsReply};
-ghost use Rattle.taos_wire.specs.ReplyReading.{answered_at, denied_at, fields_at, is_status, link_at, named_at, place_at, reply_at, reply_of, status_at};
+ghost use Rattle.taos_wire.specs.ReplyReading.{answered_at, denied_at, fields_at, is_status};
+ghost use Rattle.taos_wire.specs.ReplyReading.{link_at, named_at, place_at, reply_at, reply_of};
+ghost use Rattle.taos_wire.specs.ReplyReading.{status_at};
 ghost use Rattle.taos_wire.specs.View.{link, reply};
 
 use crate::fault::WireFault;
@@ -209,7 +211,8 @@ pub fn read_reply(alloc: Global, bytes: &[u8]) -> Result<(u32, u64, Reply), Wire
     ensures found { IfOk result (λ x. SpellsReply x.0 x.1 (reply x.2) bytes.now) }
     // What is spelled so is read, unless memory runs out.
     ensures only { (channel seq : ℕ) (r : math.Reply) → SpellsReply channel seq r bytes.now
-        → MatchResult result (λ x. (x.0 ≡ channel) × (x.1 ≡ seq) × (reply x.2 ≡ r)) (λ f. f ≡ NoMemory) }
+        → MatchResult result (λ x. (x.0 ≡ channel) × (x.1 ≡ seq) × (reply x.2 ≡ r))
+        (λ f. f ≡ NoMemory) }
     // Which fault it is.
     ensures exact { Gives NoMemory (λ x. (x.0, x.1, reply x.2)) result (reply_of bytes.now) }
 {

@@ -1,14 +1,16 @@
 //! Writing a reply.
 
-ghost use Rattle.std.specs.Prelude.{◌≡◌, ◌++◌, ◌+◌, ◌<◌, ◌≤◌, ◌^◌, ◌∷◌, [], List, ℕ, drop, length, vec_capacity, OnOk, OnErr};
+ghost use Rattle.std.specs.Prelude.{◌≡◌, ◌++◌, ◌+◌, ◌<◌, ◌≤◌, ◌^◌, ◌∷◌, [], List, ℕ, drop, length};
+ghost use Rattle.std.specs.Prelude.{vec_capacity, OnOk, OnErr};
 ghost use Rattle.std.specs.Int.{w32, w64, to_be_bytes};
 ghost use Rattle.std.specs.Option.{option_copied};
 ghost use Rattle.prin_term.specs.Principal.{spelling as term_spelling};
 ghost use Rattle.prin_term.specs.View.{principal};
-ghost use Rattle.taos_wire.specs.Reply.{FitsReply, answered_bytes, fields_of, link_bytes, reply_text, seal_of, sent, spelling, status_of};
+ghost use Rattle.taos_wire.specs.Reply.{FitsReply, answered_bytes, fields_of, link_bytes};
+ghost use Rattle.taos_wire.specs.Reply.{reply_text, seal_of, sent, spelling, status_of};
 ghost use Rattle.taos_wire.specs.View.{link, reply};
 
-use crate::reply::{LinkSent, Reply};
+use crate::reply::{LentGrant, LinkSent, Reply};
 use crate::reply_granting::push_granted;
 use keyed_seal::Sealer;
 use prin_term::{Term, write_term};
@@ -41,8 +43,8 @@ pub fn write_reply(
     ensures room { OnErr result (vec_capacity out.old < length out.old.items
         + length (spelling (sent (option_copied key.entry) channel seq (reply answer.now)))) }
     // A reply's frame is short enough for a frame of replies.
-    ensures short { OnOk result
-        (length (spelling (sent (option_copied key.entry) channel seq (reply answer.now))) < 2 ^ 26) }
+    ensures short { OnOk result (length
+        (spelling (sent (option_copied key.entry) channel seq (reply answer.now))) < 2 ^ 26) }
     // All but a grant fit a small buffer.
     ensures small { 0 < status_of (reply answer.now)
         → length (spelling (sent (option_copied key.entry) channel seq (reply answer.now))) ≤ 256 }
@@ -68,11 +70,11 @@ pub fn write_reply_with(
     ensures capacity { vec_capacity out.old ≤ vec_capacity out.new }
     ensures room { OnErr result (vec_capacity out.old < length out.old.items
         + length (spelling (sent (option_copied sealer.entry) channel seq (reply answer.now)))) }
-    ensures short { OnOk result
-        (length (spelling (sent (option_copied sealer.entry) channel seq (reply answer.now))) < 2 ^ 26) }
+    ensures short { OnOk result (length
+        (spelling (sent (option_copied sealer.entry) channel seq (reply answer.now))) < 2 ^ 26) }
     // All but a grant fit a small buffer.
-    ensures small { 0 < status_of (reply answer.now)
-        → length (spelling (sent (option_copied sealer.entry) channel seq (reply answer.now))) ≤ 256 }
+    ensures small { 0 < status_of (reply answer.now) → length
+        (spelling (sent (option_copied sealer.entry) channel seq (reply answer.now))) ≤ 256 }
 {
     let len = out.len();
     let written = push_reply(out, sealer, channel, seq, answer);
@@ -97,8 +99,8 @@ fn push_reply(
     ensures capacity { vec_capacity out.old ≤ vec_capacity out.new }
     ensures room { OnErr result (vec_capacity out.old < length out.old.items
         + length (spelling (sent (option_copied sealer.entry) channel seq (reply answer.now)))) }
-    ensures short { OnOk result
-        (length (spelling (sent (option_copied sealer.entry) channel seq (reply answer.now))) < 2 ^ 26) }
+    ensures short { OnOk result (length
+        (spelling (sent (option_copied sealer.entry) channel seq (reply answer.now))) < 2 ^ 26) }
 {
     let start = out.len();
     push_text(out, channel, seq, answer)?;
@@ -192,7 +194,18 @@ fn push_fields(out: &mut Vec<u8>, answer: &Reply) -> Result<(), AllocError>
             proof,
             certs,
             result,
-        } => { push_granted(out, *kept, *entry, *shard, *place, proof, certs, result) }
+        } => {
+            let grant = LentGrant {
+                kept: *kept,
+                entry: *entry,
+                shard: *shard,
+                place: *place,
+                proof,
+                certs,
+                content: result,
+            };
+            push_granted(out, &grant)
+        }
         Reply::Denied { shard, place, link } => push_denied(out, *shard, *place, link),
         Reply::Malformed { offset: number }
         | Reply::UnknownChannel { number }

@@ -4,17 +4,13 @@ ghost use Rattle.std.specs.Prelude.{◌↔◌, IsTrue};
 ghost use Rattle.taos_wire.specs.Request.{IsSealed};
 
 use crate::request::TAG_LEN;
-use keyed_seal::{Sealer, tag_is};
+use keyed_seal::Sealer;
 
 /// Whether the last 32 bytes are the tag of those before them, under the key.
 pub fn sealed_by(key: &[u8; 32], bytes: &[u8]) -> bool
     ensures { IsTrue result ↔ IsSealed key.now bytes.now }
 {
-    if bytes.len() < TAG_LEN {
-        return false;
-    }
-    let (text, tag) = bytes.split_at(bytes.len() - TAG_LEN);
-    tag_is(key, text, tag)
+    sealed_with(&Sealer::of(key), bytes)
 }
 
 /// The same under a key that is ready to seal.

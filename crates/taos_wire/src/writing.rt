@@ -1,6 +1,7 @@
 //! Writing a request.
 
-ghost use Rattle.std.specs.Prelude.{◌≡◌, ◌++◌, ◌+◌, ◌<◌, ◌≤◌, ◌^◌, ◌∷◌, List, ℕ, All, drop, length, map, vec_capacity, OnOk, OnErr};
+ghost use Rattle.std.specs.Prelude.{◌≡◌, ◌++◌, ◌+◌, ◌<◌, ◌≤◌, ◌^◌, ◌∷◌, List, ℕ, All, drop, length};
+ghost use Rattle.std.specs.Prelude.{map, vec_capacity, OnOk, OnErr};
 ghost use Rattle.std.specs.Int.{w16, w32, w64, to_be_bytes};
 ghost use Rattle.std.specs.List.{flat_map};
 ghost use Rattle.std.specs.Option.{option_map};
@@ -10,7 +11,9 @@ ghost use Rattle.object_core.specs.View.{operation};
 ghost use Rattle.prin_term.specs.Principal.{spelling};
 ghost use Rattle.prin_term.specs.Steps.{counted, optional};
 ghost use Rattle.prin_term.specs.View.{grant, principal};
-ghost use Rattle.taos_wire.specs.Request.{FitsRequest, IsCertText, asked_bytes, certs_bytes, grant_bytes, kind_of, op_fields, origin_bytes, request_text, sealed};
+ghost use Rattle.taos_wire.specs.Request.{FitsRequest, IsCertText, asked_bytes, certs_bytes};
+ghost use Rattle.taos_wire.specs.Request.{grant_bytes, kind_of, op_fields, origin_bytes};
+ghost use Rattle.taos_wire.specs.Request.{request_text, sealed};
 ghost use Rattle.taos_wire.specs.View.{request, text_of};
 
 use crate::request::Request;
@@ -28,8 +31,8 @@ pub fn write_request(out: &mut Vec<u8>, key: &[u8; 32], asked: &Request) -> Resu
     ensures err { OnErr result (out.new.items ≡ out.old.items) }
     ensures capacity { vec_capacity out.old ≤ vec_capacity out.new }
     // Memory is refused only where the room behind what is there is too small.
-    ensures room { OnErr result
-        (vec_capacity out.old < length out.old.items + length (sealed key.now (request asked.now))) }
+    ensures room { OnErr result (vec_capacity out.old
+        < length out.old.items + length (sealed key.now (request asked.now))) }
 {
     let len = out.len();
     let written = push_sealed(out, key, asked);
@@ -46,8 +49,8 @@ fn push_sealed(out: &mut Vec<u8>, key: &[u8; 32], asked: &Request) -> Result<(),
         (out.new.items ≡ out.old.items ++ sealed key.now (request asked.now)) }
     ensures err { OnErr result ((more : List ℕ) × (out.new.items ≡ out.old.items ++ more)) }
     ensures capacity { vec_capacity out.old ≤ vec_capacity out.new }
-    ensures room { OnErr result
-        (vec_capacity out.old < length out.old.items + length (sealed key.now (request asked.now))) }
+    ensures room { OnErr result (vec_capacity out.old
+        < length out.old.items + length (sealed key.now (request asked.now))) }
 {
     let start = out.len();
     push_text(out, asked)?;
@@ -99,12 +102,12 @@ fn push_origin(
     seq: u64,
     quoted: &Option<Term>,
 ) -> Result<(), AllocError>
-    ensures ok { OnOk result
-        (out.new.items ≡ out.old.items ++ origin_bytes channel seq (option_map principal quoted.now)) }
+    ensures ok { OnOk result (out.new.items
+        ≡ out.old.items ++ origin_bytes channel seq (option_map principal quoted.now)) }
     ensures err { OnErr result ((more : List ℕ) × (out.new.items ≡ out.old.items ++ more)) }
     ensures capacity { vec_capacity out.old ≤ vec_capacity out.new }
-    ensures room { OnErr result
-        (vec_capacity out.old < length out.old.items + length (origin_bytes channel seq (option_map principal quoted.now))) }
+    ensures room { OnErr result (vec_capacity out.old < length out.old.items
+        + length (origin_bytes channel seq (option_map principal quoted.now))) }
 {
     out.extend_from_slice(&head_of(channel, seq))?;
     push_quoted(out, quoted)
@@ -115,8 +118,8 @@ fn push_quoted(out: &mut Vec<u8>, quoted: &Option<Term>) -> Result<(), AllocErro
         (out.new.items ≡ out.old.items ++ optional spelling (option_map principal quoted.now)) }
     ensures err { OnErr result ((more : List ℕ) × (out.new.items ≡ out.old.items ++ more)) }
     ensures capacity { vec_capacity out.old ≤ vec_capacity out.new }
-    ensures room { OnErr result
-        (vec_capacity out.old < length out.old.items + length (optional spelling (option_map principal quoted.now))) }
+    ensures room { OnErr result (vec_capacity out.old < length out.old.items
+        + length (optional spelling (option_map principal quoted.now))) }
 {
     match quoted {
         None => {
@@ -152,8 +155,8 @@ fn push_asked(out: &mut Vec<u8>, object: u32, op: &Op) -> Result<(), AllocError>
         (out.new.items ≡ out.old.items ++ asked_bytes object (operation op.now)) }
     ensures err { OnErr result ((more : List ℕ) × (out.new.items ≡ out.old.items ++ more)) }
     ensures capacity { vec_capacity out.old ≤ vec_capacity out.new }
-    ensures room { OnErr result
-        (vec_capacity out.old < length out.old.items + length (asked_bytes object (operation op.now))) }
+    ensures room { OnErr result (vec_capacity out.old
+        < length out.old.items + length (asked_bytes object (operation op.now))) }
 {
     out.push(kind_of(op))?;
     out.extend_from_slice(&object.to_be_bytes())?;
@@ -199,8 +202,8 @@ fn push_list(out: &mut Vec<u8>, list: &[Entry]) -> Result<(), AllocError>
         ≡ out.old.items ++ length list.now ∷ flat_map grant_bytes (map grant list.now)) }
     ensures err { OnErr result ((more : List ℕ) × (out.new.items ≡ out.old.items ++ more)) }
     ensures capacity { vec_capacity out.old ≤ vec_capacity out.new }
-    ensures room { OnErr result (vec_capacity out.old
-        < length out.old.items + length (length list.now ∷ flat_map grant_bytes (map grant list.now))) }
+    ensures room { OnErr result (vec_capacity out.old < length out.old.items
+        + length (length list.now ∷ flat_map grant_bytes (map grant list.now))) }
 {
     out.push(list.len() as u8)?;
     push_entries(out, list)
@@ -235,11 +238,12 @@ fn push_entry(out: &mut Vec<u8>, entry: &Entry) -> Result<(), AllocError>
 fn push_certs(out: &mut Vec<u8>, certs: &[Vec<u8>]) -> Result<(), AllocError>
     requires few { length certs.now < 256 }
     requires short { All IsCertText (map text_of certs.now) }
-    ensures ok { OnOk result (out.new.items ≡ out.old.items ++ certs_bytes (map text_of certs.now)) }
+    ensures ok { OnOk result
+        (out.new.items ≡ out.old.items ++ certs_bytes (map text_of certs.now)) }
     ensures err { OnErr result ((more : List ℕ) × (out.new.items ≡ out.old.items ++ more)) }
     ensures capacity { vec_capacity out.old ≤ vec_capacity out.new }
-    ensures room { OnErr result
-        (vec_capacity out.old < length out.old.items + length (certs_bytes (map text_of certs.now))) }
+    ensures room { OnErr result (vec_capacity out.old
+        < length out.old.items + length (certs_bytes (map text_of certs.now))) }
 {
     out.push(certs.len() as u8)?;
     push_texts(out, certs)

@@ -68,9 +68,9 @@ fn line_to<R: Net<Listener = TcpListener, Stream = TcpStream>>(
     LinkRelay::new(alloc, input, output).map_err(|_| NoLine::NoMemory)
 }
 
-/// Asks the relay at an address. The first call connects, and so does a call behind one that failed:
-/// a stream that has failed once is closed, since a late answer on it would be taken for that of the
-/// next question. Want of memory for a connection is answered as such, and is no fault.
+/// Asks the relay at an address. The first call connects, and so does a call behind one that
+/// failed: a stream that has failed once is closed, since a late answer on it would be taken for
+/// that of the next question. Want of memory for a connection is answered as such, and is no fault.
 #[derive(Drop)]
 pub struct TcpRelay<'a, R> {
     network: &'a R,

@@ -64,7 +64,8 @@ fn is_asked(stream: &mut TcpStream) -> io::Result<bool> {
     Ok(got == ASKED)
 }
 
-// Two connections: one that answers once and ends at the second question, and one that answers once.
+// Two connections: one that answers once and ends at the second question, and one that answers
+// once.
 fn answer_twice(listener: &TcpListener) -> io::Result<(bool, bool, bool)> {
     let (mut stream, _) = listener.accept()?;
     let first = is_asked(&mut stream)?;

@@ -31,7 +31,8 @@ module _ {E : Type 0} where
   IsJoined grows seen Idle = Unit {0}
   IsJoined grows seen (Waiting t) = Unit {0}
   IsJoined grows seen (Turn t entered) = Unit {0}
-  IsJoined grows seen (Joined xs ys) = grows xs × grows ys × (length xs ≤ length seen) × (length ys ≤ length seen)
+  IsJoined grows seen (Joined xs ys) =
+      grows xs × grows ys × (length xs ≤ length seen) × (length ys ≤ length seen)
 
 module _ {F E : Type 0} where
   -- a view whose shares and places went into another
@@ -69,9 +70,11 @@ module _ {V F E : Type 0} (fixed : V → F) (journal : V → List E) (opening : 
     pub here : get_elem? s.homes 0 ≡ some (some (Some value))
     pub its_journal : journal value ≡ core
     pub its_fixed : fixed value ≡ fixed opening
-    pub no_turn : (seat : ℕ) (v : View F E) → get_elem? s.views seat ≡ some v → ¬ (KnowsTurn v.stage)
+    pub no_turn : (seat : ℕ) (v : View F E) → get_elem? s.views seat ≡ some v →
+        ¬ (KnowsTurn v.stage)
 
-module _ {V F E : Type 0} (fixed : V → F) (journal : V → List E) (allows : F → List E → E → Type 0) (opening : V) where
+module _ {V F E : Type 0} (fixed : V → F) (journal : V → List E) (allows : F → List E → E → Type 0)
+    (opening : V) where
   -- what a view that is not spent knows
   pub record IsLive (core : List E) (v : View F E) : Type 0 where
     -- it keeps the opening value's fixed data, and how long the opening journal was

@@ -111,7 +111,8 @@ module _ {V F E : Type 0} where
     pub most : shares ≤ ALL_SHARES
 
   -- draw: the view holds the ticket that was found
-  abbrev pub Draws : Step (Option V) → Me (Option V) (View F E) → ℕ → Me (Option V) (View F E) → Type 0
+  abbrev pub Draws : Step (Option V) → Me (Option V) (View F E) → ℕ → Me (Option V) (View F E) →
+      Type 0
   Draws st m found n = n ≡ (at_stage (Waiting found) m.0, m.1)
 
   -- take: the value of the slot is in the caller's hand, and the view is as before
@@ -123,7 +124,8 @@ module _ {V F E : Type 0} where
   abbrev pub IsPut : Me (Option V) (View F E) → Me (Option V) (View F E) → V → Type 0
   IsPut m n value = n ≡ (m.0, (0, Some value) ∷ [])
 
-module _ {V F E : Type 0} (fixed : V → F) (journal : V → List E) (allows : F → List E → E → Type 0) where
+module _ {V F E : Type 0} (fixed : V → F) (journal : V → List E)
+    (allows : F → List E → E → Type 0) where
   -- look, on its turn: the seat has the slot, with a value that has the view's fixed data.
   -- The view keeps its journal as entered, which grew from what was seen
   pub record Turns (t : ℕ) (m n : Me (Option V) (View F E)) : Type 0 where
@@ -133,8 +135,10 @@ module _ {V F E : Type 0} (fixed : V → F) (journal : V → List E) (allows : F
     pub grows : Grows allows (fixed value) m.0.seen (journal value)
 
   -- look: the view knows whether it is its turn
-  abbrev pub Looks : Step (Option V) → Me (Option V) (View F E) → ℕ → Me (Option V) (View F E) → Type 0
-  Looks st m found n = (t : ℕ) → m.0.stage ≡ Waiting t → (found ≡ t → Turns t m n) × (found ≢ t → n ≡ m)
+  abbrev pub Looks : Step (Option V) → Me (Option V) (View F E) → ℕ → Me (Option V) (View F E) →
+      Type 0
+  Looks st m found n =
+      (t : ℕ) → m.0.stage ≡ Waiting t → (found ≡ t → Turns t m n) × (found ≢ t → n ≡ m)
 
   -- look on its turn, then take: the value is in the caller's hand
   pub record TookOut (t : ℕ) (m n : Me (Option V) (View F E)) (value : V) : Type 0 where
@@ -164,29 +168,34 @@ module _ {V F E : Type 0} (journal : V → List E) where
 
   -- call, of a view at its turn with its slot: its ticket is the one that was served, and the slot
   -- goes home
-  abbrev pub Calls : Step (Option V) → Me (Option V) (View F E) → ℕ → Me (Option V) (View F E) → Type 0
+  abbrev pub Calls : Step (Option V) → Me (Option V) (View F E) → ℕ → Me (Option V) (View F E) →
+      Type 0
   Calls st m found n = (t : ℕ) (entered : List E) (value : V)
-      → m.0.stage ≡ Turn t entered → m.1 ≡ (0, Some value) ∷ [] → (found ≡ t) × GoesHome entered value m n
+      → m.0.stage ≡ Turn t entered → m.1 ≡ (0, Some value) ∷ []
+      → (found ≡ t) × GoesHome entered value m n
 
 module _ {V F E : Type 0} (allows : F → List E → E → Type 0) where
   -- join, its second load: what both had seen begins what the view has seen,
   -- no place is its own twice, and with all shares it has each from the opening on
   pub record Settles (xs ys : List E) (m n : Me (Option V) (View F E)) : Type 0 where
     pub after : n ≡ (at_stage Idle m.0, m.1)
-    pub grows : (f : F) → m.0.fixed ≡ Some f → Grows allows f xs m.0.seen × Grows allows f ys m.0.seen
+    pub grows : (f : F) → m.0.fixed ≡ Some f
+        → Grows allows f xs m.0.seen × Grows allows f ys m.0.seen
     pub few : m.0.shares ≤ ALL_SHARES
     pub distinct : (place : ℕ) → times place m.0.own ≤ 1
     pub whole : m.0.shares ≡ ALL_SHARES → HasEach m.0.start (length m.0.seen) m.0.own
 
   -- join, its second load, of a view that joined two lists
-  abbrev pub Settled : Step (Option V) → Me (Option V) (View F E) → ℕ → Me (Option V) (View F E) → Type 0
+  abbrev pub Settled : Step (Option V) → Me (Option V) (View F E) → ℕ → Me (Option V) (View F E) →
+      Type 0
   Settled st m found n = (xs ys : List E) → m.0.stage ≡ Joined xs ys → Settles xs ys m n
 
   -- the seat of `v` after that of `w` was joined into it
   pub record IsJoinOf (v w : View F E) (n : Me (Option V) (View F E)) : Type 0 where
     pub after : n ≡ (at_stage Idle (both v w), [])
     pub grows : (f : F) → v.fixed ≡ Some f
-        → Grows allows f v.seen (longer v.seen w.seen) × Grows allows f w.seen (longer v.seen w.seen)
+        → Grows allows f v.seen (longer v.seen w.seen)
+        × Grows allows f w.seen (longer v.seen w.seen)
     pub few : v.shares + w.shares ≤ ALL_SHARES
     pub distinct : (place : ℕ) → times place v.own + times place w.own ≤ 1
     pub whole : v.shares + w.shares ≡ ALL_SHARES

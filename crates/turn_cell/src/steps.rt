@@ -27,7 +27,8 @@ pub fn look<V: Journaled>(shelf: &Shelf<V>, seat: &mut Place<V>, ticket: u64) ->
     requires table { SitsAt seat.old.table_id shelf.now.table_id }
     requires waits { (seat.old.me.0.stage ≡ Waiting ticket) × (0 < seat.old.me.0.shares) }
     ensures table { seat.new.table_id ≡ seat.old.table_id }
-    ensures turn { result ≡ ticket → Turns V.fixed V.journal V.allows ticket seat.old.me seat.new.me }
+    ensures turn { result ≡ ticket
+        → Turns V.fixed V.journal V.allows ticket seat.old.me seat.new.me }
     ensures later { result ≢ ticket → seat.new.me ≡ seat.old.me }
 {
     shelf.load::<Look>(seat, SERVING)
@@ -68,7 +69,8 @@ pub fn call<V: Journaled>(shelf: &Shelf<V>, seat: &mut Place<V>) -> u64
 pub fn split<V: Journaled, G: Gift>(shelf: &Shelf<V>, seat: &mut Place<V>) -> Place<V>
     requires table { SitsAt seat.old.table_id shelf.now.table_id }
     requires shares { IsIdle seat.old.me × (0 < G.give) × (G.give < seat.old.me.0.shares) }
-    ensures table { (seat.new.table_id ≡ seat.old.table_id) × (result.table_id ≡ seat.old.table_id) }
+    ensures table { (seat.new.table_id ≡ seat.old.table_id)
+        × (result.table_id ≡ seat.old.table_id) }
     ensures first { seat.new.me ≡ (keeping G.give seat.old.me.0, []) }
     ensures second { result.me ≡ (given G.give seat.old.me.0, []) }
 {

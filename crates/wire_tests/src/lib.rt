@@ -1,4 +1,5 @@
-//! Tests of requests, replies and node files. A crate with tests is proved twice, so they stand here.
+//! Tests of requests, replies and node files. A crate with tests is proved twice, so they stand
+//! here.
 #![tactic(auto)]
 
 #[cfg(test)]

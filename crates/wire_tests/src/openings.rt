@@ -70,8 +70,8 @@ fn channels_anchors_and_objects_are_found_by_number(rt: HostRuntime) -> Result<(
     Ok(())
 }
 
-// Under the relay's key, by Python's hmac: key 1 says that key 2 speaks for name 10, until 2000, with
-// serial 1.
+// Under the relay's key, by Python's hmac: key 1 says that key 2 speaks for name 10, until 2000,
+// with serial 1.
 const COMMON: &str = "0041 02 01 00000001 00 0100000002 020000000a 00000000000007d0 0000000000000001
     22f512cd8f27327c1e0e348919e951e406ff1789829adff76908eeb41ce4f867";
 

@@ -131,25 +131,18 @@ fn a_grant_is_written_from_lent_parts(rt: HostRuntime) -> Result<(), Fail> {
     };
     let nodes = [Node::Key(1), Node::Name(10)].to_vec(alloc)?;
     let proof = Proof::from_parts(nodes, [line].to_vec(alloc)?).ok_or("a proof")?;
+    let grant = LentGrant {
+        kept: false,
+        entry: 0,
+        shard: 0,
+        place: 0,
+        proof: &proof,
+        certs: &[],
+        content: b"hello",
+    };
     let mut out = Vec::from_slice(alloc, &[9])?;
-    write_granted(&mut out, &ONES, 1, 1, false, 0, 0, 0, &proof, &[], b"hello")?;
+    write_granted(&mut out, &Sealer::of(&ONES), 1, 1, &grant)?;
     assert_eq!(rt; &out[1..], ANCHORED.as_slice());
-    out.clear();
-    let sealer = Sealer::of(&ONES);
-    write_granted_with(
-        &mut out,
-        &sealer,
-        1,
-        1,
-        false,
-        0,
-        0,
-        0,
-        &proof,
-        &[],
-        b"hello",
-    )?;
-    assert_eq!(rt; out.as_slice(), ANCHORED.as_slice());
     Ok(())
 }
 
@@ -176,10 +169,17 @@ fn a_grant_has_its_certificates(rt: HostRuntime) -> Result<(), Fail> {
     assert_eq!(rt; result.as_slice(), b"hello".as_slice());
     let (cert, _) = read_body(alloc, &HANDED, 96)?;
     let certs = [Arc::new(alloc, cert)?];
+    let grant = LentGrant {
+        kept,
+        entry,
+        shard: 0,
+        place: 0,
+        proof: &proof,
+        certs: &certs,
+        content: &result,
+    };
     let mut out = Vec::new(alloc);
-    write_granted(
-        &mut out, &TWOS, 2, 1, kept, entry, 0, 0, &proof, &certs, &result,
-    )?;
+    write_granted(&mut out, &Sealer::of(&TWOS), 2, 1, &grant)?;
     assert_eq!(rt; out.as_slice(), HANDED.as_slice());
     Ok(())
 }
@@ -188,12 +188,9 @@ fn a_grant_has_its_certificates(rt: HostRuntime) -> Result<(), Fail> {
 fn a_denial_is_written_from_a_lent_part(rt: HostRuntime) -> Result<(), Fail> {
     let alloc = rt.alloc();
     let part = Term::Name(10);
-    let mut out = Vec::new(alloc);
+    let mut out = Vec::from_slice(alloc, &[9])?;
     write_missing(&mut out, &TWOS, 2, 1, 0, 0, 0, &part)?;
-    assert_eq!(rt; out.as_slice(), UNREACHED.as_slice());
-    out.clear();
-    write_missing_with(&mut out, &Sealer::of(&TWOS), 2, 1, 0, 0, 0, &part)?;
-    assert_eq!(rt; out.as_slice(), UNREACHED.as_slice());
+    assert_eq!(rt; &out[1..], UNREACHED.as_slice());
     out.clear();
     write_reply_with(&mut out, None, 0, 0, &Reply::Malformed { offset: 52 })?;
     assert_eq!(rt; out.as_slice(), UNREAD.as_slice());

@@ -9,7 +9,8 @@ ghost use Rattle.node_file.specs.declared.opening.OpeningFault.TheVariants.{Byte
 ghost use Rattle.node_file.specs.Opening.{ObjectPlan as Plan};
 ghost use Rattle.object_core.specs.declared.limits.TheConstants.{MAX_RIGHTS};
 ghost use Rattle.node_file.specs.OpeningReading.{is_within, u8_in, who_at, entry_at};
-ghost use Rattle.node_file.specs.OpeningReading.{list_at, content_at, new_object_at, object_at, objects_at};
+ghost use Rattle.node_file.specs.OpeningReading.{list_at, content_at, new_object_at, object_at};
+ghost use Rattle.node_file.specs.OpeningReading.{objects_at};
 ghost use Rattle.node_file.specs.OpeningView.{Agrees, HoldsPlans, WithEnd, plan};
 ghost use Rattle.prin_term.specs.Readers.{passing, items_behind};
 

@@ -1,6 +1,6 @@
 //! Reading a node's opening from its binary form.
 
-ghost use Rattle.std.specs.Prelude.{◌≡◌, ◌≤◌, ℕ, List, length, nat_le, IfOk, MatchResult};
+ghost use Rattle.std.specs.Prelude.{◌≡◌, ◌≤◌, length, nat_le, IfOk, MatchResult};
 ghost use Rattle.node_file.specs.declared.opening.OpeningFault.TheVariants.{NoMemory};
 ghost use Rattle.node_file.specs.Meaning.{opening, FitsByNumber};
 ghost use Rattle.node_file.specs.Opening.{Opening as Meaning, Spells, journal_room};
@@ -81,8 +81,3 @@ pub fn read_opening(alloc: Global, bytes: &[u8]) -> Result<Opening, OpeningFault
 {
     all_of(alloc, bytes)
 }
-
-/// No bytes spell two openings.
-pub fn one_opening()
-    ensures { (o p : Meaning) (bytes : List ℕ) → Spells o bytes → Spells p bytes → o ≡ p }
-{}

@@ -4,7 +4,8 @@ ghost use Rattle.std.specs.Prelude.{◌≡◌, ◌≤◌, ℕ, List, [], length,
 ghost use Rattle.keyed_seal.specs.Keys.{key_of};
 ghost use Rattle.prin_term.specs.Steps.{Gives};
 ghost use Rattle.node_file.specs.declared.opening.OpeningFault.TheVariants.{NoMemory};
-ghost use Rattle.node_file.specs.OpeningReading.{new_channel_at, channel_at, channels_at, anchor_at, anchors_at};
+ghost use Rattle.node_file.specs.OpeningReading.{new_channel_at, channel_at, channels_at};
+ghost use Rattle.node_file.specs.OpeningReading.{anchor_at, anchors_at};
 ghost use Rattle.node_file.specs.OpeningView.{Agrees, HoldsKeys, WithEnd};
 ghost use Rattle.prin_term.specs.Readers.{items_behind};
 

@@ -16,8 +16,8 @@ use Word::{And, For, Key, Name, Quote, Role};
 // A certificate: the key of the issuer, whom it quotes, and the sides of its statement.
 pub type Row = (u32, &'static [Word], &'static [Word], &'static [Word]);
 
-// What is shown, the certificates, a key and whom it quotes, for whom it may speak, and how many certificates the
-// proof cites where it does.
+// What is shown, the certificates, a key and whom it quotes, for whom it may speak, and how many
+// certificates the proof cites where it does.
 pub type Case = (
     &'static str,
     &'static [Row],
@@ -27,7 +27,8 @@ pub type Case = (
     Option<usize>,
 );
 
-// The boot of a machine, a channel of its key, the login of bob, and his session; a second machine, and its delegation.
+// The boot of a machine, a channel of its key, the login of bob, and his session; a second machine,
+// and its delegation.
 const LOGIN: Row = (
     13,
     &[],

@@ -3,10 +3,9 @@ use Rattle.std.proofs.Common.{map, List, Result, Ok, Err, OnErr, refl, sym, ap, 
 use Rattle.agent_core.specs.declared.event.Ask.{Ask as AskValue}
 use Rattle.agent_core.specs.State.{Plan, State, Ask, Answer, swept}
 use Rattle.agent_core.specs.Journals.{Entry, state_after, told_of}
-use Rattle.agent_core.specs.Looking.{IsTaken}
 use Rattle.agent_core.specs.Views.{ask_of, certificates, entry_of, plan_of}
 use Rattle.agent_core.proofs.Judging.{replayed, full, taken}
-use Rattle.agent_core.proofs.Looks.{last_at, own_count, new_count, asked_now, judged_now}
+use Rattle.agent_core.proofs.Looks.{last_at, own_count, new_count, is_taken, asked_now, judged_now}
 use Rattle.agent_core.proofs.asking.ask.Goals as goal
 
 on_err : {T E : Type 0} {P : Type 0} (r : Result T E) → P → OnErr r P
@@ -48,13 +47,8 @@ take-requires-clause-judged c =
     let s : State = state_after plan journal in
     let a : Ask = ask_of c.args.asked.value in
     let look = rw (c.deref.ensures.value, c.deref-2.ensures) at c.look_at-look.ensures in
-    let last = last_at plan journal s c.args.store.now c.requires.kept.store_is a c.look_at-look.result look c.index.result.now c.index.ensures in
-    let own = own_count plan journal s c.args.store.now c.requires.kept.store_is a c.look_at-look.result look in
-    let new = new_count plan journal s c.args.store.now c.requires.kept.store_is a c.look_at-look.result look in
-    record {
-      new = omega (arith, last, c.if-deref-last.false, ap (λ (x : AskValue). x.seq) c.deref-3.ensures);
-      fits = omega (arith, own, new, c.len-held.ensures.value, c.len.ensures.value, c.if-held-len-gt-MAX_OWN.false);
-    }
+    is_taken plan journal s c.args.store.now c.requires.kept.store_is a c.look_at-look.result look c.index.result.now c.index.ensures
+    (omega (arith, c.if-deref-last.false, ap (λ (x : AskValue). x.seq) c.deref-3.ensures)) (omega (arith, c.len-held.ensures.value, c.len.ensures.value, c.if-held-len-gt-MAX_OWN.false))
 
 pub returns-in_err-certs-clause-wanted : goal.returns-in_err-certs-clause-wanted
 returns-in_err-certs-clause-wanted c =
@@ -63,13 +57,8 @@ returns-in_err-certs-clause-wanted c =
     let s : State = state_after plan journal in
     let a : Ask = ask_of c.args.asked.value in
     let look = rw (c.deref.ensures.value, c.deref-2.ensures) at c.look_at-look.ensures in
-    let last = last_at plan journal s c.args.store.now c.requires.kept.store_is a c.look_at-look.result look c.index.result.now c.index.ensures in
-    let own = own_count plan journal s c.args.store.now c.requires.kept.store_is a c.look_at-look.result look in
-    let new = new_count plan journal s c.args.store.now c.requires.kept.store_is a c.look_at-look.result look in
-    let takes : IsTaken (swept plan.keep c.look_at-look.result.moment s) a = record {
-      new = omega (arith, last, c.if-deref-last.false, ap (λ (x : AskValue). x.seq) c.deref-3.ensures);
-      fits = omega (arith, own, new, c.len-held.ensures.value, c.len.ensures.value, c.if-held-len-gt-MAX_OWN.false);
-    } in
+    let takes = is_taken plan journal s c.args.store.now c.requires.kept.store_is a c.look_at-look.result look c.index.result.now c.index.ensures
+    (omega (arith, c.if-deref-last.false, ap (λ (x : AskValue). x.seq) c.deref-3.ensures)) (omega (arith, c.len-held.ensures.value, c.len.ensures.value, c.if-held-len-gt-MAX_OWN.false)) in
     on_err c.from_residual.result
     (ap (λ (r : State × Answer). told_of r.1) (asked_now plan journal s c.args.store.now c.requires.kept.store_is a c.look_at-look.result look ∙ taken (swept plan.keep c.look_at-look.result.moment s) a takes))
 
@@ -80,13 +69,8 @@ returns-clause-answered c =
     let s : State = state_after plan journal in
     let a : Ask = ask_of c.args.asked.value in
     let look = rw (c.deref.ensures.value, c.deref-2.ensures) at c.look_at-look.ensures in
-    let last = last_at plan journal s c.args.store.now c.requires.kept.store_is a c.look_at-look.result look c.index.result.now c.index.ensures in
-    let own = own_count plan journal s c.args.store.now c.requires.kept.store_is a c.look_at-look.result look in
-    let new = new_count plan journal s c.args.store.now c.requires.kept.store_is a c.look_at-look.result look in
-    let takes : IsTaken (swept plan.keep c.look_at-look.result.moment s) a = record {
-      new = omega (arith, last, c.if-deref-last.false, ap (λ (x : AskValue). x.seq) c.deref-3.ensures);
-      fits = omega (arith, own, new, c.len-held.ensures.value, c.len.ensures.value, c.if-held-len-gt-MAX_OWN.false);
-    } in
+    let takes = is_taken plan journal s c.args.store.now c.requires.kept.store_is a c.look_at-look.result look c.index.result.now c.index.ensures
+    (omega (arith, c.if-deref-last.false, ap (λ (x : AskValue). x.seq) c.deref-3.ensures)) (omega (arith, c.len-held.ensures.value, c.len.ensures.value, c.if-held-len-gt-MAX_OWN.false)) in
     let certs = rw (c.deref-4.ensures.value, c.deref-5.ensures.value, c.deref-7.ensures.value, c.deref-6.ensures) at c.in_ok-certs.ensures in
     record {
       ask = a;

@@ -4,7 +4,7 @@ use Rattle.stmt_codec.specs.Certificates.{Certificate}
 use Rattle.agent_core.specs.declared.removal.Removal.TheVariants.{Ended}
 use Rattle.agent_core.specs.Held.{newly}
 use Rattle.agent_core.specs.Journals.{Entry, state_after}
-use Rattle.agent_core.specs.Kept.{stays, IsRow}
+use Rattle.agent_core.specs.Kept.{stays, IsRow, now_at}
 use Rattle.agent_core.specs.Names.{named}
 use Rattle.agent_core.specs.State.{Plan, State}
 use Rattle.agent_core.specs.Views.{certificates, entry_of, plan_of}
@@ -48,7 +48,7 @@ returns c =
     let here = rw c.deref.ensures.value at (rw c.unwrap-place.ensures at c.place_of.ensures) in
     let row = c.index-row.result.now in
     let at = row_found plan journal s c.args.store.now c.requires.store c.unwrap-place.result c.args.asked.now.channel row here c.index-row.ensures in
-    let was : IsRow plan journal c.args.store.now.clock c.args.store.now.swept row (s.last c.args.asked.now.channel) (s.own c.args.asked.now.channel) =
+    let was : IsRow (now_at plan journal c.args.store.now.clock c.args.store.now.swept) row (s.last c.args.asked.now.channel) (s.own c.args.asked.now.channel) =
     c.requires.store.rows_are c.unwrap-place.result row c.args.asked.now.channel at here in
     let left = rw c.deref-2.ensures.value at c.left_of-own.ensures in
     let common = rw c.deref-3.ensures.value at c.left_of-shared.ensures in

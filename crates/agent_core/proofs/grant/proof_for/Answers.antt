@@ -11,7 +11,7 @@ use Rattle.proof_cache.specs.Cached.{cached}
 use Rattle.denial_link.proofs.Entries.{part_of_subject, entry_is_term}
 use Rattle.denial_link.proofs.Places.{entry_at}
 use Rattle.denial_link.proofs.Reaching.{part_itself}
-use Rattle.agent_core.specs.Views.{certificates}
+use Rattle.agent_core.specs.Views.{ask_of, certificates}
 use Rattle.agent_core.proofs.Citing.{cites, proof_made}
 use Rattle.agent_core.proofs.Marks.{backward}
 use Rattle.agent_core.proofs.Places.{certificate_count}
@@ -40,7 +40,7 @@ take_proof-requires-clause-derivable g c =
 
 pub push_cited-requires : goal.push_cited-requires
 push_cited-requires g c =
-    let all = (cites c.args.anchors.now (certificates c.args.snapshot.now.certs.items) c.args.snapshot.now.moment (principal c.args.asked.now.subject) (map grant c.args.asked.now.list.value.items) (g.D.Decide.question c.args.bench.now)
+    let all = (cites c.args.anchors.now (certificates c.args.snapshot.now.certs.items) c.args.snapshot.now.moment (ask_of c.args.asked.now) (g.D.Decide.question c.args.bench.now)
     c.requires.asked (principal c.index.result.now.who) (lines_of c.in_ok-taken.taken.proof) c.in_ok-taken.taken.cites.items c.in_ok-taken.ensures.taken).inside in
     rw (c.deref-3.ensures.value, c.deref-2.ensures.value, sym (certificate_count c.args.snapshot.now.certs.items)) all
 
@@ -50,7 +50,7 @@ returns g c =
     let at = entry_at c.args.asked.now.list.value.items c.args.entry c.index.result.now (rw c.deref.ensures at c.index.ensures) (omega (arith, within, length-map c.args.asked.now.list.value.items grant)) in
     let gathered = rw (c.deref-2.ensures.value, c.deref-3.ensures.value, c.in_ok-cites.ensures.items) at c.in_ok-push_cited.ensures in
     let lease = rw c.deref-4.ensures.value at c.lease_of-lease.ensures in
-    proof_made c.args.anchors.now (certificates c.args.snapshot.now.certs.items) c.args.snapshot.now.moment (principal c.args.asked.now.subject) (map grant c.args.asked.now.list.value.items) (g.D.Decide.question c.args.bench.now)
+    proof_made c.args.anchors.now (certificates c.args.snapshot.now.certs.items) c.args.snapshot.now.moment (ask_of c.args.asked.now) (g.D.Decide.question c.args.bench.now)
     c.requires.asked (principal c.index.result.now.who) (lines_of c.in_ok-taken.taken.proof) c.in_ok-taken.taken.cites.items c.in_ok-taken.ensures.taken
     c.args.entry (grant c.index.result.now) (cached (record { subject = c.in_ok-subject.subject; who = c.in_ok-who.who; proof = c.in_ok-proof.proof; cites = c.push_cited.new.out; lease = c.lease_of-lease.result })) at refl
     c.in_ok-subject.ensures c.in_ok-who.ensures (ap lines_of c.in_ok-proof.ensures.ok) gathered lease

@@ -1,6 +1,7 @@
 -- the commons and the rows let them go, and the counts add up
 use Rattle.std.proofs.Common.{◌≡◌, ℕ, ◌+◌, Some, map, refl, ap, ◌∙◌, length, arith, subst, sym, All, List}
 use Rattle.std.specs.List.{slice_get}
+use Rattle.agent_core.specs.Kept.{now_at}
 use Rattle.agent_core.specs.declared.store.Row.{Row}
 use Rattle.agent_core.specs.Journals.{state_after}
 use Rattle.agent_core.specs.Letting.{LetsGo}
@@ -29,7 +30,7 @@ long : (c : goal.After-store-4-1) → length (with_items c.args.store.now.rows c
 long c = ap (λ (rows : List Row). length rows) (items_are c) ∙ c.let_go_of_rows-own.auto.rows ∙ ap (λ (rows : List Row). length rows) c.deref_mut.ensures.value
 
 rows_let : (c : goal.After-store-4-1) → (i : ℕ) (row row' : Row) → slice_get c.args.store.now.rows.items i ≡ Some row → slice_get (with_items c.args.store.now.rows c.let_go_of_rows-own.new.rows).items i ≡ Some row' →
-    LetsGo (plan_of c.args.plan.now) (map entry_of c.args.entries.now) c.args.store.now.clock c.args.store.now.swept c.args.removal.now (length c.args.entries.now + 1) row row'
+    LetsGo (now_at (plan_of c.args.plan.now) (map entry_of c.args.entries.now) c.args.store.now.clock c.args.store.now.swept) c.args.removal.now (length c.args.entries.now + 1) row row'
 rows_let c = rw (items_are c) (rw c.deref_mut.ensures.value at c.let_go_of_rows-own.ensures.rows)
 
 pub returns-clause-store : goal.returns-clause-store

@@ -2,10 +2,16 @@
 use Rattle.std.proofs.Common.{Bool, List, ap, ◌∙◌, map}
 use Rattle.prin_term.specs.View.{grant, principal}
 use Rattle.taos_calculus.specs.Question.{question_of}
-use Rattle.denial_link.proofs.Entries.{entry_is_term}
+use Rattle.denial_link.proofs.Entries.{entry_is_term, part_of_subject}
+use Rattle.denial_link.proofs.Reaching.{part_itself}
 use Rattle.agent_core.specs.Views.{certificates}
 use Rattle.agent_core.proofs.Marks.{found_live}
 use Rattle.agent_core.proofs.verdict.first_granted.Goals as goal
+
+pub first_derivable-requires-clause-asking : goal.first_derivable-requires-clause-asking
+first_derivable-requires-clause-asking g c =
+    part_of_subject c.args.anchors.now (certificates c.args.certs.now) (principal c.args.subject.now) (map grant c.args.list.now)
+    (g.D.Decide.question c.begin.new.self) _ c.begin.ensures _ (part_itself (principal c.args.subject.now))
 
 pub first_derivable-requires-clause-asked : goal.first_derivable-requires-clause-asked
 first_derivable-requires-clause-asked g c =

@@ -4,7 +4,8 @@ use Rattle.std.proofs.lemmas.List.{take-replicate}
 use Rattle.prin_term.specs.View.{grant, principal}
 use Rattle.taos_calculus.specs.Question.{question_of}
 use Rattle.denial_link.specs.Links.{no_entry}
-use Rattle.denial_link.proofs.Places.{certificates, certificate_count}
+use Rattle.stmt_codec.specs.View.{certificates}
+use Rattle.denial_link.proofs.Places.{certificate_count}
 use Rattle.denial_link.proofs.first.first_link.Goals as goal
 
 pub returns-in_default : goal.returns-in_default

@@ -7,7 +7,8 @@ use Rattle.stmt_codec.specs.Certificates.{live}
 use Rattle.taos_calculus.specs.Question.{question_of, MayAnswer}
 use Rattle.denial_link.specs.Revived.{claims}
 use Rattle.denial_link.specs.Links.{no_entry}
-use Rattle.denial_link.proofs.Places.{certificates, certificate_count, entry_in}
+use Rattle.stmt_codec.specs.View.{certificates}
+use Rattle.denial_link.proofs.Places.{certificate_count, entry_in}
 use Rattle.denial_link.proofs.Entries.{part_of_subject, part_of_entry, entry_is_term, speaks_by_all_certs, link_expired, link_missing, not_granted, small_entry}
 use Rattle.denial_link.proofs.Reaching.{part_itself, still_terms, lacks_same}
 use Rattle.denial_link.proofs.first.first_link_by_all.Goals as goal

@@ -5,7 +5,8 @@ use Rattle.std.proofs.Math.Seq.{take-append_seam, take-length}
 use Rattle.std.proofs.lemmas.List.{take_more, get_or-map, length-map}
 use Rattle.denial_link.specs.Keys.{Key, KeysBelow}
 use Rattle.denial_link.specs.Order.{DeadInOrder}
-use Rattle.denial_link.proofs.Places.{certificates, certificate_count}
+use Rattle.stmt_codec.specs.View.{certificates}
+use Rattle.denial_link.proofs.Places.{certificate_count}
 use Rattle.denial_link.proofs.Sorting.{places_of, sorted_in_order}
 use Rattle.denial_link.proofs.order.dead_in_order.Goals as goal
 

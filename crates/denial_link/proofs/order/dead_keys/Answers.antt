@@ -12,7 +12,10 @@ dead_from : (b : Bool) (moment until : ℕ) → IsTrue b ↔ (moment < until) �
 dead_from b moment until e f =
     elim (cases_lt moment until) [ inl lt ↦ absurd (false≢true (sym f ∙ e.1 lt)) | inr le ↦ le ]
 
-pushed : (certs : List Certificate) (moment n : ℕ) (keys new : List Key) (c : Certificate) (k : Key) → KeysBelow certs moment n keys → length keys ≤ n → slice_get certs n ≡ Some c → c.until ≤ moment → k.2 ≡ n → k.0.0 ≡ c.until → k.1 ≡ digest_of c → new ≡ keys ++ k ∷ [] → KeysBelow certs moment (n + 1) new × (length new ≤ n + 1)
+pushed : (certs : List Certificate) (moment n : ℕ) (keys new : List Key) (c : Certificate) (k : Key) →
+    KeysBelow certs moment n keys → length keys ≤ n → slice_get certs n ≡ Some c → c.until ≤ moment →
+    k.2 ≡ n → k.0.0 ≡ c.until → k.1 ≡ digest_of c → new ≡ keys ++ k ∷ [] →
+    KeysBelow certs moment (n + 1) new × (length new ≤ n + 1)
 pushed certs moment n keys new c k below len s d p u g e =
     (subst (KeysBelow certs moment (n + 1)) (sym e) (keys_push certs moment n keys c k below s d p u g), omega (arith, ap length e, length-append keys (k ∷ [])))
 

@@ -1,7 +1,9 @@
 use Rattle.std.proofs.Common.{◌≡◌, ◌+◌, refl, ap, ◌∙◌, arith}
 use Rattle.prin_term.specs.Principal.{node_count}
 use Rattle.prin_term.specs.View.{principal}
-use Rattle.denial_link.proofs.Reaching.{operands_of_leaf, operands_of_pair, operands_of_role, only_operand, first_operand, second_operand, falls_to, still_terms, operand_is_term, terms_below, Reaches, reached_same, lacks_leaf, lacks_none_of_one, lacks_none_of_two, lacks_first, lacks_second, lacks_same}
+use Rattle.denial_link.proofs.Reaching.{operands_of_leaf, operands_of_pair, operands_of_role, only_operand, first_operand, second_operand, falls_to}
+use Rattle.denial_link.proofs.Reaching.{still_terms, operand_is_term, terms_below, Reaches, reached_same}
+use Rattle.denial_link.proofs.Reaching.{lacks_leaf, lacks_none_of_one, lacks_none_of_two, lacks_first, lacks_second, lacks_same}
 use Rattle.denial_link.proofs.part.+lacking.Goals as goal
 
 pub is_reached-requires-clause-asked : goal.is_reached-requires-clause-asked

@@ -1,5 +1,5 @@
 use Rattle.prin_term.specs.View.{principal}
-use Rattle.denial_link.proofs.Places.{certificates}
+use Rattle.stmt_codec.specs.View.{certificates}
 use Rattle.denial_link.proofs.Reviving.{search_begins, search_ends}
 use Rattle.denial_link.proofs.revive.first_needed.Goals as goal
 

@@ -2,7 +2,7 @@ use Rattle.std.proofs.Common.{◌<◌, ◌≤◌, ◌-◌, length, take}
 use Rattle.prin_term.specs.View.{principal}
 use Rattle.taos_calculus.specs.Monitor.{MaySpeak}
 use Rattle.denial_link.specs.Revived.{claims, revived}
-use Rattle.denial_link.proofs.Places.{certificates}
+use Rattle.stmt_codec.specs.View.{certificates}
 use Rattle.denial_link.proofs.revive.first_needed.Given as goal
 
 -- the first `high` of those that have ended are enough, and the first `low` are not

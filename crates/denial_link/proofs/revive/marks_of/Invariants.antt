@@ -1,5 +1,5 @@
 use Rattle.denial_link.specs.Keys.{AreMarked}
-use Rattle.denial_link.proofs.Places.{certificates}
+use Rattle.stmt_codec.specs.View.{certificates}
 use Rattle.denial_link.proofs.revive.marks_of.Given as goal
 
 abbrev pub invariant-loop-place : goal.invariant-loop-place

@@ -1,7 +1,7 @@
-use Rattle.std.proofs.Common.{[], ◌++◌, inr, refl, Contains, lit<}
+use Rattle.std.proofs.Common.{[], ◌++◌, inl, inr, refl, Contains, lit<}
 use Rattle.prin_term.specs.Principal.{Principal, Key, Name, And, Quoting, InRole, For, subterms}
 use Rattle.prin_term.specs.View.{principal}
-use Rattle.taos_saturate.proofs.Few.{here}
+use Rattle.stmt_codec.proofs.Members.{here}
 use Rattle.proof_tests.proofs.deciding.ask.Goals as goal
 
 itself : (p : Principal) → Contains (subterms p) p
@@ -12,8 +12,14 @@ itself (Quoting a b) = here (Quoting a b) (subterms a ++ subterms b)
 itself (InRole a r) = here (InRole a r) (subterms a)
 itself (For a b) = here (For a b) (subterms a ++ subterms b)
 
+pub derives-requires-clause-left : goal.derives-requires-clause-left
+derives-requires-clause-left c = rw c.begin.ensures (inl (itself (principal c.args.subject.now)))
+
 pub derives-requires-clause-right : goal.derives-requires-clause-right
 derives-requires-clause-right c = rw c.begin.ensures (inr (0, principal c.args.who, lit< tt, refl, itself (principal c.args.who)))
+
+pub take_proof-requires-clause-left : goal.take_proof-requires-clause-left
+take_proof-requires-clause-left c = rw (c.derives.ensures.same, c.begin.ensures) (inl (itself (principal c.args.subject.now)))
 
 pub take_proof-requires-clause-right : goal.take_proof-requires-clause-right
 take_proof-requires-clause-right c = rw (c.derives.ensures.same, c.begin.ensures) (inr (0, principal c.args.who, lit< tt, refl, itself (principal c.args.who)))

@@ -21,7 +21,7 @@ request-requires-clause-planned g c = λ lifetimes lives plan at. c.requires.pla
 pub returns-in-Ok-clause-answered : goal.returns-in-Ok-clause-answered
 returns-in-Ok-clause-answered g c =
     let by = c.in-Ok.ensures.asked in
-    answers_as _ _ _ _ _ _ _ _ _ (request_of c.in-Ok.asked) c.args.payload.now by.key c.request.new.out (by.asked (g.S.Shards.plans c.args.shards.now) (g.H.Shelf.objects c.args.shelf.now)) c.request.result c.request.ensures.handled
+    answers_as _ _ _ (request_of c.in-Ok.asked) c.args.payload.now by.key c.request.new.out (by.asked (g.S.Shards.plans c.args.shards.now) (g.H.Shelf.objects c.args.shelf.now)) c.request.result c.request.ensures.handled
 
 pub returns-in-Err-clause-answered : goal.returns-in-Err-clause-answered
 returns-in-Err-clause-answered g c =

@@ -7,7 +7,7 @@ use Rattle.object_core.specs.Operation.{right_of}
 use Rattle.object_core.specs.View.{operation}
 use Rattle.taos_wire.specs.View.{request, text_of, cited as shared}
 use Rattle.taos_monitor.specs.Arriving.{node_of}
-use Rattle.taos_monitor.specs.Credentials.{at_end}
+use Rattle.taos_monitor.specs.Credentials.{at_end, link_use}
 use Rattle.taos_monitor.specs.Course.{unbuilt, unknown_object, unopened}
 use Rattle.taos_monitor.specs.Presenting.{AllCome, AllStop}
 use Rattle.taos_monitor.proofs.Presenting.{none_called, quiet_linked}
@@ -30,7 +30,7 @@ returns-in_err-certs-clause-refused g c =
     let says = g.R.RelayLink.says c.args.relay.now in
     let r = request c.args.asked.now in
     let f = c.in_err-certs.field-0.0 in
-    let stops = subst (λ (l : List (Vec ℕ Global)). AllStop c.args.keys.now.relay_key says c.args.keys.now.node (g.R.RelayLink.faults c.args.relay.now) (g.R.RelayLink.faults c.open_all.new.relay) (map text_of l) f) c.deref.ensures.value c.in_err-certs.ensures.stopped in
+    let stops = subst (λ (l : List (Vec ℕ Global)). AllStop c.args.keys.now.relay_key (link_use says c.args.keys.now.node (g.R.RelayLink.faults c.args.relay.now) (g.R.RelayLink.faults c.open_all.new.relay)) (map text_of l) f) c.deref.ensures.value c.in_err-certs.ensures.stopped in
     rw (p.1, p.2) (record {
       calls = stops.calls;
       linked = stops.linked;
@@ -41,7 +41,10 @@ pub returns-in_default-clause-refused : goal.returns-in_default-clause-refused
 returns-in_default-clause-refused g c =
     let says = g.R.RelayLink.says c.args.relay.now in
     let r = request c.args.asked.now in
-    let came = subst (λ (l : List (Vec ℕ Global)). AllCome c.args.keys.now.relay_key says c.args.keys.now.node (g.R.RelayLink.faults c.args.relay.now) (g.R.RelayLink.faults c.open_all.new.relay) (map text_of l) (map shared c.in_ok-certs.certs.items)) c.deref.ensures.value c.in_ok-certs.ensures.came in
+    let came = subst (λ (l : List (Vec ℕ Global)). AllCome c.args.keys.now.relay_key
+    (link_use says c.args.keys.now.node (g.R.RelayLink.faults c.args.relay.now)
+    (g.R.RelayLink.faults c.open_all.new.relay)) (map text_of l)
+    (map shared c.in_ok-certs.certs.items)) c.deref.ensures.value c.in_ok-certs.ensures.came in
     record {
       calls = came.calls;
       linked = quiet_linked says c.args.keys.now.node (g.R.RelayLink.faults c.args.relay.now) (g.R.RelayLink.faults c.open_all.new.relay) came.calls came.quiet;
@@ -54,7 +57,10 @@ returns-in_err-subject_of-clause-refused g c =
     let p = err_from_is_err_and c.from_residual-in_err-subject_of.result c.from_residual-in_err-subject_of.ensures.1 in
     let says = g.R.RelayLink.says c.args.relay.now in
     let r = request c.args.asked.now in
-    let came = subst (λ (l : List (Vec ℕ Global)). AllCome c.args.keys.now.relay_key says c.args.keys.now.node (g.R.RelayLink.faults c.args.relay.now) (g.R.RelayLink.faults c.open_all.new.relay) (map text_of l) (map shared c.in_ok-certs.certs.items)) c.deref.ensures.value c.in_ok-certs.ensures.came in
+    let came = subst (λ (l : List (Vec ℕ Global)). AllCome c.args.keys.now.relay_key
+    (link_use says c.args.keys.now.node (g.R.RelayLink.faults c.args.relay.now)
+    (g.R.RelayLink.faults c.open_all.new.relay)) (map text_of l)
+    (map shared c.in_ok-certs.certs.items)) c.deref.ensures.value c.in_ok-certs.ensures.came in
     rw (p.1, p.2) (record {
       calls = came.calls;
       linked = quiet_linked says c.args.keys.now.node (g.R.RelayLink.faults c.args.relay.now) (g.R.RelayLink.faults c.open_all.new.relay) came.calls came.quiet;
@@ -65,7 +71,10 @@ pub returns-clause-arrived : goal.returns-clause-arrived
 returns-clause-arrived g c =
     let says = g.R.RelayLink.says c.args.relay.now in
     let r = request c.args.asked.now in
-    let came = subst (λ (l : List (Vec ℕ Global)). AllCome c.args.keys.now.relay_key says c.args.keys.now.node (g.R.RelayLink.faults c.args.relay.now) (g.R.RelayLink.faults c.open_all.new.relay) (map text_of l) (map shared c.in_ok-certs.certs.items)) c.deref.ensures.value c.in_ok-certs.ensures.came in
+    let came = subst (λ (l : List (Vec ℕ Global)). AllCome c.args.keys.now.relay_key
+    (link_use says c.args.keys.now.node (g.R.RelayLink.faults c.args.relay.now)
+    (g.R.RelayLink.faults c.open_all.new.relay)) (map text_of l)
+    (map shared c.in_ok-certs.certs.items)) c.deref.ensures.value c.in_ok-certs.ensures.came in
     record {
       calls = came.calls;
       linked = quiet_linked says c.args.keys.now.node (g.R.RelayLink.faults c.args.relay.now) (g.R.RelayLink.faults c.open_all.new.relay) came.calls came.quiet;

@@ -7,7 +7,7 @@ use Rattle.std.proofs.lemmas.Result.{err_from_is_err_and}
 use Rattle.stmt_codec.specs.declared.cert.Cert.{Cert}
 use Rattle.frame_link.specs.Relay.{Said}
 use Rattle.taos_wire.specs.View.{text_of, cited as shared}
-use Rattle.taos_monitor.specs.Credentials.{none_more}
+use Rattle.taos_monitor.specs.Credentials.{link_use, none_more}
 use Rattle.taos_monitor.specs.Presenting.{AllCome, OneComes, OneStops}
 use Rattle.taos_monitor.proofs.Presenting.{none_called, stops_here, first_stopped, one_more_comes, interrupted}
 use Rattle.taos_monitor.proofs.presented.open_all.Goals as goal
@@ -39,8 +39,8 @@ returns-in_err-come-clause-stopped g c =
     let d = c.index-texts-place.result in
     let f = c.in_err-come.field-0.0 in
     let text = ap text_of (sym c.index-texts-place.is) ∙ sym c.deref.ensures.value in
-    let why = subst (λ (s : Option (ℕ → List ℕ → Said)). OneStops key s node middle now place (text_of (get_or texts place d)) f) c.loop-place.invariant.1
-    (subst (λ (t : List ℕ). OneStops key (g.R.RelayLink.says c.loop-place.relay) node middle now place t f) (sym text) c.in_err-come.ensures.stopped) in
+    let why = subst (λ (s : Option (ℕ → List ℕ → Said)). OneStops key (link_use s node middle now) place (text_of (get_or texts place d)) f) c.loop-place.invariant.1
+    (subst (λ (t : List ℕ). OneStops key (link_use (g.R.RelayLink.says c.loop-place.relay) node middle now) place t f) (sym text) c.in_err-come.ensures.stopped) in
     rw (p.1, p.2) (first_stopped key texts place d c.loop-place-test.true says node (g.R.RelayLink.faults c.args.relay.now) middle now (map shared c.loop-place.certs.items) f c.loop-place.invariant.0 why)
 
 pub returns-in_err-push-clause-stopped : goal.returns-in_err-push-clause-stopped
@@ -57,8 +57,8 @@ returns-in_err-push-clause-stopped g c =
     let cert = c.in_ok-come.field-0 in
     let text = ap text_of (sym c.index-texts-place.is) ∙ sym c.deref.ensures.value in
     let came = c.loop-place.invariant.0 in
-    let one = subst (λ (s : Option (ℕ → List ℕ → Said)). OneComes key s node middle now (text_of (get_or texts place d)) (shared cert)) c.loop-place.invariant.1
-    (subst (λ (t : List ℕ). OneComes key (g.R.RelayLink.says c.loop-place.relay) node middle now t (shared cert)) (sym text) c.in_ok-come.ensures.came) in
+    let one = subst (λ (s : Option (ℕ → List ℕ → Said)). OneComes key (link_use s node middle now) (text_of (get_or texts place d)) (shared cert)) c.loop-place.invariant.1
+    (subst (λ (t : List ℕ). OneComes key (link_use (g.R.RelayLink.says c.loop-place.relay) node middle now) t (shared cert)) (sym text) c.in_ok-come.ensures.came) in
     rw (p.1, p.2)
     (interrupted key says node (g.R.RelayLink.faults c.args.relay.now) middle now place (map text_of texts) (text_of (get_or texts place d)) came.calls one.calls (shared cert)
     (stops_here key texts place d c.loop-place-test.true came.calls (map shared c.loop-place.certs.items) came.opened) came.quiet one.comes one.quiet)
@@ -76,9 +76,9 @@ loop-place-preserved g c =
     let d = c.index-texts-place.result in
     let cert = c.in_ok-come.field-0 in
     let text = ap text_of (sym c.index-texts-place.is) ∙ sym c.deref.ensures.value in
-    let one = subst (λ (s : Option (ℕ → List ℕ → Said)). OneComes key s node middle now (text_of (get_or texts place d)) (shared cert)) c.loop-place.invariant.1
-    (subst (λ (t : List ℕ). OneComes key (g.R.RelayLink.says c.loop-place.relay) node middle now t (shared cert)) (sym text) c.in_ok-come.ensures.came) in (
-      subst (λ (l : List (Arc Cert Global)). AllCome key says node n now (map text_of (take (place + 1) texts)) (map shared l)) (sym c.in_ok-push.ensures.items)
+    let one = subst (λ (s : Option (ℕ → List ℕ → Said)). OneComes key (link_use s node middle now) (text_of (get_or texts place d)) (shared cert)) c.loop-place.invariant.1
+    (subst (λ (t : List ℕ). OneComes key (link_use (g.R.RelayLink.says c.loop-place.relay) node middle now) t (shared cert)) (sym text) c.in_ok-come.ensures.came) in (
+      subst (λ (l : List (Arc Cert Global)). AllCome key (link_use says node n now) (map text_of (take (place + 1) texts)) (map shared l)) (sym c.in_ok-push.ensures.items)
           (one_more_comes key texts place d c.loop-place-test.true says node n middle now c.loop-place.certs.items cert c.loop-place.invariant.0 one),
       c.come.ensures.same ∙ c.loop-place.invariant.1,
     )

@@ -1,9 +1,10 @@
 use Rattle.std.proofs.Common.{map, take, ◌≡◌}
 use Rattle.taos_wire.specs.View.{text_of, cited as shared}
+use Rattle.taos_monitor.specs.Credentials.{link_use}
 use Rattle.taos_monitor.specs.Presenting.{AllCome}
 use Rattle.taos_monitor.proofs.presented.open_all.Given as goal
 
 abbrev pub invariant-loop-place : goal.invariant-loop-place
 invariant-loop-place g l =
-    AllCome l.keys.relay_key (g.R.RelayLink.says l.initial.relay) l.keys.node (g.R.RelayLink.faults l.initial.relay) (g.R.RelayLink.faults l.relay) (map text_of (take l.place l.texts)) (map shared l.certs.items)
+    AllCome l.keys.relay_key (link_use (g.R.RelayLink.says l.initial.relay) l.keys.node (g.R.RelayLink.faults l.initial.relay) (g.R.RelayLink.faults l.relay)) (map text_of (take l.place l.texts)) (map shared l.certs.items)
     × (g.R.RelayLink.says l.relay ≡ g.R.RelayLink.says l.initial.relay)

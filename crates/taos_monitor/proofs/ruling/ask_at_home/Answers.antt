@@ -1,11 +1,10 @@
 -- the ask that is made stands for what came
 use Rattle.std.proofs.Common.{refl, ap, subst, ◌∙◌, inl}
-use Rattle.taos_wire.specs.View.{request}
 use Rattle.agent_core.specs.State.{Ask}
 use Rattle.agent_core.specs.Plans.{home}
 use Rattle.agent_core.specs.Asked.{AskEnds, Unanswered}
 use Rattle.agent_core.proofs.Asks.{on_err, standing}
-use Rattle.taos_monitor.specs.Ruling.{ask_seen}
+use Rattle.taos_monitor.specs.Ruling.{ask_came}
 use Rattle.taos_monitor.proofs.AtHome.{IsAskedAs, IsLackedAs, asked_at, not_yet}
 use Rattle.taos_monitor.proofs.Presenting.{err_on, on_ok}
 use Rattle.taos_monitor.proofs.ruling.ask_at_home.Goals as goal
@@ -13,9 +12,9 @@ use Rattle.taos_monitor.proofs.ruling.ask_at_home.Goals as goal
 pub returns-in_err-made-clause-lacked : goal.returns-in_err-made-clause-lacked
 returns-in_err-made-clause-lacked g c =
     let plans = g.S.Shards.plans c.args.shards.now in
-    let h = home plans c.args.asked.now.channel in
+    let h = home plans c.args.came.asked.now.channel in
     let (plan, planned) = standing plans h c.requires.there in
-    let a = ask_seen (request c.args.asked.now) c.args.arrived c.args.reading in
+    let a = ask_came c.args.came in
     on_err c.from_residual.result
     (not_yet plans (g.S.Shards.alone c.args.shards.now) h (g.S.Shards.seen c.args.shards.now) (g.S.Shards.own c.args.shards.now) plan (λ p journal own. Unanswered p journal a own) c.requires.legal planned (inl refl))
 
@@ -27,9 +26,9 @@ returns-clause-ended g c =
     let seen1 = g.S.Shards.seen c.ask.new.shards in
     let own0 = g.S.Shards.own c.args.shards.now in
     let own1 = g.S.Shards.own c.ask.new.shards in
-    let h = home plans c.args.asked.now.channel in
+    let h = home plans c.args.came.asked.now.channel in
     let (plan, planned) = standing plans h c.requires.there in
-    let a = ask_seen (request c.args.asked.now) c.args.arrived c.args.reading in
+    let a = ask_came c.args.came in
     let is = c.in_ok-made.ensures in
     on_ok c.ask.result
     (λ r asked. asked_at plans alone h seen0 seen1 own0 own1 c.requires.legal (λ s not. c.ask.ensures.others s (λ same. not (same ∙ ap (λ (b : Ask). home plans b.channel) is)))
@@ -44,9 +43,9 @@ returns-clause-lacked g c =
     let seen1 = g.S.Shards.seen c.ask.new.shards in
     let own0 = g.S.Shards.own c.args.shards.now in
     let own1 = g.S.Shards.own c.ask.new.shards in
-    let h = home plans c.args.asked.now.channel in
+    let h = home plans c.args.came.asked.now.channel in
     let (plan, planned) = standing plans h c.requires.there in
-    let a = ask_seen (request c.args.asked.now) c.args.arrived c.args.reading in
+    let a = ask_came c.args.came in
     let is = c.in_ok-made.ensures in
     err_on c.ask.result
     (λ asked. asked_at plans alone h seen0 seen1 own0 own1 c.requires.legal (λ s not. c.ask.ensures.others s (λ same. not (same ∙ ap (λ (b : Ask). home plans b.channel) is)))

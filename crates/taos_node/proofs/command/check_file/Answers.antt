@@ -1,6 +1,7 @@
 use Rattle.std.proofs.Common.{refl, inl, inr}
 use Rattle.std.proofs.KnownBytes.{Keeps-refl}
-use Rattle.taos_node.specs.Command.{stream, touched, UsesNoLane, LeavesRest}
+use Rattle.frame_link.specs.Streams.{stream}
+use Rattle.taos_node.specs.Command.{touched, UsesNoLane, LeavesRest}
 use Rattle.taos_node.proofs.CheckCommands.{looked_over}
 use Rattle.taos_node.proofs.Statuses.{checked, one_command, unserved}
 use Rattle.taos_node.proofs.command.check_file.Goals as goal

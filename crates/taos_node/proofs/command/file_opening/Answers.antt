@@ -2,7 +2,7 @@
 use Rattle.std.proofs.Common.{List, ℕ, take, drop, length, arith, subst, ◌≡◌, ◌∙◌}
 use Rattle.std.proofs.lemmas.List.{length-take, take-append-le, take_all}
 use Rattle.node_file.specs.Opening.{Spells}
-use Rattle.taos_node.specs.Command.{stream}
+use Rattle.frame_link.specs.Streams.{stream}
 use Rattle.taos_node.proofs.Commands.{file_opens}
 use Rattle.taos_node.proofs.command.file_opening.Goals as goal
 
@@ -13,7 +13,12 @@ returns-in-Ok-read_opening-clause-gives g c =
       found.0,
       file_opens (stream (g.F.Source.left c.args.file.now) (g.F.Source.faults c.args.file.now)) (stream (g.F.Source.left c.fill.new.source) (g.F.Source.faults c.fill.new.source)) bytes found.0 c.in-Ok.ensures.bytes
           (c.in-Ok.ensures.end (omega arith))
-          (let same : c.deref.result.now ≡ c.fill.new.room = (c.deref.ensures.value ∙ take-append-le c.in_ok-room.room.len c.fill.new.room (drop (length c.fill.new.room) c.in_ok-room.room.items) (omega (arith, c.in_ok-room.room.ok.0)) ∙ take_all c.in_ok-room.room.len c.fill.new.room (omega (arith, c.in_ok-room.room.ok.0))) in subst (λ (l : List ℕ). Spells found.0 (take c.in-Ok.len l)) same found.1)
+          (let same : c.deref.result.now ≡ c.fill.new.room =
+          (c.deref.ensures.value ∙ take-append-le c.in_ok-room.room.len c.fill.new.room
+          (drop (length c.fill.new.room) c.in_ok-room.room.items)
+          (omega (arith, c.in_ok-room.room.ok.0)) ∙ take_all c.in_ok-room.room.len
+          c.fill.new.room (omega (arith, c.in_ok-room.room.ok.0)))
+          in subst (λ (l : List ℕ). Spells found.0 (take c.in-Ok.len l)) same found.1)
           (omega (arith, length-take c.in-Ok.len c.fill.new.room)),
       found.2,
     )

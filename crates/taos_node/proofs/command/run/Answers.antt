@@ -2,7 +2,8 @@
 use Rattle.std.proofs.Common.{refl, sym, ◌∙◌, inl}
 use Rattle.std.proofs.KnownBytes.{Keeps-refl}
 use Rattle.std.proofs.lemmas.Bool.{false≢true}
-use Rattle.taos_node.specs.Command.{stream, touched, first_clock, first_link, IsCommand, LeavesRest}
+use Rattle.frame_link.specs.Streams.{stream}
+use Rattle.taos_node.specs.Command.{touched, first_clock, first_link, IsCommand, LeavesRest}
 use Rattle.taos_node.proofs.Statuses.{served, unserved, unused}
 use Rattle.taos_node.proofs.command.run.Goals as goal
 

@@ -4,7 +4,8 @@ use Rattle.std.proofs.lemmas.List.{drop-set-lt}
 use Rattle.agent_core.specs.Alone.{LoneSeen, plans_in, seen_in, own_in}
 use Rattle.taos_monitor.specs.Arriving.{node_of}
 use Rattle.taos_monitor.specs.Cells.{Seen, seen_of}
-use Rattle.taos_node.specs.Command.{stream, link, first_clock, first_link}
+use Rattle.frame_link.specs.Streams.{stream}
+use Rattle.taos_node.specs.Command.{link, first_clock, first_link}
 use Rattle.taos_node.specs.Opened.{nothing_seen}
 use Rattle.taos_node.proofs.Commands.{touches, first_clock_is, first_link_is, clock_after, link_after}
 use Rattle.taos_node.proofs.command.serve.Goals as goal

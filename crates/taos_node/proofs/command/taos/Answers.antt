@@ -1,5 +1,6 @@
 use Rattle.std.proofs.Common.{ℕ, sym, subst}
-use Rattle.taos_node.specs.Command.{stream, touched, first_clock, first_link, IsStatus}
+use Rattle.frame_link.specs.Streams.{stream}
+use Rattle.taos_node.specs.Command.{touched, first_clock, first_link, IsStatus}
 use Rattle.taos_node.proofs.command.taos.Goals as goal
 
 pub returns-clause-run : goal.returns-clause-run

@@ -58,14 +58,16 @@ returns-clause-widens c =
 pub returns-clause-within : goal.returns-clause-within
 returns-clause-within c =
     let body = c.args.cert.now.body in
-    let in3 = three_within c.args.nodes.now.items c.intern-speaker.new.nodes.items c.intern-left.new.nodes.items c.intern-right.new.nodes.items (principal c.args.cert.now.speaker) (principal body.statement.left) (principal body.statement.right) c.intern-speaker.result c.intern-left.result c.intern-right.result
+    let in3 = three_within c.args.nodes.now.items c.intern-speaker.new.nodes.items c.intern-left.new.nodes.items c.intern-right.new.nodes.items
+    (principal c.args.cert.now.speaker) (principal body.statement.left) (principal body.statement.right) c.intern-speaker.result c.intern-left.result c.intern-right.result
     c.intern-speaker.ensures.taken c.intern-left.ensures.taken c.intern-right.ensures.taken in
     record { speaker = in3.0; left = in3.1; right = in3.2 }
 
 pub returns-clause-claim : goal.returns-clause-claim
 returns-clause-claim c =
     let body = c.args.cert.now.body in
-    let n3 = three_named c.args.nodes.now.items c.intern-speaker.new.nodes.items c.intern-left.new.nodes.items c.intern-right.new.nodes.items (principal c.args.cert.now.speaker) (principal body.statement.left) (principal body.statement.right) c.intern-speaker.result c.intern-left.result c.intern-right.result
+    let n3 = three_named c.args.nodes.now.items c.intern-speaker.new.nodes.items c.intern-left.new.nodes.items c.intern-right.new.nodes.items
+    (principal c.args.cert.now.speaker) (principal body.statement.left) (principal body.statement.right) c.intern-speaker.result c.intern-left.result c.intern-right.result
     c.intern-speaker.ensures.taken c.intern-left.ensures.taken c.intern-right.ensures.taken in
     let who = n3.0 ∙ c.args.cert.now.speaks in
     λ k. record { speaker = who k; left = n3.1 k; right = n3.2 k }

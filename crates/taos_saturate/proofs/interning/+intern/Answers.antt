@@ -3,11 +3,12 @@ use Rattle.std.specs.Prelude.{vec_capacity}
 use Rattle.prin_term.specs.Kind.{Kind, And, Quoting, For, pair}
 use Rattle.prin_term.specs.Principal.{Principal, InRole, node_count}
 use Rattle.prin_term.specs.View.{principal}
+use Rattle.prin_term.proofs.Heads.{node_count-pair}
 use Rattle.taos_calculus.specs.declared.line.Node.{Node}
 use Rattle.taos_calculus.specs.Canonical.{post_order}
 use Rattle.taos_calculus.specs.Tables.{OperandsBelow, shape, named}
 use Rattle.taos_saturate.specs.Interning.{Fits, TakesIn}
-use Rattle.taos_saturate.proofs.Interned.{fits_front, roomy_next, role_fits, role_taken, node_count-pair, pair_first, pair_second, pair_operands, pair_fits, pair_taken}
+use Rattle.taos_saturate.proofs.Interned.{fits_front, roomy_next, role_fits, role_taken, pair_first, pair_second, pair_operands, pair_fits, pair_taken}
 use Rattle.taos_saturate.proofs.interning.+intern.Goals as goal
 
 pub intern-a-requires : goal.intern-a-requires
@@ -70,7 +71,9 @@ intern-b-requires t c =
     = subst (λ (p : Principal). TakesIn c.args.nodes.now.items c.intern-a-in-And.new.nodes.items (post_order p) p c.intern-a-in-And.result) left c.intern-a-in-And.ensures.taken in (
       omega (arith, ap node_count which.1, ap node_count right, node_count-pair which.0 (principal c.in-And.left.value) (principal c.in-And.right.value)),
       (
-        roomy_next c.args.nodes.now.items c.intern-a-in-And.new.nodes.items (vec_capacity c.args.nodes.now) (vec_capacity c.intern-a-in-And.new.nodes) (post_order (principal c.in-And.left.value)) (principal c.in-And.left.value) c.intern-a-in-And.result c.requires.roomy first c.intern-a-in-And.ensures.capacity,
+        roomy_next c.args.nodes.now.items c.intern-a-in-And.new.nodes.items (vec_capacity c.args.nodes.now) (vec_capacity c.intern-a-in-And.new.nodes)
+            (post_order (principal c.in-And.left.value)) (principal c.in-And.left.value) c.intern-a-in-And.result
+            c.requires.roomy first c.intern-a-in-And.ensures.capacity,
         subst (λ (p : Principal). Fits c.intern-a-in-And.new.nodes.items (post_order p)) (sym right)
             (pair_second c.args.nodes.now.items c.intern-a-in-And.new.nodes.items which.0 (principal c.in-And.left.value) (principal c.in-And.right.value) c.intern-a-in-And.result first fits),
       ),

@@ -73,7 +73,9 @@ carry-y-requires t c =
         (
           omega (arith, at.b_low, c.requires.id_in),
           (
-            roomy_next c.args.new.now.items c.carry-x-in-And.new.new.items (vec_capacity c.args.new.now) (vec_capacity c.carry-x-in-And.new.new) (post_order (named c.args.nodes.now c.in-And.a)) (named c.args.nodes.now c.in-And.a) c.carry-x-in-And.result c.requires.roomy c.carry-x-in-And.ensures.taken c.carry-x-in-And.ensures.capacity,
+            roomy_next c.args.new.now.items c.carry-x-in-And.new.new.items (vec_capacity c.args.new.now) (vec_capacity c.carry-x-in-And.new.new)
+                (post_order (named c.args.nodes.now c.in-And.a)) (named c.args.nodes.now c.in-And.a) c.carry-x-in-And.result
+                c.requires.roomy c.carry-x-in-And.ensures.taken c.carry-x-in-And.ensures.capacity,
             pair_second c.args.new.now.items c.carry-x-in-And.new.new.items at.kind (named c.args.nodes.now c.in-And.a) (named c.args.nodes.now c.in-And.b) c.carry-x-in-And.result c.carry-x-in-And.ensures.taken fits,
           ),
         ),
@@ -104,7 +106,9 @@ returns-in-And-clause-taken t c =
     let third = subst (λ (n : Node). TakesIn c.carry-y.new.new.items c.place-in-And.new.nodes.items (shape (named c.carry-y.new.new.items) n ∷ []) (shape (named c.carry-y.new.new.items) n) c.place-in-And.result)
     (c.pair_like.ensures at.kind c.in-And.a c.in-And.b at.is) c.place-in-And.ensures.taken in
     subst (λ (p : Principal). TakesIn c.args.new.now.items c.place-in-And.new.nodes.items (post_order p) p c.place-in-And.result) (sym at.named_is)
-    (pair_taken c.args.new.now.items c.carry-x-in-And.new.new.items c.carry-y.new.new.items at.kind (named c.args.nodes.now c.in-And.a) (named c.args.nodes.now c.in-And.b) c.carry-x-in-And.result c.carry-y.result c.carry-x-in-And.ensures.taken c.carry-y.ensures.taken c.place-in-And.new.nodes.items c.place-in-And.result third)
+    (pair_taken c.args.new.now.items c.carry-x-in-And.new.new.items c.carry-y.new.new.items at.kind
+    (named c.args.nodes.now c.in-And.a) (named c.args.nodes.now c.in-And.b) c.carry-x-in-And.result c.carry-y.result
+    c.carry-x-in-And.ensures.taken c.carry-y.ensures.taken c.place-in-And.new.nodes.items c.place-in-And.result third)
 
 pub place-requires-clause-fits : goal.place-requires-clause-fits
 place-requires-clause-fits t c =

@@ -29,7 +29,9 @@ carry-a-requires-in-Says-clause-fits c =
 pub carry-b-requires-in-Says-clause-fits : goal.carry-b-requires-in-Says-clause-fits
 carry-b-requires-in-Says-clause-fits c =
     let fits : Fits c.args.new.now.items (flat_map post_order (terms_of (judgement (named c.args.nodes.now) (Fact.Says c.in-Says.who c.in-Says.left c.in-Says.right)))) = rw c.in-Says.is at c.requires.fits in
-    says_third c.args.new.now.items c.carry-w.new.new.items c.carry-a-in-Says.new.new.items (named c.args.nodes.now c.in-Says.who) (named c.args.nodes.now c.in-Says.left) (named c.args.nodes.now c.in-Says.right) c.carry-w.result c.carry-a-in-Says.result c.carry-w.ensures.taken c.carry-a-in-Says.ensures.taken fits
+    says_third c.args.new.now.items c.carry-w.new.new.items c.carry-a-in-Says.new.new.items
+    (named c.args.nodes.now c.in-Says.who) (named c.args.nodes.now c.in-Says.left) (named c.args.nodes.now c.in-Says.right)
+    c.carry-w.result c.carry-a-in-Says.result c.carry-w.ensures.taken c.carry-a-in-Says.ensures.taken fits
 
 pub returns-in-Speaks-clause-carries : goal.returns-in-Speaks-clause-carries
 returns-in-Speaks-clause-carries c =

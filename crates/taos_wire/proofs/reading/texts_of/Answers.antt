@@ -4,7 +4,7 @@ use Rattle.std.proofs.lemmas.List.{map_push}
 use Rattle.prin_term.specs.Readers.{items_behind}
 use Rattle.taos_wire.specs.View.{text_of}
 use Rattle.prin_term.proofs.Loops.{goes_on, stops, is_done}
-use Rattle.taos_wire.specs.declared.fault.WireFault.TheVariants.{NoMemory}
+use Rattle.prin_term.specs.declared.fault.FormatFault.TheVariants.{NoMemory}
 use Rattle.taos_wire.specs.RequestReading.{cert_at}
 use Rattle.taos_wire.proofs.reading.texts_of.Goals as goal
 

@@ -3,8 +3,7 @@ use Rattle.std.proofs.Common.{sym, ap, ◌∙◌, inl, inr, arith}
 use Rattle.std.proofs.lemmas.Result.{err_from_is_err_and}
 use Rattle.prin_term.specs.Steps.{bytes_at}
 use Rattle.stmt_codec.specs.Certificates.{certificate}
-use Rattle.taos_wire.specs.declared.fault.WireFault.{WireFault}
-use Rattle.taos_wire.specs.Fields.{seen_as_body}
+use Rattle.prin_term.specs.declared.fault.FormatFault.{FormatFault as WireFault}
 use Rattle.taos_wire.proofs.Fillings.{front_within, body_refused, body_left, body_read}
 use Rattle.taos_wire.proofs.reply_grant.body_of.Goals as goal
 
@@ -17,7 +16,7 @@ pub returns-in_err-cert-clause-value : goal.returns-in_err-cert-clause-value
 returns-in_err-cert-clause-value c =
     let p = err_from_is_err_and c.from_residual-in_err-cert.result c.from_residual-in_err-cert.ensures.1 in
     rw (p.1, p.2) (elim c.in_err-cert.ensures.exact [
-      | inl want ↦ inl (ap seen_as_body want)
+      | inl want ↦ inl want
       | inr read ↦ inr (body_refused c.args.bytes.now c.args.at c.args.len c.requires (c.in_ok-end.field-0-0.now, c.in_ok-end.end)
           (ap (λ (f : WireFault). bytes_at f c.args.len c.args.bytes.now c.args.at) (sym c.ended.ensures) ∙ sym c.in_ok-end.ensures.value) c.in_err-cert.field-0.0 read)
     ])

@@ -20,7 +20,10 @@ returns-in_err-push_cert-clause-room c =
     rw p.1 (omega (arith, same, c.in_err-push_cert.ensures.room, c.loop-cert.invariant.capacity, all))
 
 pub loop-cert-preserved : goal.loop-cert-preserved
-loop-cert-preserved c = record {
-  written = one_more cert_bytes cited c.args.certs.now c.loop-cert.cert-index c.args.out.now.items c.loop-cert.out.items c.cert-item.result c.loop-cert-test.true c.cert-item.is c.loop-cert.invariant.written c.push_cert.new.out.items (c.in_ok-push_cert.ensures.ok ∙ ap (λ (k : Cert). c.loop-cert.out.items ++ cert_bytes (certificate k.body)) c.deref.ensures);
-  capacity = omega (arith, c.loop-cert.invariant.capacity, c.in_ok-push_cert.ensures.capacity);
-}
+loop-cert-preserved c =
+    let so_far = c.loop-cert.invariant.written in
+    let appended = c.in_ok-push_cert.ensures.ok ∙ ap (λ (k : Cert). c.loop-cert.out.items ++ cert_bytes (certificate k.body)) c.deref.ensures in
+    record {
+      written = one_more cert_bytes cited c.args.certs.now c.loop-cert.cert-index c.args.out.now.items c.loop-cert.out.items c.cert-item.result c.loop-cert-test.true c.cert-item.is so_far c.push_cert.new.out.items appended;
+      capacity = omega (arith, c.loop-cert.invariant.capacity, c.in_ok-push_cert.ensures.capacity);
+    }

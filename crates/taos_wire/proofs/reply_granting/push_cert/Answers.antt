@@ -6,5 +6,5 @@ use Rattle.taos_wire.proofs.reply_granting.push_cert.Goals as goal
 
 pub overflow_cast-len : goal.overflow_cast-len
 overflow_cast-len c =
-    let len = ap length c.in_ok-write_body.ensures.ok ∙ length-append c.extend_from_slice.new.self.items (body_spelling (certificate c.args.cert.now.body)) in
+    let len = ap length c.in_ok-write_body.ensures.appends.ok ∙ length-append c.extend_from_slice.new.self.items (body_spelling (certificate c.args.cert.now.body)) in
     omega (arith, len, body_short (certificate c.args.cert.now.body) c.args.cert.now.limits)

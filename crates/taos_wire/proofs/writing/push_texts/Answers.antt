@@ -25,7 +25,10 @@ returns-in_err-push_counted-clause-room c =
     rw p.1 (omega (arith, same, c.in_err-push_counted.ensures.room, c.loop-cert.invariant.capacity, all))
 
 pub loop-cert-preserved : goal.loop-cert-preserved
-loop-cert-preserved c = record {
-  written = one_more (counted w16) text_of c.args.certs.now c.loop-cert.cert-index c.args.out.now.items c.loop-cert.out.items c.cert-item.result c.loop-cert-test.true c.cert-item.is c.loop-cert.invariant.written c.push_counted.new.out.items (c.in_ok-push_counted.ensures.ok ∙ ap (λ (t : List ℕ). c.loop-cert.out.items ++ counted w16 t) c.deref.ensures.value);
-  capacity = omega (arith, c.loop-cert.invariant.capacity, c.in_ok-push_counted.ensures.capacity);
-}
+loop-cert-preserved c =
+    let so_far = c.loop-cert.invariant.written in
+    let appended = c.in_ok-push_counted.ensures.ok ∙ ap (λ (t : List ℕ). c.loop-cert.out.items ++ counted w16 t) c.deref.ensures.value in
+    record {
+      written = one_more (counted w16) text_of c.args.certs.now c.loop-cert.cert-index c.args.out.now.items c.loop-cert.out.items c.cert-item.result c.loop-cert-test.true c.cert-item.is so_far c.push_counted.new.out.items appended;
+      capacity = omega (arith, c.loop-cert.invariant.capacity, c.in_ok-push_counted.ensures.capacity);
+    }

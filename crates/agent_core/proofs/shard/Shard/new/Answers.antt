@@ -10,6 +10,9 @@ use Rattle.agent_core.proofs.shard.Shard.new.Goals as goal
 pub invariant_of-result : goal.invariant_of-result
 invariant_of-result c =
     let store : Store = record { clock = 0; swept = 0; commons = c.names_of.result; rows = c.in_ok-rows.rows } in
-    opened_kept (plan_of c.args.plan) c.in_ok-entries.entries store c.requires c.in_ok-entries.ensures.items c.in_ok-entries.ensures.capacity refl refl
-    (c.names_of.ensures ∙ ap first_names (c.len-2.ensures ∙ c.args.plan.commons.ok.0 ∙ sym (certificate_count c.args.plan.commons.items)))
-    (subst (AreNew c.in_ok-rows.rows.items) (c.len.ensures ∙ c.args.plan.channels.ok.0) c.in_ok-rows.ensures)
+    record {
+      kept = opened_kept (plan_of c.args.plan) c.in_ok-entries.entries store c.requires c.in_ok-entries.ensures.items c.in_ok-entries.ensures.capacity refl refl
+          (c.names_of.ensures ∙ ap first_names (c.len-2.ensures ∙ c.args.plan.commons.ok.0 ∙ sym (certificate_count c.args.plan.commons.items)))
+          (subst (AreNew c.in_ok-rows.rows.items) (c.len.ensures ∙ c.args.plan.channels.ok.0) c.in_ok-rows.ensures);
+      counted = c.in_ok-presented.ensures;
+    }

@@ -1,7 +1,8 @@
 use Rattle.std.proofs.Common.{◌≤◌, length, ap, arith, ◌∙◌, le_refl}
+use Rattle.prin_term.specs.Principal.{node_count}
 use Rattle.prin_term.specs.View.{grant, principal}
 use Rattle.taos_saturate.proofs.Gathered.{widens_then, widens_length, widens_named, widens_gathers}
-use Rattle.taos_saturate.proofs.Holding.{subject_few, few_mapped, map_who, picked-apart}
+use Rattle.taos_saturate.proofs.Holding.{few_mapped, map_who, picked-apart}
 use Rattle.taos_saturate.proofs.held.Held.gather.Goals as goal
 
 pub returns-clause-gathered : goal.returns-clause-gathered
@@ -13,7 +14,7 @@ returns-clause-gathered c =
     let n2 = c.take_certs.new.nodes.items in
     let n3 = c.take_term-self.new.nodes.items in
     let n4 = c.take_list.new.nodes.items in
-    let s = subject_few (principal c.args.subject.now) c.requires.askable.subject_fits in
+    let s : node_count (principal c.args.subject.now) ≤ 16 = c.requires.askable.subject_fits in
     let certs' : length c.args.certs.now ≤ 64 = few_mapped _ c.args.certs.now 64 c.requires.askable.certs_fit in
     let list' : length c.args.list.now ≤ 8 = few_mapped grant c.args.list.now 8 c.requires.askable.list_fits in
     let w34 = widens_then n2 n3 n4 _ _ 144 w3 w4 (omega (arith, s, list')) in

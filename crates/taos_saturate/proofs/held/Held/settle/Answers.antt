@@ -9,6 +9,16 @@ saturate-self-requires-clause-ready c =
     ready_new c.args.self.now c.requires.gathered c.restart.new.self c.restart.ensures.found
     (omega (arith, c.restart.ensures.width, c.len.ensures, c.args.self.now.table.nodes.ok.0)) c.restart.ensures.statements
 
+pub saturate-self-requires-clause-statements_fit : goal.saturate-self-requires-clause-statements_fit
+saturate-self-requires-clause-statements_fit c =
+    omega (
+      arith,
+      ap (λ v. length v.items) c.restart.ensures.statements,
+      ap length c.requires.gathered.stated,
+      length-map c.args.self.now.table.cited.items statement_of,
+      c.requires.gathered.few_cited,
+    )
+
 pub returns-clause-held : goal.returns-clause-held
 returns-clause-held c =
     let g = c.saturate-self.ensures.grown in

@@ -1,0 +1,37 @@
+-- The certificates that a shard keeps of those that Asks present.
+use Rattle.std.specs.Prelude.{◌≡◌, ℕ, ◌+◌, ◌*◌, ◌≤◌, Option, None, Some, sum_by}
+use Rattle.std.specs.declared.alloc.Global.{Global}
+use Rattle.std.specs.declared.vec.Vec.{Vec}
+use Rattle.prin_term.specs.Principal.{Principal, node_count}
+use Rattle.stmt_codec.specs.Certificates.{Certificate}
+use Rattle.agent_core.specs.declared.event.ShardEntry.{ShardEntry}
+use Rattle.agent_core.specs.declared.limits.TheConstants.{CERT_BYTES, MAX_PRESENTED_BYTES, NODE_BYTES}
+use Rattle.agent_core.specs.declared.presented.Presented.{Presented}
+use Rattle.agent_core.specs.declared.store.Store.{Store}
+use Rattle.agent_core.specs.Kept.{IsKept}
+use Rattle.agent_core.specs.State.{Plan}
+use Rattle.agent_core.specs.Views.{certificates}
+
+-- how many nodes a quoted principal has, if there is one
+abbrev pub quoted_nodes : Option Principal → ℕ
+quoted_nodes None = 0
+quoted_nodes (Some quoted) = node_count quoted
+
+-- how many nodes the terms of a certificate have: its speaker has the quoted ones once more
+abbrev pub nodes_in : Certificate → ℕ
+nodes_in c = quoted_nodes c.quoted + quoted_nodes c.quoted + node_count c.left + node_count c.right
+
+-- the bytes of memory that a certificate takes at most
+abbrev pub memory_of : Certificate → ℕ
+memory_of c = CERT_BYTES + NODE_BYTES * nodes_in c
+
+-- what is kept is counted, and within its limit
+pub record IsCounted (p : Presented) : Type 0 where
+  pub counted : p.bytes ≡ sum_by memory_of (certificates p.certs.items)
+  pub within : p.bytes ≤ MAX_PRESENTED_BYTES
+
+-- a shard: its store stands for the state after its entries, and what it keeps is counted
+pub record IsShard (plan : Plan) (entries : Vec ShardEntry Global) (store : Store)
+    (presented : Presented) : Type 0 where
+  pub kept : IsKept plan entries store
+  pub counted : IsCounted presented

@@ -1,0 +1,104 @@
+use crate::asks::{asked, one_shard};
+use agent_core::*;
+use prin_term::{Statement, Term};
+use std::alloc::{AllocError, Global};
+use std::sync::{Arc, Wait};
+use std::test::*;
+use stmt_codec::{Cert, CertBody};
+use taos_saturate::Saturator;
+
+// What came of an ask.
+#[derive(Clone, Copy, Debug, PartialEq, Eq)]
+enum End {
+    Judged,
+    Replayed,
+    Full,
+    JournalFull,
+    NoMemory,
+}
+
+// The term and itself.
+fn doubled(alloc: Global, term: Term) -> Result<Term, Fail> {
+    let copy = Box::new(alloc, term.copy(alloc)?)?;
+    Ok(Term::And(Box::new(alloc, term)?, copy))
+}
+
+// A term of 63 nodes.
+fn large(alloc: Global) -> Result<Term, Fail> {
+    let term = doubled(alloc, doubled(alloc, Term::Key(2))?)?;
+    doubled(alloc, doubled(alloc, doubled(alloc, term)?)?)
+}
+
+// Sixteen certificates of this number's own. Each is counted as 320 bytes and 32 for each of 4 * 63
+// nodes, so all of a number's as 134,144, and 250 numbers' fit in 33,554,432 bytes.
+fn large_certs(alloc: Global, number: u64) -> Result<Vec<Arc<Cert>>, Fail> {
+    let mut certs = Vec::new(alloc);
+    for place in 0..16 {
+        let body = CertBody {
+            issuer: 1,
+            quoted: Some(large(alloc)?),
+            statement: Statement {
+                left: large(alloc)?,
+                right: large(alloc)?,
+            },
+            until: 2000,
+            serial: number.wrapping_mul(16).wrapping_add(place),
+        };
+        certs.push(Arc::new(alloc, Cert::of(alloc, body)?)?)?;
+    }
+    Ok(certs)
+}
+
+// What comes of an ask of channel 2.
+fn end_of<W: Wait + Sync>(
+    rt: &W,
+    alloc: Global,
+    shards: &mut Lone,
+    bench: &mut Saturator,
+    seq: u64,
+    presented: Vec<Arc<Cert>>,
+) -> Result<End, Fail> {
+    if presented.len() > 16 || !shards.has_channel(2) {
+        return Err(Fail::new("not taken"));
+    }
+    let made = asked(alloc, seq, presented)?;
+    match ask(rt, alloc, shards, bench, &mut FreeGate, made) {
+        Ok(ended) => match ended.verdict {
+            Verdict::Granted { .. } | Verdict::Denied(_) => Ok(End::Judged),
+            Verdict::Replayed { .. } => Ok(End::Replayed),
+            Verdict::Full { .. } => Ok(End::Full),
+            Verdict::JournalFull { .. } => Ok(End::JournalFull),
+        },
+        Err(AllocError) => Ok(End::NoMemory),
+    }
+}
+
+#[test]
+fn equal_certificates_are_kept_once_and_others_up_to_a_limit(rt: HostRuntime) -> Result<(), Fail> {
+    let alloc = rt.alloc();
+    let mut shards = one_shard(alloc, 1000)?;
+    let mut bench = Saturator::reserve(alloc)?;
+    // the first number and how many there are, whether they rise, and what comes of each: once no
+    // more are kept, those that are kept may still be presented
+    let asks: [(u64, u64, bool, End); 6] = [
+        (1, 2, true, End::Judged),
+        (3, 248, true, End::Full),
+        (251, 1, true, End::NoMemory),
+        (2, 3, false, End::Replayed),
+        (250, 3, false, End::Full),
+        (251, 1, true, End::NoMemory),
+    ];
+    for (first, count, rises, expected) in asks {
+        for more in 0..count {
+            let seq = if rises {
+                first.wrapping_add(more)
+            } else {
+                first
+            };
+            let presented = large_certs(alloc, seq)?;
+            let got = end_of(&rt, alloc, &mut shards, &mut bench, seq, presented)?;
+            assert_eq!(rt; got, expected, "{seq}, after {more}");
+        }
+    }
+    Ok(())
+}

@@ -1,0 +1,2 @@
+pub mod ListReaders
+pub mod ListCuts

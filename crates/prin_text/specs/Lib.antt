@@ -1,0 +1,11 @@
+pub mod Labels
+pub mod Printing
+pub mod Tokens
+pub mod Words
+pub mod Pieces
+pub mod Reading
+pub mod Lists
+pub mod View
+pub mod Meaning
+pub mod Refusing
+pub mod ListMeaning

@@ -1,0 +1,10 @@
+-- The certificates that the program's handles share.
+use Rattle.std.specs.Prelude.{List, map}
+use Rattle.std.specs.declared.alloc.Global.{Global}
+use Rattle.std.specs.declared.sync.Arc.{Arc}
+use Rattle.stmt_codec.specs.declared.cert.Cert.{Cert}
+use Rattle.stmt_codec.specs.Certificates.{Certificate, certificate}
+
+-- the certificates behind the handles, in order
+abbrev pub certificates : List (Arc Cert Global) → List Certificate
+certificates handles = map (λ (c : Arc Cert Global). certificate c.value.body) handles

@@ -1,0 +1,15 @@
+-- What stays did, and the rest is what was answered.
+use Rattle.taos_monitor.proofs.Connections.{same_setting}
+use Rattle.taos_monitor.proofs.connection.AnsweringService.answer.Goals as goal
+
+pub returns-in-Replied-clause-answered : goal.returns-in-Replied-clause-answered
+returns-in-Replied-clause-answered g c = (
+  same_setting c.args.self.now.keys.now (g.H.Shelf.objects c.args.self.now.shelf.now) c.answer.ensures.plans c.answer.ensures.alone c.answer.ensures.says,
+  c.in-Replied.ensures.answered,
+)
+
+pub returns-in-ClockFault-clause-given_up : goal.returns-in-ClockFault-clause-given_up
+returns-in-ClockFault-clause-given_up g c = (
+  same_setting c.args.self.now.keys.now (g.H.Shelf.objects c.args.self.now.shelf.now) c.answer.ensures.plans c.answer.ensures.alone c.answer.ensures.says,
+  c.in-ClockFault.ensures.answered,
+)

@@ -1,0 +1,158 @@
+use crate::names::sample;
+use prin_term::{MAX_DEPTH, Term};
+use prin_text::*;
+use std::alloc::Global;
+use std::test::Fail;
+
+// Texts that are printed as they were read.
+const ALIKE: [&str; 14] = [
+    "alice",
+    "key:2",
+    "name:7",
+    "key:0",
+    "key:4294967295",
+    "(ws1 as taos) for bob",
+    "key:2|bob",
+    "alice and bob",
+    "ws1 as role:9",
+    "(alice and bob) for (key:1|key:2)",
+    "((ws1 as taos) and key:14)|bob",
+    "((ws1 as taos) and key:14) for bob",
+    "(ws2 as taos) for ((ws1 as taos) for bob)",
+    "(alice as reader) as taos",
+];
+
+// Texts that are printed otherwise.
+const OTHERWISE: [(&str, &str); 8] = [
+    ("((ws1))", "ws1"),
+    ("  alice ", "alice"),
+    ("( ws1 \t as taos)for(bob)", "(ws1 as taos) for bob"),
+    ("key:2 | bob", "key:2|bob"),
+    ("alice\tand\tbob", "alice and bob"),
+    ("name:10", "alice"),
+    ("ws1 as role:1", "ws1 as taos"),
+    ("((((((((((((((((((((alice))))))))))))))))))))", "alice"),
+];
+
+// Texts that are refused, where and why.
+const REFUSED: [(&str, usize, TextCause); 33] = [
+    ("ws1 as taos for bob", 12, TextCause::Syntax),
+    ("carol", 0, TextCause::UnknownName),
+    ("", 0, TextCause::Syntax),
+    (" \t", 2, TextCause::Syntax),
+    ("(alice", 6, TextCause::Syntax),
+    ("alice)", 5, TextCause::Syntax),
+    ("alice bob", 6, TextCause::Syntax),
+    ("alice and", 9, TextCause::Syntax),
+    ("alice and carol", 10, TextCause::UnknownName),
+    ("alice as carol", 9, TextCause::UnknownName),
+    ("alice as bob", 9, TextCause::UnknownName),
+    ("taos", 0, TextCause::UnknownName),
+    ("alice as 5", 9, TextCause::Syntax),
+    ("alice as (taos)", 9, TextCause::Syntax),
+    ("key:01", 0, TextCause::Number),
+    ("key:00", 0, TextCause::Number),
+    ("key:+1", 0, TextCause::Number),
+    ("name:-0", 0, TextCause::Number),
+    ("key:4294967296", 0, TextCause::Number),
+    ("key:99999999999999999999999", 0, TextCause::Number),
+    ("alice as role:07", 9, TextCause::Number),
+    ("key:", 0, TextCause::Syntax),
+    ("key:+", 0, TextCause::Syntax),
+    ("key:1x", 0, TextCause::Syntax),
+    ("Key:1", 0, TextCause::Syntax),
+    ("role:1", 0, TextCause::Syntax),
+    ("alice as name:1", 9, TextCause::Syntax),
+    ("and", 0, TextCause::Syntax),
+    ("alice;bob", 5, TextCause::Syntax),
+    ("alice|", 6, TextCause::Syntax),
+    ("(alice)(bob)", 7, TextCause::Syntax),
+    ("()", 1, TextCause::Syntax),
+    ("key:01 and carol)", 0, TextCause::Number),
+];
+
+// Sixteen and seventeen levels: alice in one role after another.
+const LEVELS_16: &str =
+    "((((((((((((((alice as taos) as taos) as taos) as taos) as taos) as taos) as taos) as taos) as taos) as taos) as taos) as taos) as taos) as taos) as taos";
+
+const LEVELS_17: &str =
+    "(((((((((((((((alice as taos) as taos) as taos) as taos) as taos) as taos) as taos) as taos) as taos) as taos) as taos) as taos) as taos) as taos) as taos) as taos";
+
+// 64 and 65 nodes: bob quoting bob, six levels of it, in a role or quoting bob.
+const NODES_64: &str =
+    "(((((bob|bob)|(bob|bob))|((bob|bob)|(bob|bob)))|(((bob|bob)|(bob|bob))|((bob|bob)|(bob|bob))))|((((bob|bob)|(bob|bob))|((bob|bob)|(bob|bob)))|(((bob|bob)|(bob|bob))|((bob|bob)|(bob|bob))))) as taos";
+
+const NODES_65: &str =
+    "(((((bob|bob)|(bob|bob))|((bob|bob)|(bob|bob)))|(((bob|bob)|(bob|bob))|((bob|bob)|(bob|bob))))|((((bob|bob)|(bob|bob))|((bob|bob)|(bob|bob)))|(((bob|bob)|(bob|bob))|((bob|bob)|(bob|bob)))))|bob";
+
+fn printed(alloc: Global, names: &Names, term: &Term) -> Result<String, Fail> {
+    let mut text = String::from_str(alloc, "> ")?;
+    print_principal(alloc, &mut text, names, term)?;
+    Ok(text)
+}
+
+fn read_and_printed(alloc: Global, names: &Names, text: &str) -> Result<String, Fail> {
+    let term = read_principal(alloc, names, text)?;
+    printed(alloc, names, &term)
+}
+
+#[test]
+fn a_printed_text_is_printed_again(rt: HostRuntime) -> Result<(), Fail> {
+    let names = sample(rt.alloc())?;
+    for text in ALIKE {
+        let again = read_and_printed(rt.alloc(), &names, text)?;
+        let front = String::from_str(rt.alloc(), "> ")?;
+        let wanted = format!(in rt.alloc(); "{front}{text}")?;
+        assert_eq!(rt; again.as_str(), wanted.as_str());
+    }
+    Ok(())
+}
+
+#[test]
+fn blanks_and_parentheses_more_than_needed_are_read(rt: HostRuntime) -> Result<(), Fail> {
+    let names = sample(rt.alloc())?;
+    for (text, other) in OTHERWISE {
+        let again = read_and_printed(rt.alloc(), &names, text)?;
+        let wanted = format!(in rt.alloc(); "> {other}")?;
+        assert_eq!(rt; again.as_str(), wanted.as_str());
+    }
+    Ok(())
+}
+
+#[test]
+fn the_first_fault_is_answered(rt: HostRuntime) -> Result<(), Fail> {
+    let names = sample(rt.alloc())?;
+    for (text, offset, cause) in REFUSED {
+        let fault = read_principal(rt.alloc(), &names, text).err();
+        assert_eq!(rt; fault, Some(TextFault::Bad { offset, cause }), "{text}");
+    }
+    Ok(())
+}
+
+#[test]
+fn sizes_are_tested_after_the_whole_text(rt: HostRuntime) -> Result<(), Fail> {
+    let names = sample(rt.alloc())?;
+    let deep = read_principal(rt.alloc(), &names, LEVELS_16)?;
+    assert!(rt; deep.fits(64, MAX_DEPTH));
+    assert!(rt; !deep.fits(64, MAX_DEPTH - 1));
+    let large = read_principal(rt.alloc(), &names, NODES_64)?;
+    assert!(rt; large.fits(64, MAX_DEPTH));
+    assert!(rt; !large.fits(63, MAX_DEPTH));
+    let cases: [(&str, &str, usize, TextCause); 5] = [
+        (LEVELS_17, "", 2, TextCause::TooDeep),
+        (NODES_65, "", 2, TextCause::TooLarge),
+        (LEVELS_17, " for bob", 2, TextCause::Syntax),
+        (NODES_65, " )", 2, TextCause::Syntax),
+        (NODES_65, "", 2, TextCause::TooLarge),
+    ];
+    for (text, tail, offset, cause) in cases {
+        let whole = format!(in rt.alloc(); "  {text}{tail}")?;
+        let fault = read_principal(rt.alloc(), &names, whole.as_str()).err();
+        let at = match cause {
+            TextCause::Syntax => 3 + text.len(),
+            _ => offset,
+        };
+        assert_eq!(rt; fault, Some(TextFault::Bad { offset: at, cause }));
+    }
+    Ok(())
+}
