@@ -31,9 +31,12 @@ UNTIL = 2**40
 MALFORMED, NO_ISSUER, BAD_SEAL, WRONG_KIND, NO_NODE, BAD_RESEAL, NO_MEMORY = 1, 2, 3, 4, 5, 6, 11
 GRANTED, DENIED, REFUSED, FAILED, WANTS_MEMORY = 0, 1, 6, 8, 11
 LONGEST, LONGEST_NEW, TAG = 65_536, 2_048, 32
+# Seconds: between two bytes of an answer that trickles, and behind a fault until the link asks again.
+PAUSE, REST = 0.3, 1.1
 
 # By their serials: what the relay does other than it should.
 CLOSES, IS_SILENT, BABBLES, CUTS, SHOUTS, OVERFLOWS, FLIPS_KIND, OTHER_KEY, OTHER_BODY, FULL = range(100, 110)
+TRICKLES, ADDS, ENDS = range(110, 113)
 DEEDS = {
     CLOSES: "closes without an answer",
     IS_SILENT: "says nothing",
@@ -45,6 +48,9 @@ DEEDS = {
     OTHER_KEY: "seals under another key",
     OTHER_BODY: "seals another body",
     FULL: "answers want of memory",
+    TRICKLES: "answers a byte at a time, too slowly",
+    ADDS: "answers, and sends a frame that nobody asked for",
+    ENDS: "answers, and closes",
 }
 
 
@@ -126,6 +132,16 @@ def tell(text):
     print(f"relay: {text}", file=sys.stderr, flush=True)
 
 
+def trickle(stream, data):
+    """Sends a byte at a time, until the other side closes."""
+    try:
+        for place in range(len(data)):
+            stream.sendall(data[place : place + 1])
+            time.sleep(PAUSE)
+    except ConnectionError:
+        pass
+
+
 def serve_connection(stream):
     """Answers frames until the other side closes, or this one does."""
     while True:
@@ -151,6 +167,13 @@ def serve_connection(stream):
             stream.sendall(struct.pack(">I", LONGEST + 1) + brought)
         elif deed == CUTS:
             stream.sendall(frame(brought)[:-1])
+            return
+        elif deed == TRICKLES:
+            return trickle(stream, frame(brought))
+        elif deed == ADDS:
+            stream.sendall(frame(brought) + frame(bytes([BRINGS, NO_ISSUER])))
+        elif deed == ENDS:
+            stream.sendall(frame(brought))
             return
         else:
             stream.sendall(frame(brought))
@@ -205,6 +228,7 @@ FAILURES = [
     ("the relay's length is too large", SHOUTS),
     ("the relay's certificate is too large", OVERFLOWS),
     ("the relay says nothing", IS_SILENT),
+    ("the relay's answer trickles", TRICKLES),
 ]
 
 
@@ -238,10 +262,15 @@ def with_relay():
     # None of those took an entry, or is held.
     cases += [Case("no certificate, again", 2, [], DENIED, place=1)]
     cases += [Case("a certificate that does not help", 2, [STRANGER], DENIED, place=2)]
-    cases += [Case("a good certificate", 2, [GOOD], GRANTED, place=3)]
-    cases += [Case("no certificate: it is held", 2, [], GRANTED, place=4)]
-    cases += [Case("another's certificate", 3, [GOOD], DENIED, place=5)]
-    cases += [Case("two good ones", 3, [issued(1, 3, 7), GOOD], GRANTED, place=6)]
+    # A kept connection that is of no use any more, and the question behind it on a new one.
+    cases += [Case("the relay says one thing more", 2, [issued(3, 2, ADDS)], DENIED, place=3)]
+    cases += [refused("behind one thing more", REFUSALS[4][1], BAD_SEAL)]
+    cases += [Case("the relay answers and closes", 2, [issued(3, 2, ENDS)], DENIED, place=4)]
+    cases += [refused("behind a relay that closed", REFUSALS[4][1], BAD_SEAL)]
+    cases += [Case("a good certificate", 2, [GOOD], GRANTED, place=5)]
+    cases += [Case("no certificate: it is held", 2, [], GRANTED, place=6)]
+    cases += [Case("another's certificate", 3, [GOOD], DENIED, place=7)]
+    cases += [Case("two good ones", 3, [issued(1, 3, 7), GOOD], GRANTED, place=8)]
     return cases
 
 
@@ -318,6 +347,28 @@ def frames_of(data):
     return found
 
 
+def frame_of(stream):
+    """The payload of the next frame, or less where the stream ends."""
+    head = stream.read(4)
+    return stream.read(int.from_bytes(head, "big")) if len(head) == 4 else head
+
+
+def told(run, cases, asked):
+    """The replies, in turn. Behind a failure the next question waits until the link asks again."""
+    replies = []
+    try:
+        for place, text in enumerate(asked):
+            run.stdin.write(text)
+            run.stdin.flush()
+            replies.append(frame_of(run.stdout))
+            if cases[place].status == FAILED and cases[place + 1 :] and cases[place + 1].status != FAILED:
+                time.sleep(REST)
+        run.stdin.close()
+        return replies + frames_of(run.stdout.read())
+    except BrokenPipeError:
+        return replies
+
+
 def run_cases(program, folder, what, node, relay, cases):
     """Runs the program once on all of these, and counts those that are not answered as they should be."""
     path = os.path.join(folder, f"opening_{node}")
@@ -329,8 +380,8 @@ def run_cases(program, folder, what, node, relay, cases):
         asked.append((last[case.channel], request(case.channel, last[case.channel], case.certificates)))
     start = time.monotonic()
     words = [program, path, "-", relay, "run"]
-    run = subprocess.run(words, input=b"".join(text for _, text in asked), stdout=subprocess.PIPE)
-    replies, wrong = frames_of(run.stdout), 0
+    with subprocess.Popen(words, stdin=subprocess.PIPE, stdout=subprocess.PIPE) as run:
+        replies, wrong = told(run, cases, [text for _, text in asked]), 0
     print(f"{what} ({time.monotonic() - start:.1f} seconds):")
     for place, (case, (seq, text)) in enumerate(zip(cases, asked)):
         why = "no reply"

@@ -15,11 +15,11 @@ use Rattle.proof_cache.specs.Cached.{Cached, cached}
 use Rattle.proof_cache.specs.declared.cached.Cached.{Cached as CachedValue}
 use Rattle.std.specs.declared.alloc.Global.{Global}
 use Rattle.std.specs.declared.sync.Arc.{Arc}
+use Rattle.stmt_codec.specs.View.{certificates}
 use Rattle.agent_core.specs.declared.told.Snapshot.{Snapshot}
 use Rattle.agent_core.specs.declared.told.Answer.{Answer as ValueOfAnswer}
 use Rattle.agent_core.specs.declared.told.Answer.TheVariants as answer
 use Rattle.agent_core.specs.Answers.{SteppedTo}
-use Rattle.agent_core.specs.Views.{certificates}
 use Rattle.agent_core.specs.declared.asked.Asked.{Asked}
 use Rattle.agent_core.specs.declared.asked.Settled.TheVariants.{NoNeed}
 use Rattle.agent_core.specs.declared.asked.Verdict.{Verdict}

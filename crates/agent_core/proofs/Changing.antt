@@ -7,9 +7,9 @@ use Rattle.std.proofs.lemmas.Bool.Decides.{nat_tests}
 use Rattle.std.proofs.lemmas.List.{length-set}
 use Rattle.std.proofs.lemmas.Option.{slice_get_read, slice_get_within}
 use Rattle.stmt_codec.specs.Certificates.{Certificate}
-use Rattle.agent_core.specs.declared.removal.Removal.TheVariants.{Ended}
-use Rattle.agent_core.specs.declared.store.Row.{Row}
-use Rattle.agent_core.specs.declared.store.Store.{Store}
+use Rattle.agent_core.specs.declared.shard.removal.Removal.TheVariants.{Ended}
+use Rattle.agent_core.specs.declared.shard.store.Row.{Row}
+use Rattle.agent_core.specs.declared.shard.store.Store.{Store}
 use Rattle.agent_core.specs.State.{Plan, State, keeping, forgetting, at_channel, held_count}
 use Rattle.agent_core.specs.Journals.{Entry}
 use Rattle.agent_core.specs.Kept.{stays, row_certs, name_stays, IsRow, IsStore, now_at}

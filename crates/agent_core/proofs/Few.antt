@@ -9,7 +9,7 @@ use Rattle.agent_core.specs.State.{Plan, State, Ask, Event, Asks, Holds, Discard
 use Rattle.agent_core.specs.Journals.{Entry, state_from, state_after, granted, denied}
 use Rattle.agent_core.specs.Laws.{HoldsFew, JudgesFew, OneVerdict, JudgedIsVerdict, MeantStays, StepsAlone}
 use Rattle.agent_core.proofs.Journaling.{meant_on}
-use Rattle.agent_core.specs.declared.verdict.Finding.TheVariants as finding
+use Rattle.agent_core.specs.declared.whole_ask.verdict.Decision.TheVariants as finding
 
 shorter : {X : Type 0} (p : X → Bool) (xs : List X) → length (filter p xs) ≤ length xs
 shorter p [] = omega arith

@@ -3,9 +3,9 @@ use Rattle.std.proofs.Common.{◌≡◌, ℕ, ◌+◌, ◌<◌, ◌≤◌, List,
 use Rattle.std.specs.List.{slice_get, filter_map}
 use Rattle.std.specs.List.Sorted.{IsStrictlyIncreasing}
 use Rattle.stmt_codec.specs.Certificates.{Certificate}
-use Rattle.agent_core.specs.declared.asking.Look.{Look}
-use Rattle.agent_core.specs.declared.store.Row.{Row}
-use Rattle.agent_core.specs.declared.store.Store.{Store}
+use Rattle.agent_core.specs.declared.shard.asking.Look.{Look}
+use Rattle.agent_core.specs.declared.shard.store.Row.{Row}
+use Rattle.agent_core.specs.declared.shard.store.Store.{Store}
 use Rattle.agent_core.specs.State.{Plan, State, Ask, Asks, Answer, Judged, asking, taking, brought, swept, next}
 use Rattle.agent_core.specs.Journals.{Entry}
 use Rattle.agent_core.specs.Kept.{IsRow, IsStore, now_at}

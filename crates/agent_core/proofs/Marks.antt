@@ -11,7 +11,7 @@ use Rattle.taos_calculus.specs.Question.{Question, question_of, claim_of, picked
 use Rattle.denial_link.specs.Revived.{claims}
 use Rattle.denial_link.specs.declared.link.Link.TheVariants.{NoEntry}
 use Rattle.denial_link.specs.Links.{NoEntryWith, no_entry}
-use Rattle.agent_core.specs.declared.verdict.Finding.TheVariants as finding
+use Rattle.agent_core.specs.declared.whole_ask.verdict.Decision.TheVariants as finding
 use Rattle.agent_core.specs.Judged.{live_marks, Judges}
 use Rattle.agent_core.specs.State.{Ask}
 

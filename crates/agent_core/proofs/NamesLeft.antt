@@ -3,9 +3,9 @@ use Rattle.std.proofs.Common.{◌≡◌, ℕ, zero, suc, rules, ◌<◌, Bool, t
 use Rattle.std.specs.List.{slice_get, filter_map, cons_option}
 use Rattle.std.proofs.lemmas.List.Elements.{All-head, All-tail, All-nil, All-cons}
 use Rattle.stmt_codec.specs.Certificates.{Certificate}
-use Rattle.agent_core.specs.declared.name.Name.{Name}
-use Rattle.agent_core.specs.declared.name.Name.TheVariants.{Common, Brought}
-use Rattle.agent_core.specs.declared.removal.Removal.{Removal}
+use Rattle.agent_core.specs.declared.held.name.Name.{Name}
+use Rattle.agent_core.specs.declared.held.name.Name.TheVariants.{Common, Brought}
+use Rattle.agent_core.specs.declared.shard.removal.Removal.{Removal}
 use Rattle.agent_core.specs.Journals.{Entry}
 use Rattle.agent_core.specs.Kept.{stays, stays_if_named}
 use Rattle.agent_core.specs.Names.{named, certs_named, AreNames, brought_by}

@@ -7,8 +7,8 @@ use Rattle.std.proofs.lemmas.List.{length_push}
 use Rattle.std.proofs.lemmas.List.FromFn.{length-map-range_with_len, get_or-map-range_with_len}
 use Rattle.stmt_codec.specs.Certificates.{Certificate}
 use Rattle.agent_core.specs.declared.event.ShardEntry.{ShardEntry}
-use Rattle.agent_core.specs.declared.name.Name.TheVariants.{Common}
-use Rattle.agent_core.specs.declared.store.Store.{Store}
+use Rattle.agent_core.specs.declared.held.name.Name.TheVariants.{Common}
+use Rattle.agent_core.specs.declared.shard.store.Store.{Store}
 use Rattle.agent_core.specs.Plans.{IsPlan}
 use Rattle.agent_core.specs.State.{Plan, opened}
 use Rattle.agent_core.specs.Journals.{Entry, IsLegalJournal, state_after}

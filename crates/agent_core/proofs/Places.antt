@@ -9,7 +9,7 @@ use Rattle.std.proofs.lemmas.List.{length-map}
 use Rattle.std.proofs.lemmas.Option.{slice_get-get_or, slice_get-map}
 use Rattle.stmt_codec.specs.declared.cert.Cert.{Cert}
 use Rattle.stmt_codec.specs.Certificates.{certificate}
-use Rattle.agent_core.specs.Views.{certificates}
+use Rattle.stmt_codec.specs.View.{certificates}
 
 pub certificate_at : (certs : List (Arc Cert Global)) (i : ℕ) (a : Arc Cert Global) → a ≡ get_or certs i a → i < length certs → slice_get (certificates certs) i ≡ Some (certificate a.value.body)
 certificate_at certs i a e lt =

@@ -5,10 +5,10 @@ use Rattle.std.proofs.lemmas.Bool.{ne_eqb, eq-eqb}
 use Rattle.std.proofs.lemmas.List.Elements.{All-same, All-filter}
 use Rattle.std.proofs.lemmas.List.Filters.{length-filter_both}
 use Rattle.stmt_codec.specs.Certificates.{Certificate}
-use Rattle.agent_core.specs.declared.name.Name.{Name}
-use Rattle.agent_core.specs.declared.removal.Removal.{Removal}
-use Rattle.agent_core.specs.declared.removal.Removal.TheVariants.{Ended}
-use Rattle.agent_core.specs.declared.store.Row.{Row}
+use Rattle.agent_core.specs.declared.held.name.Name.{Name}
+use Rattle.agent_core.specs.declared.shard.removal.Removal.{Removal}
+use Rattle.agent_core.specs.declared.shard.removal.Removal.TheVariants.{Ended}
+use Rattle.agent_core.specs.declared.shard.store.Row.{Row}
 use Rattle.agent_core.specs.State.{Plan}
 use Rattle.agent_core.specs.Journals.{Entry}
 use Rattle.agent_core.specs.Kept.{stays, stays_if_named, row_certs, now_at}

@@ -6,7 +6,7 @@ use Rattle.std.proofs.lemmas.List.{take_more, map_push}
 use Rattle.std.proofs.lemmas.List.Elements.{filter_map-append}
 use Rattle.stmt_codec.specs.declared.cert.Cert.{Cert}
 use Rattle.stmt_codec.specs.Certificates.{Certificate, certificate}
-use Rattle.agent_core.specs.Views.{certificates}
+use Rattle.stmt_codec.specs.View.{certificates}
 
 pub gathered_more : {X : Type 0} (f : X → Option Certificate) (xs : List X) (i : ℕ) (d : X) (c : Certificate) → i < length xs → f (get_or xs i d) ≡ Some c →
     (first out after : List (Arc Cert Global)) (handle : Arc Cert Global) → certificate handle.value.body ≡ c →

@@ -3,8 +3,9 @@ use Rattle.std.proofs.Common.{ℕ, List, [], ◌∷◌, ◌++◌, length, map, s
 use Rattle.std.specs.declared.alloc.Global.{Global}
 use Rattle.std.specs.declared.vec.Vec.{Vec}
 use Rattle.std.proofs.lemmas.List.{length-map}
+use Rattle.stmt_codec.specs.View.{certificates}
 use Rattle.agent_core.specs.declared.event.ShardEntry.{ShardEntry}
-use Rattle.agent_core.specs.declared.store.Store.{Store}
+use Rattle.agent_core.specs.declared.shard.store.Store.{Store}
 use Rattle.agent_core.specs.declared.told.Snapshot.{Snapshot}
 use Rattle.agent_core.specs.declared.told.Told.{Told}
 use Rattle.agent_core.specs.declared.told.Answer.{Answer}
@@ -15,7 +16,7 @@ use Rattle.agent_core.specs.Journals.{entry}
 use Rattle.agent_core.specs.Kept.{Tells}
 use Rattle.agent_core.specs.Looking.{Misses, Answered}
 use Rattle.agent_core.specs.Steps.{Miss, Other, Steps, IsAnswer, miss, other}
-use Rattle.agent_core.specs.Views.{certificates, entry_of}
+use Rattle.agent_core.specs.Views.{entry_of}
 
 module _ (plan : Plan) (before : Vec ShardEntry Global) (event : Event) (after : Vec ShardEntry Global) (store : Store) where
   told_steps : (told : Told) → Tells plan before event told after store → Steps plan (map entry_of before.items) event (map entry_of after.items) (length before.items) (Other told)

@@ -8,11 +8,12 @@ use Rattle.std.proofs.lemmas.List.Sums.{sum_by_push}
 use Rattle.std.proofs.lemmas.Option.{same_Some}
 use Rattle.stmt_codec.specs.declared.cert.Cert.{Cert}
 use Rattle.stmt_codec.specs.Certificates.{Certificate, certificate}
+use Rattle.stmt_codec.specs.View.{certificates}
 use Rattle.denial_link.proofs.Members.{has-at}
 use Rattle.agent_core.specs.declared.event.Ask.{Ask as AskValue}
 use Rattle.agent_core.specs.Journals.{Begins}
 use Rattle.agent_core.specs.Presented.{memory_of}
-use Rattle.agent_core.specs.Views.{ask_of, certificates}
+use Rattle.agent_core.specs.Views.{ask_of}
 use Rattle.agent_core.proofs.Places.{certificate_at}
 
 abbrev said : Arc Cert Global → Certificate

@@ -1,6 +1,7 @@
 -- What a step of the program answers.
 use Rattle.std.specs.Prelude.{◌≡◌, ℕ, ◌≤◌, List, length}
 use Rattle.std.specs.Arc.{arc_value}
+use Rattle.stmt_codec.specs.View.{certificates}
 use Rattle.proof_cache.specs.Cached.{cached}
 use Rattle.proof_cache.specs.declared.cached.Cached.{Cached as CachedValue}
 use Rattle.agent_core.specs.declared.limits.TheConstants.{MAX_PRESENTED}
@@ -10,7 +11,6 @@ use Rattle.agent_core.specs.declared.told.Answer.TheVariants as answer
 use Rattle.agent_core.specs.State.{Plan, Event, Asks, Holds, Discards, Forgets, Expires}
 use Rattle.agent_core.specs.Journals.{Entry}
 use Rattle.agent_core.specs.Steps.{StepAnswer, Hit, Miss, Other, JournalSeen, Steps, StepsTo, StepRefused}
-use Rattle.agent_core.specs.Views.{certificates}
 
 -- the event brings few certificates
 abbrev pub FitsEvent : Event → Type 0

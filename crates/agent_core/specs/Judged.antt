@@ -6,8 +6,8 @@ use Rattle.stmt_codec.specs.Certificates.{Certificate, live}
 use Rattle.taos_calculus.specs.Monitor.{FirstEntry, Grants, MaySpeak}
 use Rattle.denial_link.specs.Revived.{claims}
 use Rattle.denial_link.specs.Links.{IsFirstLink}
-use Rattle.agent_core.specs.declared.verdict.Finding.{Finding}
-use Rattle.agent_core.specs.declared.verdict.Finding.TheVariants as finding
+use Rattle.agent_core.specs.declared.whole_ask.verdict.Decision.{Decision}
+use Rattle.agent_core.specs.declared.whole_ask.verdict.Decision.TheVariants as finding
 use Rattle.agent_core.specs.Journals.{Verdict, Granted, Denied}
 use Rattle.agent_core.specs.State.{Ask}
 
@@ -17,7 +17,7 @@ live_marks certs moment = map (λ (c : Certificate). nat_lt moment c.until) cert
 
 -- what is found is the monitor's verdict: the first entry that grants; or the first link, where
 -- nothing is granted
-abbrev pub Judges : List Anchor → List Certificate → ℕ → Ask → Finding → Type 0
+abbrev pub Judges : List Anchor → List Certificate → ℕ → Ask → Decision → Type 0
 Judges anchors certs moment a (finding.Granted place) =
     (e : Grant) × FirstEntry a.list a.right
     (λ g. MaySpeak anchors (claims (live certs moment)) a.subject g.who) place e
@@ -26,11 +26,11 @@ Judges anchors certs moment a (finding.Denied link) =
     × IsFirstLink anchors certs moment a.subject a.list a.right link
 
 -- the verdict that a finding is
-abbrev pub verdict_of : Finding → Verdict
+abbrev pub verdict_of : Decision → Verdict
 verdict_of (finding.Granted place) = Granted
 verdict_of (finding.Denied link) = Denied link
 
 -- the finding grants
-abbrev pub IsGrant : Finding → Type 0
+abbrev pub IsGrant : Decision → Type 0
 IsGrant (finding.Granted place) = Unit {0}
 IsGrant (finding.Denied link) = ⊥

@@ -4,13 +4,13 @@ use Rattle.std.specs.declared.alloc.Global.{Global}
 use Rattle.std.specs.declared.vec.Vec.{Vec}
 use Rattle.stmt_codec.specs.Certificates.{Certificate, digest_of}
 use Rattle.std.specs.List.{range_with_len}
-use Rattle.agent_core.specs.declared.name.Name.{Name}
-use Rattle.agent_core.specs.declared.name.Name.TheVariants.{Common}
+use Rattle.agent_core.specs.declared.held.name.Name.{Name}
+use Rattle.agent_core.specs.declared.held.name.Name.TheVariants.{Common}
 use Rattle.agent_core.specs.declared.event.ShardEntry.{ShardEntry}
-use Rattle.agent_core.specs.declared.removal.Removal.{Removal}
-use Rattle.agent_core.specs.declared.removal.Removal.TheVariants.{Ended, Named}
-use Rattle.agent_core.specs.declared.store.Row.{Row}
-use Rattle.agent_core.specs.declared.store.Store.{Store}
+use Rattle.agent_core.specs.declared.shard.removal.Removal.{Removal}
+use Rattle.agent_core.specs.declared.shard.removal.Removal.TheVariants.{Ended, Named}
+use Rattle.agent_core.specs.declared.shard.store.Row.{Row}
+use Rattle.agent_core.specs.declared.shard.store.Store.{Store}
 use Rattle.agent_core.specs.Names.{named, certs_named, AreNames}
 use Rattle.agent_core.specs.Plans.{IsPlan}
 use Rattle.agent_core.specs.declared.told.Told.{Told}

@@ -11,7 +11,7 @@ use Rattle.agent_core.specs.declared.limits.TheConstants.{MAX_OWN, MAX_COMMONS}
 use Rattle.agent_core.specs.State.{Plan, State, Ask, Event, opened, next}
 use Rattle.agent_core.specs.Plans.{AreShards, home}
 use Rattle.agent_core.specs.Opened.{MayOpen, plans_for}
-use Rattle.agent_core.specs.declared.verdict.Finding.{Finding}
+use Rattle.agent_core.specs.declared.whole_ask.verdict.Decision.{Decision}
 use Rattle.agent_core.specs.Judged.{Judges, verdict_of}
 use Rattle.agent_core.specs.Steps.{JournalSeen, StepAnswer, Steps, StepsTo}
 use Rattle.agent_core.specs.Journals.{Entry, entry, Begins, state_after, told_of, told_at, IsMeant, MayFollow, IsLegalJournal, IsJudged, IsVerdict, Granted, Denied}
@@ -87,7 +87,7 @@ module _ (plan : Plan) where
   -- what is found on what an Ask is judged by is its verdict
   abbrev pub JudgedIsVerdict : Type 0
   JudgedIsVerdict =
-      (before : List Entry) (a : Ask) (moment : ℕ) (certs : List Certificate) (finding : Finding) →
+      (before : List Entry) (a : Ask) (moment : ℕ) (certs : List Certificate) (finding : Decision) →
       IsJudged plan before a moment certs → Judges plan.anchors certs moment a finding →
       IsVerdict plan before a (verdict_of finding)
 

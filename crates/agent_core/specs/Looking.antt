@@ -3,11 +3,12 @@ use Rattle.std.specs.Prelude.{◌≡◌, ℕ, ◌+◌, ◌<◌, ◌≤◌, max, 
 use Rattle.std.specs.declared.alloc.Global.{Global}
 use Rattle.std.specs.declared.vec.Vec.{Vec}
 use Rattle.stmt_codec.specs.Certificates.{Certificate}
-use Rattle.agent_core.specs.declared.asking.Look.{Look}
+use Rattle.stmt_codec.specs.View.{certificates}
+use Rattle.agent_core.specs.declared.shard.asking.Look.{Look}
 use Rattle.agent_core.specs.declared.limits.TheConstants.{MAX_OWN}
 use Rattle.agent_core.specs.declared.event.ShardEntry.{ShardEntry}
-use Rattle.agent_core.specs.declared.removal.Removal.TheVariants.{Ended}
-use Rattle.agent_core.specs.declared.store.Store.{Store}
+use Rattle.agent_core.specs.declared.shard.removal.Removal.TheVariants.{Ended}
+use Rattle.agent_core.specs.declared.shard.store.Store.{Store}
 use Rattle.agent_core.specs.declared.told.Snapshot.{Snapshot}
 use Rattle.agent_core.specs.declared.told.Told.{Told}
 use Rattle.agent_core.specs.declared.told.Answer.{Answer}
@@ -16,7 +17,7 @@ use Rattle.agent_core.specs.State.{Plan, State, Ask, Event, Asks, swept, brought
 use Rattle.agent_core.specs.Journals.{Entry, entry, IsJudged}
 use Rattle.agent_core.specs.Kept.{name_stays, IsKept, Tells}
 use Rattle.agent_core.specs.Names.{certs_named, AreNames}
-use Rattle.agent_core.specs.Views.{certificates, entry_of}
+use Rattle.agent_core.specs.Views.{entry_of}
 
 -- what the Ask's channel and the commons hold at its moment, and what it brings
 pub record IsLook (plan : Plan) (journal : List Entry) (s : State) (store : Store) (a : Ask)

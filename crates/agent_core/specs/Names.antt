@@ -1,8 +1,8 @@
 -- Held certificates, named by what brought them.
 use Rattle.std.specs.Prelude.{ℕ, List, [], Option, IsSome, slice_get, option_and_then, filter_map, All}
 use Rattle.stmt_codec.specs.Certificates.{Certificate}
-use Rattle.agent_core.specs.declared.name.Name.{Name}
-use Rattle.agent_core.specs.declared.name.Name.TheVariants.{Common, Brought}
+use Rattle.agent_core.specs.declared.held.name.Name.{Name}
+use Rattle.agent_core.specs.declared.held.name.Name.TheVariants.{Common, Brought}
 use Rattle.agent_core.specs.State.{Event, Asks, Holds, Discards, Forgets, Expires}
 use Rattle.agent_core.specs.Journals.{Entry}
 

@@ -4,13 +4,13 @@ use Rattle.std.specs.declared.alloc.Global.{Global}
 use Rattle.std.specs.declared.vec.Vec.{Vec}
 use Rattle.prin_term.specs.Principal.{Principal, node_count}
 use Rattle.stmt_codec.specs.Certificates.{Certificate}
+use Rattle.stmt_codec.specs.View.{certificates}
 use Rattle.agent_core.specs.declared.event.ShardEntry.{ShardEntry}
 use Rattle.agent_core.specs.declared.limits.TheConstants.{CERT_BYTES, MAX_PRESENTED_BYTES, NODE_BYTES}
-use Rattle.agent_core.specs.declared.presented.Presented.{Presented}
-use Rattle.agent_core.specs.declared.store.Store.{Store}
+use Rattle.agent_core.specs.declared.held.presented.Presented.{Presented}
+use Rattle.agent_core.specs.declared.shard.store.Store.{Store}
 use Rattle.agent_core.specs.Kept.{IsKept}
 use Rattle.agent_core.specs.State.{Plan}
-use Rattle.agent_core.specs.Views.{certificates}
 
 -- how many nodes a quoted principal has, if there is one
 abbrev pub quoted_nodes : Option Principal → ℕ

@@ -1,11 +1,8 @@
 -- What the program's plans, events and answers mean, wherever their parts lie in memory.
-use Rattle.std.specs.Prelude.{List, map}
-use Rattle.std.specs.declared.alloc.Global.{Global}
+use Rattle.std.specs.Prelude.{map}
 use Rattle.std.specs.Arc.{arc_value}
-use Rattle.std.specs.declared.sync.Arc.{Arc}
 use Rattle.prin_term.specs.View.{principal, grant}
-use Rattle.stmt_codec.specs.declared.cert.Cert.{Cert}
-use Rattle.stmt_codec.specs.Certificates.{Certificate, certificate}
+use Rattle.stmt_codec.specs.View.{certificates}
 use Rattle.agent_core.specs.declared.plan.ShardPlan.{ShardPlan}
 use Rattle.agent_core.specs.declared.event.Ask.{Ask as AskValue}
 use Rattle.agent_core.specs.declared.event.Event.{Event as EventValue}
@@ -13,10 +10,6 @@ use Rattle.agent_core.specs.declared.event.Event.TheVariants as code
 use Rattle.agent_core.specs.declared.event.ShardEntry.{ShardEntry}
 use Rattle.agent_core.specs.State.{Plan, Ask, Event, Asks, Holds, Discards, Forgets, Expires}
 use Rattle.agent_core.specs.Journals.{Entry}
-
--- the certificates of a list of handles
-abbrev pub certificates : List (Arc Cert Global) → List Certificate
-certificates certs = map (λ (c : Arc Cert Global). certificate c.value.body) certs
 
 -- the plan that the program's one stands for
 abbrev pub plan_of : ShardPlan → Plan

@@ -43,7 +43,7 @@ pub fn verdicts_differ()
 {}
 
 /// What is found on what an Ask is judged by is its verdict.
-pub fn findings_are_verdicts()
+pub fn decisions_are_verdicts()
     ensures { (plan : Plan) → JudgedIsVerdict plan }
 {}
 

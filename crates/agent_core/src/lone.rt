@@ -1,12 +1,13 @@
 //! Shards that nobody else steps.
 
 ghost use Rattle.std.specs.Prelude.{◌≡◌, ◌↔◌, ◌<◌, ◌≤◌, IsTrue, true, ℕ, [], length, map, Some, slice_get, All, Contains, IfOk};
+ghost use Rattle.stmt_codec.specs.View.{certificates};
 ghost use Rattle.agent_core.specs.Alone.{plans_in, seen_in, own_in, HasLegalJournal, StepsLone};
 ghost use Rattle.agent_core.specs.Answers.{FitsEvent};
 ghost use Rattle.agent_core.specs.Journals.{ShardSeen, IsMeant};
 ghost use Rattle.agent_core.specs.Plans.{AreShards, home};
 ghost use Rattle.agent_core.specs.State.{Plan};
-ghost use Rattle.agent_core.specs.Views.{certificates, event_of};
+ghost use Rattle.agent_core.specs.Views.{event_of};
 
 use crate::event::Event;
 use crate::limits::MAX_SHARDS;

@@ -1,10 +1,10 @@
 //! All shards of a node are opened.
 
 ghost use Rattle.std.specs.Prelude.{◌≡◌, ◌≤◌, map, IfOk};
+ghost use Rattle.stmt_codec.specs.View.{certificates};
 ghost use Rattle.agent_core.specs.Alone.{plans_in};
 ghost use Rattle.agent_core.specs.Opened.{MayOpen, own_channels, plan_for, plans_for, new_shard};
 ghost use Rattle.agent_core.specs.Plans.{AreShards};
-ghost use Rattle.agent_core.specs.Views.{certificates};
 
 use crate::plan::ShardPlan;
 use crate::shard::Shard;

@@ -1,20 +1,32 @@
 //! The machine: events in, answers out, a journal of both.
 
 ghost use Rattle.std.specs.Prelude.{◌≡◌, ◌↔◌, IsTrue, ◌<◌, ◌≤◌, [], map, length, IfOk, OnErr};
+ghost use Rattle.stmt_codec.specs.View.{certificates};
 ghost use Rattle.agent_core.specs.Plans.{IsPlan};
-ghost use Rattle.agent_core.specs.Views.{certificates, event_of, plan_of, entry_of};
+ghost use Rattle.agent_core.specs.Views.{event_of, plan_of, entry_of};
 ghost use Rattle.agent_core.specs.Journals.{IsMeant, IsLegalJournal, told_at};
 ghost use Rattle.agent_core.specs.Answers.{FitsEvent, Stepped};
 ghost use Rattle.agent_core.specs.Kept.{AreNew, first_names};
 ghost use Rattle.agent_core.specs.declared.told.Told.{Told as ToldValue};
 
-use crate::answering::answer_to;
+mod answering;
+mod append;
+mod asking;
+mod forgetting;
+mod letting;
+mod meant;
+mod plain;
+mod removal;
+mod row;
+mod store;
+
 use crate::event::{Event, ShardEntry};
-use crate::meant::is_taken;
-use crate::name::{Name, Names};
+use crate::held::name::{Name, Names};
+use crate::held::presented::Presented;
 use crate::plan::ShardPlan;
-use crate::presented::Presented;
-use crate::store::{Row, Store};
+use crate::shard::answering::answer_to;
+use crate::shard::meant::is_taken;
+use crate::shard::store::{Row, Store};
 use crate::told::Answer;
 use std::alloc::{AllocError, Global};
 use std::marker::Model;

@@ -1,12 +1,13 @@
 //! The shards of a node, side by side.
 
 ghost use Rattle.std.specs.Prelude.{◌≡◌, ◌≢◌, ◌<◌, ℕ, Bool, List, length, Some, slice_get, All, IfOk, OnErr};
+ghost use Rattle.stmt_codec.specs.View.{certificates};
 ghost use Rattle.agent_core.specs.Answers.{FitsEvent, SteppedTo};
 ghost use Rattle.agent_core.specs.Journals.{Entry, IsMeant, IsLegalJournal, told_at};
 ghost use Rattle.agent_core.specs.Plans.{AreShards, IsPlan};
 ghost use Rattle.agent_core.specs.State.{Plan};
 ghost use Rattle.agent_core.specs.Steps.{StepRefused, seen_at};
-ghost use Rattle.agent_core.specs.Views.{certificates, event_of};
+ghost use Rattle.agent_core.specs.Views.{event_of};
 ghost use Rattle.agent_core.specs.declared.told.Told.{Told as ToldValue};
 
 use crate::event::Event;

@@ -10,15 +10,21 @@ ghost use Rattle.agent_core.specs.State.{Plan, Asks};
 ghost use Rattle.agent_core.specs.Steps.{StepRefused, seen_at};
 ghost use Rattle.agent_core.specs.Views.{ask_of};
 
+mod grant;
+mod settling;
+mod verdict;
+
 use crate::asked::{Asked, Settled, Verdict};
 use crate::event::{Ask, Event};
 use crate::gate::Gate;
-use crate::settling::settle;
 use crate::shards::Shards;
 use crate::told::Answer;
+use crate::whole_ask::settling::settle;
+pub use grant::proof_for;
 use std::alloc::{AllocError, Global};
 use std::sync::{Arc, Wait};
 use taos_calculus::Decide;
+pub use verdict::{Decision, judge};
 
 // Steps the Ask at the shard of its channel.
 fn step_at_home<W: Wait + Sync, S: Shards>(

@@ -7,6 +7,8 @@ mod bodies;
 #[cfg(test)]
 mod credentials;
 #[cfg(test)]
+mod objects;
+#[cfg(test)]
 mod operations;
 #[cfg(test)]
 mod seals;

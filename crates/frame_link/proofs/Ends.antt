@@ -11,7 +11,7 @@ use Rattle.frame_link.specs.declared.frame.Put.TheVariants as put
 use Rattle.frame_link.specs.declared.outcome.Outcome.{Outcome}
 use Rattle.frame_link.specs.declared.outcome.Outcome.TheVariants.{End, Truncated, TooLong, ReadFault, WriteFault, ClockFault, Spent, NoMemory}
 use Rattle.frame_link.specs.Frames.{framed, IsPart, in_word, IsTooLong, Splits}
-use Rattle.frame_link.specs.Next.{Takes, Puts}
+use Rattle.frame_link.specs.Next.{TakesFrame, Puts}
 use Rattle.frame_link.specs.Served.{Line, line, Turn, payloads_of, replies_of, AreAnswered, EndsAs, IsWritten, IsServed}
 use Rattle.frame_link.proofs.Turns.{payloads_on, replies_on, taken_on, chain_on, Progress}
 
@@ -51,22 +51,22 @@ module _ {S : Type 0} (answers : S → List ℕ → List ℕ → S → Type 0) (
     wrote = p.wrote;
   }
 
-  pub at_end : (count limit : ℕ) (l0 l1 : Line S) (after : Option (List ℕ)) → count ≤ limit → Progress answers count l0 l1 → Takes 65536 l1.input after [] next.End →
+  pub at_end : (count limit : ℕ) (l0 l1 : Line S) (after : Option (List ℕ)) → count ≤ limit → Progress answers count l0 l1 → TakesFrame 65536 l1.input after [] next.End →
       IsServed answers gives_up limit l0 (line after l1.output l1.service) (End count)
   at_end count limit l0 l1 after few p came =
       ends count limit l0 l1 after (End count) p few [] came.0 (inl empty_part) (refl, sym (counted p.turns count p.counted), came.1) (refl, p.chain) refl
 
-  pub truncated : (count limit have : ℕ) (l0 l1 : Line S) (after : Option (List ℕ)) → count ≤ limit → Progress answers count l0 l1 → Takes 65536 l1.input after [] (next.Truncated have) →
+  pub truncated : (count limit have : ℕ) (l0 l1 : Line S) (after : Option (List ℕ)) → count ≤ limit → Progress answers count l0 l1 → TakesFrame 65536 l1.input after [] (next.Truncated have) →
       IsServed answers gives_up limit l0 (line after l1.output l1.service) (Truncated have)
   truncated count limit have l0 l1 after few p came =
       ends count limit l0 l1 after (Truncated have) p few came.0 came.4 (inl came.1) (came.1, came.2, came.3, came.5) (refl, p.chain) refl
 
-  pub above : (count limit n : ℕ) (l0 l1 : Line S) (after : Option (List ℕ)) → count ≤ limit → Progress answers count l0 l1 → Takes 65536 l1.input after [] (next.TooLong n) →
+  pub above : (count limit n : ℕ) (l0 l1 : Line S) (after : Option (List ℕ)) → count ≤ limit → Progress answers count l0 l1 → TakesFrame 65536 l1.input after [] (next.TooLong n) →
       IsServed answers gives_up limit l0 (line after l1.output l1.service) (TooLong n)
   above count limit n l0 l1 after few p came =
       ends count limit l0 l1 after (TooLong n) p few (to_be_bytes w32 n) came.2 (inr (too_long n came.0 came.1)) (refl, came.0, came.1) (refl, p.chain) refl
 
-  pub unread : (count limit : ℕ) (l0 l1 : Line S) (after : Option (List ℕ)) → count ≤ limit → Progress answers count l0 l1 → Takes 65536 l1.input after [] next.ReadFault →
+  pub unread : (count limit : ℕ) (l0 l1 : Line S) (after : Option (List ℕ)) → count ≤ limit → Progress answers count l0 l1 → TakesFrame 65536 l1.input after [] next.ReadFault →
       IsServed answers gives_up limit l0 (line after l1.output l1.service) ReadFault
   unread count limit l0 l1 after few p came =
       ends count limit l0 l1 after ReadFault p few came.0 came.2 (inl came.1) came.1 (refl, p.chain) refl
@@ -77,7 +77,7 @@ module _ {S : Type 0} (answers : S → List ℕ → List ℕ → S → Type 0) (
       ends limit limit l0 l1 after (Spent limit) p (omega arith) (b ∷ []) came (inl (in_word (omega arith))) (refl, sym (counted p.turns limit p.counted), refl) (refl, p.chain) refl
 
   -- one frame more was taken, and its reply was written in part
-  pub cut : (count limit : ℕ) (l0 l1 l2 : Line S) (payload reply : List ℕ) → count < limit → Progress answers count l0 l1 → Takes 65536 l1.input l2.input payload next.Frame →
+  pub cut : (count limit : ℕ) (l0 l1 l2 : Line S) (payload reply : List ℕ) → count < limit → Progress answers count l0 l1 → TakesFrame 65536 l1.input l2.input payload next.Frame →
       answers l1.service payload reply l2.service → Puts l1.output l2.output reply put.WriteFault → IsServed answers gives_up limit l0 l2 WriteFault
   cut count limit l0 l1 l2 payload reply few p came answered wrote =
       let t : Turn = record { payload = payload; reply = reply } in
@@ -99,7 +99,7 @@ module _ {S : Type 0} (answers : S → List ℕ → List ℕ → S → Type 0) (
       }
 
   -- one frame more was taken, and given up
-  pub dropped : (count limit : ℕ) (l0 l1 : Line S) (after : Option (List ℕ)) (last : S) (payload : List ℕ) → count < limit → Progress answers count l0 l1 → Takes 65536 l1.input after payload next.Frame →
+  pub dropped : (count limit : ℕ) (l0 l1 : Line S) (after : Option (List ℕ)) (last : S) (payload : List ℕ) → count < limit → Progress answers count l0 l1 → TakesFrame 65536 l1.input after payload next.Frame →
       gives_up l1.service payload last → IsServed answers gives_up limit l0 (line after l1.output last) ClockFault
   dropped count limit l0 l1 after last payload few p came given_up =
       let payloads : List (List ℕ) = payloads_of p.turns ++ payload ∷ [] in
@@ -138,10 +138,10 @@ module _ {S : Type 0} (answers : S → List ℕ → List ℕ → S → Type 0) (
 
 -- ---- one byte more is asked for, after the last frame
 
-pub nothing_read : (before after : Option (List ℕ)) → Keeps before after → Takes 65536 before after [] next.ReadFault
+pub nothing_read : (before after : Option (List ℕ)) → Keeps before after → TakesFrame 65536 before after [] next.ReadFault
 nothing_read before after kept = ([], empty_part, Consumes-kept before before after [] (Consumes-nil before) kept)
 
-pub at_its_end : (before after : Option (List ℕ)) (into : List ℕ) (n : ℕ) → n ≡ 0 → length into ≡ 1 → Consumes before after (take n into) × (n ≡ 0 → 0 < length into → IsAtEnd after) → Takes 65536 before after [] next.End
+pub at_its_end : (before after : Option (List ℕ)) (into : List ℕ) (n : ℕ) → n ≡ 0 → length into ≡ 1 → Consumes before after (take n into) × (n ≡ 0 → 0 < length into → IsAtEnd after) → TakesFrame 65536 before after [] next.End
 at_its_end before after into n none room (came, ends) = (subst (λ (k : ℕ). Consumes before after (take k into)) none came, ends none (omega (arith, room)))
 
 abbrev no_bytes : List ℕ

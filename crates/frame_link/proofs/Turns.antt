@@ -10,7 +10,7 @@ use Rattle.std.proofs.lemmas.List.Elements.{All-push, All-nil}
 use Rattle.frame_link.specs.declared.frame.Next.TheVariants as next
 use Rattle.frame_link.specs.declared.service.TheConstants.{MAX_PAYLOAD}
 use Rattle.frame_link.specs.Frames.{frame, framed}
-use Rattle.frame_link.specs.Next.{Takes}
+use Rattle.frame_link.specs.Next.{TakesFrame}
 use Rattle.frame_link.specs.Served.{Line, Turn, payloads_of, replies_of, Chain}
 
 pub payloads_on : (turns : List Turn) (t : Turn) → payloads_of (turns ++ t ∷ []) ≡ payloads_of turns ++ t.payload ∷ []
@@ -51,7 +51,7 @@ module _ {S : Type 0} (answers : S → List ℕ → List ℕ → S → Type 0) w
     wrote = Appends-nil l.output;
   }
 
-  pub goes_on : (count : ℕ) (l0 l1 l2 : Line S) (payload reply : List ℕ) → Progress count l0 l1 → Takes 65536 l1.input l2.input payload next.Frame →
+  pub goes_on : (count : ℕ) (l0 l1 l2 : Line S) (payload reply : List ℕ) → Progress count l0 l1 → TakesFrame 65536 l1.input l2.input payload next.Frame →
       answers l1.service payload reply l2.service → Appends l1.output l2.output (frame reply) → Progress (count + 1) l0 l2
   goes_on count l0 l1 l2 payload reply p came answered wrote =
       let t : Turn = record { payload = payload; reply = reply } in

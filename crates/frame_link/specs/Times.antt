@@ -9,9 +9,9 @@ pub record Times : Type 0 where
   pub plan : Plan
 
 -- what a call answers, and what it leaves
-abbrev pub Tells : {E : Type 0} → Times → Times → Result ℕ E → Type 0
-Tells old new (Ok now) =
+abbrev pub TellsTime : {E : Type 0} → Times → Times → Result ℕ E → Type 0
+TellsTime old new (Ok now) =
     (fails_now old.plan ≡ false)
     × Shows old.readings new.readings now
     × (new.plan ≡ passed old.plan)
-Tells old new (Err e) = (fails_now old.plan ≡ true) × (new ≡ record old { plan = failed old.plan })
+TellsTime old new (Err e) = (fails_now old.plan ≡ true) × (new ≡ record old { plan = failed old.plan })

@@ -4,7 +4,7 @@ ghost use Rattle.std.specs.Prelude.{◌≡◌, ◌≤◌, List, ℕ, [], length,
 ghost use Rattle.frame_link.specs.Faults.{HasCause};
 ghost use Rattle.frame_link.specs.Plan.{counted};
 ghost use Rattle.frame_link.specs.Relay.{Said, AnswersAs, HasRelayCode};
-ghost use Rattle.frame_link.specs.Doors.{Opens, TakesBack};
+ghost use Rattle.frame_link.specs.Doors.{GivesNext, TakesBack};
 
 use crate::outside::{Door, Failed, RelayAnswer, RelayLink, Sink, Source};
 use arrayvec::ArrayVec;

@@ -4,7 +4,7 @@ ghost use Rattle.std.specs.Prelude.{◌≡◌, ◌≢◌, ◌+◌, ◌<◌, ◌�
 ghost use Rattle.std.specs.Int.{w32, to_be_bytes};
 ghost use Rattle.frame_link.specs.declared.frame.Next.TheVariants.{Frame};
 ghost use Rattle.frame_link.specs.Frames.{frame, Splits};
-ghost use Rattle.frame_link.specs.Next.{Takes, HasReadCause, Puts, HasWriteCause};
+ghost use Rattle.frame_link.specs.Next.{TakesFrame, HasReadCause, Puts, HasWriteCause};
 
 use crate::outside::{Failed, Sink, Source};
 use crate::whole::{fill, pour};
@@ -49,9 +49,9 @@ fn length_of(word: [u8; 4]) -> u32
 fn next_into<S: Source>(source: &mut S, room: &mut [u8]) -> Result<usize, Next>
     ensures bound { IfOk result (λ n. n ≤ length room.new) }
     ensures frame { IfOk result (λ n.
-        Takes (length room.old) (S.left source.old) (S.left source.new) (take n room.new) Frame) }
+        TakesFrame (length room.old) (S.left source.old) (S.left source.new) (take n room.new) Frame) }
     ensures other { IfErr result (λ next.
-        Takes (length room.old) (S.left source.old) (S.left source.new) [] next) }
+        TakesFrame (length room.old) (S.left source.old) (S.left source.new) [] next) }
     ensures is_other { IfErr result (λ next. next ≢ Frame) }
     ensures cause { MatchResult result (λ _. S.faults source.new ≡ S.faults source.old)
         (λ next. HasReadCause (S.faults source.old) (S.faults source.new) next) }
@@ -124,7 +124,7 @@ impl FrameBuf {
 /// empty.
 pub fn next_frame<S: Source>(source: &mut S, buf: &mut FrameBuf) -> Next
     ensures limit { buf.new.limit ≡ buf.old.limit }
-    ensures bytes { Takes buf.old.limit (S.left source.old) (S.left source.new) buf.new.payload
+    ensures bytes { TakesFrame buf.old.limit (S.left source.old) (S.left source.new) buf.new.payload
         result }
     ensures cause { HasReadCause (S.faults source.old) (S.faults source.new) result }
 {

@@ -4,7 +4,7 @@ ghost use Rattle.std.specs.Prelude.{◌≡◌, ◌<◌, List, ℕ, length, Optio
 ghost use Rattle.frame_link.specs.Faults.{HasCause};
 ghost use Rattle.frame_link.specs.Plan.{plan_of};
 ghost use Rattle.frame_link.specs.Readings.{Reads};
-ghost use Rattle.frame_link.specs.Times.{Tells};
+ghost use Rattle.frame_link.specs.Times.{TellsTime};
 
 use crate::fault_plan::FaultPlan;
 use crate::outside::{Clock, Failed};
@@ -60,7 +60,7 @@ impl Clock for MemClock {
     fn now(&mut self) -> Result<u64, Failed>
         ensures reading { Reads (Some self.old.readings) (Some self.new.readings) result }
         ensures cause { HasCause self.old.plan.faults self.new.plan.faults result }
-        ensures exact { Tells self.old self.new result }
+        ensures exact { TellsTime self.old self.new result }
     {
         self.plan.begin()?;
         let reading = self.readings[self.at];

@@ -3,7 +3,7 @@
 ghost use Rattle.std.specs.Prelude.{◌≡◌, ◌≤◌, List, ℕ, [], length, IfOk, Option, Some};
 ghost use Rattle.frame_link.specs.Faults.{HasCause};
 ghost use Rattle.frame_link.specs.Plan.{plan_of};
-ghost use Rattle.frame_link.specs.Doors.{Opens, TakesBack};
+ghost use Rattle.frame_link.specs.Doors.{GivesNext, TakesBack};
 ghost use Rattle.frame_link.specs.Hall.{Admits, KeepsBack};
 
 use crate::fault_plan::FaultPlan;
@@ -93,7 +93,7 @@ impl<I: Source + Send + Drop, O: Sink + Send + Drop> Door for MemDoor<I, O> {
     ghost faults = { λ d. d.plan.faults };
 
     fn accept(&mut self) -> Result<Option<(I, O)>, Failed>
-        ensures gives { Opens (Some self.old.left) (Some self.new.left)
+        ensures gives { GivesNext (Some self.old.left) (Some self.new.left)
             self.old.given self.new.given result }
         ensures back { Some self.new.back ≡ Some self.old.back }
         ensures cause { HasCause self.old.plan.faults self.new.plan.faults result }

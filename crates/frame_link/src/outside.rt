@@ -7,7 +7,7 @@ ghost use Rattle.std.specs.Io.KnownBytes.{ReadConsumes, WriteAppends};
 ghost use Rattle.frame_link.specs.Faults.{HasCause};
 ghost use Rattle.frame_link.specs.Readings.{Reads};
 ghost use Rattle.frame_link.specs.Relay.{Said, AnswersAs, HasRelayCode};
-ghost use Rattle.frame_link.specs.Doors.{Opens, TakesBack};
+ghost use Rattle.frame_link.specs.Doors.{GivesNext, TakesBack};
 
 use arrayvec::ArrayVec;
 
@@ -110,7 +110,7 @@ pub trait Door {
 
     /// The next connection. `None` is the end.
     fn accept(&mut self) -> Result<Option<(Self::In, Self::Out)>, Failed>
-        ensures gives { Opens (left self.old) (left self.new) (given self.old) (given self.new)
+        ensures gives { GivesNext (left self.old) (left self.new) (given self.old) (given self.new)
             result }
         ensures back { back self.new ≡ back self.old }
         ensures cause { HasCause (faults self.old) (faults self.new) result };

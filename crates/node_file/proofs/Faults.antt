@@ -7,21 +7,24 @@ use Rattle.prin_term.specs.declared.term.Anchor.{Anchor}
 use Rattle.prin_term.specs.Steps.{◌>>=◌, bytes_at, with_fault}
 use Rattle.prin_term.proofs.FieldLaws.{IsBytes}
 use Rattle.prin_term.proofs.Results.{bind_err, bind_ok, ok_is, err_is, chosen, chosen_err, with_fault_err}
+use Rattle.prin_term.specs.Formats.{ended, seen_as, u8_in, u16_in, u32_in, u64_in}
+use Rattle.object_core.specs.Reading.{content_at, entry_at, list_at}
 use Rattle.sealed_cert.specs.Refusals.{opened}
 use Rattle.stmt_codec.specs.Certificates.{Certificate}
-use Rattle.node_file.specs.declared.opening.OpeningFault.{OpeningFault}
-use Rattle.node_file.specs.declared.opening.OpeningFault.TheVariants.{Byte, NoMemory}
-use Rattle.node_file.specs.declared.opening.TheConstants.{MAX_KEEP, MAX_LIMIT, MAX_ROOM}
-use Rattle.node_file.specs.Opening.{Opening, ObjectPlan, journal_room}
-use Rattle.node_file.specs.OpeningReading.{ended, IsFaultIn, seen_as, u8_in, u16_in, u32_in, u64_in, key_in, mark_at, number_in, shards_at, head_at, new_channel_at, channel_at, channels_at, anchor_at}
-use Rattle.node_file.specs.OpeningReading.{anchors_at, opened_in, common_at, commons_at, who_at, entry_at, list_at, content_at, new_object_at, object_at, objects_at, fields_at, opening_of}
-use Rattle.taos_wire.proofs.Staying.{Stays, IsTermFaultIn, stays_followed, stays_passing, stays_made, stays_seen, stays_counted, byte_stays, bytes_stay, number_stays, term_stays}
+use Rattle.prin_term.specs.declared.fault.FormatFault.{FormatFault}
+use Rattle.prin_term.specs.declared.fault.FormatFault.TheVariants.{Malformed}
+use Rattle.node_file.specs.declared.limits.TheConstants.{MAX_KEEP, MAX_LIMIT, MAX_ROOM}
+use Rattle.object_core.specs.Objects.{ObjectPlan}
+use Rattle.node_file.specs.Opening.{Opening, journal_room}
+use Rattle.node_file.specs.OpeningReading.{IsFaultIn, mark_at, number_in, shards_at, head_at, new_channel_at, channel_at, channels_at, anchor_at}
+use Rattle.node_file.specs.OpeningReading.{anchors_at, opened_in, common_at, commons_at, new_object_at, object_at, objects_at, fields_at, opening_of}
+use Rattle.prin_term.proofs.Staying.{Stays, IsTermFaultIn, stays_followed, stays_passing, stays_made, stays_seen, stays_counted, byte_stays, bytes_stay, number_stays, term_stays}
 
 module _ (bytes : List ℕ) (ok : IsBytes bytes) where
-  abbrev Within : OpeningFault → Type 0
+  abbrev Within : FormatFault → Type 0
   Within f = IsFaultIn bytes f
 
-  here : (o : ℕ) → o ≤ length bytes → Within (Byte o)
+  here : (o : ℕ) → o ≤ length bytes → Within (Malformed o)
   here o le = le
 
   lacking : Within (ended bytes)
@@ -53,15 +56,15 @@ module _ (bytes : List ℕ) (ok : IsBytes bytes) where
 
   mark_stays : Stays bytes Within (mark_at bytes)
   unfolding mark_at
-  mark_stays = stays_followed (stays_passing _ Byte byte_in here) (λ _. stays_passing _ Byte byte_in here)
+  mark_stays = stays_followed (stays_passing _ Malformed byte_in here) (λ _. stays_passing _ Malformed byte_in here)
 
   between_stays : (low high : ℕ) → Stays bytes Within (number_in low high bytes)
   unfolding number_in
-  between_stays low high = stays_passing _ Byte long_in here
+  between_stays low high = stays_passing _ Malformed long_in here
 
   shards_stay : Stays bytes Within (shards_at bytes)
   unfolding shards_at
-  shards_stay = stays_passing _ Byte word_in here
+  shards_stay = stays_passing _ Malformed word_in here
 
   head_stays : Stays bytes Within (head_at bytes)
   unfolding head_at
@@ -76,19 +79,19 @@ module _ (bytes : List ℕ) (ok : IsBytes bytes) where
 
   channel_stays : (before : List (ℕ × List ℕ)) → Stays bytes Within (channel_at bytes before)
   unfolding channel_at new_channel_at
-  channel_stays before = stays_followed (stays_passing _ Byte word_in here) (λ _. text_in 32)
+  channel_stays before = stays_followed (stays_passing _ Malformed word_in here) (λ _. text_in 32)
 
   channels_stay : Stays bytes Within (channels_at bytes)
   unfolding channels_at
-  channels_stay = stays_counted _ Byte half_in here channel_stays
+  channels_stay = stays_counted _ Malformed half_in here channel_stays
 
   anchor_stays : (before : List Anchor) → Stays bytes Within (anchor_at bytes before)
   unfolding anchor_at
-  anchor_stays before = stays_passing _ Byte (stays_made _ (stays_followed word_in (λ _. word_in))) here
+  anchor_stays before = stays_passing _ Malformed (stays_made _ (stays_followed word_in (λ _. word_in))) here
 
   anchors_stay : Stays bytes Within (anchors_at bytes)
   unfolding anchors_at
-  anchors_stay = stays_counted _ Byte byte_in here anchor_stays
+  anchors_stay = stays_counted _ Malformed byte_in here anchor_stays
 
   -- ---- the certificates held in common
 
@@ -96,16 +99,16 @@ module _ (bytes : List ℕ) (ok : IsBytes bytes) where
   unfolding opened_in
   opened_stays relay_key count = record {
     ends = λ at x le e.
-        let text = bind_ok (bytes_at (ended bytes) count bytes at) (λ text. with_fault (λ _. Byte at) (opened relay_key text.0) >>= λ c. Ok (c, text.1)) x e in
-        let c = bind_ok (with_fault (λ _. Byte at) (opened relay_key text.0.0)) (λ c. Ok (c, text.0.1)) x text.2 in
+        let text = bind_ok (bytes_at (ended bytes) count bytes at) (λ text. with_fault (λ _. Malformed at) (opened relay_key text.0) >>= λ c. Ok (c, text.1)) x e in
+        let c = bind_ok (with_fault (λ _. Malformed at) (opened relay_key text.0.0)) (λ c. Ok (c, text.0.1)) x text.2 in
         let whole : Certificate × ℕ = (c.0, text.0.1) in
-        subst (λ (y : Certificate × ℕ). y.1 ≤ length bytes) (ok_is OpeningFault whole x c.2) ((text_in count).ends at text.0 le text.1);
+        subst (λ (y : Certificate × ℕ). y.1 ≤ length bytes) (ok_is FormatFault whole x c.2) ((text_in count).ends at text.0 le text.1);
     refuses = λ at f le e.
-        elim (bind_err (bytes_at (ended bytes) count bytes at) (λ text. with_fault (λ _. Byte at) (opened relay_key text.0) >>= λ c. Ok (c, text.1)) f e) [
+        elim (bind_err (bytes_at (ended bytes) count bytes at) (λ text. with_fault (λ _. Malformed at) (opened relay_key text.0) >>= λ c. Ok (c, text.1)) f e) [
           | inl none ↦ (text_in count).refuses at f le none
-          | inr text ↦ elim (bind_err (with_fault (λ _. Byte at) (opened relay_key text.0.0)) (λ c. Ok (c, text.0.1)) f text.2) [
+          | inr text ↦ elim (bind_err (with_fault (λ _. Malformed at) (opened relay_key text.0.0)) (λ c. Ok (c, text.0.1)) f text.2) [
             | inl refused ↦
-                let g = with_fault_err (λ _. Byte at) (opened relay_key text.0.0) f refused in
+                let g = with_fault_err (λ _. Malformed at) (opened relay_key text.0.0) f refused in
                 subst Within (sym g.2) le
             | inr c ↦ absurd (cc (c.2))
           ]
@@ -114,33 +117,33 @@ module _ (bytes : List ℕ) (ok : IsBytes bytes) where
 
   common_stays : (relay_key : List ℕ) (before : List Certificate) → Stays bytes Within (common_at bytes relay_key before)
   unfolding common_at
-  common_stays relay_key before = stays_made _ (stays_followed half_in (λ count. stays_passing _ Byte (opened_stays relay_key count) here))
+  common_stays relay_key before = stays_made _ (stays_followed half_in (λ count. stays_passing _ Malformed (opened_stays relay_key count) here))
 
   commons_stay : (relay_key : List ℕ) → Stays bytes Within (commons_at bytes relay_key)
   unfolding commons_at
-  commons_stay relay_key = stays_counted _ Byte byte_in here (common_stays relay_key)
+  commons_stay relay_key = stays_counted _ Malformed byte_in here (common_stays relay_key)
 
   -- ---- objects
 
   entry_stays : Stays bytes Within (entry_at bytes)
-  unfolding entry_at who_at
-  entry_stays = stays_made _ (stays_followed (stays_passing _ Byte byte_in here) (λ _. stays_seen Within seen_as (term_stays bytes ok _) placed))
+  unfolding entry_at
+  entry_stays = stays_made _ (stays_followed (stays_passing _ Malformed byte_in here) (λ _. stays_seen Within seen_as (term_stays bytes ok _) placed))
 
   list_stays : Stays bytes Within (list_at bytes)
   unfolding list_at
-  list_stays = stays_counted _ Byte byte_in here (λ _. entry_stays)
+  list_stays = stays_counted _ Malformed byte_in here (λ _. entry_stays)
 
   content_stays : Stays bytes Within (content_at bytes)
   unfolding content_at
-  content_stays = stays_made _ (stays_followed (stays_passing _ Byte half_in here) (λ n. text_in n))
+  content_stays = stays_made _ (stays_followed (stays_passing _ Malformed half_in here) (λ n. text_in n))
 
   object_stays : (before : List ObjectPlan) → Stays bytes Within (object_at bytes before)
   unfolding object_at new_object_at
-  object_stays before = stays_made _ (stays_followed (stays_passing _ Byte word_in here) (λ _. stays_followed content_stays (λ _. list_stays)))
+  object_stays before = stays_made _ (stays_followed (stays_passing _ Malformed word_in here) (λ _. stays_followed content_stays (λ _. list_stays)))
 
   objects_stay : Stays bytes Within (objects_at bytes)
   unfolding objects_at
-  objects_stay = stays_counted _ Byte half_in here object_stays
+  objects_stay = stays_counted _ Malformed half_in here object_stays
 
   -- ---- the whole
 
@@ -152,13 +155,13 @@ module _ (bytes : List ℕ) (ok : IsBytes bytes) where
       (λ _. stays_followed anchors_stay
       (λ _. stays_followed (commons_stay head.relay_key) (λ _. objects_stay)))))
 
-  pub opening_refused : (f : OpeningFault) → opening_of bytes ≡ Err f → IsFaultIn bytes f
+  pub opening_refused : (f : FormatFault) → opening_of bytes ≡ Err f → IsFaultIn bytes f
   unfolding opening_of
   opening_refused f e =
-      elim (bind_err (fields_at bytes 0) (λ x. cond (ltb x.1 (length bytes)) (Err (Byte x.1)) (cond (leb (journal_room x.0) MAX_ROOM) (Ok x.0) (Err (ended bytes)))) f e) [
+      elim (bind_err (fields_at bytes 0) (λ x. cond (ltb x.1 (length bytes)) (Err (Malformed x.1)) (cond (leb (journal_room x.0) MAX_ROOM) (Ok x.0) (Err (ended bytes)))) f e) [
         | inl none ↦ fields_stay.refuses 0 f (omega arith) none
-        | inr x ↦ elim (chosen (ltb x.0.1 (length bytes)) (Err (Byte x.0.1)) (cond (leb (journal_room x.0.0) MAX_ROOM) (Ok x.0.0) (Err (ended bytes))) (Err f) x.2) [
-          | inl left ↦ subst Within (err_is Opening (Byte x.0.1) f left.1) (fields_stay.ends 0 x.0 (omega arith) x.1)
+        | inr x ↦ elim (chosen (ltb x.0.1 (length bytes)) (Err (Malformed x.0.1)) (cond (leb (journal_room x.0.0) MAX_ROOM) (Ok x.0.0) (Err (ended bytes))) (Err f) x.2) [
+          | inl left ↦ subst Within (err_is Opening (Malformed x.0.1) f left.1) (fields_stay.ends 0 x.0 (omega arith) x.1)
           | inr rest ↦ subst Within (sym (chosen_err (leb (journal_room x.0.0) MAX_ROOM) (ended bytes) f x.0.0 rest.1).1) lacking
         ]
       ]

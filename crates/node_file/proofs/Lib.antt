@@ -6,3 +6,12 @@ pub mod Lookups
 pub mod Whole
 pub mod Listed
 pub mod Faults
+pub mod ByNumber
+pub mod LineLaws
+pub mod WordLaws
+pub mod Added
+pub mod Rows
+pub mod RelayLines
+pub mod RelayTaken
+pub mod RelayBegun
+pub mod RelayRead

@@ -1,38 +1,16 @@
 -- What the program's opening holds, by its numbers.
-use Rattle.std.proofs.Common.{◌≡◌, ◌≤◌, ℕ, List, [], ◌∷◌, map, length, Some, Result, Ok, Err, true, false, Bool, refl, ap, sym, subst, ◌∙◌}
-use Rattle.std.specs.Prelude.{Option, option_map, ◌==◌, cond, All, IfOk, find}
-use Rattle.std.specs.Ordering.{is_eq, nat_cmp}
-use Rattle.std.specs.Map.{lookup}
-use Rattle.std.specs.Cmp.{unsigned_tied}
-use Rattle.std.proofs.lemmas.Cmp.{nat_eq_equiv}
-use Rattle.std.proofs.lemmas.Bool.{eqb-true}
+use Rattle.std.proofs.Common.{◌≡◌, ◌≤◌, ℕ, List, [], ◌∷◌, length, Some, Result, Ok, Err, true, false, Bool, sym, subst, ◌∙◌}
+use Rattle.std.specs.Prelude.{cond, All, IfOk, find}
 use Rattle.std.proofs.lemmas.List.Elements.{All-head, All-tail}
 use Rattle.std.proofs.lemmas.Option.{none-some, same_Some}
 use Rattle.prin_term.specs.declared.term.Anchor.{Anchor}
 use Rattle.stmt_codec.specs.Certificates.{Certificate}
 use Rattle.node_file.specs.declared.opening.Opening as code
-use Rattle.node_file.specs.declared.opening.ObjectPlan.{ObjectPlan}
-use Rattle.node_file.specs.declared.opening.OpeningFault.{OpeningFault}
-use Rattle.node_file.specs.declared.opening.TheConstants.{MAX_SHARDS, MAX_LIMIT, MAX_CHANNELS, MAX_ANCHORS, MAX_COMMONS}
-use Rattle.node_file.specs.Opening as plain
-use Rattle.node_file.specs.Opening.{Opening, Spells, FitsOpening, FitsObject, plan_of}
+use Rattle.node_file.specs.declared.fault.FileFault.{FileFault}
+use Rattle.node_file.specs.declared.limits.TheConstants.{MAX_SHARDS, MAX_LIMIT, MAX_CHANNELS, MAX_ANCHORS, MAX_COMMONS}
+use Rattle.node_file.specs.Opening.{Opening, Spells, FitsOpening, FitsObject}
 use Rattle.node_file.specs.OpeningView.{Represents}
-use Rattle.node_file.specs.Meaning.{object, opening, FitsByNumber, SameNode}
-
-abbrev pub listed : List (ℕ × ObjectPlan) → List plain.ObjectPlan
-listed entries = map (λ e. object e.0 e.1) entries
-
-step : (b : Bool) (e : ℕ × ObjectPlan) (number : ℕ) (rest : Option plain.ObjectPlan) (found : Option ObjectPlan) → b ≡ (e.0 == number) → rest ≡ option_map (object number) found →
-    cond b (Some (object e.0 e.1)) rest ≡ option_map (object number) (cond b (Some e.1) found)
-step true e number rest found is same = ap (λ (n : ℕ). Some (object n e.1)) (eqb-true e.0 number (sym is))
-step false e number rest found is same = same
-
--- the map's look-up, as the list's
-pub plan_of-listed : (entries : List (ℕ × ObjectPlan)) (number : ℕ) → plan_of (listed entries) number ≡ option_map (object number) (lookup (λ k. is_eq (nat_cmp number k)) entries)
-plan_of-listed [] number = refl
-plan_of-listed (e ∷ entries) number =
-    step (e.0 == number) e number (plan_of (listed entries) number) (lookup (λ k. is_eq (nat_cmp number k)) entries) refl (plan_of-listed entries number)
-    ∙ ap (λ (b : Bool). option_map (object number) (cond b (Some e.1) (lookup (λ k. is_eq (nat_cmp number k)) entries))) (sym (unsigned_tied number e.0 ∙ nat_eq_equiv.symm number e.0))
+use Rattle.node_file.specs.Meaning.{opening, FitsByNumber, SameNode}
 
 -- ---- what the opening stands for
 
@@ -41,7 +19,7 @@ same_node node o r = record {
   relay_key = r.relay_key;
   channels = r.channels.each;
   anchors = r.anchors;
-  objects = λ n. plan_of-listed node.objects.entries n ∙ r.objects.each n;
+  objects = r.objects.each;
 }
 
 found_at : {A : Type 0} (P : A → Type 0) (test : A → Bool) (y : A) (xs : List A) (x : A) (b : Bool) → All P (y ∷ xs) → cond b (Some y) (find test xs) ≡ Some x → (find test xs ≡ Some x → P x) → P x
@@ -63,7 +41,7 @@ fits_by_number node o r fits = record {
   objects = λ n p is. found_all FitsObject _ o.objects p fits.objects (sym ((same_node node o r).objects n) ∙ is);
 }
 
-pub all_fit : (bytes : List ℕ) (r : Result code.Opening OpeningFault) → IfOk r (λ x. (o : Opening) × Spells o bytes × Represents x o)
+pub all_fit : (bytes : List ℕ) (r : Result code.Opening FileFault) → IfOk r (λ x. (o : Opening) × Spells o bytes × Represents x o)
     → IfOk r (λ x. FitsByNumber (opening x))
 all_fit bytes (Ok x) found = fits_by_number x found.0 found.2 found.1.0
 all_fit bytes (Err e) found = tt

@@ -1,20 +1,20 @@
 -- Look-ups by number, in a list and in what the program keeps in its place.
-use Rattle.std.proofs.Common.{◌≡◌, ℕ, ◌+◌, Bool, true, false, cond, eqb, not, ◌||◌, List, [], ◌∷◌, ◌++◌, Option, Some, None, Ok, Err, refl, sym, ap, ◌∙◌, arith, inl, inr, length-append}
+use Rattle.std.proofs.Common.{◌≡◌, ℕ, Bool, true, false, cond, eqb, not, ◌||◌, List, [], ◌∷◌, ◌++◌, Option, Some, None, Ok, Err, refl, sym, ap, ◌∙◌, arith, inl, inr, length-append}
 use Rattle.std.specs.Prelude.{find}
-use Rattle.std.specs.BTreeMap.{BTreeMap, get, btree_map_len, Updates}
 use Rattle.std.specs.List.{list_any}
 use Rattle.std.specs.Option.{is_some, option_map}
-use Rattle.std.specs.Ordering.{nat_cmp}
 use Rattle.std.specs.Int.{w32}
 use Rattle.std.proofs.lemmas.Bool.{cases_eq}
 use Rattle.std.proofs.lemmas.Bool.Decides.{nat_tests}
 use Rattle.keyed_seal.specs.Keys.{Keys, AddsKey}
 use Rattle.prin_term.specs.Steps.{number_at}
-use Rattle.node_file.specs.declared.opening.ObjectPlan as code
-use Rattle.node_file.specs.declared.opening.OpeningFault.TheVariants.{Byte}
-use Rattle.node_file.specs.Opening.{ObjectPlan, key_of}
-use Rattle.node_file.specs.OpeningReading.{ended, new_channel_at, new_object_at}
-use Rattle.node_file.specs.OpeningView.{HoldsKeys, HoldsPlans, plan}
+use Rattle.prin_term.specs.declared.fault.FormatFault.TheVariants.{Malformed}
+use Rattle.prin_term.specs.Formats.{ended}
+use Rattle.object_core.specs.Objects.{ObjectPlan, object_of}
+use Rattle.node_file.specs.Opening.{key_of}
+use Rattle.node_file.specs.OpeningReading.{new_channel_at, new_object_at}
+use Rattle.node_file.specs.Held.{HoldsKeys}
+use Rattle.node_file.specs.Plans.{AddsPlan, HoldsPlans}
 
 -- ---- the first that passes a test
 
@@ -70,11 +70,11 @@ key_of-push_here (k ∷ keys) number key n none here = find_here k.1 key (key_of
 
 -- the number of a channel is refused where the table has it
 pub channel_number : (bytes : List ℕ) (before : List (ℕ × List ℕ)) (at : ℕ) (table : Keys) (x : ℕ × ℕ) (b : Bool) → HoldsKeys table before → number_at (ended bytes) w32 bytes at ≡ Ok x → is_some (key_of table.entries x.0) ≡ b
-    → new_channel_at bytes before at ≡ cond b (Err (Byte at)) (Ok x)
+    → new_channel_at bytes before at ≡ cond b (Err (Malformed at)) (Ok x)
 unfolding new_channel_at
 channel_number bytes before at table x b held read is =
     let there : list_any (λ (k : ℕ × List ℕ). eqb k.0 x.0) before ≡ b = sym (is_some-key_of before x.0) ∙ ap is_some (sym (held.each x.0)) ∙ is in
-    rw (read, there) (turned b (Ok x) (Err (Byte at)))
+    rw (read, there) (turned b (Ok x) (Err (Malformed at)))
 
 pub adds_key : (old new : Keys) (keys : List (ℕ × List ℕ)) (number : ℕ) (key : List ℕ) → HoldsKeys old keys → key_of old.entries number ≡ None → AddsKey old new number key → HoldsKeys new (keys ++ (number, key) ∷ [])
 adds_key old new keys number key held is_new adds = record {
@@ -92,27 +92,24 @@ adds_key old new keys number key held is_new adds = record {
 
 -- ---- objects
 
--- the number of an object is refused where the map has it
-pub object_number : (bytes : List ℕ) (before : List ObjectPlan) (at : ℕ) (plans : BTreeMap ℕ code.ObjectPlan) (x : ℕ × ℕ) (b : Bool) → HoldsPlans plans before → number_at (ended bytes) w32 bytes at ≡ Ok x → is_some (get nat_cmp plans x.0) ≡ b
-    → new_object_at bytes before at ≡ cond b (Err (Byte at)) (Ok x)
+-- the number of an object is refused where it is there
+pub object_number : (bytes : List ℕ) (before : List ObjectPlan) (at : ℕ) (plans : List ObjectPlan) (x : ℕ × ℕ) (b : Bool) → HoldsPlans plans before → number_at (ended bytes) w32 bytes at ≡ Ok x → is_some (object_of plans x.0) ≡ b
+    → new_object_at bytes before at ≡ cond b (Err (Malformed at)) (Ok x)
 unfolding new_object_at
 object_number bytes before at plans x b held read is =
-    let there : list_any (λ (p : ObjectPlan). eqb p.number x.0) before ≡ b = sym (is_some-find (λ (p : ObjectPlan). eqb p.number x.0) before) ∙ ap is_some (sym (held.each x.0)) ∙ some_map (plan x.0) (get nat_cmp plans x.0) ∙ is in
-    rw (read, there) (turned b (Ok x) (Err (Byte at)))
+    let there : list_any (λ (p : ObjectPlan). eqb p.number x.0) before ≡ b = sym (is_some-find (λ (p : ObjectPlan). eqb p.number x.0) before) ∙ ap is_some (sym (held.each x.0)) ∙ is in
+    rw (read, there) (turned b (Ok x) (Err (Malformed at)))
 
-pub adds_plan : (old new : BTreeMap ℕ code.ObjectPlan) (plans : List ObjectPlan) (number : ℕ) (p : code.ObjectPlan) → HoldsPlans old plans → get nat_cmp old number ≡ None → Updates nat_cmp old new number (Some p) → btree_map_len new ≡ btree_map_len old + 1
-    → HoldsPlans new (plans ++ plan number p ∷ [])
-adds_plan old new plans number p held is_new updates one_more = record {
-  each = λ n. elim (cases_eq n number) [
+pub adds_plan : (old new plans : List ObjectPlan) (p : ObjectPlan) → HoldsPlans old plans → object_of old p.number ≡ None → AddsPlan old new p → HoldsPlans new (plans ++ p ∷ [])
+adds_plan old new plans p held is_new adds = record {
+  each = λ n. elim (cases_eq n p.number) [
     | inl same ↦
-        let none : list_any (λ (q : ObjectPlan). eqb q.number n) plans ≡ false = sym (is_some-find (λ (q : ObjectPlan). eqb q.number n) plans) ∙ ap is_some (sym (held.each n) ∙ ap (option_map (plan n)) (ap (get nat_cmp old) same ∙ is_new)) in
-        let here : eqb number n ≡ true = grind (arith, nat_tests, same) in
-        let found : get nat_cmp new n ≡ Some p = ap (get nat_cmp new) same ∙ updates.1 in
-        let seen : option_map (plan n) (get nat_cmp new n) ≡ Some (plan n p) = ap (option_map (plan n)) found in
-        seen ∙ ap (λ (k : ℕ). Some (plan k p)) same ∙ sym (find-push_here (λ (q : ObjectPlan). eqb q.number n) plans (plan number p) none here)
+        let none : list_any (λ (q : ObjectPlan). eqb q.number n) plans ≡ false = sym (is_some-find (λ (q : ObjectPlan). eqb q.number n) plans) ∙ ap is_some (sym (held.each n) ∙ ap (object_of old) same ∙ is_new) in
+        let here : eqb p.number n ≡ true = grind (arith, nat_tests, same) in
+        ap (object_of new) same ∙ adds.this_plan ∙ sym (find-push_here (λ (q : ObjectPlan). eqb q.number n) plans p none here)
     | inr other ↦
-        let there : eqb number n ≡ false = grind (arith, nat_tests, other) in
-        ap (option_map (plan n)) (updates.2 n (grind (arith, nat_tests, other))) ∙ held.each n ∙ sym (find-push_other (λ (q : ObjectPlan). eqb q.number n) plans (plan number p) there)
+        let there : eqb p.number n ≡ false = grind (arith, nat_tests, other) in
+        adds.other_plans n other ∙ held.each n ∙ sym (find-push_other (λ (q : ObjectPlan). eqb q.number n) plans p there)
   ];
-  count = omega (arith, one_more, held.count, length-append plans (plan number p ∷ []));
+  count = omega (arith, adds.count, held.count, length-append plans (p ∷ []));
 }

@@ -1,31 +1,27 @@
 -- The certificates that an opening holds in common: what is read is spelled so, and the other way.
-use Rattle.std.proofs.Common.{◌≡◌, ◌≢◌, ℕ, ◌+◌, ◌*◌, ◌^◌, ◌<◌, ◌≤◌, false, List, [], ◌∷◌, ◌++◌, length, drop, Option, None, Some, Ok, refl, sym, ap, subst, ◌∙◌, append_assoc, arith, length-append, inl, inr}
-use Rattle.std.specs.Prelude.{All, AllPairs, IfSome}
+use Rattle.std.proofs.Common.{◌≡◌, ◌≢◌, ℕ, ◌+◌, ◌^◌, ◌<◌, ◌≤◌, false, List, ◌∷◌, ◌++◌, length, drop, Ok, refl, sym, ap, subst, ◌∙◌, append_assoc, arith, length-append}
+use Rattle.std.specs.Prelude.{All, AllPairs}
 use Rattle.std.specs.List.{flat_map}
-use Rattle.std.specs.Int.{w16, w32, w64, to_be_bytes}
-use Rattle.std.proofs.lemmas.Bool.{cases_lt}
-use Rattle.std.proofs.lemmas.List.{get_or_past}
+use Rattle.std.specs.Int.{w16, to_be_bytes}
 use Rattle.std.proofs.lemmas.List.Elements.{All-weaker}
-use Rattle.keyed_seal.specs.Tag.{tag_of}
-use Rattle.keyed_seal.proofs.Tags.{length-tag_of}
-use Rattle.prin_term.specs.Principal.{Principal, Key, Name, And, Quoting, InRole, For, node_count, spelling}
 use Rattle.prin_term.specs.Readers.{Reader, followed, is_new}
-use Rattle.prin_term.specs.Steps.{◌>>=◌, with_fault, bytes_at, optional}
-use Rattle.prin_term.proofs.FieldLaws.{IsBytes, bytes_are, TakesAt, TakesAt-then, TakesAt-within, behind, bytes_again}
+use Rattle.prin_term.specs.Steps.{◌>>=◌, with_fault, bytes_at}
+use Rattle.prin_term.proofs.FieldLaws.{bytes_are, TakesAt, TakesAt-then, TakesAt-within, behind, bytes_again}
 use Rattle.prin_term.proofs.ReaderLaws.{Reads, reads_bytes, reads_followed, reads_passing, reads_made, reads_counted, is_new-All, is_new-from_All}
 use Rattle.prin_term.proofs.Results.{bind_ok, ok_is, with_fault_ok}
 use Rattle.sealed_cert.specs.Refusals.{opened}
-use Rattle.sealed_cert.specs.Seals.{sealed, sealed_text, IsSealed}
+use Rattle.sealed_cert.specs.Seals.{sealed, IsSealed}
 use Rattle.sealed_cert.proofs.Opened.{opened_takes, opened_again}
 use Rattle.sealed_cert.proofs.Sizes.{short_sealed}
-use Rattle.stmt_codec.specs.Certificates.{Certificate, IsSmall, IsWithinLimits}
+use Rattle.stmt_codec.specs.Certificates.{Certificate, IsWithinLimits}
 use Rattle.stmt_codec.specs.Equality.{same_certificate}
 use Rattle.stmt_codec.proofs.Equal.{same_certificate-false, same_certificate-apart}
-use Rattle.node_file.specs.declared.opening.OpeningFault.{OpeningFault}
-use Rattle.node_file.specs.declared.opening.OpeningFault.TheVariants.{Byte}
+use Rattle.prin_term.specs.declared.fault.FormatFault.{FormatFault}
+use Rattle.prin_term.specs.declared.fault.FormatFault.TheVariants.{Malformed}
 use Rattle.node_file.specs.Opening.{common_bytes, IsCommon}
-use Rattle.node_file.specs.OpeningReading.{ended, opened_in, common_at, commons_at}
-use Rattle.node_file.proofs.OpeningFields.{reads_u8, reads_u16}
+use Rattle.prin_term.specs.Formats.{ended}
+use Rattle.node_file.specs.OpeningReading.{opened_in, common_at, commons_at}
+use Rattle.prin_term.proofs.FormatFields.{reads_u8, reads_u16}
 
 -- one behind another, whose bytes depend on the first
 pub reads_followed_by : {A B E : Type 0} {bytes : List ℕ} {first : Reader A E} {second : A → Reader B E} {sa : A → List ℕ} {Fa : A → Type 0} {Fb : A → B → Type 0} (sb : A → B → List ℕ)
@@ -59,12 +55,12 @@ module _ (bytes relay_key : List ℕ) where
   unfolding opened_in
   reads_opened count = record {
     takes = λ ok at x le e.
-        let text = bind_ok (bytes_at (ended bytes) count bytes at) (λ text. with_fault (λ _. Byte at) (opened relay_key text.0) >>= λ c. Ok (c, text.1)) x e in
-        let c = bind_ok (with_fault (λ _. Byte at) (opened relay_key text.0.0)) (λ c. Ok (c, text.0.1)) x text.2 in
+        let text = bind_ok (bytes_at (ended bytes) count bytes at) (λ text. with_fault (λ _. Malformed at) (opened relay_key text.0) >>= λ c. Ok (c, text.1)) x e in
+        let c = bind_ok (with_fault (λ _. Malformed at) (opened relay_key text.0.0)) (λ c. Ok (c, text.0.1)) x text.2 in
         let t = (reads_bytes (ended bytes) count bytes).takes ok at text.0 le text.1 in
-        let is : IsSealed 2 relay_key text.0.0 c.0 = opened_takes relay_key text.0.0 c.0 (bytes_are text.0.0 t.1.1) (with_fault_ok (λ _. Byte at) (opened relay_key text.0.0) c.0 c.1) in
+        let is : IsSealed 2 relay_key text.0.0 c.0 = opened_takes relay_key text.0.0 c.0 (bytes_are text.0.0 t.1.1) (with_fault_ok (λ _. Malformed at) (opened relay_key text.0.0) c.0 c.1) in
         let whole : Certificate × ℕ = (c.0, text.0.1) in
-        subst (λ (y : Certificate × ℕ). TakesAt bytes at (sealed 2 relay_key y.0) y.1 × (IsCommon y.0 × (length (sealed 2 relay_key y.0) ≡ count))) (ok_is OpeningFault whole x c.2)
+        subst (λ (y : Certificate × ℕ). TakesAt bytes at (sealed 2 relay_key y.0) y.1 × (IsCommon y.0 × (length (sealed 2 relay_key y.0) ≡ count))) (ok_is FormatFault whole x c.2)
         (subst (λ (l : List ℕ). TakesAt bytes at l text.0.1) is.text t.0, ((is.numbers, is.limits), ap length (sym is.text) ∙ t.1.0));
     again = λ at c rest fits e.
         let text : List ℕ = sealed 2 relay_key c in
@@ -80,7 +76,7 @@ module _ (bytes relay_key : List ℕ) where
   unfolding common_at
   reads_common before =
       reads_made (λ (p : ℕ × Certificate). p.1) (λ (c : Certificate). (length (sealed 2 relay_key c), c)) (common_bytes relay_key) (λ c. IsCommon c × All (λ d. d ≢ c) before)
-      (reads_followed (reads_u16 bytes) (λ count _. reads_passing (λ c. is_new (same_certificate c) before) Byte (reads_opened count)))
+      (reads_followed (reads_u16 bytes) (λ count _. reads_passing (λ c. is_new (same_certificate c) before) Malformed (reads_opened count)))
       (λ p is. (
         (is.1.0.0, All-weaker (λ d. same_certificate p.1 d ≡ false) (λ d. d ≢ p.1) (λ d e same. same_certificate-apart p.1 d e (sym same)) before (is_new-All (same_certificate p.1) before is.1.1)),
         ap (λ (k : ℕ). to_be_bytes w16 k ++ sealed 2 relay_key p.1) (sym is.1.0.1),
@@ -93,4 +89,4 @@ module _ (bytes relay_key : List ℕ) where
 
   pub reads_commons : Reads bytes (commons_at bytes relay_key) (λ xs. length xs ∷ flat_map (common_bytes relay_key) xs) (λ xs. (length xs ≤ 32) × All IsCommon xs × AllPairs (λ c d. c ≢ d) xs)
   unfolding commons_at
-  reads_commons = reads_counted 32 256 Byte (common_bytes relay_key) IsCommon (λ c d. c ≢ d) (omega arith) (reads_u8 bytes) reads_common
+  reads_commons = reads_counted 32 256 Malformed (common_bytes relay_key) IsCommon (λ c d. c ≢ d) (omega arith) (reads_u8 bytes) reads_common

@@ -7,20 +7,15 @@ use Rattle.std.proofs.lemmas.Bool.{eqb-true, eqb-false}
 use Rattle.std.proofs.lemmas.Bool.Decides.{nat_tests}
 use Rattle.std.proofs.lemmas.List.Elements.{All-weaker}
 use Rattle.prin_term.specs.declared.term.Anchor.{Anchor}
-use Rattle.prin_term.specs.Steps.{byte_at, bytes_at, number_at}
-use Rattle.prin_term.proofs.FieldLaws.{wide16, wide32, wide64}
-use Rattle.node_file.specs.declared.opening.OpeningFault.TheVariants.{Byte}
+use Rattle.prin_term.specs.Formats.{ended, is_within}
+use Rattle.prin_term.specs.Steps.{bytes_at}
+use Rattle.prin_term.proofs.FormatFields.{reads_u8, reads_u16, reads_u32, reads_u64, within_is, is_within-true}
+use Rattle.prin_term.specs.declared.fault.FormatFault.TheVariants.{Malformed}
 use Rattle.node_file.specs.declared.opening.head.Head.{Head}
 use Rattle.node_file.specs.Opening.{channel_bytes, anchor_bytes, IsKey, IsChannel, IsAnchor}
 use Rattle.prin_term.specs.Readers.{is_new}
-use Rattle.node_file.specs.OpeningReading.{ended, is_within, same_anchor, mark_at, number_in, shards_at, head_at, new_channel_at, channel_at, channels_at, anchor_at, anchors_at}
-use Rattle.prin_term.proofs.ReaderLaws.{Reads, reads_byte, reads_number, reads_bytes, reads_followed, reads_passing, reads_made, reads_as, reads_counted, is_new-All, is_new-from_All}
-
-pub within_is : (low high n : ℕ) → is_within low high n ≡ true → (low ≤ n) × (n ≤ high)
-within_is low high n e = (grind (arith, nat_tests), grind (arith, nat_tests))
-
-pub is_within-true : (low high n : ℕ) → low ≤ n → n ≤ high → is_within low high n ≡ true
-is_within-true low high n above below = grind (arith, nat_tests)
+use Rattle.node_file.specs.OpeningReading.{same_anchor, mark_at, number_in, shards_at, head_at, new_channel_at, channel_at, channels_at, anchor_at, anchors_at}
+use Rattle.prin_term.proofs.ReaderLaws.{Reads, reads_bytes, reads_followed, reads_passing, reads_made, reads_as, reads_counted, is_new-All, is_new-from_All}
 
 -- the bytes of the fields before the lists
 abbrev pub head_bytes : Head → List ℕ
@@ -55,18 +50,6 @@ same_anchor-false a b differ = by_tests (eqb b.key a.key) (eqb b.name a.name) re
 module _ (bytes : List ℕ) where
   -- ---- the fields before the lists
 
-  pub reads_u16 : Reads bytes (number_at (ended bytes) w16 bytes) (to_be_bytes w16) (λ n. n < 2 ^ 16)
-  reads_u16 = reads_number (ended bytes) w16 (2 ^ 16) wide16 bytes
-
-  pub reads_u32 : Reads bytes (number_at (ended bytes) w32 bytes) (to_be_bytes w32) (λ n. n < 2 ^ 32)
-  reads_u32 = reads_number (ended bytes) w32 (2 ^ 32) wide32 bytes
-
-  pub reads_u64 : Reads bytes (number_at (ended bytes) w64 bytes) (to_be_bytes w64) (λ n. n < 2 ^ 64)
-  reads_u64 = reads_number (ended bytes) w64 (2 ^ 64) wide64 bytes
-
-  pub reads_u8 : Reads bytes (byte_at (ended bytes) bytes) (λ b. b ∷ []) (λ b. b < 256)
-  reads_u8 = reads_byte (ended bytes) bytes
-
   pub reads_key : Reads bytes (bytes_at (ended bytes) 32 bytes) (λ text. text) IsKey
   reads_key = reads_bytes (ended bytes) 32 bytes
 
@@ -74,7 +57,7 @@ module _ (bytes : List ℕ) where
   unfolding mark_at
   reads_mark =
       reads_as (λ (p : ℕ × ℕ). 0 ∷ 1 ∷ []) (λ (p : ℕ × ℕ). (p.0 ≡ 0) × (p.1 ≡ 1))
-      (reads_followed (reads_passing (λ b. eqb b 0) Byte reads_u8) (λ _ _. reads_passing (λ b. eqb b 1) Byte reads_u8))
+      (reads_followed (reads_passing (λ b. eqb b 0) Malformed (reads_u8 bytes)) (λ _ _. reads_passing (λ b. eqb b 1) Malformed (reads_u8 bytes)))
       (λ p is.
       let first : p.0 ≡ 0 = eqb-true _ _ is.0.1 in
       let second : p.1 ≡ 1 = eqb-true _ _ is.1.1 in
@@ -84,14 +67,14 @@ module _ (bytes : List ℕ) where
   pub reads_in : (low high : ℕ) → high < 2 ^ 64 → Reads bytes (number_in low high bytes) (to_be_bytes w64) (λ n. (low ≤ n) × (n ≤ high))
   unfolding number_in
   reads_in low high lt =
-      reads_as (to_be_bytes w64) (λ n. (low ≤ n) × (n ≤ high)) (reads_passing (is_within low high) Byte reads_u64)
+      reads_as (to_be_bytes w64) (λ n. (low ≤ n) × (n ≤ high)) (reads_passing (is_within low high) Malformed (reads_u64 bytes))
       (λ n is. (within_is low high n is.1, refl))
       (λ n is. (omega (arith, is.1), is_within-true low high n is.0 is.1))
 
   pub reads_shards : Reads bytes (shards_at bytes) (to_be_bytes w32) (λ n. (1 ≤ n) × (n ≤ 64))
   unfolding shards_at
   reads_shards =
-      reads_as (to_be_bytes w32) (λ n. (1 ≤ n) × (n ≤ 64)) (reads_passing (is_within 1 64) Byte reads_u32)
+      reads_as (to_be_bytes w32) (λ n. (1 ≤ n) × (n ≤ 64)) (reads_passing (is_within 1 64) Malformed (reads_u32 bytes))
       (λ n is. (within_is 1 64 n is.1, refl))
       (λ n is. (omega (arith, is.1), is_within-true 1 64 n is.0 is.1))
 
@@ -101,7 +84,7 @@ module _ (bytes : List ℕ) where
       reads_made (λ x. record { node = x.1.0; relay_key = x.1.1.0; shards = x.1.1.1.0; keep = x.1.1.1.1.0; limit = x.1.1.1.1.1 })
       (λ (h : Head). ((0, 1), (h.node, (h.relay_key, (h.shards, (h.keep, h.limit))))))
       head_bytes IsHead
-      (reads_followed reads_mark (λ _ _. reads_followed reads_u32 (λ _ _. reads_followed reads_key (λ _ _. reads_followed reads_shards
+      (reads_followed reads_mark (λ _ _. reads_followed (reads_u32 bytes) (λ _ _. reads_followed reads_key (λ _ _. reads_followed reads_shards
       (λ _ _. reads_followed (reads_in 1 31536000 (omega arith)) (λ _ _. reads_in 1 1048576 (omega arith)))))))
       (λ x is. (record { node = is.1.0; relay_key = is.1.1.0; shards = is.1.1.1.0; keep = is.1.1.1.1.0; limit = is.1.1.1.1.1 }, refl))
       (λ h is. (((refl, refl), (is.node, (is.relay_key, (is.shards, (is.keep, is.limit))))), refl, refl))
@@ -112,13 +95,13 @@ module _ (bytes : List ℕ) where
   unfolding channel_at new_channel_at
   reads_channel before =
       reads_as channel_bytes (λ c. IsChannel c × All (λ b. b.0 ≢ c.0) before)
-      (reads_followed (reads_passing (λ n. is_new (λ (c : ℕ × List ℕ). eqb c.0 n) before) Byte reads_u32) (λ _ _. reads_key))
+      (reads_followed (reads_passing (λ n. is_new (λ (c : ℕ × List ℕ). eqb c.0 n) before) Malformed (reads_u32 bytes)) (λ _ _. reads_key))
       (λ c is. (((is.0.0, is.1), All-weaker (λ b. eqb b.0 c.0 ≡ false) (λ b. b.0 ≢ c.0) (λ b e. eqb-false _ _ e) before (is_new-All (λ (b : ℕ × List ℕ). eqb b.0 c.0) before is.0.1)), refl))
       (λ c is. ((is.0.0, is_new-from_All (λ (b : ℕ × List ℕ). eqb b.0 c.0) before (All-weaker (λ b. b.0 ≢ c.0) (λ b. eqb b.0 c.0 ≡ false) (λ b e. grind (arith, nat_tests, e)) before is.1)), is.0.1))
 
   pub reads_channels : Reads bytes (channels_at bytes) (λ xs. to_be_bytes w16 (length xs) ++ flat_map channel_bytes xs) (λ xs. (length xs ≤ 1024) × All IsChannel xs × AllPairs (λ c d. c.0 ≢ d.0) xs)
   unfolding channels_at
-  reads_channels = reads_counted 1024 (2 ^ 16) Byte channel_bytes IsChannel (λ c d. c.0 ≢ d.0) (omega arith) reads_u16 reads_channel
+  reads_channels = reads_counted 1024 (2 ^ 16) Malformed channel_bytes IsChannel (λ c d. c.0 ≢ d.0) (omega arith) (reads_u16 bytes) reads_channel
 
   -- ---- anchors
 
@@ -126,13 +109,13 @@ module _ (bytes : List ℕ) where
   unfolding anchor_at
   reads_anchor before =
       reads_as anchor_bytes (λ a. IsAnchor a × All (λ b. b ≢ a) before)
-      (reads_passing (λ a. is_new (same_anchor a) before) Byte
+      (reads_passing (λ a. is_new (same_anchor a) before) Malformed
       (reads_made (λ x. record { key = x.0; name = x.1 }) (λ (a : Anchor). (a.key, a.name)) anchor_bytes IsAnchor
-      (reads_followed reads_u32 (λ _ _. reads_u32))
+      (reads_followed (reads_u32 bytes) (λ _ _. (reads_u32 bytes)))
       (λ x is. (is, refl)) (λ a is. (is, refl, refl))))
       (λ a is. ((is.0, All-weaker (λ b. same_anchor a b ≡ false) (λ b. b ≢ a) (λ b e. apart a b e) before (is_new-All (same_anchor a) before is.1)), refl))
       (λ a is. (is.0, is_new-from_All (same_anchor a) before (All-weaker (λ b. b ≢ a) (λ b. same_anchor a b ≡ false) (λ b e. same_anchor-false a b e) before is.1)))
 
   pub reads_anchors : Reads bytes (anchors_at bytes) (λ xs. length xs ∷ flat_map anchor_bytes xs) (λ xs. (length xs ≤ 64) × All IsAnchor xs × AllPairs (λ a b. a ≢ b) xs)
   unfolding anchors_at
-  reads_anchors = reads_counted 64 256 Byte anchor_bytes IsAnchor (λ a b. a ≢ b) (omega arith) reads_u8 reads_anchor
+  reads_anchors = reads_counted 64 256 Malformed anchor_bytes IsAnchor (λ a b. a ≢ b) (omega arith) (reads_u8 bytes) reads_anchor

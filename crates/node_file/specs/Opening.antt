@@ -1,26 +1,22 @@
 -- What a node is opened with, and the bytes of its binary form.
-use Rattle.std.specs.Prelude.{◌≡◌, ◌≢◌, ℕ, ◌+◌, ◌*◌, ◌^◌, ◌<◌, ◌≤◌, ◌==◌, List, ◌∷◌, ◌++◌, length}
+use Rattle.std.specs.Prelude.{◌≡◌, ◌≢◌, ℕ, ◌+◌, ◌*◌, ◌^◌, ◌<◌, ◌≤◌, ◌==◌, List, [], ◌∷◌, ◌++◌, length}
 use Rattle.std.specs.Prelude.{All, AllPairs, Option, find}
 use Rattle.std.specs.List.{flat_map}
 use Rattle.std.specs.Int.{w16, w32, w64, to_be_bytes}
 pub use Rattle.keyed_seal.specs.Keys.{key_of}
-use Rattle.object_core.specs.Operation.{IsByte, IsContent, IsAccessList}
+use Rattle.object_core.specs.Objects.{ObjectPlan}
+use Rattle.object_core.specs.Operation.{IsContent, IsAccessList}
 use Rattle.prin_term.specs.declared.term.Anchor.{Anchor}
-use Rattle.prin_term.specs.Steps.{counted}
+use Rattle.object_core.specs.Spelling.{content_bytes, list_bytes}
+use Rattle.prin_term.specs.Steps.{IsByte, counted}
 use Rattle.prin_term.specs.View.{Grant}
+use Rattle.prin_text.specs.Labels.{Labels, AreLabels}
 use Rattle.sealed_cert.specs.declared.kind.TheConstants.{RELAYED}
 use Rattle.sealed_cert.specs.Seals.{sealed}
 use Rattle.stmt_codec.specs.Certificates.{Certificate, HasBodySpelling, IsWithinLimits}
-use Rattle.node_file.specs.declared.opening.TheConstants.{MAX_SHARDS, MAX_KEEP, MAX_LIMIT}
-use Rattle.node_file.specs.declared.opening.TheConstants.{MAX_CHANNELS, MAX_ANCHORS, MAX_COMMONS}
-use Rattle.node_file.specs.declared.opening.TheConstants.{MAX_OBJECTS, MAX_ROOM}
-use Rattle.taos_wire.specs.Request.{grant_bytes}
-
--- a guarded object: its number, its content and its access list
-pub record ObjectPlan : Type 0 where
-  pub number : ℕ
-  pub content : List ℕ
-  pub list : List Grant
+use Rattle.node_file.specs.declared.limits.TheConstants.{MAX_SHARDS, MAX_KEEP, MAX_LIMIT}
+use Rattle.node_file.specs.declared.limits.TheConstants.{MAX_CHANNELS, MAX_ANCHORS, MAX_COMMONS}
+use Rattle.node_file.specs.declared.limits.TheConstants.{MAX_OBJECTS, MAX_ROOM}
 
 -- what a node is opened with
 pub record Opening : Type 0 where
@@ -34,12 +30,18 @@ pub record Opening : Type 0 where
   pub keep : ℕ
   -- how many entries each journal has at most
   pub limit : ℕ
+  -- the texts of names and of roles
+  pub names : Labels
   -- each channel's number with its key, found by `key_of`
   pub channels : List (ℕ × List ℕ)
   pub anchors : List Anchor
   -- the certificates that each shard holds in common at first
   pub commons : List Certificate
   pub objects : List ObjectPlan
+
+-- no name and no role has a text
+abbrev pub no_texts : Labels
+no_texts = record { names = []; roles = [] }
 
 -- ---- bytes
 
@@ -58,8 +60,7 @@ common_bytes relay_key c = counted w16 (sealed RELAYED relay_key c)
 -- the number, the content after its length, and the entries after their count
 abbrev pub object_bytes : ObjectPlan → List ℕ
 object_bytes p =
-    to_be_bytes w32 p.number ++ counted w16 p.content
-    ++ length p.list ∷ flat_map grant_bytes p.list
+    to_be_bytes w32 p.number ++ content_bytes p.content ++ list_bytes p.list
 
 -- its one spelling: the mark, the node's own fields, and four lists, each after its count
 abbrev pub opening_bytes : Opening → List ℕ
@@ -106,6 +107,7 @@ pub record FitsOpening (o : Opening) : Type 0 where
   pub shards : (1 ≤ o.shards) × (o.shards ≤ MAX_SHARDS)
   pub keep : (1 ≤ o.keep) × (o.keep ≤ MAX_KEEP)
   pub limit : (1 ≤ o.limit) × (o.limit ≤ MAX_LIMIT)
+  pub names : AreLabels o.names
   pub few_channels : length o.channels ≤ MAX_CHANNELS
   pub channels : All IsChannel o.channels
   pub each_channel_once : AllPairs (λ c d. c.0 ≢ d.0) o.channels
@@ -120,12 +122,8 @@ pub record FitsOpening (o : Opening) : Type 0 where
   pub each_object_once : AllPairs (λ p q. p.number ≢ q.number) o.objects
   pub room : journal_room o ≤ MAX_ROOM
 
--- the bytes are the one spelling of the opening, which is within the limits
+-- the bytes are the one binary spelling of the opening, which is within the limits and has no texts
 abbrev pub Spells : Opening → List ℕ → Type 0
-Spells o bytes = FitsOpening o × (bytes ≡ opening_bytes o)
+Spells o bytes = FitsOpening o × (bytes ≡ opening_bytes o) × (o.names ≡ no_texts)
 
 -- ---- what is looked up
-
--- the first object that has the number
-abbrev pub plan_of : List ObjectPlan → ℕ → Option ObjectPlan
-plan_of objects number = find (λ (p : ObjectPlan). p.number == number) objects

@@ -1,8 +1,8 @@
 //! Laws of openings, stated as contracts of functions that do nothing.
 
 ghost use Rattle.std.specs.Prelude.{◌≡◌, ◌↔◌, ℕ, List, All, Ok, Err};
-ghost use Rattle.object_core.specs.Operation.{IsByte};
-ghost use Rattle.node_file.specs.declared.opening.OpeningFault.{OpeningFault};
+ghost use Rattle.prin_term.specs.Steps.{IsByte};
+ghost use Rattle.prin_term.specs.declared.fault.FormatFault.{FormatFault};
 ghost use Rattle.node_file.specs.Opening.{Opening, Spells};
 ghost use Rattle.node_file.specs.OpeningReading.{IsFaultIn, opening_of};
 
@@ -11,11 +11,11 @@ pub fn one_opening()
     ensures { (o p : Opening) (bytes : List ℕ) → Spells o bytes → Spells p bytes → o ≡ p }
 {}
 
-/// Reading as a function gives exactly the opening that the bytes spell. Other bytes are refused at
-/// one of them or right after the last, and never for memory.
+/// Reading the binary form as a function gives exactly the opening that the bytes spell. Other
+/// bytes are refused at one of them or right after the last, and never for memory.
 pub fn openings_are_read()
     ensures read { (bytes : List ℕ) (o : Opening) → All IsByte bytes
         → (opening_of bytes ≡ Ok o) ↔ Spells o bytes }
-    ensures refused { (bytes : List ℕ) (f : OpeningFault) → All IsByte bytes
+    ensures refused { (bytes : List ℕ) (f : FormatFault) → All IsByte bytes
         → opening_of bytes ≡ Err f → IsFaultIn bytes f }
 {}

@@ -1,11 +1,26 @@
-//! What a node is opened with, and how it is read from a file.
+//! What a node and a relay are opened with, and how it is read from a file.
 #![tactic(auto)]
 
+mod adding;
+mod fault;
 mod laws;
+mod limits;
+mod line_fault;
+mod object_plan;
+mod object_plans;
 mod opening;
+mod relay_file;
+mod relay_reading;
+mod text;
 
+pub use fault::{FileCause, FileFault};
 pub use laws::{one_opening, openings_are_read};
-pub use opening::{
-    MAX_ANCHORS, MAX_CHANNELS, MAX_COMMONS, MAX_KEEP, MAX_LIMIT, MAX_OBJECTS, MAX_ROOM, MAX_SHARDS,
-    ObjectPlan, Opening, OpeningFault, read_opening,
+pub use limits::{
+    MAX_ANCHORS, MAX_CHANNELS, MAX_COMMONS, MAX_FILE, MAX_ISSUERS, MAX_KEEP, MAX_LIMIT, MAX_NODES,
+    MAX_OBJECTS, MAX_ROOM, MAX_SHARDS,
 };
+pub use object_plan::ObjectPlan;
+pub use object_plans::ObjectPlans;
+pub use opening::{Opening, read_opening};
+pub use relay_file::RelayFile;
+pub use relay_reading::read_relay_file;

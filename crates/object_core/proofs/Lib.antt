@@ -1,2 +1,4 @@
 pub mod ListReaders
 pub mod ListCuts
+pub mod Latest
+pub mod ListPlaces

@@ -1,7 +1,5 @@
 -- Contents and access lists: what is read is spelled so, and the other way.
 use Rattle.std.proofs.Common.{◌≡◌, ℕ, ◌+◌, ◌≤◌, leb, List, ◌∷◌, ◌++◌, length, drop, Ok, refl, sym, ap, subst, arith}
-use Rattle.std.specs.Prelude.{All}
-use Rattle.std.specs.List.{flat_map}
 use Rattle.std.specs.Int.{w16, to_be_bytes}
 use Rattle.std.proofs.lemmas.Bool.{leb-true, le-leb}
 use Rattle.object_core.specs.declared.limits.TheConstants.{MAX_CONTENT, MAX_ENTRIES, MAX_RIGHTS}
@@ -15,11 +13,7 @@ use Rattle.prin_term.specs.View.{Grant}
 use Rattle.prin_term.proofs.FieldLaws.{IsBytes, TakesAt}
 use Rattle.prin_term.proofs.FieldReaders.{reads_term}
 use Rattle.prin_term.proofs.FormatFields.{reads_u8, reads_u16, reads_u8_in}
-use Rattle.prin_term.proofs.ReaderLaws.{Reads, reads_bytes, reads_followed, reads_passing, reads_made, reads_as, reads_counted}
-
--- entries are not compared
-abbrev Anyhow : Grant → Grant → Type 0
-Anyhow g h = Unit {0}
+use Rattle.prin_term.proofs.ReaderLaws.{Reads, reads_bytes, reads_followed, reads_passing, reads_made, reads_each}
 
 module _ (bytes : List ℕ) where
   pub reads_content : Reads bytes (content_at bytes) content_bytes IsContent
@@ -40,12 +34,7 @@ module _ (bytes : List ℕ) where
 
   pub reads_list : Reads bytes (list_at bytes) list_bytes IsAccessList
   unfolding list_at
-  reads_list =
-      reads_as list_bytes IsAccessList
-      (reads_counted MAX_ENTRIES 256 Malformed grant_bytes FitsGrant Anyhow (omega arith) (reads_u8 bytes)
-      (λ before. reads_as grant_bytes (λ g. FitsGrant g × All (λ b. Anyhow b g) before) reads_entry (λ g is. ((is, λ k d below. tt), refl)) (λ g is. is.0)))
-      (λ xs is. ((is.0, is.1), refl))
-      (λ xs is. (is.0, is.1, λ i j d below within. tt))
+  reads_list = reads_each MAX_ENTRIES 256 Malformed grant_bytes FitsGrant (omega arith) (reads_u8 bytes) reads_entry
 
   -- ---- as the laws say it
 

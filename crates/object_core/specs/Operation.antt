@@ -1,7 +1,8 @@
 -- Operations, as mathematics has them.
-use Rattle.std.specs.Prelude.{◌≡◌, ℕ, ◌≤◌, ◌<◌, ◌^◌, List, length, All}
+use Rattle.std.specs.Prelude.{ℕ, ◌≤◌, ◌<◌, ◌^◌, List, length, All}
 use Rattle.prin_term.specs.declared.limits.TheConstants.{ENTRY_NODES}
 use Rattle.prin_term.specs.Refusal.{FitsLimits}
+use Rattle.prin_term.specs.Steps.{IsByte, AreBytes}
 use Rattle.prin_term.specs.View.{Grant}
 use Rattle.object_core.specs.declared.limits.TheConstants.{MAX_CONTENT, MAX_ENTRIES, MAX_RIGHTS}
 
@@ -34,10 +35,6 @@ right_of Sweep = 8
 
 -- ---- limits
 
--- the number fits one byte
-abbrev pub IsByte : ℕ → Type 0
-IsByte b = b < 256
-
 -- bytes, not more than a content may have
 abbrev pub IsContent : List ℕ → Type 0
 IsContent content = (length content ≤ MAX_CONTENT) × All IsByte content
@@ -53,7 +50,7 @@ IsAccessList list = (length list ≤ MAX_ENTRIES) × All FitsGrant list
 
 -- 32 bytes
 abbrev pub IsDigest : List ℕ → Type 0
-IsDigest digest = (length digest ≡ 32) × All IsByte digest
+IsDigest digest = AreBytes 32 digest
 
 -- what the operation carries is within the limits
 abbrev pub FitsOperation : Op → Type 0

@@ -1,21 +1,29 @@
 //! Laws of contents and access lists, stated as contracts of functions that do nothing.
 
-ghost use Rattle.std.specs.Prelude.{◌≡◌, ◌↔◌, ◌+◌, ◌<◌, ◌≤◌, ℕ, List, length, All, Ok};
+ghost use Rattle.std.specs.Prelude.{◌≡◌, ◌↔◌, ◌+◌, ◌≤◌, ℕ, List, length, All, Ok, Err};
 ghost use Rattle.object_core.specs.Reading.{content_at, list_at};
 ghost use Rattle.object_core.specs.Spelling.{content_bytes, list_bytes, IsContentAt, IsListAt};
+ghost use Rattle.prin_term.specs.declared.fault.FormatFault.{FormatFault};
+ghost use Rattle.prin_term.specs.Formats.{IsFaultIn};
+ghost use Rattle.prin_term.specs.Steps.{IsByte};
 ghost use Rattle.prin_term.specs.View.{Grant};
 
 /// Reading as a function gives exactly the content that is spelled at the offset within the limit,
-/// and the offset after it.
+/// and the offset after it. Other bytes are refused at one of them or right after the last, and
+/// never for memory.
 pub fn contents_are_read()
-    ensures { (bytes content : List ℕ) (at end : ℕ) → at ≤ length bytes
-        → All (λ b. b < 256) bytes → (content_at bytes at ≡ Ok (content, end))
+    ensures read { (bytes content : List ℕ) (at end : ℕ) → at ≤ length bytes
+        → All IsByte bytes → (content_at bytes at ≡ Ok (content, end))
         ↔ (IsContentAt bytes at content × (end ≡ at + length (content_bytes content))) }
+    ensures refused { (bytes : List ℕ) (at : ℕ) (f : FormatFault) → at ≤ length bytes
+        → All IsByte bytes → content_at bytes at ≡ Err f → IsFaultIn bytes f }
 {}
 
 /// The same of an access list.
 pub fn lists_are_read()
-    ensures { (bytes : List ℕ) (list : List Grant) (at end : ℕ) → at ≤ length bytes
-        → All (λ b. b < 256) bytes → (list_at bytes at ≡ Ok (list, end))
+    ensures read { (bytes : List ℕ) (list : List Grant) (at end : ℕ) → at ≤ length bytes
+        → All IsByte bytes → (list_at bytes at ≡ Ok (list, end))
         ↔ (IsListAt bytes at list × (end ≡ at + length (list_bytes list))) }
+    ensures refused { (bytes : List ℕ) (at : ℕ) (f : FormatFault) → at ≤ length bytes
+        → All IsByte bytes → list_at bytes at ≡ Err f → IsFaultIn bytes f }
 {}

@@ -2,14 +2,21 @@
 //! their contents and access lists.
 #![tactic(auto)]
 
+mod entry;
+mod fixed;
 mod laws;
 mod limits;
+mod object;
 mod operation;
 mod reading;
+mod ruling;
 mod writing;
 
+pub use entry::ObjectEntry;
 pub use laws::{contents_are_read, lists_are_read};
 pub use limits::{MAX_CONTENT, MAX_ENTRIES, MAX_RIGHTS};
+pub use object::Object;
 pub use operation::{Op, right_of};
 pub use reading::{read_content, read_list};
+pub use ruling::Ruling;
 pub use writing::write_list;

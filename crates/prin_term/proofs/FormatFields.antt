@@ -1,9 +1,14 @@
 -- Fields with the faults of formats: what is read is spelled so, and the other way.
 use Rattle.std.proofs.Common.{◌≡◌, ℕ, ◌^◌, ◌<◌, ◌≤◌, true, List, [], ◌∷◌, refl, arith}
+use Rattle.std.specs.Prelude.{IfSome}
 use Rattle.std.specs.Int.{w16, w32, w64, to_be_bytes}
 use Rattle.std.proofs.lemmas.Bool.Decides.{nat_tests}
 use Rattle.prin_term.specs.declared.fault.FormatFault.TheVariants.{Malformed}
-use Rattle.prin_term.specs.Formats.{ended, u8_in, u16_in, u32_in, u64_in, is_within, within}
+use Rattle.prin_term.specs.Formats.{ended, u8_in, u16_in, u32_in, u64_in, is_within, within, seen_as, optional_term_in}
+use Rattle.prin_term.specs.Principal.{spelling}
+use Rattle.prin_term.specs.Refusal.{FitsLimits}
+use Rattle.prin_term.specs.Steps.{optional}
+use Rattle.prin_term.proofs.FieldReaders.{reads_term, reads_optional}
 use Rattle.prin_term.proofs.FieldLaws.{wide16, wide32, wide64}
 use Rattle.prin_term.proofs.ReaderLaws.{Reads, reads_byte, reads_number, reads_passing, reads_as}
 
@@ -31,3 +36,6 @@ module _ (bytes : List ℕ) where
       reads_as (λ b. b ∷ []) (λ b. (low ≤ b) × (b ≤ high)) (reads_passing (is_within low high) Malformed reads_u8)
       (λ n is. (within_is low high n is.1, refl))
       (λ n is. (omega (arith, is.1), is_within-true low high n is.0 is.1))
+
+  pub reads_optional_term : (nodes : ℕ) → Reads bytes (optional_term_in nodes bytes) (optional spelling) (λ o. IfSome o (FitsLimits nodes))
+  reads_optional_term nodes = reads_optional (ended bytes) Malformed (reads_term seen_as nodes bytes)

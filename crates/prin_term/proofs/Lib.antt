@@ -13,3 +13,5 @@ pub mod FieldReaders
 pub mod FormatFields
 pub mod Cuts
 pub mod Sizes
+pub mod Staying
+pub mod FormatPlaces

@@ -1,10 +1,32 @@
--- A loop that appends piece by piece.
-use Rattle.std.proofs.Common.{◌≡◌, ℕ, ◌+◌, ◌<◌, ◌≤◌, List, [], ◌∷◌, ◌++◌, length, get_or, take, map, sym, ap, ◌∙◌, append_assoc, arith, length-append, subst}
-use Rattle.std.specs.Prelude.{All, Vec, vec_capacity, Err}
+-- Appending piece by piece, in a loop too.
+use Rattle.std.proofs.Common.{◌≡◌, ℕ, ◌+◌, ◌<◌, ◌≤◌, List, [], ◌∷◌, ◌++◌, length, get_or, take, map, Result, sym, ap, ◌∙◌, append_assoc, append-nil, arith, length-append, subst}
+use Rattle.std.specs.Prelude.{All, Vec, vec_capacity, Ok, Err}
 use Rattle.std.specs.List.{flat_map}
 use Rattle.std.proofs.lemmas.List.{flat_map_more, get_or-map, length-map, take_more}
 use Rattle.std.proofs.lemmas.List.Folds.{length-flat_map-take}
-use Rattle.prin_term.specs.Appends.{Pushes}
+use Rattle.prin_term.specs.Appends.{Appends, Pushes}
+
+-- a call that left nothing where it failed
+pub appended : {Z A E : Type 0} (old new : Vec ℕ Z) (text : List ℕ) (r : Result A E) → Appends old new text r → Pushes old new text r
+appended old new text (Ok x) is = record { ok = is.ok; err = tt; capacity = is.capacity; room = tt }
+appended old new text (Err e) is = record { ok = tt; err = ([], is.err ∙ sym (append-nil old.items)); capacity = is.capacity; room = is.room }
+
+-- a piece that was written, and then another
+pub pushes_then : {Z A B E F : Type 0} (old mid new : Vec ℕ Z) (a b : List ℕ) (x : A) (r : Result B F) → Pushes {E = E} old mid a (Ok x) → Pushes mid new b r → Pushes old new (a ++ b) r
+pushes_then old mid new a b x (Ok y) first second = record {
+  ok = second.ok ∙ ap (λ (l : List ℕ). l ++ b) first.ok ∙ append_assoc old.items a b;
+  err = tt;
+  capacity = omega (arith, first.capacity, second.capacity);
+  room = tt;
+}
+pushes_then old mid new a b x (Err f) first second =
+    let len : length mid.items ≡ length old.items + length a = ap length first.ok ∙ length-append old.items a in
+    record {
+      ok = tt;
+      err = (a ++ second.err.0, second.err.1 ∙ ap (λ (l : List ℕ). l ++ second.err.0) first.ok ∙ append_assoc old.items a second.err.0);
+      capacity = omega (arith, first.capacity, second.capacity);
+      room = omega (arith, len, length-append a b, first.capacity, second.room);
+    }
 
 -- the pieces of the first i items are written
 pub record AreWritten {A : Type 0} (spell : A → List ℕ) (items : List A) (i : ℕ) (old now : List ℕ) : Type 0 where

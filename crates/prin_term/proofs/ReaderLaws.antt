@@ -221,3 +221,17 @@ reads_counted {A} {E} {bytes} {count} {item} {number} most limit fault spell Fit
     (λ xs fits.
     let below : length xs < limit = omega (arith, fits.0) in
     (((below, le-leb (length xs) most fits.0), (refl, fits.1, fits.2)), refl, refl))
+
+-- no item is compared with another
+abbrev Anyhow : {A : Type 0} → A → A → Type 0
+Anyhow a b = Unit {0}
+
+-- a count and that many items, each read whatever stands before it
+pub reads_each : {A E : Type 0} {bytes : List ℕ} {count : Reader ℕ E} {item : Reader A E} {number : ℕ → List ℕ} (most limit : ℕ) (fault : ℕ → E) (spell : A → List ℕ) (Fits : A → Type 0) → most < limit
+    → Reads bytes count number (λ n. n < limit) → Reads bytes item spell Fits
+    → Reads bytes (counted most fault count (λ _. item)) (λ xs. number (length xs) ++ flat_map spell xs) (λ xs. (length xs ≤ most) × All Fits xs)
+reads_each {A} {E} {bytes} {count} {item} {number} most limit fault spell Fits few one step =
+    reads_as (λ xs. number (length xs) ++ flat_map spell xs) (λ xs. (length xs ≤ most) × All Fits xs)
+    (reads_counted most limit fault spell Fits Anyhow few one (λ before. reads_as spell (λ x. Fits x × All (λ b. Anyhow b x) before) step (λ x is. ((is, λ k d below. tt), refl)) (λ x is. is.0)))
+    (λ xs is. ((is.0, is.1), refl))
+    (λ xs is. (is.0, is.1, λ i j d below within. tt))

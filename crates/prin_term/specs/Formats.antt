@@ -1,5 +1,5 @@
 -- Fields that every format has, read at an offset with the faults of formats.
-use Rattle.std.specs.Prelude.{ℕ, ◌≤◌, Bool, ◌&&◌, List, length, nat_le}
+use Rattle.std.specs.Prelude.{ℕ, ◌≤◌, Bool, ◌&&◌, List, length, Option, nat_le}
 use Rattle.std.specs.Int.{w16, w32, w64}
 use Rattle.prin_term.specs.declared.fault.FormatFault.{FormatFault}
 use Rattle.prin_term.specs.declared.fault.FormatFault.TheVariants.{Malformed, NoMemory}
@@ -8,7 +8,7 @@ use Rattle.prin_term.specs.declared.fault.TermFault.TheVariants as terms
 use Rattle.prin_term.specs.Principal.{Principal}
 use Rattle.prin_term.specs.Readers.{Reader, passing}
 use Rattle.prin_term.specs.Reading.{term_at}
-use Rattle.prin_term.specs.Steps.{with_fault, byte_at, number_at}
+use Rattle.prin_term.specs.Steps.{with_fault, byte_at, number_at, optional_at}
 
 -- a reader of some bytes, with the faults of formats
 abbrev pub FormatReader : Type 0 → Type 0
@@ -22,6 +22,11 @@ ended bytes = Malformed (length bytes)
 abbrev pub IsPlaceIn : List ℕ → FormatFault → Type 0
 IsPlaceIn bytes (Malformed o) = o ≤ length bytes
 IsPlaceIn bytes NoMemory = Unit {0}
+
+-- the fault's place is one of the bytes, or right after the last, and it is not out of memory
+abbrev pub IsFaultIn : List ℕ → FormatFault → Type 0
+IsFaultIn bytes (Malformed o) = o ≤ length bytes
+IsFaultIn bytes NoMemory = ⊥
 
 -- a number of one byte, and the offset after it
 abbrev pub u8_in : List ℕ → FormatReader ℕ
@@ -62,3 +67,8 @@ seen_as terms.NoMemory = NoMemory
 -- a term of at most so many nodes
 abbrev pub term_in : ℕ → List ℕ → FormatReader Principal
 term_in nodes bytes at = with_fault seen_as (term_at nodes bytes at)
+
+-- nothing, or a term of at most so many nodes, after a byte that says whether there is one
+abbrev pub optional_term_in : ℕ → List ℕ → FormatReader (Option Principal)
+optional_term_in nodes bytes at =
+    optional_at (ended bytes) (Malformed at) (term_in nodes bytes) bytes at

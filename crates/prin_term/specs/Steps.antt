@@ -1,7 +1,7 @@
 -- What every format has: steps that may fail, and fields that are read at an offset.
-use Rattle.std.specs.Prelude.{◌≡◌, ◌⊎◌, ℕ, ◌+◌, ◌-◌, Bool, List, [], ◌∷◌, ◌++◌, length, take, drop}
+use Rattle.std.specs.Prelude.{◌≡◌, ◌⊎◌, ℕ, ◌+◌, ◌-◌, ◌<◌, Bool, List, [], ◌∷◌, ◌++◌, length, take}
 use Rattle.std.specs.Prelude.{Option, None, Some, Result, Ok, Err, nat_lt, ◌==◌, if◌then◌else◌}
-use Rattle.std.specs.Prelude.{slice_index}
+use Rattle.std.specs.Prelude.{drop, slice_index, All}
 use Rattle.std.specs.Int.{Width, byte_len, from_be_bytes, to_be_bytes}
 
 infixl 10 ◌>>=◌
@@ -28,6 +28,14 @@ with_fault f (Err e) = Err (f e)
 -- a value that has to pass a test
 abbrev pub tested : {A E : Type 0} → (A → Bool) → E → A → Result A E
 tested test fault x = if test x then Ok x else Err fault
+
+-- the number fits one byte
+abbrev pub IsByte : ℕ → Type 0
+IsByte b = b < 256
+
+-- so many bytes: a key, a digest or a tag
+abbrev pub AreBytes : ℕ → List ℕ → Type 0
+AreBytes n text = (length text ≡ n) × All IsByte text
 
 -- a number of the width at the front of the bytes, and the bytes after it
 unfoldable pub front_number : {E : Type 0} → E → Width → List ℕ → Result (ℕ × List ℕ) E

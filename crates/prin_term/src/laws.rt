@@ -8,6 +8,7 @@ ghost use Rattle.prin_term.specs.declared.limits.TheConstants.{MAX_DEPTH};
 ghost use Rattle.prin_term.specs.Principal.{Principal, spelling, HasSpelling};
 ghost use Rattle.prin_term.specs.Reading.{term_at};
 ghost use Rattle.prin_term.specs.Refusal.{FitsLimits, IsTermAt, IsRefused};
+ghost use Rattle.prin_term.specs.Steps.{IsByte};
 
 /// No spelling begins another, and each term has one.
 pub fn one_spelling()
@@ -29,9 +30,9 @@ pub fn prefixes_are_short()
 /// and the offset after it; or the fault with which the bytes are refused, and never out of memory.
 pub fn terms_are_read()
     ensures read { (nodes at end : ℕ) (bytes : List ℕ) (t : Principal) → at ≤ length bytes
-        → All (λ b. b < 256) bytes → (term_at nodes bytes at ≡ Ok (t, end))
+        → All IsByte bytes → (term_at nodes bytes at ≡ Ok (t, end))
         ↔ (IsTermAt nodes bytes at t × (end ≡ at + length (spelling t))) }
     ensures refused { (nodes at : ℕ) (bytes : List ℕ) (f : TermFault) → at ≤ length bytes
-        → All (λ b. b < 256) bytes → (term_at nodes bytes at ≡ Err f)
+        → All IsByte bytes → (term_at nodes bytes at ≡ Err f)
         ↔ IsRefused MAX_DEPTH nodes (drop at bytes) at f }
 {}

@@ -133,7 +133,8 @@ module _ (labels : Labels) (end : ℕ) where
       let same = ok_is TextFault (record { rights = n; who = p }, ts) (e, us) is in
       (ap (λ x. x.0.rights) same, ap (λ x. x.0.who) same, ap (λ x. x.1) same)
 
-  read_found : (at : ℕ) (letters : List ℕ) (n : ℕ) (tokens rest : List Placed) (e : Grant) → AreRights n letters → eqb (first_place tokens end) (at + length letters) ≡ false → (piece_at labels end tokens [] (Operand First) >>= λ x. measured ENTRY_NODES (first_place tokens end) x.0 >>= λ p. let made : Grant × List Placed = (record { rights = n; who = p }, x.1) in Ok made) ≡ Ok (e, rest) → EntryRead e ((at, letters) ∷ tokens) rest
+  read_found : (at : ℕ) (letters : List ℕ) (n : ℕ) (tokens rest : List Placed) (e : Grant) → AreRights n letters → eqb (first_place tokens end) (at + length letters) ≡ false →
+      (piece_at labels end tokens [] (Operand First) >>= λ x. measured ENTRY_NODES (first_place tokens end) x.0 >>= λ p. let made : Grant × List Placed = (record { rights = n; who = p }, x.1) in Ok made) ≡ Ok (e, rest) → EntryRead e ((at, letters) ∷ tokens) rest
   read_found at letters n tokens rest e are other is =
       let x = bind_ok _ _ (e, rest) is in
       let p = bind_ok _ _ (e, rest) x.2 in
@@ -193,7 +194,8 @@ module _ (labels : Labels) (end : ℕ) where
   stop_read w pc [] stops = rw (finished-standing end w pc) refl
   stop_read w pc ((at, t) ∷ rest) stops = rw (stops, finished-standing at w pc) refl
 
-  who_again : (e : Grant) (behind : ℕ) (w : Written) (body rest : List Placed) → IsProper labels w → meaning w ≡ e.who → words body ≡ tokens_of w → first_place body 0 ≢ behind → node_count e.who ≤ ENTRY_NODES → depth e.who ≤ MAX_DEPTH → Stops rest → who_at labels end e.rights behind (body ++ rest) ≡ Ok (e, rest)
+  who_again : (e : Grant) (behind : ℕ) (w : Written) (body rest : List Placed) → IsProper labels w → meaning w ≡ e.who → words body ≡ tokens_of w →
+      first_place body 0 ≢ behind → node_count e.who ≤ ENTRY_NODES → depth e.who ≤ MAX_DEPTH → Stops rest → who_at labels end e.rights behind (body ++ rest) ≡ Ok (e, rest)
   unfolding who_at
   who_again e behind w [] rest proper means spelled apart nodes levels stops = absurd (no_first labels w spelled)
   who_again e behind w ((at, t) ∷ body) rest proper means spelled apart nodes levels stops =
@@ -249,7 +251,8 @@ module _ (labels : Labels) (end : ℕ) where
     are = (read.first, at, rest, read.split ∙ ap (λ x. read.first ++ (at, x) ∷ rest) semicolon, read.is, next.are);
   }
 
-  further_found : (n : ℕ) (before : List Grant) (tokens : List Placed) (e : Grant) (rest : List Placed) (entries : List Grant) → EntryRead e tokens rest → further (entries_at labels end n) (before ++ e ∷ []) rest ≡ Ok entries → ((more : List Placed) → entries_at labels end n (before ++ e ∷ []) more ≡ Ok entries → EntriesRead n (before ++ e ∷ []) more entries) → EntriesRead (suc n) before tokens entries
+  further_found : (n : ℕ) (before : List Grant) (tokens : List Placed) (e : Grant) (rest : List Placed) (entries : List Grant) → EntryRead e tokens rest → further (entries_at labels end n) (before ++ e ∷ []) rest ≡ Ok entries →
+      ((more : List Placed) → entries_at labels end n (before ++ e ∷ []) more ≡ Ok entries → EntriesRead n (before ++ e ∷ []) more entries) → EntriesRead (suc n) before tokens entries
   further_found n before tokens e [] entries read is more = record {
     e = e;
     more = [];

@@ -1,4 +1,4 @@
-//! Tests of proofs: how they are spelled and checked, how they are found, and how long they hold. A crate with tests
+//! Tests of proofs: how they are spelled and checked, how they are found, and how long they hold; and of pools. A crate with tests
 //! is proved twice, so they stand here.
 #![tactic(auto)]
 
@@ -10,5 +10,7 @@ mod checking;
 mod deciding;
 #[cfg(test)]
 mod leases;
+#[cfg(test)]
+mod pools;
 #[cfg(test)]
 mod spelling;

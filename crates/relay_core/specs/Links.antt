@@ -6,7 +6,7 @@ use Rattle.frame_link.specs.declared.frame.Next.TheVariants as next
 use Rattle.frame_link.specs.declared.frame.Put.TheVariants as puts
 use Rattle.frame_link.specs.Faults.{Rose}
 use Rattle.frame_link.specs.Frames.{frame}
-use Rattle.frame_link.specs.Next.{Takes, Puts}
+use Rattle.frame_link.specs.Next.{TakesFrame, Puts}
 use Rattle.frame_link.specs.Streams.{Stream}
 use Rattle.relay_core.specs.declared.message.TheConstants.{MAX_FRAME}
 use Rattle.relay_core.specs.Messages.{IsAnswer, IsNoAnswer}
@@ -32,29 +32,29 @@ streams input output = record { input = input; output = output }
 -- why no answer was read, of an input before and after
 pub data Stops (before after : Stream) : Type 0 where
   unread :
-      Takes MAX_FRAME before.told after.told [] next.ReadFault →
+      TakesFrame MAX_FRAME before.told after.told [] next.ReadFault →
       before.faults ≤ after.faults → Rose before.faults after.faults →
       Stops before after
   ended :
-      Takes MAX_FRAME before.told after.told [] next.End → after.faults ≡ before.faults →
+      TakesFrame MAX_FRAME before.told after.told [] next.End → after.faults ≡ before.faults →
       Stops before after
   cut : (have : ℕ) →
-      Takes MAX_FRAME before.told after.told [] (next.Truncated have) →
+      TakesFrame MAX_FRAME before.told after.told [] (next.Truncated have) →
       after.faults ≡ before.faults →
       Stops before after
   too_long : (n : ℕ) →
-      Takes MAX_FRAME before.told after.told [] (next.TooLong n) →
+      TakesFrame MAX_FRAME before.told after.told [] (next.TooLong n) →
       after.faults ≡ before.faults →
       Stops before after
   no_answer : (payload : List ℕ) →
-      Takes MAX_FRAME before.told after.told payload next.Frame → IsNoAnswer payload →
+      TakesFrame MAX_FRAME before.told after.told payload next.Frame → IsNoAnswer payload →
       after.faults ≡ before.faults →
       Stops before after
 
 -- a whole frame was read of the input, which spells the answer
 pub record IsRead (before after : Stream) (answer : RelayAnswer) (out : List ℕ) : Type 0 where
   pub payload : List ℕ
-  pub read : Takes MAX_FRAME before.told after.told payload next.Frame
+  pub read : TakesFrame MAX_FRAME before.told after.told payload next.Frame
   pub spells : IsAnswer payload answer out
   pub steady : after.faults ≡ before.faults
 

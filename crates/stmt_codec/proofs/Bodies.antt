@@ -12,9 +12,9 @@ use Rattle.prin_term.proofs.FieldLaws.{IsBytes, TakesAt, TakesAt-then, TakesAt-w
 use Rattle.prin_term.proofs.Whole.{term_takes_at, term_again_at}
 use Rattle.prin_term.specs.declared.fault.FormatFault.{FormatFault}
 use Rattle.prin_term.specs.declared.fault.FormatFault.TheVariants.{Malformed}
-use Rattle.prin_term.specs.Formats.{seen_as}
+use Rattle.prin_term.specs.Formats.{seen_as, term_in}
 use Rattle.stmt_codec.specs.Certificates.{Certificate, body_spelling, key_quoting, distinct_parts, IsSmall, IsWithinLimits, HasBodySpelling, IsBodyAt}
-use Rattle.stmt_codec.specs.Reading.{part_at, right_at, body_at}
+use Rattle.stmt_codec.specs.Reading.{right_at, body_at}
 
 -- ---- the limits of terms, in their two parts
 
@@ -38,7 +38,7 @@ quoted_fitting (Some t) numbers is = fitting t numbers is
 
 -- ---- the right term
 
-right_takes : (speaker left : Principal) (bytes : List ℕ) (at : ℕ) (x : Principal × ℕ) → right_at speaker left bytes at ≡ Ok x → (part_at bytes at ≡ Ok x) × (length (distinct_parts speaker left x.0) ≤ 16)
+right_takes : (speaker left : Principal) (bytes : List ℕ) (at : ℕ) (x : Principal × ℕ) → right_at speaker left bytes at ≡ Ok x → (term_in 64 bytes at ≡ Ok x) × (length (distinct_parts speaker left x.0) ≤ 16)
 unfolding right_at
 right_takes speaker left bytes at x e =
     let r = bind_ok _ _ x e in
@@ -46,7 +46,7 @@ right_takes speaker left bytes at x e =
     let few : length (distinct_parts speaker left r.0.0) ≤ 16 = leb-true _ _ g.0 in
     (r.1 ∙ ap Ok g.1, subst (λ (y : Principal × ℕ). length (distinct_parts speaker left y.0) ≤ 16) g.1 few)
 
-pub right_again : (speaker left : Principal) (bytes : List ℕ) (at : ℕ) (x : Principal × ℕ) → part_at bytes at ≡ Ok x → length (distinct_parts speaker left x.0) ≤ 16 → right_at speaker left bytes at ≡ Ok x
+pub right_again : (speaker left : Principal) (bytes : List ℕ) (at : ℕ) (x : Principal × ℕ) → term_in 64 bytes at ≡ Ok x → length (distinct_parts speaker left x.0) ≤ 16 → right_at speaker left bytes at ≡ Ok x
 unfolding right_at
 right_again speaker left bytes at x e few =
     let test : nat_le (length (distinct_parts speaker left x.0)) 16 ≡ true = le-leb _ _ few in
@@ -70,7 +70,7 @@ body_takes bytes at x le fits e =
     let w0 = TakesAt-within bytes at _ v.0 le t0 in
     let t1 = number_takes short w32 (2 ^ 32) wide32 bytes v.0 i.0 fits i.1 in
     let w1 = TakesAt-within bytes v.0 _ i.0.1 w0 t1.0 in
-    let t2 = optional_takes short (Malformed i.0.1) (part_at bytes) spelling (FitsLimits 64) bytes i.0.1 q.0 term w1 q.1 in
+    let t2 = optional_takes short (Malformed i.0.1) (term_in 64 bytes) spelling (FitsLimits 64) bytes i.0.1 q.0 term w1 q.1 in
     let w2 = TakesAt-within bytes i.0.1 _ q.0.1 w1 t2.0 in
     let t3 = term q.0.1 l.0 w2 l.1 in
     let w3 = TakesAt-within bytes q.0.1 _ l.0.1 w2 t3.0 in
@@ -127,7 +127,7 @@ body_again bytes rest at c le has limits e =
     let term = term_again_at seen_as 64 bytes in
     let v = mark_again short (Malformed at) 1 bytes _ at e0 in
     let i = number_again short w32 (2 ^ 32) wide32 bytes _ (at + 1) c.issuer has.issuer e1 in
-    let q = optional_again short (Malformed p2) (part_at bytes) spelling (FitsLimits 64) bytes _ p2 c.quoted term w2 (quoted_fitting c.quoted has.quoted limits.quoted_fits) e2 in
+    let q = optional_again short (Malformed p2) (term_in 64 bytes) spelling (FitsLimits 64) bytes _ p2 c.quoted term w2 (quoted_fitting c.quoted has.quoted limits.quoted_fits) e2 in
     let l = term p3 c.left _ w3 (fitting c.left has.left limits.left_fits) e3 in
     let r = right_again (key_quoting c.issuer c.quoted) c.left bytes p4 (c.right, p5) (term p4 c.right _ w4 (fitting c.right has.right limits.right_fits) e4) limits.few_subterms in
     let u = number_again short w64 (2 ^ 64) wide64 bytes _ p5 c.until has.until e5 in

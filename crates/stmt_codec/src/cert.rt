@@ -96,11 +96,12 @@ fn is_within_limits(body: &CertBody) -> bool
         )
 }
 
-fn speaker_of(alloc: Global, issuer: u32, quoted: &Option<Term>) -> Result<Term, AllocError>
+/// The key, or that key quoting the principal: who speaks under it.
+pub fn speaker_of(alloc: Global, key: u32, quoted: &Option<Term>) -> Result<Term, AllocError>
     ensures { IfOk result
-        (λ t. principal t ≡ key_quoting issuer (option_map principal quoted.now)) }
+        (λ t. principal t ≡ key_quoting key (option_map principal quoted.now)) }
 {
-    let key = Term::Key(issuer);
+    let key = Term::Key(key);
     match quoted {
         None => Ok(key),
         Some(term) => {

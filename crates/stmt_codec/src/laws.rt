@@ -1,9 +1,12 @@
 //! Laws of certificates, stated as contracts of functions that do nothing.
 
-ghost use Rattle.std.specs.Prelude.{◌≡◌, ◌≢◌, ◌↔◌, ◌+◌, ◌-◌, ◌<◌, ◌≤◌, ◌++◌};
+ghost use Rattle.std.specs.Prelude.{◌≡◌, ◌≢◌, ◌↔◌, ◌+◌, ◌<◌, ◌≤◌, ◌++◌};
 ghost use Rattle.std.specs.Prelude.{ℕ, List, length, drop, Ok, Err, All, AllPairs, Contains};
 ghost use Rattle.prin_term.specs.Principal.{Principal};
-ghost use Rattle.prin_term.specs.declared.fault.FormatFault.TheVariants.{Malformed, NoMemory};
+ghost use Rattle.prin_term.specs.declared.fault.FormatFault.{FormatFault};
+ghost use Rattle.prin_term.specs.declared.fault.FormatFault.TheVariants.{Malformed};
+ghost use Rattle.prin_term.specs.Formats.{IsFaultIn};
+ghost use Rattle.prin_term.specs.Steps.{IsByte};
 ghost use Rattle.stmt_codec.specs.declared.limits.TheConstants.{MAX_BODY_LEN};
 ghost use Rattle.stmt_codec.specs.Certificates.{Certificate, body_spelling};
 ghost use Rattle.stmt_codec.specs.Certificates.{HasBodySpelling, IsBodyAt, IsWithinLimits};
@@ -31,13 +34,14 @@ pub fn each_part_is_counted_once()
 {}
 
 /// Reading as a function gives exactly the certificate that is spelled at the offset within the
-/// limits, and the offset after it. Other bytes are refused at an offset, and never for memory.
+/// limits, and the offset after it. Other bytes are refused at one of them or right after the last,
+/// and never for memory.
 pub fn bodies_are_read()
     ensures read { (bytes : List ℕ) (at end : ℕ) (c : Certificate) → at ≤ length bytes
-        → All (λ b. b < 256) bytes → (body_at bytes at ≡ Ok (c, end))
+        → All IsByte bytes → (body_at bytes at ≡ Ok (c, end))
         ↔ (IsBodyAt bytes at c × (end ≡ at + length (body_spelling c))) }
-    ensures refused { (bytes : List ℕ) (at : ℕ) → at ≤ length bytes → All (λ b. b < 256) bytes
-        → body_at bytes at ≢ Err NoMemory }
+    ensures refused { (bytes : List ℕ) (at : ℕ) (f : FormatFault) → at ≤ length bytes
+        → All IsByte bytes → body_at bytes at ≡ Err f → IsFaultIn bytes f }
 {}
 
 /// A body within the limits is at most so long.

@@ -11,7 +11,7 @@ mod reading;
 mod writing;
 
 pub use body::CertBody;
-pub use cert::Cert;
+pub use cert::{Cert, speaker_of};
 pub use fault::{BodyFault, CertFault};
 pub use laws::{
     a_body_has_at_most, bodies_are_read, each_part_is_counted_once, one_body_spelling,

@@ -2,48 +2,30 @@
 
 ghost use Rattle.std.specs.Prelude.{◌≡◌, ◌+◌, ◌≤◌, length, IfOk, MatchResult};
 ghost use Rattle.std.specs.Option.{option_map};
+ghost use Rattle.prin_term.specs.declared.limits.TheConstants.{CERT_NODES};
+ghost use Rattle.prin_term.specs.Formats.{term_in};
 ghost use Rattle.prin_term.specs.Steps.{Gives};
 ghost use Rattle.prin_term.specs.View.{principal};
 ghost use Rattle.prin_term.specs.declared.fault.FormatFault.TheVariants.{NoMemory};
 ghost use Rattle.stmt_codec.specs.Certificates.{Certificate, certificate, key_quoting};
 ghost use Rattle.stmt_codec.specs.Certificates.{body_spelling, IsBodyAt};
-ghost use Rattle.stmt_codec.specs.Reading.{part_at, quoted_at, right_at, body_at};
+ghost use Rattle.stmt_codec.specs.Reading.{right_at, body_at};
 
 use crate::body::CertBody;
 use crate::cert::Cert;
 use crate::distinct::has_few_subterms;
 use crate::fault::BodyFault;
-use prin_term::fields::{mark_at, u8_at, u32_at, u64_at};
-use prin_term::{CERT_NODES, Statement, Term, read_term};
+use prin_term::fields::{ended, mark_at, u32_at, u64_at};
+use prin_term::{CERT_NODES, Statement, Term, read_optional_term, read_term};
 use std::alloc::Global;
 
 fn term_of(alloc: Global, bytes: &[u8], at: usize) -> Result<(Term, usize), BodyFault>
     requires { at ≤ length bytes.now }
-    ensures value { Gives NoMemory (λ x. (principal x.0, x.1)) result (part_at bytes.now at) }
+    ensures value { Gives NoMemory (λ x. (principal x.0, x.1)) result
+        (term_in CERT_NODES bytes.now at) }
     ensures within { IfOk result (λ x. x.1 ≤ length bytes.now) }
 {
     Ok(read_term(alloc, bytes, at, CERT_NODES)?)
-}
-
-#[tactic(auto, unfolding(prin_term::specs::Steps::optional_at))]
-fn quoted_of(alloc: Global, bytes: &[u8], at: usize) -> Result<(Option<Term>, usize), BodyFault>
-    requires { at ≤ length bytes.now }
-    ensures value { Gives NoMemory (λ x. (option_map principal x.0, x.1)) result
-        (quoted_at bytes.now at) }
-    ensures within { IfOk result (λ x. x.1 ≤ length bytes.now) }
-{
-    let short = BodyFault::Malformed {
-        offset: bytes.len(),
-    };
-    let (flag, next) = u8_at(bytes, at, short)?;
-    match flag {
-        0 => Ok((None, next)),
-        1 => {
-            let (term, end) = term_of(alloc, bytes, next)?;
-            Ok((Some(term), end))
-        }
-        _ => Err(BodyFault::Malformed { offset: at }),
-    }
 }
 
 // The right term, after which the distinct subterms are few enough.
@@ -76,12 +58,10 @@ fn fields_of(alloc: Global, bytes: &[u8], at: usize) -> Result<(CertBody, usize)
     ensures value { Gives NoMemory (λ x. (certificate x.0, x.1)) result (body_at bytes.now at) }
     ensures within { IfOk result (λ x. x.1 ≤ length bytes.now) }
 {
-    let short = BodyFault::Malformed {
-        offset: bytes.len(),
-    };
+    let short = ended(bytes);
     let next = mark_at(bytes, at, 1, short, BodyFault::Malformed { offset: at })?;
     let (issuer, next) = u32_at(bytes, next, short)?;
-    let (quoted, next) = quoted_of(alloc, bytes, next)?;
+    let (quoted, next) = read_optional_term(alloc, bytes, next, CERT_NODES)?;
     let (left, next) = term_of(alloc, bytes, next)?;
     let (right, next) = right_of(alloc, bytes, next, issuer, &quoted, &left)?;
     let (until, next) = u64_at(bytes, next, short)?;

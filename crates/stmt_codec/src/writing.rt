@@ -1,15 +1,11 @@
 //! Writing the spelling of a body.
 
-ghost use Rattle.std.specs.Prelude.{OnOk, IfSome};
+ghost use Rattle.std.specs.Prelude.{OnOk};
 ghost use Rattle.stmt_codec.specs.Certificates.{certificate, body_spelling, HasBodySpelling};
 ghost use Rattle.prin_term.specs.Appends.{Appends, Pushes};
-ghost use Rattle.prin_term.specs.Steps.{optional};
-ghost use Rattle.prin_term.specs.Principal.{spelling, HasSpelling};
-ghost use Rattle.std.specs.Option.{option_map};
-ghost use Rattle.prin_term.specs.View.{principal};
 
 use crate::body::CertBody;
-use prin_term::{Term, write_term};
+use prin_term::{write_optional_term, write_term};
 use std::alloc::AllocError;
 
 /// Appends the one spelling of a body. An `Err` changes nothing.
@@ -32,27 +28,10 @@ fn push_body(out: &mut Vec<u8>, body: &CertBody) -> Result<(), AllocError>
 {
     out.push(1)?;
     out.extend_from_slice(&body.issuer.to_be_bytes())?;
-    push_quoted(out, &body.quoted)?;
+    write_optional_term(out, &body.quoted)?;
     write_term(out, &body.statement.left)?;
     write_term(out, &body.statement.right)?;
     out.extend_from_slice(&body.until.to_be_bytes())?;
     out.extend_from_slice(&body.serial.to_be_bytes())?;
     Ok(())
-}
-
-fn push_quoted(out: &mut Vec<u8>, quoted: &Option<Term>) -> Result<(), AllocError>
-    ensures pushes { Pushes out.old out.new
-        (optional spelling (option_map principal quoted.now)) result }
-    ensures numbers { OnOk result (IfSome (option_map principal quoted.now) HasSpelling) }
-{
-    match quoted {
-        None => {
-            out.push(0)?;
-            Ok(())
-        }
-        Some(term) => {
-            out.push(1)?;
-            write_term(out, term)
-        }
-    }
 }

@@ -6,18 +6,20 @@
 Each has its node file, its input and its relay, which listens on 127.0.0.1. The readings of its clock come
 from tools/clock.c, which `cc` compiles and which is preloaded; where that has no effect, conversations with
 readings are left out. What is written, the exit status and the note have to be as the conversation says.
-One run more has little memory, and has to end with 6; and in one more a frame is sent only once the reply to the one before
-has come.
+One run more has little memory, and has to end with 6; in one more a frame is sent only once the reply to the one before
+has come; and in another such a signal cuts short each wait for a frame, by tools/signals.c, where that is compiled.
 Files are those of data/ where none is named. Ends with 1 where one is not as it should be.
 """
 import concurrent.futures
 import contextlib
 import os
 import resource
+import signal
 import select
 import subprocess
 import sys
 import tempfile
+import time
 
 from reading import Granted, all_files, read
 from relay import Relay
@@ -30,6 +32,8 @@ MOST_SECONDS = 2**63 - 1
 WORKERS, LIMIT, TAG, FRONT = 4, 120, 32, 28
 # How long a reply may take, and the most frames that are sent one by one.
 SECONDS, MOST_TURNS = 20, 1000
+# So many frames wait behind a signal, each so long that the program waits for it.
+SIGNALS, WAIT = 20, 0.02
 # So many bytes are too few for the room that is taken before the first frame is read.
 LITTLE_MEMORY = 32 * 1024 * 1024
 
@@ -50,10 +54,12 @@ class Program:
         return subprocess.run([self.path, *words], input=given, capture_output=True, env=self.env(readings),
                               timeout=LIMIT, cwd=self.folder, preexec_fn=before)
 
-    def start(self, words, readings):
-        pipe = subprocess.PIPE
+    def start(self, words, readings, preloaded=None):
+        pipe, env = subprocess.PIPE, self.env(readings)
+        if preloaded:
+            env["LD_PRELOAD"] = " ".join(filter(None, [env.get("LD_PRELOAD"), preloaded]))
         return subprocess.Popen([self.path, *words], stdin=pipe, stdout=pipe, stderr=subprocess.DEVNULL,
-                                env=self.env(readings), cwd=self.folder)
+                                bufsize=0, env=env, cwd=self.folder)
 
 
 def frames_of(data):
@@ -138,10 +144,10 @@ def tried(program, case):
             return case, "it does not end"
 
 
-def compiled(folder):
-    """The clock as a library, where there is a compiler."""
-    library = os.path.join(folder, "clock.so")
-    words = [os.environ.get("CC", "cc"), "-O2", "-shared", "-fPIC", "-o", library, os.path.join(HERE, "clock.c")]
+def compiled(folder, name="clock"):
+    """A library of tools/, where there is a compiler."""
+    library = os.path.join(folder, f"{name}.so")
+    words = [os.environ.get("CC", "cc"), "-O2", "-shared", "-fPIC", "-o", library, os.path.join(HERE, f"{name}.c")]
     try:
         return library if subprocess.run(words, capture_output=True).returncode == 0 else None
     except OSError:
@@ -200,21 +206,33 @@ def next_frame(stream, seconds):
     return frame
 
 
-def turn_fault(program, case):
-    """What is wrong where each frame is sent only once the one before is answered, if anything is."""
+def cut_short(run):
+    """Sends a signal that is handled, once the program waits, and once more."""
+    for _ in range(2):
+        time.sleep(WAIT)
+        run.send_signal(signal.SIGUSR1)
+
+
+def turn_fault(program, case, signals=None):
+    """What is wrong where each frame is sent only once the one before is answered, if anything is. With the library of
+    signals each of the first waits is cut short."""
     wanted = frames_of(b"".join(case.written))
     with tempfile.NamedTemporaryFile(dir=program.folder) as file:
         file.write(case.bytes("file"))
         file.flush()
-        with program.start([file.name, "-", "-", "run"], case.numbers("clock")) as run:
+        with program.start([file.name, "-", "-", "run"], case.numbers("clock"), signals) as run:
             try:
                 for place, (asked, reply) in enumerate(zip(frames_of(case.bytes("input")), wanted)):
+                    if signals and place < SIGNALS:
+                        cut_short(run)
                     run.stdin.write(asked)
                     run.stdin.flush()
                     if next_frame(run.stdout, SECONDS) != reply:
                         return f"frame {place} is not answered before the next is sent"
                 run.stdin.close()
                 return None if run.wait(LIMIT) == 0 else f"status {run.returncode}"
+            except BrokenPipeError:
+                return f"it ends with status {run.wait(LIMIT)}"
             finally:
                 run.kill()
 
@@ -250,6 +268,8 @@ def main(words):
             told = [tell(*each) for each in pool.map(lambda case: tried(program, case), fit)]
         told += [tell(case, memory_fault(program, case), ", with little memory") for case in served(fit)[:1]]
         told += [tell(case, turn_fault(program, case), ", in turn") for case in longest(fit)]
+        signals = compiled(folder, "signals")
+        told += [tell(case, turn_fault(program, case, signals), ", with signals") for case in longest(fit) if signals]
     failed = sum(told)
     print(f"{len(told) - failed} passed, {failed} failed")
     return 1 if failed else 0

@@ -13,7 +13,8 @@ use Rattle.agent_core.specs.State.{Plan, Ask, Asks}
 use Rattle.agent_core.specs.Journals.{Entry, entry, Stands, IsVerdict, Granted, Denied}
 use Rattle.agent_core.proofs.Few.{one_verdict}
 use Rattle.agent_core.proofs.Onward.{granted_verdict, denied_verdict}
-use Rattle.taos_monitor.specs.Cells.{ObjectPlan, object_of, Node, home, HasPlan, Journals, Place, in_shard}
+use Rattle.object_core.specs.Objects.{ObjectPlan, object_of}
+use Rattle.taos_monitor.specs.Cells.{Node, home, HasPlan, Journals, Place, in_shard}
 use Rattle.taos_monitor.specs.Credentials.{LinkCall, AreOpened, IsFirstRefused, IsFirstFailed}
 use Rattle.taos_monitor.specs.Course.{asking, Used, uses, IsUnbuilt, IsRuled, full, replayed, channel_full, denied, granted, unanswered, Course, malformed, unknown_channel, bad_seal, unbuilt, cert_refused, relay_failed, unknown_object, ruled, unread, unopened}
 use Rattle.taos_monitor.specs.Laws.{CoursesAgree}

@@ -5,7 +5,7 @@ use Rattle.prin_term.specs.declared.limits.TheConstants.{ENTRY_NODES, QUOTED_NOD
 use Rattle.prin_term.specs.Principal.{Principal, node_count}
 use Rattle.prin_term.specs.Refusal.{FitsLimits}
 use Rattle.stmt_codec.specs.Certificates.{Certificate, key_quoting}
-use Rattle.taos_wire.specs.Request.{Request}
+use Rattle.taos_wire.specs.Request.{Request, IsAsked}
 use Rattle.taos_wire.specs.Reply.{sealed}
 use Rattle.agent_core.specs.Journals.{IsOn}
 use Rattle.taos_monitor.specs.declared.refusal.Refusal.{Refusal}
@@ -14,7 +14,7 @@ use Rattle.taos_monitor.specs.Refusals.{refusal}
 use Rattle.taos_monitor.specs.Cells.{Node, Journals}
 use Rattle.taos_monitor.specs.Credentials.{LinkCall, AreOpened, none_more, one_more}
 use Rattle.taos_monitor.specs.Presenting.{AreStopped}
-use Rattle.taos_monitor.specs.Course.{IsUnbuilt, IsAsked, Course, only_calls, cert_refused, relay_failed, unopened}
+use Rattle.taos_monitor.specs.Course.{IsUnbuilt, Course, only_calls, cert_refused, relay_failed, unopened}
 
 pub opened_count : (key : List ℕ) (texts : List (List ℕ)) (calls : List LinkCall) (certs : List Certificate) → AreOpened key texts calls certs → length certs ≡ length texts
 opened_count key texts calls certs none_more = refl
@@ -25,7 +25,7 @@ is_built r refused unbuilt isnt is = let bad : true ≡ false = sym (unbuilt is)
 
 -- the first certificate that comes to none, or no memory for those that do
 pub not_opened : (n : Node) (J : Journals) (r : Request) (calls : List LinkCall) (f : Refusal) → (IsUnbuilt r → ⊥) → AreStopped n.relay_key r.certs calls f →
-    (payload key : List ℕ) → IsAsked n payload r key → Course n J payload (only_calls calls) (sealed key r (refusal f))
+    (payload key : List ℕ) → IsAsked n.channels payload r key → Course n J payload (only_calls calls) (sealed key r (refusal f))
 not_opened n J r calls (refusals.CertRefused index code) built stops payload key asked = cert_refused (record { asked = asked; built = built }) stops
 not_opened n J r calls (refusals.RelayFailed index) built stops payload key asked = relay_failed (record { asked = asked; built = built }) stops
 not_opened n J r calls refusals.NoMemory built stops payload key asked = unopened (record { asked = asked; built = built }) stops

@@ -3,7 +3,8 @@ use Rattle.std.proofs.Common.{◌≡◌, ℕ, ◌+◌, ◌-◌, ◌^◌, ◌<◌
 use Rattle.taos_wire.specs.Reply.{Reply, CertRefused}
 use Rattle.agent_core.specs.State.{Plan, Ask}
 use Rattle.agent_core.specs.Journals.{Entry}
-use Rattle.taos_monitor.specs.Cells.{ObjectPlan, Node}
+use Rattle.object_core.specs.Objects.{ObjectPlan}
+use Rattle.taos_monitor.specs.Cells.{Node}
 use Rattle.taos_monitor.specs.Credentials.{LinkAnswer, Resealed, Refused, Lacked, Failed, LinkCall, IsRefused, refused, bad_reseal, CountsAs, FailedAs}
 use Rattle.taos_monitor.specs.Credentials as cert
 use Rattle.taos_monitor.specs.Course.{asking, IsRuled, full, replayed, channel_full, denied, granted, unanswered, malformed, unknown_channel, bad_seal, unbuilt, cert_refused, relay_failed, unknown_object, ruled, unread, unopened}

@@ -13,7 +13,8 @@ use Rattle.std.proofs.lemmas.List.{map_push}
 use Rattle.agent_core.specs.State.{Plan}
 use Rattle.taos_monitor.specs.declared.node_keys.NodeKeys.{NodeKeys}
 use Rattle.taos_monitor.specs.Arriving.{node_of}
-use Rattle.taos_monitor.specs.Cells.{ObjectPlan, AreLegal}
+use Rattle.object_core.specs.Objects.{ObjectPlan}
+use Rattle.taos_monitor.specs.Cells.{AreLegal}
 use Rattle.taos_monitor.specs.World.{Setting, World, setting_of}
 use Rattle.taos_monitor.specs.Credentials.{LinkCall}
 use Rattle.taos_monitor.specs.Course.{uses}

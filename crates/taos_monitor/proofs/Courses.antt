@@ -8,7 +8,7 @@ use Rattle.keyed_seal.specs.Keys.{key_of}
 use Rattle.prin_term.specs.Principal.{Principal}
 use Rattle.frame_link.specs.Readings.{ShowsKnown}
 use Rattle.frame_link.specs.Relay.{Said}
-use Rattle.taos_wire.specs.Request.{Request}
+use Rattle.taos_wire.specs.Request.{Request, IsAsked}
 use Rattle.taos_wire.specs.Reply.{Reply, sealed, unsealed, spelling}
 use Rattle.taos_wire.specs.View.{cited as shared}
 use Rattle.agent_core.specs.State.{Plan, Ask}
@@ -20,10 +20,11 @@ use Rattle.taos_monitor.specs.declared.handling.Handled.TheVariants as handled
 use Rattle.taos_monitor.specs.declared.node_keys.NodeKeys.{NodeKeys}
 use Rattle.taos_monitor.specs.declared.refusal.Refusal.{Refusal}
 use Rattle.taos_monitor.specs.Refusals.{refusal}
-use Rattle.taos_monitor.specs.Cells.{ObjectPlan, Node, Journals, Place, in_shard, seen_of}
+use Rattle.object_core.specs.Objects.{ObjectPlan}
+use Rattle.taos_monitor.specs.Cells.{Node, Journals, Place, in_shard, seen_of}
 use Rattle.taos_monitor.specs.World.{Setting, World, setting_of, world_of}
 use Rattle.taos_monitor.specs.Credentials.{LinkCall, link_use}
-use Rattle.taos_monitor.specs.Course.{IsAsked, Arrival, Used, uses, nothing, only_calls, Course, IsRuled, asking, ask_of, ruled}
+use Rattle.taos_monitor.specs.Course.{Arrival, Used, uses, nothing, only_calls, Course, IsRuled, asking, ask_of, ruled}
 use Rattle.taos_monitor.specs.Arriving.{node_of, object_seen, StandsFor, IsNotAsked, Arrives, NotArrives}
 use Rattle.taos_monitor.specs.Ruling.{Leaves, RuledTo, ask_seen}
 use Rattle.taos_monitor.specs.Handling.{HandledTo, StoppedAtClock, Handles, Answers}
@@ -43,8 +44,8 @@ module _ (keys : NodeKeys) (plans : List Plan) (objects : List ObjectPlan) (alon
 
   -- the key of the payload's channel is that one
   under_key : (J : Journals) (used : Used) (reply : Reply) →
-      ((payload k : List ℕ) → IsAsked node payload r k → Course node J payload used (sealed k r reply)) →
-      (payload k : List ℕ) → IsAsked node payload r k → Course node J payload used (sealed key r reply)
+      ((payload k : List ℕ) → IsAsked node.channels payload r k → Course node J payload used (sealed k r reply)) →
+      (payload k : List ℕ) → IsAsked node.channels payload r k → Course node J payload used (sealed key r reply)
   under_key J used reply f payload k asked =
       subst (λ (other : List ℕ). Course node J payload used (sealed other r reply)) (same_Some k key (sym asked.keyed ∙ known)) (f payload k asked)
 
@@ -64,7 +65,7 @@ module _ (keys : NodeKeys) (plans : List Plan) (objects : List ObjectPlan) (alon
   }
 
   module _ (a : Arrived) (came : Arrives keys objects (link_use says keys.node faults0 faults1) r a) where
-    abbrev arrival : (payload k : List ℕ) → IsAsked node payload r k → Arrival node payload
+    abbrev arrival : (payload k : List ℕ) → IsAsked node.channels payload r k → Arrival node payload
     arrival payload k asked = record { request = r; key = k; calls = came.calls; certs = map shared a.certs.items; object = object_seen r.object a.shown; arrived = came.arrived plans payload k asked }
 
     pub stopped_at_clock : (clock0 clock1 : Option (List ℕ)) → Keeps clock0 clock1 → StoppedAtClock (setting_of node alone says) (world_of clock0 faults0 seen0 own0) (world_of clock1 faults1 seen0 own0) r
@@ -115,7 +116,7 @@ unasked_to keys plans objects alone says faults seen own clock payload f bytes l
 }
 
 -- what is promised of a request holds of the payload that it is
-pub answers_as : (s : Setting) (w0 w1 : World) (r : Request) (payload key bytes : List ℕ) → IsAsked s.node payload r key → (h : Handled) → Handles s w0 w1 r bytes h → Answers s w0 w1 payload bytes h
+pub answers_as : (s : Setting) (w0 w1 : World) (r : Request) (payload key bytes : List ℕ) → IsAsked s.node.channels payload r key → (h : Handled) → Handles s w0 w1 r bytes h → Answers s w0 w1 payload bytes h
 answers_as s w0 w1 r payload key bytes asked handled.Replied t = record {
   used = t.used;
   sent = t.sent;

@@ -7,7 +7,8 @@ use Rattle.taos_wire.specs.Reply.{Reply, status_of}
 use Rattle.taos_wire.proofs.RequestLaws.{spelled_once}
 use Rattle.agent_core.specs.State.{Plan, Ask}
 use Rattle.agent_core.specs.Journals.{Entry}
-use Rattle.taos_monitor.specs.Cells.{ObjectPlan, object_of, Node}
+use Rattle.object_core.specs.Objects.{ObjectPlan, object_of}
+use Rattle.taos_monitor.specs.Cells.{Node}
 use Rattle.taos_monitor.specs.Credentials.{LinkCall, AreOpened}
 use Rattle.taos_monitor.specs.Course.{asking, IsUnbuilt, IsRuled, full, replayed, channel_full, denied, granted, unanswered, Arrival, malformed, unknown_channel, bad_seal, unbuilt, cert_refused, relay_failed, unknown_object, ruled, unread, unopened}
 use Rattle.taos_monitor.specs.Laws.{ArrivalExcludes}

@@ -5,7 +5,8 @@ use Rattle.std.proofs.lemmas.List.Quantifiers.{all_pairs_push}
 use Rattle.taos_wire.specs.Reply.{Reply, Sent}
 use Rattle.agent_core.specs.State.{Plan, Ask}
 use Rattle.agent_core.specs.Journals.{Entry, Stands}
-use Rattle.taos_monitor.specs.Cells.{ObjectPlan, Node, HasPlan, Journals, OfShard, Place, in_shard, entries_in, AreLegal}
+use Rattle.object_core.specs.Objects.{ObjectPlan}
+use Rattle.taos_monitor.specs.Cells.{Node, HasPlan, Journals, OfShard, Place, in_shard, entries_in, AreLegal}
 use Rattle.taos_monitor.specs.Credentials.{LinkCall}
 use Rattle.taos_monitor.specs.Course.{asking, Used, shard_full, IsRuled, full, replayed, channel_full, denied, granted, unanswered, Course, malformed, unknown_channel, bad_seal, unbuilt, cert_refused, relay_failed, unknown_object, ruled, unread, unopened}
 use Rattle.taos_monitor.specs.Run.{Turn, IsCourse, IsFilledBefore}

@@ -5,7 +5,8 @@ use Rattle.agent_core.specs.State.{Plan, Ask}
 use Rattle.agent_core.specs.Journals.{Entry, Begins, IsLegalJournal}
 use Rattle.agent_core.specs.Asked.{Unanswered}
 use Rattle.agent_core.proofs.Onward.{stands_on, granted_stays, denied_stays, told_stays}
-use Rattle.taos_monitor.specs.Cells.{ObjectPlan, Node}
+use Rattle.object_core.specs.Objects.{ObjectPlan}
+use Rattle.taos_monitor.specs.Cells.{Node}
 use Rattle.taos_monitor.specs.Course.{asking, IsRuled, full, replayed, channel_full, denied, granted, unanswered, malformed, unknown_channel, bad_seal, unbuilt, cert_refused, relay_failed, unknown_object, ruled, unread, unopened}
 use Rattle.taos_monitor.specs.Laws.{CourseStays}
 

@@ -8,7 +8,7 @@ use Rattle.agent_core.specs.State.{Plan, Ask}
 use Rattle.agent_core.specs.Journals.{Entry}
 use Rattle.agent_core.specs.Asked.{EndsBy}
 use Rattle.agent_core.proofs.Onward.{granted_verdict}
-use Rattle.taos_monitor.specs.Cells.{ObjectPlan}
+use Rattle.object_core.specs.Objects.{ObjectPlan}
 use Rattle.taos_monitor.specs.Course.{asking, IsRuled, full, replayed, channel_full, denied, granted, unanswered}
 use Rattle.taos_monitor.specs.Ruling.{IsToldBy}
 

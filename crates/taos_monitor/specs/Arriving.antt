@@ -3,7 +3,7 @@ use Rattle.std.specs.Prelude.{◌≡◌, ℕ, ◌≤◌, List, length, map}
 use Rattle.std.specs.Arc.{arc_value}
 use Rattle.object_core.specs.Operation.{right_of, IsAccessList, IsContent}
 use Rattle.prin_term.specs.View.{grant, principal}
-use Rattle.taos_wire.specs.Request.{Request, subject_of}
+use Rattle.taos_wire.specs.Request.{Request, subject_of, IsAsked}
 use Rattle.taos_wire.specs.Reply.{sealed, unsealed}
 use Rattle.taos_wire.specs.View.{cited as shared}
 use Rattle.agent_core.specs.State.{Plan}
@@ -11,9 +11,10 @@ use Rattle.taos_monitor.specs.declared.arrival.Arrived.{Arrived}
 use Rattle.taos_monitor.specs.declared.node_keys.NodeKeys.{NodeKeys}
 use Rattle.taos_monitor.specs.declared.refusal.Refusal.{Refusal}
 use Rattle.taos_monitor.specs.declared.shelf.Shown.{Shown}
-use Rattle.taos_monitor.specs.Cells.{Journals, Node, ObjectPlan}
+use Rattle.object_core.specs.Objects.{ObjectPlan}
+use Rattle.taos_monitor.specs.Cells.{Journals, Node}
 use Rattle.taos_monitor.specs.Credentials.{LinkCall, LinkUse, IsLinked}
-use Rattle.taos_monitor.specs.Course.{IsAsked, brought, HasArrived, Course, nothing, only_calls}
+use Rattle.taos_monitor.specs.Course.{brought, HasArrived, Course, nothing, only_calls}
 use Rattle.taos_monitor.specs.Refusals.{refusal}
 
 -- the node of these keys, plans and objects
@@ -43,11 +44,10 @@ pub record StandsFor (r : Request) (a : Arrived) : Type 0 where
   pub content : IsContent (object_seen r.object a.shown).content
   pub list : IsAccessList (object_seen r.object a.shown).list
 
--- the payload is the request, under the seal of its channel's key, however the cells are opened
+-- the payload is the request, under the seal of its channel's key
 pub record IsAskedBy (keys : NodeKeys) (payload : List ℕ) (r : Request) : Type 0 where
   pub key : List ℕ
-  pub asked : (plans : List Plan) (objects : List ObjectPlan) →
-      IsAsked (node_of keys plans objects) payload r key
+  pub asked : IsAsked keys.channels.entries payload r key
 
 -- a course ends at the payload, without a seal, as the refusal says
 abbrev pub IsNotAsked : NodeKeys → List ℕ → Refusal → Type 0
@@ -62,7 +62,7 @@ module _ (keys : NodeKeys) (objects : List ObjectPlan) (u : LinkUse) (r : Reques
     pub calls : List LinkCall
     pub linked : IsLinked u.says u.node u.before u.after calls
     pub arrived : (plans : List Plan) (payload key : List ℕ) →
-        IsAsked (node_of keys plans objects) payload r key →
+        IsAsked keys.channels.entries payload r key →
         HasArrived (node_of keys plans objects) payload r key
         (brought calls (map shared a.certs.items) (object_seen r.object a.shown))
     pub stands : StandsFor r a
@@ -72,6 +72,6 @@ module _ (keys : NodeKeys) (objects : List ObjectPlan) (u : LinkUse) (r : Reques
     pub calls : List LinkCall
     pub linked : IsLinked u.says u.node u.before u.after calls
     pub course : (plans : List Plan) (J : Journals) (payload key : List ℕ) →
-        IsAsked (node_of keys plans objects) payload r key →
+        IsAsked keys.channels.entries payload r key →
         Course (node_of keys plans objects) J payload (only_calls calls)
         (sealed key r (refusal f))

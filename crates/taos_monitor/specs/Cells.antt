@@ -2,20 +2,10 @@
 -- places of entries there.
 use Rattle.std.specs.Prelude.{◌≡◌, ℕ, ◌+◌, ◌<◌, ◌≤◌, ◌==◌, if◌then◌else◌, Bool, true, List, ◌++◌, length, find, filter_map, Option, Some, None, slice_get, All, AllPairs}
 use Rattle.keyed_seal.specs.Keys.{Entries}
-use Rattle.prin_term.specs.View.{Grant}
+use Rattle.object_core.specs.Objects.{ObjectPlan}
 use Rattle.agent_core.specs.State.{Plan}
 use Rattle.agent_core.specs.Plans.{home as home_among}
 use Rattle.agent_core.specs.Journals.{Entry, Begins, IsLegalJournal}
-
--- an object: its number, its content and its access list
-pub record ObjectPlan : Type 0 where
-  pub number : ℕ
-  pub content : List ℕ
-  pub list : List Grant
-
--- the first object that has the number
-abbrev pub object_of : List ObjectPlan → ℕ → Option ObjectPlan
-object_of objects number = find (λ (p : ObjectPlan). p.number == number) objects
 
 -- the keys of a node, and what its cells are opened with
 pub record Node : Type 0 where

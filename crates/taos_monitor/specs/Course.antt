@@ -7,7 +7,7 @@ use Rattle.prin_term.specs.View.{Grant}
 use Rattle.proof_cache.specs.Cached.{Cached}
 use Rattle.stmt_codec.specs.Certificates.{Certificate}
 use Rattle.prin_term.specs.declared.fault.FormatFault.TheVariants as wire
-use Rattle.taos_wire.specs.Request.{Request, Spells, IsSealed, subject_of}
+use Rattle.taos_wire.specs.Request.{Request, Spells, IsAsked, IsSealed, subject_of}
 use Rattle.taos_wire.specs.RequestReading.{request_of}
 use Rattle.taos_wire.specs.Reply as replies
 use Rattle.taos_wire.specs.Reply.{Reply, LinkSent, Sent, sealed, unsealed}
@@ -17,7 +17,8 @@ use Rattle.agent_core.specs.declared.asked.Denial.TheVariants as denials
 use Rattle.agent_core.specs.State.{Plan, Ask}
 use Rattle.agent_core.specs.Journals.{Entry}
 use Rattle.agent_core.specs.Asked.{IsGrantedAt, IsDeniedAt, IsTold, Unanswered}
-use Rattle.taos_monitor.specs.Cells.{ObjectPlan, object_of, Node, home, HasPlan, Journals, Place, in_shard}
+use Rattle.object_core.specs.Objects.{ObjectPlan, object_of}
+use Rattle.taos_monitor.specs.Cells.{Node, home, HasPlan, Journals, Place, in_shard}
 use Rattle.taos_monitor.specs.Credentials.{LinkCall, AreOpened, IsFirstRefused, IsFirstFailed, IsInterrupted}
 
 -- no answer to the request is built yet: its operation is not Read
@@ -25,12 +26,12 @@ abbrev pub IsUnbuilt : Request → Type 0
 IsUnbuilt r = r.op ≢ Read
 
 -- what a denial tells: a part of an entry by itself
-abbrev pub Tells : List Grant → Denial → LinkSent → Type 0
-Tells list (denials.Expired entry digest) told = told ≡ replies.Expired entry digest
-Tells list (denials.Missing entry node) told =
+abbrev pub TellsDenial : List Grant → Denial → LinkSent → Type 0
+TellsDenial list (denials.Expired entry digest) told = told ≡ replies.Expired entry digest
+TellsDenial list (denials.Missing entry node) told =
     (g : Grant) × (part : Principal) × (slice_get list entry ≡ Some g)
     × (slice_get (subterms g.who) node ≡ Some part) × (told ≡ replies.Missing entry part)
-Tells list denials.NoEntry told = told ≡ replies.NoEntry
+TellsDenial list denials.NoEntry told = told ≡ replies.NoEntry
 
 -- a journal that stands at its limit, by the mark of its sort, its number and its length
 abbrev pub shard_full : ℕ → ℕ → Reply
@@ -71,7 +72,7 @@ pub data IsRuled (plan : Plan) (journal : List Entry) (x : Asking) : List ℕ �
       IsTold plan journal x.ask place (Told.Full held) →
       IsRuled plan journal x (place ∷ []) (replies.ChannelFull held)
   denied : {place : ℕ} {denial : Denial} {told : LinkSent} →
-      IsDeniedAt plan journal x.ask place denial → Tells x.object.list denial told →
+      IsDeniedAt plan journal x.ask place denial → TellsDenial x.object.list denial told →
       IsRuled plan journal x (place ∷ []) (replies.Denied x.shard place told)
   granted : {place entry : ℕ} {c : Cached} →
       IsGrantedAt plan journal x.ask place entry c →
@@ -113,15 +114,9 @@ abbrev pub brought : List LinkCall → List Certificate → ObjectPlan → Broug
 brought calls certs object = record { calls = calls; certs = certs; object = object }
 
 module _ (n : Node) where
-  -- the payload is this request, under the seal of its channel's key
-  pub record IsAsked (payload : List ℕ) (r : Request) (key : List ℕ) : Type 0 where
-    pub spelled : Spells r payload
-    pub keyed : key_of n.channels r.channel ≡ Some key
-    pub seal : IsSealed key payload
-
-  -- the payload is such a request, of an operation that is built
+  -- the payload is a request under its channel's seal, of an operation that is built
   pub record IsBuilt (payload : List ℕ) (r : Request) (key : List ℕ) : Type 0 where
-    pub asked : IsAsked payload r key
+    pub asked : IsAsked n.channels payload r key
     pub built : IsUnbuilt r → ⊥
 
   -- such a request, whose certificates open, by these calls of the link
@@ -173,7 +168,7 @@ module _ (n : Node) where
         Spells r payload → key_of n.channels r.channel ≡ Some key → (IsSealed key payload → ⊥) →
         Course J payload nothing (unsealed replies.BadSeal)
     unbuilt : {r : Request} {key : List ℕ} →
-        IsAsked payload r key → IsUnbuilt r →
+        IsAsked n.channels payload r key → IsUnbuilt r →
         Course J payload nothing (sealed key r replies.Unbuilt)
     cert_refused : {r : Request} {key : List ℕ} {calls : List LinkCall} {index code : ℕ} →
         IsBuilt payload r key → IsFirstRefused n.relay_key r.certs calls index code →

@@ -4,14 +4,15 @@ use Rattle.std.specs.Io.KnownBytes.{Keeps}
 use Rattle.frame_link.specs.Faults.{Rose}
 use Rattle.frame_link.specs.Readings.{ShowsKnown}
 use Rattle.stmt_codec.specs.Certificates.{Certificate}
-use Rattle.taos_wire.specs.Request.{Request}
+use Rattle.taos_wire.specs.Request.{Request, IsAsked}
 use Rattle.taos_wire.specs.Reply.{Sent, spelling}
 use Rattle.taos_monitor.specs.declared.handling.Handled.{Handled}
 use Rattle.taos_monitor.specs.declared.handling.Handled.TheVariants as handled
-use Rattle.taos_monitor.specs.Cells.{ObjectPlan, AreLegal, GoesOn}
+use Rattle.object_core.specs.Objects.{ObjectPlan}
+use Rattle.taos_monitor.specs.Cells.{AreLegal, GoesOn}
 use Rattle.taos_monitor.specs.World.{Setting, World}
 use Rattle.taos_monitor.specs.Credentials.{LinkCall, IsLinked}
-use Rattle.taos_monitor.specs.Course.{IsAsked, brought, HasArrived, Arrival, Used, Course}
+use Rattle.taos_monitor.specs.Course.{brought, HasArrived, Arrival, Used, Course}
 
 -- the clock gave these readings, one after the other
 abbrev pub Gave : Option (List ℕ) → Option (List ℕ) → List ℕ → Type 0
@@ -21,7 +22,7 @@ Gave before after (x ∷ xs) =
 
 module _ (s : Setting) (before after : World) where
   -- a course of which this holds was taken to a reply
-  pub record Takes (IsTaken : Used → Sent → Type 0) (bytes : List ℕ) : Type 0 where
+  pub record HasCourse (IsTaken : Used → Sent → Type 0) (bytes : List ℕ) : Type 0 where
     -- what the clock gave, what the link was asked and answered, and the own places
     pub used : Used
     pub sent : Sent
@@ -46,14 +47,14 @@ module _ (s : Setting) (before after : World) where
   -- a course of the request was taken to a reply, whichever payload under its channel's seal it was
   abbrev pub HandledTo : Request → List ℕ → Type 0
   HandledTo r bytes =
-      Takes (λ used sent. (payload key : List ℕ) → IsAsked s.node payload r key →
+      HasCourse (λ used sent. (payload key : List ℕ) → IsAsked s.node.channels payload r key →
       Course s.node after.seen.journals payload used sent) bytes
 
   -- the request came to the clock, which failed
   abbrev pub StoppedAtClock : Request → Type 0
   StoppedAtClock r =
       StopsAtClock (λ calls. (certs : List Certificate) × (object : ObjectPlan) ×
-      ((payload key : List ℕ) → IsAsked s.node payload r key →
+      ((payload key : List ℕ) → IsAsked s.node.channels payload r key →
       HasArrived s.node payload r key (brought calls certs object)))
 
   -- one or the other, of a request
@@ -64,7 +65,7 @@ module _ (s : Setting) (before after : World) where
   -- a course of the payload was taken to a reply
   abbrev pub AnsweredTo : List ℕ → List ℕ → Type 0
   AnsweredTo payload bytes =
-      Takes (λ used sent. Course s.node after.seen.journals payload used sent) bytes
+      HasCourse (λ used sent. Course s.node after.seen.journals payload used sent) bytes
 
   -- the payload came to the clock, which failed
   abbrev pub UnansweredAtClock : List ℕ → Type 0

@@ -1,7 +1,8 @@
 -- What is promised of a ruling: of the ask that a request makes, and of the reply that is left.
 use Rattle.std.specs.Prelude.{◌≡◌, ◌⊎◌, ℕ, ◌<◌, ◌≤◌, ◌^◌, Bool, false, List, length, map, Some, slice_get}
 use Rattle.std.specs.Arc.{arc_value}
-use Rattle.object_core.specs.Operation.{IsByte, IsDigest}
+use Rattle.object_core.specs.Operation.{IsDigest}
+use Rattle.prin_term.specs.Steps.{IsByte}
 use Rattle.prin_term.specs.Principal.{Principal, subterms}
 use Rattle.prin_term.specs.View.{Grant, grant, principal}
 use Rattle.proof_cache.specs.Cached.{cached}
@@ -19,8 +20,9 @@ use Rattle.agent_core.specs.State.{Plan, Ask}
 use Rattle.agent_core.specs.Journals.{Entry, IsLegalJournal}
 use Rattle.taos_monitor.specs.declared.arrival.Arrived.{Arrived}
 use Rattle.taos_monitor.specs.declared.ruling.Came.{Came}
-use Rattle.taos_monitor.specs.Cells.{ObjectPlan, Seen, GoesOn, in_shard}
-use Rattle.taos_monitor.specs.Course.{Tells, Asking, IsRuled, shard_full}
+use Rattle.object_core.specs.Objects.{ObjectPlan}
+use Rattle.taos_monitor.specs.Cells.{Seen, GoesOn, in_shard}
+use Rattle.taos_monitor.specs.Course.{TellsDenial, Asking, IsRuled, shard_full}
 
 -- the ask that stands for a request that came to its object
 abbrev pub ask_seen : Request → Arrived → ℕ → Ask
@@ -60,7 +62,7 @@ IsToldBy object shard place (verdict.Granted e c) reply =
     (cached (arc_value {X = CachedValue} c)).proof (cached (arc_value {X = CachedValue} c)).cites
     object.content) ⊎ (reply ≡ replies.NoMemory)
 IsToldBy object shard place (verdict.Denied denial) reply =
-    (told : LinkSent) × Tells object.list denial told × (reply ≡ replies.Denied shard place told)
+    (told : LinkSent) × TellsDenial object.list denial told × (reply ≡ replies.Denied shard place told)
 IsToldBy object shard place (verdict.Replayed last) reply = reply ≡ replies.Replayed last
 IsToldBy object shard place (verdict.Full held) reply = reply ≡ replies.ChannelFull held
 IsToldBy object shard place (verdict.JournalFull n) reply = reply ≡ shard_full shard n

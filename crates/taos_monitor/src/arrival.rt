@@ -1,11 +1,8 @@
 //! What a request asks of its object.
 
 ghost use Rattle.std.specs.Prelude.{◌≡◌, ◌≤◌, ◌↔◌, IfErr, IfOk, IsTrue, length, All};
-ghost use Rattle.std.specs.Option.{option_map};
 ghost use Rattle.object_core.specs.Operation as math;
 ghost use Rattle.object_core.specs.View.{operation};
-ghost use Rattle.prin_term.specs.View.{principal};
-ghost use Rattle.stmt_codec.specs.Certificates.{key_quoting};
 ghost use Rattle.taos_wire.specs.Request.{FitsRequest};
 ghost use Rattle.taos_wire.specs.View.{request};
 ghost use Rattle.taos_monitor.specs.Course.{IsUnbuilt};
@@ -19,9 +16,9 @@ use crate::shelf::{Shelf, Shown};
 use frame_link::RelayLink;
 use object_core::{Op, right_of};
 use prin_term::Term;
-use std::alloc::{AllocError, Global};
+use std::alloc::Global;
 use std::sync::Arc;
-use stmt_codec::Cert;
+use stmt_codec::{Cert, speaker_of};
 use taos_wire::Request;
 
 /// A request that came to its object: who asks for which right, by which certificates.
@@ -46,18 +43,6 @@ fn is_unbuilt(asked: &Request) -> bool
     ensures { IsTrue result ↔ IsUnbuilt (request asked.now) }
 {
     !is_read(&asked.op)
-}
-
-// The channel's key, or that key quoting somebody.
-fn subject_of(alloc: Global, channel: u32, quoted: &Option<Term>) -> Result<Term, AllocError>
-    ensures { IfOk result
-        (λ t. principal t ≡ key_quoting channel (option_map principal quoted.now)) }
-{
-    let key = Term::Key(channel);
-    match quoted {
-        None => Ok(key),
-        Some(term) => Ok(Term::Quote(Box::new(alloc, key)?, Box::new(alloc, term.copy(alloc)?)?)),
-    }
 }
 
 /// What a sealed request asks of its object; or what is answered under the same key.
@@ -88,7 +73,7 @@ pub(crate) fn arrive<'a, H: Shelf, R: RelayLink>(
         });
     };
     Ok(Arrived {
-        subject: subject_of(alloc, asked.channel, &asked.quoted)?,
+        subject: speaker_of(alloc, asked.channel, &asked.quoted)?,
         right: right_of(&asked.op),
         certs,
         shown,

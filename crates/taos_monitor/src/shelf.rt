@@ -3,7 +3,7 @@
 ghost use Rattle.std.specs.Prelude.{◌≡◌, List, map, None, Some, MatchOption};
 ghost use Rattle.prin_term.specs.View.{grant};
 ghost use Rattle.object_core.specs.Operation.{IsAccessList, IsContent};
-ghost use Rattle.taos_monitor.specs.Cells.{ObjectPlan, object_of};
+ghost use Rattle.object_core.specs.Objects.{ObjectPlan, object_of};
 
 use prin_term::Entry;
 use std::sync::Arc;

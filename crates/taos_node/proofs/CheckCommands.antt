@@ -6,10 +6,10 @@ use Rattle.node_file.proofs.Listed.{same_node}
 use Rattle.node_file.specs.Meaning.{opening}
 use Rattle.taos_node.specs.declared.check.CheckEnd.{CheckEnd}
 use Rattle.taos_node.specs.Findings.{Checks}
-use Rattle.taos_node.specs.Command.{Opens, Touched, UsesNoLane, LooksOver}
+use Rattle.taos_node.specs.Command.{OpensNode, Touched, UsesNoLane, LooksOver}
 use Rattle.taos_node.proofs.SameFindings.{checks_at}
 
-pub looked_over : (before after : Touched) (node : code.Opening) (o : Opening) (end : CheckEnd) → Opens before.file after.file o → Represents node o →
+pub looked_over : (before after : Touched) (node : code.Opening) (o : Opening) (end : CheckEnd) → OpensNode before.file after.file o → Represents node o →
     Checks (opening node) before.input.told after.input.told before.output.told after.output.told end → UsesNoLane before after → LooksOver before after end
 looked_over before after node o end opens r c lane = record {
   node = o;

@@ -1,10 +1,9 @@
 -- What a file decides, and what the first lane tells.
-use Rattle.std.proofs.Common.{◌≡◌, ◌≢◌, ℕ, ◌-◌, ◌^◌, ◌<◌, ◌≤◌, true, List, [], ◌∷◌, length, slice_index_or, slice_set, Some, refl, sym, ap, subst, arith, inl, inr}
+use Rattle.std.proofs.Common.{◌≡◌, ◌≢◌, ◌⊎◌, ℕ, ◌-◌, ◌^◌, ◌<◌, ◌≤◌, true, List, [], ◌∷◌, length, slice_index_or, slice_set, Some, Err, refl, sym, ap, subst, arith, inl, inr}
 use Rattle.std.specs.Prelude.{Option}
 use Rattle.std.specs.Io.KnownBytes.{Consumes, IsAtEnd}
 use Rattle.std.proofs.lemmas.List.{length-append}
 use Rattle.frame_link.specs.declared.outcome.Outcome.{Outcome}
-use Rattle.frame_link.specs.declared.outcome.Outcome.TheVariants.{End, Truncated, TooLong, ReadFault, WriteFault, ClockFault, Spent, NoMemory}
 use Rattle.frame_link.specs.Faults.{Rose}
 use Rattle.frame_link.specs.Relay.{Said}
 use Rattle.taos_node.specs.declared.command.Lane.{Lane}
@@ -16,8 +15,13 @@ use Rattle.taos_node.specs.declared.ending.FileFault.TheVariants as fault
 use Rattle.taos_node.specs.declared.ending.FileFault.TheVariants.{Malformed, TooLarge}
 use Rattle.taos_node.specs.Ending.{file_status}
 use Rattle.frame_link.specs.Streams.{Stream, stream}
-use Rattle.taos_node.specs.Command.{IsOpeningFile, Opens, IsMalformed, IsTooLarge, FileFails, FaultHasCause, FileDecides, Link, link, touched, with_seen, first_clock, first_link, max_file, max_frames}
-use Rattle.node_file.proofs.OpeningLaws.{opening_again}
+use Rattle.taos_node.specs.Command.{IsOpeningFile, OpensNode, IsMalformed, IsTooLarge, FileFails, FaultHasCause, FileDecides, Link, link, touched, with_seen, first_clock, first_link, max_file}
+use Rattle.node_file.specs.declared.fault.FileCause.{FileCause}
+use Rattle.node_file.specs.declared.fault.FileFault.{FileFault as OpeningFault}
+use Rattle.node_file.specs.declared.fault.FileFault.TheVariants as openings
+use Rattle.node_file.specs.declared.limits.TheConstants.{MAX_FILE as MAX_OPENING}
+use Rattle.node_file.specs.OpeningReading.{opening_in}
+use Rattle.node_file.proofs.Whole.{meant_again, no_line}
 use Rattle.frame_link.proofs.Complete.{left_after, all_taken}
 use Rattle.taos_monitor.specs.World.{setting_of}
 
@@ -33,7 +37,7 @@ told_is file0 file1 bytes read took at_end told = all_taken bytes read file1 (su
 pub not_malformed : (file0 file1 : Stream) (bytes : List ℕ) (o : Opening) (offset : ℕ) → IsMalformed file0 file1 offset → file0.told ≡ Some bytes → IsOpeningFile o bytes → ⊥
 not_malformed file0 file1 bytes o offset bad told is =
     let same : bytes ≡ bad.bytes = told_is file0.told file1.told bytes bad.bytes bad.read bad.at_end told in
-    absurd (cc (bad.fault, opening_again bad.bytes o (subst (Spells o) same is.0)))
+    absurd (cc (bad.fault, meant_again bad.bytes o bad.short (subst (Spells o) same is.0)))
 
 pub not_too_large : (file0 file1 : Stream) (bytes : List ℕ) (o : Opening) → IsTooLarge file0 file1 → file0.told ≡ Some bytes → IsOpeningFile o bytes → ⊥
 not_too_large file0 file1 bytes o bad told is =
@@ -41,17 +45,17 @@ not_too_large file0 file1 bytes o bad told is =
     absurd (omega (arith, bad.large, is.1, ap length behind.2, length-append bad.bytes behind.0))
 
 -- and one that was opened tells nothing else
-pub is_opened : (file0 file1 : Stream) (bytes : List ℕ) (o : Opening) → Opens file0 file1 o → file0.told ≡ Some bytes → IsOpeningFile o bytes
+pub is_opened : (file0 file1 : Stream) (bytes : List ℕ) (o : Opening) → OpensNode file0 file1 o → file0.told ≡ Some bytes → IsOpeningFile o bytes
 is_opened file0 file1 bytes o opened told =
     subst (IsOpeningFile o) (sym (told_is file0.told file1.told bytes opened.bytes opened.read opened.at_end told)) opened.is_opening
 
-pub file_opens : (file0 file1 : Stream) (bytes : List ℕ) (o : Opening) → Consumes file0.told file1.told bytes → IsAtEnd file1.told → Spells o bytes → length bytes ≤ max_file → Opens file0 file1 o
+pub file_opens : (file0 file1 : Stream) (bytes : List ℕ) (o : Opening) → Consumes file0.told file1.told bytes → IsAtEnd file1.told → Spells o bytes → length bytes ≤ max_file → OpensNode file0 file1 o
 file_opens file0 file1 bytes o read at_end spelled short = record { bytes = bytes; read = read; at_end = at_end; is_opening = (spelled, short) }
 
 -- ---- what the file decides, by what came of it
 
 module _ (file0 file1 : Stream) where
-  pub decided_opened : (o : Opening) (status : ℕ) → Opens file0 file1 o → status ≢ 2 → FileDecides file0 file1 status
+  pub decided_opened : (o : Opening) (status : ℕ) → OpensNode file0 file1 o → status ≢ 2 → FileDecides file0 file1 status
   decided_opened o status opened other = record {
     opens = λ bytes p told is. other;
     refuses = λ bytes told none steady. absurd (none o (is_opened file0 file1 bytes o opened told));
@@ -100,8 +104,13 @@ module _ {C R D I O : Type 0} where
   link_after says faults (other ∷ lanes) lane some = refl
 
 -- a connection over what is touched, as the first lane tells it
-pub touches : (n : Node) (file0 file1 in0 in1 out0 out1 clock0 clock0' clock1 clock1' : Stream) (relay0 relay0' relay1 relay1' : Link) (seen seen' last : Seen) (outcome : Outcome) →
+pub touches : (n : Node) (frames : ℕ) (file0 file1 in0 in1 out0 out1 clock0 clock0' clock1 clock1' : Stream) (relay0 relay0' relay1 relay1' : Link) (seen seen' last : Seen) (outcome : Outcome) →
     clock0' ≡ clock0 → clock1' ≡ clock1 → relay0' ≡ relay0 → relay1' ≡ relay1 → seen' ≡ seen →
-    IsConnection (setting_of n true relay0.says) max_frames (with_seen (touched file0 in0 out0 clock0 relay0) seen) (with_seen (touched file1 in1 out1 clock1 relay1) last) outcome →
-    IsConnection (setting_of n true relay0'.says) max_frames (with_seen (touched file0 in0 out0 clock0' relay0') seen') (with_seen (touched file1 in1 out1 clock1' relay1') last) outcome
-touches n file0 file1 in0 in1 out0 out1 clock0 clock0' clock1 clock1' relay0 relay0' relay1 relay1' seen seen' last outcome e1 e2 e3 e4 e5 c = rw (e1, e2, e3, e4, e5) c
+    IsConnection (setting_of n true relay0.says) frames (with_seen (touched file0 in0 out0 clock0 relay0) seen) (with_seen (touched file1 in1 out1 clock1 relay1) last) outcome →
+    IsConnection (setting_of n true relay0'.says) frames (with_seen (touched file0 in0 out0 clock0' relay0') seen') (with_seen (touched file1 in1 out1 clock1' relay1') last) outcome
+touches n frames file0 file1 in0 in1 out0 out1 clock0 clock0' clock1 clock1' relay0 relay0' relay1 relay1' seen seen' last outcome e1 e2 e3 e4 e5 c = rw (e1, e2, e3, e4, e5) c
+
+-- a file that is short enough is refused at no line
+pub never_line : (bytes : List ℕ) (f : OpeningFault) (line : ℕ) (cause : FileCause) → f ≡ openings.Line line cause → length bytes ≤ MAX_OPENING → (f ≡ openings.NoMemory) ⊎ (opening_in bytes ≡ Err f) → ⊥
+never_line bytes f line cause is short (inl none) = absurd (cc (is, none))
+never_line bytes f line cause is short (inr read) = no_line bytes line cause short (subst (λ (e : OpeningFault). opening_in bytes ≡ Err e) is read)

@@ -8,3 +8,8 @@ pub mod OneInput
 pub mod SameFindings
 pub mod CheckCommands
 pub mod Statuses
+pub mod Made
+pub mod Lines
+pub mod Taken
+pub mod Meanings
+pub mod Found

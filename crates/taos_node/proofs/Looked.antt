@@ -20,7 +20,8 @@ use Rattle.taos_wire.specs.Request.{Request, Spells, IsSealed}
 use Rattle.taos_wire.specs.Reply as answers
 use Rattle.taos_wire.specs.Reply.{SpellsReply, status_of}
 use Rattle.taos_wire.specs.View.{cited, reply as reply_is}
-use Rattle.node_file.specs.Opening.{Opening, ObjectPlan, plan_of}
+use Rattle.object_core.specs.Objects.{ObjectPlan, object_of}
+use Rattle.node_file.specs.Opening.{Opening}
 use Rattle.taos_node.specs.declared.finding.CheckWord.TheVariants as word
 use Rattle.taos_node.specs.declared.finding.Finding.TheVariants.{Refused}
 use Rattle.taos_node.specs.Checking.{HasAsked, HasReplied, IsBelieved, IsGrant, Finds, no_request, no_request_seal, no_reply, no_echo, no_reply_seal, no_entry}
@@ -74,13 +75,13 @@ module _ (o : Opening) (request reply : Option (List ℕ)) where
 
   -- ---- the entry, in the list that the program holds
 
-  pub no_such_entry : (r : Request) (place : ℕ) (lines : List Line) (certs : List Certificate) (object : ObjectPlan) (list : List Entry) → IsGrant o request reply r place lines certs → plan_of o.objects r.object ≡ Some object →
+  pub no_such_entry : (r : Request) (place : ℕ) (lines : List Line) (certs : List Certificate) (object : ObjectPlan) (list : List Entry) → IsGrant o request reply r place lines certs → object_of o.objects r.object ≡ Some object →
       object.list ≡ map grant list → (place < length list → ⊥) → Finds o request reply (Refused word.Entry)
   no_such_entry r place lines certs object list granted there is past =
       no_entry r place lines certs object (record { grant = granted; there = there })
       (λ g stands has. past (place_within list place g (subst (λ (l : List Grant). slice_get l place ≡ Some g) is stands)))
 
-  pub no_right : (r : Request) (place : ℕ) (lines : List Line) (certs : List Certificate) (object : ObjectPlan) (list : List Entry) (e : Entry) → IsGrant o request reply r place lines certs → plan_of o.objects r.object ≡ Some object →
+  pub no_right : (r : Request) (place : ℕ) (lines : List Line) (certs : List Certificate) (object : ObjectPlan) (list : List Entry) (e : Entry) → IsGrant o request reply r place lines certs → object_of o.objects r.object ≡ Some object →
       object.list ≡ map grant list → place < length list → e ≡ slice_index_or list place e → bit_and e.rights (right_of r.op) ≡ 0 → Finds o request reply (Refused word.Entry)
   no_right r place lines certs object list e granted there is within at none =
       no_entry r place lines certs object (record { grant = granted; there = there })

@@ -1,11 +1,10 @@
 -- What an opening opens.
 use Rattle.std.proofs.Common.{◌≡◌, ℕ, zero, suc, ◌+◌, ◌<◌, Bool, true, false, List, [], ◌∷◌, ◌++◌, length, map, take, get_or, None, Some, slice_get, refl, sym, ap, ap₂, subst, ◌∙◌, arith, inl, inr}
-use Rattle.std.specs.Prelude.{Contains, Option, cond}
+use Rattle.std.specs.Prelude.{Contains, Option, cond, ◌==◌}
 use Rattle.std.specs.List.Sorted.{IsStrictlyIncreasing}
 use Rattle.std.specs.Option.{option_map}
 use Rattle.std.proofs.Math.Path.{fun_ext}
-use Rattle.std.specs.Map.{lookup}
-use Rattle.std.specs.Ordering.{is_eq, nat_cmp}
+use Rattle.std.proofs.lemmas.Bool.{eqb-true}
 use Rattle.std.proofs.lemmas.List.{get_or-map, length-map, map_push, take_more}
 use Rattle.std.proofs.lemmas.Option.{get_or_from_slice_get, none-some, same_Some, slice_get_cases, slice_get_within}
 use Rattle.keyed_seal.specs.Keys.{Entries, Keys, IsKeyTable, key_of, number_at}
@@ -13,12 +12,11 @@ use Rattle.object_core.specs.Operation.{IsAccessList, IsContent}
 use Rattle.denial_link.proofs.Members.{Contains-to_map}
 use Rattle.taos_calculus.proofs.Atoms.{Contains-at}
 use Rattle.node_file.specs.declared.opening.Opening as code
-use Rattle.node_file.specs.declared.opening.ObjectPlan.{ObjectPlan as PlanValue}
-use Rattle.node_file.specs.Opening as plain
-use Rattle.node_file.specs.Opening.{Opening, plan_of}
+use Rattle.object_core.specs.Objects.{object_of, ObjectPlan}
+use Rattle.node_file.specs.Opening.{Opening}
 use Rattle.node_file.specs.OpeningView.{Represents}
-use Rattle.node_file.specs.Meaning.{object, opening, FitsByNumber}
-use Rattle.node_file.proofs.Listed.{plan_of-listed, same_node}
+use Rattle.node_file.specs.Meaning.{opening, FitsByNumber}
+use Rattle.node_file.proofs.Listed.{same_node}
 use Rattle.agent_core.specs.Alone.{LoneSeen, plans_in, seen_in, own_in}
 use Rattle.agent_core.specs.Journals.{Entry, ShardSeen}
 use Rattle.agent_core.specs.Opened.{MayOpen, new_shard}
@@ -26,46 +24,26 @@ use Rattle.agent_core.specs.State.{Plan}
 use Rattle.agent_core.proofs.AllShards.{each_channel_at_home}
 use Rattle.taos_monitor.specs.declared.node_keys.NodeKeys.{NodeKeys}
 use Rattle.taos_monitor.specs.Arriving.{node_of}
-use Rattle.taos_monitor.specs.Cells.{ObjectPlan, object_of, seen_of}
+use Rattle.taos_monitor.specs.Cells.{seen_of}
 use Rattle.taos_monitor.specs.Planned.{ArePlanned}
 use Rattle.taos_monitor.proofs.Keyed.{key_listed}
-use Rattle.taos_node.specs.Objects.{AllFit, listed, shown}
-use Rattle.taos_node.specs.Opened.{IsNodeOf, as_cell, its_plans, nothing_seen, numbers_of}
+use Rattle.taos_node.specs.Objects.{AllFit}
+use Rattle.taos_node.specs.Opened.{IsNodeOf, its_plans, nothing_seen, numbers_of}
 
 -- ---- objects
 
-abbrev held : List (ℕ × PlanValue) → List plain.ObjectPlan
-held entries = map (λ e. object e.0 e.1) entries
+numbered_so : (b : Bool) (p q : ObjectPlan) (number : ℕ) (found : Option ObjectPlan) → b ≡ (p.number == number) → cond b (Some p) found ≡ Some q → (found ≡ Some q → q.number ≡ number) → q.number ≡ number
+numbered_so true p q number found is e later = subst (λ (r : ObjectPlan). r.number ≡ number) (same_Some p q e) (eqb-true p.number number (sym is))
+numbered_so false p q number found is e later = later e
 
-found_first : (b : Bool) (p : plain.ObjectPlan) (rest : Option ObjectPlan) (found : Option plain.ObjectPlan) → rest ≡ option_map as_cell found →
-    cond b (Some (as_cell p)) rest ≡ option_map as_cell (cond b (Some p) found)
-found_first true p rest found same = refl
-found_first false p rest found same = same
-
-pub found_as : (entries : List (ℕ × PlanValue)) (number : ℕ) → object_of (listed entries) number ≡ option_map as_cell (plan_of (held entries) number)
-found_as [] number = refl
-found_as (e ∷ entries) number = found_first _ (object e.0 e.1) (object_of (listed entries) number) (plan_of (held entries) number) (found_as entries number)
-
-twice_mapped : (number : ℕ) (o : Option PlanValue) → option_map as_cell (option_map (object number) o) ≡ option_map (shown number) o
-twice_mapped number None = refl
-twice_mapped number (Some p) = refl
-
--- what the map's look-up finds
-pub found_plan : (entries : List (ℕ × PlanValue)) (number : ℕ) (o : Option PlanValue) → lookup (λ k. is_eq (nat_cmp number k)) entries ≡ o →
-    object_of (listed entries) number ≡ option_map (shown number) o
-found_plan entries number o is =
-    found_as entries number ∙ ap (option_map as_cell) (plan_of-listed entries number ∙ ap (option_map (object number)) is) ∙ twice_mapped number o
-
-behind_map : (r : Option plain.ObjectPlan) (p : ObjectPlan) → option_map as_cell r ≡ Some p → (q : plain.ObjectPlan) × (r ≡ Some q) × (as_cell q ≡ p)
-behind_map None p is = absurd (none-some p is)
-behind_map (Some q) p is = (q, refl, same_Some (as_cell q) p is)
+-- what is found has the number
+pub object_of-number : (objects : List ObjectPlan) (number : ℕ) (q : ObjectPlan) → object_of objects number ≡ Some q → q.number ≡ number
+object_of-number [] number q e = absurd (none-some q e)
+object_of-number (p ∷ objects) number q e = numbered_so (p.number == number) p q number (object_of objects number) refl e (object_of-number objects number q)
 
 -- what is looked up is within the limits
-pub all_fit : (node : code.Opening) → FitsByNumber (opening node) → AllFit (listed node.objects.entries)
-all_fit node fits number p is =
-    let q = behind_map (plan_of (held node.objects.entries) number) p (sym (found_as node.objects.entries number) ∙ is) in
-    let f = fits.objects number q.0 q.1 in
-    subst (λ (c : ObjectPlan). IsContent c.content × IsAccessList c.list) q.2 (f.content, f.list)
+pub all_fit : (node : code.Opening) → FitsByNumber (opening node) → AllFit node.objects
+all_fit node fits number p is = let f = fits.objects number p is in (f.content, f.list)
 
 -- ---- channels
 
@@ -133,7 +111,7 @@ same_plans : (a b : Opening) (channels : Entries) → a.shards ≡ b.shards → 
 same_plans a b channels shards anchors commons keep limit = rw (shards, anchors, commons, keep, limit) refl
 
 pub is_node_of : (node : code.Opening) (o : Opening) (keys : NodeKeys) (shards : List ShardSeen) (shelf : List ObjectPlan) → Represents node o → IsKeyTable node.channels →
-    keys.node ≡ node.node → keys.relay_key ≡ node.relay_key → keys.channels ≡ node.channels → shelf ≡ listed node.objects.entries →
+    keys.node ≡ node.node → keys.relay_key ≡ node.relay_key → keys.channels ≡ node.channels → shelf ≡ node.objects →
     shards ≡ map new_shard (its_plans (opening node) node.channels.entries) → IsNodeOf o (node_of keys (plans_in shards) shelf)
 is_node_of node o keys shards shelf r sound number relay_key channels objects are =
     let entries : keys.channels.entries ≡ node.channels.entries = ap (λ (k : Keys). k.entries) channels in
@@ -143,6 +121,6 @@ is_node_of node o keys shards shelf r sound number relay_key channels objects ar
       channels = λ n. ap (λ (k : Entries). key_of k n) entries ∙ r.channels.each n;
       count = ap (λ (k : Entries). length k) entries ∙ r.channels.count;
       ascending = subst (λ (k : Entries). IsStrictlyIncreasing (numbers_of k)) (sym entries) (numbers_ascend node.channels sound);
-      objects = λ n. ap (λ (l : List ObjectPlan). object_of l n) objects ∙ found_as node.objects.entries n ∙ ap (option_map as_cell) ((same_node node o r).objects n);
+      objects = λ n. ap (λ (l : List ObjectPlan). object_of l n) objects ∙ (same_node node o r).objects n;
       plans = ap plans_in are ∙ plans_new (its_plans (opening node) node.channels.entries) ∙ same_plans (opening node) o node.channels.entries r.shards r.anchors r.commons r.keep r.limit ∙ ap (its_plans o) (sym entries);
     }

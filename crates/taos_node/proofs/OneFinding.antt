@@ -15,12 +15,13 @@ use Rattle.taos_wire.specs.Reply as answers
 use Rattle.taos_wire.specs.Reply.{SpellsReply, status_of}
 use Rattle.taos_wire.proofs.RequestLaws as requests
 use Rattle.taos_wire.proofs.ReplyLaws as replies
-use Rattle.node_file.specs.Opening.{Opening, ObjectPlan, plan_of}
+use Rattle.object_core.specs.Objects.{ObjectPlan, object_of}
+use Rattle.node_file.specs.Opening.{Opening}
 use Rattle.taos_node.specs.declared.finding.CheckWord.{CheckWord}
 use Rattle.taos_node.specs.declared.finding.CheckWord.TheVariants as word
 use Rattle.taos_node.specs.declared.finding.Finding.{Finding}
 use Rattle.taos_node.specs.declared.finding.Finding.TheVariants.{Granted, Refused}
-use Rattle.taos_node.specs.Checking.{HasAsked, HasReplied, IsBelieved, IsGrant, IsForObject, IsForEntry, IsProved, Gives, Finds, no_request, no_channel, no_request_seal, no_reply, no_echo, no_reply_seal, no_grant, no_object, no_entry, no_proof, other_conclusion, grants}
+use Rattle.taos_node.specs.Checking.{HasAsked, HasReplied, IsBelieved, IsGrant, IsForObject, IsForEntry, IsProved, ProveByFile, Finds, no_request, no_channel, no_request_seal, no_reply, no_echo, no_reply_seal, no_grant, no_object, no_entry, no_proof, other_conclusion, grants}
 
 -- the place of a word in their order; behind them a grant
 abbrev rank_of : CheckWord → ℕ
@@ -149,7 +150,7 @@ module _ (o : Opening) (request reply : Option (List ℕ)) where
   found_once : (r s : Request) (e f : ℕ) (lines others : List Line) (certs more : List Certificate) (object other : ObjectPlan) → IsForObject o request reply r e lines certs object → IsForObject o request reply s f others more other → object ≡ other
   found_once r s e f lines others certs more object other x y =
       let same = granted_once r s e f lines others certs more x.grant y.grant in
-      one_value (plan_of o.objects r.object) object other x.there (subst (λ (t : Request). plan_of o.objects t.object ≡ Some other) (sym same.request_is) y.there)
+      one_value (object_of o.objects r.object) object other x.there (subst (λ (t : Request). object_of o.objects t.object ≡ Some other) (sym same.request_is) y.there)
 
   listed_once : (r s : Request) (e f : ℕ) (lines others : List Line) (certs more : List Certificate) (g h : Grant) → IsForEntry o request reply r e lines certs g → IsForEntry o request reply s f others more h → g ≡ h
   listed_once r s e f lines others certs more g h x y =
@@ -241,7 +242,7 @@ module _ (o : Opening) (request reply : Option (List ℕ)) where
       other (ap status_of (believed_once r p.0 key h.key a b believed h.believed).2)
   stopped word.Object (no_object r e lines certs grant none) p =
       let same = granted_once r p.0 e p.1 lines p.2 certs p.3 grant p.5.grant in
-      none-some p.4 (sym none ∙ ap (λ (t : Request). plan_of o.objects t.object) same.request_is ∙ p.5.there)
+      none-some p.4 (sym none ∙ ap (λ (t : Request). object_of o.objects t.object) same.request_is ∙ p.5.there)
   stopped word.Entry (no_entry r e lines certs object found none) p =
       let h = p.5 in
       let same = granted_once r p.0 e p.1 lines p.2 certs p.3 found.grant h.found.grant in
@@ -251,7 +252,7 @@ module _ (o : Opening) (request reply : Option (List ℕ)) where
   stopped word.Proof (no_proof r e lines certs g granted none) p =
       let h = p.7 in
       let same = granted_once r p.0 e p.1 lines p.2 certs p.3 granted.found.grant h.granted.found.grant in
-      none p.5 p.6 (subst (λ (l : List Line). Gives o request reply l certs (SpeaksFor p.5 p.6)) (sym same.lines_are) (subst (λ (cs : List Certificate). Gives o request reply p.2 cs (SpeaksFor p.5 p.6)) (sym same.certs_are) h.proves))
+      none p.5 p.6 (subst (λ (l : List Line). ProveByFile o request reply l certs (SpeaksFor p.5 p.6)) (sym same.lines_are) (subst (λ (cs : List Certificate). ProveByFile o request reply p.2 cs (SpeaksFor p.5 p.6)) (sym same.certs_are) h.proves))
   stopped word.Conclusion (other_conclusion r e lines certs g left right proved other) p =
       let h = p.5 in
       let same = granted_once r p.0 e p.1 lines p.2 certs p.3 proved.granted.found.grant h.granted.found.grant in

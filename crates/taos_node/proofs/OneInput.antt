@@ -5,17 +5,17 @@ use Rattle.std.specs.Int.{w32, to_be_bytes}
 use Rattle.frame_link.specs.declared.frame.Next.{Next}
 use Rattle.frame_link.specs.declared.frame.Next.TheVariants as next
 use Rattle.frame_link.specs.Frames.{frame, IsPart, IsTooLong, in_word}
-use Rattle.frame_link.specs.Next.{Takes}
+use Rattle.frame_link.specs.Next.{TakesFrame}
 use Rattle.frame_link.proofs.Splits.{word_once, same_front, no_frame}
 use Rattle.node_file.specs.Opening.{Opening}
 use Rattle.taos_node.specs.declared.finding.Finding.{Finding}
 use Rattle.taos_node.specs.Checking.{Finds}
 use Rattle.taos_monitor.specs.declared.connection.TheConstants.{MAX_REQUEST}
-use Rattle.taos_node.specs.Findings.{IsMissing, TakesFrame, TakesFrames, Shows, max_reply}
+use Rattle.taos_node.specs.Findings.{IsMissing, TakesOne, TakesFrames, Shows, max_reply}
 use Rattle.frame_link.proofs.Complete.{left_after, all_taken}
 use Rattle.taos_node.proofs.OneFinding as law
 
-missing_by : (limit : ℕ) (bytes : List ℕ) (x : Option (List ℕ)) (other : Next) → IsMissing other → Takes limit (Some bytes) x [] other → IsPart limit bytes ⊎ IsTooLong limit bytes
+missing_by : (limit : ℕ) (bytes : List ℕ) (x : Option (List ℕ)) (other : Next) → IsMissing other → TakesFrame limit (Some bytes) x [] other → IsPart limit bytes ⊎ IsTooLong limit bytes
 missing_by limit bytes x next.End is t = inl (in_word (omega (arith, ap length (all_taken bytes [] x t.0 t.1))))
 missing_by limit bytes x (next.Truncated have) is t = inl (subst (IsPart limit) (sym (all_taken bytes t.0 x t.4 t.5)) t.1)
 missing_by limit bytes x (next.TooLong n) is t =
@@ -24,7 +24,7 @@ missing_by limit bytes x (next.TooLong n) is t =
 missing_by limit bytes x next.Frame is t = absurd is
 missing_by limit bytes x next.ReadFault is t = absurd is
 
-one_whole : (limit : ℕ) (bytes p q : List ℕ) (x y : Option (List ℕ)) → limit < 2 ^ 32 → TakesFrame limit (Some bytes) x (Some p) → TakesFrame limit (Some bytes) y (Some q) → (p ≡ q) × (x ≡ y)
+one_whole : (limit : ℕ) (bytes p q : List ℕ) (x y : Option (List ℕ)) → limit < 2 ^ 32 → TakesOne limit (Some bytes) x (Some p) → TakesOne limit (Some bytes) y (Some q) → (p ≡ q) × (x ≡ y)
 one_whole limit bytes p q x y small t u =
     let r = left_after bytes (frame p) x t.1 in
     let s = left_after bytes (frame q) y u.1 in
@@ -33,12 +33,12 @@ one_whole limit bytes p q x y small t u =
     let payload = same_front p q r.0 s.0 same.0 same.1 in
     (payload.0, r.1 ∙ ap (λ (l : List ℕ). Some l) payload.1 ∙ sym s.1)
 
-not_both : (limit : ℕ) (bytes p : List ℕ) (x y : Option (List ℕ)) → limit < 2 ^ 32 → TakesFrame limit (Some bytes) x (Some p) → TakesFrame limit (Some bytes) y None → ⊥
+not_both : (limit : ℕ) (bytes p : List ℕ) (x y : Option (List ℕ)) → limit < 2 ^ 32 → TakesOne limit (Some bytes) x (Some p) → TakesOne limit (Some bytes) y None → ⊥
 not_both limit bytes p x y small t u =
     let r = left_after bytes (frame p) x t.1 in
     no_frame limit p r.0 bytes small t.0 (missing_by limit bytes y u.0 u.1 u.2) r.2
 
-one_frame : (limit : ℕ) (bytes : List ℕ) (x y p q : Option (List ℕ)) → limit < 2 ^ 32 → TakesFrame limit (Some bytes) x p → TakesFrame limit (Some bytes) y q → p ≡ q
+one_frame : (limit : ℕ) (bytes : List ℕ) (x y p q : Option (List ℕ)) → limit < 2 ^ 32 → TakesOne limit (Some bytes) x p → TakesOne limit (Some bytes) y q → p ≡ q
 one_frame limit bytes x y (Some p) (Some q) small t u = ap (λ (l : List ℕ). Some l) (one_whole limit bytes p q x y small t u).0
 one_frame limit bytes x y (Some p) None small t u = absurd (not_both limit bytes p x y small t u)
 one_frame limit bytes x y None (Some q) small t u = absurd (not_both limit bytes q y x small u t)
@@ -48,8 +48,8 @@ one_pair : (bytes : List ℕ) (x y q p r s : Option (List ℕ)) → TakesFrames 
 one_pair bytes x y (Some q) p (Some r) s t u =
     let first = one_whole MAX_REQUEST bytes q r t.middle u.middle (omega arith) t.first u.first in
     let rest = left_after bytes (frame q) t.middle t.first.1 in
-    let mine = subst (λ (m : Option (List ℕ)). TakesFrame max_reply m x p) rest.1 t.behind in
-    let other = subst (λ (m : Option (List ℕ)). TakesFrame max_reply m y s) (sym first.1 ∙ rest.1) u.behind in
+    let mine = subst (λ (m : Option (List ℕ)). TakesOne max_reply m x p) rest.1 t.behind in
+    let other = subst (λ (m : Option (List ℕ)). TakesOne max_reply m y s) (sym first.1 ∙ rest.1) u.behind in
     (ap (λ (l : List ℕ). Some l) first.0, one_frame max_reply rest.0 x y p s (omega arith) mine other)
 one_pair bytes x y (Some q) p None s t u = absurd (not_both MAX_REQUEST bytes q t.middle y (omega arith) t.first u.0)
 one_pair bytes x y None p (Some r) s t u = absurd (not_both MAX_REQUEST bytes r u.middle x (omega arith) u.first t.0)

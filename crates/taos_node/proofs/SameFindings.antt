@@ -9,12 +9,13 @@ use Rattle.taos_calculus.specs.Question.{claim_of}
 use Rattle.taos_calculus.specs.Rules.{Judgement, Line, SpeaksFor, Proves}
 use Rattle.taos_wire.specs.Request.{Request, subject_of}
 use Rattle.taos_wire.specs.Reply as answers
-use Rattle.node_file.specs.Opening.{Opening, ObjectPlan}
+use Rattle.object_core.specs.Objects.{ObjectPlan}
+use Rattle.node_file.specs.Opening.{Opening}
 use Rattle.node_file.specs.Meaning.{SameNode}
 use Rattle.taos_node.specs.declared.check.CheckEnd.{CheckEnd}
 use Rattle.taos_node.specs.declared.check.CheckEnd.TheVariants as ends
 use Rattle.taos_node.specs.declared.finding.Finding.{Finding}
-use Rattle.taos_node.specs.Checking.{HasAsked, HasReplied, IsBelieved, IsGrant, IsForObject, IsForEntry, IsProved, Gives, Finds, no_request, no_channel, no_request_seal, no_reply, no_echo, no_reply_seal, no_grant, no_object, no_entry, no_proof, other_conclusion, grants}
+use Rattle.taos_node.specs.Checking.{HasAsked, HasReplied, IsBelieved, IsGrant, IsForObject, IsForEntry, IsProved, ProveByFile, Finds, no_request, no_channel, no_request_seal, no_reply, no_echo, no_reply_seal, no_grant, no_object, no_entry, no_proof, other_conclusion, grants}
 use Rattle.taos_node.specs.Findings.{Shows, Checks}
 
 module _ (a b : Opening) (same : SameNode a b) (request reply : Option (List ℕ)) where
@@ -37,10 +38,10 @@ module _ (a b : Opening) (same : SameNode a b) (request reply : Option (List ℕ
     listed : (g : Grant) → IsForEntry a request reply r entry lines certs g → IsForEntry b request reply r entry lines certs g
     listed g h = record { object = h.object; found = found h.object h.found; listed = h.listed; has_right = h.has_right }
 
-    gives : (fact : Judgement) → Gives a request reply lines certs fact → Gives b request reply lines certs fact
+    gives : (fact : Judgement) → ProveByFile a request reply lines certs fact → ProveByFile b request reply lines certs fact
     gives fact h = subst (λ (l : List Anchor). Proves l (map claim_of certs) lines fact) same.anchors h
 
-    gave : (fact : Judgement) → Gives b request reply lines certs fact → Gives a request reply lines certs fact
+    gave : (fact : Judgement) → ProveByFile b request reply lines certs fact → ProveByFile a request reply lines certs fact
     gave fact h = subst (λ (l : List Anchor). Proves l (map claim_of certs) lines fact) (sym same.anchors) h
 
     proved : (g : Grant) (left right : Principal) → IsProved a request reply r entry lines certs g left right → IsProved b request reply r entry lines certs g left right

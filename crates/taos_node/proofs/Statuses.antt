@@ -1,6 +1,6 @@
 -- What the status tells, by what was done.
-use Rattle.std.proofs.Common.{◌≡◌, ◌≢◌, ℕ, ◌<◌, ◌≤◌, List, [], ◌∷◌, refl, sym, ap, arith, inl, inr}
-use Rattle.std.specs.Prelude.{◌⊎◌, String}
+use Rattle.std.proofs.Common.{◌≡◌, ◌≢◌, ℕ, ◌<◌, List, refl, ap, subst, arith, inl, inr}
+use Rattle.std.specs.Prelude.{String}
 use Rattle.std.specs.declared.alloc.Global.{Global}
 use Rattle.frame_link.specs.declared.outcome.Outcome.{Outcome}
 use Rattle.frame_link.specs.declared.outcome.Outcome.TheVariants.{End, Truncated, TooLong, ReadFault, WriteFault, ClockFault, Spent, NoMemory}
@@ -12,22 +12,64 @@ use Rattle.taos_node.specs.declared.ending.FileFault.{FileFault}
 use Rattle.taos_node.specs.declared.ending.FileFault.TheVariants as fault
 use Rattle.taos_node.specs.declared.ending.FileFault.TheVariants.{Malformed, TooLarge}
 use Rattle.taos_node.specs.declared.finding.Finding.TheVariants.{Granted, Refused}
-use Rattle.frame_link.specs.Streams.{Stream}
-use Rattle.taos_node.specs.Command.{IsRun, IsCheck, IsCommand, Opens, FileFails, FaultHasCause, Touched, HasFailed, EndsWell, ChecksWell, IsCaused, TellsFaults, IsStatus, counts_of, max_frames}
+use Rattle.taos_node.specs.declared.wanted.Wanted.{Wanted}
+use Rattle.taos_node.specs.declared.wanted.Wanted.TheVariants.{Run, Check}
+use Rattle.taos_node.specs.Words.{IsMeaning, Mean}
+use Rattle.taos_node.specs.Command.{IsCommand, OpensNode, FileFails, FaultHasCause, Touched, EndsWell, ChecksWell, IsCaused, TellsFaults, IsStatus, counts_of}
 use Rattle.taos_node.specs.Ending.{file_status, served_status, checked_status}
 use Rattle.taos_node.specs.Findings.{CheckCauses}
+use Rattle.std.specs.Prelude.{Option, Some, None, map, string_bytes}
+use Rattle.taos_node.proofs.Meanings.{one_meaning}
 use Rattle.taos_node.proofs.Commands.{not_malformed, not_too_large, decided_opened, decided_fault, still}
 
 stayed : {P : Type 0} (a b : ℕ) → b ≡ a → a < b → P
 stayed a b same rose = absurd (omega (arith, same, rose))
 
+-- ---- words
+
+-- words give one limit
+same_limit : (words : List (String Global)) (m n : ℕ) → Mean words (Run m) → Mean words (Run n) → m ≡ n
+same_limit words m n a b = ap frames_in (one_meaning (map string_bytes words) (Run m) (Run n) a b)
+  where
+    frames_in : Wanted → ℕ
+    frames_in (Run frames) = frames
+    frames_in Check = 0
+
+-- no words are both commands
+one_command : (words : List (String Global)) (frames : ℕ) → Mean words (Run frames) → Mean words Check → ⊥
+one_command words frames run check = absurd (cc (one_meaning (map string_bytes words) (Run frames) Check run check))
+
+-- what was found is what the words mean
+pub meant : (words : List (String Global)) (found : Option Wanted) (wanted : Wanted) → IsMeaning words found → found ≡ Some wanted → Mean words wanted
+meant words found wanted means is = subst (IsMeaning words) is means
+
+-- nothing was found in words that mean nothing
+pub none_meant : (words : List (String Global)) (found : Option Wanted) → IsMeaning words found → found ≡ None → IsCommand words → ⊥
+none_meant words found means none command = subst (IsMeaning words) none means command.0 command.1
+
+-- memory was refused before the words were read, and nothing was touched
+pub unread : (words : List (String Global)) (t : Touched) → IsStatus words t t 6
+unread words t = record {
+  usage = record { usage = λ e. absurd (omega (arith, e)); no_command = λ _. inr refl };
+  file = λ _. record { opens = λ bytes o told is e. omega (arith, e); refuses = λ bytes told none steady. inr refl };
+  complete = λ frames is bytes o told opens fs whole within few sf si so sc. inr refl;
+  checks_well = λ is bytes o told opens sf si so. inr (inr refl);
+  causes = record { read = λ e. absurd (omega (arith, e)); write = λ e. absurd (omega (arith, e)); clock = λ e. absurd (omega (arith, e)) };
+  told = record {
+    file = stayed t.file.faults t.file.faults refl;
+    input = stayed t.input.faults t.input.faults refl;
+    output = stayed t.output.faults t.output.faults refl;
+    clock = stayed t.clock.faults t.clock.faults refl;
+  };
+}
+
 -- words that are no command, where nothing was touched
 pub unused : (words : List (String Global)) (t : Touched) → (IsCommand words → ⊥) → IsStatus words t t 1
 unused words t none = record {
-  usage = (λ _. none, λ _. refl);
+  usage = record { usage = λ _. none; no_command = λ _. inl refl };
   file = λ is. absurd (none is);
-  complete = λ is. absurd (none (inl is));
-  checks_well = λ is. absurd (none (inr is));
+  complete = λ frames is. absurd (none (Run frames, is));
+  checks_well = λ is. absurd (none (Check, is));
   causes = record { read = λ e. absurd (omega (arith, e)); write = λ e. absurd (omega (arith, e)); clock = λ e. absurd (omega (arith, e)) };
   told = record {
     file = stayed t.file.faults t.file.faults refl;
@@ -46,12 +88,12 @@ record Rests (before after : Touched) : Type 0 where
   pub clock : after.clock.faults ≡ before.clock.faults
 
 module _ (before after : Touched) where
-  ends_unserved : (f : FileFault) → FileFails before.file after.file f → FaultHasCause before.file after.file f → EndsWell before after (file_status f)
-  ends_unserved (Malformed offset) bad cause bytes o told is frames whole within few sf si so sc =
+  ends_unserved : (most : ℕ) (f : FileFault) → FileFails before.file after.file f → FaultHasCause before.file after.file f → EndsWell most before after (file_status f)
+  ends_unserved most (Malformed offset) bad cause bytes o told is frames whole within few sf si so sc =
       absurd (not_malformed before.file after.file bytes o offset bad told is)
-  ends_unserved TooLarge bad cause bytes o told is frames whole within few sf si so sc = absurd (not_too_large before.file after.file bytes o bad told is)
-  ends_unserved fault.ReadFault bad cause bytes o told is frames whole within few sf si so sc = absurd (still before.file.faults after.file.faults sf cause.1)
-  ends_unserved fault.NoMemory bad cause bytes o told is frames whole within few sf si so sc = inr refl
+  ends_unserved most TooLarge bad cause bytes o told is frames whole within few sf si so sc = absurd (not_too_large before.file after.file bytes o bad told is)
+  ends_unserved most fault.ReadFault bad cause bytes o told is frames whole within few sf si so sc = absurd (still before.file.faults after.file.faults sf cause.1)
+  ends_unserved most fault.NoMemory bad cause bytes o told is frames whole within few sf si so sc = inr refl
 
   checks_unserved : (f : FileFault) → FileFails before.file after.file f → FaultHasCause before.file after.file f → ChecksWell before after (file_status f)
   checks_unserved (Malformed offset) bad cause bytes o told is sf si so = absurd (not_malformed before.file after.file bytes o offset bad told is)
@@ -80,9 +122,9 @@ not_one_file fault.NoMemory = λ e. omega (arith, e)
 pub unserved : (words : List (String Global)) (before after : Touched) (f : FileFault) → IsCommand words → FileFails before.file after.file f → FaultHasCause before.file after.file f →
     after.input.faults ≡ before.input.faults → after.output.faults ≡ before.output.faults → after.clock.faults ≡ before.clock.faults → IsStatus words before after (file_status f)
 unserved words before after f command fails cause input output clock = record {
-  usage = (λ e. absurd (not_one_file f e), λ none. absurd (none command));
+  usage = record { usage = λ e. absurd (not_one_file f e); no_command = λ none. absurd (none command) };
   file = λ _. decided_fault before.file after.file f fails cause;
-  complete = λ _. ends_unserved before after f fails cause;
+  complete = λ most _. ends_unserved before after most f fails cause;
   checks_well = λ _. checks_unserved before after f fails cause;
   causes = file_caused before after f cause;
   told = record {
@@ -103,9 +145,9 @@ module _ (before after : Touched) where
   abbrev Causes : Outcome → Type 0
   Causes outcome = HasCauses (counts_of before) (counts_of after) outcome
 
-  ends_well : (outcome : Outcome) → IsComplete max_frames before.input.told (counts_of before) (counts_of after) outcome →
-      EndsWell before after (served_status outcome)
-  ends_well outcome complete bytes o told is frames whole within few sf si so sc =
+  ends_well : (most : ℕ) (outcome : Outcome) → IsComplete most before.input.told (counts_of before) (counts_of after) outcome →
+      EndsWell most before after (served_status outcome)
+  ends_well most outcome complete bytes o told is frames whole within few sf si so sc =
       let same = same_counts before.input.faults before.output.faults before.clock.faults after.input.faults after.output.faults after.clock.faults si.0 so.0 sc.0 in
       elim (complete frames whole within few (record { same = same; input = si.1; output = so.1; clock = sc.1 })) [
         | inl ended ↦ inl (ap served_status ended)
@@ -183,14 +225,14 @@ not_two ClockFault = λ e. omega (arith, e)
 not_two (Spent n) = λ e. omega (arith, e)
 not_two NoMemory = λ e. omega (arith, e)
 
-pub served : (words : List (String Global)) (before after : Touched) (o : Opening) (outcome : Outcome) → IsRun words → (IsCheck words → ⊥) → Opens before.file after.file o →
-    after.file.faults ≡ before.file.faults → IsComplete max_frames before.input.told (counts_of before) (counts_of after) outcome →
+pub served : (words : List (String Global)) (frames : ℕ) (before after : Touched) (o : Opening) (outcome : Outcome) → Mean words (Run frames) → OpensNode before.file after.file o →
+    after.file.faults ≡ before.file.faults → IsComplete frames before.input.told (counts_of before) (counts_of after) outcome →
     Causes before after outcome → IsStatus words before after (served_status outcome)
-served words before after o outcome run other opens same complete h = record {
-  usage = (λ e. absurd (not_one outcome e), λ none. absurd (none (inl run)));
+served words frames before after o outcome run opens same complete h = record {
+  usage = record { usage = λ e. absurd (not_one outcome e); no_command = λ none. absurd (none (Run frames, run)) };
   file = λ _. decided_opened before.file after.file o (served_status outcome) opens (not_two outcome);
-  complete = λ _. ends_well before after outcome complete;
-  checks_well = λ check. absurd (other check);
+  complete = λ most is. ends_well before after most outcome (subst (λ n. IsComplete n before.input.told (counts_of before) (counts_of after) outcome) (same_limit words frames most run is) complete);
+  checks_well = λ check. absurd (one_command words frames run check);
   causes = serving_caused before after outcome h;
   told = serving_told before after outcome same h;
 }
@@ -243,20 +285,14 @@ not_two_check ends.ReadFault = λ e. omega (arith, e)
 not_two_check ends.WriteFault = λ e. omega (arith, e)
 not_two_check ends.NoMemory = λ e. omega (arith, e)
 
-pub checked : (words : List (String Global)) (before after : Touched) (o : Opening) (end : CheckEnd) → IsCheck words → (IsRun words → ⊥) → Opens before.file after.file o →
+pub checked : (words : List (String Global)) (before after : Touched) (o : Opening) (end : CheckEnd) → Mean words Check → OpensNode before.file after.file o →
     after.file.faults ≡ before.file.faults → after.clock.faults ≡ before.clock.faults → CheckCauses before.input.faults after.input.faults before.output.faults after.output.faults end →
     IsStatus words before after (checked_status end)
-checked words before after o end check other opens same clock h = record {
-  usage = (λ e. absurd (not_one_check end e), λ none. absurd (none (inr check)));
+checked words before after o end check opens same clock h = record {
+  usage = record { usage = λ e. absurd (not_one_check end e); no_command = λ none. absurd (none (Check, check)) };
   file = λ _. decided_opened before.file after.file o (checked_status end) opens (not_two_check end);
-  complete = λ run. absurd (other run);
+  complete = λ frames run. absurd (one_command words frames run check);
   checks_well = λ _. check_well before after end h;
   causes = check_caused before after end h;
   told = check_told before after end same clock h;
 }
-
--- no words are both commands
-pub one_command : (words : List (String Global)) → IsRun words → IsCheck words → ⊥
-one_command [] run check = run
-one_command (word ∷ []) run check = absurd (cc (run, check))
-one_command (word ∷ other ∷ words) run check = run

@@ -9,21 +9,16 @@ use Rattle.stmt_codec.specs.Certificates.{Certificate}
 use Rattle.taos_calculus.specs.Monitor.{HasRight}
 use Rattle.taos_calculus.specs.Question.{claim_of}
 use Rattle.taos_calculus.specs.Rules.{Line, Judgement, SpeaksFor, Proves}
-use Rattle.taos_wire.specs.Request.{Request, Spells, IsSealed, subject_of}
+use Rattle.taos_wire.specs.Request.{Request, Spells, IsAsked, IsSealed, subject_of}
 use Rattle.taos_wire.specs.Reply as answers
 use Rattle.taos_wire.specs.Reply.{SpellsReply, status_of}
-use Rattle.node_file.specs.Opening.{Opening, ObjectPlan, plan_of}
+use Rattle.object_core.specs.Objects.{ObjectPlan, object_of}
+use Rattle.node_file.specs.Opening.{Opening}
 use Rattle.taos_node.specs.declared.checking.Stop.{Stop}
 use Rattle.taos_node.specs.declared.checking.Stop.TheVariants.{Wrong, NoMemory}
 use Rattle.taos_node.specs.declared.finding.CheckWord.TheVariants as word
 use Rattle.taos_node.specs.declared.finding.Finding.{Finding}
 use Rattle.taos_node.specs.declared.finding.Finding.TheVariants.{Granted, Refused}
-
--- the payload is this request, under the seal of its channel's key
-pub record IsAsked (o : Opening) (payload : List ℕ) (r : Request) (key : List ℕ) : Type 0 where
-  pub spelled : Spells r payload
-  pub keyed : key_of o.channels r.channel ≡ Some key
-  pub seal : IsSealed key payload
 
 -- the first frame is there and its payload is this request; like each record that follows, it has
 -- what was right up to there
@@ -31,7 +26,7 @@ pub record HasAsked (o : Opening) (request : Option (List ℕ)) (r : Request)
     (key : List ℕ) : Type 0 where
   pub payload : List ℕ
   pub there : request ≡ Some payload
-  pub asked : IsAsked o payload r key
+  pub asked : IsAsked o.channels payload r key
 
 module _ (o : Opening) (request reply : Option (List ℕ)) where
   -- the second frame is there, and is a reply to this number of a channel
@@ -62,7 +57,7 @@ module _ (o : Opening) (request reply : Option (List ℕ)) where
   pub record IsForObject (r : Request) (entry : ℕ) (lines : List Line) (certs : List Certificate)
       (object : ObjectPlan) : Type 0 where
     pub grant : IsGrant r entry lines certs
-    pub there : plan_of o.objects r.object ≡ Some object
+    pub there : object_of o.objects r.object ≡ Some object
 
   -- the reply is a grant for an object, by an entry of its list that has the right
   pub record IsForEntry (r : Request) (entry : ℕ) (lines : List Line) (certs : List Certificate)
@@ -73,14 +68,14 @@ module _ (o : Opening) (request reply : Option (List ℕ)) where
     pub has_right : HasRight g (right_of r.op)
 
   -- the lines prove the fact by the file's anchors and the reply's certificates
-  abbrev pub Gives : List Line → List Certificate → Judgement → Type 0
-  Gives lines certs fact = Proves o.anchors (map claim_of certs) lines fact
+  abbrev pub ProveByFile : List Line → List Certificate → Judgement → Type 0
+  ProveByFile lines certs fact = Proves o.anchors (map claim_of certs) lines fact
 
   -- the reply is such a grant, whose lines prove that left speaks for right
   pub record IsProved (r : Request) (entry : ℕ) (lines : List Line) (certs : List Certificate)
       (g : Grant) (left right : Principal) : Type 0 where
     pub granted : IsForEntry r entry lines certs g
-    pub proves : Gives lines certs (SpeaksFor left right)
+    pub proves : ProveByFile lines certs (SpeaksFor left right)
 
   -- What is found, one case for each finding: the first thing that is wrong; where nothing is, the
   -- proof proves that the request's subject speaks for the entry.
@@ -107,14 +102,14 @@ module _ (o : Opening) (request reply : Option (List ℕ)) where
         status_of a ≢ 0 → Finds (Refused word.Status)
     no_object : (r : Request) (entry : ℕ) (lines : List Line) (certs : List Certificate) →
         IsGrant r entry lines certs →
-        plan_of o.objects r.object ≡ None → Finds (Refused word.Object)
+        object_of o.objects r.object ≡ None → Finds (Refused word.Object)
     no_entry : (r : Request) (entry : ℕ) (lines : List Line) (certs : List Certificate)
         (object : ObjectPlan) → IsForObject r entry lines certs object →
         ((g : Grant) → slice_get object.list entry ≡ Some g → HasRight g (right_of r.op) → ⊥) →
         Finds (Refused word.Entry)
     no_proof : (r : Request) (entry : ℕ) (lines : List Line) (certs : List Certificate)
         (g : Grant) → IsForEntry r entry lines certs g →
-        ((left right : Principal) → Gives lines certs (SpeaksFor left right) → ⊥) →
+        ((left right : Principal) → ProveByFile lines certs (SpeaksFor left right) → ⊥) →
         Finds (Refused word.Proof)
     other_conclusion : (r : Request) (entry : ℕ) (lines : List Line) (certs : List Certificate)
         (g : Grant) (left right : Principal) →

@@ -1,5 +1,5 @@
 -- The top call: the words, the file, and then the work.
-use Rattle.std.specs.Prelude.{◌≡◌, ◌≢◌, ◌⊎◌, ◌↔◌, ℕ, true, ◌-◌, ◌^◌, ◌<◌, ◌≤◌, List, [], ◌∷◌, length, All, Option, Some, None, Result, Ok, Err, codes, string_bytes, String}
+use Rattle.std.specs.Prelude.{◌≡◌, ◌≢◌, ◌⊎◌, ℕ, true, ◌-◌, ◌^◌, ◌<◌, ◌≤◌, List, [], ◌∷◌, length, All, Option, Some, None, Result, Ok, Err, String}
 use Rattle.std.specs.Io.KnownBytes.{Keeps, Consumes, IsAtEnd}
 use Rattle.std.specs.declared.alloc.Global.{Global}
 use Rattle.frame_link.specs.declared.outcome.Outcome.{Outcome}
@@ -11,13 +11,17 @@ use Rattle.taos_node.specs.declared.ending.FileFault.{FileFault}
 use Rattle.taos_node.specs.declared.ending.FileFault.TheVariants as fault
 use Rattle.taos_node.specs.declared.ending.FileFault.TheVariants.{Malformed, TooLarge}
 use Rattle.taos_node.specs.declared.ending.Ending.{Ending}
+use Rattle.taos_node.specs.declared.ending.Ending.TheVariants as ending
 use Rattle.taos_node.specs.declared.ending.Ending.TheVariants.{Usage, File, Served, Checked}
+use Rattle.taos_node.specs.declared.wanted.Wanted.{Wanted}
+use Rattle.taos_node.specs.declared.wanted.Wanted.TheVariants.{Run, Check}
+use Rattle.taos_node.specs.Words.{Mean}
 use Rattle.taos_node.specs.declared.check.CheckEnd.{CheckEnd}
 use Rattle.taos_node.specs.Ending.{status_of}
 use Rattle.taos_node.specs.Notes.{note_of, IsNoted}
 use Rattle.taos_node.specs.declared.command.Lane.{Lane}
-use Rattle.node_file.specs.declared.opening.OpeningFault.TheVariants.{Byte}
-use Rattle.node_file.specs.OpeningReading.{opening_of}
+use Rattle.node_file.specs.declared.fault.FileFault.TheVariants.{Byte}
+use Rattle.node_file.specs.OpeningReading.{opening_in}
 use Rattle.node_file.specs.Opening.{Opening, Spells}
 use Rattle.frame_link.specs.Relay.{Said}
 use Rattle.taos_monitor.specs.Cells.{Node, Seen}
@@ -27,29 +31,13 @@ use Rattle.taos_monitor.specs.World.{World, setting_of}
 use Rattle.taos_node.specs.Opened.{IsNodeOf, nothing_seen}
 use Rattle.taos_node.specs.Findings.{Checks}
 
--- the words are the command `run` alone
-abbrev pub IsRun : List (String Global) → Type 0
-IsRun [] = ⊥
-IsRun (word ∷ []) = string_bytes word ≡ codes "run"
-IsRun (word ∷ other ∷ words) = ⊥
-
--- the words are the command `check` alone
-abbrev pub IsCheck : List (String Global) → Type 0
-IsCheck [] = ⊥
-IsCheck (word ∷ []) = string_bytes word ≡ codes "check"
-IsCheck (word ∷ other ∷ words) = ⊥
-
--- the words are either command
+-- the words are a command line
 abbrev pub IsCommand : List (String Global) → Type 0
-IsCommand words = IsRun words ⊎ IsCheck words
+IsCommand words = (wanted : Wanted) × Mean words wanted
 
 -- the most bytes of a file
 abbrev pub max_file : ℕ
 max_file = 4194304
-
--- the most frames that are answered
-abbrev pub max_frames : ℕ
-max_frames = 1000000
 
 -- the file's bytes spell the opening, and are not too many
 abbrev pub IsOpeningFile : Opening → List ℕ → Type 0
@@ -102,7 +90,7 @@ HasFailed s0 s1 = Rose s0.faults s1.faults
 -- ---- the file
 
 -- the file was read to its end, and opens the node
-pub record Opens (file0 file1 : Stream) (o : Opening) : Type 0 where
+pub record OpensNode (file0 file1 : Stream) (o : Opening) : Type 0 where
   pub bytes : List ℕ
   pub read : Consumes file0.told file1.told bytes
   pub at_end : IsAtEnd file1.told
@@ -114,7 +102,7 @@ pub record IsMalformed (file0 file1 : Stream) (offset : ℕ) : Type 0 where
   pub read : Consumes file0.told file1.told bytes
   pub at_end : IsAtEnd file1.told
   pub short : length bytes ≤ max_file
-  pub fault : opening_of bytes ≡ Err (Byte offset)
+  pub fault : opening_in bytes ≡ Err (Byte offset)
 
 -- one byte more than the most was read
 pub record IsTooLarge (file0 file1 : Stream) : Type 0 where
@@ -132,7 +120,7 @@ FileFails file0 file1 fault.NoMemory = Unit {0}
 -- what comes of a file: what stands for the opening that it spells, or why there is none
 abbrev pub FileGives : {A : Type 0} → (Opening → A → Type 0) → Stream → Stream →
     Result A FileFault → Type 0
-FileGives {A} StandsFor file0 file1 (Ok x) = (o : Opening) × Opens file0 file1 o × StandsFor o x
+FileGives {A} StandsFor file0 file1 (Ok x) = (o : Opening) × OpensNode file0 file1 o × StandsFor o x
 FileGives {A} StandsFor file0 file1 (Err fault) = FileFails file0 file1 fault
 
 -- the file's count of faults rose where a fault of reading is answered, and else stayed
@@ -169,37 +157,40 @@ pub record LeavesRest (before after : Touched) : Type 0 where
   pub output : Keeps before.output.told after.output.told
   pub lane : UsesNoLane before after
 
--- A node of the opening serves the connection, from empty journals on. The journals at the
--- end are those of this connection alone: all their entries are its own.
-pub record ServesConnection (o : Opening) (before after : Touched)
+-- A node of the opening serves the connection, of at most so many frames, from empty journals on.
+-- The journals at the end are those of this connection alone: all their entries are its own.
+pub record ServesConnection (o : Opening) (frames : ℕ) (before after : Touched)
     (outcome : Outcome) : Type 0 where
   pub node : Node
   pub is_node : IsNodeOf o node
   -- the journals at the end, whose entries are all its own
   pub seen : Seen
-  pub connection : IsConnection (setting_of node true before.relay.says) max_frames
+  pub connection : IsConnection (setting_of node true before.relay.says) frames
       (with_seen before nothing_seen) (with_seen after seen) outcome
 
 -- a request and its reply were looked over, by the node that the file opens
 pub record LooksOver (before after : Touched) (end : CheckEnd) : Type 0 where
   pub node : Opening
-  pub opens : Opens before.file after.file node
+  pub opens : OpensNode before.file after.file node
   pub checks : Checks node before.input.told after.input.told before.output.told
       after.output.told end
   pub lane : UsesNoLane before after
 
--- What is done, by how it ends. Other words do nothing. A file that is malformed or too large, or
+-- What is done, by how it ends. Other words do nothing, nor is anything done where memory is refused
+-- before the words are read. A file that is malformed or too large, or
 -- fails, and one for which memory is refused, leaves the rest untouched; every other opens a node
 -- that serves the connection, or by which a request and its reply are looked over.
 abbrev pub Runs : List (String Global) → Touched → Touched → Ending → Type 0
 Runs words before after Usage =
     (IsCommand words → ⊥) × Keeps before.file.told after.file.told × LeavesRest before after
+Runs words before after ending.NoMemory =
+    Keeps before.file.told after.file.told × LeavesRest before after
 Runs words before after (File fault) =
     IsCommand words × FileFails before.file after.file fault × LeavesRest before after
 Runs words before after (Served outcome) =
-    IsRun words ×
-    ((o : Opening) × Opens before.file after.file o × ServesConnection o before after outcome)
-Runs words before after (Checked end) = IsCheck words × LooksOver before after end
+    (frames : ℕ) × Mean words (Run frames) ×
+    ((o : Opening) × OpensNode before.file after.file o × ServesConnection o frames before after outcome)
+Runs words before after (Checked end) = Mean words Check × LooksOver before after end
 
 -- How it ended, with what was done: the status and the note tell that ending.
 pub record Ends (words : List (String Global)) (before after : Touched) (notes0 notes1 : Stream)
@@ -222,11 +213,11 @@ pub record FileDecides (file0 file1 : Stream) (status : ℕ) : Type 0 where
 
 -- An input of whole frames is answered to its end: where the file opens a node, the frames are not
 -- more than may be answered, and nothing fails, the status is 0, or 6 where memory was refused.
-abbrev pub EndsWell : Touched → Touched → ℕ → Type 0
-EndsWell before after status =
+abbrev pub EndsWell : ℕ → Touched → Touched → ℕ → Type 0
+EndsWell most before after status =
     (bytes : List ℕ) (o : Opening) → before.file.told ≡ Some bytes → IsOpeningFile o bytes →
     (frames : List (List ℕ)) → before.input.told ≡ Some (framed frames) →
-    All (λ p. length p ≤ MAX_REQUEST) frames → length frames ≤ max_frames →
+    All (λ p. length p ≤ MAX_REQUEST) frames → length frames ≤ most →
     IsSteady before.file after.file → IsSteady before.input after.input →
     IsSteady before.output after.output → IsSteady before.clock after.clock →
     (status ≡ 0) ⊎ (status ≡ 6)
@@ -252,13 +243,18 @@ pub record TellsFaults (before after : Touched) (status : ℕ) : Type 0 where
   pub output : before.output.faults < after.output.faults → status ≡ 4
   pub clock : before.clock.faults < after.clock.faults → status ≡ 5
 
+-- the words decide status 1, but where memory was refused
+pub record WordsDecide (words : List (String Global)) (status : ℕ) : Type 0 where
+  pub usage : status ≡ 1 → IsCommand words → ⊥
+  pub no_command : (IsCommand words → ⊥) → (status ≡ 1) ⊎ (status ≡ 6)
+
 -- What the status tells, whatever was done: the words decide status 1 and the file status 2; what
 -- can come to its end does; a fault is answered where there was one, and only there.
 pub record IsStatus (words : List (String Global)) (before after : Touched)
     (status : ℕ) : Type 0 where
-  pub usage : (status ≡ 1) ↔ (IsCommand words → ⊥)
+  pub usage : WordsDecide words status
   pub file : IsCommand words → FileDecides before.file after.file status
-  pub complete : IsRun words → EndsWell before after status
-  pub checks_well : IsCheck words → ChecksWell before after status
+  pub complete : (frames : ℕ) → Mean words (Run frames) → EndsWell frames before after status
+  pub checks_well : Mean words Check → ChecksWell before after status
   pub causes : IsCaused before after status
   pub told : TellsFaults before after status

@@ -6,6 +6,7 @@ use Rattle.taos_node.specs.declared.ending.FileFault.{FileFault}
 use Rattle.taos_node.specs.declared.ending.FileFault.TheVariants as fault
 use Rattle.taos_node.specs.declared.ending.FileFault.TheVariants.{Malformed, TooLarge}
 use Rattle.taos_node.specs.declared.ending.Ending.{Ending}
+use Rattle.taos_node.specs.declared.ending.Ending.TheVariants as ending
 use Rattle.taos_node.specs.declared.ending.Ending.TheVariants.{Usage, File, Served, Checked}
 use Rattle.taos_node.specs.declared.check.CheckEnd.{CheckEnd}
 use Rattle.taos_node.specs.declared.check.CheckEnd.TheVariants as ends
@@ -39,6 +40,7 @@ checked_status ends.NoMemory = 6
 -- the exit status of an ending
 abbrev pub status_of : Ending → ℕ
 status_of Usage = 1
+status_of ending.NoMemory = 6
 status_of (File fault) = file_status fault
 status_of (Served outcome) = served_status outcome
 status_of (Checked end) = checked_status end

@@ -5,7 +5,7 @@ use Rattle.std.specs.Io.KnownBytes.{Keeps, Appends, Consumes}
 use Rattle.frame_link.specs.declared.frame.Next.{Next}
 use Rattle.frame_link.specs.declared.frame.Next.TheVariants as next
 use Rattle.frame_link.specs.Faults.{Rose}
-use Rattle.frame_link.specs.Next.{Takes}
+use Rattle.frame_link.specs.Next.{TakesFrame}
 use Rattle.node_file.specs.Opening.{Opening}
 use Rattle.taos_monitor.specs.declared.connection.TheConstants.{MAX_REQUEST}
 use Rattle.taos_node.specs.Checking.{Finds}
@@ -58,29 +58,29 @@ IsMissing next.Frame = ⊥
 IsMissing next.ReadFault = ⊥
 
 -- the payload of the next frame, where that is there
-abbrev pub TakesFrame : ℕ → Option (List ℕ) → Option (List ℕ) → Option (List ℕ) → Type 0
-TakesFrame limit before after (Some payload) = Takes limit before after payload next.Frame
-TakesFrame limit before after None =
-    (other : Next) × IsMissing other × Takes limit before after [] other
+abbrev pub TakesOne : ℕ → Option (List ℕ) → Option (List ℕ) → Option (List ℕ) → Type 0
+TakesOne limit before after (Some payload) = TakesFrame limit before after payload next.Frame
+TakesOne limit before after None =
+    (other : Next) × IsMissing other × TakesFrame limit before after [] other
 
 -- after a frame that is there, this holds of what the input has left
 pub record TakesBehind (before : Option (List ℕ)) (payload : List ℕ) (Then : Option (List ℕ) →
     Type 0) : Type 0 where
   -- what the input has left after the first frame
   pub middle : Option (List ℕ)
-  pub first : TakesFrame MAX_REQUEST before middle (Some payload)
+  pub first : TakesOne MAX_REQUEST before middle (Some payload)
   pub behind : Then middle
 
 -- the request's frame, and where that is there the reply's
 abbrev pub TakesFrames : Option (List ℕ) → Option (List ℕ) → Option (List ℕ) →
     Option (List ℕ) → Type 0
-TakesFrames before after None reply = TakesFrame MAX_REQUEST before after None × (reply ≡ None)
+TakesFrames before after None reply = TakesOne MAX_REQUEST before after None × (reply ≡ None)
 TakesFrames before after (Some payload) reply =
-    TakesBehind before payload (λ middle. TakesFrame max_reply middle after reply)
+    TakesBehind before payload (λ middle. TakesOne max_reply middle after reply)
 
 -- a read failed in a frame, or memory was refused for one, once its length was read
 abbrev pub HaltsAt : ℕ → Option (List ℕ) → Option (List ℕ) → Halt → Type 0
-HaltsAt limit before after halt.ReadFault = Takes limit before after [] next.ReadFault
+HaltsAt limit before after halt.ReadFault = TakesFrame limit before after [] next.ReadFault
 HaltsAt limit before after halt.NoMemory =
     (n : ℕ) × (n ≤ limit) × Consumes before after (to_be_bytes w32 n)
 

@@ -2,6 +2,8 @@ pub mod Objects
 pub mod Opened
 pub mod Ending
 pub mod Notes
+pub mod Words
+pub mod Table
 pub mod Command
 pub mod Checking
 pub mod Findings

@@ -8,6 +8,7 @@ use Rattle.taos_node.specs.declared.ending.FileFault.{FileFault}
 use Rattle.taos_node.specs.declared.ending.FileFault.TheVariants as fault
 use Rattle.taos_node.specs.declared.ending.FileFault.TheVariants.{Malformed, TooLarge}
 use Rattle.taos_node.specs.declared.ending.Ending.{Ending}
+use Rattle.taos_node.specs.declared.ending.Ending.TheVariants as ending
 use Rattle.taos_node.specs.declared.ending.Ending.TheVariants.{Usage, File, Served, Checked}
 use Rattle.taos_node.specs.declared.check.CheckEnd.{CheckEnd}
 use Rattle.taos_node.specs.declared.check.CheckEnd.TheVariants as ends
@@ -42,6 +43,7 @@ checked_note ends.NoMemory = codes "taos: no memory\n"
 -- the bytes of the note of an ending
 abbrev pub note_of : Ending → List ℕ
 note_of Usage = codes "taos: usage\n"
+note_of ending.NoMemory = codes "taos: no memory\n"
 note_of (File fault) = file_note fault
 note_of (Served outcome) = served_note outcome
 note_of (Checked end) = checked_note end

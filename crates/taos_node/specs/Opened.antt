@@ -3,13 +3,13 @@ use Rattle.std.specs.Prelude.{◌≡◌, ℕ, List, [], length, map}
 use Rattle.std.specs.List.Sorted.{IsStrictlyIncreasing}
 use Rattle.std.specs.Option.{option_map}
 use Rattle.keyed_seal.specs.Keys.{Entries, key_of}
-use Rattle.node_file.specs.Opening as plain
-use Rattle.node_file.specs.Opening.{Opening, plan_of}
+use Rattle.object_core.specs.Objects.{object_of, ObjectPlan}
+use Rattle.node_file.specs.Opening.{Opening}
 use Rattle.agent_core.specs.Alone.{plans_in, seen_in, own_in}
 use Rattle.agent_core.specs.Opened.{plans_for}
 use Rattle.agent_core.specs.State.{Plan}
 use Rattle.taos_monitor.specs.Arriving.{node_of}
-use Rattle.taos_monitor.specs.Cells.{ObjectPlan, object_of, Node, Seen, seen_of}
+use Rattle.taos_monitor.specs.Cells.{Node, Seen, seen_of}
 use Rattle.taos_node.specs.declared.opened.OpenNode.{OpenNode}
 
 -- the numbers of channels
@@ -20,10 +20,6 @@ numbers_of channels = map (λ (c : ℕ × List ℕ). c.0) channels
 abbrev pub its_plans : Opening → Entries → List Plan
 its_plans o channels = plans_for (numbers_of channels) o.shards o.anchors o.commons o.keep o.limit
 
--- an object of the opening, as one of the node
-abbrev pub as_cell : plain.ObjectPlan → ObjectPlan
-as_cell p = record { number = p.number; content = p.content; list = p.list }
-
 -- the node has what the opening says, its channels by ascending number
 pub record IsNodeOf (o : Opening) (n : Node) : Type 0 where
   pub number : n.number ≡ o.node
@@ -31,8 +27,7 @@ pub record IsNodeOf (o : Opening) (n : Node) : Type 0 where
   pub channels : (number : ℕ) → key_of n.channels number ≡ key_of o.channels number
   pub count : length n.channels ≡ length o.channels
   pub ascending : IsStrictlyIncreasing (numbers_of n.channels)
-  pub objects : (number : ℕ) → object_of n.objects number
-      ≡ option_map as_cell (plan_of o.objects number)
+  pub objects : (number : ℕ) → object_of n.objects number ≡ object_of o.objects number
   pub plans : n.plans ≡ its_plans o n.channels
 
 -- journals without entries

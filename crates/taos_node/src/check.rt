@@ -5,7 +5,7 @@ ghost use Rattle.std.specs.Int.{w32, to_be_bytes};
 ghost use Rattle.std.specs.Option.{option_copied, option_map};
 ghost use Rattle.taos_wire.specs.View.{text_of};
 ghost use Rattle.node_file.specs.Meaning.{opening};
-ghost use Rattle.taos_node.specs.Findings.{CheckCauses, Checks, HaltCauses, Halts, HaltsAt, Shows, TakesFrame, TakesFrames};
+ghost use Rattle.taos_node.specs.Findings.{CheckCauses, Checks, HaltCauses, Halts, HaltsAt, Shows, TakesOne, TakesFrames};
 ghost use Rattle.node_file.specs.Opening.{Opening as Node};
 ghost use Rattle.taos_node.specs.declared.finding.Finding.{Finding as Found};
 
@@ -53,7 +53,7 @@ fn room_of(alloc: Global, count: u32) -> Result<Vec<u8>, AllocError>
 
 // The payload of the next frame, where that is there. Its room is taken once its length is known.
 fn frame_of<I: Source>(alloc: Global, limit: u32, input: &mut I) -> Result<Option<Vec<u8>>, Halt>
-    ensures taken { IfOk result (λ found. TakesFrame limit (I.left input.old) (I.left input.new)
+    ensures taken { IfOk result (λ found. TakesOne limit (I.left input.old) (I.left input.new)
         (option_map text_of found)) }
     ensures halted { IfErr result (HaltsAt limit (I.left input.old) (I.left input.new)) }
     ensures cause { MatchResult result (λ _. I.faults input.new ≡ I.faults input.old)

@@ -21,7 +21,7 @@ use object_core::right_of;
 use prin_term::{Entry, Term};
 use std::alloc::{AllocError, Global};
 use std::sync::Arc;
-use stmt_codec::Cert;
+use stmt_codec::{Cert, speaker_of};
 use taos_calculus::{Conclusion, Proof, check_proof};
 use taos_wire::{MAX_CITED, Reply, Request, WireFault, read_reply, read_request, sealed_with};
 
@@ -111,7 +111,7 @@ fn entry_of<'a>(node: &'a Opening, asked: &Request, place: u8) -> Result<&'a Ent
         → IsGrant (opening node.now) q p (request_is asked.now) place lines certs
         → Finds (opening node.now) q p (Finding.Refused word)) }
 {
-    let Some(plan) = node.objects.get(&asked.object) else {
+    let Some(plan) = node.objects.get(asked.object) else {
         return Err(CheckWord::Object);
     };
     let Some(entry) = plan.list.get(place as usize) else {
@@ -121,20 +121,6 @@ fn entry_of<'a>(node: &'a Opening, asked: &Request, place: u8) -> Result<&'a Ent
         return Err(CheckWord::Entry);
     }
     Ok(entry)
-}
-
-fn subject_of(alloc: Global, asked: &Request) -> Result<Term, AllocError>
-    ensures { IfOk result (λ t. principal t ≡ subject_of (request_is asked.now)) }
-{
-    let key = Term::Key(asked.channel);
-    match &asked.quoted {
-        None => Ok(key),
-        Some(term) => {
-            let key = Box::new(alloc, key)?;
-            let copy = Box::new(alloc, term.copy(alloc)?)?;
-            Ok(Term::Quote(key, copy))
-        }
-    }
 }
 
 // A grant by that entry, with what is counted of its proof.
@@ -211,7 +197,7 @@ fn ruled(
         Ok(entry) => entry,
         Err(word) => return Ok(Finding::Refused(word)),
     };
-    let subject = subject_of(alloc, asked)?;
+    let subject = speaker_of(alloc, asked.channel, &asked.quoted)?;
     Ok(judged(node, &subject, *place, entry, proof, certs))
 }
 

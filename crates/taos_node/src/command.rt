@@ -1,6 +1,6 @@
 //! The top call: the words, the file, and then the work.
 
-ghost use Rattle.std.specs.Prelude.{◌≡◌, ◌⊎◌, ◌↔◌, ◌<◌, ◌≤◌, List, String, drop, length, IsTrue, IfOk};
+ghost use Rattle.std.specs.Prelude.{◌≡◌, ◌⊎◌, ◌<◌, ◌≤◌, List, String, drop, length, IfOk};
 ghost use Rattle.std.specs.declared.alloc.Global.{Global};
 ghost use Rattle.agent_core.specs.Alone.{plans_in};
 ghost use Rattle.frame_link.specs.Served.{counts, HasCauses, IsComplete};
@@ -10,19 +10,21 @@ ghost use Rattle.node_file.specs.OpeningView.{Represents};
 ghost use Rattle.taos_monitor.specs.Planned.{ArePlanned};
 ghost use Rattle.taos_node.specs.Ending.{status_of};
 ghost use Rattle.frame_link.specs.Streams.{Stream, stream};
-ghost use Rattle.taos_node.specs.Command.{Link, touched, first_clock, first_link, IsCheck, IsRun, Runs, Ends, IsStatus, FileGives, FileHasCause, ServesConnection};
+ghost use Rattle.taos_node.specs.Command.{Link, touched, first_clock, first_link, Runs, Ends, IsStatus, FileGives, FileHasCause, ServesConnection};
 ghost use Rattle.taos_node.specs.Opened.{IsOpenedBy};
+ghost use Rattle.taos_node.specs.Words.{Mean};
 
 use crate::check::check_connection;
 use crate::ending::{Ending, FileFault, status_of};
 use crate::note::tell;
 use crate::opened::{OpenNode, open_node};
+use crate::wanted::Wanted;
+use crate::words::wanted_of;
 use frame_link::{Clock, Door, Outcome, RelayLink, Sink, Source, fill};
-use node_file::{Opening, OpeningFault, read_opening};
+use node_file::{FileFault as OpeningFault, Opening, read_opening};
 use std::alloc::{AllocError, Global};
 use std::sync::Wait;
 use std::thread::Threads;
-use taos_calculus::Decide;
 use taos_monitor::serve_connection;
 use taos_saturate::Saturator;
 
@@ -58,9 +60,6 @@ impl<C: Clock, R: RelayLink, D: Door> Lane<C, R, D> {
 /// The most bytes of a node file.
 pub const MAX_FILE: usize = 4_194_304;
 
-/// The most frames that a connection answers.
-pub const MAX_FRAMES: u64 = 1_000_000;
-
 fn zeros(alloc: Global, len: usize) -> Result<Vec<u8>, AllocError>
     ensures { IfOk result (λ v. length v.items ≡ len) }
 {
@@ -85,7 +84,10 @@ fn file_opening<F: Source>(alloc: Global, file: &mut F) -> Result<Opening, FileF
     match read_opening(alloc, &room[..len]) {
         Ok(opening) => Ok(opening),
         Err(OpeningFault::NoMemory) => Err(FileFault::NoMemory),
-        Err(OpeningFault::Byte { offset }) => Err(FileFault::Malformed { offset }),
+        Err(OpeningFault::Byte { offset }) => Err(FileFault::Malformed {
+            offset: offset as usize,
+        }),
+        Err(OpeningFault::Line { .. }) => Err(FileFault::TooLarge),
     }
 }
 
@@ -104,27 +106,21 @@ fn node_file_of<F: Source>(alloc: Global, file: &mut F) -> Result<(OpenNode, Sat
     Ok((node, Saturator::reserve(alloc)?))
 }
 
-fn is_run(words: &[String]) -> bool
-    ensures { IsTrue result ↔ IsRun words.now }
-{
-    words.len() == 1 && words[0].as_str() == "run"
-}
-
-// Serves the connection of the first lane.
-fn serve<W: Wait + Sync, I: Source, O: Sink, C: Clock, R: RelayLink, D: Door, B: Decide>(
+// Serves the connection of the first lane, of at most so many frames.
+fn serve<W: Wait + Sync, I: Source, O: Sink, C: Clock, R: RelayLink, D: Door>(
     rt: &W,
     alloc: Global,
-    node: &mut OpenNode,
-    bench: &mut B,
+    opened: &mut (OpenNode, Saturator),
     input: &mut I,
     output: &mut O,
     lanes: &mut [Lane<C, R, D>],
+    frames: u64,
 ) -> Outcome
     requires some { 0 < length lanes.old }
-    requires planned { ArePlanned node.old.keys.channels.entries
-        (plans_in node.old.shards.shards) }
-    ensures connection { (o : Meaning) (file0 file1 : Stream) → IsOpenedBy o node.old
-        → ServesConnection o
+    requires planned { ArePlanned opened.old.0.keys.channels.entries
+        (plans_in opened.old.0.shards.shards) }
+    ensures connection { (o : Meaning) (file0 file1 : Stream) → IsOpenedBy o opened.old.0
+        → ServesConnection o frames
         (touched file0 (stream (I.left input.old) (I.faults input.old))
         (stream (O.written output.old) (O.faults output.old))
         (first_clock C.readings C.faults lanes.old) (first_link R.says R.faults lanes.old))
@@ -136,13 +132,14 @@ fn serve<W: Wait + Sync, I: Source, O: Sink, C: Clock, R: RelayLink, D: Door, B:
         (first_clock C.readings C.faults lanes.old).faults)
         (counts (I.faults input.new) (O.faults output.new)
         (first_clock C.readings C.faults lanes.new).faults) result }
-    ensures complete { IsComplete MAX_FRAMES (I.left input.old)
+    ensures complete { IsComplete frames (I.left input.old)
         (counts (I.faults input.old) (O.faults output.old)
         (first_clock C.readings C.faults lanes.old).faults)
         (counts (I.faults input.new) (O.faults output.new)
         (first_clock C.readings C.faults lanes.new).faults) result }
     ensures others { drop 1 lanes.new ≡ drop 1 lanes.old }
 {
+    let (node, bench) = opened;
     let lane = &mut lanes[0];
     serve_connection(
         rt,
@@ -155,14 +152,8 @@ fn serve<W: Wait + Sync, I: Source, O: Sink, C: Clock, R: RelayLink, D: Door, B:
         bench,
         input,
         output,
-        MAX_FRAMES,
+        frames,
     )
-}
-
-fn is_check(words: &[String]) -> bool
-    ensures { IsTrue result ↔ IsCheck words.now }
-{
-    words.len() == 1 && words[0].as_str() == "check"
 }
 
 // Looks over a request and its reply by the node that a file opens.
@@ -173,7 +164,8 @@ fn check_file<F: Source, I: Source, O: Sink>(
     output: &mut O,
 ) -> Ending
     // Whatever clock and link there are.
-    ensures checks { (words : List (String Global)) (clock : Stream) (relay : Link) → IsCheck words
+    ensures checks { (words : List (String Global)) (clock : Stream) (relay : Link)
+        → Mean words Wanted.Check
         → let before = touched (stream (F.left file.old) (F.faults file.old))
         (stream (I.left input.old) (I.faults input.old))
         (stream (O.written output.old) (O.faults output.old)) clock relay in
@@ -210,26 +202,35 @@ fn run<W: Wait + Sync, F: Source, I: Source, O: Sink, C: Clock, R: RelayLink, D:
         Runs words.now before after result × IsStatus words.now before after (status_of result) }
     ensures others { drop 1 lanes.new ≡ drop 1 lanes.old }
 {
-    if is_check(words) {
-        return check_file(alloc, file, input, output);
-    }
-    if !is_run(words) {
+    let Ok(found) = wanted_of(alloc, words) else {
+        return Ending::NoMemory;
+    };
+    let Some(wanted) = found else {
         return Ending::Usage;
-    }
-    match node_file_of(alloc, file) {
-        Ok((mut node, mut bench)) => Ending::Served(serve(
-            rt, alloc, &mut node, &mut bench, input, output, lanes,
-        )),
-        Err(fault) => Ending::File(fault),
+    };
+    match wanted {
+        Wanted::Check => check_file(alloc, file, input, output),
+        Wanted::Run { frames } => match node_file_of(alloc, file) {
+            Ok(mut opened) => Ending::Served(serve(
+                rt,
+                alloc,
+                &mut opened,
+                input,
+                output,
+                lanes,
+                frames,
+            )),
+            Err(fault) => Ending::File(fault),
+        },
     }
 }
 
-/// Does all that the program does, and answers its exit status. The words `run` and `check` are the
-/// two command lines, and both read the file to a node's opening. By `run` each request frame of
-/// the input is answered by one reply frame of the output, by a node of that opening whose journals
-/// are empty at first, with the first lane's clock and its link to the relay. By `check` the frames
-/// of a request and its reply are looked over, and one line of the output says what is found. A
-/// note tells how it ended.
+/// Does all that the program does, and answers its exit status. The command lines are `run` with
+/// `--frames N` or without, and `check`, and both read the file to a node's opening. By `run` each
+/// request frame of the input, of at most N or a million, is answered by one reply frame of the
+/// output, by a node of that opening whose journals are empty at first, with the first lane's clock
+/// and its link to the relay. By `check` the frames of a request and its reply are looked over, and
+/// one line of the output says what is found. A note tells how it ended.
 pub fn taos<
     W: Threads + Wait + Sync,
     F: Source,

@@ -35,6 +35,8 @@ impl From<AllocError> for FileFault {
 pub enum Ending {
     /// The words are no command.
     Usage,
+    /// Memory was refused before the words were read.
+    NoMemory,
     /// The file was not served.
     File(FileFault),
     /// A connection was served.
@@ -103,6 +105,7 @@ pub fn status_of(ending: Ending) -> u8
 {
     match ending {
         Ending::Usage => USAGE,
+        Ending::NoMemory => MEMORY,
         Ending::File(fault) => file_status(fault),
         Ending::Served(outcome) => served_status(outcome),
         Ending::Checked(end) => checked_status(end),

@@ -1,41 +1,40 @@
 //! The objects of a node that nobody changes.
 
 ghost use Rattle.std.specs.Prelude.{◌≡◌};
-ghost use Rattle.taos_node.specs.Objects.{AllFit, listed};
+ghost use Rattle.taos_node.specs.Objects.{AllFit};
 
-use node_file::ObjectPlan;
-use std::collections::BTreeMap;
+use node_file::ObjectPlans;
 use std::marker::Model;
 use taos_monitor::{Shelf, Shown};
 
 /// The objects of a node, by their numbers.
 #[derive(Drop)]
 pub(crate) struct LoneShelf {
-    objects: BTreeMap<u32, ObjectPlan>,
+    objects: ObjectPlans,
 }
 
 impl Model for LoneShelf {
     ghost use Rattle.std.specs.Prelude.{List};
     ghost use Rattle.std.specs.Coded.{codes};
     ghost use Rattle.prin_term.specs.Codes.{principal_code};
-    ghost use Rattle.taos_monitor.specs.Cells.{ObjectPlan};
-    ghost use Rattle.taos_node.specs.Objects.{AllFit, listed};
+    ghost use Rattle.object_core.specs.Objects.{ObjectPlan};
+    ghost use Rattle.taos_node.specs.Objects.{AllFit};
 
     ghost Value = { List ObjectPlan };
 
     ghost coded = { Prim.hlevel (codes, principal_code) };
 
-    ghost view = { λ s. listed s.objects.entries };
+    ghost view = { λ s. s.objects };
 
     // Each object that a look-up finds is within the limits.
-    ghost invariant = { λ s. AllFit (listed s.objects.entries) };
+    ghost invariant = { λ s. AllFit s.objects };
 }
 
 impl LoneShelf {
     /// The objects of these plans. Takes no memory.
-    pub(crate) fn new(objects: BTreeMap<u32, ObjectPlan>) -> LoneShelf
-        requires { AllFit (listed objects.entries) }
-        ensures { result ≡ listed objects.entries }
+    pub(crate) fn new(objects: ObjectPlans) -> LoneShelf
+        requires { AllFit objects }
+        ensures { result ≡ objects }
     {
         LoneShelf { objects }
     }
@@ -45,7 +44,7 @@ impl Shelf for LoneShelf {
     ghost objects = { λ s. s };
 
     fn look(&self, number: u32) -> Option<Shown<'_>> {
-        match self.objects.get(&number) {
+        match self.objects.get(number) {
             Some(plan) => Some(Shown {
                 content: &plan.content,
                 list: &plan.list,

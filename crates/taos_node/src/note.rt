@@ -83,6 +83,7 @@ fn note_of(ending: Ending) -> ArrayVec<u8, ROOM>
 {
     match ending {
         Ending::Usage => plain(b"taos: usage\n"),
+        Ending::NoMemory => plain(b"taos: no memory\n"),
         Ending::File(fault) => of_file(fault),
         Ending::Served(outcome) => of_served(outcome),
         Ending::Checked(end) => of_checked(end),

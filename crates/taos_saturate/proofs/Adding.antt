@@ -1,5 +1,5 @@
 -- One line more, and its number in the table.
-use Rattle.std.proofs.Common.{◌≡◌, ◌≢◌, ◌⊎◌, inl, inr, ℕ, zero, suc, ◌+◌, ◌-◌, ◌<◌, ◌≤◌, List, [], ◌∷◌, ◌++◌, Some, slice_get, slice_index, get_or, set, length, sum_by, refl, sym, ◌∙◌, ap, subst, arith, add-one}
+use Rattle.std.proofs.Common.{◌≡◌, ◌≢◌, ◌⊎◌, inl, inr, ℕ, zero, suc, ◌+◌, ◌-◌, ◌<◌, List, [], ◌∷◌, ◌++◌, Some, slice_get, slice_index, get_or, set, length, sum_by, refl, sym, ◌∙◌, ap, subst, arith, add-one}
 use Rattle.std.proofs.lemmas.List.{get_or-set_same, get_or-set_other, get_or_default, map-append, length-map, length-append, length-set}
 use Rattle.std.proofs.lemmas.List.Sums.{sum_by-set}
 use Rattle.std.proofs.lemmas.Option.{same_Some, none-some}
@@ -9,33 +9,13 @@ use Rattle.taos_saturate.specs.declared.found.Pair.{Pair}
 use Rattle.taos_saturate.specs.Finding.{IsCell, IsIndex, vacancy}
 use Rattle.taos_calculus.specs.Numbered.{facts_at}
 use Rattle.taos_calculus.proofs.Building.{slice_get-front, slice_get-back}
+use Rattle.term_pool.proofs.Orders.{below_or_not, same_or_not}
 use Rattle.taos_saturate.proofs.Cells.{cell_one, cell_fact, cell_in}
 
 slice_get-within : {X : Type 0} (xs ys : List X) (k : ℕ) → k < length xs → slice_get (xs ++ ys) k ≡ slice_get xs k
 slice_get-within [] ys k h = absurd (omega arith)
 slice_get-within (x ∷ xs) ys zero h = refl
 slice_get-within (x ∷ xs) ys (suc k) h = slice_get-within xs ys k (omega arith)
-
-pub below_or_not : (k n : ℕ) → (k < n) ⊎ ((m : ℕ) × (k ≡ n + m))
-below_or_not k n = go (le_or k n)
-  where
-    le_or : (k n : ℕ) → (k < n) ⊎ (n ≤ k)
-    le_or k n = grind arith
-
-    go : (k < n) ⊎ (n ≤ k) → (k < n) ⊎ ((m : ℕ) × (k ≡ n + m))
-    go (inl h) = inl h
-    go (inr h) = inr (k - n, omega arith)
-
-pub same_or_not : (d c : ℕ) → (d ≡ c) ⊎ (d ≢ c)
-same_or_not d c = go (three d c)
-  where
-    three : (d c : ℕ) → (d < c) ⊎ ((c < d) ⊎ (d ≡ c))
-    three d c = grind arith
-
-    go : (d < c) ⊎ ((c < d) ⊎ (d ≡ c)) → (d ≡ c) ⊎ (d ≢ c)
-    go (inl h) = inr (λ e. omega arith)
-    go (inr (inl h)) = inr (λ e. omega arith)
-    go (inr (inr e)) = inl e
 
 module _ (width : ℕ) (statements : List Pair) (numbers : List ℕ) (lines : List Line)
     (index : IsIndex width statements numbers lines) where

@@ -7,7 +7,7 @@ use Rattle.taos_calculus.specs.declared.line.Line.{Line}
 use Rattle.taos_calculus.specs.Numbered.{Gives, chain}
 use Rattle.taos_saturate.specs.declared.saturation.Saturation.{Saturation}
 use Rattle.taos_saturate.specs.Saturating.{facts_of, claims_in, IsReady, IsSound, IsNumber, IsKnown, IsNoChain, ChainFull, LineFull}
-use Rattle.taos_saturate.proofs.Keeping.{fact_stands, gives_before, line_stands}
+use Rattle.term_pool.proofs.Keeping.{fact_stands, gives_before, line_stands}
 use Rattle.taos_saturate.proofs.Steps.{speaks_in}
 
 module _ (s : Saturation) (k : ℕ) (line : Line) (at : slice_get s.found.lines.items k ≡ Some line) where

@@ -1,11 +1,10 @@
 -- What stays where a table of nodes widens, and what comes in.
-use Rattle.std.proofs.Common.{◌≡◌, inl, inr, ℕ, zero, suc, ◌+◌, ◌<◌, ◌≤◌, Bool, true, false, List, [], ◌∷◌, ◌++◌, Some, slice_get, get_or, length, map, take, refl, sym, ap, ap₂, subst, ◌∙◌, arith, All, Contains, append_assoc, add-one}
-use Rattle.std.proofs.lemmas.List.{get_or_append_left, get_or_default, length-append, append-nil, map-append}
+use Rattle.std.proofs.Common.{◌≡◌, ℕ, zero, suc, ◌+◌, ◌<◌, ◌≤◌, Bool, true, false, List, [], ◌∷◌, ◌++◌, Some, slice_get, get_or, length, map, take, refl, sym, ap, ap₂, subst, ◌∙◌, arith, All, Contains, append_assoc, add-one}
+use Rattle.std.proofs.lemmas.List.{get_or_default, append-nil, map-append}
 use Rattle.std.proofs.lemmas.List.Elements.{All-nil, All-head, All-tail, All-push, All-weaker, Contains-append_left}
 use Rattle.std.proofs.lemmas.Option.{none-some, same_Some, slice_get-map, slice_get-get_or}
 use Rattle.std.specs.Prelude.{option_map}
-use Rattle.prin_term.specs.declared.term.Anchor.{Anchor}
-use Rattle.prin_term.specs.Principal.{Principal, Key, Name}
+use Rattle.prin_term.specs.Principal.{Principal, Key}
 use Rattle.taos_calculus.specs.declared.line.Node.{Node}
 use Rattle.taos_calculus.specs.Question.{picked, claim_of}
 use Rattle.taos_calculus.specs.Rules.{Claim}
@@ -14,13 +13,14 @@ use Rattle.stmt_codec.specs.Distinct.{met}
 use Rattle.taos_calculus.specs.Tables.{IsNodeTable, named, principals_of}
 use Rattle.taos_calculus.proofs.Naming.{length-principals_of}
 use Rattle.stmt_codec.proofs.Firsts.{met-grows, met-append}
-use Rattle.taos_saturate.specs.declared.saturation.Cited.{Cited}
-use Rattle.taos_saturate.specs.Gathering.{Widens, CitedIn, chosen_by, Gathers}
-use Rattle.taos_saturate.specs.Interning.{IsRoomy, Fits, TakesIn}
-use Rattle.taos_saturate.specs.Saturating.{claim_by}
+use Rattle.term_pool.specs.declared.cited.Cited.{Cited}
+use Rattle.taos_saturate.specs.Gathering.{Widens, Gathers}
+use Rattle.term_pool.specs.Claims.{CitedIn, chosen_by}
+use Rattle.term_pool.specs.Interning.{IsRoomy, Fits, TakesIn}
+use Rattle.term_pool.specs.Claims.{claim_by}
 use Rattle.stmt_codec.specs.Certificates.{Certificate, speaker_of, IsWithinLimits}
-use Rattle.taos_saturate.proofs.Interned.{length_grown, longer_length, longer_named, named_stays, fits_next}
-use Rattle.taos_saturate.proofs.Few.{cert_few}
+use Rattle.term_pool.proofs.Interned.{length_grown, longer_length, longer_named, named_stays, fits_next}
+use Rattle.term_pool.proofs.Few.{cert_few}
 
 map_same : {X Y : Type 0} (f g : X → Y) (xs : List X) → All (λ x. f x ≡ g x) xs → map f xs ≡ map g xs
 map_same f g [] all = refl

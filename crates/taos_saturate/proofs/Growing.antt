@@ -1,17 +1,13 @@
 -- A saturation with one line more.
-use Rattle.std.proofs.Common.{◌≡◌, ◌+◌, ◌<◌, ◌≤◌, List, [], ◌∷◌, ◌++◌, refl, ◌∙◌, append_assoc, arith, le_refl, le_trans}
+use Rattle.std.proofs.Common.{◌≡◌, ◌+◌, ◌<◌, ◌≤◌, [], ◌∷◌, ◌++◌, refl, ◌∙◌, arith, le_refl, le_trans}
 use Rattle.std.specs.Prelude.{vec_capacity}
-use Rattle.std.proofs.lemmas.List.{append-nil}
-use Rattle.prin_term.specs.declared.term.Anchor.{Anchor}
-use Rattle.taos_calculus.specs.declared.line.Fact.{Fact}
 use Rattle.taos_calculus.specs.declared.line.Line.{Line}
-use Rattle.taos_calculus.specs.declared.line.Node.{Node}
-use Rattle.taos_calculus.specs.Rules.{Claim}
 use Rattle.taos_saturate.specs.declared.found.Found.{Found}
 use Rattle.taos_saturate.specs.declared.marks.Marks.{Marks}
 use Rattle.taos_saturate.specs.declared.parents.Parents.{Parents}
 use Rattle.taos_saturate.specs.declared.saturation.Saturation.{Saturation}
-use Rattle.taos_calculus.specs.Numbered.{Gives, EachGives, facts_at}
+use Rattle.taos_calculus.specs.Numbered.{Gives, facts_at}
+use Rattle.term_pool.proofs.Keeping.{each_gives-more}
 use Rattle.taos_saturate.specs.Finding.{IsFound, room}
 use Rattle.taos_saturate.specs.Saturating.{IsReady, IsSound, claims_in, IsNew, IsGrown}
 
@@ -30,12 +26,6 @@ ready_with s f ready found width statements = record {
   statements_in = rw statements ready.statements_in;
   cited_in = rw statements ready.cited_in;
 }
-
-module _ (nodes : List Node) (anchors : List Anchor) (claims : List Claim) where
-  pub each_gives-more : (earlier : List Fact) (xs : List Line) (l : Line) → EachGives nodes anchors claims earlier xs →
-      Gives nodes anchors claims (earlier ++ facts_at xs) l.fact l.step → EachGives nodes anchors claims earlier (xs ++ l ∷ [])
-  each_gives-more e [] l f g = (rw append-nil at g, tt)
-  each_gives-more e (x ∷ xs) l f g = (f.0, each_gives-more (e ++ x.fact ∷ []) xs l f.1 (rw append_assoc g))
 
 pub sound_with : (s : Saturation) (f : Found) (l : Line) → IsSound s → f.lines.items ≡ s.found.lines.items ++ l ∷ [] →
     Gives s.nodes.items s.anchors.items (claims_in s) (facts_at s.found.lines.items) l.fact l.step → IsSound (with_found s f)

@@ -12,10 +12,11 @@ use Rattle.taos_calculus.proofs.Induction.{All-at}
 use Rattle.taos_calculus.proofs.Asking.{IsPicked, picked-at}
 use Rattle.taos_saturate.specs.declared.found.Pair.{Pair}
 use Rattle.taos_saturate.specs.declared.found.Found.{Found}
-use Rattle.taos_saturate.specs.declared.saturation.Cited.{Cited}
+use Rattle.term_pool.specs.declared.cited.Cited.{Cited}
 use Rattle.taos_saturate.specs.declared.held.Held.{Held}
 use Rattle.taos_saturate.specs.Finding.{IsFound}
-use Rattle.taos_saturate.specs.Gathering.{CitedIn, statement_of}
+use Rattle.term_pool.specs.Claims.{CitedIn}
+use Rattle.taos_saturate.specs.Gathering.{statement_of}
 use Rattle.taos_saturate.specs.Held.{IsGathered}
 use Rattle.taos_saturate.specs.Saturating.{IsReady}
 use Rattle.taos_saturate.proofs.Growing.{with_found}

@@ -1,5 +1,5 @@
 -- What a held decider knows of the terms of its question.
-use Rattle.std.proofs.Common.{◌≡◌, ◌↔◌, inl, inr, ℕ, ◌<◌, List, [], ◌∷◌, ◌++◌, Option, Some, None, length, map, refl, ap, subst, All, lit<}
+use Rattle.std.proofs.Common.{◌≡◌, ◌↔◌, inl, inr, ℕ, ◌<◌, List, [], ◌∷◌, Option, Some, None, length, map, refl, ap, subst, All}
 use Rattle.std.specs.Prelude.{MatchOption, IsSome}
 use Rattle.std.proofs.lemmas.List.Elements.{All-weaker, All-map, All-contains}
 use Rattle.prin_term.specs.Principal.{Principal, subterms}
@@ -9,12 +9,13 @@ use Rattle.taos_calculus.specs.Rules.{Claim}
 use Rattle.taos_calculus.specs.Tables.{named}
 use Rattle.taos_calculus.proofs.Numbers.{Numbered}
 use Rattle.taos_saturate.specs.declared.held.Held.{Held}
-use Rattle.taos_saturate.specs.declared.saturation.Cited.{Cited}
-use Rattle.taos_saturate.specs.Gathering.{chosen_by}
+use Rattle.term_pool.specs.declared.cited.Cited.{Cited}
+use Rattle.term_pool.specs.Claims.{chosen_by}
 use Rattle.taos_saturate.specs.Held.{IsHeld, seen}
-use Rattle.taos_saturate.specs.Saturating.{IsNumber, IsKnown, claims_in, claim_by}
+use Rattle.taos_saturate.specs.Saturating.{IsNumber, IsKnown, claims_in}
+use Rattle.term_pool.specs.Claims.{claim_by}
 use Rattle.taos_saturate.proofs.Deciding.{good_decides}
-use Rattle.taos_saturate.proofs.Fitting.{parts_have}
+use Rattle.term_pool.proofs.Fitting.{parts_have}
 
 -- what is not none is some
 pub some_if : {X : Type 0} (o : Option X) (N : Type 0) (S : X → Type 0) → MatchOption o N S → (N → ⊥) → IsSome o

@@ -1,20 +1,21 @@
 -- What is known of the facts of a saturation, and what a step that gives a fact rests on.
 use Rattle.std.proofs.Common.{◌≡◌, ℕ, ◌⊎◌, inl, inr, zero, suc, ◌+◌, ◌*◌, ◌<◌, [], ◌∷◌, List, Option, Some, None, MatchOption, slice_get, refl, sym, ◌∙◌, ap, arith}
 use Rattle.std.proofs.lemmas.Option.{same_Some, none-some, slice_get-map}
-use Rattle.taos_saturate.proofs.Adding.{same_or_not}
+use Rattle.term_pool.proofs.Orders.{same_or_not}
 use Rattle.taos_calculus.specs.declared.line.Step.{Step}
 use Rattle.taos_calculus.specs.declared.line.Node.{Node}
 use Rattle.taos_calculus.specs.declared.line.Fact.{Fact}
 use Rattle.taos_saturate.specs.declared.found.Pair.{Pair}
 use Rattle.taos_saturate.specs.declared.saturation.Saturation.{Saturation}
-use Rattle.taos_saturate.specs.declared.saturation.Cited.{Cited}
+use Rattle.term_pool.specs.declared.cited.Cited.{Cited}
 use Rattle.taos_calculus.specs.Rules.{Claim}
 use Rattle.taos_calculus.specs.Tables.{named}
 use Rattle.taos_calculus.proofs.Naming.{named_apart}
 use Rattle.std.specs.Prelude.{option_map}
 use Rattle.taos_calculus.specs.Numbered.{same, chain, left, right, both, quoting, for_both, role, role_under, anchored, said, lift, join, hand_off, delegate}
 use Rattle.taos_saturate.specs.Finding.{IsCell, of_speaks, of_says, IsFirstOf, pair, CellOf}
-use Rattle.taos_saturate.specs.Saturating.{facts_of, claims_in, claim_by, GivesIn, Lacks, IsNoChain, IsNoLift, HasSaying, LacksSaying, IsNumber, IsReady, IsNew}
+use Rattle.taos_saturate.specs.Saturating.{facts_of, claims_in, GivesIn, Lacks, IsNoChain, IsNoLift, HasSaying, LacksSaying, IsNumber, IsReady, IsNew}
+use Rattle.term_pool.specs.Claims.{claim_by}
 
 cell_speaks : (width : ℕ) (statements : List Pair) (a b c : ℕ) → IsCell width statements (Fact.Speaks a b) c → (a < width) × (b < width)
 cell_speaks width statements a b c (of_speaks h k e) = (h, k)

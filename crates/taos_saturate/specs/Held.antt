@@ -1,13 +1,13 @@
 -- A decider with what it was asked.
-use Rattle.std.specs.Prelude.{◌≡◌, ℕ, ◌<◌, ◌≤◌, List, Some, slice_get}
+use Rattle.std.specs.Prelude.{◌≡◌, ◌<◌, ◌≤◌}
 use Rattle.std.specs.Prelude.{length, map, All, vec_capacity}
 use Rattle.taos_calculus.specs.declared.decide.TheConstants.{MAX_ANCHORS, MAX_CERTS, MAX_ENTRIES}
 use Rattle.taos_calculus.specs.declared.proof.TheConstants.{MAX_LINES, MAX_NODES}
 use Rattle.taos_calculus.specs.Question.{Question}
-use Rattle.taos_calculus.specs.Rules.{Claim}
 use Rattle.taos_calculus.specs.Tables.{IsNodeTable, named}
 use Rattle.taos_saturate.specs.declared.held.Held.{Held}
-use Rattle.taos_saturate.specs.Gathering.{CitedIn, chosen_by, statement_of}
+use Rattle.term_pool.specs.Claims.{ArePlacesApart, CitedIn, chosen_by}
+use Rattle.taos_saturate.specs.Gathering.{statement_of}
 use Rattle.taos_saturate.specs.Saturating.{IsGood}
 
 -- there is room for the largest question
@@ -28,12 +28,6 @@ seen h = record {
   subject = named h.table.nodes.items h.subject;
   list = map (named h.table.nodes.items) h.list.items;
 }
-
--- no place comes twice
-abbrev pub ArePlacesApart : List (ℕ × Claim) → Type 0
-ArePlacesApart chosen =
-    (i j place : ℕ) (x y : Claim) → slice_get chosen i ≡ Some (place, x) →
-    slice_get chosen j ≡ Some (place, y) → i ≡ j
 
 -- the question is taken in; nothing need be decided yet
 pub record IsGathered (h : Held) : Type 0 where

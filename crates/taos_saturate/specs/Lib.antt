@@ -1,9 +1,4 @@
 pub mod Finding
 pub mod Saturating
-pub mod Extract
-pub mod Taking
-pub mod Interning
 pub mod Gathering
 pub mod Held
-pub mod Citing
-pub mod Carrying

@@ -1,29 +1,17 @@
 -- What a saturation holds.
 use Rattle.std.specs.Prelude.{◌≡◌, ℕ, ◌<◌, ◌≤◌, ◌^◌, List, [], Some}
-use Rattle.std.specs.Prelude.{slice_get, length, map, Contains, vec_capacity}
-use Rattle.prin_term.specs.declared.term.Anchor.{Anchor}
-use Rattle.prin_term.specs.Principal.{Principal, Key, Name}
+use Rattle.std.specs.Prelude.{slice_get, length, map, vec_capacity}
 use Rattle.taos_calculus.specs.declared.line.Step.{Step}
 use Rattle.taos_calculus.specs.declared.line.Fact.{Fact}
 use Rattle.taos_calculus.specs.declared.line.Line.{Line}
-use Rattle.taos_calculus.specs.declared.line.Node.{Node}
 use Rattle.taos_calculus.specs.Rules.{Claim}
-use Rattle.taos_calculus.specs.Tables.{named, principals_of, IsBelow, IsNodeTable}
+use Rattle.taos_calculus.specs.Tables.{named, IsBelow, IsNodeTable}
 use Rattle.taos_calculus.specs.Numbered.{Gives, EachGives}
 use Rattle.taos_saturate.specs.declared.found.Pair.{Pair}
-use Rattle.taos_saturate.specs.declared.saturation.Cited.{Cited}
+use Rattle.term_pool.specs.declared.cited.Cited.{Cited}
+use Rattle.term_pool.specs.Claims.{claim_by, IsSaying}
 use Rattle.taos_saturate.specs.declared.saturation.Saturation.{Saturation}
 use Rattle.taos_saturate.specs.Finding.{IsFound, facts_in, pair, CellOf, room}
-
--- what a certificate says, where p gives the principal of each number
-abbrev pub claim_by : (ℕ → Principal) → Cited → Claim
-claim_by p c = record { speaker = p c.speaker; left = p c.left; right = p c.right }
-
--- the certificate is this statement by this speaker
-pub record IsSaying (c : Cited) (speaker left right : ℕ) : Type 0 where
-  pub speaker_is : c.speaker ≡ speaker
-  pub left_is : c.left ≡ left
-  pub right_is : c.right ≡ right
 
 -- no certificate is this statement by this speaker
 abbrev pub LacksSaying : List Cited → ℕ → ℕ → ℕ → Type 0

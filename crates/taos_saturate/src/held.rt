@@ -1,28 +1,26 @@
 //! A decider with what it was asked.
 
-ghost use Rattle.std.specs.Prelude.{◌≡◌, ◌<◌, ℕ, [], All, IfOk, Some, length, map, slice_get};
+ghost use Rattle.std.specs.Prelude.{◌≡◌, ℕ, [], IfOk, Some, map, slice_get};
 ghost use Rattle.prin_term.specs.View.{grant, principal};
 ghost use Rattle.stmt_codec.specs.View.{certificates};
 ghost use Rattle.taos_calculus.specs.declared.line.Fact.{Fact};
 ghost use Rattle.taos_calculus.specs.Question.{question_of, IsAskable, IsProofOf};
 ghost use Rattle.taos_calculus.specs.Tables.{named, lines_of};
-ghost use Rattle.taos_saturate.specs.Gathering.{place_at};
 ghost use Rattle.taos_saturate.specs.Saturating.{facts_of};
-ghost use Rattle.taos_saturate.specs.Held.{IsReserved, IsGathered, IsHeld, ArePlacesApart, seen};
+ghost use Rattle.taos_saturate.specs.Held.{IsReserved, IsGathered, IsHeld, seen};
+ghost use Rattle.term_pool.specs.Claims.{ArePlacesApart};
 
-use crate::citing::cites_in;
-use crate::extract::extract;
 use crate::found::Found;
 use crate::gather::{keep_anchors, state_all, take_certs, take_list, take_term};
 use crate::marks::Marks;
 use crate::parents::Parents;
-use crate::retable::carry_lines;
-use crate::saturation::{Cited, Saturation};
+use crate::saturation::Saturation;
 use prin_term::{Anchor, Entry, Term};
 use std::alloc::{AllocError, Global};
 use std::sync::Arc;
 use stmt_codec::Cert;
-use taos_calculus::{MAX_ANCHORS, MAX_CERTS, MAX_ENTRIES, MAX_LINES, MAX_NODES, Proof, Taken};
+use taos_calculus::{MAX_ANCHORS, MAX_CERTS, MAX_ENTRIES, MAX_LINES, MAX_NODES, Taken};
+use term_pool::take_proof;
 
 /// The saturated table, with the numbers of who asks and of who is on the list.
 #[derive(Drop)]
@@ -160,23 +158,13 @@ impl Held {
             (named self.now.table.nodes.items left) (named self.now.table.nodes.items right)
             (lines_of t.proof) t.cites.items) }
     {
-        let lines = extract(alloc, &self.table.found.lines, number as usize)?;
-        let used = cites_in(alloc, &lines, self.table.cited.len() as u16)?;
-        let carried = carry_lines(alloc, &self.table.nodes, &lines, &used)?;
-        let cites = places(alloc, &self.table.cited, &used)?;
-        let proof = Proof::from_parts(carried.nodes, carried.lines).unwrap();
-        Ok(Taken { proof, cites })
+        let table = &self.table;
+        take_proof(
+            alloc,
+            &table.nodes,
+            &table.cited,
+            &table.found.lines,
+            number as usize,
+        )
     }
-}
-
-// The places of the certificates of these numbers.
-fn places(alloc: Global, cited: &[Cited], used: &[u16]) -> Result<Vec<u16>, AllocError>
-    requires { All (λ k. k < length cited.now) used.now }
-    ensures { IfOk result (λ r. r.items ≡ map (place_at cited.now) used.now) }
-{
-    let mut out = Vec::with_capacity(alloc, used.len())?;
-    for i in 0..used.len() {
-        out.push(cited[used[i] as usize].place)?;
-    }
-    Ok(out)
 }

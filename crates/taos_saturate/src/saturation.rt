@@ -1,33 +1,16 @@
 //! A table of principals with its certificates, and the facts that were found about it.
 
-ghost use Rattle.std.specs.Prelude.{◌≡◌, ◌↔◌, ℕ, ◌<◌, IsTrue, Some, MatchOption, slice_get, length};
+ghost use Rattle.std.specs.Prelude.{◌≡◌, ℕ, ◌<◌, Some, MatchOption, slice_get, length};
 ghost use Rattle.taos_calculus.specs.declared.line.Fact.{Fact};
 ghost use Rattle.taos_calculus.specs.Tables.{OperandsBelow};
-ghost use Rattle.taos_saturate.specs.Saturating.{facts_of, IsReady, IsNumber, IsSaying};
+ghost use Rattle.taos_saturate.specs.Saturating.{facts_of, IsReady, IsNumber};
 
 use crate::found::Found;
 use crate::marks::Marks;
 use crate::parents::Parents;
 use prin_term::Anchor;
 use taos_calculus::{Fact, Node};
-
-/// A chosen certificate: its place, and its speaker and statement by their numbers.
-#[derive(Clone, Copy, Debug)]
-pub struct Cited {
-    pub place: u16,
-    pub speaker: u16,
-    pub left: u16,
-    pub right: u16,
-}
-
-impl Cited {
-    /// Whether it is this statement by this speaker.
-    pub fn is(&self, speaker: u16, left: u16, right: u16) -> bool
-        ensures { IsTrue result ↔ IsSaying self.now speaker left right }
-    {
-        self.speaker == speaker && self.left == left && self.right == right
-    }
-}
+use term_pool::Cited;
 
 /// The table, and the facts that were found. The marks and the parents tell where to look for more.
 #[derive(Drop)]

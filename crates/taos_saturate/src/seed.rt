@@ -3,9 +3,9 @@
 ghost use Rattle.std.specs.Prelude.{◌<◌, length};
 ghost use Rattle.taos_saturate.specs.Saturating.{IsReady, IsNumber, IsSound, IsGrown};
 
-use crate::interning::find;
 use crate::saturation::Saturation;
 use taos_calculus::{Fact, Line, Node};
+use term_pool::find;
 
 impl Saturation {
     /// Adds that the left one speaks for the right one, where it is not known and a step gives it.

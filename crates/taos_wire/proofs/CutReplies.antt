@@ -2,15 +2,15 @@
 use Rattle.std.proofs.Common.{◌≡◌, ℕ, ◌+◌, ◌<◌, eqb, List, [], ◌++◌, length, Result, Err, refl, sym, ap, append-nil, arith, inl, inr, length-append}
 use Rattle.std.specs.Prelude.{All}
 use Rattle.std.specs.Int.{w16, w32, w64}
-use Rattle.object_core.specs.Operation.{IsByte}
 use Rattle.prin_term.proofs.Cuts.{Cuts, cuts_followed, cuts_passing, cuts_made, cuts_given, cuts_if, cuts_counted, cuts_byte, cuts_bytes, cuts_number, cuts_counted_bytes, cuts_term}
-use Rattle.prin_term.proofs.FieldLaws.{IsBytes}
+use Rattle.prin_term.proofs.FieldLaws.{IsBytes, bytes_are}
 use Rattle.taos_calculus.proofs.CutProofs as proofs
 use Rattle.prin_term.specs.declared.fault.FormatFault.TheVariants as faults
-use Rattle.taos_wire.specs.Fields.{ended, seen_as, u8_in, u32_in, u64_in}
+use Rattle.prin_term.specs.Formats.{ended, seen_as, u8_in, u32_in, u64_in}
+use Rattle.prin_term.specs.Steps.{IsByte}
 use Rattle.taos_wire.specs.Reply.{Reply, Malformed, UnknownChannel, BadSeal, Replayed, ChannelFull, RelayFailed, UnknownObject, NoMemory, NotHeld, Unbuilt, NoEntry, SpellsReply}
 use Rattle.taos_wire.specs.ReplyReading.{answered_at, place_at, proof_at, cert_at, cited_at, granted_at, named_at, link_at, denied_at, fields_at, status_at, reply_at, reply_of}
-use Rattle.taos_wire.proofs.CutRequests.{in_bytes, tag_cut}
+use Rattle.taos_wire.proofs.CutRequests.{tag_cut}
 use Rattle.taos_wire.proofs.Fillings.{filling_cut}
 use Rattle.taos_wire.proofs.ReplyLaws.{Tagged, tagged, reply_in}
 
@@ -97,7 +97,7 @@ unfolding reply_of
 cut_refused channel seq r front more all is some =
     let whole = reply_in channel seq r (front ++ more) [] (front ++ more) is (sym (append-nil (front ++ more))) in
     let x : Tagged × ℕ = (tagged channel seq r is.tag, 0 + length (front ++ more)) in
-    elim ((reply_cut front more (in_bytes (front ++ more) all)).at_cut 0 x (omega arith) whole) [
+    elim ((reply_cut front more (bytes_are (front ++ more) all)).at_cut 0 x (omega arith) whole) [
       | inl read ↦ absurd (omega (arith, read.1, some, length-append front more))
       | inr lacking ↦ rw lacking refl
     ]

@@ -2,15 +2,17 @@
 use Rattle.std.proofs.Common.{◌≡◌, ℕ, ◌+◌, ◌<◌, eqb, List, [], ◌++◌, length, Err, refl, sym, ap, ◌∙◌, append-nil, arith, inl, inr, length-append}
 use Rattle.std.specs.Prelude.{All}
 use Rattle.std.specs.Int.{w16, w32, w64}
-use Rattle.std.proofs.lemmas.Bool.{cases_lt}
-use Rattle.std.proofs.lemmas.List.{get_or_past}
-use Rattle.object_core.specs.Operation.{Read, Write, SetList, Hold, Discard, Forget, Sweep, IsByte}
-use Rattle.prin_term.proofs.Cuts.{Cuts, cuts_followed, cuts_passing, cuts_made, cuts_given, cuts_if, cuts_counted, cuts_byte, cuts_bytes, cuts_number, cuts_counted_bytes, cuts_optional, cuts_term}
-use Rattle.prin_term.proofs.FieldLaws.{IsBytes}
+use Rattle.keyed_seal.specs.declared.tag.TheConstants.{TAG_LEN}
+use Rattle.object_core.specs.Operation.{Read, Write, SetList, Hold, Discard, Forget, Sweep}
+use Rattle.object_core.proofs.ListCuts.{cuts_content, cuts_list}
 use Rattle.prin_term.specs.declared.fault.FormatFault.TheVariants.{Malformed}
-use Rattle.taos_wire.specs.Fields.{ended, seen_as, u8_in}
+use Rattle.prin_term.specs.declared.limits.TheConstants.{QUOTED_NODES}
+use Rattle.prin_term.specs.Formats.{ended, seen_as, u8_in, optional_term_in}
+use Rattle.prin_term.specs.Steps.{IsByte}
+use Rattle.prin_term.proofs.Cuts.{Cuts, cuts_followed, cuts_passing, cuts_made, cuts_given, cuts_if, cuts_counted, cuts_byte, cuts_bytes, cuts_number, cuts_counted_bytes, cuts_optional, cuts_term}
+use Rattle.prin_term.proofs.FieldLaws.{IsBytes, bytes_are}
 use Rattle.taos_wire.specs.Request.{Request, request_text, Spells}
-use Rattle.taos_wire.specs.RequestReading.{origin_at, quoted_at, content_at, entry_at, list_at, fields_at, asked_at, cert_at, certs_at, tag_at, request_at, request_of}
+use Rattle.taos_wire.specs.RequestReading.{origin_at, fields_at, asked_at, cert_at, certs_at, tag_at, request_at, request_of}
 use Rattle.taos_wire.proofs.RequestLaws.{Tagged, request_in}
 
 module _ (front more : List ℕ) (ok : IsBytes (front ++ more)) where
@@ -23,30 +25,15 @@ module _ (front more : List ℕ) (ok : IsBytes (front ++ more)) where
       cuts_made _ (cuts_followed (cuts_passing _ Malformed byte_cut)
       (λ _. cuts_followed (cuts_number (ended front) (ended (front ++ more)) front more w32) (λ _. cuts_number (ended front) (ended (front ++ more)) front more w64)))
 
-  quoted_cut : Cuts front (ended front) (quoted_at front) (quoted_at (front ++ more))
-  unfolding quoted_at
+  quoted_cut : Cuts front (ended front) (optional_term_in QUOTED_NODES front) (optional_term_in QUOTED_NODES (front ++ more))
   quoted_cut = cuts_optional (ended front) (ended (front ++ more)) front more Malformed _ _ (cuts_term seen_as _ front more ok)
-
-  content_cut : Cuts front (ended front) (content_at front) (content_at (front ++ more))
-  unfolding content_at
-  content_cut =
-      cuts_made _ (cuts_followed (cuts_passing _ Malformed (cuts_number (ended front) (ended (front ++ more)) front more w16))
-      (λ n. cuts_bytes (ended front) (ended (front ++ more)) front more n))
-
-  entry_cut : Cuts front (ended front) (entry_at front) (entry_at (front ++ more))
-  unfolding entry_at
-  entry_cut = cuts_made _ (cuts_followed (cuts_passing _ Malformed byte_cut) (λ _. cuts_term seen_as _ front more ok))
-
-  list_cut : Cuts front (ended front) (list_at front) (list_at (front ++ more))
-  unfolding list_at
-  list_cut = cuts_counted _ Malformed byte_cut (λ _. entry_cut)
 
   fields_cut : (kind : ℕ) → Cuts front (ended front) (fields_at front kind) (fields_at (front ++ more) kind)
   unfolding fields_at
   fields_cut kind =
       cuts_if (eqb kind 1) _ _ _ _ (cuts_given front (ended front) Read)
-      (cuts_if (eqb kind 2) _ _ _ _ (cuts_made Write content_cut)
-      (cuts_if (eqb kind 3) _ _ _ _ (cuts_made SetList list_cut)
+      (cuts_if (eqb kind 2) _ _ _ _ (cuts_made Write (cuts_content front more ok))
+      (cuts_if (eqb kind 3) _ _ _ _ (cuts_made SetList (cuts_list front more ok))
       (cuts_if (eqb kind 4) _ _ _ _ (cuts_given front (ended front) Hold)
       (cuts_if (eqb kind 5) _ _ _ _ (cuts_made Discard (cuts_bytes (ended front) (ended (front ++ more)) front more 32))
       (cuts_if (eqb kind 6) _ _ _ _ (cuts_made Forget (cuts_number (ended front) (ended (front ++ more)) front more w32))
@@ -64,17 +51,11 @@ module _ (front more : List ℕ) (ok : IsBytes (front ++ more)) where
 
   pub tag_cut : Cuts front (ended front) (tag_at front) (tag_at (front ++ more))
   unfolding tag_at
-  tag_cut = cuts_bytes (ended front) (ended (front ++ more)) front more 32
+  tag_cut = cuts_bytes (ended front) (ended (front ++ more)) front more TAG_LEN
 
   request_cut : Cuts front (ended front) (request_at front) (request_at (front ++ more))
   unfolding request_at
   request_cut = cuts_made _ (cuts_followed origin_cut (λ _. cuts_followed quoted_cut (λ _. cuts_followed asked_cut (λ _. cuts_followed certs_cut (λ _. tag_cut)))))
-
-pub in_bytes : (bytes : List ℕ) → All IsByte bytes → IsBytes bytes
-in_bytes bytes all i = elim (cases_lt i (length bytes)) [
-  | inl lt ↦ all i 0 lt
-  | inr past ↦ rw (get_or_past bytes i 0 past) (omega arith)
-]
 
 pub cut_refused : (r : Request) (front more : List ℕ) → All IsByte (front ++ more) → Spells r (front ++ more) → 0 < length more → request_of front ≡ Err (Malformed (length front))
 unfolding request_of
@@ -82,7 +63,7 @@ cut_refused r front more all is some =
     let whole = request_in (front ++ more) [] r is.tag is.limits is.is_tag (is.text ∙ sym (append-nil (request_text r ++ is.tag))) in
     let x : Tagged × ℕ = ((r, is.tag), 0 + length (request_text r ++ is.tag)) in
     let len : length (front ++ more) ≡ length (request_text r ++ is.tag) = ap length is.text in
-    elim ((request_cut front more (in_bytes (front ++ more) all)).at_cut 0 x (omega arith) whole) [
+    elim ((request_cut front more (bytes_are (front ++ more) all)).at_cut 0 x (omega arith) whole) [
       | inl read ↦ absurd (omega (arith, read.1, len, some, length-append front more))
       | inr lacking ↦ rw lacking refl
     ]

@@ -11,8 +11,8 @@ use Rattle.prin_term.specs.declared.fault.FormatFault.{FormatFault}
 use Rattle.stmt_codec.specs.Certificates.{Certificate, body_spelling}
 use Rattle.stmt_codec.specs.Reading.{body_at}
 use Rattle.stmt_codec.proofs.Bodies.{body_takes, body_again}
-use Rattle.prin_term.specs.declared.fault.FormatFault.TheVariants.{Malformed}
-use Rattle.taos_wire.specs.Fields.{ended}
+use Rattle.prin_term.specs.declared.fault.FormatFault.TheVariants.{Malformed, NoMemory}
+use Rattle.prin_term.specs.Formats.{ended, IsFaultIn}
 use Rattle.taos_wire.specs.Reply.{FitsCited}
 use Rattle.taos_wire.specs.ReplyReading.{body_filling}
 
@@ -22,6 +22,17 @@ module _ (bytes : List ℕ) (at n : ℕ) (le : at ≤ length bytes) (text : List
 
   end_in : text.1 ≤ length bytes
   end_in = TakesAt-within bytes at text.0 text.1 le (bytes_takes (ended bytes) n bytes at text there).0
+
+  fits_in : at + n ≤ length bytes
+  fits_in = omega (arith, end_is, end_in)
+
+  pub begins_within_front : at ≤ length (take (at + n) bytes)
+  begins_within_front = omega (arith, length-take-le (at + n) bytes fits_in)
+
+  -- a fault in the front is one in all of the bytes
+  pub in_front : (f : FormatFault) → IsFaultIn (take (at + n) bytes) f → IsFaultIn bytes f
+  in_front (Malformed o) is = omega (arith, is, length-take-le (at + n) bytes fits_in, fits_in)
+  in_front NoMemory is = absurd is
 
   pub front_within : at ≤ length (take text.1 bytes)
   front_within = omega (arith, end_is, end_in, length-take-le text.1 bytes end_in)

@@ -1,9 +1,7 @@
 pub mod Operations
 pub mod RequestLaws
 pub mod Seals
-pub mod Pieces
 pub mod CutRequests
-pub mod Staying
 pub mod Places
 pub mod ShortReplies
 pub mod ReplyPieces
@@ -11,3 +9,5 @@ pub mod Fillings
 pub mod ReplyFields
 pub mod ReplyLaws
 pub mod CutReplies
+pub mod ProofPlaces
+pub mod ReplyPlaces

@@ -1,32 +1,26 @@
 -- The fields of a request: what is read is spelled so, and the other way.
-use Rattle.std.proofs.Common.{◌≡◌, ℕ, ◌^◌, ◌<◌, ◌≤◌, true, false, leb, eqb, List, [], ◌∷◌, ◌++◌, length, refl, sym, ap, subst, arith}
-use Rattle.std.specs.Prelude.{All, IfSome}
-use Rattle.std.specs.List.{flat_map}
+use Rattle.std.proofs.Common.{◌≡◌, ℕ, ◌^◌, ◌<◌, ◌≤◌, true, false, eqb, List, [], ◌∷◌, ◌++◌, length, refl, sym, ap, subst, arith}
+use Rattle.std.specs.Prelude.{All}
 use Rattle.std.specs.Int.{w16, w32, w64, to_be_bytes}
-use Rattle.std.proofs.lemmas.Bool.{eqb-true, eqb-false, leb-true, le-leb}
-use Rattle.std.proofs.lemmas.Bool.Decides.{nat_tests}
-use Rattle.object_core.specs.Operation.{Op, Read, Write, SetList, Hold, Discard, Forget, Sweep, FitsOperation, FitsGrant, IsContent, IsAccessList, IsDigest}
-use Rattle.prin_term.specs.declared.limits.TheConstants.{ENTRY_NODES, QUOTED_NODES}
-use Rattle.prin_term.specs.Principal.{spelling}
-use Rattle.prin_term.specs.Readers.{given, made}
-use Rattle.prin_term.specs.Refusal.{FitsLimits}
-use Rattle.prin_term.specs.Steps.{bytes_at, counted, optional}
-use Rattle.prin_term.specs.View.{Grant}
-use Rattle.prin_term.proofs.FieldLaws.{wide16, wide32, wide64}
-use Rattle.prin_term.proofs.FieldReaders.{reads_given, reads_if, reads_term, reads_optional, reads_counted_bytes}
-use Rattle.prin_term.proofs.ReaderLaws.{Reads, reads_byte, reads_number, reads_bytes, reads_followed, reads_passing, reads_made, reads_as, reads_counted}
-use Rattle.prin_term.specs.declared.fault.FormatFault.{FormatFault as WireFault}
+use Rattle.std.proofs.lemmas.Bool.{eqb-true, eqb-false}
+use Rattle.keyed_seal.specs.declared.tag.TheConstants.{TAG_LEN}
+use Rattle.object_core.specs.Operation.{Op, Read, Write, SetList, Hold, Discard, Forget, Sweep, FitsOperation, IsContent, IsAccessList, IsDigest}
+use Rattle.object_core.specs.Reading.{content_at, list_at}
+use Rattle.object_core.specs.Spelling.{content_bytes, list_bytes}
+use Rattle.object_core.proofs.ListReaders.{reads_content, reads_list}
+use Rattle.prin_term.specs.declared.fault.FormatFault.{FormatFault}
 use Rattle.prin_term.specs.declared.fault.FormatFault.TheVariants.{Malformed}
+use Rattle.prin_term.specs.Formats.{FormatReader, ended, u32_in}
+use Rattle.prin_term.specs.Readers.{given, made}
+use Rattle.prin_term.specs.Steps.{bytes_at, counted}
+use Rattle.prin_term.specs.View.{Grant}
+use Rattle.prin_term.proofs.FieldLaws.{wide16}
+use Rattle.prin_term.proofs.FieldReaders.{reads_given, reads_if, reads_counted_bytes}
+use Rattle.prin_term.proofs.FormatFields.{reads_u8, reads_u32, reads_u64, reads_u8_in}
+use Rattle.prin_term.proofs.ReaderLaws.{Reads, reads_bytes, reads_followed, reads_made, reads_as, reads_each}
 use Rattle.taos_wire.specs.declared.request.TheConstants.{MAX_CERTS}
-use Rattle.taos_wire.specs.Fields.{WireReader, ended, seen_as, is_within, within, u8_in, u16_in, u32_in, u64_in}
-use Rattle.taos_wire.specs.Request.{kind_of, grant_bytes, op_fields, certs_bytes, IsCertText, IsTag}
-use Rattle.taos_wire.specs.RequestReading.{origin_at, quoted_at, content_at, entry_at, list_at, fields_at, asked_at, cert_at, certs_at, tag_at}
-
-within_is : (low high n : ℕ) → is_within low high n ≡ true → (low ≤ n) × (n ≤ high)
-within_is low high n e = (grind (arith, nat_tests), grind (arith, nat_tests))
-
-is_within-true : (low high n : ℕ) → low ≤ n → n ≤ high → is_within low high n ≡ true
-is_within-true low high n above below = grind (arith, nat_tests)
+use Rattle.taos_wire.specs.Request.{kind_of, op_fields, certs_bytes, IsCertText, IsTag}
+use Rattle.taos_wire.specs.RequestReading.{origin_at, fields_at, asked_at, cert_at, certs_at, tag_at}
 
 -- ---- operations by their kinds
 
@@ -70,7 +64,7 @@ read_is (Discard digest) is = absurd (omega (arith, is.1))
 read_is (Forget channel) is = absurd (omega (arith, is.1))
 read_is Sweep is = absurd (omega (arith, is.1))
 
-write_is : (op : Op) → FitsKind 2 op → IsContent (content_in op) × (op_fields op ≡ counted w16 (content_in op)) × (Write (content_in op) ≡ op)
+write_is : (op : Op) → FitsKind 2 op → IsContent (content_in op) × (op_fields op ≡ content_bytes (content_in op)) × (Write (content_in op) ≡ op)
 write_is Read is = absurd (omega (arith, is.1))
 write_is (Write content) is = (is.0, refl, refl)
 write_is (SetList list) is = absurd (omega (arith, is.1))
@@ -79,7 +73,7 @@ write_is (Discard digest) is = absurd (omega (arith, is.1))
 write_is (Forget channel) is = absurd (omega (arith, is.1))
 write_is Sweep is = absurd (omega (arith, is.1))
 
-set_list_is : (op : Op) → FitsKind 3 op → IsAccessList (list_in op) × (op_fields op ≡ length (list_in op) ∷ flat_map grant_bytes (list_in op)) × (SetList (list_in op) ≡ op)
+set_list_is : (op : Op) → FitsKind 3 op → IsAccessList (list_in op) × (op_fields op ≡ list_bytes (list_in op)) × (SetList (list_in op) ≡ op)
 set_list_is Read is = absurd (omega (arith, is.1))
 set_list_is (Write content) is = absurd (omega (arith, is.1))
 set_list_is (SetList list) is = (is.0, refl, refl)
@@ -124,72 +118,20 @@ sweep_is (Discard digest) is = absurd (omega (arith, is.1))
 sweep_is (Forget channel) is = absurd (omega (arith, is.1))
 sweep_is Sweep is = (refl, refl)
 
-abbrev pub Anyhow : {A : Type 0} → A → A → Type 0
-Anyhow a b = Unit {0}
-
 module _ (bytes : List ℕ) where
-  -- ---- numbers and terms
-
-  pub reads_u8 : Reads bytes (u8_in bytes) (λ b. b ∷ []) (λ b. b < 256)
-  reads_u8 = reads_byte (ended bytes) bytes
-
-  pub reads_u16 : Reads bytes (u16_in bytes) (to_be_bytes w16) (λ n. n < 2 ^ 16)
-  reads_u16 = reads_number (ended bytes) w16 (2 ^ 16) wide16 bytes
-
-  pub reads_u32 : Reads bytes (u32_in bytes) (to_be_bytes w32) (λ n. n < 2 ^ 32)
-  reads_u32 = reads_number (ended bytes) w32 (2 ^ 32) wide32 bytes
-
-  pub reads_u64 : Reads bytes (u64_in bytes) (to_be_bytes w64) (λ n. n < 2 ^ 64)
-  reads_u64 = reads_number (ended bytes) w64 (2 ^ 64) wide64 bytes
-
-  pub reads_u8_in : (low high : ℕ) → high < 256 → Reads bytes (within low high (u8_in bytes)) (λ b. b ∷ []) (λ b. (low ≤ b) × (b ≤ high))
-  reads_u8_in low high lt =
-      reads_as (λ b. b ∷ []) (λ b. (low ≤ b) × (b ≤ high)) (reads_passing (is_within low high) Malformed reads_u8)
-      (λ n is. (within_is low high n is.1, refl))
-      (λ n is. (omega (arith, is.1), is_within-true low high n is.0 is.1))
-
   -- ---- who asks
 
   pub reads_origin : Reads bytes (origin_at bytes) (λ p. 3 ∷ (to_be_bytes w32 p.0 ++ to_be_bytes w64 p.1)) (λ p. (p.0 < 2 ^ 32) × (p.1 < 2 ^ 64))
   unfolding origin_at
   reads_origin =
       reads_made (λ (x : ℕ × (ℕ × ℕ)). x.1) (λ (p : ℕ × ℕ). (3, p)) (λ p. 3 ∷ (to_be_bytes w32 p.0 ++ to_be_bytes w64 p.1)) (λ p. (p.0 < 2 ^ 32) × (p.1 < 2 ^ 64))
-      (reads_followed (reads_u8_in 3 3 (omega arith)) (λ _ _. reads_followed reads_u32 (λ _ _. reads_u64)))
+      (reads_followed (reads_u8_in bytes 3 3 (omega arith)) (λ _ _. reads_followed (reads_u32 bytes) (λ _ _. reads_u64 bytes)))
       (λ x is.
       let three : x.0 ≡ 3 = omega (arith, is.0) in
       ((is.1.0, is.1.1), ap (λ (k : ℕ). k ∷ (to_be_bytes w32 x.1.0 ++ to_be_bytes w64 x.1.1)) three))
       (λ p is. (((omega arith, omega arith), (is.0, is.1)), refl, refl))
 
-  pub reads_quoted : Reads bytes (quoted_at bytes) (optional spelling) (λ o. IfSome o (FitsLimits QUOTED_NODES))
-  unfolding quoted_at
-  reads_quoted = reads_optional (ended bytes) Malformed (reads_term seen_as QUOTED_NODES bytes)
-
   -- ---- what is asked
-
-  pub reads_content : Reads bytes (content_at bytes) (counted w16) IsContent
-  unfolding content_at
-  reads_content =
-      reads_made (λ (p : ℕ × List ℕ). p.1) (λ (text : List ℕ). (length text, text)) (counted w16) IsContent
-      (reads_followed (reads_passing (λ n. leb n 4096) Malformed reads_u16) (λ n _. reads_bytes (ended bytes) n bytes))
-      (λ p is. ((subst (λ (k : ℕ). k ≤ 4096) (sym is.1.0) (leb-true p.0 4096 is.0.1), is.1.1), ap (λ (k : ℕ). to_be_bytes w16 k ++ p.1) (sym is.1.0)))
-      (λ text is. (((omega (arith, is.0), le-leb (length text) 4096 is.0), (refl, is.1)), refl, refl))
-
-  pub reads_entry : Reads bytes (entry_at bytes) grant_bytes FitsGrant
-  unfolding entry_at
-  reads_entry =
-      reads_made (λ x. record { rights = x.0; who = x.1 }) (λ (g : Grant). (g.rights, g.who)) grant_bytes FitsGrant
-      (reads_followed (reads_u8_in 1 15 (omega arith)) (λ _ _. reads_term seen_as ENTRY_NODES bytes))
-      (λ x is. (record { rights = is.0; who = is.1 }, refl))
-      (λ g is. ((is.rights, is.who), refl, refl))
-
-  pub reads_list : Reads bytes (list_at bytes) (λ xs. length xs ∷ flat_map grant_bytes xs) IsAccessList
-  unfolding list_at
-  reads_list =
-      reads_as (λ xs. length xs ∷ flat_map grant_bytes xs) IsAccessList
-      (reads_counted 8 256 Malformed grant_bytes FitsGrant Anyhow (omega arith) reads_u8
-      (λ before. reads_as grant_bytes (λ g. FitsGrant g × All (λ b. Anyhow b g) before) reads_entry (λ g is. ((is, λ k d below. tt), refl)) (λ g is. is.0)))
-      (λ xs is. ((is.0, is.1), refl))
-      (λ xs is. (is.0, is.1, λ i j d below within. tt))
 
   -- the last kind is what is left of seven
   last_kind : (kind : ℕ) → 1 ≤ kind → kind ≤ 7 → eqb kind 1 ≡ false → eqb kind 2 ≡ false → eqb kind 3 ≡ false → eqb kind 4 ≡ false → eqb kind 5 ≡ false → eqb kind 6 ≡ false → kind ≡ 7
@@ -205,46 +147,46 @@ module _ (bytes : List ℕ) where
       reads_if (eqb kind 4) (given Hold) _ op_fields (FitsKind kind) (λ four. of_kind 4 four reads_hold) (λ not_four.
       reads_if (eqb kind 5) (made Discard (bytes_at (ended bytes) 32 bytes)) _ op_fields (FitsKind kind) (λ five. of_kind 5 five reads_discard) (λ not_five.
       reads_if (eqb kind 6) (made Forget (u32_in bytes)) (given Sweep) op_fields (FitsKind kind) (λ six. of_kind 6 six reads_forget) (λ not_six.
-      subst (λ (k : ℕ). Reads {E = WireFault} bytes (given Sweep) op_fields (FitsKind k)) (sym (last_kind kind low_high.0 low_high.1 not_one not_two not_three not_four not_five not_six)) reads_sweep))))))
+      subst (λ (k : ℕ). Reads {E = FormatFault} bytes (given Sweep) op_fields (FitsKind k)) (sym (last_kind kind low_high.0 low_high.1 not_one not_two not_three not_four not_five not_six)) reads_sweep))))))
     where
-      of_kind : {r : WireReader Op} (k : ℕ) → eqb kind k ≡ true → Reads bytes r op_fields (FitsKind k) → Reads bytes r op_fields (FitsKind kind)
+      of_kind : {r : FormatReader Op} (k : ℕ) → eqb kind k ≡ true → Reads bytes r op_fields (FitsKind k) → Reads bytes r op_fields (FitsKind kind)
       of_kind {r} k is reads = subst (λ (n : ℕ). Reads bytes r op_fields (FitsKind n)) (sym (eqb-true kind k is)) reads
 
-      reads_read : Reads {E = WireFault} bytes (given Read) op_fields (FitsKind 1)
+      reads_read : Reads {E = FormatFault} bytes (given Read) op_fields (FitsKind 1)
       reads_read =
           reads_as op_fields (FitsKind 1) (reads_given bytes Read)
           (λ op is. (subst (FitsKind 1) (sym is) (tt, refl), (read_is op (subst (FitsKind 1) (sym is) (tt, refl))).1))
           (λ op is. (read_is op is).0)
 
-      reads_hold : Reads {E = WireFault} bytes (given Hold) op_fields (FitsKind 4)
+      reads_hold : Reads {E = FormatFault} bytes (given Hold) op_fields (FitsKind 4)
       reads_hold =
           reads_as op_fields (FitsKind 4) (reads_given bytes Hold)
           (λ op is. (subst (FitsKind 4) (sym is) (tt, refl), (hold_is op (subst (FitsKind 4) (sym is) (tt, refl))).1))
           (λ op is. (hold_is op is).0)
 
-      reads_sweep : Reads {E = WireFault} bytes (given Sweep) op_fields (FitsKind 7)
+      reads_sweep : Reads {E = FormatFault} bytes (given Sweep) op_fields (FitsKind 7)
       reads_sweep =
           reads_as op_fields (FitsKind 7) (reads_given bytes Sweep)
           (λ op is. (subst (FitsKind 7) (sym is) (tt, refl), (sweep_is op (subst (FitsKind 7) (sym is) (tt, refl))).1))
           (λ op is. (sweep_is op is).0)
 
       reads_write : Reads bytes (made Write (content_at bytes)) op_fields (FitsKind 2)
-      reads_write = reads_made Write content_in op_fields (FitsKind 2) reads_content (λ text is. ((is, refl), refl)) (λ op is. write_is op is)
+      reads_write = reads_made Write content_in op_fields (FitsKind 2) (reads_content bytes) (λ text is. ((is, refl), refl)) (λ op is. write_is op is)
 
       reads_set_list : Reads bytes (made SetList (list_at bytes)) op_fields (FitsKind 3)
-      reads_set_list = reads_made SetList list_in op_fields (FitsKind 3) reads_list (λ list is. ((is, refl), refl)) (λ op is. set_list_is op is)
+      reads_set_list = reads_made SetList list_in op_fields (FitsKind 3) (reads_list bytes) (λ list is. ((is, refl), refl)) (λ op is. set_list_is op is)
 
       reads_discard : Reads bytes (made Discard (bytes_at (ended bytes) 32 bytes)) op_fields (FitsKind 5)
       reads_discard = reads_made Discard content_in op_fields (FitsKind 5) (reads_bytes (ended bytes) 32 bytes) (λ digest is. ((is, refl), refl)) (λ op is. discard_is op is)
 
       reads_forget : Reads bytes (made Forget (u32_in bytes)) op_fields (FitsKind 6)
-      reads_forget = reads_made Forget channel_in op_fields (FitsKind 6) reads_u32 (λ channel is. ((is, refl), refl)) (λ op is. forget_is op is)
+      reads_forget = reads_made Forget channel_in op_fields (FitsKind 6) (reads_u32 bytes) (λ channel is. ((is, refl), refl)) (λ op is. forget_is op is)
 
   pub reads_asked : Reads bytes (asked_at bytes) (λ p. kind_of p.1 ∷ (to_be_bytes w32 p.0 ++ op_fields p.1)) (λ p. (p.0 < 2 ^ 32) × FitsOperation p.1)
   unfolding asked_at
   reads_asked =
       reads_made (λ (x : ℕ × (ℕ × Op)). x.1) (λ (p : ℕ × Op). (kind_of p.1, p)) (λ p. kind_of p.1 ∷ (to_be_bytes w32 p.0 ++ op_fields p.1)) (λ p. (p.0 < 2 ^ 32) × FitsOperation p.1)
-      (reads_followed (reads_u8_in 1 7 (omega arith)) (λ kind low_high. reads_followed reads_u32 (λ _ _. reads_kind kind low_high)))
+      (reads_followed (reads_u8_in bytes 1 7 (omega arith)) (λ kind low_high. reads_followed (reads_u32 bytes) (λ _ _. reads_kind kind low_high)))
       (λ x is. ((is.1.0, is.1.1.0), ap (λ (k : ℕ). k ∷ (to_be_bytes w32 x.1.0 ++ op_fields x.1.1)) (sym is.1.1.1)))
       (λ p is. ((kind_within p.1, (is.0, (is.1, refl))), refl, refl))
     where
@@ -261,13 +203,8 @@ module _ (bytes : List ℕ) where
 
   pub reads_certs : Reads bytes (certs_at bytes) certs_bytes (λ xs. (length xs ≤ MAX_CERTS) × All IsCertText xs)
   unfolding certs_at cert_at
-  reads_certs =
-      reads_as certs_bytes (λ xs. (length xs ≤ 16) × All IsCertText xs)
-      (reads_counted 16 256 Malformed (counted w16) IsCertText Anyhow (omega arith) reads_u8
-      (λ before. reads_as (counted w16) (λ c. IsCertText c × All (λ b. Anyhow b c) before) (reads_counted_bytes (ended bytes) w16 (2 ^ 16) wide16 bytes) (λ c is. ((is, λ k d below. tt), refl)) (λ c is. is.0)))
-      (λ xs is. ((is.0, is.1), refl))
-      (λ xs is. (is.0, is.1, λ i j d below within. tt))
+  reads_certs = reads_each MAX_CERTS 256 Malformed (counted w16) IsCertText (omega arith) (reads_u8 bytes) (reads_counted_bytes (ended bytes) w16 (2 ^ 16) wide16 bytes)
 
   pub reads_tag : Reads bytes (tag_at bytes) (λ tag. tag) IsTag
   unfolding tag_at
-  reads_tag = reads_bytes (ended bytes) 32 bytes
+  reads_tag = reads_bytes (ended bytes) TAG_LEN bytes

@@ -12,7 +12,7 @@ use Rattle.prin_term.specs.Refusal.{FitsLimits}
 use Rattle.prin_term.specs.Steps.{bytes_at, counted, counted_at}
 use Rattle.prin_term.proofs.FieldLaws.{IsBytes, TakesAt, wide16}
 use Rattle.prin_term.proofs.FieldReaders.{reads_given, reads_term, reads_counted_bytes}
-use Rattle.prin_term.proofs.ReaderLaws.{Reads, reads_bytes, reads_followed, reads_passing, reads_made, reads_as, reads_counted}
+use Rattle.prin_term.proofs.ReaderLaws.{Reads, reads_bytes, reads_followed, reads_passing, reads_made, reads_as, reads_each}
 use Rattle.prin_term.proofs.Results.{bind_ok, ok_is}
 use Rattle.stmt_codec.specs.Certificates.{Certificate, body_spelling}
 use Rattle.taos_calculus.specs.Rules.{Line}
@@ -25,27 +25,27 @@ use Rattle.taos_calculus.proofs.Spelled.{numbered-lines_of, spelling_is}
 use Rattle.prin_term.specs.declared.fault.FormatFault.{FormatFault as WireFault}
 use Rattle.prin_term.specs.declared.fault.FormatFault.TheVariants as faults
 use Rattle.taos_wire.specs.declared.reply.TheConstants.{MAX_CITED}
-use Rattle.taos_wire.specs.Fields.{WireReader, ended, seen_as, u8_in, u32_in, u64_in, within, term_in}
+use Rattle.prin_term.specs.Formats.{FormatReader, ended, seen_as, u8_in, u32_in, u64_in, within, term_in}
 use Rattle.taos_wire.specs.Reply.{Reply, Granted, Denied, Malformed, UnknownChannel, BadSeal, Replayed, CertRefused, ChannelFull, RelayFailed, UnknownObject, JournalFull, NoMemory, CommonsFull}
 use Rattle.taos_wire.specs.Reply.{NotHeld, Unbuilt, LinkSent, Expired, Missing, NoEntry, flag, link_bytes, cert_bytes, cited_bytes, proof_bytes, status_of, fields_of, answered_bytes, IsProof}
 use Rattle.taos_wire.specs.Reply.{FitsCited, FitsLink, FitsReply, FitsGranted}
 use Rattle.taos_wire.specs.ReplyReading.{answered_at, place_at, proof_at, cert_at, cited_at, granted_at, named_at, link_at, denied_at, is_status, fields_at, status_at}
 use Rattle.taos_wire.proofs.Fillings.{reads_filling}
-use Rattle.taos_wire.proofs.Operations.{Anyhow, reads_u8, reads_u16, reads_u32, reads_u64, reads_u8_in}
-use Rattle.taos_wire.proofs.ShortReplies.{body_short}
+use Rattle.prin_term.proofs.FormatFields.{reads_u8, reads_u16, reads_u32, reads_u64, reads_u8_in}
+use Rattle.stmt_codec.proofs.BodyLengths.{short_body}
 
 -- ---- readers, by halves
 
 -- what a reader takes is what it spells
-abbrev pub Takes : {A : Type 0} → List ℕ → WireReader A → (A → List ℕ) → (A → Type 0) → Type 0
+abbrev pub Takes : {A : Type 0} → List ℕ → FormatReader A → (A → List ℕ) → (A → Type 0) → Type 0
 Takes {A} bytes r spell Fits = IsBytes bytes → (at : ℕ) (x : A × ℕ) → at ≤ length bytes → r at ≡ Ok x → TakesAt bytes at (spell x.0) x.1 × Fits x.0
 
-takes_if : {A : Type 0} (bytes : List ℕ) (test : Bool) (first second : WireReader A) (spell : A → List ℕ) (Fits : A → Type 0) → (test ≡ true → Takes bytes first spell Fits) → (test ≡ false → Takes bytes second spell Fits)
+takes_if : {A : Type 0} (bytes : List ℕ) (test : Bool) (first second : FormatReader A) (spell : A → List ℕ) (Fits : A → Type 0) → (test ≡ true → Takes bytes first spell Fits) → (test ≡ false → Takes bytes second spell Fits)
     → Takes bytes (λ at. cond test (first at) (second at)) spell Fits
 takes_if bytes true first second spell Fits holds fails = holds refl
 takes_if bytes false first second spell Fits holds fails = fails refl
 
-takes_made : {A B : Type 0} {bytes : List ℕ} {r : WireReader A} {sa : A → List ℕ} {Fa : A → Type 0} (f : A → B) (spell : B → List ℕ) (Fits : B → Type 0) → Reads bytes r sa Fa → ((a : A) → Fa a → Fits (f a) × (sa a ≡ spell (f a))) → Takes bytes (made f r) spell Fits
+takes_made : {A B : Type 0} {bytes : List ℕ} {r : FormatReader A} {sa : A → List ℕ} {Fa : A → Type 0} (f : A → B) (spell : B → List ℕ) (Fits : B → Type 0) → Reads bytes r sa Fa → ((a : A) → Fa a → Fits (f a) × (sa a ≡ spell (f a))) → Takes bytes (made f r) spell Fits
 takes_made {A} {B} {bytes} {r} {sa} {Fa} f spell Fits reads forth ok at x le e =
     let a = bind_ok (r at) (λ a. Ok (f a.0, a.1)) x e in
     let t = reads.takes ok at a.0 le a.1 in
@@ -61,7 +61,7 @@ takes_given {B} bytes b spell Fits none fits ok at x le e =
     (subst (λ (l : List ℕ). TakesAt bytes at l x.1) (sym same) t.0, subst Fits (sym t.1) fits)
 
 -- what is spelled is read, as another value
-again_made : {A B : Type 0} {bytes : List ℕ} {r : WireReader A} {sa : A → List ℕ} {Fa : A → Type 0} (f : A → B) → Reads bytes r sa Fa → (at : ℕ) (a : A) (rest : List ℕ) → Fa a → drop at bytes ≡ sa a ++ rest → made f r at ≡ Ok (f a, at + length (sa a))
+again_made : {A B : Type 0} {bytes : List ℕ} {r : FormatReader A} {sa : A → List ℕ} {Fa : A → Type 0} (f : A → B) → Reads bytes r sa Fa → (at : ℕ) (a : A) (rest : List ℕ) → Fa a → drop at bytes ≡ sa a ++ rest → made f r at ≡ Ok (f a, at + length (sa a))
 again_made f reads at a rest fits e = rw (reads.again at a rest fits e) refl
 
 again_given : {B : Type 0} (b : B) (at : ℕ) → given {E = WireFault} b at ≡ Ok (b, at + 0)
@@ -183,16 +183,11 @@ module _ (bytes : List ℕ) where
       reads_made (λ (x : ℕ × Certificate). x.1) (λ (c : Certificate). (length (body_spelling c), c)) cert_bytes FitsCited
       (reads_followed (reads_u16 bytes) (λ n _. reads_filling bytes n))
       (λ x is. (is.1.0, ap (λ (k : ℕ). to_be_bytes w16 k ++ body_spelling x.1) (sym is.1.1)))
-      (λ c is. ((omega (arith, body_short c is.limits), (is, refl)), refl, refl))
+      (λ c is. ((omega (arith, short_body c is.limits), (is, refl)), refl, refl))
 
   reads_cited : Reads bytes (cited_at bytes) cited_bytes (λ xs. (length xs ≤ MAX_CITED) × All FitsCited xs)
   unfolding cited_at
-  reads_cited =
-      reads_as cited_bytes (λ xs. (length xs ≤ 64) × All FitsCited xs)
-      (reads_counted 64 256 faults.Malformed cert_bytes FitsCited Anyhow (omega arith) (reads_u8 bytes)
-      (λ before. reads_as cert_bytes (λ c. FitsCited c × All (λ b. Anyhow b c) before) reads_cert (λ c is. ((is, λ k d below. tt), refl)) (λ c is. is.0)))
-      (λ xs is. ((is.0, is.1), refl))
-      (λ xs is. (is.0, is.1, λ i j d below within. tt))
+  reads_cited = reads_each MAX_CITED 256 faults.Malformed cert_bytes FitsCited (omega arith) (reads_u8 bytes) reads_cert
 
   abbrev GrantFields : Type 0
   GrantFields = ℕ × (ℕ × ((ℕ × ℕ) × (List Line × (List Certificate × List ℕ))))
@@ -204,7 +199,7 @@ module _ (bytes : List ℕ) where
   GrantFits x =
       ((0 ≤ x.0) × (x.0 ≤ 1)) × ((x.1.0 < 256) × (((x.1.1.0.0 < 2 ^ 32) × (x.1.1.0.1 < 2 ^ 64)) × (IsProof x.1.1.1.0 × (((length x.1.1.1.1.0 ≤ MAX_CITED) × All FitsCited x.1.1.1.1.0) × ((length x.1.1.1.1.1 < 2 ^ 16) × All (λ b. b < 256) x.1.1.1.1.1)))))
 
-  abbrev grant_reader : WireReader GrantFields
+  abbrev grant_reader : FormatReader GrantFields
   grant_reader =
       followed (within 0 1 (u8_in bytes))
       (λ _. followed (u8_in bytes)

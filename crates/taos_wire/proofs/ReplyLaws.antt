@@ -5,8 +5,7 @@ use Rattle.std.proofs.lemmas.Bool.{ltb-false, le-ltb, lt-ltb}
 use Rattle.std.proofs.lemmas.List.{drop_all}
 use Rattle.std.proofs.lemmas.List.Elements.{All-nil, All-cons}
 use Rattle.keyed_seal.proofs.Tags.{length-tag_of, bytes-tag_of}
-use Rattle.object_core.specs.Operation.{IsByte}
-use Rattle.prin_term.specs.Steps.{Gives}
+use Rattle.prin_term.specs.Steps.{IsByte, Gives}
 use Rattle.prin_term.proofs.FieldLaws.{IsBytes}
 use Rattle.prin_term.proofs.ReaderLaws.{Reads, reads_followed, reads_made}
 use Rattle.prin_term.proofs.Results.{bind_ok, ok_is, refused_ok, gives_found, gives_only}
@@ -141,10 +140,10 @@ sent_spells key channel seq r c n fits =
 
 -- ---- what the whole reader answers
 
-abbrev Read : Type 0
+abbrev pub Read : Type 0
 Read = ℕ × ℕ × code.Reply
 
-abbrev seen : Read → Answer
+abbrev pub seen : Read → Answer
 seen x = (x.0, x.1, reply x.2)
 
 pub is_found : (bytes : List ℕ) (r : Result Read WireFault) → IsBytes bytes → Gives faults.NoMemory seen r (reply_of bytes) → IfOk r (λ x. SpellsReply x.0 x.1 (reply x.2) bytes)

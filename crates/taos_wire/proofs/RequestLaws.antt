@@ -6,9 +6,11 @@ use Rattle.std.proofs.lemmas.Bool.{ltb-false, le-ltb, lt-ltb}
 use Rattle.std.proofs.lemmas.List.{drop_all}
 use Rattle.keyed_seal.specs.Tag.{tag_of}
 use Rattle.keyed_seal.proofs.Tags.{length-tag_of, bytes-tag_of}
+use Rattle.prin_term.specs.declared.limits.TheConstants.{QUOTED_NODES}
 use Rattle.prin_term.specs.Principal.{spelling}
 use Rattle.prin_term.specs.Steps.{Gives, optional}
 use Rattle.prin_term.proofs.FieldLaws.{IsBytes}
+use Rattle.prin_term.proofs.FormatFields.{reads_optional_term}
 use Rattle.prin_term.proofs.ReaderLaws.{Reads, reads_followed, reads_made}
 use Rattle.prin_term.proofs.Results.{bind_ok, ok_is, refused_ok, gives_found, gives_only}
 use Rattle.prin_term.specs.declared.fault.FormatFault.{FormatFault as WireFault}
@@ -17,7 +19,7 @@ use Rattle.taos_wire.specs.declared.request.Request as code
 use Rattle.taos_wire.specs.Request.{Request, request_text, FitsRequest, kind_of, op_fields, certs_bytes, IsTag, Spells, sealed}
 use Rattle.taos_wire.specs.RequestReading.{request_at, request_of}
 use Rattle.taos_wire.specs.View.{request}
-use Rattle.taos_wire.proofs.Operations.{reads_origin, reads_quoted, reads_asked, reads_certs, reads_tag}
+use Rattle.taos_wire.proofs.Operations.{reads_origin, reads_asked, reads_certs, reads_tag}
 
 -- its bytes, from the left and in fields
 in_fields : (channel seq quoted object fields certs tag : List ℕ)
@@ -45,7 +47,7 @@ reads_request bytes =
     reads_made (λ x. (record { channel = x.0.0; seq = x.0.1; quoted = x.1.0; object = x.1.1.0.0; op = x.1.1.0.1; certs = x.1.1.1.0 }, x.1.1.1.1))
     (λ (x : Tagged). ((x.0.channel, x.0.seq), (x.0.quoted, ((x.0.object, x.0.op), (x.0.certs, x.1)))))
     tagged_bytes FitsTagged
-    (reads_followed (reads_origin bytes) (λ _ _. reads_followed (reads_quoted bytes) (λ _ _. reads_followed (reads_asked bytes) (λ _ _. reads_followed (reads_certs bytes) (λ _ _. reads_tag bytes)))))
+    (reads_followed (reads_origin bytes) (λ _ _. reads_followed (reads_optional_term bytes QUOTED_NODES) (λ _ _. reads_followed (reads_asked bytes) (λ _ _. reads_followed (reads_certs bytes) (λ _ _. reads_tag bytes)))))
     (λ x is. (
       (
         record { channel = is.0.0; seq = is.0.1; quoted = is.1.0; object = is.1.1.0.0; op = is.1.1.0.1; few_certs = is.1.1.1.0.0; certs = is.1.1.1.0.1 },

@@ -1,8 +1,11 @@
 -- Bytes that end in their tag.
-use Rattle.std.proofs.Common.{◌≡◌, ℕ, ◌+◌, ◌<◌, ◌≤◌, List, ◌++◌, length, take, drop, Option, Some, None, refl, sym, ap, ◌∙◌, append_assoc, arith, length-append}
+use Rattle.std.proofs.Common.{◌≡◌, ℕ, ◌+◌, ◌<◌, List, ◌++◌, length, take, drop, Option, Some, None, Result, Ok, refl, sym, ap, subst, ◌∙◌, arith, length-append}
+use Rattle.std.specs.Prelude.{Vec}
 use Rattle.std.proofs.lemmas.List.{take_at, drop_at, take-append-drop}
 use Rattle.keyed_seal.specs.Tag.{tag_of}
 use Rattle.keyed_seal.proofs.Tags.{length-tag_of}
+use Rattle.prin_term.specs.Appends.{Appends, Pushes}
+use Rattle.prin_term.proofs.Pieces.{appended, pushes_then}
 use Rattle.taos_wire.specs.Request.{IsSealed}
 use Rattle.taos_wire.specs.Reply.{seal_of}
 
@@ -25,18 +28,12 @@ too_short key bytes short is =
     let parts : length bytes ≡ length is.text + length (tag_of key is.text) = ap length is.whole ∙ length-append is.text (tag_of key is.text) in
     omega (arith, parts, short, length-tag_of key is.text)
 
--- a text that is appended, and then its seal of 32 bytes
-module _ (seal : List ℕ → List ℕ) (len : (t : List ℕ) → length (seal t) ≡ 32) where
-  pub sealed_is : (old text mid new : List ℕ) (start : ℕ) → start ≡ length old → mid ≡ old ++ text → new ≡ mid ++ seal (drop start mid) → new ≡ old ++ (text ++ seal text)
-  sealed_is old text mid new start place first second =
-      let behind : drop start mid ≡ text = ap (drop start) first ∙ drop_at old text start (sym place) in
-      second ∙ ap (λ (t : List ℕ). mid ++ seal t) behind ∙ ap (λ (l : List ℕ). l ++ seal text) first ∙ append_assoc old text (seal text)
-
-  pub room_is : (old text mid : List ℕ) (room larger : ℕ) → room ≤ larger → mid ≡ old ++ text → larger < length mid + 32 → room < length old + length (text ++ seal text)
-  room_is old text mid room larger le first lt =
-      let lens : length mid ≡ length old + length text = ap length first ∙ length-append old text in
-      let both : length (text ++ seal text) ≡ length text + length (seal text) = length-append text (seal text) in
-      omega (arith, le, lt, lens, both, len text)
+-- a text that was written, and then the seal of it
+pub sealed_pushes : {Z A B E F : Type 0} (seal : List ℕ → List ℕ) (old mid new : Vec ℕ Z) (text : List ℕ) (start : ℕ) (x : A) (r : Result B F) → start ≡ length old.items → Pushes {E = E} old mid text (Ok x) → Appends mid new (seal (drop start mid.items)) r
+    → Pushes old new (text ++ seal text) r
+sealed_pushes seal old mid new text start x r place first second =
+    let behind : drop start mid.items ≡ text = ap (drop start) first.ok ∙ drop_at old.items text start (sym place) in
+    pushes_then old mid new text (seal text) x r first (subst (λ (t : List ℕ). Pushes mid new (seal t) r) behind (appended mid new (seal (drop start mid.items)) r second))
 
 -- the seal of a reply
 pub length-seal_of : (key : Option (List ℕ)) (t : List ℕ) → length (seal_of key t) ≡ 32

@@ -22,12 +22,9 @@ use Rattle.stmt_codec.specs.Certificates.{Certificate, body_spelling, IsWithinLi
 use Rattle.stmt_codec.proofs.BodyLengths.{short_body}
 use Rattle.prin_term.proofs.Sizes.{spelling_short as term_bound}
 
-pub body_short : (c : Certificate) → IsWithinLimits c → length (body_spelling c) < 1024
-body_short c fits = omega (arith, short_body c fits)
-
 cert_short : (c : Certificate) → IsWithinLimits c → length (cert_bytes c) < 1026
 unfolding cert_bytes
-cert_short c fits = omega (arith, body_short c fits, length-append (to_be_bytes w16 (length (body_spelling c))) (body_spelling c))
+cert_short c fits = omega (arith, short_body c fits, length-append (to_be_bytes w16 (length (body_spelling c))) (body_spelling c))
 
 pub certs_short : {Z : Type 0} (certs : List (Arc Cert Z)) → length (flat_map cert_bytes (map cited certs)) ≤ length certs * 1026
 certs_short [] = omega arith

@@ -1,6 +1,5 @@
 pub mod Request
 pub mod View
-pub mod Fields
 pub mod RequestReading
 pub mod Reply
 pub mod ReplyReading

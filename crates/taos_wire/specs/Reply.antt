@@ -4,11 +4,11 @@ use Rattle.std.specs.Prelude.{All, Option, Some, None, replicate}
 use Rattle.std.specs.List.{flat_map}
 use Rattle.std.specs.Int.{w16, w32, w64, to_be_bytes}
 use Rattle.keyed_seal.specs.Tag.{tag_of}
-use Rattle.object_core.specs.Operation.{IsByte, IsDigest}
+use Rattle.object_core.specs.Operation.{IsDigest}
 use Rattle.prin_term.specs.declared.limits.TheConstants.{ENTRY_NODES}
 use Rattle.prin_term.specs.Principal.{Principal, spelling as term_spelling}
 use Rattle.prin_term.specs.Refusal.{FitsLimits}
-use Rattle.prin_term.specs.Steps.{counted}
+use Rattle.prin_term.specs.Steps.{IsByte, counted}
 use Rattle.stmt_codec.specs.Certificates.{Certificate, body_spelling, HasBodySpelling}
 use Rattle.stmt_codec.specs.Certificates.{IsWithinLimits}
 use Rattle.taos_calculus.specs.Rules.{Line}

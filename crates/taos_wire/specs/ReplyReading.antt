@@ -13,8 +13,8 @@ use Rattle.taos_calculus.specs.Tables.{lines_of}
 use Rattle.prin_term.specs.declared.fault.FormatFault.{FormatFault as WireFault}
 use Rattle.prin_term.specs.declared.fault.FormatFault.TheVariants as faults
 use Rattle.taos_wire.specs.declared.reply.TheConstants.{MAX_CITED}
-use Rattle.taos_wire.specs.Fields.{WireReader, ended, u8_in, u16_in}
-use Rattle.taos_wire.specs.Fields.{u32_in, u64_in, within, term_in}
+use Rattle.prin_term.specs.Formats.{FormatReader, ended, u8_in, u16_in}
+use Rattle.prin_term.specs.Formats.{u32_in, u64_in, within, term_in}
 use Rattle.taos_wire.specs.Reply.{Reply, Granted, Denied, Malformed, UnknownChannel, BadSeal}
 use Rattle.taos_wire.specs.Reply.{Replayed, CertRefused, ChannelFull, RelayFailed, UnknownObject}
 use Rattle.taos_wire.specs.Reply.{JournalFull, NoMemory, CommonsFull, NotHeld, Unbuilt, LinkSent}
@@ -22,41 +22,41 @@ use Rattle.taos_wire.specs.Reply.{Expired, Missing, NoEntry}
 use Rattle.taos_wire.specs.RequestReading.{tag_at}
 
 -- the version, the channel and the number that are answered
-unfoldable pub answered_at : List ℕ → WireReader (ℕ × ℕ)
+unfoldable pub answered_at : List ℕ → FormatReader (ℕ × ℕ)
 answered_at bytes =
     made (λ x. x.1)
     (followed (within 4 4 (u8_in bytes))
     (λ _. followed (u32_in bytes) (λ _. u64_in bytes)))
 
 -- a shard, and a place of its journal
-unfoldable pub place_at : List ℕ → WireReader (ℕ × ℕ)
+unfoldable pub place_at : List ℕ → FormatReader (ℕ × ℕ)
 place_at bytes = followed (u32_in bytes) (λ _. u64_in bytes)
 
 -- ---- a grant
 
 -- a length, and a proof that fills it
-unfoldable pub proof_at : List ℕ → WireReader (List Line)
+unfoldable pub proof_at : List ℕ → FormatReader (List Line)
 proof_at bytes =
     made (λ x. lines_of x.1)
     (followed (u32_in bytes) (λ n. proof_filling bytes n))
 
 -- so many bytes stand there, and spell a body; faults are told by their offsets in all of the bytes
-unfoldable pub body_filling : List ℕ → ℕ → WireReader Certificate
+unfoldable pub body_filling : List ℕ → ℕ → FormatReader Certificate
 body_filling bytes n at = do
   text ← bytes_at (ended bytes) n bytes at
   c ← body_at (take (at + n) bytes) at
   if nat_lt c.1 (at + n) then Err (faults.Malformed c.1) else Ok (c.0, text.1)
 
 -- a length, and a body that fills it
-unfoldable pub cert_at : List ℕ → WireReader Certificate
+unfoldable pub cert_at : List ℕ → FormatReader Certificate
 cert_at bytes = made (λ x. x.1) (followed (u16_in bytes) (λ n. body_filling bytes n))
 
 -- the certificates that a proof cites, after their count
-unfoldable pub cited_at : List ℕ → WireReader (List Certificate)
+unfoldable pub cited_at : List ℕ → FormatReader (List Certificate)
 cited_at bytes = counted MAX_CITED faults.Malformed (u8_in bytes) (λ _. cert_at bytes)
 
 -- the fields of a grant
-unfoldable pub granted_at : List ℕ → WireReader Reply
+unfoldable pub granted_at : List ℕ → FormatReader Reply
 granted_at bytes =
     made (λ x. Granted (x.0 == 1) x.1.0 x.1.1.0.0 x.1.1.0.1 x.1.1.1.0 x.1.1.1.1.0 x.1.1.1.1.1)
     (followed (within 0 1 (u8_in bytes))
@@ -69,7 +69,7 @@ granted_at bytes =
 -- ---- a denial
 
 -- the link that a byte names
-unfoldable pub named_at : List ℕ → ℕ → WireReader LinkSent
+unfoldable pub named_at : List ℕ → ℕ → FormatReader LinkSent
 named_at bytes kind at =
     if kind == 1 then made (λ x. Expired x.0 x.1)
     (followed (u8_in bytes) (λ _. bytes_at (ended bytes) 32 bytes)) at
@@ -78,11 +78,11 @@ named_at bytes kind at =
     else given NoEntry at)
 
 -- what a denial names, by the byte before it
-unfoldable pub link_at : List ℕ → WireReader LinkSent
+unfoldable pub link_at : List ℕ → FormatReader LinkSent
 link_at bytes = made (λ x. x.1) (followed (within 1 3 (u8_in bytes)) (λ kind. named_at bytes kind))
 
 -- the fields of a denial
-unfoldable pub denied_at : List ℕ → WireReader Reply
+unfoldable pub denied_at : List ℕ → FormatReader Reply
 denied_at bytes =
     made (λ x. Denied x.0.0 x.0.1 x.1) (followed (place_at bytes) (λ _. link_at bytes))
 
@@ -93,7 +93,7 @@ abbrev pub is_status : ℕ → Bool
 is_status s = nat_le s 13 || s == 255
 
 -- the fields that a status has
-unfoldable pub fields_at : List ℕ → ℕ → WireReader Reply
+unfoldable pub fields_at : List ℕ → ℕ → FormatReader Reply
 fields_at bytes status at =
     if status == 0 then granted_at bytes at
     else (if status == 1 then denied_at bytes at
@@ -115,13 +115,13 @@ fields_at bytes status at =
     else given Unbuilt at)))))))))))))
 
 -- the status, and the fields that it has
-unfoldable pub status_at : List ℕ → WireReader Reply
+unfoldable pub status_at : List ℕ → FormatReader Reply
 status_at bytes =
     made (λ x. x.1)
     (followed (passing is_status faults.Malformed (u8_in bytes)) (λ status. fields_at bytes status))
 
 -- the channel, the number and the reply; and the tag
-unfoldable pub reply_at : List ℕ → WireReader ((ℕ × ℕ × Reply) × List ℕ)
+unfoldable pub reply_at : List ℕ → FormatReader ((ℕ × ℕ × Reply) × List ℕ)
 reply_at bytes =
     made (λ x. ((x.0.0, x.0.1, x.1.0), x.1.1))
     (followed (answered_at bytes)

@@ -1,16 +1,18 @@
 -- Requests as values, and the bytes of each.
 use Rattle.std.specs.Prelude.{◌≡◌, ℕ, ◌≤◌, ◌<◌, ◌^◌, List, [], ◌∷◌, ◌++◌, length, All, Option}
-use Rattle.std.specs.Prelude.{IfSome}
+use Rattle.std.specs.Prelude.{IfSome, Some}
 use Rattle.std.specs.List.{flat_map}
 use Rattle.std.specs.Int.{w16, w32, w64, to_be_bytes}
+use Rattle.keyed_seal.specs.Keys.{Entries, key_of}
+use Rattle.keyed_seal.specs.declared.tag.TheConstants.{TAG_LEN}
 use Rattle.keyed_seal.specs.Tag.{tag_of}
 use Rattle.object_core.specs.Operation.{Op, Read, Write, SetList, Hold, Discard, Forget, Sweep}
-use Rattle.object_core.specs.Operation.{FitsOperation, IsByte}
+use Rattle.object_core.specs.Operation.{FitsOperation}
+use Rattle.object_core.specs.Spelling.{content_bytes, list_bytes}
 use Rattle.prin_term.specs.declared.limits.TheConstants.{QUOTED_NODES}
 use Rattle.prin_term.specs.Principal.{Principal, spelling}
 use Rattle.prin_term.specs.Refusal.{FitsLimits}
-use Rattle.prin_term.specs.Steps.{counted, optional}
-use Rattle.prin_term.specs.View.{Grant}
+use Rattle.prin_term.specs.Steps.{IsByte, AreBytes, counted, optional}
 use Rattle.stmt_codec.specs.Certificates.{key_quoting}
 use Rattle.taos_wire.specs.declared.request.TheConstants.{MAX_CERTS}
 
@@ -41,15 +43,11 @@ kind_of (Discard digest) = 5
 kind_of (Forget channel) = 6
 kind_of Sweep = 7
 
--- an entry of an access list: its rights, then who has them
-abbrev pub grant_bytes : Grant → List ℕ
-grant_bytes g = g.rights ∷ spelling g.who
-
--- what an operation says besides its name: bytes after their length, entries after their count
+-- what an operation says besides its name
 abbrev pub op_fields : Op → List ℕ
 op_fields Read = []
-op_fields (Write content) = counted w16 content
-op_fields (SetList list) = length list ∷ flat_map grant_bytes list
+op_fields (Write content) = content_bytes content
+op_fields (SetList list) = list_bytes list
 op_fields Hold = []
 op_fields (Discard digest) = digest
 op_fields (Forget channel) = to_be_bytes w32 channel
@@ -92,9 +90,9 @@ pub record FitsRequest (r : Request) : Type 0 where
 
 -- ---- seals
 
--- any 32 bytes
+-- any bytes as long as a tag
 abbrev pub IsTag : List ℕ → Type 0
-IsTag tag = (length tag ≡ 32) × All IsByte tag
+IsTag tag = AreBytes TAG_LEN tag
 
 -- the bytes are those of the request, which is within the limits, under some tag
 pub record Spells (r : Request) (bytes : List ℕ) : Type 0 where
@@ -112,3 +110,10 @@ pub record IsSealed (key bytes : List ℕ) : Type 0 where
   pub text : List ℕ
   -- the text, then its tag
   pub whole : bytes ≡ text ++ tag_of key text
+
+-- the payload is this request, under the seal of its channel's key, which is one of these
+pub record IsAsked (channels : Entries) (payload : List ℕ) (r : Request)
+    (key : List ℕ) : Type 0 where
+  pub spelled : Spells r payload
+  pub keyed : key_of channels r.channel ≡ Some key
+  pub seal : IsSealed key payload

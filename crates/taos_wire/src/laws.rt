@@ -2,11 +2,11 @@
 
 ghost use Rattle.std.specs.Prelude.{◌≡◌, ◌↔◌, ◌<◌, ◌^◌, ◌++◌, [], All, List, ℕ, Option, Ok};
 ghost use Rattle.std.specs.Prelude.{Err, length};
-ghost use Rattle.object_core.specs.Operation.{IsByte};
+ghost use Rattle.prin_term.specs.Formats.{IsFaultIn};
+ghost use Rattle.prin_term.specs.Steps.{IsByte};
 ghost use Rattle.taos_wire.specs.Request.{Request, FitsRequest, IsSealed, Spells, sealed};
 ghost use Rattle.prin_term.specs.declared.fault.FormatFault.{FormatFault as WireFault};
 ghost use Rattle.prin_term.specs.declared.fault.FormatFault.TheVariants.{Malformed};
-ghost use Rattle.taos_wire.specs.Fields.{IsFaultIn};
 ghost use Rattle.taos_wire.specs.RequestReading.{request_of};
 ghost use Rattle.taos_wire.specs.Reply.{Reply, FitsReply, SpellsReply, sent, spelling};
 ghost use Rattle.taos_wire.specs.ReplyReading.{reply_of};
@@ -75,8 +75,11 @@ pub fn no_reply_begins_another()
 {}
 
 /// Reading as a function gives exactly the reply that the bytes spell, with the channel and the
-/// number that it answers.
+/// number that it answers. Other bytes are refused at one of them or right after the last, and
+/// never for memory.
 pub fn replies_are_read()
-    ensures { (bytes : List ℕ) (channel seq : ℕ) (r : Reply) → All IsByte bytes
+    ensures read { (bytes : List ℕ) (channel seq : ℕ) (r : Reply) → All IsByte bytes
         → (reply_of bytes ≡ Ok (channel, seq, r)) ↔ SpellsReply channel seq r bytes }
+    ensures refused { (bytes : List ℕ) (f : WireFault) → All IsByte bytes
+        → reply_of bytes ≡ Err f → IsFaultIn bytes f }
 {}

@@ -1,83 +1,27 @@
 //! Reading a request from its bytes.
 
 ghost use Rattle.std.specs.Prelude.{◌≡◌, ◌≤◌, [], length, map, IfOk, IfErr, MatchResult};
-ghost use Rattle.std.specs.Option.{option_map};
 ghost use Rattle.prin_term.specs.Readers.{made, items_behind};
 ghost use Rattle.prin_term.specs.Steps.{Gives};
-ghost use Rattle.prin_term.specs.View.{principal, grant};
 ghost use Rattle.object_core.specs.View.{operation};
 ghost use Rattle.prin_term.specs.declared.fault.FormatFault.TheVariants.{NoMemory};
-ghost use Rattle.taos_wire.specs.Fields.{ended, IsPlaceIn, u8_in, u16_in, within, at_most};
+ghost use Rattle.prin_term.specs.Formats.{IsPlaceIn};
 ghost use Rattle.taos_wire.specs.Request as math;
 ghost use Rattle.taos_wire.specs.Request.{Spells};
-ghost use Rattle.taos_wire.specs.RequestReading.{origin_at, quoted_at, content_at, entry_at};
-ghost use Rattle.taos_wire.specs.RequestReading.{list_at, fields_at, asked_at, cert_at, certs_at};
-ghost use Rattle.taos_wire.specs.RequestReading.{request_at, request_of};
+ghost use Rattle.taos_wire.specs.RequestReading.{origin_at, fields_at, asked_at, cert_at};
+ghost use Rattle.taos_wire.specs.RequestReading.{certs_at, request_at, request_of};
 ghost use Rattle.taos_wire.specs.View.{request, text_of};
 
 use crate::fault::WireFault;
-use crate::request::{MAX_CERTS, Request, TAG_LEN};
-use object_core::{MAX_CONTENT, MAX_ENTRIES, MAX_RIGHTS, Op};
-use prin_term::fields::{array_at, counted16_at, slice_at, u8_at, u16_at, u32_at, u64_at};
-use prin_term::{ENTRY_NODES, Entry, QUOTED_NODES, Term, read_term};
+use crate::request::{MAX_CERTS, Request};
+use keyed_seal::TAG_LEN;
+use object_core::{Op, read_content, read_list};
+use prin_term::fields::{
+    array_at, byte_within, count_up_to, counted16_at, ended, slice_at, u32_at, u64_at,
+};
+use prin_term::{QUOTED_NODES, read_optional_term};
 use std::alloc::Global;
 use std::sync::Arc;
-
-// The fault of bytes that are lacking.
-pub(crate) fn ended(bytes: &[u8]) -> WireFault
-    ensures { result ≡ ended bytes.now }
-{
-    WireFault::Malformed {
-        offset: bytes.len(),
-    }
-}
-
-// A byte between the two.
-pub(crate) fn byte_within(
-    bytes: &[u8],
-    at: usize,
-    low: u8,
-    high: u8,
-) -> Result<(u8, usize), WireFault>
-    requires { at ≤ length bytes.now }
-    ensures value { result ≡ within low high (u8_in bytes.now) at }
-    ensures within { IfOk result (λ x. x.1 ≤ length bytes.now) }
-{
-    let (byte, next) = u8_at(bytes, at, ended(bytes))?;
-    if low <= byte && byte <= high {
-        Ok((byte, next))
-    } else {
-        Err(WireFault::Malformed { offset: at })
-    }
-}
-
-// A count of one byte, at most so much.
-pub(crate) fn count_up_to(bytes: &[u8], at: usize, most: u8) -> Result<(u8, usize), WireFault>
-    requires { at ≤ length bytes.now }
-    ensures value { result ≡ at_most most (u8_in bytes.now) at }
-    ensures within { IfOk result (λ x. x.1 ≤ length bytes.now) }
-{
-    let (count, next) = u8_at(bytes, at, ended(bytes))?;
-    if count <= most {
-        Ok((count, next))
-    } else {
-        Err(WireFault::Malformed { offset: at })
-    }
-}
-
-// A length of two bytes, at most so much.
-fn length_up_to(bytes: &[u8], at: usize, most: u16) -> Result<(u16, usize), WireFault>
-    requires { at ≤ length bytes.now }
-    ensures value { result ≡ at_most most (u16_in bytes.now) at }
-    ensures within { IfOk result (λ x. x.1 ≤ length bytes.now) }
-{
-    let (count, next) = u16_at(bytes, at, ended(bytes))?;
-    if count <= most {
-        Ok((count, next))
-    } else {
-        Err(WireFault::Malformed { offset: at })
-    }
-}
 
 // The channel and the number, behind the version.
 #[tactic(auto, unfolding(crate::specs::RequestReading::origin_at))]
@@ -92,78 +36,6 @@ fn origin_of(bytes: &[u8], at: usize) -> Result<(u32, u64, usize), WireFault>
     Ok((channel, seq, next))
 }
 
-#[tactic(auto, unfolding(crate::specs::RequestReading::quoted_at, prin_term::specs::Steps::optional_at))]
-fn quoted_of(alloc: Global, bytes: &[u8], at: usize) -> Result<(Option<Term>, usize), WireFault>
-    requires { at ≤ length bytes.now }
-    ensures value { Gives NoMemory (λ x. (option_map principal x.0, x.1)) result
-        (quoted_at bytes.now at) }
-    ensures within { IfOk result (λ x. x.1 ≤ length bytes.now) }
-{
-    let (flag, next) = u8_at(bytes, at, ended(bytes))?;
-    match flag {
-        0 => Ok((None, next)),
-        1 => {
-            let (term, next) = read_term(alloc, bytes, next, QUOTED_NODES)?;
-            Ok((Some(term), next))
-        }
-        _ => Err(WireFault::Malformed { offset: at }),
-    }
-}
-
-#[tactic(auto, unfolding(crate::specs::RequestReading::content_at))]
-fn content_of(alloc: Global, bytes: &[u8], at: usize) -> Result<(Vec<u8>, usize), WireFault>
-    requires { at ≤ length bytes.now }
-    ensures value { Gives NoMemory (λ x. (x.0.items, x.1)) result (content_at bytes.now at) }
-    ensures within { IfOk result (λ x. x.1 ≤ length bytes.now) }
-{
-    let (count, next) = length_up_to(bytes, at, MAX_CONTENT)?;
-    let (content, next) = slice_at(bytes, next, count as usize, ended(bytes))?;
-    Ok((Vec::from_slice(alloc, content)?, next))
-}
-
-#[tactic(auto, unfolding(crate::specs::RequestReading::entry_at))]
-fn entry_of(alloc: Global, bytes: &[u8], at: usize) -> Result<(Entry, usize), WireFault>
-    requires { at ≤ length bytes.now }
-    ensures value { Gives NoMemory (λ x. (grant x.0, x.1)) result (entry_at bytes.now at) }
-    ensures within { IfOk result (λ x. x.1 ≤ length bytes.now) }
-{
-    let (rights, next) = byte_within(bytes, at, 1, MAX_RIGHTS)?;
-    let (who, next) = read_term(alloc, bytes, next, ENTRY_NODES)?;
-    Ok((Entry { rights, who }, next))
-}
-
-// So many entries.
-fn entries_of(
-    alloc: Global,
-    bytes: &[u8],
-    at: usize,
-    count: u8,
-) -> Result<(Vec<Entry>, usize), WireFault>
-    requires { at ≤ length bytes.now }
-    ensures value { Gives NoMemory (λ x. (map grant x.0.items, x.1)) result
-        (items_behind (λ _. entry_at bytes.now) count [] at) }
-    ensures within { IfOk result (λ x. x.1 ≤ length bytes.now) }
-{
-    let mut list = Vec::with_capacity(alloc, count as usize)?;
-    let mut next = at;
-    for _ in 0..count {
-        let (entry, after) = entry_of(alloc, bytes, next)?;
-        list.push(entry)?;
-        next = after;
-    }
-    Ok((list, next))
-}
-
-#[tactic(auto, unfolding(crate::specs::RequestReading::list_at))]
-fn list_of(alloc: Global, bytes: &[u8], at: usize) -> Result<(Vec<Entry>, usize), WireFault>
-    requires { at ≤ length bytes.now }
-    ensures value { Gives NoMemory (λ x. (map grant x.0.items, x.1)) result (list_at bytes.now at) }
-    ensures within { IfOk result (λ x. x.1 ≤ length bytes.now) }
-{
-    let (count, next) = count_up_to(bytes, at, MAX_ENTRIES)?;
-    entries_of(alloc, bytes, next, count)
-}
-
 // The operation of a kind, with its fields.
 #[tactic(auto, unfolding(crate::specs::RequestReading::fields_at))]
 fn fields_of(alloc: Global, bytes: &[u8], at: usize, kind: u8) -> Result<(Op, usize), WireFault>
@@ -175,11 +47,11 @@ fn fields_of(alloc: Global, bytes: &[u8], at: usize, kind: u8) -> Result<(Op, us
     match kind {
         1 => Ok((Op::Read, at)),
         2 => {
-            let (content, next) = content_of(alloc, bytes, at)?;
+            let (content, next) = read_content(alloc, bytes, at)?;
             Ok((Op::Write(content), next))
         }
         3 => {
-            let (list, next) = list_of(alloc, bytes, at)?;
+            let (list, next) = read_list(alloc, bytes, at)?;
             Ok((Op::SetList(Arc::new(alloc, list)?), next))
         }
         4 => Ok((Op::Hold, at)),
@@ -260,7 +132,7 @@ fn fronted_of(alloc: Global, bytes: &[u8]) -> Result<(Request, usize), WireFault
     ensures within { IfOk result (λ x. x.1 ≤ length bytes.now) }
 {
     let (channel, seq, next) = origin_of(bytes, 0)?;
-    let (quoted, next) = quoted_of(alloc, bytes, next)?;
+    let (quoted, next) = read_optional_term(alloc, bytes, next, QUOTED_NODES)?;
     let (object, op, next) = asked_of(alloc, bytes, next)?;
     let (certs, next) = certs_of(alloc, bytes, next)?;
     let (_, end) = slice_at(bytes, next, TAG_LEN, ended(bytes))?;

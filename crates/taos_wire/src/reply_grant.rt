@@ -11,10 +11,11 @@ ghost use Rattle.taos_wire.specs.ReplyReading.{proof_at};
 ghost use Rattle.taos_wire.specs.View.{cited, reply};
 
 use crate::fault::WireFault;
-use crate::reading::{byte_within, count_up_to, ended};
 use crate::reply::{MAX_CITED, Reply};
 use crate::reply_reading::place_of;
-use prin_term::fields::{counted16_at, slice_at, u8_at, u16_at, u32_at};
+use prin_term::fields::{
+    byte_within, count_up_to, counted16_at, ended, slice_at, u8_at, u16_at, u32_at,
+};
 use std::alloc::Global;
 use std::sync::Arc;
 use stmt_codec::{Cert, read_body};

@@ -1,8 +1,10 @@
 //! Writing the fields of a grant.
 
-ghost use Rattle.std.specs.Prelude.{◌≡◌, ◌++◌, ◌+◌, ◌<◌, ◌≤◌, ◌^◌, List, ℕ, drop, take, length};
-ghost use Rattle.std.specs.Prelude.{map, vec_capacity, OnOk, OnErr};
+ghost use Rattle.std.specs.Prelude.{◌≡◌, ◌++◌, ◌∷◌, ◌+◌, ◌<◌, ◌≤◌, ◌^◌, drop, take, length, map};
+ghost use Rattle.std.specs.Prelude.{vec_capacity, OnOk};
+ghost use Rattle.std.specs.Int.{w32, w64, to_be_bytes};
 ghost use Rattle.std.specs.List.{flat_map};
+ghost use Rattle.prin_term.specs.Appends.{Pushes};
 ghost use Rattle.stmt_codec.specs.Certificates.{certificate};
 ghost use Rattle.taos_calculus.specs.Tables.{lines_of};
 ghost use Rattle.taos_wire.specs.Reply.{cert_bytes, cited_bytes, fields_of, flag, proof_bytes};
@@ -26,19 +28,23 @@ fn flag_of(kept: bool) -> u8
 pub(crate) fn push_granted(out: &mut Vec<u8>, grant: &LentGrant<'_>) -> Result<(), AllocError>
     requires few_certs { length grant.now.certs.now ≤ MAX_CITED }
     requires short { length grant.now.content.now < 2 ^ 16 }
-    ensures ok { OnOk result (out.new.items ≡ out.old.items ++ fields_of (lent_grant grant.now)) }
-    ensures err { OnErr result ((more : List ℕ) × (out.new.items ≡ out.old.items ++ more)) }
-    ensures capacity { vec_capacity out.old ≤ vec_capacity out.new }
-    ensures room { OnErr result
-        (vec_capacity out.old < length out.old.items + length (fields_of (lent_grant grant.now))) }
+    ensures pushes { Pushes out.old out.new (fields_of (lent_grant grant.now)) result }
     ensures short { OnOk result
         (length (fields_of (lent_grant grant.now)) < 2 ^ 25 + 2 ^ 17 + 2 ^ 16) }
 {
-    out.extend_from_slice(&[flag_of(grant.kept), grant.entry])?;
-    out.extend_from_slice(&place_of(grant.shard, grant.place))?;
+    push_told(out, grant)?;
     push_proof(out, grant.proof)?;
     push_cited(out, grant.certs)?;
     push_counted(out, grant.content)
+}
+
+// Whether the proof was kept, the entry, and where it was told.
+fn push_told(out: &mut Vec<u8>, grant: &LentGrant<'_>) -> Result<(), AllocError>
+    ensures { Pushes out.old out.new (flag grant.now.kept ∷ grant.now.entry
+        ∷ to_be_bytes w32 grant.now.shard ++ to_be_bytes w64 grant.now.place) result }
+{
+    out.extend_from_slice(&[flag_of(grant.kept), grant.entry])?;
+    out.extend_from_slice(&place_of(grant.shard, grant.place))
 }
 
 // Writes bytes over those that stand at `start`.
@@ -54,11 +60,7 @@ fn fill(out: &mut Vec<u8>, start: usize, bytes: &[u8])
 // A proof behind its length.
 #[tactic(auto, unfolding(crate::specs::Reply::proof_bytes))]
 fn push_proof(out: &mut Vec<u8>, proof: &Proof) -> Result<(), AllocError>
-    ensures ok { OnOk result (out.new.items ≡ out.old.items ++ proof_bytes (lines_of proof.now)) }
-    ensures err { OnErr result ((more : List ℕ) × (out.new.items ≡ out.old.items ++ more)) }
-    ensures capacity { vec_capacity out.old ≤ vec_capacity out.new }
-    ensures room { OnErr result
-        (vec_capacity out.old < length out.old.items + length (proof_bytes (lines_of proof.now))) }
+    ensures pushes { Pushes out.old out.new (proof_bytes (lines_of proof.now)) result }
     ensures short { OnOk result (length (proof_bytes (lines_of proof.now)) < 2 ^ 25 + 4) }
 {
     let start = out.len();
@@ -73,23 +75,14 @@ fn push_proof(out: &mut Vec<u8>, proof: &Proof) -> Result<(), AllocError>
 // Certificates behind their count.
 fn push_cited(out: &mut Vec<u8>, certs: &[Arc<Cert>]) -> Result<(), AllocError>
     requires few { length certs.now < 256 }
-    ensures ok { OnOk result (out.new.items ≡ out.old.items ++ cited_bytes (map cited certs.now)) }
-    ensures err { OnErr result ((more : List ℕ) × (out.new.items ≡ out.old.items ++ more)) }
-    ensures capacity { vec_capacity out.old ≤ vec_capacity out.new }
-    ensures room { OnErr result
-        (vec_capacity out.old < length out.old.items + length (cited_bytes (map cited certs.now))) }
+    ensures { Pushes out.old out.new (cited_bytes (map cited certs.now)) result }
 {
     out.push(certs.len() as u8)?;
     push_bodies(out, certs)
 }
 
 fn push_bodies(out: &mut Vec<u8>, certs: &[Arc<Cert>]) -> Result<(), AllocError>
-    ensures ok { OnOk result
-        (out.new.items ≡ out.old.items ++ flat_map cert_bytes (map cited certs.now)) }
-    ensures err { OnErr result ((more : List ℕ) × (out.new.items ≡ out.old.items ++ more)) }
-    ensures capacity { vec_capacity out.old ≤ vec_capacity out.new }
-    ensures room { OnErr result (vec_capacity out.old
-        < length out.old.items + length (flat_map cert_bytes (map cited certs.now))) }
+    ensures { Pushes out.old out.new (flat_map cert_bytes (map cited certs.now)) result }
 {
     for cert in certs {
         push_cert(out, cert)?;
@@ -100,12 +93,7 @@ fn push_bodies(out: &mut Vec<u8>, certs: &[Arc<Cert>]) -> Result<(), AllocError>
 // A certificate's body behind its length.
 #[tactic(auto, unfolding(crate::specs::Reply::cert_bytes))]
 fn push_cert(out: &mut Vec<u8>, cert: &Cert) -> Result<(), AllocError>
-    ensures ok { OnOk result
-        (out.new.items ≡ out.old.items ++ cert_bytes (certificate cert.now.body)) }
-    ensures err { OnErr result ((more : List ℕ) × (out.new.items ≡ out.old.items ++ more)) }
-    ensures capacity { vec_capacity out.old ≤ vec_capacity out.new }
-    ensures room { OnErr result (vec_capacity out.old
-        < length out.old.items + length (cert_bytes (certificate cert.now.body))) }
+    ensures { Pushes out.old out.new (cert_bytes (certificate cert.now.body)) result }
 {
     let start = out.len();
     out.extend_from_slice(&[0; 2])?;

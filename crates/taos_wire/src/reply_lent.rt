@@ -1,22 +1,22 @@
 //! Writing a reply whose parts are lent.
 
-ghost use Rattle.std.specs.Prelude.{◌≡◌, ◌++◌, ◌+◌, ◌<◌, ◌≤◌, ◌^◌, List, ℕ, Some, length};
-ghost use Rattle.std.specs.Prelude.{vec_capacity, OnOk, OnErr};
+ghost use Rattle.std.specs.Prelude.{◌+◌, ◌<◌, ◌≤◌, ◌^◌, Some, length, OnOk};
+ghost use Rattle.prin_term.specs.Appends.{Appends, Pushes};
 ghost use Rattle.prin_term.specs.Refusal.{FitsLimits};
 ghost use Rattle.prin_term.specs.View.{principal};
 ghost use Rattle.taos_wire.specs.Reply as math;
-ghost use Rattle.taos_wire.specs.Reply.{reply_text, sent, spelling};
+ghost use Rattle.taos_wire.specs.Reply.{fields_of, reply_text, sent, spelling};
 ghost use Rattle.taos_wire.specs.View.{lent_grant, lent_part};
 
 use crate::reply::{LentGrant, LentPart, MAX_CITED};
 use crate::reply_granting::push_granted;
-use crate::reply_writing::{DENIED, GRANTED, head_of, place_of, push_part, push_seal};
+use crate::reply_writing::{DENIED, GRANTED, place_of, push_head, push_part, push_seal};
 use keyed_seal::Sealer;
 use prin_term::{ENTRY_NODES, Term};
 use std::alloc::AllocError;
 
 /// Appends the reply of a grant whose parts are lent: what `write_reply_with` appends for a
-/// `Granted` of these.
+/// `Granted` of these. An `Err` changes nothing.
 pub fn write_granted(
     out: &mut Vec<u8>,
     sealer: &Sealer,
@@ -26,13 +26,8 @@ pub fn write_granted(
 ) -> Result<(), AllocError>
     requires few_certs { length grant.now.certs.now ≤ MAX_CITED }
     requires short { length grant.now.content.now < 2 ^ 16 }
-    ensures ok { OnOk result (out.new.items
-        ≡ out.old.items ++ spelling (sent (Some sealer.now) channel seq (lent_grant grant.now))) }
-    ensures err { OnErr result (out.new.items ≡ out.old.items) }
-    ensures capacity { vec_capacity out.old ≤ vec_capacity out.new }
-    // Memory is refused only where the room behind what is there is too small.
-    ensures room { OnErr result (vec_capacity out.old < length out.old.items
-        + length (spelling (sent (Some sealer.now) channel seq (lent_grant grant.now)))) }
+    ensures appends { Appends out.old out.new
+        (spelling (sent (Some sealer.now) channel seq (lent_grant grant.now))) result }
     // A reply's frame is short enough for a frame of replies.
     ensures short { OnOk result
         (length (spelling (sent (Some sealer.now) channel seq (lent_grant grant.now))) < 2 ^ 26) }
@@ -45,7 +40,6 @@ pub fn write_granted(
     written
 }
 
-// What an `Err` leaves has the old bytes in front, here and below.
 fn push_sealed_grant(
     out: &mut Vec<u8>,
     sealer: &Sealer,
@@ -55,12 +49,8 @@ fn push_sealed_grant(
 ) -> Result<(), AllocError>
     requires few_certs { length grant.now.certs.now ≤ MAX_CITED }
     requires short { length grant.now.content.now < 2 ^ 16 }
-    ensures ok { OnOk result (out.new.items
-        ≡ out.old.items ++ spelling (sent (Some sealer.now) channel seq (lent_grant grant.now))) }
-    ensures err { OnErr result ((more : List ℕ) × (out.new.items ≡ out.old.items ++ more)) }
-    ensures capacity { vec_capacity out.old ≤ vec_capacity out.new }
-    ensures room { OnErr result (vec_capacity out.old < length out.old.items
-        + length (spelling (sent (Some sealer.now) channel seq (lent_grant grant.now)))) }
+    ensures pushes { Pushes out.old out.new
+        (spelling (sent (Some sealer.now) channel seq (lent_grant grant.now))) result }
     ensures short { OnOk result
         (length (spelling (sent (Some sealer.now) channel seq (lent_grant grant.now))) < 2 ^ 26) }
 {
@@ -78,21 +68,17 @@ fn push_grant_text(
 ) -> Result<(), AllocError>
     requires few_certs { length grant.now.certs.now ≤ MAX_CITED }
     requires short { length grant.now.content.now < 2 ^ 16 }
-    ensures ok { OnOk result
-        (out.new.items ≡ out.old.items ++ reply_text channel seq (lent_grant grant.now)) }
-    ensures err { OnErr result ((more : List ℕ) × (out.new.items ≡ out.old.items ++ more)) }
-    ensures capacity { vec_capacity out.old ≤ vec_capacity out.new }
-    ensures room { OnErr result (vec_capacity out.old
-        < length out.old.items + length (reply_text channel seq (lent_grant grant.now))) }
+    ensures pushes { Pushes out.old out.new
+        (reply_text channel seq (lent_grant grant.now)) result }
     ensures short { OnOk result
         (length (reply_text channel seq (lent_grant grant.now)) < 2 ^ 25 + 2 ^ 18) }
 {
-    out.extend_from_slice(&head_of(channel, seq, GRANTED))?;
+    push_head(out, channel, seq, GRANTED)?;
     push_granted(out, grant)
 }
 
 /// Appends the reply of a denial whose part is lent: what `write_reply` appends for a `Denied` with
-/// `Missing` of this entry and part.
+/// `Missing` of this entry and part. An `Err` changes nothing.
 pub fn write_missing(
     out: &mut Vec<u8>,
     key: &[u8; 32],
@@ -104,14 +90,8 @@ pub fn write_missing(
     part: &Term,
 ) -> Result<(), AllocError>
     requires limits { FitsLimits ENTRY_NODES (principal part.now) }
-    ensures ok { OnOk result (out.new.items ≡ out.old.items
-        ++ spelling (sent (Some key.now) channel seq
-        (math.Denied shard place (math.Missing entry (principal part.now))))) }
-    ensures err { OnErr result (out.new.items ≡ out.old.items) }
-    ensures capacity { vec_capacity out.old ≤ vec_capacity out.new }
-    ensures room { OnErr result (vec_capacity out.old < length out.old.items
-        + length (spelling (sent (Some key.now) channel seq
-        (math.Denied shard place (math.Missing entry (principal part.now)))))) }
+    ensures appends { Appends out.old out.new (spelling (sent (Some key.now) channel seq
+        (math.Denied shard place (math.Missing entry (principal part.now))))) result }
     ensures short { length (spelling (sent (Some key.now) channel seq
         (math.Denied shard place (math.Missing entry (principal part.now))))) ≤ 256 }
 {
@@ -134,12 +114,8 @@ pub fn write_missing_with(
     denial: &LentPart<'_>,
 ) -> Result<(), AllocError>
     requires limits { FitsLimits ENTRY_NODES (principal denial.now.part.now) }
-    ensures ok { OnOk result (out.new.items
-        ≡ out.old.items ++ spelling (sent (Some sealer.now) channel seq (lent_part denial.now))) }
-    ensures err { OnErr result (out.new.items ≡ out.old.items) }
-    ensures capacity { vec_capacity out.old ≤ vec_capacity out.new }
-    ensures room { OnErr result (vec_capacity out.old < length out.old.items
-        + length (spelling (sent (Some sealer.now) channel seq (lent_part denial.now)))) }
+    ensures appends { Appends out.old out.new
+        (spelling (sent (Some sealer.now) channel seq (lent_part denial.now))) result }
     ensures short { length (spelling (sent (Some sealer.now) channel seq (lent_part denial.now)))
         ≤ 256 }
 {
@@ -158,12 +134,8 @@ fn push_sealed_part(
     seq: u64,
     denial: &LentPart<'_>,
 ) -> Result<(), AllocError>
-    ensures ok { OnOk result (out.new.items
-        ≡ out.old.items ++ spelling (sent (Some sealer.now) channel seq (lent_part denial.now))) }
-    ensures err { OnErr result ((more : List ℕ) × (out.new.items ≡ out.old.items ++ more)) }
-    ensures capacity { vec_capacity out.old ≤ vec_capacity out.new }
-    ensures room { OnErr result (vec_capacity out.old < length out.old.items
-        + length (spelling (sent (Some sealer.now) channel seq (lent_part denial.now)))) }
+    ensures { Pushes out.old out.new
+        (spelling (sent (Some sealer.now) channel seq (lent_part denial.now))) result }
 {
     let start = out.len();
     push_part_text(out, channel, seq, denial)?;
@@ -177,14 +149,15 @@ fn push_part_text(
     seq: u64,
     denial: &LentPart<'_>,
 ) -> Result<(), AllocError>
-    ensures ok { OnOk result
-        (out.new.items ≡ out.old.items ++ reply_text channel seq (lent_part denial.now)) }
-    ensures err { OnErr result ((more : List ℕ) × (out.new.items ≡ out.old.items ++ more)) }
-    ensures capacity { vec_capacity out.old ≤ vec_capacity out.new }
-    ensures room { OnErr result (vec_capacity out.old
-        < length out.old.items + length (reply_text channel seq (lent_part denial.now))) }
+    ensures { Pushes out.old out.new (reply_text channel seq (lent_part denial.now)) result }
 {
-    out.extend_from_slice(&head_of(channel, seq, DENIED))?;
+    push_head(out, channel, seq, DENIED)?;
+    push_missing(out, denial)
+}
+
+fn push_missing(out: &mut Vec<u8>, denial: &LentPart<'_>) -> Result<(), AllocError>
+    ensures { Pushes out.old out.new (fields_of (lent_part denial.now)) result }
+{
     out.extend_from_slice(&place_of(denial.shard, denial.place))?;
     push_part(out, denial.entry, denial.part)
 }

@@ -1,6 +1,7 @@
 //! Reading a reply from its bytes.
 
-ghost use Rattle.std.specs.Prelude.{◌≡◌, ◌≤◌, ℕ, length, IfOk, MatchResult};
+ghost use Rattle.std.specs.Prelude.{◌≡◌, ◌≤◌, ℕ, length, IfOk, IfErr, MatchResult};
+ghost use Rattle.prin_term.specs.Formats.{IsPlaceIn};
 ghost use Rattle.prin_term.specs.Readers.{made};
 ghost use Rattle.prin_term.specs.Steps.{Gives};
 ghost use Rattle.prin_term.specs.declared.fault.FormatFault.TheVariants.{NoMemory};
@@ -12,11 +13,10 @@ ghost use Rattle.taos_wire.specs.ReplyReading.{status_at};
 ghost use Rattle.taos_wire.specs.View.{link, reply};
 
 use crate::fault::WireFault;
-use crate::reading::{byte_within, ended};
 use crate::reply::{LinkSent, Reply};
 use crate::reply_grant::granted_of;
-use crate::request::TAG_LEN;
-use prin_term::fields::{array_at, slice_at, u8_at, u32_at, u64_at};
+use keyed_seal::TAG_LEN;
+use prin_term::fields::{array_at, byte_within, ended, slice_at, u8_at, u32_at, u64_at};
 use prin_term::{ENTRY_NODES, read_term};
 use std::alloc::Global;
 
@@ -213,8 +213,9 @@ pub fn read_reply(alloc: Global, bytes: &[u8]) -> Result<(u32, u64, Reply), Wire
     ensures only { (channel seq : ℕ) (r : math.Reply) → SpellsReply channel seq r bytes.now
         → MatchResult result (λ x. (x.0 ≡ channel) × (x.1 ≡ seq) × (reply x.2 ≡ r))
         (λ f. f ≡ NoMemory) }
-    // Which fault it is.
+    // Which fault it is, and that its place is one of the bytes, or behind the last.
     ensures exact { Gives NoMemory (λ x. (x.0, x.1, reply x.2)) result (reply_of bytes.now) }
+    ensures place { IfErr result (IsPlaceIn bytes.now) }
 {
     all_of(alloc, bytes)
 }

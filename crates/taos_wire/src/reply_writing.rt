@@ -1,9 +1,9 @@
 //! Writing a reply.
 
-ghost use Rattle.std.specs.Prelude.{◌≡◌, ◌++◌, ◌+◌, ◌<◌, ◌≤◌, ◌^◌, ◌∷◌, [], List, ℕ, drop, length};
-ghost use Rattle.std.specs.Prelude.{vec_capacity, OnOk, OnErr};
+ghost use Rattle.std.specs.Prelude.{◌≡◌, ◌++◌, ◌+◌, ◌<◌, ◌≤◌, ◌^◌, ◌∷◌, [], drop, length, OnOk};
 ghost use Rattle.std.specs.Int.{w32, w64, to_be_bytes};
 ghost use Rattle.std.specs.Option.{option_copied};
+ghost use Rattle.prin_term.specs.Appends.{Appends, Pushes};
 ghost use Rattle.prin_term.specs.Principal.{spelling as term_spelling};
 ghost use Rattle.prin_term.specs.View.{principal};
 ghost use Rattle.taos_wire.specs.Reply.{FitsReply, answered_bytes, fields_of, link_bytes};
@@ -35,13 +35,8 @@ pub fn write_reply(
     answer: &Reply,
 ) -> Result<(), AllocError>
     requires limits { FitsReply (reply answer.now) }
-    ensures ok { OnOk result (out.new.items ≡ out.old.items
-        ++ spelling (sent (option_copied key.entry) channel seq (reply answer.now))) }
-    ensures err { OnErr result (out.new.items ≡ out.old.items) }
-    ensures capacity { vec_capacity out.old ≤ vec_capacity out.new }
-    // Memory is refused only where the room behind what is there is too small.
-    ensures room { OnErr result (vec_capacity out.old < length out.old.items
-        + length (spelling (sent (option_copied key.entry) channel seq (reply answer.now)))) }
+    ensures appends { Appends out.old out.new
+        (spelling (sent (option_copied key.entry) channel seq (reply answer.now))) result }
     // A reply's frame is short enough for a frame of replies.
     ensures short { OnOk result (length
         (spelling (sent (option_copied key.entry) channel seq (reply answer.now))) < 2 ^ 26) }
@@ -64,12 +59,8 @@ pub fn write_reply_with(
     answer: &Reply,
 ) -> Result<(), AllocError>
     requires limits { FitsReply (reply answer.now) }
-    ensures ok { OnOk result (out.new.items ≡ out.old.items
-        ++ spelling (sent (option_copied sealer.entry) channel seq (reply answer.now))) }
-    ensures err { OnErr result (out.new.items ≡ out.old.items) }
-    ensures capacity { vec_capacity out.old ≤ vec_capacity out.new }
-    ensures room { OnErr result (vec_capacity out.old < length out.old.items
-        + length (spelling (sent (option_copied sealer.entry) channel seq (reply answer.now)))) }
+    ensures appends { Appends out.old out.new
+        (spelling (sent (option_copied sealer.entry) channel seq (reply answer.now))) result }
     ensures short { OnOk result (length
         (spelling (sent (option_copied sealer.entry) channel seq (reply answer.now))) < 2 ^ 26) }
     // All but a grant fit a small buffer.
@@ -84,7 +75,7 @@ pub fn write_reply_with(
     written
 }
 
-// Appends the text and its seal. What an `Err` leaves has the old bytes in front, here and below.
+// Appends the text and its seal.
 fn push_reply(
     out: &mut Vec<u8>,
     sealer: Option<&Sealer>,
@@ -93,12 +84,8 @@ fn push_reply(
     answer: &Reply,
 ) -> Result<(), AllocError>
     requires limits { FitsReply (reply answer.now) }
-    ensures ok { OnOk result (out.new.items ≡ out.old.items
-        ++ spelling (sent (option_copied sealer.entry) channel seq (reply answer.now))) }
-    ensures err { OnErr result ((more : List ℕ) × (out.new.items ≡ out.old.items ++ more)) }
-    ensures capacity { vec_capacity out.old ≤ vec_capacity out.new }
-    ensures room { OnErr result (vec_capacity out.old < length out.old.items
-        + length (spelling (sent (option_copied sealer.entry) channel seq (reply answer.now)))) }
+    ensures pushes { Pushes out.old out.new
+        (spelling (sent (option_copied sealer.entry) channel seq (reply answer.now))) result }
     ensures short { OnOk result (length
         (spelling (sent (option_copied sealer.entry) channel seq (reply answer.now))) < 2 ^ 26) }
 {
@@ -114,11 +101,8 @@ pub(crate) fn push_seal(
     start: usize,
 ) -> Result<(), AllocError>
     requires within { start ≤ length out.old.items }
-    ensures ok { OnOk result (out.new.items
-        ≡ out.old.items ++ seal_of (option_copied sealer.entry) (drop start out.old.items)) }
-    ensures err { OnErr result (out.new.items ≡ out.old.items) }
-    ensures capacity { vec_capacity out.old ≤ vec_capacity out.new }
-    ensures room { OnErr result (vec_capacity out.old < length out.old.items + 32) }
+    ensures { Appends out.old out.new
+        (seal_of (option_copied sealer.entry) (drop start out.old.items)) result }
 {
     let seal = match sealer {
         Some(sealer) => sealer.tag(&out[start..]),
@@ -130,21 +114,27 @@ pub(crate) fn push_seal(
 #[tactic(auto, unfolding(crate::specs::Reply::reply_text))]
 fn push_text(out: &mut Vec<u8>, channel: u32, seq: u64, answer: &Reply) -> Result<(), AllocError>
     requires limits { FitsReply (reply answer.now) }
-    ensures ok { OnOk result
-        (out.new.items ≡ out.old.items ++ reply_text channel seq (reply answer.now)) }
-    ensures err { OnErr result ((more : List ℕ) × (out.new.items ≡ out.old.items ++ more)) }
-    ensures capacity { vec_capacity out.old ≤ vec_capacity out.new }
-    ensures room { OnErr result (vec_capacity out.old
-        < length out.old.items + length (reply_text channel seq (reply answer.now))) }
+    ensures pushes { Pushes out.old out.new (reply_text channel seq (reply answer.now)) result }
     ensures short { OnOk result
         (length (reply_text channel seq (reply answer.now)) < 2 ^ 25 + 2 ^ 18) }
 {
-    out.extend_from_slice(&head_of(channel, seq, status_of(answer)))?;
+    push_head(out, channel, seq, status_of(answer))?;
     push_fields(out, answer)
 }
 
 // The version, the channel and the number that are answered, and the status.
-pub(crate) fn head_of(channel: u32, seq: u64, status: u8) -> [u8; 14]
+pub(crate) fn push_head(
+    out: &mut Vec<u8>,
+    channel: u32,
+    seq: u64,
+    status: u8,
+) -> Result<(), AllocError>
+    ensures { Pushes out.old out.new (answered_bytes channel seq ++ status ∷ []) result }
+{
+    out.extend_from_slice(&head_of(channel, seq, status))
+}
+
+fn head_of(channel: u32, seq: u64, status: u8) -> [u8; 14]
     ensures { result ≡ answered_bytes channel seq ++ status ∷ [] }
 {
     let c = channel.to_be_bytes();
@@ -178,11 +168,7 @@ fn status_of(answer: &Reply) -> u8
 
 fn push_fields(out: &mut Vec<u8>, answer: &Reply) -> Result<(), AllocError>
     requires limits { FitsReply (reply answer.now) }
-    ensures ok { OnOk result (out.new.items ≡ out.old.items ++ fields_of (reply answer.now)) }
-    ensures err { OnErr result ((more : List ℕ) × (out.new.items ≡ out.old.items ++ more)) }
-    ensures capacity { vec_capacity out.old ≤ vec_capacity out.new }
-    ensures room { OnErr result
-        (vec_capacity out.old < length out.old.items + length (fields_of (reply answer.now))) }
+    ensures pushes { Pushes out.old out.new (fields_of (reply answer.now)) result }
     ensures short { OnOk result (length (fields_of (reply answer.now)) < 2 ^ 25 + 2 ^ 17 + 2 ^ 16) }
 {
     match answer {
@@ -260,23 +246,15 @@ fn push_denied(
     place: u64,
     named: &LinkSent,
 ) -> Result<(), AllocError>
-    ensures ok { OnOk result (out.new.items ≡ out.old.items
-        ++ (to_be_bytes w32 shard ++ to_be_bytes w64 place ++ link_bytes (link named.now))) }
-    ensures err { OnErr result ((more : List ℕ) × (out.new.items ≡ out.old.items ++ more)) }
-    ensures capacity { vec_capacity out.old ≤ vec_capacity out.new }
-    ensures room { OnErr result (vec_capacity out.old < length out.old.items
-        + length (to_be_bytes w32 shard ++ to_be_bytes w64 place ++ link_bytes (link named.now))) }
+    ensures { Pushes out.old out.new
+        (to_be_bytes w32 shard ++ to_be_bytes w64 place ++ link_bytes (link named.now)) result }
 {
     out.extend_from_slice(&place_of(shard, place))?;
     push_link(out, named)
 }
 
 fn push_link(out: &mut Vec<u8>, named: &LinkSent) -> Result<(), AllocError>
-    ensures ok { OnOk result (out.new.items ≡ out.old.items ++ link_bytes (link named.now)) }
-    ensures err { OnErr result ((more : List ℕ) × (out.new.items ≡ out.old.items ++ more)) }
-    ensures capacity { vec_capacity out.old ≤ vec_capacity out.new }
-    ensures room { OnErr result
-        (vec_capacity out.old < length out.old.items + length (link_bytes (link named.now))) }
+    ensures { Pushes out.old out.new (link_bytes (link named.now)) result }
 {
     match named {
         LinkSent::Expired { entry, digest } => {
@@ -292,12 +270,8 @@ fn push_link(out: &mut Vec<u8>, named: &LinkSent) -> Result<(), AllocError>
 }
 
 pub(crate) fn push_part(out: &mut Vec<u8>, entry: u8, part: &Term) -> Result<(), AllocError>
-    ensures ok { OnOk result
-        (out.new.items ≡ out.old.items ++ 2 ∷ entry ∷ term_spelling (principal part.now)) }
-    ensures err { OnErr result ((more : List ℕ) × (out.new.items ≡ out.old.items ++ more)) }
-    ensures capacity { vec_capacity out.old ≤ vec_capacity out.new }
-    ensures room { OnErr result (vec_capacity out.old
-        < length out.old.items + length (2 ∷ entry ∷ term_spelling (principal part.now))) }
+    ensures { Pushes out.old out.new
+        (2 ∷ entry ∷ term_spelling (principal part.now)) result }
 {
     out.extend_from_slice(&[MISSING, entry])?;
     write_term(out, part)

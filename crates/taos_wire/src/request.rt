@@ -7,9 +7,6 @@ use std::sync::Arc;
 /// The most certificates that a request presents.
 pub const MAX_CERTS: u8 = 16;
 
-// How many bytes a tag has.
-pub(crate) const TAG_LEN: usize = 32;
-
 /// What a channel asks: its number, the request's number in the channel's order, the principal
 /// that it quotes, the object, the operation, and the certificates that it presents, as bytes
 /// that are not opened yet.

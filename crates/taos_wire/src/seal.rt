@@ -3,8 +3,7 @@
 ghost use Rattle.std.specs.Prelude.{◌↔◌, IsTrue};
 ghost use Rattle.taos_wire.specs.Request.{IsSealed};
 
-use crate::request::TAG_LEN;
-use keyed_seal::Sealer;
+use keyed_seal::{Sealer, TAG_LEN};
 
 /// Whether the last 32 bytes are the tag of those before them, under the key.
 pub fn sealed_by(key: &[u8; 32], bytes: &[u8]) -> bool

@@ -1,38 +1,29 @@
 //! Writing a request.
 
-ghost use Rattle.std.specs.Prelude.{◌≡◌, ◌++◌, ◌+◌, ◌<◌, ◌≤◌, ◌^◌, ◌∷◌, List, ℕ, All, drop, length};
-ghost use Rattle.std.specs.Prelude.{map, vec_capacity, OnOk, OnErr};
+ghost use Rattle.std.specs.Prelude.{◌≡◌, ◌++◌, ◌<◌, ◌≤◌, ◌^◌, ◌∷◌, All, drop, length, map};
 ghost use Rattle.std.specs.Int.{w16, w32, w64, to_be_bytes};
 ghost use Rattle.std.specs.List.{flat_map};
 ghost use Rattle.std.specs.Option.{option_map};
 ghost use Rattle.keyed_seal.specs.Tag.{tag_of};
 ghost use Rattle.object_core.specs.Operation.{FitsOperation};
 ghost use Rattle.object_core.specs.View.{operation};
-ghost use Rattle.prin_term.specs.Principal.{spelling};
-ghost use Rattle.prin_term.specs.Steps.{counted, optional};
-ghost use Rattle.prin_term.specs.View.{grant, principal};
-ghost use Rattle.taos_wire.specs.Request.{FitsRequest, IsCertText, asked_bytes, certs_bytes};
-ghost use Rattle.taos_wire.specs.Request.{grant_bytes, kind_of, op_fields, origin_bytes};
-ghost use Rattle.taos_wire.specs.Request.{request_text, sealed};
+ghost use Rattle.prin_term.specs.Appends.{Appends, Pushes};
+ghost use Rattle.prin_term.specs.Steps.{counted};
+ghost use Rattle.prin_term.specs.View.{principal};
+ghost use Rattle.taos_wire.specs.Request.{FitsRequest, IsCertText, asked_bytes, certs_bytes, kind_of, op_fields, origin_bytes, request_text, sealed};
 ghost use Rattle.taos_wire.specs.View.{request, text_of};
 
 use crate::request::Request;
 use keyed_seal::hmac;
-use object_core::Op;
-use prin_term::{Entry, Term, write_term};
+use object_core::{Op, write_list};
+use prin_term::{Term, write_optional_term};
 use std::alloc::AllocError;
 
 /// Appends the request's one spelling under the tag of the key. The request has to be within the
 /// limits of requests. An `Err` changes nothing.
 pub fn write_request(out: &mut Vec<u8>, key: &[u8; 32], asked: &Request) -> Result<(), AllocError>
     requires limits { FitsRequest (request asked.now) }
-    ensures ok { OnOk result
-        (out.new.items ≡ out.old.items ++ sealed key.now (request asked.now)) }
-    ensures err { OnErr result (out.new.items ≡ out.old.items) }
-    ensures capacity { vec_capacity out.old ≤ vec_capacity out.new }
-    // Memory is refused only where the room behind what is there is too small.
-    ensures room { OnErr result (vec_capacity out.old
-        < length out.old.items + length (sealed key.now (request asked.now))) }
+    ensures { Appends out.old out.new (sealed key.now (request asked.now)) result }
 {
     let len = out.len();
     let written = push_sealed(out, key, asked);
@@ -42,15 +33,10 @@ pub fn write_request(out: &mut Vec<u8>, key: &[u8; 32], asked: &Request) -> Resu
     written
 }
 
-// Appends the text and its tag. What an `Err` leaves has the old bytes in front, here and below.
+// Appends the text and its tag.
 fn push_sealed(out: &mut Vec<u8>, key: &[u8; 32], asked: &Request) -> Result<(), AllocError>
     requires limits { FitsRequest (request asked.now) }
-    ensures ok { OnOk result
-        (out.new.items ≡ out.old.items ++ sealed key.now (request asked.now)) }
-    ensures err { OnErr result ((more : List ℕ) × (out.new.items ≡ out.old.items ++ more)) }
-    ensures capacity { vec_capacity out.old ≤ vec_capacity out.new }
-    ensures room { OnErr result (vec_capacity out.old
-        < length out.old.items + length (sealed key.now (request asked.now))) }
+    ensures { Pushes out.old out.new (sealed key.now (request asked.now)) result }
 {
     let start = out.len();
     push_text(out, asked)?;
@@ -60,11 +46,7 @@ fn push_sealed(out: &mut Vec<u8>, key: &[u8; 32], asked: &Request) -> Result<(),
 // The tag of what stands from `start` on.
 fn push_tag(out: &mut Vec<u8>, key: &[u8; 32], start: usize) -> Result<(), AllocError>
     requires within { start ≤ length out.old.items }
-    ensures ok { OnOk result
-        (out.new.items ≡ out.old.items ++ tag_of key.now (drop start out.old.items)) }
-    ensures err { OnErr result (out.new.items ≡ out.old.items) }
-    ensures capacity { vec_capacity out.old ≤ vec_capacity out.new }
-    ensures room { OnErr result (vec_capacity out.old < length out.old.items + 32) }
+    ensures { Appends out.old out.new (tag_of key.now (drop start out.old.items)) result }
 {
     let tag = hmac(key, &out[start..]);
     out.extend_from_slice(&tag)
@@ -72,12 +54,7 @@ fn push_tag(out: &mut Vec<u8>, key: &[u8; 32], start: usize) -> Result<(), Alloc
 
 fn push_text(out: &mut Vec<u8>, asked: &Request) -> Result<(), AllocError>
     requires limits { FitsRequest (request asked.now) }
-    ensures ok { OnOk result
-        (out.new.items ≡ out.old.items ++ request_text (request asked.now)) }
-    ensures err { OnErr result ((more : List ℕ) × (out.new.items ≡ out.old.items ++ more)) }
-    ensures capacity { vec_capacity out.old ≤ vec_capacity out.new }
-    ensures room { OnErr result
-        (vec_capacity out.old < length out.old.items + length (request_text (request asked.now))) }
+    ensures { Pushes out.old out.new (request_text (request asked.now)) result }
 {
     push_origin(out, asked.channel, asked.seq, &asked.quoted)?;
     push_asked(out, asked.object, &asked.op)?;
@@ -102,35 +79,11 @@ fn push_origin(
     seq: u64,
     quoted: &Option<Term>,
 ) -> Result<(), AllocError>
-    ensures ok { OnOk result (out.new.items
-        ≡ out.old.items ++ origin_bytes channel seq (option_map principal quoted.now)) }
-    ensures err { OnErr result ((more : List ℕ) × (out.new.items ≡ out.old.items ++ more)) }
-    ensures capacity { vec_capacity out.old ≤ vec_capacity out.new }
-    ensures room { OnErr result (vec_capacity out.old < length out.old.items
-        + length (origin_bytes channel seq (option_map principal quoted.now))) }
+    ensures { Pushes out.old out.new
+        (origin_bytes channel seq (option_map principal quoted.now)) result }
 {
     out.extend_from_slice(&head_of(channel, seq))?;
-    push_quoted(out, quoted)
-}
-
-fn push_quoted(out: &mut Vec<u8>, quoted: &Option<Term>) -> Result<(), AllocError>
-    ensures ok { OnOk result
-        (out.new.items ≡ out.old.items ++ optional spelling (option_map principal quoted.now)) }
-    ensures err { OnErr result ((more : List ℕ) × (out.new.items ≡ out.old.items ++ more)) }
-    ensures capacity { vec_capacity out.old ≤ vec_capacity out.new }
-    ensures room { OnErr result (vec_capacity out.old < length out.old.items
-        + length (optional spelling (option_map principal quoted.now))) }
-{
-    match quoted {
-        None => {
-            out.push(0)?;
-            Ok(())
-        }
-        Some(term) => {
-            out.push(1)?;
-            write_term(out, term)
-        }
-    }
+    write_optional_term(out, quoted)
 }
 
 // The byte that names an operation.
@@ -151,12 +104,7 @@ fn kind_of(op: &Op) -> u8
 // The operation's name, the object, and the operation's fields.
 fn push_asked(out: &mut Vec<u8>, object: u32, op: &Op) -> Result<(), AllocError>
     requires limits { FitsOperation (operation op.now) }
-    ensures ok { OnOk result
-        (out.new.items ≡ out.old.items ++ asked_bytes object (operation op.now)) }
-    ensures err { OnErr result ((more : List ℕ) × (out.new.items ≡ out.old.items ++ more)) }
-    ensures capacity { vec_capacity out.old ≤ vec_capacity out.new }
-    ensures room { OnErr result (vec_capacity out.old
-        < length out.old.items + length (asked_bytes object (operation op.now))) }
+    ensures { Pushes out.old out.new (asked_bytes object (operation op.now)) result }
 {
     out.push(kind_of(op))?;
     out.extend_from_slice(&object.to_be_bytes())?;
@@ -165,16 +113,11 @@ fn push_asked(out: &mut Vec<u8>, object: u32, op: &Op) -> Result<(), AllocError>
 
 fn push_fields(out: &mut Vec<u8>, op: &Op) -> Result<(), AllocError>
     requires limits { FitsOperation (operation op.now) }
-    ensures ok { OnOk result
-        (out.new.items ≡ out.old.items ++ op_fields (operation op.now)) }
-    ensures err { OnErr result ((more : List ℕ) × (out.new.items ≡ out.old.items ++ more)) }
-    ensures capacity { vec_capacity out.old ≤ vec_capacity out.new }
-    ensures room { OnErr result
-        (vec_capacity out.old < length out.old.items + length (op_fields (operation op.now))) }
+    ensures { Pushes out.old out.new (op_fields (operation op.now)) result }
 {
     match op {
         Op::Write(content) => push_counted(out, content),
-        Op::SetList(list) => push_list(out, list),
+        Op::SetList(list) => write_list(out, list),
         Op::Discard(digest) => out.extend_from_slice(digest),
         Op::Forget(channel) => out.extend_from_slice(&channel.to_be_bytes()),
         Op::Read | Op::Hold | Op::Sweep => Ok(()),
@@ -184,66 +127,18 @@ fn push_fields(out: &mut Vec<u8>, op: &Op) -> Result<(), AllocError>
 // Bytes behind their length.
 pub(crate) fn push_counted(out: &mut Vec<u8>, text: &[u8]) -> Result<(), AllocError>
     requires short { length text.now < 2 ^ 16 }
-    ensures ok { OnOk result (out.new.items ≡ out.old.items ++ counted w16 text.now) }
-    ensures err { OnErr result ((more : List ℕ) × (out.new.items ≡ out.old.items ++ more)) }
-    ensures capacity { vec_capacity out.old ≤ vec_capacity out.new }
-    ensures room { OnErr result
-        (vec_capacity out.old < length out.old.items + length (counted w16 text.now)) }
+    ensures { Pushes out.old out.new (counted w16 text.now) result }
 {
     let len = text.len() as u16;
     out.extend_from_slice(&len.to_be_bytes())?;
     out.extend_from_slice(text)
 }
 
-// Entries behind their count.
-fn push_list(out: &mut Vec<u8>, list: &[Entry]) -> Result<(), AllocError>
-    requires few { length list.now < 256 }
-    ensures ok { OnOk result (out.new.items
-        ≡ out.old.items ++ length list.now ∷ flat_map grant_bytes (map grant list.now)) }
-    ensures err { OnErr result ((more : List ℕ) × (out.new.items ≡ out.old.items ++ more)) }
-    ensures capacity { vec_capacity out.old ≤ vec_capacity out.new }
-    ensures room { OnErr result (vec_capacity out.old < length out.old.items
-        + length (length list.now ∷ flat_map grant_bytes (map grant list.now))) }
-{
-    out.push(list.len() as u8)?;
-    push_entries(out, list)
-}
-
-fn push_entries(out: &mut Vec<u8>, list: &[Entry]) -> Result<(), AllocError>
-    ensures ok { OnOk result
-        (out.new.items ≡ out.old.items ++ flat_map grant_bytes (map grant list.now)) }
-    ensures err { OnErr result ((more : List ℕ) × (out.new.items ≡ out.old.items ++ more)) }
-    ensures capacity { vec_capacity out.old ≤ vec_capacity out.new }
-    ensures room { OnErr result (vec_capacity out.old
-        < length out.old.items + length (flat_map grant_bytes (map grant list.now))) }
-{
-    for entry in list {
-        push_entry(out, entry)?;
-    }
-    Ok(())
-}
-
-fn push_entry(out: &mut Vec<u8>, entry: &Entry) -> Result<(), AllocError>
-    ensures ok { OnOk result (out.new.items ≡ out.old.items ++ grant_bytes (grant entry.now)) }
-    ensures err { OnErr result ((more : List ℕ) × (out.new.items ≡ out.old.items ++ more)) }
-    ensures capacity { vec_capacity out.old ≤ vec_capacity out.new }
-    ensures room { OnErr result
-        (vec_capacity out.old < length out.old.items + length (grant_bytes (grant entry.now))) }
-{
-    out.push(entry.rights)?;
-    write_term(out, &entry.who)
-}
-
 // Certificates behind their count.
 fn push_certs(out: &mut Vec<u8>, certs: &[Vec<u8>]) -> Result<(), AllocError>
     requires few { length certs.now < 256 }
     requires short { All IsCertText (map text_of certs.now) }
-    ensures ok { OnOk result
-        (out.new.items ≡ out.old.items ++ certs_bytes (map text_of certs.now)) }
-    ensures err { OnErr result ((more : List ℕ) × (out.new.items ≡ out.old.items ++ more)) }
-    ensures capacity { vec_capacity out.old ≤ vec_capacity out.new }
-    ensures room { OnErr result (vec_capacity out.old
-        < length out.old.items + length (certs_bytes (map text_of certs.now))) }
+    ensures { Pushes out.old out.new (certs_bytes (map text_of certs.now)) result }
 {
     out.push(certs.len() as u8)?;
     push_texts(out, certs)
@@ -251,12 +146,7 @@ fn push_certs(out: &mut Vec<u8>, certs: &[Vec<u8>]) -> Result<(), AllocError>
 
 fn push_texts(out: &mut Vec<u8>, certs: &[Vec<u8>]) -> Result<(), AllocError>
     requires short { All IsCertText (map text_of certs.now) }
-    ensures ok { OnOk result
-        (out.new.items ≡ out.old.items ++ flat_map (counted w16) (map text_of certs.now)) }
-    ensures err { OnErr result ((more : List ℕ) × (out.new.items ≡ out.old.items ++ more)) }
-    ensures capacity { vec_capacity out.old ≤ vec_capacity out.new }
-    ensures room { OnErr result (vec_capacity out.old
-        < length out.old.items + length (flat_map (counted w16) (map text_of certs.now))) }
+    ensures { Pushes out.old out.new (flat_map (counted w16) (map text_of certs.now)) result }
 {
     for cert in certs {
         push_counted(out, cert)?;

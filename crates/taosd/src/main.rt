@@ -4,33 +4,43 @@
 ghost use Rattle.std.specs.Prelude.{◌<◌, ◌≤◌, length};
 
 mod clock;
+mod exchange;
+mod keys;
 mod relay;
 mod streams;
+mod term;
+mod usage;
 
 use clock::SystemSeconds;
-use frame_link::{Clock, ClosedDoor, Door, NoRelay, RelayLink, Sink};
+use frame_link::{Clock, ClosedDoor, Door, NoRelay, RelayLink, Sink, pour};
+use keys::fresh_key;
 use relay::{LIMIT, TcpRelay};
 use std::alloc::Global;
 use std::env;
 use std::fs::File;
-use std::io::{BufReader, ErrorKind, Stdout};
+use std::io::{BufReader, ErrorKind, Stderr, Stdout};
 use std::process::ExitCode;
 use std::sync::Wait;
 use std::thread::Threads;
 use std::time::Duration;
 use streams::{FileReading, Origin, Reading, Writing};
-use taos_node::{Ending, Lane, Outcome, status_of, taos, tell};
+use taos_node::{Ending, FileFault, Lane, Outcome, status_of, taos, tell};
+use usage::{USAGE, VERSION};
 
 // The input is read in pieces of this many bytes.
 const PIECE: usize = 65_536;
 
-const NO_MEMORY: Ending = Ending::Served(Outcome::NoMemory);
+// Where fresh keys come from.
+const RANDOM: &str = "/dev/urandom";
 
 // The words behind the program's name, or how the run ends where there are none to be had.
 fn words_of(rt: &HostRuntime) -> Result<Vec<String>, Ending> {
     match env::args(rt) {
-        Ok(words) => words.skip(1).collect(rt.alloc()).map_err(|_| NO_MEMORY),
-        Err(error) if error.kind() == ErrorKind::OutOfMemory => Err(NO_MEMORY),
+        Ok(words) => words
+            .skip(1)
+            .collect(rt.alloc())
+            .map_err(|_| Ending::NoMemory),
+        Err(error) if error.kind() == ErrorKind::OutOfMemory => Err(Ending::NoMemory),
         Err(_) => Err(Ending::Usage),
     }
 }
@@ -41,13 +51,13 @@ fn ended<N: Sink>(notes: &mut N, ending: Ending) -> u8 {
     status_of(ending)
 }
 
-fn file_of(rt: &HostRuntime, path: &str) -> FileReading<File> {
+fn file_of<'a>(rt: &HostRuntime, path: &'a str) -> FileReading<'a, File, Stderr> {
     if path == "-" {
-        return FileReading::new(Origin::Empty);
+        return FileReading::new(Origin::Empty, path, rt.stderr());
     }
     match File::open(rt, path) {
-        Ok(file) => FileReading::new(Origin::Open(file)),
-        Err(_) => FileReading::new(Origin::Missing),
+        Ok(file) => FileReading::new(Origin::Open(file), path, rt.stderr()),
+        Err(reason) => FileReading::new(Origin::Missing(reason), path, rt.stderr()),
     }
 }
 
@@ -55,7 +65,7 @@ fn file_of(rt: &HostRuntime, path: &str) -> FileReading<File> {
 fn lane_of<'a, R: RelayLink>(
     rt: &'a HostRuntime,
     relay: R,
-) -> Lane<SystemSeconds<&'a HostRuntime>, R, ClosedDoor<FileReading<File>, Writing<Stdout>>> {
+) -> Lane<SystemSeconds<&'a HostRuntime>, R, ClosedDoor<Reading<File>, Writing<Stdout>>> {
     Lane::of(SystemSeconds::new(rt), relay, ClosedDoor::new())
 }
 
@@ -73,7 +83,7 @@ fn work<W: Threads + Wait + Sync, N: Sink, C: Clock + Send, R: RelayLink + Send,
     requires few { length lanes.old ≤ 16 }
 {
     let Ok(standard_input) = BufReader::with_capacity(alloc, PIECE, rt.stdin()) else {
-        return ended(notes, NO_MEMORY);
+        return ended(notes, Ending::NoMemory);
     };
     let mut file = file_of(rt, path);
     let mut input = Reading::new(standard_input);
@@ -115,6 +125,45 @@ fn run<W: Threads + Wait + Sync, N: Sink>(
     work(rt, workers, alloc, path, command, notes, &mut lanes)
 }
 
+// Writes a text on standard output, and that alone.
+fn show<N: Sink>(rt: &HostRuntime, text: &[u8], notes: &mut N) -> u8 {
+    let mut output = Writing::new(rt.stdout());
+    match pour(&mut output, text) {
+        Ok(()) => 0,
+        Err(_) => ended(notes, Ending::Served(Outcome::WriteFault)),
+    }
+}
+
+// Prints a fresh key of 64 hex digits.
+fn show_key<N: Sink>(rt: &HostRuntime, notes: &mut N) -> u8 {
+    match fresh_key(&mut file_of(rt, RANDOM)) {
+        Some(digits) => show(rt, &digits, notes),
+        None => ended(notes, Ending::File(FileFault::ReadFault)),
+    }
+}
+
+// The words that ask the program itself for something; all others are of the node.
+fn answer<W: Threads + Wait + Sync, N: Sink>(
+    rt: &HostRuntime,
+    workers: &W,
+    words: &[String],
+    notes: &mut N,
+) -> u8 {
+    match words {
+        [] => {
+            let _ = pour(notes, USAGE);
+            ended(notes, Ending::Usage)
+        }
+        [word] => match word.as_str() {
+            "--help" => show(rt, USAGE, notes),
+            "--version" => show(rt, VERSION, notes),
+            "--key" => show_key(rt, notes),
+            _ => ended(notes, Ending::Usage),
+        },
+        _ => run(rt, workers, rt.alloc(), words, notes),
+    }
+}
+
 fn main(rt: HostRuntime) -> ExitCode {
     // A standard stream that came closed would lend its number to the next file. A folder that is
     // open for reading takes it: reads and writes of it fail.
@@ -123,7 +172,7 @@ fn main(rt: HostRuntime) -> ExitCode {
     let _third = File::open(&rt, "/");
     let mut notes = Writing::new(rt.stderr());
     let status = match words_of(&rt) {
-        Ok(words) => run(&rt, &rt, rt.alloc(), words.as_slice(), &mut notes),
+        Ok(words) => answer(&rt, &rt, words.as_slice(), &mut notes),
         Err(ending) => ended(&mut notes, ending),
     };
     ExitCode::from(status)

@@ -1,83 +1,81 @@
 //! A link to a relay at an address of the network.
 
-ghost use Rattle.std.specs.Prelude.{◌≡◌, ◌≢◌, ◌≤◌, length, IfOk, IsSome, MatchResult, None, OnErr};
+ghost use Rattle.std.specs.Prelude.{◌≡◌, ◌≢◌, ◌≤◌, [], length, IfOk, IsSome, MatchResult, None, OnErr};
 ghost use Rattle.frame_link.specs.Faults.{HasCause};
 ghost use Rattle.frame_link.specs.Plan.{counted};
 ghost use Rattle.frame_link.specs.Relay.{AnswersAs, HasRelayCode};
 
-use crate::streams::{Reading, Writing};
+use crate::exchange::{Line, Silence, exchange};
+use crate::streams::is_cut_short;
+use crate::term::Term;
 use arrayvec::ArrayVec;
 use frame_link::{Failed, RelayAnswer, RelayLink};
-use relay_core::LinkRelay;
 use std::alloc::Global;
 use std::io;
 use std::io::ErrorKind;
 use std::net::{Net, TcpListener, TcpStream, ToSocketAddrs};
-use std::time::Duration;
+use std::time::{Clock, Duration};
 
-/// The seconds that a link waits for its relay at most: to connect to one of its addresses, at each
-/// read and at each write.
+/// The seconds that a call takes at most, from its first address to the last byte of its answer.
 pub const LIMIT: u64 = 5;
 
-type Line = LinkRelay<Reading<TcpStream>, Writing<TcpStream>>;
+/// The seconds behind a fault in which each call fails at once.
+pub const REST: u64 = 1;
 
-// Why there is no line.
-#[derive(Drop)]
-enum NoLine {
-    Unreached,
-    NoMemory,
-}
-
-// A stream to the first of a host's addresses that answers.
-fn stream_to<R: Net<Listener = TcpListener, Stream = TcpStream>>(
+// A stream to the first of a host's addresses that answers, before the term ends.
+fn stream_to<R: Net<Listener = TcpListener, Stream = TcpStream> + Clock>(
     network: &R,
     address: &str,
-    limit: Duration,
+    term: Term,
 ) -> io::Result<TcpStream> {
     for place in address.to_socket_addrs(network)? {
-        if let Ok(stream) = TcpStream::connect_timeout(network, &place, limit) {
+        let Some(left) = term.left(network) else {
+            return Err(io::Error::from(ErrorKind::TimedOut));
+        };
+        if let Ok(stream) = TcpStream::connect_timeout(network, &place, left) {
+            stream.set_nodelay(true)?;
             return Ok(stream);
         }
     }
     Err(io::Error::from(ErrorKind::NotConnected))
 }
 
-// Both halves of a new stream, neither of which waits longer than the limit.
-fn halves_to<R: Net<Listener = TcpListener, Stream = TcpStream>>(
-    network: &R,
-    address: &str,
-    limit: Duration,
-) -> io::Result<(Reading<TcpStream>, Writing<TcpStream>)> {
-    let stream = stream_to(network, address, limit)?;
-    stream.set_read_timeout(Some(limit))?;
-    stream.set_write_timeout(Some(limit))?;
-    stream.set_nodelay(true)?;
-    let other = stream.try_clone()?;
-    Ok((Reading::new(stream), Writing::new(other)))
+// Whether a look at what waits finds nothing, and no end.
+fn sees_nothing(stream: &TcpStream) -> bool {
+    let mut byte = [0u8; 1];
+    for _ in 0..u64::MAX {
+        match stream.peek(&mut byte) {
+            Ok(_) => return false,
+            Err(error) if is_cut_short(&error) => {}
+            Err(error) => return error.kind() == ErrorKind::WouldBlock,
+        }
+    }
+    false
 }
 
-fn line_to<R: Net<Listener = TcpListener, Stream = TcpStream>>(
-    network: &R,
-    alloc: Global,
-    address: &str,
-    limit: Duration,
-) -> Result<Line, NoLine> {
-    let Ok((input, output)) = halves_to(network, address, limit) else {
-        return Err(NoLine::Unreached);
-    };
-    LinkRelay::new(alloc, input, output).map_err(|_| NoLine::NoMemory)
+// Whether a stream is open, and no byte waits on it that nobody asked for.
+fn is_quiet(stream: &TcpStream) -> bool {
+    if stream.set_nonblocking(true).is_err() {
+        return false;
+    }
+    let is_quiet = sees_nothing(stream);
+    stream.set_nonblocking(false).is_ok() && is_quiet
 }
 
 /// Asks the relay at an address. The first call connects, and so does a call behind one that
 /// failed: a stream that has failed once is closed, since a late answer on it would be taken for
-/// that of the next question. Want of memory for a connection is answered as such, and is no fault.
+/// that of the next question. A kept stream that turns out closed before any byte of an answer came,
+/// or on which bytes wait that nobody asked for, is closed, and the same question is asked once
+/// more on a new one. Want of memory is answered as such, and is no fault.
 #[derive(Drop)]
 pub struct TcpRelay<'a, R> {
     network: &'a R,
     alloc: Global,
     address: &'a str,
     limit: Duration,
-    line: Option<Line>,
+    line: Option<TcpStream>,
+    // Behind a fault, until when each call fails.
+    rest: Option<Term>,
     faults: u64,
 }
 
@@ -95,6 +93,7 @@ impl<'a, R> TcpRelay<'a, R> {
             address,
             limit,
             line: None,
+            rest: None,
             faults: 0,
         }
     }
@@ -107,7 +106,110 @@ impl<'a, R> TcpRelay<'a, R> {
     }
 }
 
-impl<'a, R: Net<Listener = TcpListener, Stream = TcpStream>> RelayLink for TcpRelay<'a, R> {
+impl<'a, R: Net<Listener = TcpListener, Stream = TcpStream> + Clock> TcpRelay<'a, R> {
+    // Until when the call that begins now may take. `None` where it fails at once.
+    fn term(&self) -> Option<Term> {
+        if let Some(rest) = &self.rest {
+            if rest.left(self.network).is_some() {
+                return None;
+            }
+        }
+        Term::after(self.network, self.limit)
+    }
+
+    // Asks on the stream that is kept. Where it is none of use any more, it is closed.
+    fn ask_kept(
+        &mut self,
+        term: Term,
+        node: u32,
+        sealed: &[u8],
+        out: &mut ArrayVec<u8, 2048>,
+    ) -> Result<RelayAnswer, Silence>
+        requires fits { length sealed.now ≤ 65531 }
+        requires empty { out.old.items ≡ [] }
+        ensures closed { OnErr result (self.new.line ≡ None) }
+        ensures open { IfOk result (λ _. IsSome self.new.line) }
+        ensures answer { AnswersAs None node sealed.now result out.new.items }
+        ensures codes { IfOk result HasRelayCode }
+        ensures place { (self.new.address ≡ self.old.address)
+            × (self.new.limit ≡ self.old.limit) }
+        ensures faults { self.new.faults ≡ self.old.faults }
+    {
+        let Some(stream) = self.line.take() else {
+            return Err(Silence::Closed);
+        };
+        if !is_quiet(&stream) {
+            return Err(Silence::Closed);
+        }
+        let line = Line {
+            stream: &stream,
+            clock: self.network,
+            term,
+        };
+        let answer = exchange(self.alloc, &line, node, sealed, out)?;
+        self.line = Some(stream);
+        Ok(answer)
+    }
+
+    // Asks on a new stream.
+    fn ask_anew(
+        &mut self,
+        term: Term,
+        node: u32,
+        sealed: &[u8],
+        out: &mut ArrayVec<u8, 2048>,
+    ) -> Result<RelayAnswer, Silence>
+        requires fits { length sealed.now ≤ 65531 }
+        requires empty { out.old.items ≡ [] }
+        requires closed { self.old.line ≡ None }
+        ensures closed { OnErr result (self.new.line ≡ None) }
+        ensures open { IfOk result (λ _. IsSome self.new.line) }
+        ensures answer { AnswersAs None node sealed.now result out.new.items }
+        ensures codes { IfOk result HasRelayCode }
+        ensures place { (self.new.address ≡ self.old.address)
+            × (self.new.limit ≡ self.old.limit) }
+        ensures faults { self.new.faults ≡ self.old.faults }
+    {
+        let Ok(stream) = stream_to(self.network, self.address, term) else {
+            return Err(Silence::Failed);
+        };
+        let line = Line {
+            stream: &stream,
+            clock: self.network,
+            term,
+        };
+        let answer = exchange(self.alloc, &line, node, sealed, out)?;
+        self.line = Some(stream);
+        Ok(answer)
+    }
+
+    // Asks on the stream that is kept, or on a new one.
+    fn ask(
+        &mut self,
+        node: u32,
+        sealed: &[u8],
+        out: &mut ArrayVec<u8, 2048>,
+    ) -> Result<RelayAnswer, Silence>
+        requires fits { length sealed.now ≤ 65531 }
+        requires empty { out.old.items ≡ [] }
+        ensures open { IfOk result (λ _. IsSome self.new.line) }
+        ensures answer { AnswersAs None node sealed.now result out.new.items }
+        ensures codes { IfOk result HasRelayCode }
+        ensures place { (self.new.address ≡ self.old.address)
+            × (self.new.limit ≡ self.old.limit) }
+        ensures faults { self.new.faults ≡ self.old.faults }
+    {
+        let Some(term) = self.term() else {
+            return Err(Silence::Failed);
+        };
+        match self.ask_kept(term, node, sealed, out) {
+            Err(Silence::Closed) => self.ask_anew(term, node, sealed, out),
+            heard => heard,
+        }
+    }
+}
+
+impl<'a, R: Net<Listener = TcpListener, Stream = TcpStream> + Clock> RelayLink for TcpRelay<'a, R> {
     ghost says = { λ _. None };
 
     ghost faults = { λ r. r.faults };
@@ -131,21 +233,15 @@ impl<'a, R: Net<Listener = TcpListener, Stream = TcpStream>> RelayLink for TcpRe
         ensures cause { HasCause self.old.faults self.new.faults result }
     {
         out.clear();
-        let line = match self.line.take() {
-            Some(line) => Ok(line),
-            None => line_to(self.network, self.alloc, self.address, self.limit),
-        };
-        match line {
-            Ok(mut line) => {
-                let answer = line.reseal(node, sealed, out);
-                match answer {
-                    Ok(_) => self.line = Some(line),
-                    Err(Failed) => self.faults = self.faults.saturating_add(1),
-                }
-                answer
+        match self.ask(node, sealed, out) {
+            Ok(answer) => Ok(answer),
+            Err(Silence::NoMemory) => {
+                self.line = None;
+                Ok(RelayAnswer::NoMemory)
             }
-            Err(NoLine::NoMemory) => Ok(RelayAnswer::NoMemory),
-            Err(NoLine::Unreached) => {
+            Err(Silence::Closed | Silence::Failed) => {
+                self.line = None;
+                self.rest = Term::after(self.network, Duration::from_secs(REST));
                 self.faults = self.faults.saturating_add(1);
                 Err(Failed)
             }

@@ -4,7 +4,7 @@ use crate::streams::{FileReading, Origin, Reading, Writing};
 use arrayvec::ArrayVec;
 use frame_link::{Clock, Failed, RelayAnswer, RelayLink, Sink, Source};
 use std::fs::File;
-use std::io::{Read, Write};
+use std::io::{ErrorKind, Read, Write};
 use std::net::{TcpListener, TcpStream};
 use std::test::*;
 use std::time::Duration;
@@ -27,12 +27,26 @@ fn each_fault_of_a_stream_is_counted(rt: HostRuntime) -> Result<(), Fail> {
 #[test]
 fn a_file_that_is_not_there_fails_and_no_file_is_empty(rt: HostRuntime) -> Result<(), Fail> {
     let mut room = [0u8; 4];
-    let mut missing: FileReading<File> = FileReading::new(Origin::Missing);
+    let reason = io::Error::from(ErrorKind::NotFound);
+    let mut told = Vec::new(rt.alloc());
+    let mut missing: FileReading<'_, File, _> = FileReading::new(
+        Origin::Missing(reason),
+        "no such",
+        &mut told,
+    );
     assert!(rt; missing.read(&mut room) == Err(Failed));
     assert_eq!(rt; missing.faults(), 1);
-    let mut empty: FileReading<File> = FileReading::new(Origin::Empty);
+    drop(missing);
+    assert_eq!(rt;
+        told.as_slice(),
+        b"taosd: no such: entity not found\n".as_slice()
+    );
+    let mut told = Vec::new(rt.alloc());
+    let mut empty: FileReading<'_, File, _> = FileReading::new(Origin::Empty, "-", &mut told);
     assert!(rt; empty.read(&mut room) == Ok(0));
     assert_eq!(rt; empty.faults(), 0);
+    drop(empty);
+    assert!(rt; told.is_empty());
     Ok(())
 }
 
@@ -64,18 +78,16 @@ fn is_asked(stream: &mut TcpStream) -> io::Result<bool> {
     Ok(got == ASKED)
 }
 
-// Two connections: one that answers once and ends at the second question, and one that answers
-// once.
-fn answer_twice(listener: &TcpListener) -> io::Result<(bool, bool, bool)> {
+// Two connections: one that answers once and then closes, and one that answers once.
+fn answer_twice(listener: &TcpListener) -> io::Result<(bool, bool)> {
     let (mut stream, _) = listener.accept()?;
     let first = is_asked(&mut stream)?;
     stream.write_all(&[0, 0, 0, 2, 6, 3])?;
-    let second = is_asked(&mut stream)?;
     drop(stream);
     let (mut stream, _) = listener.accept()?;
-    let third = is_asked(&mut stream)?;
+    let second = is_asked(&mut stream)?;
     stream.write_all(&[0, 0, 0, 2, 6, 2])?;
-    Ok((first, second, third))
+    Ok((first, second))
 }
 
 // What is answered to the same question, and how often the link has failed.
@@ -86,7 +98,69 @@ fn ask_again(relay: &mut TcpRelay<'_, HostRuntime>) -> (Result<RelayAnswer, Fail
 }
 
 #[test]
-fn a_relay_is_connected_to_again_behind_a_fault(rt: HostRuntime) -> Result<(), Fail> {
+fn a_stream_that_the_relay_has_closed_is_opened_again(rt: HostRuntime) -> Result<(), Fail> {
+    let (listener, address) = listen(&rt)?;
+    let (rt, listener, address) = (&rt, &listener, address.as_str());
+    let (told, asked) = thread::join(
+        rt,
+        move || {
+            let mut relay = TcpRelay::new(rt, rt.alloc(), address, Duration::from_secs(LIMIT));
+            let first = ask_again(&mut relay);
+            (first, ask_again(&mut relay))
+        },
+        move || answer_twice(listener),
+    );
+    assert_eq!(rt; asked?, (true, true));
+    assert_eq!(rt; told.0, (Ok(RelayAnswer::Refused { code: 3 }), 0));
+    assert_eq!(rt; told.1, (Ok(RelayAnswer::Refused { code: 2 }), 0));
+    Ok(())
+}
+
+// One connection whose answer has a frame behind it that nobody asked for, and one that answers
+// once.
+fn answer_too_much(listener: &TcpListener) -> io::Result<(bool, bool)> {
+    let (mut stream, _) = listener.accept()?;
+    let first = is_asked(&mut stream)?;
+    stream.write_all(&[0, 0, 0, 2, 6, 3, 0, 0, 0, 2, 6, 5])?;
+    let (mut other, _) = listener.accept()?;
+    let second = is_asked(&mut other)?;
+    other.write_all(&[0, 0, 0, 2, 6, 2])?;
+    Ok((first, second))
+}
+
+#[test]
+fn an_answer_that_nobody_asked_for_is_passed_over(rt: HostRuntime) -> Result<(), Fail> {
+    let (listener, address) = listen(&rt)?;
+    let (rt, listener, address) = (&rt, &listener, address.as_str());
+    let (told, asked) = thread::join(
+        rt,
+        move || {
+            let mut relay = TcpRelay::new(rt, rt.alloc(), address, Duration::from_secs(LIMIT));
+            let first = ask_again(&mut relay);
+            (first, ask_again(&mut relay))
+        },
+        move || answer_too_much(listener),
+    );
+    assert_eq!(rt; asked?, (true, true));
+    assert_eq!(rt; told.0, (Ok(RelayAnswer::Refused { code: 3 }), 0));
+    assert_eq!(rt; told.1, (Ok(RelayAnswer::Refused { code: 2 }), 0));
+    Ok(())
+}
+
+// One connection that takes the question and is closed, and one that answers.
+fn answer_late(listener: &TcpListener) -> io::Result<(bool, bool)> {
+    let (mut stream, _) = listener.accept()?;
+    let first = is_asked(&mut stream)?;
+    drop(stream);
+    let (mut stream, _) = listener.accept()?;
+    let second = is_asked(&mut stream)?;
+    stream.write_all(&[0, 0, 0, 2, 6, 2])?;
+    Ok((first, second))
+}
+
+// The first call fails, the second one fails at once, and the third one connects again.
+#[test]
+fn a_relay_is_connected_to_again_a_second_behind_a_fault(rt: HostRuntime) -> Result<(), Fail> {
     let (listener, address) = listen(&rt)?;
     let (rt, listener, address) = (&rt, &listener, address.as_str());
     let (told, asked) = thread::join(
@@ -95,14 +169,15 @@ fn a_relay_is_connected_to_again_behind_a_fault(rt: HostRuntime) -> Result<(), F
             let mut relay = TcpRelay::new(rt, rt.alloc(), address, Duration::from_secs(LIMIT));
             let first = ask_again(&mut relay);
             let second = ask_again(&mut relay);
+            thread::sleep(rt, Duration::from_millis(1_100));
             (first, second, ask_again(&mut relay))
         },
-        move || answer_twice(listener),
+        move || answer_late(listener),
     );
-    assert_eq!(rt; asked?, (true, true, true));
-    assert_eq!(rt; told.0, (Ok(RelayAnswer::Refused { code: 3 }), 0));
-    assert_eq!(rt; told.1, (Err(Failed), 1));
-    assert_eq!(rt; told.2, (Ok(RelayAnswer::Refused { code: 2 }), 1));
+    assert_eq!(rt; asked?, (true, true));
+    assert_eq!(rt; told.0, (Err(Failed), 1));
+    assert_eq!(rt; told.1, (Err(Failed), 2));
+    assert_eq!(rt; told.2, (Ok(RelayAnswer::Refused { code: 2 }), 2));
     Ok(())
 }
 

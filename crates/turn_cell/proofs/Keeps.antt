@@ -14,7 +14,7 @@ use Rattle.turn_cell.specs.declared.view.Stage.TheVariants.{Idle, Waiting, Turn,
 use Rattle.turn_cell.specs.declared.view.View.{View}
 use Rattle.turn_cell.specs.Journal.{Grows, MayLeave, HasEach, times, once_within}
 use Rattle.turn_cell.specs.Line.{Holds, tickets, IsLined}
-use Rattle.turn_cell.specs.Rule.{AtTurn, KnowsTurn, IsJoined, spent, IsHome, IsAway, IsTold, IsKept, first_view}
+use Rattle.turn_cell.specs.Rule.{AtTurn, KnowsTurn, IsJoined, spent, IsHome, IsAway, IsTold, IsInvariant, first_view}
 use Rattle.turn_cell.specs.Steps.{at_stage, added, entered_of, ticket_of, gone_home, keeping, given, both, Draws, Looks, Calls, GoesHome, Settled}
 use Rattle.turn_cell.proofs.Sums.{index_below, sum_set, sum_push, one_below, two_below, only_one, sum_below, times-append}
 use Rattle.turn_cell.proofs.Journals.{grows_refl, grows_trans, grows_length, grows_between, grows_same, grows_leave, added_within, added_once, longer_has, longer_first, longer_second, once_within-le, once_within-none, once_within-one}
@@ -73,7 +73,7 @@ value_or v (x ∷ xs) = elim x.1 [ Some y ↦ y | None ↦ v ]
 
 module _ {V F E : Type 0} (fixed : V → F) (journal : V → List E) (allows : F → List E → E → Type 0) (opening : V) where
   abbrev Rule : State (Option V) (View F E) → Type 0
-  Rule = IsKept fixed journal allows opening
+  Rule = IsInvariant fixed journal allows opening
 
   abbrev Told : List E → View F E → Type 0
   Told = IsTold fixed journal allows opening

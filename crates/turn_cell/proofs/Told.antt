@@ -8,7 +8,7 @@ use Rattle.turn_cell.specs.declared.shares.TheConstants.{ALL_SHARES}
 use Rattle.turn_cell.specs.declared.view.Stage.TheVariants.{Idle, Waiting, Joined}
 use Rattle.turn_cell.specs.declared.view.View.{View}
 use Rattle.turn_cell.specs.Journal.{Grows, MayLeave, HasEach, times, once_within}
-use Rattle.turn_cell.specs.Rule.{first_view, IsKept}
+use Rattle.turn_cell.specs.Rule.{first_view, IsInvariant}
 use Rattle.turn_cell.specs.Steps.{at_stage, gone_home, both, Turns, Calls, GoesHome, MayCall, Settles, entered_of, ticket_of, IsAtTurn, IsIdle, IsResting, IsOut, IsTaken, IsPut, TookOut, IsJoinOf, added}
 use mathlib.Core.List.{append-nil}
 use Rattle.turn_cell.proofs.Journals.{added_none, added_one}
@@ -48,7 +48,7 @@ module _ {V F E : Type 0} (fixed : V → F) (journal : V → List E) (allows : F
         grows = h.grows;
       })
 
-  pub may_call : (opening : V) (slots id : ℕ) (m : Me (Option V) (View F E)) → MayCall fixed journal allows m → Allows (IsKept fixed journal allows opening) slots id m 1 (λ x. (x + 1) % 2 ^ 64) (Calls journal (step slots 1 1 0 none) m)
+  pub may_call : (opening : V) (slots id : ℕ) (m : Me (Option V) (View F E)) → MayCall fixed journal allows m → Allows (IsInvariant fixed journal allows opening) slots id m 1 (λ x. (x + 1) % 2 ^ 64) (Calls journal (step slots 1 1 0 none) m)
   may_call opening slots id m p = calls fixed journal allows opening slots id p.ticket m p.entered p.value p.stage p.slot p.live p.its_fixed p.may
 
   pub called_home : (slots found : ℕ) (m n : Me (Option V) (View F E)) → MayCall fixed journal allows m → Calls journal (step slots 1 1 0 none) m found n → (value : V) → m.1 ≡ (0, Some value) ∷ [] → GoesHome journal (entered_of m.0.stage) value m n
@@ -121,8 +121,8 @@ joined_now {V} {F} {E} m n w idle now = let e : n ≡ (both m.0 w, []) = now ∙
     (e, ap (λ (x : Me (Option V) (View F E)). x.0.stage) e, let s : n.0.shares ≡ m.0.shares + w.shares = ap (λ (x : Me (Option V) (View F E)). x.0.shares) e in let h = idle.1 in omega arith)
 
 pub opens_at : {V F E : Type 0} (fixed : V → F) (journal : V → List E) (allows : F → List E → E → Type 0) (o value : V) (items : List (Option V)) → o ≡ value → items ≡ Some value ∷ []
-    → IsKept fixed journal allows o (opening (0 ∷ 0 ∷ []) items (first_view fixed journal o))
-opens_at {V} {F} {E} fixed journal allows o value items same are = subst (λ (z : List (Option V)). IsKept fixed journal allows o (opening (0 ∷ 0 ∷ []) z (first_view fixed journal o))) (ap (λ (x : V). Some x ∷ []) same ∙ sym are) (opens fixed journal allows o)
+    → IsInvariant fixed journal allows o (opening (0 ∷ 0 ∷ []) items (first_view fixed journal o))
+opens_at {V} {F} {E} fixed journal allows o value items same are = subst (λ (z : List (Option V)). IsInvariant fixed journal allows o (opening (0 ∷ 0 ∷ []) z (first_view fixed journal o))) (ap (λ (x : V). Some x ∷ []) same ∙ sym are) (opens fixed journal allows o)
 
 -- what was found in the slot at the end
 pub record HasClosed {V F E : Type 0} (fixed : V → F) (journal : V → List E) (o : V) (v : View F E) (found : Option V) : Type 0 where
@@ -132,7 +132,7 @@ pub record HasClosed {V F E : Type 0} (fixed : V → F) (journal : V → List E)
   pub its_own : (place : ℕ) → times place v.own ≡ once_within (length (journal o)) (length v.seen) place
 
 pub closes_to : {V F E : Type 0} (fixed : V → F) (journal : V → List E) (allows : F → List E → E → Type 0) (o : V) (id : ℕ) (m : Me (Option V) (View F E)) (shares : ℕ) (words : List ℕ) (slots : List (Option V)) (found : Option V)
-    → m.0.stage ≡ Idle → m.0.shares ≡ shares → shares ≡ ALL_SHARES → Final (Seen (IsKept fixed journal allows o) id m.0) words slots → get_elem? slots 0 ≡ some found → HasClosed fixed journal o m.0 found
+    → m.0.stage ≡ Idle → m.0.shares ≡ shares → shares ≡ ALL_SHARES → Final (Seen (IsInvariant fixed journal allows o) id m.0) words slots → get_elem? slots 0 ≡ some found → HasClosed fixed journal o m.0 found
 closes_to {V} {F} {E} fixed journal allows o id m shares words slots found idle has all f at = let t = closes fixed journal allows o id m.0 words slots (has ∙ all) idle f in
     let is : found ≡ Some t.0 = some-injective found (Some t.0) (sym at ∙ t.1) in
     let same : (value : V) → found ≡ Some value → t.0 ≡ value = λ value e. some_is t.0 value (sym is ∙ e) in record {

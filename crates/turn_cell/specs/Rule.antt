@@ -94,7 +94,7 @@ module _ {V F E : Type 0} (fixed : V → F) (journal : V → List E) (allows : F
     pub gone : v.shares ≡ 0 → v ≡ spent
 
   -- what holds between any two steps; the slot holds the value
-  pub record IsKept (s : State (Option V) (View F E)) : Type 0 where
+  pub record IsInvariant (s : State (Option V) (View F E)) : Type 0 where
     -- the core's journal, the one that all threads add to
     pub core : List E
     -- word 0 is the next ticket, word 1 the ticket that is served

@@ -1,6 +1,6 @@
 //! The rule of a cell's table, and what each kind of step tells.
 ghost use Rattle.std.specs.Prelude.{ℕ};
-ghost use Rattle.turn_cell.specs.Rule.{IsKept, first_view, spent};
+ghost use Rattle.turn_cell.specs.Rule.{IsInvariant, first_view, spent};
 ghost use Rattle.turn_cell.specs.Steps.{Calls, Draws, Looks, Settled, both, given, keeping};
 
 use crate::journaled::Journaled;
@@ -14,7 +14,7 @@ pub struct TurnRule;
 
 impl<V: Journaled> TableRule<Option<V>, View<V::Fixed, V::Entry>, Snapshot<V>> for TurnRule {
     // What holds between any two steps.
-    ghost holds = { λ key. IsKept V.fixed V.journal V.allows key.value };
+    ghost holds = { λ key. IsInvariant V.fixed V.journal V.allows key.value };
 
     // What the pass of a new cell knows.
     ghost first = { λ key. first_view V.fixed V.journal key.value };

@@ -33,7 +33,7 @@ fn the_small_opening_reads(rt: HostRuntime) -> Result<(), Fail> {
     assert_eq!(rt; opening.limit, 16384);
     assert_eq!(rt; opening.channels.count(), 0);
     assert_eq!(rt; opening.anchors.len(), 0);
-    assert_eq!(rt; opening.objects.len(), 0);
+    assert_eq!(rt; opening.objects.count(), 0);
     Ok(())
 }
 
@@ -54,7 +54,7 @@ fn channels_anchors_and_objects_are_found_by_number(rt: HostRuntime) -> Result<(
     assert!(rt; opening.channels.get(4).is_none());
     let anchor = opening.anchors.first().ok_or("an anchor")?;
     assert_eq!(rt; *anchor, Anchor { key: 1000, name: 1 });
-    let twenty = opening.objects.get(&20).ok_or("object 20")?;
+    let twenty = opening.objects.get(20).ok_or("object 20")?;
     assert_eq!(rt; twenty.content.as_slice(), b"hi".as_slice());
     assert_eq!(rt; twenty.list.len(), 2);
     let first = twenty.list.first().ok_or("an entry")?;
@@ -63,10 +63,10 @@ fn channels_anchors_and_objects_are_found_by_number(rt: HostRuntime) -> Result<(
     let last = twenty.list.last().ok_or("an entry")?;
     assert_eq!(rt; last.rights, 15);
     assert!(rt; matches!(last.who, Term::Key(8)));
-    let five = opening.objects.get(&5).ok_or("object 5")?;
+    let five = opening.objects.get(5).ok_or("object 5")?;
     assert!(rt; five.content.is_empty());
     assert!(rt; five.list.is_empty());
-    assert!(rt; opening.objects.get(&6).is_none());
+    assert!(rt; opening.objects.get(6).is_none());
     Ok(())
 }
 
@@ -103,7 +103,7 @@ fn commons_and_compound_entries_are_read(rt: HostRuntime) -> Result<(), Fail> {
     for (tail, count) in cases {
         let bytes = with_tail(rt.alloc(), &SMALL[..62], &spelled(rt.alloc(), tail)?)?;
         let opening = read_opening(rt.alloc(), &bytes)?;
-        let plan = opening.objects.get(&5).ok_or("object 5")?;
+        let plan = opening.objects.get(5).ok_or("object 5")?;
         assert_eq!(rt; plan.list.len(), count, "{tail:?}");
     }
     Ok(())
@@ -119,9 +119,44 @@ fn an_opening_prints_no_key(rt: HostRuntime) -> Result<(), Fail> {
 
 #[test]
 fn a_fault_names_its_byte(rt: HostRuntime) -> Result<(), Fail> {
-    let text = format!(in rt.alloc(); "{}", OpeningFault::Byte { offset: 38 })?;
+    let text = format!(in rt.alloc(); "{}", FileFault::Byte { offset: 38 })?;
     assert_eq!(rt; text.as_str(), "byte 38: malformed");
-    let text = format!(in rt.alloc(); "{}", OpeningFault::NoMemory)?;
+    let text = format!(in rt.alloc(); "{}", FileFault::NoMemory)?;
     assert_eq!(rt; text.as_str(), "no memory");
+    let fault = FileFault::Line {
+        line: 7,
+        cause: FileCause::UnknownObject,
+    };
+    let text = format!(in rt.alloc(); "{fault}")?;
+    assert_eq!(rt; text.as_str(), "line 7: unknown object");
+    Ok(())
+}
+
+#[test]
+fn a_file_that_is_too_long_is_refused_at_no_line(rt: HostRuntime) -> Result<(), Fail> {
+    let long: Vec<u8> = vec![in rt.alloc(); 0; MAX_FILE + 1]?;
+    let fault = read_opening(rt.alloc(), &long).err().ok_or("a fault")?;
+    let wanted = FileFault::Line {
+        line: 0,
+        cause: FileCause::Limit,
+    };
+    assert_eq!(rt; fault, wanted);
+    let fault = read_opening(rt.alloc(), &long[1..]).err().ok_or("a fault")?;
+    assert_eq!(rt; fault, FileFault::Byte { offset: 1 });
+    Ok(())
+}
+
+#[test]
+fn objects_stand_by_number(rt: HostRuntime) -> Result<(), Fail> {
+    let mut bytes = with_tail(rt.alloc(), &SMALL[..62], &[0, 3])?;
+    for number in [20, 5, 9] {
+        bytes.extend_from_slice(&[0, 0, 0, number, 0, 1, number, 0])?;
+    }
+    let opening = read_opening(rt.alloc(), &bytes)?;
+    for (place, number) in [(0, 5), (1, 9), (2, 20)] {
+        let object = opening.objects.at(place).ok_or("an object")?;
+        assert_eq!(rt; object.number, number, "at {place}");
+    }
+    assert!(rt; opening.objects.at(3).is_none());
     Ok(())
 }

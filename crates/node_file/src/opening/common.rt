@@ -6,14 +6,14 @@ ghost use Rattle.prin_term.specs.Readers.{passing, is_new, items_behind};
 ghost use Rattle.prin_term.specs.Steps.{Gives};
 ghost use Rattle.stmt_codec.specs.Certificates.{certificate};
 ghost use Rattle.stmt_codec.specs.Equality.{same_certificate};
-ghost use Rattle.node_file.specs.declared.opening.OpeningFault.TheVariants.{Byte, NoMemory};
+ghost use Rattle.prin_term.specs.declared.fault.FormatFault.TheVariants.{Malformed, NoMemory};
 ghost use Rattle.node_file.specs.OpeningReading.{opened_in, common_at, commons_at};
 ghost use Rattle.node_file.specs.OpeningView.{common};
 
-use crate::opening::field::{ended, u8_count};
-use crate::opening::{MAX_COMMONS, OpeningFault};
+use crate::limits::MAX_COMMONS;
 use keyed_seal::Sealer;
-use prin_term::fields::{slice_at, u16_at};
+use prin_term::FormatFault;
+use prin_term::fields::{count_up_to, ended, slice_at, u16_at};
 use sealed_cert::{SealFault, open_with};
 use std::alloc::Global;
 use std::sync::Arc;
@@ -27,7 +27,7 @@ fn opened_of(
     at: usize,
     sealer: &Sealer,
     count: u16,
-) -> Result<(Cert, usize), OpeningFault>
+) -> Result<(Cert, usize), FormatFault>
     requires { at ≤ length bytes.now }
     ensures value { Gives NoMemory (λ x. (certificate x.0.body, x.1)) result
         (opened_in bytes.now sealer.now count at) }
@@ -36,8 +36,8 @@ fn opened_of(
     let (text, next) = slice_at(bytes, at, count as usize, ended(bytes))?;
     match open_with(alloc, sealer, text) {
         Ok(cert) => Ok((cert, next)),
-        Err(SealFault::NoMemory) => Err(OpeningFault::NoMemory),
-        Err(_) => Err(OpeningFault::Byte { offset: at }),
+        Err(SealFault::NoMemory) => Err(FormatFault::NoMemory),
+        Err(_) => Err(FormatFault::Malformed { offset: at }),
     }
 }
 
@@ -62,16 +62,16 @@ fn new_of(
     sealer: &Sealer,
     count: u16,
     before: &[Arc<Cert>],
-) -> Result<(Arc<Cert>, usize), OpeningFault>
+) -> Result<(Arc<Cert>, usize), FormatFault>
     requires { at ≤ length bytes.now }
     ensures value { Gives NoMemory (λ x. (common x.0, x.1)) result
-        (passing (λ c. is_new (same_certificate c) (map common before.now)) Byte
+        (passing (λ c. is_new (same_certificate c) (map common before.now)) Malformed
         (opened_in bytes.now sealer.now count) at) }
     ensures within { IfOk result (λ x. x.1 ≤ length bytes.now) }
 {
     let (cert, next) = opened_of(alloc, bytes, at, sealer, count)?;
     if is_among(before, &cert) {
-        return Err(OpeningFault::Byte { offset: at });
+        return Err(FormatFault::Malformed { offset: at });
     }
     Ok((Arc::new(alloc, cert)?, next))
 }
@@ -84,7 +84,7 @@ fn common_of(
     at: usize,
     sealer: &Sealer,
     before: &[Arc<Cert>],
-) -> Result<(Arc<Cert>, usize), OpeningFault>
+) -> Result<(Arc<Cert>, usize), FormatFault>
     requires { at ≤ length bytes.now }
     ensures value { Gives NoMemory (λ x. (common x.0, x.1)) result
         (common_at bytes.now sealer.now (map common before.now) at) }
@@ -101,7 +101,7 @@ fn certs_of(
     at: usize,
     sealer: &Sealer,
     count: u8,
-) -> Result<(Vec<Arc<Cert>>, usize), OpeningFault>
+) -> Result<(Vec<Arc<Cert>>, usize), FormatFault>
     requires { at ≤ length bytes.now }
     ensures value { Gives NoMemory (λ x. (map common x.0.items, x.1)) result
         (items_behind (common_at bytes.now sealer.now) count [] at) }
@@ -123,12 +123,12 @@ pub(super) fn commons_of(
     bytes: &[u8],
     at: usize,
     relay_key: &[u8; 32],
-) -> Result<(Vec<Arc<Cert>>, usize), OpeningFault>
+) -> Result<(Vec<Arc<Cert>>, usize), FormatFault>
     requires { at ≤ length bytes.now }
     ensures value { Gives NoMemory (λ x. (map common x.0.items, x.1)) result
         (commons_at bytes.now relay_key.now at) }
     ensures within { IfOk result (λ x. x.1 ≤ length bytes.now) }
 {
-    let (count, next) = u8_count(bytes, at, MAX_COMMONS)?;
+    let (count, next) = count_up_to(bytes, at, MAX_COMMONS)?;
     certs_of(alloc, bytes, next, &Sealer::of(relay_key), count)
 }

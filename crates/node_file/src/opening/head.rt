@@ -2,12 +2,13 @@
 
 ghost use Rattle.std.specs.Prelude.{◌≡◌, ◌≤◌, length, IfOk};
 ghost use Rattle.prin_term.specs.Steps.{Gives};
-ghost use Rattle.node_file.specs.declared.opening.OpeningFault.TheVariants.{NoMemory};
+ghost use Rattle.prin_term.specs.declared.fault.FormatFault.TheVariants.{NoMemory};
 ghost use Rattle.node_file.specs.OpeningReading.{mark_at, shards_at, head_at};
 
-use crate::opening::field::{ended, exactly, number_of};
-use crate::opening::{MAX_KEEP, MAX_LIMIT, MAX_SHARDS, OpeningFault};
-use prin_term::fields::{array_at, u32_at};
+use crate::limits::{MAX_KEEP, MAX_LIMIT, MAX_SHARDS};
+use crate::opening::field::{exactly, number_of};
+use prin_term::FormatFault;
+use prin_term::fields::{array_at, ended, u32_at};
 
 // The fields before the lists.
 #[derive(Clone, Copy)]
@@ -20,7 +21,7 @@ pub(super) struct Head {
 }
 
 #[tactic(auto, unfolding(crate::specs::OpeningReading::mark_at))]
-fn mark_of(bytes: &[u8], at: usize) -> Result<usize, OpeningFault>
+fn mark_of(bytes: &[u8], at: usize) -> Result<usize, FormatFault>
     requires { at ≤ length bytes.now }
     ensures value { Gives NoMemory (λ end. ((0, 1), end)) result (mark_at bytes.now at) }
     ensures within { IfOk result (λ end. end ≤ length bytes.now) }
@@ -30,7 +31,7 @@ fn mark_of(bytes: &[u8], at: usize) -> Result<usize, OpeningFault>
 }
 
 #[tactic(auto, unfolding(crate::specs::OpeningReading::shards_at))]
-fn shards_of(bytes: &[u8], at: usize) -> Result<(u32, usize), OpeningFault>
+fn shards_of(bytes: &[u8], at: usize) -> Result<(u32, usize), FormatFault>
     requires { at ≤ length bytes.now }
     ensures value { result ≡ shards_at bytes.now at }
     ensures within { IfOk result (λ x. x.1 ≤ length bytes.now) }
@@ -39,12 +40,12 @@ fn shards_of(bytes: &[u8], at: usize) -> Result<(u32, usize), OpeningFault>
     if 1 <= shards && shards <= MAX_SHARDS {
         Ok((shards, next))
     } else {
-        Err(OpeningFault::Byte { offset: at })
+        Err(FormatFault::Malformed { offset: at })
     }
 }
 
 #[tactic(auto, unfolding(crate::specs::OpeningReading::head_at))]
-pub(super) fn head_of(bytes: &[u8], at: usize) -> Result<(Head, usize), OpeningFault>
+pub(super) fn head_of(bytes: &[u8], at: usize) -> Result<(Head, usize), FormatFault>
     requires { at ≤ length bytes.now }
     ensures value { Gives NoMemory (λ x. x) result (head_at bytes.now at) }
     ensures within { IfOk result (λ x. x.1 ≤ length bytes.now) }

@@ -1,23 +1,29 @@
-//! Reading a node's opening from its binary form.
+//! Reading a node's opening from a file.
 
 ghost use Rattle.std.specs.Prelude.{◌≡◌, ◌≤◌, length, nat_le, IfOk, MatchResult};
-ghost use Rattle.node_file.specs.declared.opening.OpeningFault.TheVariants.{NoMemory};
+ghost use Rattle.node_file.specs.declared.fault.FileFault.TheVariants.{NoMemory};
+ghost use Rattle.node_file.specs.declared.limits.TheConstants.{MAX_FILE};
 ghost use Rattle.node_file.specs.Meaning.{opening, FitsByNumber};
 ghost use Rattle.node_file.specs.Opening.{Opening as Meaning, Spells, journal_room};
-ghost use Rattle.node_file.specs.OpeningReading.{fields_at, opening_of};
-ghost use Rattle.node_file.specs.OpeningView.{Agrees, Represents, WithEnd};
+ghost use Rattle.node_file.specs.OpeningReading.{at_byte, fields_at, opening_in, opening_of};
+ghost use Rattle.node_file.specs.OpeningView.{Agrees, IsReadAs, Represents, WithEnd};
+ghost use Rattle.prin_term.specs.Steps.{with_fault};
 
+use crate::fault::{FileCause, FileFault};
+use crate::limits::{MAX_FILE, MAX_ROOM};
+use crate::opening::Opening;
 use crate::opening::common::commons_of;
-use crate::opening::field::ended;
 use crate::opening::head::head_of;
 use crate::opening::object::objects_of;
 use crate::opening::table::{anchors_of, channels_of};
-use crate::opening::{MAX_ROOM, Opening, OpeningFault};
+use prin_term::FormatFault;
+use prin_term::fields::ended;
+use prin_text::Names;
 use std::alloc::Global;
 
-// All fields, and the offset after them.
+// All fields, and the offset after them. The binary form has no texts.
 #[tactic(auto, unfolding(crate::specs::OpeningReading::fields_at))]
-fn fields_of(alloc: Global, bytes: &[u8]) -> Result<(Opening, usize), OpeningFault>
+fn fields_of(alloc: Global, bytes: &[u8]) -> Result<(Opening, usize), FormatFault>
     ensures value { Agrees (WithEnd Represents) result (fields_at bytes.now 0) }
     ensures within { IfOk result (λ x. x.1 ≤ length bytes.now) }
 {
@@ -26,6 +32,7 @@ fn fields_of(alloc: Global, bytes: &[u8]) -> Result<(Opening, usize), OpeningFau
     let (anchors, next) = anchors_of(alloc, bytes, next)?;
     let (commons, next) = commons_of(alloc, bytes, next, &head.relay_key)?;
     let (objects, next) = objects_of(alloc, bytes, next)?;
+    let names = Names::new(alloc)?;
     let relay_key = head.relay_key;
     let opening = Opening {
         node: head.node,
@@ -33,6 +40,7 @@ fn fields_of(alloc: Global, bytes: &[u8]) -> Result<(Opening, usize), OpeningFau
         shards: head.shards,
         keep: head.keep,
         limit: head.limit,
+        names,
         channels,
         anchors,
         commons,
@@ -45,20 +53,20 @@ fn fields_of(alloc: Global, bytes: &[u8]) -> Result<(Opening, usize), OpeningFau
 fn has_room(opening: &Opening) -> bool
     ensures { (o : Meaning) → Represents opening.now o → result ≡ nat_le (journal_room o) MAX_ROOM }
 {
-    let journals = opening.shards as u64 + opening.objects.len() as u64;
-    match journals.checked_mul(opening.limit) {
-        Some(room) => room <= MAX_ROOM,
+    let journals = opening.shards as u128 + opening.objects.count() as u128;
+    match journals.checked_mul(opening.limit as u128) {
+        Some(room) => room <= MAX_ROOM as u128,
         None => false,
     }
 }
 
 #[tactic(auto, unfolding(crate::specs::OpeningReading::opening_of))]
-fn all_of(alloc: Global, bytes: &[u8]) -> Result<Opening, OpeningFault>
+fn all_of(alloc: Global, bytes: &[u8]) -> Result<Opening, FormatFault>
     ensures { Agrees Represents result (opening_of bytes.now) }
 {
     let (opening, end) = fields_of(alloc, bytes)?;
     if end < bytes.len() {
-        Err(OpeningFault::Byte { offset: end })
+        Err(FormatFault::Malformed { offset: end })
     } else if has_room(&opening) {
         Ok(opening)
     } else {
@@ -66,18 +74,38 @@ fn all_of(alloc: Global, bytes: &[u8]) -> Result<Opening, OpeningFault>
     }
 }
 
-/// The opening that all of the bytes spell in its binary form. Memory is taken for what the
-/// opening holds; where it is refused, the fault is `NoMemory`.
-pub fn read_opening(alloc: Global, bytes: &[u8]) -> Result<Opening, OpeningFault>
+// The opening that the bytes spell, or the place in the file of the first that can't stand there.
+fn binary_of(alloc: Global, bytes: &[u8]) -> Result<Opening, FileFault>
+    requires { length bytes.now ≤ MAX_FILE }
+    ensures { IsReadAs result (with_fault at_byte (opening_of bytes.now)) }
+{
+    match all_of(alloc, bytes) {
+        Ok(opening) => Ok(opening),
+        Err(FormatFault::NoMemory) => Err(FileFault::NoMemory),
+        Err(FormatFault::Malformed { offset }) => Err(FileFault::Byte {
+            offset: offset as u32,
+        }),
+    }
+}
+
+/// The opening of a file in its binary form. Memory is taken for what the opening holds; where it
+/// is refused, the fault is `NoMemory`.
+pub fn read_opening(alloc: Global, bytes: &[u8]) -> Result<Opening, FileFault>
     // What is read is spelled so.
     ensures found { IfOk result (λ x. (o : Meaning) × Spells o bytes.now × Represents x o) }
     // What is spelled so is read, unless memory runs out.
-    ensures only { (o : Meaning) → Spells o bytes.now
+    ensures only { (o : Meaning) → Spells o bytes.now → length bytes.now ≤ MAX_FILE
         → MatchResult result (λ x. Represents x o) (λ f. f ≡ NoMemory) }
     // What is looked up in what is read is within the limits.
     ensures fits { IfOk result (λ x. FitsByNumber (opening x)) }
     // Which fault it is.
-    ensures exact { Agrees Represents result (opening_of bytes.now) }
+    ensures exact { IsReadAs result (opening_in bytes.now) }
 {
-    all_of(alloc, bytes)
+    if bytes.len() > MAX_FILE {
+        return Err(FileFault::Line {
+            line: 0,
+            cause: FileCause::Limit,
+        });
+    }
+    binary_of(alloc, bytes)
 }

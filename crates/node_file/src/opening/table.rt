@@ -1,34 +1,34 @@
 //! The channels and the anchors of an opening.
 
-ghost use Rattle.std.specs.Prelude.{◌≡◌, ◌≤◌, ℕ, List, [], length, IfOk, None};
-ghost use Rattle.keyed_seal.specs.Keys.{key_of};
+ghost use Rattle.std.specs.Prelude.{◌≡◌, ◌≤◌, [], length, IfOk, None};
+ghost use Rattle.keyed_seal.specs.Keys.{Entries, key_of};
 ghost use Rattle.prin_term.specs.Steps.{Gives};
-ghost use Rattle.node_file.specs.declared.opening.OpeningFault.TheVariants.{NoMemory};
+ghost use Rattle.prin_term.specs.declared.fault.FormatFault.TheVariants.{NoMemory};
 ghost use Rattle.node_file.specs.OpeningReading.{new_channel_at, channel_at, channels_at};
 ghost use Rattle.node_file.specs.OpeningReading.{anchor_at, anchors_at};
-ghost use Rattle.node_file.specs.OpeningView.{Agrees, HoldsKeys, WithEnd};
+ghost use Rattle.node_file.specs.OpeningView.{Agrees, WithEnd};
+ghost use Rattle.node_file.specs.Held.{HoldsKeys};
 ghost use Rattle.prin_term.specs.Readers.{items_behind};
 
-use crate::opening::field::{ended, u8_count, u16_count};
-use crate::opening::{MAX_ANCHORS, MAX_CHANNELS, OpeningFault};
+use crate::limits::{MAX_ANCHORS, MAX_CHANNELS};
 use keyed_seal::KeyTable;
-use prin_term::Anchor;
-use prin_term::fields::{array_at, u32_at};
+use prin_term::fields::{array_at, count_up_to, ended, length_up_to, u32_at};
+use prin_term::{Anchor, FormatFault};
 use std::alloc::Global;
 use std::sync::Arc;
 
 // The number of a channel that is not there yet.
 #[tactic(auto, unfolding(crate::specs::OpeningReading::new_channel_at))]
-fn number_of(bytes: &[u8], at: usize, table: &KeyTable) -> Result<(u32, usize), OpeningFault>
+fn number_of(bytes: &[u8], at: usize, table: &KeyTable) -> Result<(u32, usize), FormatFault>
     requires { at ≤ length bytes.now }
-    ensures value { (before : List (ℕ × List ℕ)) → HoldsKeys table.now before
+    ensures value { (before : Entries) → HoldsKeys table.now before
         → result ≡ new_channel_at bytes.now before at }
     ensures is_new { IfOk result (λ x. key_of table.now.entries x.0 ≡ None) }
     ensures within { IfOk result (λ x. x.1 ≤ length bytes.now) }
 {
     let (number, next) = u32_at(bytes, at, ended(bytes))?;
     if table.get(number).is_some() {
-        return Err(OpeningFault::Byte { offset: at });
+        return Err(FormatFault::Malformed { offset: at });
     }
     Ok((number, next))
 }
@@ -39,9 +39,9 @@ fn channel_of(
     bytes: &[u8],
     at: usize,
     table: &KeyTable,
-) -> Result<(u32, [u8; 32], usize), OpeningFault>
+) -> Result<(u32, [u8; 32], usize), FormatFault>
     requires { at ≤ length bytes.now }
-    ensures value { (before : List (ℕ × List ℕ)) → HoldsKeys table.now before
+    ensures value { (before : Entries) → HoldsKeys table.now before
         → Gives NoMemory (λ x. ((x.0, x.1), x.2)) result (channel_at bytes.now before at) }
     ensures is_new { IfOk result (λ x. key_of table.now.entries x.0 ≡ None) }
     ensures within { IfOk result (λ x. x.2 ≤ length bytes.now) }
@@ -57,7 +57,7 @@ fn keys_of(
     bytes: &[u8],
     at: usize,
     count: u16,
-) -> Result<(KeyTable, usize), OpeningFault>
+) -> Result<(KeyTable, usize), FormatFault>
     requires { at ≤ length bytes.now }
     ensures value { Agrees (WithEnd HoldsKeys) result
         (items_behind (channel_at bytes.now) count [] at) }
@@ -78,18 +78,18 @@ pub(super) fn channels_of(
     alloc: Global,
     bytes: &[u8],
     at: usize,
-) -> Result<(KeyTable, usize), OpeningFault>
+) -> Result<(KeyTable, usize), FormatFault>
     requires { at ≤ length bytes.now }
     ensures value { Agrees (WithEnd HoldsKeys) result (channels_at bytes.now at) }
     ensures within { IfOk result (λ x. x.1 ≤ length bytes.now) }
 {
-    let (count, next) = u16_count(bytes, at, MAX_CHANNELS)?;
+    let (count, next) = length_up_to(bytes, at, MAX_CHANNELS)?;
     keys_of(alloc, bytes, next, count)
 }
 
 // An anchor that is not among those before.
 #[tactic(auto, unfolding(crate::specs::OpeningReading::anchor_at))]
-fn anchor_of(bytes: &[u8], at: usize, before: &[Anchor]) -> Result<(Anchor, usize), OpeningFault>
+fn anchor_of(bytes: &[u8], at: usize, before: &[Anchor]) -> Result<(Anchor, usize), FormatFault>
     requires { at ≤ length bytes.now }
     ensures value { result ≡ anchor_at bytes.now before.now at }
     ensures within { IfOk result (λ x. x.1 ≤ length bytes.now) }
@@ -98,7 +98,7 @@ fn anchor_of(bytes: &[u8], at: usize, before: &[Anchor]) -> Result<(Anchor, usiz
     let (name, next) = u32_at(bytes, next, ended(bytes))?;
     let anchor = Anchor { key, name };
     if before.contains(&anchor) {
-        Err(OpeningFault::Byte { offset: at })
+        Err(FormatFault::Malformed { offset: at })
     } else {
         Ok((anchor, next))
     }
@@ -110,7 +110,7 @@ fn names_of(
     bytes: &[u8],
     at: usize,
     count: u8,
-) -> Result<(Vec<Anchor>, usize), OpeningFault>
+) -> Result<(Vec<Anchor>, usize), FormatFault>
     requires { at ≤ length bytes.now }
     ensures value { Gives NoMemory (λ x. (x.0.items, x.1)) result
         (items_behind (anchor_at bytes.now) count [] at) }
@@ -131,13 +131,13 @@ pub(super) fn anchors_of(
     alloc: Global,
     bytes: &[u8],
     at: usize,
-) -> Result<(Arc<Vec<Anchor>>, usize), OpeningFault>
+) -> Result<(Arc<Vec<Anchor>>, usize), FormatFault>
     requires { at ≤ length bytes.now }
     ensures value { Gives NoMemory (λ x. (x.0.value.items, x.1)) result
         (anchors_at bytes.now at) }
     ensures within { IfOk result (λ x. x.1 ≤ length bytes.now) }
 {
-    let (count, next) = u8_count(bytes, at, MAX_ANCHORS)?;
+    let (count, next) = count_up_to(bytes, at, MAX_ANCHORS)?;
     let (anchors, next) = names_of(alloc, bytes, next, count)?;
     Ok((Arc::new(alloc, anchors)?, next))
 }

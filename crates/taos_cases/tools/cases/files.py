@@ -10,13 +10,48 @@ YEAR, LONGEST_JOURNAL = 31_536_000, 1_048_576
 WORDS = [
     ("no words", [], "The command lacks."),
     ("another word", ["go"], "There is no such command."),
-    ("two words", ["run", "run"], "A command is one word."),
+    ("two words", ["run", "run"], "A command has options alone."),
     ("a longer word", ["runs"], "There is no such command."),
     ("a shorter word", ["ru"], "There is no such command."),
     ("another case of a letter", ["Run"], "There is no such command."),
-    ("run and check", ["run", "check"], "A command is one word."),
-    ("check and run", ["check", "run"], "A command is one word."),
+    ("run and check", ["run", "check"], "A command has options alone."),
+    ("check and run", ["check", "run"], "A command has options alone."),
     ("a longer check", ["checks"], "There is no such command."),
+    ("no frames", ["run", "--frames", "0"], "A number of frames is 1 at least."),
+    ("no frames, in one word", ["run", "--frames=0"], "A number of frames is 1 at least."),
+    ("frames of no number", ["run", "--frames"], "The option's value lacks."),
+    ("frames of an empty number", ["run", "--frames="], "The option's value is empty."),
+    ("frames of a letter", ["run", "--frames", "x"], "A number is of digits."),
+    ("frames below zero", ["run", "--frames", "-1"], "No value begins with a dash."),
+    ("frames below zero, in one word", ["run", "--frames=-1"], "No value begins with a dash."),
+    ("frames with a plus", ["run", "--frames=+1"], "A number has no sign."),
+    ("frames with a zero in front", ["run", "--frames", "01"], "A number has no zero in front."),
+    ("2^64 frames", ["run", "--frames", str(2**64)], "The largest number is one less."),
+    ("frames twice", ["run", "--frames=2", "--frames", "2"], "An option is given once."),
+    ("frames twice, each in one word", ["run", "--frames=2", "--frames=2"], "An option is given once."),
+    ("frames twice, each in two words", ["run", "--frames", "2", "--frames", "2"], "An option is given once."),
+    ("frames of an option", ["run", "--frames", "--frames=2"], "No value begins with a dash."),
+    ("a word behind the frames", ["run", "--frames", "2", "3"], "The option has one value."),
+    ("a word before the frames", ["run", "2", "--frames", "2"], "A command has options alone."),
+    ("frames before the command", ["--frames", "2", "run"], "The command comes first."),
+    ("frames before the command, in one word", ["--frames=2", "run"], "The command comes first."),
+    ("frames for a check", ["check", "--frames"], "The command has no option."),
+    ("frames for a check, in one word", ["check", "--frames=2"], "The command has no option."),
+    ("frames for a check, in two words", ["check", "--frames", "2"], "The command has no option."),
+    ("a shorter option", ["run", "--frame", "2"], "There is no such option."),
+    ("a longer option", ["run", "--framess", "2"], "There is no such option."),
+    ("an option of one dash", ["run", "-frames", "2"], "There is no such option."),
+    ("an option of one letter", ["run", "-f", "2"], "There is no such option."),
+    ("another option", ["run", "--help"], "There is no such option of a command."),
+    ("two dashes", ["--"], "They are no word of the table."),
+    ("two dashes behind run", ["run", "--"], "They are no word of the table."),
+    ("two dashes before run", ["--", "run"], "They are no word of the table."),
+    ("two dashes behind check", ["check", "--"], "They are no word of the table."),
+    ("two dashes behind the frames", ["run", "--frames", "2", "--"], "They are no word of the table."),
+    ("two dashes for a number", ["run", "--frames", "--"], "They are no word of the table."),
+    ("one dash", ["run", "-"], "A command has options alone."),
+    ("help", ["help"], "There is no such command."),
+    ("help of run", ["help", "run"], "There is no such command."),
 ]
 
 
@@ -30,6 +65,35 @@ def words():
     cases += [usage("another word, and frames", ["runs"], "Nothing of the input is taken.", file=node(),
                     input=[ask(1, 1)], left=[ask(1, 1)])]
     cases += [Case("run alone", "A command.", file=SMALL)]
+    cases += [Case(f"frames: {' '.join(line)}", "A command, with the most frames that it may have or fewer.", words=line,
+                   file=SMALL) for line in TAKEN]
+    return cases + frames()
+
+
+TAKEN = [
+    ["run", "--frames", "1"],
+    ["run", "--frames=1"],
+    ["run", "--frames", "1000001"],
+    ["run", f"--frames={2**64 - 1}"],
+]
+
+
+def frames():
+    """The anchored read's frame, once and more often than it is answered."""
+    one, behind_one = [ask(1, 1)], [Fields(bytes(ask(1, 1))[1:])]
+    cases = []
+    for line in (["run", "--frames", "1"], ["run", "--frames=1"]):
+        given = f", by {' '.join(line[1:])}"
+        cases += [Case(f"one frame of one{given}", "It is answered, and nothing is behind it.", words=line, file=node(),
+                       input=one, output=[by_anchor(1)])]
+        cases += [Case(f"one frame of two{given}", "One byte more is there, and is taken.", 10, line, file=node(),
+                       input=one + one, output=[by_anchor(1)], left=behind_one, note="taos: frames spent: 1")]
+    cases += [Case("two frames of three", "The third frame is cut: its first byte tells that it is there.", 10,
+                   ["run", "--frames=2"], file=node(), input=[ask(1, 1), ask(1, 2), Fields(b"\0\0")],
+                   output=[by_anchor(1), by_anchor(2, place=1)], left=[Fields(b"\0")],
+                   note="taos: frames spent: 2")]
+    cases += [Case("two frames of two", "Both are answered.", words=["run", "--frames", "2"], file=node(),
+                   input=[ask(1, 1), ask(1, 2)], output=[by_anchor(1), by_anchor(2, place=1)])]
     return cases
 
 

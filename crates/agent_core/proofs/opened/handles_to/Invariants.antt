@@ -1,5 +1,5 @@
 use Rattle.std.proofs.Common.{◌≡◌, take}
-use Rattle.agent_core.specs.Views.{certificates}
+use Rattle.stmt_codec.specs.View.{certificates}
 use Rattle.agent_core.proofs.opened.handles_to.Given as goal
 
 abbrev pub invariant-loop-place : goal.invariant-loop-place

@@ -1,6 +1,6 @@
 -- what is opened is within the limits, and so is a part of its channels
 use Rattle.std.proofs.Common.{ap, refl}
-use Rattle.agent_core.specs.Views.{certificates}
+use Rattle.stmt_codec.specs.View.{certificates}
 use Rattle.agent_core.proofs.AllShards.{sound_plan}
 use Rattle.agent_core.proofs.opened.open_shard.Goals as goal
 

@@ -1,8 +1,8 @@
 -- one more shard was opened, and at last all
 use Rattle.std.proofs.Common.{◌≡◌, ap, ◌∙◌, map, arith}
 use Rattle.std.specs.List.{range_with_len}
+use Rattle.stmt_codec.specs.View.{certificates}
 use Rattle.agent_core.specs.Opened.{plan_for, new_shard}
-use Rattle.agent_core.specs.Views.{certificates}
 use Rattle.agent_core.proofs.AllShards.{opened_more, whole_node}
 use Rattle.agent_core.proofs.opened.open_shards.Goals as goal
 

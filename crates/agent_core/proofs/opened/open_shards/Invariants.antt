@@ -1,7 +1,7 @@
 use Rattle.std.proofs.Common.{◌≡◌, map}
 use Rattle.std.specs.List.{range_with_len}
+use Rattle.stmt_codec.specs.View.{certificates}
 use Rattle.agent_core.specs.Opened.{plan_for, new_shard}
-use Rattle.agent_core.specs.Views.{certificates}
 use Rattle.agent_core.proofs.opened.open_shards.Given as goal
 
 abbrev pub invariant-loop-number : goal.invariant-loop-number

@@ -1,8 +1,8 @@
 -- as many names as places
 use Rattle.std.proofs.Common.{sym, ap, length, List, ◌∙◌, ◌++◌, ◌∷◌, [], arith}
 use Rattle.std.proofs.lemmas.List.FromFn.{length-map-range_with_len, map-range_with_len_more}
-use Rattle.agent_core.specs.declared.name.Name.{Name}
-use Rattle.agent_core.specs.declared.name.Name.TheVariants.{Common}
+use Rattle.agent_core.specs.declared.held.name.Name.{Name}
+use Rattle.agent_core.specs.declared.held.name.Name.TheVariants.{Common}
 use Rattle.agent_core.proofs.shard.names_of.Goals as goal
 
 pub push-requires : goal.push-requires

@@ -1,11 +1,12 @@
 -- the Ask's step, and what it came to, make the whole
 use Rattle.std.proofs.Common.{List, length, replicate, map, true, sym, ap, subst, inl, refl}
 use Rattle.prin_term.specs.View.{grant, principal}
+use Rattle.stmt_codec.specs.View.{certificates}
 use Rattle.taos_calculus.specs.Question.{IsAskable}
 use Rattle.agent_core.specs.declared.event.Ask.{Ask as AskValue}
 use Rattle.agent_core.specs.Plans.{AreShards, home}
 use Rattle.agent_core.specs.State.{Plan}
-use Rattle.agent_core.specs.Views.{ask_of, certificates}
+use Rattle.agent_core.specs.Views.{ask_of}
 use Rattle.agent_core.proofs.Asks.{on_err, refused_asks, missed_step, replayed_ends, full_ends, journal_full_ends, hit_never, other_never, judged_by, settled_asks, unanswered_asks, ends_made, standing, askable, anchors_are}
 use Rattle.agent_core.proofs.Places.{certificate_count}
 use Rattle.agent_core.proofs.whole_ask.ask_taken_in.Goals as goal

@@ -6,7 +6,7 @@ use Rattle.frame_link.specs.declared.frame.Next.TheVariants as next
 use Rattle.frame_link.specs.declared.frame.Put.TheVariants as put
 use Rattle.frame_link.specs.declared.service.TheConstants.{MAX_PAYLOAD}
 use Rattle.frame_link.specs.Frames.{frame}
-use Rattle.frame_link.specs.Next.{Takes, Puts}
+use Rattle.frame_link.specs.Next.{TakesFrame, Puts}
 use Rattle.frame_link.specs.declared.outcome.Outcome.TheVariants.{End}
 use Rattle.frame_link.specs.Served.{Line, line, IsServed}
 use Rattle.frame_link.proofs.Turns.{Progress, started, goes_on}
@@ -14,8 +14,8 @@ use Rattle.frame_link.proofs.Ends.{at_end, truncated, above, unread, spent, cut,
 use Rattle.frame_link.proofs.serving.answer_frames.Goals as goal
 
 -- the buffer's limit is a service's
-within_limit : (k : ℕ) (before after : Option (List ℕ)) (payload : List ℕ) (other : Next) → k ≡ MAX_PAYLOAD → Takes k before after payload other → Takes MAX_PAYLOAD before after payload other
-within_limit k before after payload other is came = subst (λ (n : ℕ). Takes n before after payload other) is came
+within_limit : (k : ℕ) (before after : Option (List ℕ)) (payload : List ℕ) (other : Next) → k ≡ MAX_PAYLOAD → TakesFrame k before after payload other → TakesFrame MAX_PAYLOAD before after payload other
+within_limit k before after payload other is came = subst (λ (n : ℕ). TakesFrame n before after payload other) is came
 
 progress_at : {S : Type 0} (answers : S → List ℕ → List ℕ → S → Type 0) (m n : ℕ) (l0 l1 : Line S) → m ≡ n → Progress answers m l0 l1 → Progress answers n l0 l1
 progress_at answers m n l0 l1 is p = subst (λ (k : ℕ). Progress answers k l0 l1) is p

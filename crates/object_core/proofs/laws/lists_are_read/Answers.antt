@@ -1,7 +1,11 @@
 use Rattle.prin_term.proofs.FieldLaws.{bytes_are}
+use Rattle.object_core.proofs.ListPlaces.{list_stays}
 use Rattle.object_core.proofs.ListReaders.{list_takes, list_again}
 use Rattle.object_core.proofs.laws.lists_are_read.Goals as goal
 
-pub returns : goal.returns
-returns c = λ bytes list at end le all.
+pub returns-clause-read : goal.returns-clause-read
+returns-clause-read c = λ bytes list at end le all.
     (λ e. list_takes bytes (bytes_are bytes all) list at end le e, λ is. list_again bytes list at end is.0 is.1)
+
+pub returns-clause-refused : goal.returns-clause-refused
+returns-clause-refused c = λ bytes at f le all e. (list_stays bytes (bytes_are bytes all)).refuses at f le e

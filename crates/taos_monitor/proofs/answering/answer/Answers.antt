@@ -7,21 +7,21 @@ use Rattle.taos_monitor.proofs.Courses.{unasked_to, answers_as}
 use Rattle.taos_monitor.proofs.answering.answer.Goals as goal
 
 pub request-requires-clause-limits : goal.request-requires-clause-limits
-request-requires-clause-limits g c = λ lifetimes lives. (c.in-Ok.ensures.asked.asked [] []).spelled.limits
+request-requires-clause-limits g c = λ lifetimes lives. c.in-Ok.ensures.asked.asked.spelled.limits
 
 pub request-requires-clause-short : goal.request-requires-clause-short
-request-requires-clause-short g c = λ lifetimes lives. texts_short (request_of c.in-Ok.asked) c.args.payload.now (c.in-Ok.ensures.asked.asked [] []).spelled c.requires.short
+request-requires-clause-short g c = λ lifetimes lives. texts_short (request_of c.in-Ok.asked) c.args.payload.now c.in-Ok.ensures.asked.asked.spelled c.requires.short
 
 pub request-requires-clause-keyed : goal.request-requires-clause-keyed
-request-requires-clause-keyed g c = λ lifetimes lives. subst IsSome (sym (c.in-Ok.ensures.asked.asked [] []).keyed) refl
+request-requires-clause-keyed g c = λ lifetimes lives. subst IsSome (sym c.in-Ok.ensures.asked.asked.keyed) refl
 
 pub request-requires-clause-planned : goal.request-requires-clause-planned
-request-requires-clause-planned g c = λ lifetimes lives plan at. c.requires.planned c.in-Ok.asked.channel plan (subst IsSome (sym (c.in-Ok.ensures.asked.asked [] []).keyed) refl) at
+request-requires-clause-planned g c = λ lifetimes lives plan at. c.requires.planned c.in-Ok.asked.channel plan (subst IsSome (sym c.in-Ok.ensures.asked.asked.keyed) refl) at
 
 pub returns-in-Ok-clause-answered : goal.returns-in-Ok-clause-answered
 returns-in-Ok-clause-answered g c =
     let by = c.in-Ok.ensures.asked in
-    answers_as _ _ _ (request_of c.in-Ok.asked) c.args.payload.now by.key c.request.new.out (by.asked (g.S.Shards.plans c.args.shards.now) (g.H.Shelf.objects c.args.shelf.now)) c.request.result c.request.ensures.handled
+    answers_as _ _ _ (request_of c.in-Ok.asked) c.args.payload.now by.key c.request.new.out by.asked c.request.result c.request.ensures.handled
 
 pub returns-in-Err-clause-answered : goal.returns-in-Err-clause-answered
 returns-in-Err-clause-answered g c =

@@ -23,5 +23,5 @@ returns-then-not-sealed_with-clause-refused c = λ plans objects J.
 pub returns-clause-asked : goal.returns-clause-asked
 returns-clause-asked c = record {
   key = c.in-Some.sealer.now;
-  asked = λ plans objects. record { spelled = c.in-Ok.ensures.found; keyed = sym c.in-Some.ensures; seal = c.sealed_with.ensures.0 c.if-not-sealed_with.false };
+  asked = record { spelled = c.in-Ok.ensures.found; keyed = sym c.in-Some.ensures; seal = c.sealed_with.ensures.0 c.if-not-sealed_with.false };
 }

@@ -52,9 +52,9 @@ returns-in_default-clause-refused g c =
           unknown_object (record { taken = record { asked = asked; built = is_built r c.is_unbuilt.result c.is_unbuilt.ensures.1 c.if-is_unbuilt.false }; opened = came.opened }) c.in_default.ensures.found;
     }
 
-pub returns-in_err-subject_of-clause-refused : goal.returns-in_err-subject_of-clause-refused
-returns-in_err-subject_of-clause-refused g c =
-    let p = err_from_is_err_and c.from_residual-in_err-subject_of.result c.from_residual-in_err-subject_of.ensures.1 in
+pub returns-in_err-speaker_of-clause-refused : goal.returns-in_err-speaker_of-clause-refused
+returns-in_err-speaker_of-clause-refused g c =
+    let p = err_from_is_err_and c.from_residual-in_err-speaker_of.result c.from_residual-in_err-speaker_of.ensures.1 in
     let says = g.R.RelayLink.says c.args.relay.now in
     let r = request c.args.asked.now in
     let came = subst (λ (l : List (Vec ℕ Global)). AllCome c.args.keys.now.relay_key
@@ -83,7 +83,7 @@ returns-clause-arrived g c =
         there = c.in-Some.ensures.found;
       };
       stands = record {
-        subject = c.in_ok-subject_of.ensures;
+        subject = c.in_ok-speaker_of.ensures;
         right = c.right_of.ensures ∙ ap (λ x. right_of (operation x)) c.deref-2.ensures;
         few_certs = omega (arith, c.requires.limits.few_certs, opened_count c.args.keys.now.relay_key r.certs came.calls (map shared c.in_ok-certs.certs.items) came.opened, length-map c.in_ok-certs.certs.items shared);
         content = c.in-Some.ensures.fits.0;

@@ -17,7 +17,7 @@ use Rattle.taos_wire.specs.Reply.{FitsLink, LinkSent, Reply}
 use Rattle.taos_wire.specs.View.{link}
 use Rattle.agent_core.specs.declared.asked.Denial.{Denial}
 use Rattle.taos_monitor.specs.Arriving.{object_seen}
-use Rattle.taos_monitor.specs.Course.{Tells}
+use Rattle.taos_monitor.specs.Course.{TellsDenial}
 use Rattle.taos_monitor.specs.Ruling.{HasPart}
 use Rattle.taos_monitor.proofs.Parts.{part_fits}
 use Rattle.taos_monitor.proofs.ruling.leave_denied.Goals.{in-Expired, in-NoEntry}
@@ -46,7 +46,7 @@ returns-in-Missing c =
     let named = principal c.unwrap-part.result.now in
     record {
       reply = replies.Denied c.args.shard c.args.place (replies.Missing c.in-Missing.entry named);
-      holds = subst (λ (d : Denial). (told : LinkSent) × Tells list d told × (replies.Denied c.args.shard c.args.place (replies.Missing c.in-Missing.entry named) ≡ replies.Denied c.args.shard c.args.place told)) (sym c.in-Missing.is)
+      holds = subst (λ (d : Denial). (told : LinkSent) × TellsDenial list d told × (replies.Denied c.args.shard c.args.place (replies.Missing c.in-Missing.entry named) ≡ replies.Denied c.args.shard c.args.place told)) (sym c.in-Missing.is)
           (replies.Missing c.in-Missing.entry named, (grant c.index.result.now, named, is, at, refl), refl);
       spelled = c.leave_missing.ensures.reply;
       short = c.leave_missing.ensures.short;

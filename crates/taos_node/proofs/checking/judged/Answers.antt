@@ -9,7 +9,7 @@ use Rattle.taos_calculus.specs.Tables.{lines_of, named}
 use Rattle.taos_wire.specs.View.{cited}
 use Rattle.node_file.specs.Meaning.{opening}
 use Rattle.taos_node.specs.declared.finding.Finding.{Finding}
-use Rattle.taos_node.specs.Checking.{Finds, Gives, no_proof, other_conclusion, grants}
+use Rattle.taos_node.specs.Checking.{Finds, ProveByFile, no_proof, other_conclusion, grants}
 use Rattle.taos_node.proofs.Looked.{claims_are, moved_proof}
 use Rattle.taos_node.proofs.checking.judged.Goals as goal
 
@@ -37,9 +37,9 @@ returns c = λ q p r subject granted.
     let left : Principal = named nodes c.in-Ok.conclusion.left in
     let right : Principal = named nodes c.in-Ok.conclusion.right in
     let is = c.concludes.ensures.yes c.if-not-concludes.false in
-    let proves : Gives (opening c.args.node.now) q p lines certs (SpeaksFor left right) = moved_proof _ _ _ _ lines (SpeaksFor left right) (c.deref-2.ensures.value ∙ ap (λ v. v.items) c.deref.ensures) (sym (claims_are c.args.certs.now)) c.in-Ok.ensures.checked.proves in
+    let proves : ProveByFile (opening c.args.node.now) q p lines certs (SpeaksFor left right) = moved_proof _ _ _ _ lines (SpeaksFor left right) (c.deref-2.ensures.value ∙ ap (λ v. v.items) c.deref.ensures) (sym (claims_are c.args.certs.now)) c.in-Ok.ensures.checked.proves in
     subst (λ (f : Finding). Finds (opening c.args.node.now) q p f) (sym c.granted.ensures)
     (grants r c.args.place lines certs (grant c.args.entry.now) (record {
       granted = granted;
-      proves = subst (λ (x : Principal). Gives (opening c.args.node.now) q p lines certs (SpeaksFor x who)) (is.0 ∙ subject) (subst (λ (y : Principal). Gives (opening c.args.node.now) q p lines certs (SpeaksFor left y)) is.1 proves);
+      proves = subst (λ (x : Principal). ProveByFile (opening c.args.node.now) q p lines certs (SpeaksFor x who)) (is.0 ∙ subject) (subst (λ (y : Principal). ProveByFile (opening c.args.node.now) q p lines certs (SpeaksFor left y)) is.1 proves);
     }))

@@ -1,9 +1,10 @@
-use Rattle.std.proofs.Common.{refl, inl, inr}
+use Rattle.std.proofs.Common.{refl}
 use Rattle.std.proofs.KnownBytes.{Keeps-refl}
 use Rattle.frame_link.specs.Streams.{stream}
 use Rattle.taos_node.specs.Command.{touched, UsesNoLane, LeavesRest}
 use Rattle.taos_node.proofs.CheckCommands.{looked_over}
-use Rattle.taos_node.proofs.Statuses.{checked, one_command, unserved}
+use Rattle.taos_node.specs.declared.wanted.Wanted.TheVariants.{Check}
+use Rattle.taos_node.proofs.Statuses.{checked, unserved}
 use Rattle.taos_node.proofs.command.check_file.Goals as goal
 
 pub returns-in-Ok : goal.returns-in-Ok
@@ -16,7 +17,7 @@ returns-in-Ok g c = record {
       let gives = c.in-Ok.ensures.gives in
       let lane : UsesNoLane before after = record { clock = Keeps-refl clock.told; link = refl } in (
         (check, looked_over before after c.in-Ok.node gives.0 c.check_connection.result gives.1 gives.2 c.check_connection.ensures.checks lane),
-        checked words before after gives.0 c.check_connection.result check (λ run. one_command words run check) gives.1 c.in-Ok.ensures.cause refl c.check_connection.ensures.causes,
+        checked words before after gives.0 c.check_connection.result check gives.1 c.in-Ok.ensures.cause refl c.check_connection.ensures.causes,
       );
 }
 
@@ -28,7 +29,7 @@ returns-in-Err g c = record {
       let before = touched (stream (g.F.Source.left c.args.file.now) (g.F.Source.faults c.args.file.now)) input output clock relay in
       let after = touched (stream (g.F.Source.left c.file_opening.new.file) (g.F.Source.faults c.file_opening.new.file)) input output clock relay in
       let rest : LeavesRest before after = record { input = Keeps-refl input.told; output = Keeps-refl output.told; lane = record { clock = Keeps-refl clock.told; link = refl } } in (
-        (inr check, c.in-Err.ensures.gives, rest),
-        unserved words before after c.in-Err.fault (inr check) c.in-Err.ensures.gives c.in-Err.ensures.cause refl refl refl,
+        ((Check, check), c.in-Err.ensures.gives, rest),
+        unserved words before after c.in-Err.fault (Check, check) c.in-Err.ensures.gives c.in-Err.ensures.cause refl refl refl,
       );
 }

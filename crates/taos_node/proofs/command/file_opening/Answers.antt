@@ -3,7 +3,7 @@ use Rattle.std.proofs.Common.{List, ℕ, take, drop, length, arith, subst, ◌�
 use Rattle.std.proofs.lemmas.List.{length-take, take-append-le, take_all}
 use Rattle.node_file.specs.Opening.{Spells}
 use Rattle.frame_link.specs.Streams.{stream}
-use Rattle.taos_node.proofs.Commands.{file_opens}
+use Rattle.taos_node.proofs.Commands.{file_opens, never_line}
 use Rattle.taos_node.proofs.command.file_opening.Goals as goal
 
 pub returns-in-Ok-read_opening-clause-gives : goal.returns-in-Ok-read_opening-clause-gives
@@ -22,3 +22,10 @@ returns-in-Ok-read_opening-clause-gives g c =
           (omega (arith, length-take c.in-Ok.len c.fill.new.room)),
       found.2,
     )
+
+-- a file that is short enough is refused at a byte
+pub returns-clause-gives : goal.returns-clause-gives
+returns-clause-gives g c =
+    let bytes : List ℕ = take c.in-Ok.len c.deref.result.now in
+    absurd (never_line bytes c.in-Err-Line.field-0 c.in-Err-Line.field-0-0 c.in-Err-Line.field-0-1 c.in-Err-Line.field-0-is
+    (omega (arith, length-take c.in-Ok.len c.deref.result.now, c.if-len-gt-MAX_FILE.false)) c.in-Err-Line.ensures.exact)

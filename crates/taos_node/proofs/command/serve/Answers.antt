@@ -15,7 +15,7 @@ seen_by shards = seen_of (λ s. seen_in shards.shards s) (λ s. own_in shards s)
 
 pub returns-clause-connection : goal.returns-clause-connection
 returns-clause-connection g c = λ o file0 file1 opened.
-    let node = c.args.node.now in
+    let node = c.args.opened.now.0 in
     let lanes = c.args.lanes.now in
     let other = c.index-lanes-0.result in
     let lane = slice_index_or lanes 0 other in
@@ -30,7 +30,7 @@ returns-clause-connection g c = λ o file0 file1 opened.
       is_node = opened.is_node;
       seen = seen_by c.serve_connection.new.shards;
       connection =
-          touches n file0 file1
+          touches n c.args.frames file0 file1
           (stream (g.I.Source.left c.args.input.now) (g.I.Source.faults c.args.input.now)) (stream (g.I.Source.left c.serve_connection.new.input) (g.I.Source.faults c.serve_connection.new.input))
           (stream (g.O.Sink.written c.args.output.now) (g.O.Sink.faults c.args.output.now)) (stream (g.O.Sink.written c.serve_connection.new.output) (g.O.Sink.faults c.serve_connection.new.output))
           (stream (readings lane.clock) (faults lane.clock)) (first_clock readings faults lanes) (stream (readings c.serve_connection.new.clock) (faults c.serve_connection.new.clock)) _

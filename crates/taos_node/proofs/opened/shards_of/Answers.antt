@@ -3,8 +3,8 @@ use Rattle.std.proofs.Common.{List, sym, subst, ◌∙◌}
 use Rattle.std.specs.declared.alloc.Global.{Global}
 use Rattle.std.specs.declared.sync.Arc.{Arc}
 use Rattle.stmt_codec.specs.declared.cert.Cert.{Cert}
+use Rattle.stmt_codec.specs.View.{certificates}
 use Rattle.agent_core.specs.Opened.{MayOpen}
-use Rattle.agent_core.specs.Views.{certificates}
 use Rattle.node_file.specs.Meaning.{opening}
 use Rattle.taos_node.proofs.Nodes.{may_open}
 use Rattle.taos_node.proofs.opened.shards_of.Goals as goal

@@ -6,7 +6,7 @@ use Rattle.stmt_codec.specs.Certificates.{certificate}
 use Rattle.taos_calculus.specs.Question.{claim_of}
 use Rattle.std.specs.Prelude.{is_ok}
 use Rattle.std.proofs.lemmas.Option.{slice_get-get_or}
-use Rattle.taos_saturate.specs.declared.saturation.Cited.{Cited}
+use Rattle.term_pool.specs.declared.cited.Cited.{Cited}
 use Rattle.taos_saturate.proofs.Gathered.{gathers_skip, gathers_step, mapped_at}
 use Rattle.taos_saturate.proofs.gather.take_at.Goals as goal
 

@@ -5,9 +5,9 @@ use Rattle.stmt_codec.specs.Certificates.{certificate}
 use Rattle.taos_calculus.specs.Canonical.{post_order}
 use Rattle.stmt_codec.specs.Distinct.{met}
 use Rattle.taos_calculus.specs.Tables.{principals_of}
-use Rattle.taos_saturate.specs.Interning.{Fits}
-use Rattle.taos_saturate.proofs.Few.{cert_few}
-use Rattle.taos_saturate.proofs.Interned.{fits_front, fits_next}
+use Rattle.term_pool.specs.Interning.{Fits}
+use Rattle.term_pool.proofs.Few.{cert_few}
+use Rattle.term_pool.proofs.Interned.{fits_front, fits_next}
 use Rattle.taos_saturate.proofs.Gathered.{cert_fits, second_fits, all_taken, three_within, three_named, widens_taken}
 use Rattle.taos_saturate.proofs.gather.take_cert.Goals as goal
 

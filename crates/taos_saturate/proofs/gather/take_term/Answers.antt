@@ -4,7 +4,7 @@ use Rattle.prin_term.specs.View.{principal}
 use Rattle.taos_calculus.specs.Canonical.{post_order}
 use Rattle.taos_calculus.specs.Tables.{principals_of}
 use Rattle.taos_calculus.proofs.Naming.{length-principals_of}
-use Rattle.taos_saturate.proofs.Few.{term_few}
+use Rattle.term_pool.proofs.Few.{term_few}
 use Rattle.taos_saturate.proofs.Gathered.{widens_taken}
 use Rattle.taos_saturate.proofs.gather.take_term.Goals as goal
 

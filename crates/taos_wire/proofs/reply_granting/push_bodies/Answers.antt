@@ -1,23 +1,19 @@
-use Rattle.std.proofs.Common.{◌++◌, ◌∙◌, ap, length, arith}
+use Rattle.std.proofs.Common.{◌++◌, ◌∙◌, ap, arith, subst, Err}
 use Rattle.std.proofs.lemmas.Result.{err_from_is_err_and}
+use Rattle.prin_term.specs.Appends.{Pushes}
+use Rattle.prin_term.proofs.Pieces.{one_more, not_all}
 use Rattle.stmt_codec.specs.declared.cert.Cert.{Cert}
 use Rattle.stmt_codec.specs.Certificates.{certificate}
 use Rattle.taos_wire.specs.Reply.{cert_bytes}
 use Rattle.taos_wire.specs.View.{cited}
-use Rattle.taos_wire.proofs.Pieces.{one_more, room_for_all, begun}
 use Rattle.taos_wire.proofs.reply_granting.push_bodies.Goals as goal
 
-pub returns-in_err-push_cert-clause-err : goal.returns-in_err-push_cert-clause-err
-returns-in_err-push_cert-clause-err c =
+pub returns-in_err-push_cert : goal.returns-in_err-push_cert
+returns-in_err-push_cert c =
     let p = err_from_is_err_and c.from_residual.result c.from_residual.ensures.1 in
-    rw p.1 (begun cert_bytes cited c.args.certs.now c.loop-cert.cert-index c.args.out.now.items c.loop-cert.out.items c.cert-item.result c.loop-cert-test.true c.cert-item.is c.loop-cert.invariant.written c.push_cert.new.out.items c.in_err-push_cert.ensures.err)
-
-pub returns-in_err-push_cert-clause-room : goal.returns-in_err-push_cert-clause-room
-returns-in_err-push_cert-clause-room c =
-    let p = err_from_is_err_and c.from_residual.result c.from_residual.ensures.1 in
-    let all = room_for_all cert_bytes cited c.args.certs.now c.loop-cert.cert-index c.args.out.now.items c.loop-cert.out.items c.cert-item.result c.loop-cert-test.true c.cert-item.is c.loop-cert.invariant.written in
-    let same = ap (λ (k : Cert). length (cert_bytes (certificate k.body))) c.deref.ensures in
-    rw p.1 (omega (arith, same, c.in_err-push_cert.ensures.room, c.loop-cert.invariant.capacity, all))
+    let failed = subst (λ (k : Cert). Pushes {A = Unit {0}} c.loop-cert.out c.push_cert.new.out (cert_bytes (certificate k.body)) (Err c.in_err-push_cert.field-0.0)) c.deref.ensures c.in_err-push_cert.ensures in
+    rw p.1 (not_all cert_bytes cited c.args.certs.now c.loop-cert.cert-index c.cert-item.result c.args.out.now c.loop-cert.out c.push_cert.new.out _ _
+    c.loop-cert-test.true c.cert-item.is c.loop-cert.invariant.written c.loop-cert.invariant.capacity failed)
 
 pub loop-cert-preserved : goal.loop-cert-preserved
 loop-cert-preserved c =

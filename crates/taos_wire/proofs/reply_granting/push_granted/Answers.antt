@@ -1,19 +1,25 @@
-use Rattle.std.proofs.Common.{◌≡◌, ◌++◌, ◌∷◌, [], List, ℕ, ap, ◌∙◌, rules}
+-- The fields one after another.
+use Rattle.std.proofs.Common.{◌∷◌, ◌++◌, map}
+use Rattle.std.specs.Int.{w16, w32, w64, to_be_bytes}
 use Rattle.std.proofs.lemmas.Result.{on_ok_weaker}
-use Rattle.taos_wire.specs.Reply.{flag}
-use Rattle.taos_wire.proofs.ReplyPieces.{granted_is}
+use Rattle.prin_term.specs.Steps.{counted}
+use Rattle.prin_term.proofs.Pieces.{pushes_then}
+use Rattle.taos_calculus.specs.Tables.{lines_of}
+use Rattle.taos_wire.specs.Reply.{cited_bytes, flag, proof_bytes}
+use Rattle.taos_wire.specs.View.{cited}
 use Rattle.taos_wire.proofs.ShortReplies.{granted_short}
 use Rattle.taos_wire.proofs.reply_granting.push_granted.Goals as goal
 
-pub returns-clause-ok : goal.returns-clause-ok
-returns-clause-ok c =
+pub returns-clause-pushes : goal.returns-clause-pushes
+returns-clause-pushes c =
     let g = c.args.grant.now in
-    let first : c.extend_from_slice.new.self.items ≡ c.args.out.now.items ++ flag g.kept ∷ g.entry ∷ [] = search rules in
-    let second = c.in_ok-extend_from_slice-2.ensures.items ∙ ap (λ (x : List ℕ). c.extend_from_slice.new.self.items ++ x) c.place_of.ensures in
-    on_ok_weaker c.push_counted.result
-    (λ last. granted_is g c.args.out.now.items c.extend_from_slice.new.self.items c.extend_from_slice-2.new.self.items c.push_proof.new.out.items c.push_cited.new.out.items c.push_counted.new.out.items
-    first second c.in_ok-push_proof.ensures.ok c.in_ok-push_cited.ensures.ok last)
-    c.push_counted.ensures.ok
+    let old = c.args.out.now in
+    let told = flag g.kept ∷ g.entry ∷ to_be_bytes w32 g.shard ++ to_be_bytes w64 g.place in
+    let proof = proof_bytes (lines_of g.proof.now) in
+    let certs = cited_bytes (map cited g.certs.now) in
+    let proved = pushes_then old c.push_told.new.out c.push_proof.new.out told proof _ _ c.in_ok-push_told.ensures c.in_ok-push_proof.ensures.pushes in
+    let by = pushes_then old c.push_proof.new.out c.push_cited.new.out (told ++ proof) certs _ _ proved c.in_ok-push_cited.ensures in
+    pushes_then old c.push_cited.new.out c.push_counted.new.out (told ++ proof ++ certs) (counted w16 g.content.now) _ c.push_counted.result by c.push_counted.ensures
 
 pub returns-clause-short : goal.returns-clause-short
 returns-clause-short c =

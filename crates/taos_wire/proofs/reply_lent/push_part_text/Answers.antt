@@ -1,12 +1,8 @@
-use Rattle.std.proofs.Common.{◌++◌, List, ℕ, ap, ◌∙◌}
-use Rattle.std.proofs.lemmas.Result.{on_ok_weaker}
-use Rattle.taos_wire.proofs.ReplyPieces.{missing_is}
+use Rattle.std.proofs.Common.{refl}
+use Rattle.taos_wire.specs.View.{lent_part}
+use Rattle.taos_wire.proofs.ReplyPieces.{text_pushes}
 use Rattle.taos_wire.proofs.reply_lent.push_part_text.Goals as goal
 
-pub returns-clause-ok : goal.returns-clause-ok
-returns-clause-ok c =
-    let first = c.in_ok-extend_from_slice.ensures.items ∙ ap (λ (x : List ℕ). c.args.out.now.items ++ x) c.head_of.ensures in
-    let second = c.in_ok-extend_from_slice-2.ensures.items ∙ ap (λ (x : List ℕ). c.extend_from_slice.new.self.items ++ x) c.place_of.ensures in
-    on_ok_weaker c.push_part.result
-    (λ last. missing_is c.args.channel c.args.seq c.args.denial.now c.args.out.now.items c.extend_from_slice.new.self.items c.extend_from_slice-2.new.self.items c.push_part.new.out.items first second last)
-    c.push_part.ensures.ok
+pub returns : goal.returns
+returns c =
+    text_pushes c.args.channel c.args.seq (lent_part c.args.denial.now) 1 c.args.out.now c.push_head.new.out c.push_missing.new.out _ c.push_missing.result refl c.in_ok-push_head.ensures c.push_missing.ensures

@@ -1,6 +1,6 @@
 -- what is kept at opening stands for the opening state
 use Rattle.std.proofs.Common.{◌∙◌, sym, ap, refl, subst}
-use Rattle.agent_core.specs.declared.store.Store.{Store}
+use Rattle.agent_core.specs.declared.shard.store.Store.{Store}
 use Rattle.agent_core.specs.Kept.{AreNew, first_names}
 use Rattle.agent_core.specs.Views.{plan_of}
 use Rattle.agent_core.proofs.Opening.{opened_kept}

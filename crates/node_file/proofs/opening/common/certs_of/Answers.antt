@@ -4,7 +4,7 @@ use Rattle.std.specs.declared.sync.Arc.{Arc}
 use Rattle.std.proofs.lemmas.Result.{err_from_is_err_and}
 use Rattle.std.proofs.lemmas.List.{map_push}
 use Rattle.stmt_codec.specs.declared.cert.Cert.{Cert}
-use Rattle.node_file.specs.declared.opening.OpeningFault.TheVariants.{NoMemory}
+use Rattle.prin_term.specs.declared.fault.FormatFault.TheVariants.{NoMemory}
 use Rattle.node_file.specs.OpeningReading.{common_at}
 use Rattle.node_file.specs.OpeningView.{common}
 use Rattle.prin_term.specs.Readers.{items_behind}

@@ -1,7 +1,7 @@
 use Rattle.std.proofs.Common.{◌≤◌, List, [], length}
-use Rattle.node_file.specs.Opening.{ObjectPlan}
+use Rattle.object_core.specs.Objects.{ObjectPlan}
 use Rattle.node_file.specs.OpeningReading.{object_at}
-use Rattle.node_file.specs.OpeningView.{HoldsPlans}
+use Rattle.node_file.specs.Plans.{HoldsPlans}
 use Rattle.prin_term.specs.Readers.{items_behind}
 use Rattle.prin_term.proofs.Loops.{IsSoFar}
 use Rattle.node_file.proofs.opening.object.plans_of.Given as goal

@@ -1,6 +1,6 @@
 use Rattle.std.proofs.Common.{◌≡◌, ℕ, map, Ok, refl, sym, ap, ◌∙◌}
 use Rattle.std.specs.Arc.{arc_value}
-use Rattle.node_file.specs.Opening.{Opening}
+use Rattle.node_file.specs.Opening.{Opening, no_texts}
 use Rattle.node_file.specs.OpeningReading.{anchors_at}
 use Rattle.node_file.specs.OpeningView.{common}
 use Rattle.node_file.proofs.Whole.{fields_are}
@@ -20,6 +20,7 @@ returns-clause-value c =
         shards = head.shards;
         keep = head.keep;
         limit = head.limit;
+        names = no_texts;
         channels = cs.0.0;
         anchors = (arc_value c.in_ok-anchors.anchors).items;
         commons = map common c.in_ok-commons.commons.items;
@@ -29,5 +30,5 @@ returns-clause-value c =
     ) in (
       whole,
       fields_are bytes (head, c.in_ok-head.next) cs.0 ((arc_value c.in_ok-anchors.anchors).items, c.in_ok-anchors.next) (map common c.in_ok-commons.commons.items, c.in_ok-commons.next) os.0 c.in_ok-head.ensures.value cs.1 anchors c.in_ok-commons.ensures.value os.1,
-      (record { node = refl; relay_key = refl; shards = refl; keep = refl; limit = refl; channels = cs.2.0; anchors = refl; commons = refl; objects = os.2.0 }, os.2.1),
+      (record { node = refl; relay_key = refl; shards = refl; keep = refl; limit = refl; names = c.in_ok-names.ensures; channels = cs.2.0; anchors = refl; commons = refl; objects = os.2.0 }, os.2.1),
     )

@@ -1,7 +1,7 @@
 use Rattle.std.proofs.Common.{◌+◌, ◌++◌, ◌∷◌, [], length, refl, ap, ◌∙◌, arith}
 use Rattle.std.proofs.lemmas.Result.{err_from_is_err_and, IfOk-at_ok}
 use Rattle.keyed_seal.specs.Keys.{AddsKey, Keys, key_of}
-use Rattle.node_file.specs.declared.opening.OpeningFault.TheVariants.{NoMemory}
+use Rattle.prin_term.specs.declared.fault.FormatFault.TheVariants.{NoMemory}
 use Rattle.node_file.specs.OpeningReading.{channel_at}
 use Rattle.prin_term.specs.Readers.{items_behind}
 use Rattle.node_file.proofs.Lookups.{adds_key}

@@ -1,6 +1,6 @@
 use Rattle.std.proofs.Common.{◌≡◌, ◌≤◌, ℕ, List, [], length}
 use Rattle.node_file.specs.OpeningReading.{channel_at}
-use Rattle.node_file.specs.OpeningView.{HoldsKeys}
+use Rattle.node_file.specs.Held.{HoldsKeys}
 use Rattle.prin_term.specs.Readers.{items_behind}
 use Rattle.prin_term.proofs.Loops.{IsSoFar}
 use Rattle.node_file.proofs.opening.table.keys_of.Given as goal

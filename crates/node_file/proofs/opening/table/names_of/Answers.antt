@@ -1,6 +1,6 @@
 use Rattle.std.proofs.Common.{◌≡◌, [], Err, Ok, sym, ap, ◌∙◌, inr}
 use Rattle.std.proofs.lemmas.Result.{err_from_is_err_and}
-use Rattle.node_file.specs.declared.opening.OpeningFault.TheVariants.{NoMemory}
+use Rattle.prin_term.specs.declared.fault.FormatFault.TheVariants.{NoMemory}
 use Rattle.node_file.specs.OpeningReading.{anchor_at}
 use Rattle.prin_term.specs.Readers.{items_behind}
 use Rattle.prin_term.proofs.Loops.{goes_on, stops, is_done}

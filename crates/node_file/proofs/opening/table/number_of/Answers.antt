@@ -3,7 +3,7 @@ use Rattle.std.specs.Int.{w32}
 use Rattle.std.specs.Option.{is_some}
 use Rattle.keyed_seal.specs.Keys.{key_of}
 use Rattle.prin_term.specs.Steps.{number_at}
-use Rattle.node_file.specs.OpeningReading.{ended}
+use Rattle.prin_term.specs.Formats.{ended}
 use Rattle.node_file.proofs.Lookups.{some_map, channel_number}
 use Rattle.node_file.proofs.opening.table.number_of.Goals as goal
 

@@ -1,6 +1,6 @@
 use Rattle.std.proofs.Common.{◌≡◌, ℕ, ◌<◌, Some, slice_get}
-use Rattle.taos_saturate.specs.declared.saturation.Cited.{Cited}
-use Rattle.taos_saturate.specs.Saturating.{IsSaying}
+use Rattle.term_pool.specs.declared.cited.Cited.{Cited}
+use Rattle.term_pool.specs.Claims.{IsSaying}
 use Rattle.taos_saturate.proofs.saturation.Saturation.cited_at.Given as goal
 
 abbrev pub invariant-loop-i : goal.invariant-loop-i

@@ -1,4 +1,3 @@
-use Rattle.taos_saturate.specs.Saturating.{LineFull}
 use Rattle.taos_saturate.proofs.Chaining.{line_in, full_by_chain, full_by_says, full_by_speaks}
 use Rattle.taos_saturate.proofs.Steps.{for_none}
 use Rattle.taos_saturate.proofs.saturation.Saturation.new_by_line.Goals as goal

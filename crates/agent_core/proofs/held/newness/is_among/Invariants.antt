@@ -1,0 +1,10 @@
+use Rattle.std.proofs.Common.{◌≡◌, false, map, take}
+use Rattle.stmt_codec.specs.Certificates.{certificate}
+use Rattle.stmt_codec.specs.View.{certificates}
+use Rattle.agent_core.specs.Held.{among}
+use Rattle.agent_core.specs.Names.{certs_named}
+use Rattle.agent_core.specs.Views.{entry_of}
+use Rattle.agent_core.proofs.held.newness.is_among.Given as goal
+
+abbrev pub invariant-loop-place : goal.invariant-loop-place
+invariant-loop-place l = among (certs_named (certificates l.commons) (map entry_of l.entries) (take l.place l.names.items)) (certificate l.cert.body) ≡ false

@@ -1,9 +1,0 @@
-use Rattle.std.proofs.Common.{◌≡◌, false, map, take}
-use Rattle.stmt_codec.specs.Certificates.{certificate}
-use Rattle.agent_core.specs.Held.{among}
-use Rattle.agent_core.specs.Names.{certs_named}
-use Rattle.agent_core.specs.Views.{certificates, entry_of}
-use Rattle.agent_core.proofs.newness.is_among.Given as goal
-
-abbrev pub invariant-loop-place : goal.invariant-loop-place
-invariant-loop-place l = among (certs_named (certificates l.commons) (map entry_of l.entries) (take l.place l.names.items)) (certificate l.cert.body) ≡ false

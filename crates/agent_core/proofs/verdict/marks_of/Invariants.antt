@@ -1,7 +1,0 @@
-use Rattle.std.proofs.Common.{◌≡◌, take}
-use Rattle.agent_core.specs.Judged.{live_marks}
-use Rattle.agent_core.specs.Views.{certificates}
-use Rattle.agent_core.proofs.verdict.marks_of.Given as goal
-
-abbrev pub invariant-loop-cert : goal.invariant-loop-cert
-invariant-loop-cert l = l.marks.items ≡ live_marks (certificates (take l.cert-index l.certs)) l.moment

@@ -1,0 +1,7 @@
+//! Certificates that a shard holds.
+
+pub(crate) mod name;
+pub(crate) mod naming;
+pub(crate) mod newness;
+pub(crate) mod presented;
+pub(crate) mod snapshot;

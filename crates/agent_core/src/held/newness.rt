@@ -1,0 +1,101 @@
+//! Which certificates are new to those that are held.
+
+ghost use Rattle.std.specs.Prelude.{◌≡◌, ℕ, ◌≤◌, ◌<◌, ◌++◌, not, length, map, slice_get, filter_map, All};
+ghost use Rattle.stmt_codec.specs.Certificates.{certificate};
+ghost use Rattle.stmt_codec.specs.View.{certificates};
+ghost use Rattle.agent_core.specs.Held.{among, newly};
+ghost use Rattle.agent_core.specs.Names.{certs_named, AreNames};
+ghost use Rattle.agent_core.specs.Views.{entry_of};
+
+use crate::event::ShardEntry;
+use crate::held::name::{Names, cert_named};
+use crate::limits::MAX_PRESENTED;
+use arrayvec::ArrayVec;
+use std::sync::Arc;
+use stmt_codec::Cert;
+
+/// Places in a list of certificates that an event brings.
+pub(crate) type Places = ArrayVec<u8, MAX_PRESENTED>;
+
+// Whether one of the names is that of an equal certificate.
+fn is_among(commons: &[Arc<Cert>], entries: &[ShardEntry], names: &Names, cert: &Cert) -> bool
+    requires { AreNames (certificates commons.now) (map entry_of entries.now) names.now.items }
+    ensures { result ≡ among (certs_named (certificates commons.now) (map entry_of entries.now)
+        names.now.items) (certificate cert.now.body) }
+{
+    for place in 0..names.len() {
+        let name = names.as_slice()[place];
+        if cert.body.same(&cert_named(commons, entries, name).body) {
+            return true;
+        }
+    }
+    false
+}
+
+// Whether an equal certificate stands at one of the places.
+fn is_met(presented: &[Arc<Cert>], places: &Places, cert: &Cert) -> bool
+    requires { All (λ i. i < length presented.now) places.now.items }
+    ensures { result ≡ among (filter_map (slice_get (certificates presented.now))
+        places.now.items) (certificate cert.now.body) }
+{
+    for at in 0..places.len() {
+        let place = places.as_slice()[at];
+        if cert.body.same(&presented[place as usize].body) {
+            return true;
+        }
+    }
+    false
+}
+
+// Whether the certificate is neither held nor met.
+fn is_new(
+    commons: &[Arc<Cert>],
+    entries: &[ShardEntry],
+    own: &Names,
+    shared: &Names,
+    presented: &[Arc<Cert>],
+    places: &Places,
+    cert: &Cert,
+) -> bool
+    requires own { AreNames (certificates commons.now) (map entry_of entries.now) own.now.items }
+    requires shared { AreNames (certificates commons.now) (map entry_of entries.now)
+        shared.now.items }
+    requires places { All (λ i. i < length presented.now) places.now.items }
+    ensures { result ≡ not (among ((certs_named (certificates commons.now)
+        (map entry_of entries.now) own.now.items
+        ++ certs_named (certificates commons.now) (map entry_of entries.now)
+        shared.now.items) ++ filter_map (slice_get (certificates presented.now)) places.now.items)
+        (certificate cert.now.body)) }
+{
+    !is_among(commons, entries, own, cert)
+        && !is_among(commons, entries, shared, cert)
+        && !is_met(presented, places, cert)
+}
+
+/// The places of the certificates that are not held yet, each of them once.
+pub(crate) fn new_of(
+    commons: &[Arc<Cert>],
+    entries: &[ShardEntry],
+    own: &Names,
+    shared: &Names,
+    presented: &[Arc<Cert>],
+) -> Places
+    requires own { AreNames (certificates commons.now) (map entry_of entries.now) own.now.items }
+    requires shared { AreNames (certificates commons.now) (map entry_of entries.now)
+        shared.now.items }
+    requires few { length presented.now ≤ 16 }
+    ensures value { filter_map (slice_get (certificates presented.now)) result.items
+        ≡ newly (certs_named (certificates commons.now) (map entry_of entries.now) own.now.items
+        ++ certs_named (certificates commons.now) (map entry_of entries.now) shared.now.items)
+        (certificates presented.now) }
+    ensures within { All (λ i. i < length presented.now) result.items }
+{
+    let mut places = Places::new();
+    for place in 0..presented.len() {
+        let cert = &presented[place];
+        if is_new(commons, entries, own, shared, presented, &places, cert) {
+            places.push(place as u8);
+        }
+    }
+    places
+}

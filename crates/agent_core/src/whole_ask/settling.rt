@@ -1,0 +1,73 @@
+//! An Ask that is to be judged, outside of any shard.
+
+ghost use Rattle.std.specs.Prelude.{true, map, length, replicate, IfOk, OnErr};
+ghost use Rattle.prin_term.specs.View.{grant, principal};
+ghost use Rattle.stmt_codec.specs.Certificates.{live};
+ghost use Rattle.stmt_codec.specs.View.{certificates};
+ghost use Rattle.taos_calculus.specs.Monitor.{Grants};
+ghost use Rattle.taos_calculus.specs.Question.{IsAskable};
+ghost use Rattle.denial_link.specs.Revived.{claims};
+ghost use Rattle.agent_core.specs.Asked.{Names};
+ghost use Rattle.agent_core.specs.Settling.{IsPlaceIn, Settles};
+ghost use Rattle.agent_core.specs.Views.{ask_of};
+
+use crate::asked::{Denial, Verdict};
+use crate::event::Ask;
+use crate::gate::Gate;
+use crate::told::Snapshot;
+use crate::whole_ask::grant::proof_for;
+use crate::whole_ask::verdict::{Decision, judge};
+use denial_link::Link;
+use prin_term::Anchor;
+use std::alloc::{AllocError, Global};
+use std::sync::Arc;
+use stmt_codec::Cert;
+use taos_calculus::Decide;
+
+// What a denial names of a link: a certificate by its digest.
+fn denial_of(link: Link, certs: &[Arc<Cert>]) -> Denial
+    requires { IsPlaceIn (certificates certs.now) link }
+    ensures { Names (certificates certs.now) link result }
+{
+    match link {
+        Link::Expired { entry, cert } => Denial::Expired {
+            entry,
+            digest: certs[cert as usize].digest,
+        },
+        Link::Missing { entry, node } => Denial::Missing { entry, node },
+        Link::NoEntry => Denial::NoEntry,
+    }
+}
+
+/// The verdict on an Ask by what it was handed out, as it is answered. The gate is passed between
+/// the decision and its answer.
+pub(crate) fn settle<D: Decide, G: Gate>(
+    alloc: Global,
+    anchors: &[Anchor],
+    bench: &mut D,
+    gate: &mut G,
+    snapshot: &Snapshot,
+    asked: &Ask,
+) -> Result<Verdict, AllocError>
+    requires { IsAskable anchors.now (certificates snapshot.now.certs.items)
+        (replicate (length snapshot.now.certs.items) true) (principal asked.now.subject)
+        (map grant asked.now.list.value.items) }
+    ensures settled { IfOk result (λ v. Settles anchors.now
+        (certificates snapshot.now.certs.items) snapshot.now.moment (ask_of asked.now) v) }
+
+    // Only a grant takes memory.
+    ensures wanted { OnErr result (Grants anchors.now
+        (claims (live (certificates snapshot.now.certs.items) snapshot.now.moment))
+        (principal asked.now.subject) (map grant asked.now.list.value.items) asked.now.right) }
+{
+    let finding = judge(bench, anchors, snapshot, asked);
+    gate.between();
+    match finding {
+        Decision::Granted { entry } => {
+            let cached = proof_for(alloc, bench, anchors, snapshot, asked, entry)?;
+            let cached = Arc::new(alloc, cached)?;
+            Ok(Verdict::Granted { entry, cached })
+        }
+        Decision::Denied(link) => Ok(Verdict::Denied(denial_of(link, &snapshot.certs))),
+    }
+}

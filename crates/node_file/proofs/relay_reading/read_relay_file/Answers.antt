@@ -1,0 +1,44 @@
+-- What the whole relay file means.
+use Rattle.std.proofs.Common.{◌≡◌, ◌⊎◌, false, cond, Err, Some, None, sym, ap, subst, ◌∙◌, arith, inr}
+use Rattle.node_file.specs.declared.fault.FileFault.{FileFault}
+use Rattle.node_file.specs.declared.fault.FileFault.TheVariants.{NoMemory}
+use Rattle.node_file.specs.Lines.{is_skipped}
+use Rattle.node_file.specs.RelayFile.{relay_in}
+use Rattle.node_file.proofs.RelayRead.{never_begun, relay_done, relay_long, stops_with}
+use Rattle.node_file.proofs.relay_reading.read_relay_file.Goals as goal
+
+pub returns-then-bytes-gt-MAX_FILE : goal.returns-then-bytes-gt-MAX_FILE
+returns-then-bytes-gt-MAX_FILE c = record { exact = inr (relay_long c.args.bytes.now (omega arith) ∙ ap (λ (e : FileFault). Err e) (sym c.at.ensures)) }
+
+pub returns-in-Err : goal.returns-in-Err
+returns-in-Err c =
+    let bytes = c.args.bytes.now in
+    let so = c.loop-at.invariant in
+    let line = c.line_at-next.result.0.now in
+    let skipped : is_skipped line ≡ false = grind (arith, c.is_skipped.ensures, c.if-not-is_skipped.ensures, c.if-not-is_skipped.true) in
+    record {
+      exact = subst (λ (e : FileFault). (e ≡ NoMemory) ⊎ (relay_in bytes ≡ Err e)) (sym c.at-in-Err.ensures)
+          (stops_with bytes (omega (arith, c.if-bytes-gt-MAX_FILE.false)) c.loop-at.number c.loop-at.at so.so_far so.same c.take_any.new.file line _ c.in-Err.fault c.line_at-next.ensures.line skipped (c.in-Err.ensures.takes so.so_far so.stands));
+    }
+
+pub returns-then-begun : goal.returns-then-begun
+returns-then-begun c =
+    let bytes = c.args.bytes.now in
+    let so = c.loop-at.invariant in
+    record {
+      exact = (
+        so.stands.made,
+        relay_done bytes (omega (arith, c.if-bytes-gt-MAX_FILE.false)) c.loop-at.number c.loop-at.at so.so_far so.same so.stands.made (omega (arith, c.loop-at-test.false))
+            (so.stands.is ∙ ap (λ b. cond b (Some so.stands.made) None) c.if-begun.true),
+        so.stands.stands,
+      );
+    }
+
+pub returns-else-begun : goal.returns-else-begun
+returns-else-begun c =
+    let bytes = c.args.bytes.now in
+    let so = c.loop-at.invariant in
+    record {
+      exact = inr (never_begun bytes (omega (arith, c.if-bytes-gt-MAX_FILE.false)) c.loop-at.number c.loop-at.at so.so_far so.same (omega (arith, c.loop-at-test.false))
+          (so.stands.is ∙ ap (λ b. cond b (Some so.stands.made) None) c.if-begun.false) so.count ∙ ap (λ (e : FileFault). Err e) (sym c.at-else-begun.ensures));
+    }

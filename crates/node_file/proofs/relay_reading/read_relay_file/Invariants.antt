@@ -1,0 +1,22 @@
+use Rattle.std.proofs.Common.{◌≡◌, ◌+◌, ◌-◌, ◌≤◌, Option, None, length}
+use Rattle.std.specs.Prelude.{codes}
+use Rattle.node_file.specs.FileLines.{first_or, is_first_line, lines_make}
+use Rattle.node_file.specs.Lines.{lines_from}
+use Rattle.node_file.specs.RelayFile.{RelayFile, no_relay, relay_step}
+use Rattle.node_file.specs.RelayView.{StandsSoFar}
+use Rattle.node_file.proofs.relay_reading.read_relay_file.Given as goal
+
+-- the lines before the offset are taken, and those behind it make the rest
+abbrev pub invariant-loop-at : goal.invariant-loop-at
+invariant-loop-at l = record {
+  so_far : Option RelayFile;
+  stands : StandsSoFar l.begun l.file so_far;
+  same : lines_make (first_or (is_first_line (codes "taos-relay")) no_relay relay_step) (l.number + 1) so_far (lines_from l.bytes l.at)
+      ≡ lines_make (first_or (is_first_line (codes "taos-relay")) no_relay relay_step) 1 None (lines_from l.bytes 0);
+  count : l.number + length (lines_from l.bytes l.at) ≡ length (lines_from l.bytes 0);
+  within : l.at ≤ length l.bytes;
+  small : l.number ≤ l.at;
+}
+
+abbrev pub decreases-loop-at : goal.decreases-loop-at
+decreases-loop-at l = length l.bytes - l.at

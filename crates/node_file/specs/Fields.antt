@@ -1,0 +1,48 @@
+-- The fields of a line: so many words, numbers and keys.
+use Rattle.std.specs.Prelude.{ℕ, ◌&&◌, not, nat_le, nat_lt, if◌then◌else◌}
+use Rattle.std.specs.Prelude.{List, length, Option, Some, None, Result, Ok, Err}
+use Rattle.hex.specs.Hex.{decode_sized}
+use Rattle.hex.specs.declared.error.FromHexError.{FromHexError}
+use Rattle.prin_term.specs.Steps.{◌>>=◌}
+use Rattle.prin_text.specs.Words.{are_digits, has_leading_zero, value_after}
+use Rattle.node_file.specs.declared.fault.FileCause.{FileCause}
+use Rattle.node_file.specs.declared.fault.FileCause.TheVariants.{Words, Number, Hex}
+use Rattle.node_file.specs.Lines.{is_plain, unblanked, word_off}
+
+-- the two words behind the first, where these and no more stand on a line of plain bytes
+unfoldable pub two_words : List ℕ → List ℕ → Result (List ℕ × List ℕ) FileCause
+two_words line rest =
+    let a = word_off rest in
+    let b = word_off a.1 in
+    if is_plain line && nat_lt 0 (length b.0) && nat_lt (length (unblanked b.1)) 1
+    then Ok (a.0, b.0) else Err Words
+
+-- the number that is written in digits, without a sign and without leading zeros, up to the most
+unfoldable pub number_up_to : ℕ → List ℕ → Result ℕ FileCause
+number_up_to most word =
+    if are_digits word && not (has_leading_zero word) && nat_le (value_after 0 word) most
+    then Ok (value_after 0 word) else Err Number
+
+-- the value, or the cause
+abbrev pub some_or : {A : Type 0} → FileCause → Option A → Result A FileCause
+some_or cause None = Err cause
+some_or cause (Some x) = Ok x
+
+-- what was decoded, where it was
+abbrev pub decoded : Result (List ℕ) FromHexError → Result (List ℕ) FileCause
+decoded (Ok bytes) = Ok bytes
+decoded (Err e) = Err Hex
+
+-- the key of 64 hex digits, of either case
+unfoldable pub key_of_digits : List ℕ → Result (List ℕ) FileCause
+key_of_digits word = decoded (decode_sized word 32)
+
+-- a number of 32 bits and a text
+unfoldable pub numbered : List ℕ → List ℕ → Result (ℕ × List ℕ) FileCause
+numbered line rest =
+    two_words line rest >>= λ w. number_up_to 4294967295 w.0 >>= λ n. Ok (n, w.1)
+
+-- a number of 32 bits and a key
+unfoldable pub keyed : List ℕ → List ℕ → Result (ℕ × List ℕ) FileCause
+keyed line rest =
+    numbered line rest >>= λ x. key_of_digits x.1 >>= λ key. Ok (x.0, key)

@@ -1,0 +1,46 @@
+-- Objects by ascending number, and one more of them.
+use Rattle.std.specs.Prelude.{◌≡◌, ◌≢◌, ℕ, ◌+◌, ◌<◌, ◌≤◌, List, [], length, map, slice_index_or, Some}
+use Rattle.std.specs.Arc.{arc_value}
+use Rattle.prin_term.specs.View.{grant}
+use Rattle.node_file.specs.declared.object_plan.ObjectPlan as code
+use Rattle.object_core.specs.Objects.{ObjectPlan, object_of}
+
+-- the object that the program's one stands for
+abbrev pub plan : code.ObjectPlan → ObjectPlan
+plan p = record {
+  number = p.number;
+  content = p.content.items;
+  list = map grant (arc_value p.list).items;
+}
+
+-- the number of the object at place i
+abbrev pub number_at : List ObjectPlan → ℕ → ℕ
+number_at plans i =
+    let p = slice_index_or plans i (record { number = 0; content = []; list = [] }) in p.number
+
+-- the numbers rise, so no number comes twice
+abbrev pub AreByNumber : List ObjectPlan → Type 0
+AreByNumber plans =
+    (i j : ℕ) → i < j → j < length plans → number_at plans i < number_at plans j
+
+-- the object at place i has the number
+pub record IsAt (plans : List ObjectPlan) (number i : ℕ) : Type 0 where
+  pub in_range : i < length plans
+  pub has_number : number_at plans i ≡ number
+
+-- the number would go at place i: smaller numbers before it, and greater ones from it on
+pub record IsGapFor (plans : List ObjectPlan) (number i : ℕ) : Type 0 where
+  pub in_range : i ≤ length plans
+  pub smaller_before : (j : ℕ) → j < i → number_at plans j < number
+  pub greater_after : (j : ℕ) → i ≤ j → j < length plans → number < number_at plans j
+
+-- the new objects are the old ones and this one, found by its number
+pub record AddsPlan (old new : List ObjectPlan) (p : ObjectPlan) : Type 0 where
+  pub this_plan : object_of new p.number ≡ Some p
+  pub other_plans : (n : ℕ) → n ≢ p.number → object_of new n ≡ object_of old n
+  pub count : length new ≡ length old + 1
+
+-- a look-up finds the same in both, and they have as many objects
+pub record HoldsPlans (plans list : List ObjectPlan) : Type 0 where
+  pub each : (number : ℕ) → object_of plans number ≡ object_of list number
+  pub count : length plans ≡ length list

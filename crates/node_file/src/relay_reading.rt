@@ -1,0 +1,146 @@
+//! Reading a relay file.
+
+ghost use Rattle.std.specs.Prelude.{◌≡◌, IfOk, Option, codes, true};
+ghost use Rattle.keyed_seal.specs.Keys.{Entries};
+ghost use Rattle.prin_text.specs.Labels.{Rows};
+ghost use Rattle.prin_text.specs.declared.limits.TheConstants.{MAX_NAMES, MAX_ROLES};
+ghost use Rattle.node_file.specs.FileLines.{first_or, is_first_line, keys_with, texts_with};
+ghost use Rattle.node_file.specs.Held.{HoldsKeys, HoldsRows};
+ghost use Rattle.node_file.specs.RelayFile as meant;
+ghost use Rattle.node_file.specs.RelayFile.{no_relay, relay_in, relay_step};
+ghost use Rattle.node_file.specs.LineView.{IsReadFor, TakesLine};
+ghost use Rattle.node_file.specs.RelayView.{StandsFor, StandsSoFar};
+
+use crate::adding::{add_key, add_name, add_role};
+use crate::fault::{FileCause, FileFault};
+use crate::limits::{MAX_FILE, MAX_ISSUERS, MAX_NODES};
+use crate::line_fault::LineFault;
+use crate::relay_file::RelayFile;
+use crate::text::field::{keyed, numbered};
+use crate::text::line::line_at;
+use crate::text::word::{is_first_line, is_skipped, is_word, word_off};
+use keyed_seal::KeyTable;
+use prin_text::Names;
+use relay_core::RelayTable;
+use std::alloc::{AllocError, Global};
+
+// Nothing is known.
+fn empty(alloc: Global) -> Result<RelayFile, AllocError>
+    ensures { IfOk result (λ file. StandsFor file no_relay) }
+{
+    Ok(RelayFile {
+        table: RelayTable {
+            issuers: KeyTable::new(alloc, MAX_ISSUERS)?,
+            nodes: KeyTable::new(alloc, MAX_NODES)?,
+        },
+        names: Names::new(alloc)?,
+    })
+}
+
+// Gives a name the text that the line says.
+fn take_name(alloc: Global, names: &mut Names, line: &[u8], rest: &[u8]) -> Result<(), LineFault>
+    ensures takes { (rows : Rows) → HoldsRows names.old.names rows
+        → TakesLine HoldsRows result names.new.names
+        (texts_with MAX_NAMES rows line.now rest.now) }
+    ensures roles { names.new.roles ≡ names.old.roles }
+{
+    match numbered(line, rest) {
+        Ok((number, text)) => add_name(alloc, names, number, text),
+        Err(cause) => Err(LineFault::Refused(cause)),
+    }
+}
+
+// Gives a role the text that the line says.
+fn take_role(alloc: Global, names: &mut Names, line: &[u8], rest: &[u8]) -> Result<(), LineFault>
+    ensures takes { (rows : Rows) → HoldsRows names.old.roles rows
+        → TakesLine HoldsRows result names.new.roles
+        (texts_with MAX_ROLES rows line.now rest.now) }
+    ensures names { names.new.names ≡ names.old.names }
+{
+    match numbered(line, rest) {
+        Ok((number, text)) => add_role(alloc, names, number, text),
+        Err(cause) => Err(LineFault::Refused(cause)),
+    }
+}
+
+// Gives a number the key that the line says.
+fn take_key(table: &mut KeyTable, line: &[u8], rest: &[u8]) -> Result<(), LineFault>
+    ensures takes { (keys : Entries) → HoldsKeys table.old keys
+        → TakesLine HoldsKeys result table.new
+        (keys_with table.old.room keys line.now rest.now) }
+    ensures room { table.new.room ≡ table.old.room }
+{
+    match keyed(line, rest) {
+        Ok(said) => {
+            let key = said.1;
+            add_key(table, said.0, key)
+        }
+        Err(cause) => Err(LineFault::Refused(cause)),
+    }
+}
+
+// What a line says is added, or nothing.
+fn take_line(alloc: Global, file: &mut RelayFile, line: &[u8]) -> Result<(), LineFault>
+    ensures takes { (above : meant.RelayFile) → StandsFor file.old above
+        → TakesLine StandsFor result file.new (relay_step above line.now) }
+{
+    let (word, rest) = word_off(line);
+    if is_word(word, "name") {
+        return take_name(alloc, &mut file.names, line, rest);
+    }
+    if is_word(word, "role") {
+        return take_role(alloc, &mut file.names, line, rest);
+    }
+    if is_word(word, "issuer") {
+        return take_key(&mut file.table.issuers, line, rest);
+    }
+    if is_word(word, "node") {
+        return take_key(&mut file.table.nodes, line, rest);
+    }
+    Err(LineFault::Refused(FileCause::UnknownWord))
+}
+
+// The first line says what file it is, and each behind it adds to it.
+fn take_any(alloc: Global, file: &mut RelayFile, begun: bool, line: &[u8]) -> Result<(), LineFault>
+    ensures takes { (so_far : Option meant.RelayFile) → StandsSoFar begun file.old so_far
+        → TakesLine (StandsSoFar true) result file.new
+        (first_or (is_first_line (codes "taos-relay")) no_relay relay_step so_far line.now) }
+{
+    if begun {
+        return take_line(alloc, file, line);
+    }
+    if is_first_line("taos-relay", line) {
+        return Ok(());
+    }
+    Err(LineFault::Refused(FileCause::FirstLine))
+}
+
+/// What a relay file means, or its first line that is refused. Memory is taken for what it holds;
+/// where it is refused, the fault is `NoMemory`.
+pub fn read_relay_file(alloc: Global, bytes: &[u8]) -> Result<RelayFile, FileFault>
+    ensures exact { IsReadFor StandsFor result (relay_in bytes.now) }
+{
+    let mut number = 0;
+    if bytes.len() > MAX_FILE {
+        return Err(LineFault::Refused(FileCause::Limit).at(number));
+    }
+    let mut file = empty(alloc)?;
+    let mut begun = false;
+    let mut at = 0;
+    while at < bytes.len() {
+        let (line, next) = line_at(bytes, at);
+        number += 1;
+        if !is_skipped(line) {
+            if let Err(fault) = take_any(alloc, &mut file, begun, line) {
+                return Err(fault.at(number));
+            }
+            begun = true;
+        }
+        at = next;
+    }
+    if begun {
+        Ok(file)
+    } else {
+        Err(LineFault::Refused(FileCause::FirstLine).at(number + 1))
+    }
+}

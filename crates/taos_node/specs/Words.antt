@@ -1,0 +1,65 @@
+-- What a list of words means: a command, and its options.
+use Rattle.std.specs.Prelude.{◌≡◌, ◌≢◌, ℕ, ◌^◌, ◌<◌, ◌≤◌, Bool, if◌then◌else◌, List, [], ◌∷◌, ◌++◌, map, flat_map, All, Contains, Option, Some, None, option_map, find, codes, decimal, string_bytes, String, bytes_eq}
+use Rattle.std.specs.declared.alloc.Global.{Global}
+use Rattle.taos_node.specs.declared.wanted.Wanted.{Wanted}
+use Rattle.taos_node.specs.declared.wanted.Wanted.TheVariants.{Run, Check}
+use Rattle.taos_node.specs.declared.wanted.TheConstants.{MAX_FRAMES}
+
+abbrev pub Text : Type 0
+Text = List ℕ
+
+-- an option that is given with its value, both in one word or in two
+pub record Given : Type 0 where
+  pub name : Text
+  pub value : Text
+  pub joined : Bool
+
+-- its words: `--name=value`, or `--name` and then `value`
+abbrev pub words_of : Given → List Text
+words_of given =
+    if given.joined then (codes "--" ++ given.name ++ codes "=" ++ given.value) ∷ []
+    else (codes "--" ++ given.name) ∷ given.value ∷ []
+
+-- a value is not empty, and begins with no `-` (45)
+abbrev pub IsValue : Text → Type 0
+IsValue [] = ⊥
+IsValue (x ∷ xs) = x ≢ 45
+
+-- no option is given twice
+abbrev pub AreOnce : List Given → Type 0
+AreOnce [] = Unit {0}
+AreOnce (g ∷ gs) = All (λ h. h.name ≢ g.name) gs × AreOnce gs
+
+-- the words are the command, and behind it its options in any order
+pub record IsLine (words : List Text) (command : Text) (options : List Text) (given : List Given) : Type 0 where
+  pub are : words ≡ command ∷ flat_map words_of given
+  pub known : All (λ g. Contains options g.name) given
+  pub once : AreOnce given
+  pub values : All (λ g. IsValue g.value) given
+
+-- the value of an option, where that is given
+abbrev pub value_of : Text → List Given → Option Text
+value_of name given = option_map (λ g. g.value) (find (λ g. bytes_eq g.name name) given)
+
+-- the text is the number as it is written, with neither sign nor leading zero, and at least 1
+abbrev pub IsCount : Text → ℕ → Type 0
+IsCount text n = (text ≡ decimal n) × (1 ≤ n) × (n < 2 ^ 64)
+
+-- how many frames an option `--frames` means, and how many are meant without it
+abbrev pub AreFrames : Option Text → ℕ → Type 0
+AreFrames None n = n ≡ MAX_FRAMES
+AreFrames (Some text) n = IsCount text n
+
+-- the words of a command line, each by its bytes, mean the command
+abbrev pub TextsMean : List Text → Wanted → Type 0
+TextsMean words (Run frames) = (given : List Given) × IsLine words (codes "run") (codes "frames" ∷ []) given × AreFrames (value_of (codes "frames") given) frames
+TextsMean words Check = (given : List Given) × IsLine words (codes "check") [] given
+
+-- the words mean the command
+abbrev pub Mean : List (String Global) → Wanted → Type 0
+Mean words wanted = TextsMean (map string_bytes words) wanted
+
+-- what was found is what the words mean, and nothing is found where they mean nothing
+abbrev pub IsMeaning : List (String Global) → Option Wanted → Type 0
+IsMeaning words (Some wanted) = Mean words wanted
+IsMeaning words None = (wanted : Wanted) → Mean words wanted → ⊥

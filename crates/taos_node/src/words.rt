@@ -1,0 +1,129 @@
+//! The words of a command line, read.
+
+ghost use Rattle.std.specs.Prelude.{◌≡◌, ◌↔◌, ℕ, List, String, Some, codes, decimal, option_map, string_bytes, All, IsTrue, IfOk, MatchOption};
+ghost use Rattle.std.specs.declared.alloc.Global.{Global};
+ghost use Rattle.clap.specs.Words.{Row, first_of, found_of, rows_of, subcommand_rows_of};
+ghost use Rattle.taos_node.specs.Words.{IsCount, IsMeaning, Mean};
+ghost use Rattle.taos_node.specs.Table.{IsOfTable, IsPlainWord, IsRunOf};
+ghost use Rattle.taos_node.specs.declared.wanted.Wanted.{Wanted as Meant};
+
+use crate::table::matches_of;
+use crate::wanted::{MAX_FRAMES, Wanted};
+use clap::ArgMatches;
+use clap::error::ErrorKind;
+use itoa::Buffer;
+use std::alloc::{AllocError, Global};
+
+/// Words mean one command.
+pub fn one_meaning()
+    ensures { (words : List (String Global)) (a b : Meant) → Mean words a → Mean words b → a ≡ b }
+{}
+
+fn is_plain(word: &[u8]) -> bool
+    ensures { IsTrue result ↔ IsPlainWord word.now }
+{
+    match word {
+        [first, ..] => *first != b'-',
+        [] => true,
+    }
+}
+
+// Whether a word is no option, or one of the table in either of its ways.
+#[tactic(auto, using(crate::proofs::Found::last_way))]
+fn is_of_table(word: &[u8]) -> bool
+    ensures { IsTrue result ↔ IsOfTable word.now }
+{
+    if is_plain(word) {
+        return true;
+    }
+    if word == b"--frames".as_slice() {
+        return true;
+    }
+    word.starts_with(b"--frames=".as_slice())
+}
+
+fn are_of_table(words: &[String]) -> bool
+    ensures { IsTrue result ↔ All (λ word. IsOfTable (string_bytes word)) words.now }
+{
+    for word in words {
+        if !is_of_table(word.as_bytes()) {
+            return false;
+        }
+    }
+    true
+}
+
+fn is_written(number: u64, text: &str) -> bool
+    ensures { IsTrue result ↔ text.now ≡ decimal number }
+{
+    let mut digits = Buffer::new();
+    digits.format(number) == text
+}
+
+// The number that a text is, where it is written as numbers are, and is not 0.
+fn count_of(text: &str) -> Option<u64>
+    ensures { MatchOption result ((n : ℕ) → IsCount text.now n → ⊥) (IsCount text.now) }
+{
+    let Ok(number) = text.parse::<u64>() else {
+        return None;
+    };
+    if number == 0 {
+        return None;
+    }
+    if !is_written(number, text) {
+        return None;
+    }
+    Some(number)
+}
+
+// The text of an option, where that is given.
+#[tactic(auto, using(crate::proofs::Found::text_found))]
+fn text_of<'a>(options: &ArgMatches<'a>, name: &str) -> Option<&'a str>
+    ensures { option_map (λ s. s.now) result
+        ≡ first_of name.now (rows_of (found_of options.now)) }
+{
+    options.get_str(name)
+}
+
+fn run_of(frames: Option<&str>) -> Option<Wanted>
+    ensures { IsRunOf (option_map (λ s. s.now) frames.entry) result }
+{
+    match frames {
+        Some(text) => match count_of(text) {
+            Some(frames) => Some(Wanted::Run { frames }),
+            None => None,
+        },
+        None => Some(Wanted::Run { frames: MAX_FRAMES }),
+    }
+}
+
+// What is asked for by what `clap` found.
+fn found_in<'a>(matches: &ArgMatches<'a>) -> Option<Wanted>
+    ensures run { (rows : List Row) → subcommand_rows_of matches.now ≡ Some (codes "run", rows)
+        → IsRunOf (first_of (codes "frames") rows) result }
+    ensures check { (rows : List Row) → subcommand_rows_of matches.now ≡ Some (codes "check", rows)
+        → result ≡ Some Wanted.Check }
+{
+    let (name, options) = matches.subcommand()?;
+    match name {
+        "run" => run_of(text_of(options, "frames")),
+        "check" => Some(Wanted::Check),
+        _ => None,
+    }
+}
+
+/// What words ask for, and `None` where they are no command line.
+pub fn wanted_of(alloc: Global, words: &[String]) -> Result<Option<Wanted>, AllocError>
+    ensures { IfOk result (IsMeaning words.now) }
+{
+    if !are_of_table(words) {
+        return Ok(None);
+    }
+    match matches_of(alloc, words) {
+        Ok(matches) => Ok(found_in(&matches)),
+        Err(error) => match error.kind() {
+            ErrorKind::OutOfMemory => Err(AllocError),
+            _ => Ok(None),
+        },
+    }
+}

@@ -1,0 +1,32 @@
+//! What the program tells of itself.
+
+/// How it is used.
+pub const USAGE: &[u8] = b"\
+taosd FILE LISTEN RELAY COMMAND
+taosd --help | --version | --key
+
+FILE    the path of a node file, or - for none
+LISTEN  -
+RELAY   the address HOST:PORT of the node's relay, or - for none
+
+COMMAND is one of
+  run [--frames N]  answers the request frames of standard input on standard
+                    output, N of them at most (1 or more; 1000000 without)
+  check             reads a request frame and its reply frame, and prints what
+                    the reply shows
+
+--help     prints this text
+--version  prints the program's version
+--key      prints a fresh key: 64 hex digits, from /dev/urandom
+
+Exit status, told on standard error but for 0 and 11:
+  0  done                          6  no memory
+  1  the words are no command      7  the input ends inside a frame
+  2  the file opens no node        8  a frame is too long
+  3  a read failed                10  N frames were answered, and more came
+  4  a write failed               11  check refused the reply
+  5  the clock failed
+";
+
+/// Its name and version.
+pub const VERSION: &[u8] = b"taosd 0.1.0\n";
