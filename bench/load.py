@@ -12,7 +12,7 @@ rise from 1. Key n is 32 bytes of value n. LIMIT is the journal limit of the ope
 default, the most that there can be: each read takes an entry of the shard's journal. `check` looks at
 each reply's length, channel, sequence number, status, shard, place and tag, and fails unless all COUNT
 are grants: each place is the one behind the entries of the reads before it, which are one to a read, and
-one more where a grant was kept.
+one more where its proof was not kept before.
 
 A large request has LENGTH bytes, at most 65,536: a Read that presents 16 certificates, which are
 bytes of no form. It is read whole, and `check-large` fails unless each answer says, sealed, that the
@@ -99,7 +99,7 @@ class Grants:
             return False
         kept, entry, shard, place = GRANT.unpack_from(fields)
         right = (entry, shard, place) == (0, CHANNEL % SHARDS, self.due) and kept in (0, 1)
-        self.due = place + 1 + kept
+        self.due = place + 2 - kept
         return right and fields.endswith(struct.pack(">H", len(CONTENT)) + CONTENT)
 
 

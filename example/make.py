@@ -26,7 +26,7 @@ ENDED, UNSEEN = (RELAYED, 1, 4, 1000, 3), (ISSUED, 1, 4, 2**40, 4)
 REQUESTS = [
     (1, 1, 5, [], False),  # key 1 is anchored to name 10, which is listed
     (2, 1, 5, [BY_ONE], False),  # and may hand that off to key 2
-    (2, 2, 5, [], False),  # for which the shard holds the certificate now
+    (2, 2, 5, [], False),  # for which the shard holds the certificate now, and the proof
     (2, 2, 5, [], False),  # not the client: somebody on the wire sends the frame before this one again
     (2, 9, 5, [], False),  # numbers may leave some out
     (4, 1, 5, [], False),  # what channel 2 presented is channel 2's
@@ -35,7 +35,7 @@ REQUESTS = [
     (4, 4, 5, [UNSEEN], False),  # under its issuer's own seal a relay has to see it, and there is none
     (1, 2, 5, [], True),  # a bit was turned on the way
     (1, 3, 6, [], False),  # there is no such object
-    (1, 4, 5, [], False),  # neither of these two took an entry: this is the second place of its journal
+    (1, 4, 5, [], False),  # neither of these two took an entry: this stands behind the first read and its proof
 ]
 
 

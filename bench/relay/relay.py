@@ -233,11 +233,11 @@ FAILURES = [
 
 
 class Case:
-    """A request, and the reply that it should have. `place` is that of a grant or a denial."""
+    """A request, and the reply that it should have. `place` is that of a grant or a denial, `kept` that of a grant."""
 
-    def __init__(self, name, channel, certificates, status, fields=b"", place=None):
+    def __init__(self, name, channel, certificates, status, fields=b"", place=None, kept=0):
         self.name, self.channel, self.certificates = name, channel, certificates
-        self.status, self.fields, self.place = status, fields, place
+        self.status, self.fields, self.place, self.kept = status, fields, place, kept
 
 
 def refused(name, certificate, code, before=()):
@@ -267,10 +267,11 @@ def with_relay():
     cases += [refused("behind one thing more", REFUSALS[4][1], BAD_SEAL)]
     cases += [Case("the relay answers and closes", 2, [issued(3, 2, ENDS)], DENIED, place=4)]
     cases += [refused("behind a relay that closed", REFUSALS[4][1], BAD_SEAL)]
+    # A proof that is made takes an entry too, behind that of its request.
     cases += [Case("a good certificate", 2, [GOOD], GRANTED, place=5)]
-    cases += [Case("no certificate: it is held", 2, [], GRANTED, place=6)]
-    cases += [Case("another's certificate", 3, [GOOD], DENIED, place=7)]
-    cases += [Case("two good ones", 3, [issued(1, 3, 7), GOOD], GRANTED, place=8)]
+    cases += [Case("no certificate: it is held", 2, [], GRANTED, place=7, kept=1)]
+    cases += [Case("another's certificate", 3, [GOOD], DENIED, place=8)]
+    cases += [Case("two good ones", 3, [issued(1, 3, 7), GOOD], GRANTED, place=9)]
     return cases
 
 
@@ -303,7 +304,8 @@ class Fields:
 
 def grant_fault(fields, case):
     """What is wrong with a grant's fields, but for its proof."""
-    fields.number(1)
+    if fields.number(1) != case.kept:
+        return "another word on whether its proof was kept"
     if fields.number(1) != 0:
         return "another entry"
     if (fields.number(4), fields.number(8)) != (0, case.place):

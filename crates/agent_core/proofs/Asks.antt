@@ -1,5 +1,5 @@
 -- A step of an Ask, and what it came to, make the whole of an ask.
-use Rattle.std.proofs.Common.{◌≡◌, ℕ, zero, suc, ◌+◌, ◌<◌, ◌≤◌, Bool, true, false, nat_le, nat_lt, List, [], ◌∷◌, ◌++◌, length, refl, sym, ap, ◌∙◌, arith, append-nil, length-append, replicate, slice_get, Some, subst, ◌⊎◌, inl, inr}
+use Rattle.std.proofs.Common.{◌≡◌, ℕ, zero, suc, ◌+◌, ◌<◌, ◌≤◌, Bool, true, false, nat_le, nat_lt, List, [], ◌∷◌, ◌++◌, length, refl, sym, ap, ◌∙◌, arith, append-nil, length-append, replicate, slice_get, find, Some, subst, ◌⊎◌, inl, inr}
 use Rattle.std.proofs.lemmas.List.{length-replicate}
 use Rattle.std.proofs.lemmas.Bool.{cond_both}
 use Rattle.std.specs.Prelude.{Result, Ok, Err, IfOk, OnErr}
@@ -10,7 +10,10 @@ use Rattle.denial_link.specs.Revived.{claims}
 use Rattle.std.specs.Arc.{arc_value}
 use Rattle.prin_term.specs.declared.term.Anchor.{Anchor}
 use Rattle.taos_calculus.specs.Question.{IsAskable}
+use Rattle.std.proofs.lemmas.Option.{same_Some}
+use Rattle.prin_term.specs.View.{Grant}
 use Rattle.taos_calculus.proofs.Induction.{All-at}
+use Rattle.proof_cache.specs.Cache.{is_for}
 use Rattle.proof_cache.specs.Cached.{Cached, cached}
 use Rattle.proof_cache.specs.declared.cached.Cached.{Cached as CachedValue}
 use Rattle.std.specs.declared.alloc.Global.{Global}
@@ -26,14 +29,18 @@ use Rattle.agent_core.specs.declared.asked.Verdict.{Verdict}
 use Rattle.agent_core.specs.declared.asked.Verdict.TheVariants as verdict
 use Rattle.agent_core.specs.Plans.{IsPlan, AreShards}
 use Rattle.agent_core.proofs.Few.{judges_few}
+use Rattle.agent_core.proofs.Hits.{hit_proof}
 use Rattle.agent_core.proofs.Onward.{begins_on}
 use Rattle.agent_core.specs.declared.told.Told.{Told}
+use Rattle.agent_core.specs.declared.told.DropCause.{DropCause}
+use Rattle.agent_core.specs.Caches.{unlapsed}
+use Rattle.agent_core.specs.Granted.{IsKeptProofFor}
 use Rattle.agent_core.specs.declared.asked.Denial.{Denial}
 use Rattle.agent_core.specs.State.{Plan, State, Ask, Event, Asks, Answer, Plain, swept, brought, asking, moment_of}
-use Rattle.agent_core.specs.Journals.{Entry, entry, state_after, Stands, IsJudged, granted}
-use Rattle.agent_core.specs.Steps.{StepAnswer, Hit, Miss, Other, IsAnswer, miss, other, JournalSeen, StepsTo, StepRefused, seen_at}
-use Rattle.agent_core.specs.Asked.{FitsAsk, IsGrantedAt, IsDeniedAt, IsTold, EndsBy, AskEnds, Unanswered, AskedTo}
-use Rattle.agent_core.specs.Settling.{IsGrantedBy, IsDeniedBy, Settles, StepsAsk}
+use Rattle.agent_core.specs.Journals.{Entry, entry, state_after, cache_after, Stands, IsLegalJournal, IsJudged, granted}
+use Rattle.agent_core.specs.Steps.{StepAnswer, Hit, Miss, Other, IsAnswer, hit, miss, other, JournalSeen, StepsTo, StepRefused, seen_at}
+use Rattle.agent_core.specs.Asked.{FitsAsk, IsGrantedAt, IsHitAt, IsDeniedAt, IsTold, IsGrant, by_kept, EndsBy, Ends, AskEnds, Unanswered, AskedTo}
+use Rattle.agent_core.specs.Settling.{IsGrantedBy, IsDeniedBy, StepsAsk}
 
 pub on_err : {T E P : Type 0} (r : Result T E) → P → OnErr r P
 on_err (Ok x) p = tt
@@ -46,6 +53,8 @@ IsToldOfAsk (Told.Replayed last) = Unit {0}
 IsToldOfAsk (Told.Full held) = Unit {0}
 IsToldOfAsk (Told.Hit entry) = ⊥
 IsToldOfAsk Told.Miss = ⊥
+IsToldOfAsk Told.Kept = ⊥
+IsToldOfAsk (Told.Dropped cause) = ⊥
 IsToldOfAsk (Told.Held added) = ⊥
 IsToldOfAsk (Told.CommonsFull held) = ⊥
 IsToldOfAsk (Told.Removed count) = ⊥
@@ -55,12 +64,14 @@ module _ (plan : Plan) (before : List Entry) (a : Ask) where
       (told ≡ Told.Miss) × IsJudged plan before a moment certs
   missed told moment certs (miss j) = (refl, j)
 
-  told_other : (told told' : Told) → IsAnswer plan before (Asks a) told (Other told') → told ≡ told'
-  told_other told told' (other e) = refl
+  pub told_other : (event : Event) (told told' : Told) → IsAnswer plan before event told (Other told') → told ≡ told'
+  told_other event told told' (other e) = refl
 
-  no_hit : (event : Event) (told : Told) (answer : StepAnswer) → IsAnswer plan before event told answer → (e : ℕ) (c : Cached) → answer ≡ Hit e c → ⊥
-  no_hit event told answer (miss j) e c is = cc
-  no_hit event told answer (other p) e c is = cc
+  -- what a hit hands out
+  pub hit_parts : (told : Told) (e : ℕ) (c : Cached) → IsAnswer plan before (Asks a) told (Hit e c) →
+      (told ≡ Told.Hit e) × ((moment : ℕ) × (certs : List Certificate) × (g : Grant) × IsJudged plan before a moment certs × (slice_get a.list e ≡ Some g) ×
+      (find (is_for a.subject g.who) (unlapsed moment (cache_after plan before)) ≡ Some c))
+  hit_parts told e c (hit {moment = moment} {certs = certs} {g = g} j at found) = (refl, (moment, certs, g, j, at, found))
 
   -- an Ask that is not to be judged
   asking_tells : (s : State) (told : Told) → (asking s a).1 ≡ Plain told → IsToldOfAsk told
@@ -72,6 +83,7 @@ module _ (plan : Plan) (before : List Entry) (a : Ask) where
       (λ _ e. let no : ⊥ = cc in absurd no))
 
   answer_tells : (told : Told) (answer : StepAnswer) → IsAnswer plan before (Asks a) told answer → (told' : Told) → answer ≡ Other told' → IsToldOfAsk told'
+  answer_tells told answer (hit j at found) told' is = let no : ⊥ = cc in absurd no
   answer_tells told answer (miss j) told' is = let no : ⊥ = cc in absurd no
   answer_tells told answer (other p) told' is =
       let same : told ≡ told' = cc in
@@ -116,21 +128,36 @@ module _ {plan : Plan} {earlier later : JournalSeen} (a : Ask) where
           ends = ends;
         }
 
-  pub never_hit : (place e : ℕ) (c : Cached) → StepsTo plan earlier later (Asks a) place (Hit e c) → ⊥
-  never_hit place e c s = no_hit plan s.before a (Asks a) s.steps.told (Hit e c) s.steps.answers e c refl
+  -- an Ask that a kept proof serves
+  pub hit_at_last : (place e : ℕ) (c : Cached) → StepsTo plan earlier later (Asks a) place (Hit e c) → IsHitAt plan later.journal a place e c
+  hit_at_last place e c s =
+      let (told, rest) = hit_parts plan s.before a s.steps.told e c s.steps.answers in
+      let (moment, certs, g, j, at, found) = rest in
+      let legal : IsLegalJournal plan (s.before ++ entry (Asks a) (Told.Hit e) ∷ []) =
+      subst (IsLegalJournal plan) (s.steps.adds ∙ ap (λ t. s.before ++ entry (Asks a) t ∷ []) told) s.steps.legal in
+      let k : IsKeptProofFor plan.anchors certs moment a e c = hit_proof plan s.before a e legal moment certs g c j at found in
+      record {
+        before = s.before;
+        moment = moment;
+        certs = certs;
+        stands = stands_last place (Hit e c) s (Told.Hit e) told;
+        judged = j;
+        proof = k;
+        found = subst (λ (x : Grant). find (is_for a.subject x.who) (unlapsed moment (cache_after plan s.before)) ≡ Some c) (same_Some g k.grant (sym at ∙ k.stands)) found;
+      }
 
   pub told_of_ask : (place : ℕ) (told : Told) → StepsTo plan earlier later (Asks a) place (Other told) → IsToldOfAsk told
   told_of_ask place told s = answer_tells plan s.before a s.steps.told (Other told) s.steps.answers told refl
 
   pub told_at_last : (place : ℕ) (told : Told) → StepsTo plan earlier later (Asks a) place (Other told) → IsTold plan later.journal a place told
-  told_at_last place told s = (s.before, stands_last place (Other told) s told (told_other plan s.before a s.steps.told told s.steps.answers))
+  told_at_last place told s = (s.before, stands_last place (Other told) s told (told_other plan s.before a (Asks a) s.steps.told told s.steps.answers))
 
   -- an Ask that was judged by these
   module _ (place moment : ℕ) (certs : List Certificate) (s : StepsTo plan earlier later (Asks a) place (Miss moment certs)) where
     pub judged_by : IsJudged plan s.before a moment certs
     judged_by = (missed plan s.before a s.steps.told moment certs s.steps.answers).1
 
-    stands_missed : Stands later.journal place s.before (entry (Asks a) Told.Miss)
+    pub stands_missed : Stands later.journal place s.before (entry (Asks a) Told.Miss)
     stands_missed = stands_last place (Miss moment certs) s Told.Miss (missed plan s.before a s.steps.told moment certs s.steps.answers).0
 
     pub granted_at_last : (e : ℕ) (c : Cached) → IsGrantedBy plan.anchors certs moment a e c → IsGrantedAt plan later.journal a place e c
@@ -162,23 +189,18 @@ module _ {plan : Plan} {earlier later : JournalSeen} (a : Ask) where
     pub unanswered_at_last : Grants plan.anchors (claims (live certs moment)) a.subject a.list a.right → Unanswered plan later.journal a (place ∷ [])
     unanswered_at_last g = inr (place, s.before, stands_missed, granted judged_by g, refl)
 
-    -- what it came to, in the program's words
-    pub settled_ends : (v : Verdict) → Settles plan.anchors certs moment a v → EndsBy plan later.journal a place v (place ∷ [])
-    settled_ends (verdict.Granted e c) g = (granted_at_last e (cached (arc_value {X = CachedValue} c)) g, refl)
-    settled_ends (verdict.Denied denial) d = (denied_at_last denial d, refl)
-    settled_ends (verdict.Replayed last) f = absurd f
-    settled_ends (verdict.Full held) f = absurd f
-    settled_ends (verdict.JournalFull n) f = absurd f
+    -- the live certificates grant none
+    pub denied_asks : (anchors : List Anchor) → plan.anchors ≡ anchors → (b : Ask) → b ≡ a → (denial : Denial) → IsDeniedBy anchors certs moment b denial →
+        AskedTo plan earlier later a (EndsBy plan later.journal a place (verdict.Denied denial))
+    denied_asks anchors same b is denial d =
+        stepped_asks place (Miss moment certs) s (EndsBy plan later.journal a place (verdict.Denied denial))
+        (denied_at_last denial (subst (λ l. IsDeniedBy l certs moment a denial) (sym same) (subst (λ x. IsDeniedBy anchors certs moment x denial) is d)), refl)
 
-    -- and in the program's own parts
-    module _ (anchors : List Anchor) (same : plan.anchors ≡ anchors) (b : Ask) (is : b ≡ a) where
-      pub settled_asks : (v : Verdict) → Settles anchors certs moment b v → AskedTo plan earlier later a (EndsBy plan later.journal a place v)
-      settled_asks v h = stepped_asks place (Miss moment certs) s (EndsBy plan later.journal a place v) (settled_ends v (subst (λ l. Settles l certs moment a v) (sym same) (subst (λ x. Settles anchors certs moment x v) is h)))
-
-      pub unanswered_asks : Grants anchors (claims (live certs moment)) b.subject b.list b.right → AskedTo plan earlier later a (Unanswered plan later.journal a)
-      unanswered_asks h =
-          stepped_asks place (Miss moment certs) s (Unanswered plan later.journal a) (unanswered_at_last (subst (λ l. Grants l (claims (live certs moment)) a.subject a.list a.right) (sym same)
-          (subst (λ (x : Ask). Grants anchors (claims (live certs moment)) x.subject x.list x.right) is h)))
+    pub unanswered_asks : (anchors : List Anchor) → plan.anchors ≡ anchors → (b : Ask) → b ≡ a → Grants anchors (claims (live certs moment)) b.subject b.list b.right →
+        AskedTo plan earlier later a (Unanswered plan later.journal a)
+    unanswered_asks anchors same b is h =
+        stepped_asks place (Miss moment certs) s (Unanswered plan later.journal a) (unanswered_at_last (subst (λ l. Grants l (claims (live certs moment)) a.subject a.list a.right) (sym same)
+        (subst (λ (x : Ask). Grants anchors (claims (live certs moment)) x.subject x.list x.right) is h)))
 
 -- ---- what stands behind each answer
 
@@ -216,20 +238,26 @@ module _ {plan : Plan} {earlier later : JournalSeen} {a : Ask} {place : ℕ} {r 
       let t = step_as (answer.JournalFull n) is in
       refused_asks a (EndsBy plan later.journal a place (verdict.JournalFull n)) t.0 (t.1, t.2, t.3, refl)
 
-  pub hit_never : (e : ℕ) (c : Arc CachedValue Global) → r ≡ answer.Hit e c → ⊥
-  hit_never e c is = never_hit a place e (cached (arc_value {X = CachedValue} c)) (step_as (answer.Hit e c) is)
+  pub hit_ends : (e : ℕ) (c : Arc CachedValue Global) → r ≡ answer.Hit e c →
+      AskedTo plan earlier later a (IsGrant plan later.journal a place e (cached (arc_value {X = CachedValue} c)) true NoNeed)
+  hit_ends e c is =
+      let t = step_as (answer.Hit e c) is in
+      let kept : Cached = cached (arc_value {X = CachedValue} c) in
+      stepped_asks a place (Hit e kept) t (IsGrant plan later.journal a place e kept true NoNeed) (by_kept (hit_at_last a place e kept t))
 
   -- what only other events are told
-  pub other_never : ((n : ℕ) × (r ≡ answer.Held n)) ⊎ (((n : ℕ) × (r ≡ answer.CommonsFull n)) ⊎ ((n : ℕ) × (r ≡ answer.Removed n))) → ⊥
-  other_never (inl h) = told_of_ask a place (Told.Held h.0) (step_as (answer.Held h.0) h.1)
-  other_never (inr (inl h)) = told_of_ask a place (Told.CommonsFull h.0) (step_as (answer.CommonsFull h.0) h.1)
-  other_never (inr (inr h)) = told_of_ask a place (Told.Removed h.0) (step_as (answer.Removed h.0) h.1)
+  pub other_never : (r ≡ answer.Kept) ⊎ (((cause : DropCause) × (r ≡ answer.Dropped cause)) ⊎
+      (((n : ℕ) × (r ≡ answer.Held n)) ⊎ (((n : ℕ) × (r ≡ answer.CommonsFull n)) ⊎ ((n : ℕ) × (r ≡ answer.Removed n))))) → ⊥
+  other_never (inl h) = told_of_ask a place Told.Kept (step_as answer.Kept h)
+  other_never (inr (inl h)) = told_of_ask a place (Told.Dropped h.0) (step_as (answer.Dropped h.0) h.1)
+  other_never (inr (inr (inl h))) = told_of_ask a place (Told.Held h.0) (step_as (answer.Held h.0) h.1)
+  other_never (inr (inr (inr (inl h)))) = told_of_ask a place (Told.CommonsFull h.0) (step_as (answer.CommonsFull h.0) h.1)
+  other_never (inr (inr (inr (inr h)))) = told_of_ask a place (Told.Removed h.0) (step_as (answer.Removed h.0) h.1)
 
--- no proof is kept
-pub ends_made : {plan : Plan} {earlier later : JournalSeen} {a : Ask} (asked : Asked) (place : ℕ) (v : Verdict) →
-    asked ≡ record { place = place; verdict = v; kept = false; settled = NoNeed } →
-    AskedTo plan earlier later a (EndsBy plan later.journal a place v) → AskedTo plan earlier later a (AskEnds plan later.journal a asked)
-ends_made {plan = plan} {later = later} {a = a} asked place v is t = record {
+-- ---- how it ended, of what the program answers
+
+pub asked_as : {plan : Plan} {earlier later : JournalSeen} {a : Ask} (P Q : List ℕ → Type 0) → ((own : List ℕ) → P own → Q own) → AskedTo plan earlier later a P → AskedTo plan earlier later a Q
+asked_as P Q go t = record {
   places = t.places;
   goes_on = t.goes_on;
   undisturbed = t.undisturbed;
@@ -238,8 +266,31 @@ ends_made {plan = plan} {later = later} {a = a} asked place v is t = record {
   new = t.new;
   there = t.there;
   ascending = t.ascending;
-  ends = subst (λ r. AskEnds plan later.journal a r t.places) (sym is) (t.ends, refl, refl);
+  ends = go t.places t.ends;
 }
+
+plainly : (plan : Plan) (journal : List Entry) (a : Ask) (place : ℕ) (v : Verdict) (own : List ℕ) → EndsBy plan journal a place v own → Ends plan journal a place v false NoNeed own
+plainly plan journal a place (verdict.Granted e c) own h = absurd h
+plainly plan journal a place (verdict.Denied denial) own h = (h, refl, refl)
+plainly plan journal a place (verdict.Replayed last) own h = (h, refl, refl)
+plainly plan journal a place (verdict.Full held) own h = (h, refl, refl)
+plainly plan journal a place (verdict.JournalFull n) own h = (h, refl, refl)
+
+-- it is not granted
+pub ends_made : {plan : Plan} {earlier later : JournalSeen} {a : Ask} (asked : Asked) (place : ℕ) (v : Verdict) →
+    asked ≡ record { place = place; verdict = v; kept = false; settled = NoNeed } →
+    AskedTo plan earlier later a (EndsBy plan later.journal a place v) → AskedTo plan earlier later a (AskEnds plan later.journal a asked)
+ends_made {plan = plan} {later = later} {a = a} asked place v is t =
+    asked_as (EndsBy plan later.journal a place v) (AskEnds plan later.journal a asked)
+    (λ own h. subst (λ (r : Asked). AskEnds plan later.journal a r own) (sym is) (plainly plan later.journal a place v own h)) t
+
+-- it is granted by a kept proof
+pub hit_made : {plan : Plan} {earlier later : JournalSeen} {a : Ask} (asked : Asked) (place e : ℕ) (c : Arc CachedValue Global) →
+    asked ≡ record { place = place; verdict = verdict.Granted e c; kept = true; settled = NoNeed } →
+    AskedTo plan earlier later a (IsGrant plan later.journal a place e (cached (arc_value {X = CachedValue} c)) true NoNeed) → AskedTo plan earlier later a (AskEnds plan later.journal a asked)
+hit_made {plan = plan} {later = later} {a = a} asked place e c is t =
+    asked_as (IsGrant plan later.journal a place e (cached (arc_value {X = CachedValue} c)) true NoNeed) (AskEnds plan later.journal a asked)
+    (λ own h. subst (λ (r : Asked). AskEnds plan later.journal a r own) (sym is) h) t
 
 -- ---- what stands at a place of a list
 

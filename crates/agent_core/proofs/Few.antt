@@ -1,12 +1,12 @@
 -- How much a shard holds, and by how much an Ask is judged.
-use Rattle.std.proofs.Common.{◌≡◌, ℕ, suc, ◌+◌, ◌≤◌, Bool, not, ◌==◌, nat_le, nat_lt, List, [], ◌∷◌, ◌++◌, length, filter, refl, append-nil, sym, ◌∙◌, ap, subst₂, arith, length-append, bytes_eq}
+use Rattle.std.proofs.Common.{◌≡◌, ℕ, suc, ◌+◌, ◌≤◌, Bool, not, ◌==◌, nat_le, nat_lt, List, [], ◌∷◌, ◌++◌, length, filter, refl, append-nil, sym, ◌∙◌, ap, subst, subst₂, arith, length-append, bytes_eq}
 use Rattle.std.proofs.lemmas.Bool.{cond_both, ltb-false}
 use Rattle.stmt_codec.specs.Certificates.{Certificate, digest_of, live}
 use Rattle.taos_calculus.specs.Monitor.{Grants}
 use Rattle.denial_link.specs.Revived.{claims}
 use Rattle.agent_core.specs.Held.{newly}
-use Rattle.agent_core.specs.State.{Plan, State, Ask, Event, Asks, Holds, Discards, Forgets, Expires, Answer, Judged, opened, keeping, is_gone, swept, brought, taking, asking, holding, forgetting, next, moment_of}
-use Rattle.agent_core.specs.Journals.{Entry, state_from, state_after, granted, denied}
+use Rattle.agent_core.specs.State.{Plan, State, Ask, Event, Asks, Keeps, Holds, Discards, Forgets, Expires, Answer, Judged, opened, keeping, is_gone, swept, brought, taking, asking, holding, forgetting, next, moment_of}
+use Rattle.agent_core.specs.Journals.{Entry, state_from, state_after, IsMeant, granted, denied}
 use Rattle.agent_core.specs.Laws.{HoldsFew, JudgesFew, OneVerdict, JudgedIsVerdict, MeantStays, StepsAlone}
 use Rattle.agent_core.proofs.Journaling.{meant_on}
 use Rattle.agent_core.specs.declared.whole_ask.verdict.Decision.TheVariants as finding
@@ -52,6 +52,7 @@ few_forgetting channel s h =
 module _ (plan : Plan) where
   few_next : (s : State) (e : Event) → IsFew s → IsFew (next plan s e).0
   few_next s (Asks a) h = few_asking (swept plan.keep (moment_of s a.reading) s) a (few_swept plan.keep (moment_of s a.reading) s h)
+  few_next s (Keeps ask e c) h = h
   few_next s (Holds certs) h = few_holding s (newly s.commons certs) h
   few_next s (Discards d) h = few_keeping (λ c. not (bytes_eq (digest_of c) d)) s.clock s h
   few_next s (Forgets channel) h = few_forgetting channel s h
@@ -99,7 +100,7 @@ judged_verdict plan before a moment certs (finding.Denied link) j (not_granted, 
 -- ---- steps
 
 pub meant_stays : (plan : Plan) → MeantStays plan
-meant_stays plan xs ys event begins meant = meant_on plan xs ys event meant
+meant_stays plan xs ys event begins meant = subst (λ (l : List Entry). IsMeant plan l event) (sym begins.is) (meant_on plan xs begins.rest event meant)
 
 pub steps_alone : (plan : Plan) → StepsAlone plan
 steps_alone plan earlier later event place answer steps owned = record {

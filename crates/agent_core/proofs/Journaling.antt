@@ -1,14 +1,18 @@
 -- One more entry: what is kept stands for the state behind it.
-use Rattle.std.proofs.Common.{◌≡◌, ℕ, ◌+◌, ◌<◌, ◌≤◌, List, [], ◌∷◌, ◌++◌, length, map, refl, sym, ap, ◌∙◌, subst, arith, vec_capacity, ◌⊎◌, inl, inr, length-append}
+use Rattle.std.proofs.Common.{◌≡◌, ℕ, ◌+◌, ◌<◌, ◌≤◌, List, [], ◌∷◌, ◌++◌, length, map, refl, sym, ap, ap₂, ◌∙◌, subst, arith, vec_capacity, ◌⊎◌, inl, inr, length-append, zero, suc, Some, slice_get}
 use Rattle.std.specs.declared.alloc.Global.{Global}
 use Rattle.std.specs.declared.vec.Vec.{Vec}
 use Rattle.std.proofs.lemmas.List.{map_push, length-map}
 use Rattle.stmt_codec.specs.Certificates.{Certificate}
 use Rattle.agent_core.specs.declared.event.ShardEntry.{ShardEntry}
+use Rattle.proof_cache.specs.Cached.{Cached}
+use Rattle.agent_core.specs.Caches.{cache_next, unlapsed, used_by}
+use Rattle.agent_core.specs.Looking.{Takes}
 use Rattle.agent_core.specs.declared.shard.store.Row.{Row}
 use Rattle.agent_core.specs.declared.shard.store.Store.{Store}
-use Rattle.agent_core.specs.State.{Plan, State, Event, Asks, Answer, Plain, next}
-use Rattle.agent_core.specs.Journals.{Entry, entry, state_from, state_after, told_of, told_at, IsMeant, MayFollow, IsLegalJournal}
+use Rattle.agent_core.specs.declared.told.Told.{Told}
+use Rattle.agent_core.specs.State.{Plan, State, Ask, Event, Asks, Keeps, Answer, Plain, next, opened}
+use Rattle.agent_core.specs.Journals.{Entry, entry, state_from, state_after, cache_from, cache_after, told_of, told_at, IsKeepable, IsMeant, MayFollow, IsLegalJournal}
 use Rattle.agent_core.specs.Kept.{row_certs, IsRow, IsStore, IsKept, Tells, now_at}
 use Rattle.agent_core.specs.Names.{named, AreNames}
 use Rattle.agent_core.specs.Views.{entry_of}
@@ -20,10 +24,41 @@ pub state_from-push : (plan : Plan) (s : State) (journal : List Entry) (e : Entr
 state_from-push plan s [] e = refl
 state_from-push plan s (x ∷ journal) e = state_from-push plan (next plan s x.event).0 journal e
 
+-- the kept proofs behind one entry more
+cache_from-push : (plan : Plan) (s : State) (cache : List Cached) (journal : List Entry) (e : Entry) →
+    cache_from plan s cache (journal ++ e ∷ []) ≡
+    cache_next (next plan (state_from plan s journal) e.event).0.clock e.event e.told (cache_from plan s cache journal)
+cache_from-push plan s cache [] e = refl
+cache_from-push plan s cache (x ∷ journal) e =
+    cache_from-push plan (next plan s x.event).0 (cache_next (next plan s x.event).0.clock x.event x.told cache) journal e
+
+pub cache_after-push : (plan : Plan) (journal : List Entry) (e : Entry) →
+    cache_after plan (journal ++ e ∷ []) ≡ cache_next (next plan (state_after plan journal) e.event).0.clock e.event e.told (cache_after plan journal)
+cache_after-push plan journal e = cache_from-push plan (opened plan) [] journal e
+
+-- what stands in a front stands in the whole
+pub slice_front : {X : Type 0} (xs ys : List X) (i : ℕ) (x : X) → slice_get xs i ≡ Some x → slice_get (xs ++ ys) i ≡ Some x
+slice_front [] ys i x e = absurd cc
+slice_front (y ∷ xs) ys zero x e = e
+slice_front (y ∷ xs) ys (suc i) x e = slice_front xs ys i x e
+
+keepable_on : (plan : Plan) (xs more : List Entry) (ask e : ℕ) (c : Cached) → IsKeepable plan xs ask e c → IsKeepable plan (xs ++ more) ask e c
+keepable_on plan xs more ask e c k = record {
+  asked = k.asked;
+  told = k.told;
+  stands = slice_front xs more ask (entry (Asks k.asked) k.told) k.stands;
+  subject_is = k.subject_is;
+  who_is = k.who_is;
+  proves = k.proves;
+  lease_is = k.lease_is;
+  apart = k.apart;
+}
+
 -- what an event has to be stays so when the journal goes on
-pub meant_on : (plan : Plan) (xs ys : List Entry) (e : Event) → IsMeant plan xs e → IsMeant plan ys e
-meant_on plan xs ys (Asks a) m = m
-meant_on plan xs ys _ m = tt
+pub meant_on : (plan : Plan) (xs more : List Entry) (e : Event) → IsMeant plan xs e → IsMeant plan (xs ++ more) e
+meant_on plan xs more (Asks a) m = m
+meant_on plan xs more (Keeps ask e c) m = keepable_on plan xs more ask e c m
+meant_on plan xs more _ m = tt
 
 -- ---- legal journals
 
@@ -101,6 +136,28 @@ module _ (plan : Plan) (before : Vec ShardEntry Global) (store : Store) (kept : 
     adds = adds_entry ∙ ap (λ x. map entry_of before.items ++ entry x e.told ∷ []) event_is;
     plain = ap (λ (r : State × Answer). r.1) nexts;
     kept = kept_more store' (subst (IsMeant plan (map entry_of before.items)) (sym event_is) meant)
-        (ap told_of (sym (ap (λ (x : Event). (next plan (state_after plan (map entry_of before.items)) x).1) event_is ∙ ap (λ (r : State × Answer). r.1) nexts)))
+        (ap (told_of (cache_after plan (map entry_of before.items)) (entry_of e).event) (sym (ap (λ (x : Event). (next plan (state_after plan (map entry_of before.items)) x).1) event_is ∙ ap (λ (r : State × Answer). r.1) nexts)))
         (subst (λ t. IsStore plan (map entry_of before.items ++ entry_of e ∷ []) t store') (sym (ap (λ (x : Event). (next plan (state_after plan (map entry_of before.items)) x).0) event_is ∙ ap (λ (r : State × Answer). r.0) nexts)) is) swept;
   }
+
+-- ---- the kept proofs behind one entry more, by what the store then says
+
+module _ (plan : Plan) (journal after : List Entry) (event : Event) (told : Told) (store : Store) (added : after ≡ journal ++ entry event told ∷ [])
+    (is : IsStore plan after (state_after plan after) store) where
+  clock_now : store.clock ≡ (next plan (state_after plan journal) event).0.clock
+  clock_now =
+      is.clock_is ∙ ap (λ (j : List Entry). (state_after plan j).clock) added ∙
+      ap (λ (s : State). s.clock) (state_from-push plan (opened plan) journal (entry event told))
+
+  pub cache_follows : (cache new : List Cached) → cache ≡ cache_after plan journal → new ≡ cache_next store.clock event told cache → new ≡ cache_after plan after
+  cache_follows cache new was is_next =
+      is_next ∙ ap₂ (λ n (cs : List Cached). cache_next n event told cs) clock_now was ∙
+      sym (ap (cache_after plan) added ∙ cache_after-push plan journal (entry event told))
+
+pub tells_follow : (plan : Plan) (before after : Vec ShardEntry Global) (event : Event) (told : Told) (store : Store) → Tells plan before event told after store → (cache new : List Cached) →
+    cache ≡ cache_after plan (map entry_of before.items) → new ≡ cache_next store.clock event told cache → new ≡ cache_after plan (map entry_of after.items)
+tells_follow plan before after event told store t = cache_follows plan (map entry_of before.items) (map entry_of after.items) event told store t.adds t.kept.store_is
+
+pub takes_follow : (plan : Plan) (before after : Vec ShardEntry Global) (a : Ask) (told : Told) (store : Store) → Takes plan before a told after store → (cache new : List Cached) →
+    cache ≡ cache_after plan (map entry_of before.items) → new ≡ used_by a told (unlapsed store.clock cache) → new ≡ cache_after plan (map entry_of after.items)
+takes_follow plan before after a told store t = cache_follows plan (map entry_of before.items) (map entry_of after.items) (Asks a) told store t.adds t.kept.store_is

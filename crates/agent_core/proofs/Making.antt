@@ -1,10 +1,12 @@
 -- The journal that a shard makes of events, and legal journals an entry at a time.
-use Rattle.std.proofs.Common.{◌≡◌, ◌+◌, ◌≤◌, List, [], ◌∷◌, ◌++◌, length, map, refl, sym, ◌∙◌, ap, subst, append_assoc, append-nil, length-append, arith}
+use Rattle.std.proofs.Common.{◌≡◌, ◌+◌, ◌≤◌, List, [], ◌∷◌, ◌++◌, length, map, refl, sym, ◌∙◌, ap, ap₂, subst, append_assoc, append-nil, length-append, arith}
 use Rattle.std.proofs.lemmas.List.{map-append}
+use Rattle.proof_cache.specs.Cached.{Cached}
+use Rattle.agent_core.specs.Caches.{cache_next}
 use Rattle.agent_core.specs.State.{Plan, State, Event, opened, next}
-use Rattle.agent_core.specs.Journals.{Entry, entry, told_of, told_at, state_from, state_after, MayFollow, IsLegalJournal}
+use Rattle.agent_core.specs.Journals.{Entry, entry, told_of, told_at, state_from, state_after, cache_from, cache_after, MayFollow, IsLegalJournal}
 use Rattle.agent_core.specs.Laws.{journal_from, journal_of, AreMeant, AllMayFollow, LegalIsAllowed, JournalIsLegal, HasOneJournal, FrontIsLegal}
-use Rattle.agent_core.proofs.Journaling.{state_from-push, legal_more}
+use Rattle.agent_core.proofs.Journaling.{state_from-push, cache_after-push, legal_more}
 
 module _ (plan : Plan) where
   pub front_legal : FrontIsLegal plan
@@ -24,7 +26,7 @@ module _ (plan : Plan) where
 
   -- the journal of the next events, behind those that stand
   abbrev onward : List Entry → List Event → List Entry
-  onward before events = journal_from plan (state_after plan before) events
+  onward before events = journal_from plan (state_after plan before) (cache_after plan before) events
 
   abbrev made : List Entry → Event → Entry
   made before e = entry e (told_at plan before e)
@@ -33,7 +35,8 @@ module _ (plan : Plan) where
       before ++ onward before (e ∷ es) ≡ (before ++ made before e ∷ []) ++ onward (before ++ made before e ∷ []) es
   onward_more before e es =
       sym (append_assoc before (made before e ∷ []) _) ∙
-      ap (λ s. (before ++ made before e ∷ []) ++ journal_from plan s es) (sym (state_from-push plan (opened plan) before (made before e)))
+      ap₂ (λ s c. (before ++ made before e ∷ []) ++ journal_from plan s c es) (sym (state_from-push plan (opened plan) before (made before e)))
+      (sym (cache_after-push plan before (made before e)))
 
   legal_onward : (before : List Entry) (events : List Event) → IsLegalJournal plan before → length before + length events ≤ plan.limit →
       AreMeant plan before events → IsLegalJournal plan (before ++ onward before events)
@@ -51,10 +54,14 @@ module _ (plan : Plan) where
   pub journal_legal : JournalIsLegal plan
   journal_legal events few meant = legal_onward [] events empty_legal (omega arith) meant
 
-  journal_from-append : (s : State) (es : List Event) (e : Event) →
-      journal_from plan s (es ++ e ∷ []) ≡ journal_from plan s es ++ journal_from plan (state_from plan s (journal_from plan s es)) (e ∷ [])
-  journal_from-append s [] e = refl
-  journal_from-append s (x ∷ es) e = ap (λ l. entry x (told_of (next plan s x).1) ∷ l) (journal_from-append (next plan s x).0 es e)
+  journal_from-append : (s : State) (cache : List Cached) (es : List Event) (e : Event) →
+      journal_from plan s cache (es ++ e ∷ []) ≡
+      journal_from plan s cache es ++ journal_from plan (state_from plan s (journal_from plan s cache es)) (cache_from plan s cache (journal_from plan s cache es)) (e ∷ [])
+  journal_from-append s cache [] e = refl
+  journal_from-append s cache (x ∷ es) e =
+      let t : State = (next plan s x).0 in
+      let told = told_of cache x (next plan s x).1 in
+      ap (λ l. entry x told ∷ l) (journal_from-append t (cache_next t.clock x told cache) es e)
 
   abbrev events_of : List Entry → List Event
   events_of j = map (λ (e : Entry). e.event) j
@@ -71,7 +78,7 @@ module _ (plan : Plan) where
       let k : List Entry = journal_of plan (events_of j) in
       ap (λ l. l ++ e ∷ []) is
       ∙ (ap (λ x. k ++ x ∷ []) (entry_made j e may.tells ∙ ap (λ l. made l e.event) is)
-      ∙ (sym (journal_from-append (opened plan) (events_of j) e.event)
+      ∙ (sym (journal_from-append (opened plan) [] (events_of j) e.event)
       ∙ ap (journal_of plan) (sym (map-append (λ (x : Entry). x.event) j (e ∷ [])))))
 
   pub one_journal : HasOneJournal plan

@@ -18,7 +18,7 @@ use Rattle.agent_core.specs.Views.{entry_of}
 use Rattle.agent_core.proofs.NamesLeft.{is_there}
 use Rattle.agent_core.proofs.Rows.{row_fresh}
 
-slice_at : {X : Type 0} (front : List X) (x : X) (rest : List X) → slice_get (front ++ x ∷ rest) (length front) ≡ Some x
+pub slice_at : {X : Type 0} (front : List X) (x : X) (rest : List X) → slice_get (front ++ x ∷ rest) (length front) ≡ Some x
 slice_at [] x rest = refl
 slice_at (y ∷ front) x rest = slice_at front x rest
 

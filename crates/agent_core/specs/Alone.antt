@@ -2,10 +2,9 @@
 use Rattle.std.specs.Prelude.{◌≡◌, ◌≢◌, ℕ, ◌-◌, ◌<◌, ◌≤◌, true, List, [], length, map, Option, None, Some, slice_get, All, Result, IfOk, OnErr}
 use Rattle.std.specs.List.{range_with_len}
 use Rattle.prin_term.specs.declared.term.Anchor.{Anchor}
-use Rattle.agent_core.specs.declared.told.Told.{Told}
 use Rattle.agent_core.specs.declared.told.Answer.{Answer}
 use Rattle.agent_core.specs.State.{Plan, Event}
-use Rattle.agent_core.specs.Answers.{SteppedTo}
+use Rattle.agent_core.specs.Answers.{SteppedTo, TakesMemory}
 use Rattle.agent_core.specs.Steps.{JournalSeen, StepRefused, seen_at}
 use Rattle.agent_core.specs.Plans.{AreShards}
 use Rattle.agent_core.specs.Journals.{Entry, ShardSeen, told_at, IsLegalJournal}
@@ -70,9 +69,9 @@ pub record StepsLone {E : Type 0} (l l' : LoneSeen) (number : ℕ) (event : Even
   -- a step that fails adds no entry
   pub refused : (plan : Plan) → HasPlanAt l number plan →
       OnErr r (StepRefused plan (lone_at l number) (lone_at l' number))
-  -- a step fails only for an Ask that would be judged
+  -- a step fails only where handles are made
   pub wanted : (plan : Plan) → HasPlanAt l number plan →
-      OnErr r (told_at plan (seen_in l'.shards number) event ≡ Told.Miss)
+      OnErr r (TakesMemory (told_at plan (seen_in l'.shards number) event))
   -- a step fails only where the journal has room
   pub room : (plan : Plan) → HasPlanAt l number plan →
       OnErr r (length (seen_in l'.shards number) < plan.limit)

@@ -2,23 +2,33 @@
 use Rattle.std.specs.Prelude.{◌≡◌, ℕ, ◌≤◌, List, length}
 use Rattle.std.specs.Arc.{arc_value}
 use Rattle.stmt_codec.specs.View.{certificates}
+use Rattle.taos_calculus.specs.declared.decide.TheConstants.{MAX_ENTRIES}
 use Rattle.proof_cache.specs.Cached.{cached}
 use Rattle.proof_cache.specs.declared.cached.Cached.{Cached as CachedValue}
 use Rattle.agent_core.specs.declared.limits.TheConstants.{MAX_PRESENTED}
 use Rattle.agent_core.specs.declared.told.Told.{Told}
 use Rattle.agent_core.specs.declared.told.Answer.{Answer}
 use Rattle.agent_core.specs.declared.told.Answer.TheVariants as answer
-use Rattle.agent_core.specs.State.{Plan, Event, Asks, Holds, Discards, Forgets, Expires}
+use Rattle.agent_core.specs.State.{Plan, Event, Asks, Keeps, Holds, Discards, Forgets, Expires}
 use Rattle.agent_core.specs.Journals.{Entry}
 use Rattle.agent_core.specs.Steps.{StepAnswer, Hit, Miss, Other, JournalSeen, Steps, StepsTo, StepRefused}
 
--- the event brings few certificates
+-- the event is within the limits: it brings few certificates, and an Ask's list is short
 abbrev pub FitsEvent : Event → Type 0
-FitsEvent (Asks a) = length a.presented ≤ MAX_PRESENTED
+FitsEvent (Asks a) = (length a.presented ≤ MAX_PRESENTED) × (length a.list ≤ MAX_ENTRIES)
+FitsEvent (Keeps ask entry c) = Unit {0}
 FitsEvent (Holds certs) = length certs ≤ MAX_PRESENTED
 FitsEvent (Discards digest) = Unit {0}
 FitsEvent (Forgets channel) = Unit {0}
 FitsEvent (Expires reading) = Unit {0}
+
+-- what is told of an event for which memory may lack: handles are made for the answer, or for what
+-- is kept
+abbrev pub TakesMemory : Told → Type 0
+TakesMemory (Told.Hit entry) = Unit {0}
+TakesMemory Told.Miss = Unit {0}
+TakesMemory Told.Kept = Unit {0}
+TakesMemory _ = ⊥
 
 -- the one holds of what is handed out or told; or the other of the length of a full journal
 abbrev pub OfAnswer : (StepAnswer → Type 0) → (ℕ → Type 0) → Answer → Type 0
@@ -28,6 +38,8 @@ OfAnswer Handed Full (answer.Hit entry c) =
     Handed (Hit entry (cached (arc_value {X = CachedValue} c)))
 OfAnswer Handed Full (answer.Miss snapshot) =
     Handed (Miss snapshot.moment (certificates snapshot.certs.items))
+OfAnswer Handed Full answer.Kept = Handed (Other Told.Kept)
+OfAnswer Handed Full (answer.Dropped cause) = Handed (Other (Told.Dropped cause))
 OfAnswer Handed Full (answer.Held added) = Handed (Other (Told.Held added))
 OfAnswer Handed Full (answer.CommonsFull held) = Handed (Other (Told.CommonsFull held))
 OfAnswer Handed Full (answer.Removed count) = Handed (Other (Told.Removed count))

@@ -1,5 +1,5 @@
 -- An ask at a shard: its step, the decision on what the step handed out, and how that ended.
-use Rattle.std.specs.Prelude.{◌≡◌, ◌⊎◌, ℕ, ◌+◌, ◌<◌, ◌≤◌, true, false, List, [], ◌∷◌, ◌++◌, length, Some, slice_get, All, AllPairs}
+use Rattle.std.specs.Prelude.{◌≡◌, ◌⊎◌, ℕ, ◌+◌, ◌<◌, ◌≤◌, Bool, true, false, List, [], ◌∷◌, ◌++◌, length, Some, find, slice_get, All, AllPairs}
 use Rattle.std.specs.Arc.{arc_value}
 use Rattle.prin_term.specs.declared.limits.TheConstants.{ENTRY_NODES}
 use Rattle.prin_term.specs.Principal.{node_count}
@@ -11,6 +11,7 @@ use Rattle.denial_link.specs.declared.link.Link.{Link}
 use Rattle.denial_link.specs.declared.link.Link.TheVariants as links
 use Rattle.denial_link.specs.Revived.{claims}
 use Rattle.denial_link.specs.Links.{IsFirstLink}
+use Rattle.proof_cache.specs.Cache.{is_for}
 use Rattle.proof_cache.specs.Cached.{Cached, cached}
 use Rattle.proof_cache.specs.declared.cached.Cached.{Cached as CachedValue}
 use Rattle.agent_core.specs.declared.limits.TheConstants.{MAX_PRESENTED}
@@ -19,10 +20,13 @@ use Rattle.agent_core.specs.declared.asked.Denial.{Denial}
 use Rattle.agent_core.specs.declared.asked.Verdict.{Verdict}
 use Rattle.agent_core.specs.declared.asked.Verdict.TheVariants as verdict
 use Rattle.agent_core.specs.declared.asked.Settled.{Settled}
+use Rattle.agent_core.specs.declared.asked.Settled.TheVariants as settled
+use Rattle.agent_core.specs.declared.told.DropCause.{DropCause}
 use Rattle.agent_core.specs.declared.asked.Asked.{Asked}
-use Rattle.agent_core.specs.State.{Plan, Ask, Asks}
-use Rattle.agent_core.specs.Journals.{Entry, entry, Stands, Begins, IsLegalJournal, IsJudged, IsVerdict, Granted}
-use Rattle.agent_core.specs.Granted.{IsProofFor}
+use Rattle.agent_core.specs.State.{Plan, Ask, Event, Asks, Keeps}
+use Rattle.agent_core.specs.Journals.{Entry, entry, Stands, Begins, cache_after, IsLegalJournal, IsJudged, IsVerdict, Granted}
+use Rattle.agent_core.specs.Caches.{unlapsed}
+use Rattle.agent_core.specs.Granted.{IsProofFor, IsKeptProofFor}
 use Rattle.agent_core.specs.Steps.{JournalSeen}
 
 -- the ask is within the limits of a question
@@ -55,6 +59,19 @@ module _ (plan : Plan) (journal : List Entry) (a : Ask) where
         (λ h. MaySpeak plan.anchors (claims (live certs moment)) a.subject h.who) e grant
     pub proof : IsProofFor plan.anchors certs moment a e c
 
+  -- the Ask stands at the place and was a hit: the proof c, which was kept, grants it by the entry e
+  pub record IsHitAt (place e : ℕ) (c : Cached) : Type 0 where
+    -- the entries before the Ask
+    pub before : List Entry
+    pub moment : ℕ
+    pub certs : List Certificate
+    pub stands : Stands journal place before (entry (Asks a) (Told.Hit e))
+    pub judged : IsJudged plan before a moment certs
+    pub proof : IsKeptProofFor plan.anchors certs moment a e c
+    -- it is the one that is kept for the entry
+    pub found : find (is_for a.subject proof.grant.who) (unlapsed moment (cache_after plan before))
+        ≡ Some c
+
   -- the Ask stands at the place and was a miss; the live certificates grant none, and the denial
   -- names the first link
   pub record IsDeniedAt (place : ℕ) (denial : Denial) : Type 0 where
@@ -69,24 +86,49 @@ module _ (plan : Plan) (journal : List Entry) (a : Ask) where
     pub first : IsFirstLink plan.anchors certs moment a.subject a.list a.right link
     pub names : Names certs link denial
 
+  -- the event stands at the place, and this was told
+  abbrev pub IsToldOf : Event → ℕ → Told → Type 0
+  IsToldOf event place told = (before : List Entry) × Stands journal place before (entry event told)
+
   -- the Ask stands at the place, and this was told
   abbrev pub IsTold : ℕ → Told → Type 0
-  IsTold place told = (before : List Entry) × Stands journal place before (entry (Asks a) told)
+  IsTold place told = IsToldOf (Asks a) place told
 
-  -- how an ask ended, one case for each verdict, and its own places
+  -- the Ask at the place is granted by the entry e and the proof c: whether that was kept before,
+  -- what became of it, and the own places
+  pub data IsGrant (place e : ℕ) (c : Cached) : Bool → Settled → List ℕ → Type 0 where
+    -- by a proof that was kept
+    by_kept : IsHitAt place e c → IsGrant place e c true settled.NoNeed (place ∷ [])
+    -- by one that was made for it, and is kept from its own place on
+    was_kept : {keep : ℕ} → IsGrantedAt place e c → IsToldOf (Keeps place e c) keep Told.Kept →
+        IsGrant place e c false settled.Kept (place ∷ keep ∷ [])
+    -- by one that was not kept: what it cites was let go in between, or its lease ended
+    was_dropped : {keep : ℕ} {cause : DropCause} →
+        IsGrantedAt place e c → IsToldOf (Keeps place e c) keep (Told.Dropped cause) →
+        IsGrant place e c false (settled.Dropped cause) (place ∷ keep ∷ [])
+    -- by one for which the journal had no room
+    had_no_room : IsGrantedAt place e c → length journal ≡ plan.limit →
+        IsGrant place e c false (settled.NoRoom plan.limit) (place ∷ [])
+
+  -- how an ask that is not granted ended, at its own places
   abbrev pub EndsBy : ℕ → Verdict → List ℕ → Type 0
-  EndsBy place (verdict.Granted e c) own =
-      IsGrantedAt place e (cached (arc_value {X = CachedValue} c)) × (own ≡ place ∷ [])
+  EndsBy place (verdict.Granted e c) own = ⊥
   EndsBy place (verdict.Denied denial) own = IsDeniedAt place denial × (own ≡ place ∷ [])
   EndsBy place (verdict.Replayed last) own = IsTold place (Told.Replayed last) × (own ≡ place ∷ [])
   EndsBy place (verdict.Full held) own = IsTold place (Told.Full held) × (own ≡ place ∷ [])
   EndsBy place (verdict.JournalFull n) own =
       (length journal ≡ plan.limit) × (n ≡ plan.limit) × (place ≡ plan.limit) × (own ≡ [])
 
-  -- the same, of what the program answers; no proof is kept yet
+  -- how an ask ended, at which place, by a kept proof or not, and what became of a proof
+  abbrev pub Ends : ℕ → Verdict → Bool → Settled → List ℕ → Type 0
+  Ends place (verdict.Granted e c) kept settling own =
+      IsGrant place e (cached (arc_value {X = CachedValue} c)) kept settling own
+  Ends place v kept settling own =
+      EndsBy place v own × (kept ≡ false) × (settling ≡ settled.NoNeed)
+
+  -- the same, of what the program answers
   abbrev pub AskEnds : Asked → List ℕ → Type 0
-  AskEnds asked own =
-      EndsBy asked.place asked.verdict own × (asked.kept ≡ false) × (asked.settled ≡ Settled.NoNeed)
+  AskEnds asked own = Ends asked.place asked.verdict asked.kept asked.settled own
 
   -- memory was refused before the Ask stood; or where it is granted, with the Ask alone
   abbrev pub Unanswered : List ℕ → Type 0

@@ -1,10 +1,10 @@
--- The proof of a grant.
-use Rattle.std.specs.Prelude.{◌≡◌, ℕ, ◌<◌, List, length, Some, slice_get, All}
+-- The proof of a grant, made for it or kept before.
+use Rattle.std.specs.Prelude.{◌≡◌, ℕ, ◌<◌, List, length, Some, slice_get, All, Contains}
 use Rattle.prin_term.specs.declared.term.Anchor.{Anchor}
 use Rattle.prin_term.specs.View.{Grant}
 use Rattle.stmt_codec.specs.Certificates.{Certificate, live}
 use Rattle.taos_calculus.specs.Rules.{SpeaksFor, Proves}
-use Rattle.taos_calculus.specs.Monitor.{MaySpeak}
+use Rattle.taos_calculus.specs.Monitor.{HasRight, MaySpeak}
 use Rattle.taos_calculus.specs.Tidy.{IsTidy}
 use Rattle.denial_link.specs.Revived.{at_places, claims}
 use Rattle.proof_cache.specs.Cached.{Cached, lease_of}
@@ -33,3 +33,17 @@ pub record IsProofFor (anchors : List Anchor) (certs : List Certificate) (moment
   -- nothing in the proof or among its cites is without use
   pub tidy : IsTidy c.proof places
   pub lease_is : c.lease ≡ lease_of c.cites
+
+-- a proof that was kept for the entry, which has the right: it cites live certificates alone
+pub record IsKeptProofFor (anchors : List Anchor) (certs : List Certificate) (moment : ℕ)
+    (a : Ask) (entry : ℕ) (c : Cached) : Type 0 where
+  pub grant : Grant
+  pub stands : slice_get a.list entry ≡ Some grant
+  pub has_right : HasRight grant a.right
+  pub subject_is : c.subject ≡ a.subject
+  pub who_is : c.who ≡ grant.who
+  pub alive : All (Contains (live certs moment)) c.cites
+  pub proves : Proves anchors (claims c.cites) c.proof (SpeaksFor c.subject c.who)
+  pub lease_is : c.lease ≡ lease_of c.cites
+  -- its lease has not ended
+  pub ahead : moment < c.lease

@@ -1,5 +1,5 @@
 -- What the code keeps of a shard and what it stands for; no contract of another crate speaks of it.
-use Rattle.std.specs.Prelude.{◌≡◌, ℕ, ◌≤◌, Bool, false, not, ◌==◌, if◌then◌else◌, List, [], ◌∷◌, ◌++◌, length, map, Option, None, Some, slice_get, filter, bytes_eq, vec_capacity}
+use Rattle.std.specs.Prelude.{◌≡◌, ◌≢◌, ℕ, ◌<◌, ◌≤◌, get_or, Bool, false, not, ◌==◌, if◌then◌else◌, List, [], ◌∷◌, ◌++◌, length, map, Option, None, Some, slice_get, filter, bytes_eq, vec_capacity}
 use Rattle.std.specs.declared.alloc.Global.{Global}
 use Rattle.std.specs.declared.vec.Vec.{Vec}
 use Rattle.stmt_codec.specs.Certificates.{Certificate, digest_of}
@@ -13,8 +13,11 @@ use Rattle.agent_core.specs.declared.shard.store.Row.{Row}
 use Rattle.agent_core.specs.declared.shard.store.Store.{Store}
 use Rattle.agent_core.specs.Names.{named, certs_named, AreNames}
 use Rattle.agent_core.specs.Plans.{IsPlan}
+use Rattle.agent_core.specs.declared.told.DropCause.{DropCause}
 use Rattle.agent_core.specs.declared.told.Told.{Told}
-use Rattle.agent_core.specs.State.{Plan, State, Event, Plain, is_gone, next}
+use Rattle.proof_cache.specs.Cached.{Cached}
+use Rattle.agent_core.specs.Caches.{who_at}
+use Rattle.agent_core.specs.State.{Plan, State, Ask, Event, Asks, Plain, is_gone, next}
 use Rattle.agent_core.specs.Journals.{Entry, entry, state_after, IsLegalJournal}
 use Rattle.agent_core.specs.Views.{entry_of}
 
@@ -109,3 +112,33 @@ pub record AreNew (rows : List Row) (count : ℕ) : Type 0 where
 -- the names of the first commons, so many
 abbrev pub first_names : ℕ → List Name
 first_names count = map (λ place. Common place) (range_with_len 0 count)
+
+-- ---- a proof that is to be kept
+
+-- what is told of it, where this speaks against it, or nothing does
+abbrev pub told_against : Option DropCause → Told
+told_against None = Told.Kept
+told_against (Some cause) = Told.Dropped cause
+
+-- the Ask that an event is, if it is one
+abbrev pub ask_in : Event → Option Ask
+ask_in (Asks a) = Some a
+ask_in _ = None
+
+-- the proof is for the entry e of the Ask
+abbrev pub IsForEntry : Ask → ℕ → Cached → Type 0
+IsForEntry a e c = (c.subject ≡ a.subject) × (who_at a.list e ≡ Some c.who)
+
+-- the proof is for the entry e of the Ask at the place: its subject is the Ask's, and it is for the
+-- entry's principal
+pub record IsAsked (before : List Entry) (ask e : ℕ) (c : Cached) : Type 0 where
+  pub asked : Ask
+  pub told : Told
+  pub stands : slice_get before ask ≡ Some (entry (Asks asked) told)
+  pub subject_is : c.subject ≡ asked.subject
+  pub who_is : who_at asked.list e ≡ Some c.who
+
+-- the certificate at the place is none of the first of these, so many
+abbrev pub DiffersBefore : List Certificate → (place count : ℕ) → Type 0
+DiffersBefore certs place count =
+    (i : ℕ) (d : Certificate) → i < count → get_or certs i d ≢ get_or certs place d

@@ -1,30 +1,66 @@
 -- What the definitions of a shard imply: each law is the contract of a function that does nothing.
-use Rattle.std.specs.Prelude.{◌≡◌, ℕ, ◌+◌, ◌≤◌, ◌↔◌, List, [], ◌∷◌, ◌++◌, length, map, Some, slice_get, Contains}
+use Rattle.std.specs.Prelude.{◌≡◌, ℕ, ◌+◌, ◌<◌, ◌≤◌, ◌↔◌, Bool, false, List, [], ◌∷◌, ◌++◌, length, map, take, Some, slice_get, All, AllPairs, Contains}
 use Rattle.prin_term.specs.declared.term.Anchor.{Anchor}
 use Rattle.stmt_codec.specs.Certificates.{Certificate}
 use Rattle.denial_link.specs.declared.link.Link.{Link}
-use Rattle.proof_cache.specs.Cached.{Cached}
+use Rattle.taos_calculus.specs.Rules.{Proves, SpeaksFor}
+use Rattle.denial_link.specs.Revived.{claims}
+use Rattle.proof_cache.specs.Cached.{Cached, lease_of}
+use Rattle.proof_cache.specs.Cache.{IsCache}
+use Rattle.agent_core.specs.declared.asked.Settled.{Settled}
+use Rattle.agent_core.specs.Caches.{cache_next}
+use Rattle.agent_core.specs.Granted.{IsKeptProofFor}
 use Rattle.agent_core.specs.declared.asked.Denial.{Denial}
 use Rattle.agent_core.specs.declared.told.Told.{Told}
-use Rattle.agent_core.specs.Asked.{IsGrantedAt, IsDeniedAt, IsTold}
+use Rattle.agent_core.specs.Asked.{IsGrantedAt, IsHitAt, IsDeniedAt, IsToldOf, IsGrant}
 use Rattle.agent_core.specs.declared.limits.TheConstants.{MAX_OWN, MAX_COMMONS}
-use Rattle.agent_core.specs.State.{Plan, State, Ask, Event, opened, next}
+use Rattle.agent_core.specs.State.{Plan, State, Ask, Event, Asks, Answer, Judged, Plain, opened, held_for, next}
 use Rattle.agent_core.specs.Plans.{AreShards, home}
 use Rattle.agent_core.specs.Opened.{MayOpen, plans_for}
 use Rattle.agent_core.specs.declared.whole_ask.verdict.Decision.{Decision}
 use Rattle.agent_core.specs.Judged.{Judges, verdict_of}
 use Rattle.agent_core.specs.Steps.{JournalSeen, StepAnswer, Steps, StepsTo}
-use Rattle.agent_core.specs.Journals.{Entry, entry, Begins, state_after, told_of, told_at, IsMeant, MayFollow, IsLegalJournal, IsJudged, IsVerdict, Granted, Denied}
+use Rattle.agent_core.specs.Journals.{Entry, entry, Begins, Stands, state_after, cache_after, told_of, told_at, IsMeant, MayFollow, IsLegalJournal, IsJudged, IsVerdict, Granted, Denied}
 
--- the journal that a shard makes of events from a state on, one after another
-abbrev pub journal_from : Plan → State → List Event → List Entry
-journal_from plan s [] = []
-journal_from plan s (e ∷ es) =
-    entry e (told_of (next plan s e).1) ∷ journal_from plan (next plan s e).0 es
+-- the journal that a shard makes of events from a state and kept proofs on, one after another
+abbrev pub journal_from : Plan → State → List Cached → List Event → List Entry
+journal_from plan s cache [] = []
+journal_from plan s cache (e ∷ es) =
+    entry e (told_of cache e (next plan s e).1)
+    ∷ journal_from plan (next plan s e).0
+    (cache_next (next plan s e).0.clock e (told_of cache e (next plan s e).1) cache) es
 
 -- the journal that a shard makes of events from its opening on
 abbrev pub journal_of : Plan → List Event → List Entry
-journal_of plan events = journal_from plan (opened plan) events
+journal_of plan events = journal_from plan (opened plan) [] events
+
+-- ---- the plain machine, which keeps no proof
+
+-- the state that it makes of events, from a state on
+abbrev pub plain_from : Plan → State → List Event → State
+plain_from plan s [] = s
+plain_from plan s (e ∷ es) = plain_from plan (next plan s e).0 es
+
+-- its answer to an event after these
+abbrev pub plain_answer : Plan → List Event → Event → Answer
+plain_answer plan events event = (next plan (plain_from plan (opened plan) events) event).1
+
+-- what is told of an Ask agrees with the plain machine's answer: it is the same, where that is told
+-- at once; of an Ask that it judges, a hit is a grant by what it judges by, and all else is a miss
+abbrev pub Agrees : Plan → Ask → Answer → Told → Type 0
+Agrees plan a (Plain plain) told = told ≡ plain
+Agrees plan a (Judged moment certs) (Told.Hit e) =
+    (c : Cached) × IsKeptProofFor plan.anchors certs moment a e c
+Agrees plan a (Judged moment certs) told = told ≡ Told.Miss
+
+-- ---- kept proofs
+
+-- the proof holds for its subject, by certificates that are held, until its lease ends
+pub record IsBacked (plan : Plan) (s : State) (c : Cached) : Type 0 where
+  pub held : All (Contains (held_for s c.subject)) c.cites
+  pub ahead : s.clock < c.lease
+  pub lease_is : c.lease ≡ lease_of c.cites
+  pub proves : Proves plan.anchors (claims c.cites) c.proof (SpeaksFor c.subject c.who)
 
 module _ (plan : Plan) where
   -- a beginning of a legal journal is legal
@@ -64,6 +100,29 @@ module _ (plan : Plan) where
   HasOneJournal =
       (journal : List Entry) → IsLegalJournal plan journal →
       journal ≡ journal_of plan (map (λ (e : Entry). e.event) journal)
+
+  -- a shard with kept proofs gives the verdicts of the plain machine without one, whatever the events
+  abbrev pub GivesPlainVerdicts : Type 0
+  GivesPlainVerdicts =
+      (events : List Event) → length events ≤ plan.limit → AreMeant [] events →
+      (place : ℕ) (a : Ask) (told : Told) →
+      slice_get (journal_of plan events) place ≡ Some (entry (Asks a) told) →
+      Agrees plan a (plain_answer plan (take place events) (Asks a)) told
+
+  -- after a legal journal each kept proof has only cites that are held, and its lease is ahead
+  abbrev pub CacheIsBacked : Type 0
+  CacheIsBacked = (journal : List Entry) → IsLegalJournal plan journal →
+      All (IsBacked plan (state_after plan journal)) (cache_after plan journal)
+
+  -- few proofs are kept, no two of which are for the same
+  abbrev pub CacheIsSmall : Type 0
+  CacheIsSmall = (journal : List Entry) → IsCache (cache_after plan journal)
+
+  -- where an Ask is told a hit, its verdict is that it is granted
+  abbrev pub HitIsGranted : Type 0
+  HitIsGranted = (before : List Entry) (a : Ask) (e : ℕ) →
+      IsLegalJournal plan (before ++ entry (Asks a) (Told.Hit e) ∷ []) →
+      IsVerdict plan before a Granted
 
   -- neither a channel nor the commons hold more than they may
   abbrev pub HoldsFew : Type 0
@@ -108,15 +167,22 @@ module _ (plan : Plan) where
   AsksAreVerdicts = (journal : List Entry) (a : Ask) (place : ℕ) →
       ((e : ℕ) (c : Cached) (g : IsGrantedAt plan journal a place e c) →
       IsVerdict plan g.before a Granted) ×
+      ((e : ℕ) (c : Cached) (h : IsHitAt plan journal a place e c) →
+      IsVerdict plan h.before a Granted) ×
       ((denial : Denial) (d : IsDeniedAt plan journal a place denial) →
       IsVerdict plan d.before a (Denied d.link))
 
-  -- how an Ask ended in a journal it ended in each that begins with it
+  -- how an Ask ended in a journal it ended in each that begins with it; a proof for which there was
+  -- no room finds none in a longer journal within the limit
   abbrev pub AskStays : Type 0
   AskStays = (xs ys : List Entry) (a : Ask) (place : ℕ) → Begins xs ys →
       ((e : ℕ) (c : Cached) → IsGrantedAt plan xs a place e c → IsGrantedAt plan ys a place e c) ×
+      ((e : ℕ) (c : Cached) (kept : Bool) (settled : Settled) (own : List ℕ) →
+      length ys ≤ plan.limit → IsGrant plan xs a place e c kept settled own →
+      IsGrant plan ys a place e c kept settled own) ×
       ((denial : Denial) → IsDeniedAt plan xs a place denial → IsDeniedAt plan ys a place denial) ×
-      ((told : Told) → IsTold plan xs a place told → IsTold plan ys a place told)
+      ((event : Event) (told : Told) → IsToldOf plan xs a event place told →
+      IsToldOf plan ys a event place told)
 
 module _ (channels : List ℕ) (shards : ℕ) (anchors : List Anchor) (commons : List Certificate)
     (keep limit : ℕ) where

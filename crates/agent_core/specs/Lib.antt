@@ -1,5 +1,6 @@
 pub mod Held
 pub mod State
+pub mod Caches
 pub mod Journals
 pub mod Steps
 pub mod Views

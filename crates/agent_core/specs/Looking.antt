@@ -1,9 +1,16 @@
 -- What an Ask finds.
-use Rattle.std.specs.Prelude.{◌≡◌, ℕ, ◌+◌, ◌<◌, ◌≤◌, max, List, [], ◌∷◌, ◌++◌, length, map, filter, slice_get, filter_map, Some, All}
+use Rattle.std.specs.Prelude.{◌≡◌, ℕ, ◌+◌, ◌<◌, ◌≤◌, max, List, [], ◌∷◌, ◌++◌, length, map, filter, find, slice_get, filter_map, if◌then◌else◌, Option, None, Some, All}
 use Rattle.std.specs.declared.alloc.Global.{Global}
 use Rattle.std.specs.declared.vec.Vec.{Vec}
+use Rattle.std.specs.declared.sync.Arc.{Arc}
+use Rattle.std.specs.Arc.{arc_value}
+use Rattle.prin_term.specs.Principal.{Principal}
+use Rattle.prin_term.specs.View.{Grant}
 use Rattle.stmt_codec.specs.Certificates.{Certificate}
 use Rattle.stmt_codec.specs.View.{certificates}
+use Rattle.proof_cache.specs.Cached.{Cached, cached}
+use Rattle.proof_cache.specs.Cache.{is_for}
+use Rattle.proof_cache.specs.declared.cached.Cached.{Cached as CachedValue}
 use Rattle.agent_core.specs.declared.shard.asking.Look.{Look}
 use Rattle.agent_core.specs.declared.limits.TheConstants.{MAX_OWN}
 use Rattle.agent_core.specs.declared.event.ShardEntry.{ShardEntry}
@@ -14,7 +21,8 @@ use Rattle.agent_core.specs.declared.told.Told.{Told}
 use Rattle.agent_core.specs.declared.told.Answer.{Answer}
 use Rattle.agent_core.specs.declared.told.Answer.TheVariants as answer
 use Rattle.agent_core.specs.State.{Plan, State, Ask, Event, Asks, swept, brought}
-use Rattle.agent_core.specs.Journals.{Entry, entry, IsJudged}
+use Rattle.agent_core.specs.Caches.{first_hit, gives_right, unlapsed}
+use Rattle.agent_core.specs.Journals.{Entry, entry, cache_after, IsJudged}
 use Rattle.agent_core.specs.Kept.{name_stays, IsKept, Tells}
 use Rattle.agent_core.specs.Names.{certs_named, AreNames}
 use Rattle.agent_core.specs.Views.{entry_of}
@@ -43,31 +51,61 @@ pub record IsTaken (s : State) (a : Ask) : Type 0 where
   pub new : s.last a.channel < a.seq
   pub fits : length (s.own a.channel) + length (brought s a) ≤ MAX_OWN
 
--- the Ask is to be judged, and journaled
-pub record Takes (plan : Plan) (before : Vec ShardEntry Global) (a : Ask)
+-- the Ask's number is new and it has room; it is journaled with what was told of it
+pub record Takes (plan : Plan) (before : Vec ShardEntry Global) (a : Ask) (told : Told)
     (after : Vec ShardEntry Global) (store : Store) : Type 0 where
-  pub adds : map entry_of after.items ≡ map entry_of before.items ++ entry (Asks a) Told.Miss ∷ []
+  pub adds : map entry_of after.items ≡ map entry_of before.items ++ entry (Asks a) told ∷ []
   pub kept : IsKept plan after store
+
+-- the proof that serves a subject at an entry with the right, if there is one
+abbrev pub served_at : List Cached → Principal → ℕ → Grant → Option Cached
+served_at cache subject right g =
+    if gives_right right g then find (is_for subject g.who) cache else None
+
+-- what serves the Ask of these proofs: the first entry for which one is kept, with that proof
+abbrev pub Serves : List Cached → Ask → Option (ℕ × Arc CachedValue Global) → Type 0
+Serves cache a None = first_hit cache a ≡ None
+Serves cache a (Some (e, c)) = (g : Grant) × (first_hit cache a ≡ Some e)
+    × (slice_get a.list e ≡ Some g)
+    × (find (is_for a.subject g.who) cache ≡ Some (cached (arc_value {X = CachedValue} c)))
 
 -- the event is an Ask that is to be judged by what the snapshot has
 pub record Misses (plan : Plan) (before : Vec ShardEntry Global) (event : Event)
     (snapshot : Snapshot) (after : Vec ShardEntry Global) (store : Store) : Type 0 where
   pub ask : Ask
   pub is : event ≡ Asks ask
-  pub takes : Takes plan before ask after store
+  pub takes : Takes plan before ask Told.Miss after store
   pub judged : IsJudged plan (map entry_of before.items) ask snapshot.moment
       (certificates snapshot.certs.items)
 
--- what holds after an answer to an event; no proof is kept, and the journal was not full
+-- the event is an Ask that the proof serves, which is kept for the entry
+pub record Hits (plan : Plan) (before : Vec ShardEntry Global) (event : Event) (e : ℕ)
+    (c : Cached) (after : Vec ShardEntry Global) (store : Store) : Type 0 where
+  pub ask : Ask
+  pub is : event ≡ Asks ask
+  pub takes : Takes plan before ask (Told.Hit e) after store
+  pub moment : ℕ
+  pub certs : List Certificate
+  pub judged : IsJudged plan (map entry_of before.items) ask moment certs
+  pub grant : Grant
+  pub there : slice_get ask.list e ≡ Some grant
+  pub found : find (is_for ask.subject grant.who)
+      (unlapsed moment (cache_after plan (map entry_of before.items))) ≡ Some c
+
+-- what holds after an answer to an event, at a journal that was not full
 abbrev pub Answered : Plan → Vec ShardEntry Global → Event →
     Answer → Vec ShardEntry Global → Store → Type 0
 Answered plan before event (answer.Replayed last) after store =
     Tells plan before event (Told.Replayed last) after store
 Answered plan before event (answer.Full held) after store =
     Tells plan before event (Told.Full held) after store
-Answered plan before event (answer.Hit entry cached) after store = ⊥
+Answered plan before event (answer.Hit e c) after store =
+    Hits plan before event e (cached (arc_value {X = CachedValue} c)) after store
 Answered plan before event (answer.Miss snapshot) after store =
     Misses plan before event snapshot after store
+Answered plan before event answer.Kept after store = Tells plan before event Told.Kept after store
+Answered plan before event (answer.Dropped cause) after store =
+    Tells plan before event (Told.Dropped cause) after store
 Answered plan before event (answer.Held added) after store =
     Tells plan before event (Told.Held added) after store
 Answered plan before event (answer.CommonsFull held) after store =

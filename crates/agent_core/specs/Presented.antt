@@ -1,5 +1,5 @@
 -- The certificates that a shard keeps of those that Asks present.
-use Rattle.std.specs.Prelude.{◌≡◌, ℕ, ◌+◌, ◌*◌, ◌≤◌, Option, None, Some, sum_by}
+use Rattle.std.specs.Prelude.{◌≡◌, ℕ, ◌+◌, ◌*◌, ◌≤◌, List, Option, None, Some, map, sum_by}
 use Rattle.std.specs.declared.alloc.Global.{Global}
 use Rattle.std.specs.declared.vec.Vec.{Vec}
 use Rattle.prin_term.specs.Principal.{Principal, node_count}
@@ -9,8 +9,11 @@ use Rattle.agent_core.specs.declared.event.ShardEntry.{ShardEntry}
 use Rattle.agent_core.specs.declared.limits.TheConstants.{CERT_BYTES, MAX_PRESENTED_BYTES, NODE_BYTES}
 use Rattle.agent_core.specs.declared.held.presented.Presented.{Presented}
 use Rattle.agent_core.specs.declared.shard.store.Store.{Store}
+use Rattle.proof_cache.specs.Cached.{Cached}
+use Rattle.agent_core.specs.Journals.{cache_after}
 use Rattle.agent_core.specs.Kept.{IsKept}
 use Rattle.agent_core.specs.State.{Plan}
+use Rattle.agent_core.specs.Views.{entry_of}
 
 -- how many nodes a quoted principal has, if there is one
 abbrev pub quoted_nodes : Option Principal → ℕ
@@ -30,8 +33,10 @@ pub record IsCounted (p : Presented) : Type 0 where
   pub counted : p.bytes ≡ sum_by memory_of (certificates p.certs.items)
   pub within : p.bytes ≤ MAX_PRESENTED_BYTES
 
--- a shard: its store stands for the state after its entries, and what it keeps is counted
+-- a shard: its store stands for the state after its entries, what it keeps of presented certificates
+-- is counted, and its cache has the proofs that are kept after its entries
 pub record IsShard (plan : Plan) (entries : Vec ShardEntry Global) (store : Store)
-    (presented : Presented) : Type 0 where
+    (presented : Presented) (cache : List Cached) : Type 0 where
   pub kept : IsKept plan entries store
   pub counted : IsCounted presented
+  pub cached : cache ≡ cache_after plan (map entry_of entries.items)

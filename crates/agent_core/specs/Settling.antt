@@ -1,5 +1,5 @@
 -- What an Ask that is to be judged comes to, by what it was handed out, for the bodies alone.
-use Rattle.std.specs.Prelude.{ℕ, ◌<◌, List, length}
+use Rattle.std.specs.Prelude.{◌≡◌, ℕ, ◌<◌, List, length}
 use Rattle.std.specs.Arc.{arc_value}
 use Rattle.prin_term.specs.declared.term.Anchor.{Anchor}
 use Rattle.prin_term.specs.View.{Grant}
@@ -12,15 +12,18 @@ use Rattle.denial_link.specs.Links.{IsFirstLink}
 use Rattle.proof_cache.specs.Cached.{Cached, cached}
 use Rattle.proof_cache.specs.declared.cached.Cached.{Cached as CachedValue}
 use Rattle.agent_core.specs.declared.asked.Denial.{Denial}
-use Rattle.agent_core.specs.declared.asked.Verdict.{Verdict}
-use Rattle.agent_core.specs.declared.asked.Verdict.TheVariants as verdict
+use Rattle.agent_core.specs.declared.asked.Settled.{Settled}
+use Rattle.agent_core.specs.declared.asked.Settled.TheVariants as settled
+use Rattle.agent_core.specs.declared.whole_ask.settling.Settlement.{Settlement}
+use Rattle.agent_core.specs.declared.whole_ask.settling.Settlement.TheVariants as settlement
+use Rattle.agent_core.specs.declared.told.Told.{Told}
 use Rattle.agent_core.specs.declared.told.Answer.{Answer}
-use Rattle.agent_core.specs.State.{Plan, Ask, Asks}
+use Rattle.agent_core.specs.State.{Plan, Ask, Asks, Keeps}
 use Rattle.agent_core.specs.Journals.{Entry}
 use Rattle.agent_core.specs.Answers.{SteppedTo}
 use Rattle.agent_core.specs.Granted.{IsProofFor}
 use Rattle.agent_core.specs.Asked.{Names}
-use Rattle.agent_core.specs.Steps.{JournalSeen}
+use Rattle.agent_core.specs.Steps.{JournalSeen, Other, StepsTo, StepRefused}
 
 -- the certificate that a link names is one of these
 abbrev pub IsPlaceIn : List Certificate → Link → Type 0
@@ -43,15 +46,24 @@ module _ (anchors : List Anchor) (certs : List Certificate) (moment : ℕ) (a : 
     pub first : IsFirstLink anchors certs moment a.subject a.list a.right link
     pub names : Names certs link denial
 
-  -- the Ask comes to this verdict: it is granted by a proof, or denied
-  abbrev pub Settles : Verdict → Type 0
-  Settles (verdict.Granted e c) = IsGrantedBy e (cached (arc_value {X = CachedValue} c))
-  Settles (verdict.Denied denial) = IsDeniedBy denial
-  Settles (verdict.Replayed last) = ⊥
-  Settles (verdict.Full held) = ⊥
-  Settles (verdict.JournalFull n) = ⊥
+  -- the Ask comes to this: it is granted by a proof, or denied
+  abbrev pub Settles : Settlement → Type 0
+  Settles (settlement.Granted e c) = IsGrantedBy e (cached (arc_value {X = CachedValue} c))
+  Settles (settlement.Denied denial) = IsDeniedBy denial
 
 -- the Ask's step at its shard
 pub record StepsAsk (plan : Plan) (earlier later : JournalSeen) (a : Ask)
     (place : ℕ) (answer : Answer) : Type 0 where
   pub step : SteppedTo plan earlier later (Asks a) place answer
+
+-- what became of a proof that was to be kept for the Ask at the place: a step tells it, or there was
+-- no room for one
+abbrev pub KeptAs : Plan → JournalSeen → JournalSeen → (place entry : ℕ) → Cached →
+    Settled → Type 0
+KeptAs plan earlier later place e c settled.NoNeed = ⊥
+KeptAs plan earlier later place e c settled.Kept =
+    (keep : ℕ) × StepsTo plan earlier later (Keeps place e c) keep (Other Told.Kept)
+KeptAs plan earlier later place e c (settled.Dropped cause) =
+    (keep : ℕ) × StepsTo plan earlier later (Keeps place e c) keep (Other (Told.Dropped cause))
+KeptAs plan earlier later place e c (settled.NoRoom n) =
+    StepRefused plan earlier later × (length later.journal ≡ plan.limit) × (n ≡ plan.limit)

@@ -1,12 +1,14 @@
--- A shard's plain state, and how each event changes it.
-use Rattle.std.specs.Prelude.{ℕ, ◌+◌, ◌-◌, max, Bool, not, ◌&&◌, ◌==◌, nat_lt, nat_le, if◌then◌else◌, List, [], ◌++◌, length, filter, sum_by, bytes_eq}
+-- A shard's plain state, and how each event changes it. No kept proof occurs in it.
+use Rattle.std.specs.Prelude.{ℕ, ◌+◌, ◌-◌, max, Bool, not, ◌&&◌, ◌==◌, nat_lt, nat_le, if◌then◌else◌, List, [], ◌++◌, length, filter, find, sum_by, bytes_eq, Option, Some, None}
 use Rattle.prin_term.specs.declared.term.Anchor.{Anchor}
 use Rattle.prin_term.specs.Principal.{Principal}
 use Rattle.prin_term.specs.View.{Grant}
 use Rattle.stmt_codec.specs.Certificates.{Certificate, digest_of}
+use Rattle.proof_cache.specs.Cached.{Cached}
 use Rattle.agent_core.specs.declared.limits.TheConstants.{MAX_OWN, MAX_COMMONS}
+use Rattle.agent_core.specs.declared.told.DropCause.{DropCause}
 use Rattle.agent_core.specs.declared.told.Told.{Told}
-use Rattle.agent_core.specs.Held.{newly}
+use Rattle.agent_core.specs.Held.{among, channel_of, newly}
 
 -- what a shard is opened with
 pub record Plan : Type 0 where
@@ -45,6 +47,8 @@ pub record Ask : Type 0 where
 pub data Event : Type 0 where
   -- an Ask
   Asks : Ask → Event
+  -- a proof is to be kept that was made for the Ask at this place, and grants it by this entry
+  Keeps : (ask entry : ℕ) → Cached → Event
   -- these certificates are to be held in common
   Holds : List Certificate → Event
   -- the certificates of this digest are let go, those of each channel and the commons
@@ -117,6 +121,31 @@ asking s a =
     then (s, Plain (Told.Full (length (s.own a.channel))))
     else (taking s a, Judged s.clock ((s.own a.channel ++ brought s a) ++ s.commons)))
 
+-- ---- a proof that is to be kept
+
+-- the own certificates of a channel, if it is one
+abbrev pub own_of : State → Option ℕ → List Certificate
+own_of s None = []
+own_of s (Some channel) = s.own channel
+
+-- what is held for a subject: the own certificates of its channel, and the commons
+abbrev pub held_for : State → Principal → List Certificate
+held_for s subject = own_of s (channel_of subject) ++ s.commons
+
+-- the first cite that is not held, if there is one, has it dropped; or else that its lease ended
+abbrev pub settled_by : Option Certificate → (clock lease : ℕ) → Told
+settled_by (Some missing) clock lease = Told.Dropped (DropCause.NotHeld (digest_of missing))
+settled_by None clock lease =
+    if nat_le lease clock then Told.Dropped (DropCause.Lapsed clock lease) else Told.Kept
+
+-- the first cite of a proof that is not held for its subject
+abbrev pub first_missing : State → Cached → Option Certificate
+first_missing s c = find (λ x. not (among (held_for s c.subject) x)) c.cites
+
+-- what is told of a proof that is to be kept; it changes no certificate
+abbrev pub keeping_proof : State → Cached → State × Answer
+keeping_proof s c = (s, Plain (settled_by (first_missing s c) s.clock c.lease))
+
 -- ---- what is held in common
 
 -- new certificates are held in common, unless there would be too many
@@ -147,6 +176,7 @@ forgetting channel s = record {
 -- the next state, and the answer
 abbrev pub next : Plan → State → Event → State × Answer
 next plan s (Asks a) = asking (swept plan.keep (moment_of s a.reading) s) a
+next plan s (Keeps ask entry c) = keeping_proof s c
 next plan s (Holds certs) = holding s (newly s.commons certs)
 next plan s (Discards digest) =
     removing plan s (keeping (λ c. not (bytes_eq (digest_of c) digest)) s.clock s)

@@ -1,10 +1,13 @@
 -- What a step of a shard promises, alone and among others.
-use Rattle.std.specs.Prelude.{◌≡◌, ℕ, Bool, true, List, [], ◌∷◌, ◌++◌, length}
+use Rattle.std.specs.Prelude.{◌≡◌, ℕ, Bool, true, List, [], ◌∷◌, ◌++◌, length, find, Some, slice_get}
+use Rattle.prin_term.specs.View.{Grant}
 use Rattle.stmt_codec.specs.Certificates.{Certificate}
 use Rattle.proof_cache.specs.Cached.{Cached}
+use Rattle.proof_cache.specs.Cache.{is_for}
 use Rattle.agent_core.specs.declared.told.Told.{Told}
 use Rattle.agent_core.specs.State.{Plan, Ask, Event, Asks, Plain, next}
-use Rattle.agent_core.specs.Journals.{Entry, entry, Begins, state_after, IsLegalJournal, IsJudged}
+use Rattle.agent_core.specs.Caches.{unlapsed}
+use Rattle.agent_core.specs.Journals.{Entry, entry, Begins, state_after, cache_after, IsLegalJournal, IsJudged}
 
 -- what a step hands out: a kept proof; or what is to be judged, at which moment; or what was told
 pub data StepAnswer : Type 0 where
@@ -12,9 +15,13 @@ pub data StepAnswer : Type 0 where
   Miss : (moment : ℕ) → List Certificate → StepAnswer
   Other : Told → StepAnswer
 
--- the answer to an event after these entries, of which this was told; no proof is kept, so no Ask
--- is a hit
+-- the answer to an event after these entries, of which this was told: a hit hands out the proof that
+-- is kept for the entry
 pub data IsAnswer (plan : Plan) (before : List Entry) : Event → Told → StepAnswer → Type 0 where
+  hit : {a : Ask} {e moment : ℕ} {certs : List Certificate} {g : Grant} {c : Cached} →
+      IsJudged plan before a moment certs → slice_get a.list e ≡ Some g →
+      find (is_for a.subject g.who) (unlapsed moment (cache_after plan before)) ≡ Some c →
+      IsAnswer plan before (Asks a) (Told.Hit e) (Hit e c)
   miss : {a : Ask} {moment : ℕ} {certs : List Certificate} → IsJudged plan before a moment certs →
       IsAnswer plan before (Asks a) Told.Miss (Miss moment certs)
   other : {event : Event} {told : Told} →

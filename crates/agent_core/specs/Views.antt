@@ -3,12 +3,14 @@ use Rattle.std.specs.Prelude.{map}
 use Rattle.std.specs.Arc.{arc_value}
 use Rattle.prin_term.specs.View.{principal, grant}
 use Rattle.stmt_codec.specs.View.{certificates}
+use Rattle.proof_cache.specs.Cached.{cached}
+use Rattle.proof_cache.specs.declared.cached.Cached.{Cached as CachedValue}
 use Rattle.agent_core.specs.declared.plan.ShardPlan.{ShardPlan}
 use Rattle.agent_core.specs.declared.event.Ask.{Ask as AskValue}
 use Rattle.agent_core.specs.declared.event.Event.{Event as EventValue}
 use Rattle.agent_core.specs.declared.event.Event.TheVariants as code
 use Rattle.agent_core.specs.declared.event.ShardEntry.{ShardEntry}
-use Rattle.agent_core.specs.State.{Plan, Ask, Event, Asks, Holds, Discards, Forgets, Expires}
+use Rattle.agent_core.specs.State.{Plan, Ask, Event, Asks, Keeps, Holds, Discards, Forgets, Expires}
 use Rattle.agent_core.specs.Journals.{Entry}
 
 -- the plan that the program's one stands for
@@ -38,6 +40,7 @@ ask_of a = record {
 -- the event that the program's one stands for
 abbrev pub event_of : EventValue → Event
 event_of (code.Ask a) = Asks (ask_of (arc_value a))
+event_of (code.Keep ask entry c) = Keeps ask entry (cached (arc_value {X = CachedValue} c))
 event_of (code.Hold certs) = Holds (certificates (arc_value certs).items)
 event_of (code.Discard digest) = Discards digest
 event_of (code.Forget channel) = Forgets channel

@@ -1,5 +1,6 @@
 //! How an ask ends.
 
+use crate::told::DropCause;
 use proof_cache::Cached;
 use std::sync::Arc;
 
@@ -30,10 +31,14 @@ pub enum Verdict {
 pub enum Settled {
     /// There was none to be kept.
     NoNeed,
+    Kept,
+    Dropped(DropCause),
+    /// The journal had as many entries as its plan allows.
+    NoRoom { length: u64 },
 }
 
-/// An ask that was answered: at which place of its shard's journal, by a proof that was kept or
-/// not.
+/// An ask that was answered: at which place of its shard's journal, and whether by a proof that
+/// was kept before.
 #[derive(Debug, Drop)]
 pub struct Asked {
     pub place: u64,

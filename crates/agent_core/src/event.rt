@@ -2,6 +2,7 @@
 
 use crate::told::Told;
 use prin_term::{Entry, Term};
+use proof_cache::Cached;
 use std::sync::Arc;
 use stmt_codec::Cert;
 
@@ -23,6 +24,13 @@ pub struct Ask {
 #[derive(Debug, Drop)]
 pub enum Event {
     Ask(Arc<Ask>),
+    /// The proof that was made for the Ask at a place of the journal, and grants it by an entry of
+    /// its list, is kept.
+    Keep {
+        ask: u64,
+        entry: u8,
+        cached: Arc<Cached>,
+    },
     /// These are held in common.
     Hold(Arc<Vec<Arc<Cert>>>),
     /// The certificates of this digest are let go.

@@ -8,6 +8,7 @@ ghost use Rattle.agent_core.specs.Laws.{FrontIsLegal, OneMoreIsLegal, LegalIsAll
 ghost use Rattle.agent_core.specs.Laws.{HasOneJournal, HoldsFew, JudgesFew, OneVerdict, JudgedIsVerdict};
 ghost use Rattle.agent_core.specs.Laws.{MeantStays, StepsAlone, AsksAreVerdicts, AskStays};
 ghost use Rattle.agent_core.specs.Laws.{OpenedAreShards, EachChannelAtHome};
+ghost use Rattle.agent_core.specs.Laws.{GivesPlainVerdicts, CacheIsBacked, CacheIsSmall, HitIsGranted};
 
 /// A beginning of a legal journal is legal.
 pub fn fronts_are_legal()
@@ -29,6 +30,28 @@ pub fn legal_is_allowed()
 pub fn events_have_one_journal()
     ensures legal { (plan : Plan) → JournalIsLegal plan }
     ensures one { (plan : Plan) → HasOneJournal plan }
+{}
+
+/// A shard with a cache gives the verdicts of the plain machine without one, for every list of
+/// events.
+pub fn cached_equals_uncached()
+    ensures { (plan : Plan) → GivesPlainVerdicts plan }
+{}
+
+/// After a legal journal each kept proof holds for its subject, by certificates that are held,
+/// until its lease ends.
+pub fn kept_proofs_hold()
+    ensures { (plan : Plan) → CacheIsBacked plan }
+{}
+
+/// At most 64 proofs are kept, no two of which are for the same subject and principal.
+pub fn few_proofs_are_kept()
+    ensures { (plan : Plan) → CacheIsSmall plan }
+{}
+
+/// A hit is a grant.
+pub fn hits_are_grants()
+    ensures { (plan : Plan) → HitIsGranted plan }
 {}
 
 /// How many certificates a shard holds at most, and an Ask is judged by.
@@ -62,7 +85,7 @@ pub fn asks_are_verdicts()
     ensures { (plan : Plan) → AsksAreVerdicts plan }
 {}
 
-/// How an Ask ended in a journal it ended in each that begins with it.
+/// How an Ask ended in a journal it ended in each within the limit that begins with it.
 pub fn how_an_ask_ended_stays()
     ensures { (plan : Plan) → AskStays plan }
 {}

@@ -19,9 +19,10 @@ pub use asked::{Asked, Denial, Settled, Verdict};
 pub use event::{Ask, Event, ShardEntry};
 pub use gate::{FreeGate, Gate};
 pub use laws::{
-    asks_are_verdicts, decisions_are_verdicts, events_have_one_journal, fronts_are_legal,
-    how_an_ask_ended_stays, legal_is_allowed, one_more_is_legal, opened_are_shards,
-    shards_hold_few, steps_may_be_alone, verdicts_differ, what_is_meant_stays,
+    asks_are_verdicts, cached_equals_uncached, decisions_are_verdicts, events_have_one_journal,
+    few_proofs_are_kept, fronts_are_legal, hits_are_grants, how_an_ask_ended_stays,
+    kept_proofs_hold, legal_is_allowed, one_more_is_legal, opened_are_shards, shards_hold_few,
+    steps_may_be_alone, verdicts_differ, what_is_meant_stays,
 };
 pub use limits::{
     MAX_CHANNELS, MAX_COMMONS, MAX_JOURNAL, MAX_OWN, MAX_PRESENTED, MAX_PRESENTED_BYTES, MAX_SHARDS,
@@ -31,5 +32,5 @@ pub use opened::open_shards;
 pub use plan::ShardPlan;
 pub use shard::Shard;
 pub use shards::Shards;
-pub use told::{Answer, Snapshot, Told};
+pub use told::{Answer, DropCause, Snapshot, Told};
 pub use whole_ask::{Decision, ask, judge, proof_for};

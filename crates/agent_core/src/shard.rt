@@ -5,19 +5,21 @@ ghost use Rattle.stmt_codec.specs.View.{certificates};
 ghost use Rattle.agent_core.specs.Plans.{IsPlan};
 ghost use Rattle.agent_core.specs.Views.{event_of, plan_of, entry_of};
 ghost use Rattle.agent_core.specs.Journals.{IsMeant, IsLegalJournal, told_at};
-ghost use Rattle.agent_core.specs.Answers.{FitsEvent, Stepped};
+ghost use Rattle.agent_core.specs.Answers.{FitsEvent, Stepped, TakesMemory};
 ghost use Rattle.agent_core.specs.Kept.{AreNew, first_names};
-ghost use Rattle.agent_core.specs.declared.told.Told.{Told as ToldValue};
 
 mod answering;
 mod append;
 mod asking;
 mod forgetting;
+mod keepable;
+mod keeping;
 mod letting;
 mod meant;
 mod plain;
 mod removal;
 mod row;
+mod serving;
 mod store;
 
 use crate::event::{Event, ShardEntry};
@@ -28,6 +30,7 @@ use crate::shard::answering::answer_to;
 use crate::shard::meant::is_taken;
 use crate::shard::store::{Row, Store};
 use crate::told::Answer;
+use proof_cache::Cache;
 use std::alloc::{AllocError, Global};
 use std::marker::Model;
 use std::sync::Arc;
@@ -40,6 +43,7 @@ pub struct Shard {
     entries: Vec<ShardEntry>,
     store: Store,
     presented: Presented,
+    cache: Cache,
 }
 
 impl Model for Shard {
@@ -56,9 +60,9 @@ impl Model for Shard {
 
     ghost view = { λ s. record { plan = plan_of s.plan; journal = map entry_of s.entries.items } };
 
-    // What is kept stands for the state after the entries, which are legal and have room; the
-    // certificates that Asks present are counted.
-    ghost invariant = { λ s. IsShard (plan_of s.plan) s.entries s.store s.presented };
+    // What is kept stands for the state after the entries, which are legal and have room, and for
+    // the proofs that they keep; the certificates that Asks present are counted.
+    ghost invariant = { λ s. IsShard (plan_of s.plan) s.entries s.store s.presented s.cache };
 }
 
 // The names of the plan's commons.
@@ -104,11 +108,13 @@ impl Shard {
             rows,
         };
         let presented = Presented::of(alloc, &plan.commons)?;
+        let cache = Cache::new(alloc)?;
         Ok(Shard {
             plan,
             entries,
             store,
             presented,
+            cache,
         })
     }
 
@@ -129,12 +135,12 @@ impl Shard {
     }
 
     /// Whether `step` takes the event: an Ask's subject speaks on its channel, which is the
-    /// shard's, and an event brings few certificates.
+    /// shard's, a proof is one for an Ask of the journal, and an event is within the limits.
     pub fn takes(&self, event: &Event) -> bool
         ensures { IsTrue result ↔ (IsMeant self.now.plan self.now.journal (event_of event.now)
             × FitsEvent (event_of event.now)) }
     {
-        is_taken(&self.plan, event)
+        is_taken(&self.plan, &self.entries, event)
     }
 
     /// Takes in what an Ask is to present: handles to equal certificates that the shard keeps
@@ -153,7 +159,7 @@ impl Shard {
     }
 
     /// Answers an event, and journals it at the place that comes with the answer. Only an Ask that
-    /// is to be judged takes memory. Nothing is done at a full journal.
+    /// is a hit or a miss takes memory, and a proof that is kept. Nothing is done at a full journal.
     pub fn step(&mut self, alloc: Global, event: Event) -> Result<(u64, Answer), AllocError>
         requires meant { IsMeant self.old.plan self.old.journal (event_of event) }
         requires fits { FitsEvent (event_of event) }
@@ -161,8 +167,8 @@ impl Shard {
             self.new.journal r.0 r.1) }
         ensures plan { self.new.plan ≡ self.old.plan }
 
-        ensures wanted { OnErr result (told_at self.old.plan self.old.journal (event_of event)
-            ≡ ToldValue.Miss) }
+        ensures wanted { OnErr result (TakesMemory
+            (told_at self.old.plan self.old.journal (event_of event))) }
         ensures room { OnErr result (length self.old.journal < self.old.plan.limit) }
         ensures unchanged { OnErr result (self.new ≡ self.old) }
     {
@@ -170,7 +176,14 @@ impl Shard {
         if place == self.plan.limit {
             return Ok((place, Answer::JournalFull { length: place }));
         }
-        let answer = answer_to(alloc, &self.plan, &mut self.entries, &mut self.store, event)?;
+        let answer = answer_to(
+            alloc,
+            &self.plan,
+            &mut self.entries,
+            &mut self.store,
+            &mut self.cache,
+            event,
+        )?;
         Ok((place, answer))
     }
 }

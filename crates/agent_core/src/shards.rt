@@ -2,13 +2,12 @@
 
 ghost use Rattle.std.specs.Prelude.{◌≡◌, ◌≢◌, ◌<◌, ℕ, Bool, List, length, Some, slice_get, All, IfOk, OnErr};
 ghost use Rattle.stmt_codec.specs.View.{certificates};
-ghost use Rattle.agent_core.specs.Answers.{FitsEvent, SteppedTo};
+ghost use Rattle.agent_core.specs.Answers.{FitsEvent, SteppedTo, TakesMemory};
 ghost use Rattle.agent_core.specs.Journals.{Entry, IsMeant, IsLegalJournal, told_at};
 ghost use Rattle.agent_core.specs.Plans.{AreShards, IsPlan};
 ghost use Rattle.agent_core.specs.State.{Plan};
 ghost use Rattle.agent_core.specs.Steps.{StepRefused, seen_at};
 ghost use Rattle.agent_core.specs.Views.{event_of};
-ghost use Rattle.agent_core.specs.declared.told.Told.{Told as ToldValue};
 
 use crate::event::Event;
 use crate::told::Answer;
@@ -58,7 +57,7 @@ pub trait Shards {
         ensures unchanged { self.new ≡ self.old };
 
     /// Answers an event at one shard, and journals it at the place that comes with the answer. Only
-    /// an Ask that is to be judged takes memory.
+    /// an Ask that is a hit or a miss takes memory, and a proof that is kept.
     fn step<W: Wait + Sync>(
         &mut self,
         rt: &W,
@@ -76,14 +75,14 @@ pub trait Shards {
             (seen_at (alone self.old) (seen self.new) (own self.new) number)
             (event_of event) r.0 r.1) }
 
-        // Where memory was refused, the shard is as it was found: with room, and the event an Ask.
+        // Where memory was refused, the shard is as it was found, with room.
         ensures refused { (plan : Plan) → slice_get (plans self.old) number ≡ Some plan
             → OnErr result (StepRefused plan
             (seen_at (alone self.old) (seen self.old) (own self.old) number)
             (seen_at (alone self.old) (seen self.new) (own self.new) number)) }
         ensures wanted { (plan : Plan) → slice_get (plans self.old) number ≡ Some plan
-            → OnErr result (told_at plan (seen self.new number) (event_of event)
-            ≡ ToldValue.Miss) }
+            → OnErr result (TakesMemory
+            (told_at plan (seen self.new number) (event_of event))) }
         ensures room { (plan : Plan) → slice_get (plans self.old) number ≡ Some plan
             → OnErr result (length (seen self.new number) < plan.limit) }
 

@@ -4,6 +4,15 @@ use proof_cache::Cached;
 use std::sync::Arc;
 use stmt_codec::Cert;
 
+/// Why a proof is not kept.
+#[derive(Clone, Copy, Debug, PartialEq, Eq)]
+pub enum DropCause {
+    /// The first certificate that it cites and that is not held any more, by its digest.
+    NotHeld { digest: [u8; 32] },
+    /// Its lease has ended by the clock.
+    Lapsed { clock: u64, lease: u64 },
+}
+
 /// What a journal has of an answer.
 #[derive(Clone, Copy, Debug, PartialEq, Eq)]
 pub enum Told {
@@ -15,6 +24,10 @@ pub enum Told {
     Hit { entry: u8 },
     /// The Ask is to be judged.
     Miss,
+    /// The proof is kept.
+    Kept,
+    /// The proof is not kept.
+    Dropped(DropCause),
     /// So many certificates are new in common.
     Held { added: u8 },
     /// There would be too many in common; there are so many.
@@ -37,6 +50,8 @@ pub enum Answer {
     Full { held: u8 },
     Hit { entry: u8, cached: Arc<Cached> },
     Miss(Snapshot),
+    Kept,
+    Dropped(DropCause),
     Held { added: u8 },
     CommonsFull { held: u8 },
     Removed { count: u32 },

@@ -7,6 +7,8 @@ mod asks;
 #[cfg(test)]
 mod gate;
 #[cfg(test)]
+mod keeping;
+#[cfg(test)]
 mod lone;
 #[cfg(test)]
 mod presented;

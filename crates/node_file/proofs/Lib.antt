@@ -13,5 +13,16 @@ pub mod Added
 pub mod Rows
 pub mod RelayLines
 pub mod RelayTaken
-pub mod RelayBegun
+pub mod Begun
+pub mod FileRead
 pub mod RelayRead
+pub mod SamePrincipals
+pub mod Changed
+pub mod NodeAdded
+pub mod Plain
+pub mod NodeTaken
+pub mod DraftOpened
+pub mod NamesFound
+pub mod PartsFit
+pub mod NodeFits
+pub mod DraftFits

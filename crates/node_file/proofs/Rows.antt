@@ -153,3 +153,7 @@ pub no_label : (most : ℕ) (rows : Rows) (n : ℕ) (t : List ℕ) → (IsUtf8 t
 unfolding text_cause
 no_label most rows n t no_text =
     ap (λ b. unless (first_of ((not b, Text) ∷ (is_some (text_of rows n) || is_some (number_of rows t), Twice) ∷ (eqb (length rows) most, Limit) ∷ [])) (rows ++ (n, t) ∷ [])) (label_by t (is_label t) refl no_text)
+
+-- a table without rows holds none
+pub no_rows : (table : Rows) → table ≡ [] → HoldsRows table []
+no_rows table none = record { texts = λ n. ap (λ (l : Rows). text_of l n) none; numbers = λ t. ap (λ (l : Rows). number_of l t) none; count = ap (λ (l : Rows). length l) none }

@@ -1,8 +1,8 @@
 -- What the whole reader answers, from what its parts give.
-use Rattle.std.proofs.Common.{◌≡◌, ◌⊎◌, ℕ, ◌<◌, ◌≤◌, List, length, Result, Ok, Err, refl, sym, ap, subst, ◌∙◌, arith, inl, inr}
+use Rattle.std.proofs.Common.{◌≡◌, ◌⊎◌, ℕ, ◌<◌, ◌≤◌, Bool, true, false, List, length, Result, Ok, Err, refl, sym, ap, subst, ◌∙◌, arith, inl, inr}
 use Rattle.std.specs.Prelude.{IfOk, MatchResult}
 use Rattle.prin_term.specs.declared.term.Anchor.{Anchor}
-use Rattle.prin_term.proofs.Results.{ok_is, with_fault_ok, with_fault_err}
+use Rattle.prin_term.proofs.Results.{ok_is, with_fault_ok}
 use Rattle.prin_term.proofs.FieldLaws.{IsBytes}
 use Rattle.stmt_codec.specs.Certificates.{Certificate}
 use Rattle.node_file.specs.declared.opening.Opening as code
@@ -13,10 +13,11 @@ use Rattle.node_file.specs.declared.fault.FileFault.TheVariants.{NoMemory}
 use Rattle.node_file.specs.declared.limits.TheConstants.{MAX_FILE}
 use Rattle.node_file.specs.declared.opening.head.Head.{Head}
 use Rattle.object_core.specs.Objects.{ObjectPlan}
-use Rattle.node_file.specs.Opening.{Opening, Spells, no_texts}
-use Rattle.node_file.specs.OpeningReading.{IsFaultIn, head_at, channels_at, anchors_at, commons_at, objects_at, fields_at, at_byte, opening_in, opening_of}
+use Rattle.node_file.specs.Opening.{Opening, no_texts}
+use Rattle.node_file.specs.OpeningReading.{IsFaultIn, head_at, channels_at, anchors_at, commons_at, objects_at, fields_at, at_byte, opening_of}
+use Rattle.node_file.specs.NodeFile.{text_in}
+use Rattle.node_file.specs.OpeningFile.{Means, is_binary, opening_in}
 use Rattle.node_file.specs.OpeningView.{IsReadAs, Represents}
-use Rattle.node_file.specs.declared.fault.FileCause.{FileCause}
 use Rattle.node_file.specs.declared.fault.FileCause.TheVariants.{Limit}
 use Rattle.node_file.specs.declared.fault.FileFault.TheVariants.{Line}
 use Rattle.node_file.proofs.Faults.{opening_refused}
@@ -33,38 +34,50 @@ fields_are bytes h cs an co os first second third fourth fifth = rw (first, seco
 
 -- ---- the file
 
-fitting : (bytes : List ℕ) → length bytes ≤ MAX_FILE → opening_in bytes ≡ with_fault at_byte (opening_of bytes)
-unfolding opening_in
-fitting bytes short = rw (le-ltb MAX_FILE (length bytes) short) refl
+module _ (bytes : List ℕ) (short : length bytes ≤ MAX_FILE) where
+  binary_file : is_binary bytes ≡ true → opening_in bytes ≡ with_fault at_byte (opening_of bytes)
+  unfolding opening_in
+  binary_file binary = rw (le-ltb MAX_FILE (length bytes) short, binary) refl
+
+  text_file : is_binary bytes ≡ false → opening_in bytes ≡ text_in bytes
+  unfolding opening_in
+  text_file text = rw (le-ltb MAX_FILE (length bytes) short, text) refl
 
 -- a file that is too long means nothing
 long_file : (bytes : List ℕ) → MAX_FILE < length bytes → opening_in bytes ≡ Err (Line 0 Limit)
 unfolding opening_in
 long_file bytes long = rw (lt-ltb MAX_FILE (length bytes) long) refl
 
-pub read_binary : (bytes : List ℕ) (r : Result code.Opening FileFault) → length bytes ≤ MAX_FILE → IsReadAs r (with_fault at_byte (opening_of bytes)) → IsReadAs r (opening_in bytes)
-read_binary bytes r short read = rw (fitting bytes short) read
+pub read_binary : (bytes : List ℕ) (r : Result code.Opening FileFault) → length bytes ≤ MAX_FILE → is_binary bytes ≡ true → IsReadAs r (with_fault at_byte (opening_of bytes)) → IsReadAs r (opening_in bytes)
+read_binary bytes r short binary read = subst (IsReadAs r) (sym (binary_file bytes short binary)) read
+
+pub read_text : (bytes : List ℕ) (r : Result code.Opening FileFault) → length bytes ≤ MAX_FILE → is_binary bytes ≡ false → IsReadAs r (text_in bytes) → IsReadAs r (opening_in bytes)
+read_text bytes r short text read = subst (IsReadAs r) (sym (text_file bytes short text)) read
 
 pub read_long : (bytes : List ℕ) → MAX_FILE < length bytes → IsReadAs (Err (Line 0 Limit)) (opening_in bytes)
 read_long bytes long = inr (long_file bytes long)
 
--- what is meant by a file is spelled so
-meant : (bytes : List ℕ) (o : Opening) → IsBytes bytes → opening_in bytes ≡ Ok o → Spells o bytes
-unfolding opening_in
+by_form : (bytes : List ℕ) (o : Opening) (b : Bool) → is_binary bytes ≡ b → IsBytes bytes → length bytes ≤ MAX_FILE → opening_in bytes ≡ Ok o → Means o bytes
+by_form bytes o true binary fits short e = inl (opening_takes bytes fits o (with_fault_ok at_byte (opening_of bytes) o (sym (binary_file bytes short binary) ∙ e)))
+by_form bytes o false text fits short e = inr (text, sym (text_file bytes short text) ∙ e)
+
+-- what a file means is meant by its bytes
+pub meant : (bytes : List ℕ) (o : Opening) → IsBytes bytes → opening_in bytes ≡ Ok o → Means o bytes
 meant bytes o fits e = elim (cases_lt MAX_FILE (length bytes)) [
   | inl long ↦ absurd (cc (e, long_file bytes long))
-  | inr short ↦ opening_takes bytes fits o (with_fault_ok at_byte (opening_of bytes) o (sym (fitting bytes (omega (arith, short))) ∙ e))
+  | inr short ↦ by_form bytes o (is_binary bytes) refl fits (omega (arith, short)) e
 ]
 
--- what is spelled in the binary form is what the file means
-pub meant_again : (bytes : List ℕ) (o : Opening) → length bytes ≤ MAX_FILE → Spells o bytes → opening_in bytes ≡ Ok o
-meant_again bytes o short is = fitting bytes short ∙ ap (with_fault at_byte) (opening_again bytes o is)
+-- and the other way
+pub meant_again : (bytes : List ℕ) (o : Opening) → length bytes ≤ MAX_FILE → Means o bytes → opening_in bytes ≡ Ok o
+meant_again bytes o short (inl is) = binary_file bytes short (ap is_binary is.1) ∙ ap (with_fault at_byte) (opening_again bytes o is)
+meant_again bytes o short (inr is) = text_file bytes short is.0 ∙ is.1
 
-pub is_found : (bytes : List ℕ) (r : Result code.Opening FileFault) → IsBytes bytes → IsReadAs r (opening_in bytes) → IfOk r (λ x. (o : Opening) × Spells o bytes × Represents x o)
+pub is_found : (bytes : List ℕ) (r : Result code.Opening FileFault) → IsBytes bytes → IsReadAs r (opening_in bytes) → IfOk r (λ x. (o : Opening) × Means o bytes × Represents x o)
 is_found bytes (Ok x) fits agrees = (agrees.0, meant bytes agrees.0 fits agrees.1, agrees.2)
 is_found bytes (Err e) fits agrees = tt
 
-pub is_only : (bytes : List ℕ) (r : Result code.Opening FileFault) → IsReadAs r (opening_in bytes) → (o : Opening) → Spells o bytes → length bytes ≤ MAX_FILE → MatchResult r (λ x. Represents x o) (λ f. f ≡ NoMemory)
+pub is_only : (bytes : List ℕ) (r : Result code.Opening FileFault) → IsReadAs r (opening_in bytes) → (o : Opening) → Means o bytes → length bytes ≤ MAX_FILE → MatchResult r (λ x. Represents x o) (λ f. f ≡ NoMemory)
 is_only bytes (Ok x) agrees o is short =
     subst (λ (o : Opening). Represents x o) (ok_is FileFault agrees.0 o (sym agrees.1 ∙ meant_again bytes o short is)) agrees.2
 is_only bytes (Err e) (inl want) o is short = want
@@ -74,11 +87,3 @@ is_only bytes (Err e) (inr read) o is short = absurd (cc (read, meant_again byte
 pub placed_in : (bytes : List ℕ) (f : FormatFault) (offset : ℕ) → f ≡ formats.Malformed offset → IsBytes bytes → (f ≡ formats.NoMemory) ⊎ (opening_of bytes ≡ Err f) → offset ≤ length bytes
 placed_in bytes f offset is fits (inl none) = absurd (cc (is, none))
 placed_in bytes f offset is fits (inr read) = subst (IsFaultIn bytes) is (opening_refused bytes fits f read)
-
--- a fault of the binary form is at no line
-pub no_line : (bytes : List ℕ) (line : ℕ) (cause : FileCause) → length bytes ≤ MAX_FILE → opening_in bytes ≡ Err (Line line cause) → ⊥
-no_line bytes line cause short e = binary_fault (with_fault_err at_byte (opening_of bytes) (Line line cause) (sym (fitting bytes short) ∙ e))
-  where
-    binary_fault : (f : FormatFault) × (opening_of bytes ≡ Err f) × (Line line cause ≡ at_byte f) → ⊥
-    binary_fault (formats.Malformed o, is, same) = absurd (cc same)
-    binary_fault (formats.NoMemory, is, same) = absurd (cc same)

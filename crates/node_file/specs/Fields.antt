@@ -1,12 +1,12 @@
 -- The fields of a line: so many words, numbers and keys.
 use Rattle.std.specs.Prelude.{ℕ, ◌&&◌, not, nat_le, nat_lt, if◌then◌else◌}
 use Rattle.std.specs.Prelude.{List, length, Option, Some, None, Result, Ok, Err}
-use Rattle.hex.specs.Hex.{decode_sized}
+use Rattle.hex.specs.Hex.{decode_of, decode_sized}
 use Rattle.hex.specs.declared.error.FromHexError.{FromHexError}
 use Rattle.prin_term.specs.Steps.{◌>>=◌}
-use Rattle.prin_text.specs.Words.{are_digits, has_leading_zero, value_after}
+use Rattle.prin_text.specs.Words.{are_digits, has_leading_zero, rights_of, value_after}
 use Rattle.node_file.specs.declared.fault.FileCause.{FileCause}
-use Rattle.node_file.specs.declared.fault.FileCause.TheVariants.{Words, Number, Hex}
+use Rattle.node_file.specs.declared.fault.FileCause.TheVariants.{Words, Number, Hex, Rights}
 use Rattle.node_file.specs.Lines.{is_plain, unblanked, word_off}
 
 -- the two words behind the first, where these and no more stand on a line of plain bytes
@@ -16,6 +16,21 @@ two_words line rest =
     let b = word_off a.1 in
     if is_plain line && nat_lt 0 (length b.0) && nat_lt (length (unblanked b.1)) 1
     then Ok (a.0, b.0) else Err Words
+
+-- the word behind the first, where this and no more stands on a line of plain bytes
+unfoldable pub one_word : List ℕ → List ℕ → Result (List ℕ) FileCause
+one_word line rest =
+    let a = word_off rest in
+    if is_plain line && nat_lt 0 (length a.0) && nat_lt (length (unblanked a.1)) 1
+    then Ok a.0 else Err Words
+
+-- two words behind the first, and what stands behind them, which is more than blanks, on a line of
+-- plain bytes
+unfoldable pub two_and_rest : List ℕ → Result (List ℕ × List ℕ × List ℕ) FileCause
+two_and_rest line =
+    let a = word_off (word_off line).1 in
+    let b = word_off a.1 in
+    if is_plain line && nat_lt 0 (length (unblanked b.1)) then Ok (a.0, b.0, b.1) else Err Words
 
 -- the number that is written in digits, without a sign and without leading zeros, up to the most
 unfoldable pub number_up_to : ℕ → List ℕ → Result ℕ FileCause
@@ -46,3 +61,29 @@ numbered line rest =
 unfoldable pub keyed : List ℕ → List ℕ → Result (ℕ × List ℕ) FileCause
 keyed line rest =
     numbered line rest >>= λ x. key_of_digits x.1 >>= λ key. Ok (x.0, key)
+
+-- the bytes of hex digits, of either case
+unfoldable pub bytes_of_digits : List ℕ → Result (List ℕ) FileCause
+bytes_of_digits word = decoded (decode_of word)
+
+-- a number up to the most, and nothing else
+unfoldable pub one_number : ℕ → List ℕ → List ℕ → Result ℕ FileCause
+one_number most line rest = one_word line rest >>= λ word. number_up_to most word
+
+-- bytes, and nothing else
+unfoldable pub digits : List ℕ → List ℕ → Result (List ℕ) FileCause
+digits line rest = one_word line rest >>= λ word. bytes_of_digits word
+
+-- the number with the bytes of the digits
+abbrev pub digits_of : ℕ → List ℕ → Result (ℕ × List ℕ) FileCause
+digits_of number word = bytes_of_digits word >>= λ bytes. Ok (number, bytes)
+
+-- a number of 32 bits and bytes
+unfoldable pub numbered_digits : List ℕ → List ℕ → Result (ℕ × List ℕ) FileCause
+numbered_digits line rest = numbered line rest >>= λ x. digits_of x.0 x.1
+
+-- a number of 32 bits, rights, and the text of a principal
+unfoldable pub granted : List ℕ → Result (ℕ × ℕ × List ℕ) FileCause
+granted line =
+    two_and_rest line >>= λ w. number_up_to 4294967295 w.0 >>= λ n.
+    some_or Rights (rights_of w.1) >>= λ rights. Ok (n, rights, w.2)

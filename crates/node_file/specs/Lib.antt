@@ -10,3 +10,7 @@ pub mod FileLines
 pub mod LineView
 pub mod RelayFile
 pub mod RelayView
+pub mod NodeLines
+pub mod NodeFile
+pub mod NodeView
+pub mod OpeningFile

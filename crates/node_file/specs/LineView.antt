@@ -1,5 +1,6 @@
 -- What taking a line does, as the program tells it.
-use Rattle.std.specs.Prelude.{◌≡◌, ◌⊎◌, ℕ, Result, Ok, Err}
+use Rattle.std.specs.Prelude.{◌≡◌, ◌⊎◌, ℕ, Bool, false, if◌then◌else◌}
+use Rattle.std.specs.Prelude.{Option, None, Some, Result, Ok, Err}
 use Rattle.prin_text.specs.declared.fault.NamesFault.{NamesFault}
 use Rattle.prin_text.specs.declared.fault.NamesFault.TheVariants as texts
 use Rattle.node_file.specs.declared.fault.FileCause.{FileCause}
@@ -34,3 +35,25 @@ abbrev pub IsReadFor : {X A : Type 0} → (X → A → Type 0) → Result X File
     Type 0
 IsReadFor {X} {A} Stands (Ok x) want = (a : A) × (want ≡ Ok a) × Stands x a
 IsReadFor Stands (Err e) want = (e ≡ NoMemory) ⊎ (want ≡ Err e)
+
+-- what was read of a line is what it says, seen by a view, or its cause is told, or memory ran out
+abbrev pub GivesLine : {X A : Type 0} → (X → A) → Result X LineFault → Result A FileCause → Type 0
+GivesLine view (Ok x) want = want ≡ Ok (view x)
+GivesLine view (Err lines.NoMemory) want = Unit {0}
+GivesLine view (Err (lines.Refused cause)) want = want ≡ Err cause
+
+-- the same, where it stands for what it should
+abbrev pub IsSaidFor : {X A : Type 0} → (X → A → Type 0) → Result X LineFault
+    → Result A FileCause → Type 0
+IsSaidFor {X} {A} Stands (Ok x) want = (a : A) × (want ≡ Ok a) × Stands x a
+IsSaidFor Stands (Err lines.NoMemory) want = Unit {0}
+IsSaidFor Stands (Err (lines.Refused cause)) want = want ≡ Err cause
+
+-- what the program has stands for what the lines make, of which the first is there, or is not: then
+-- it has nothing
+pub record SoFar {X A : Type 0} (Stands : X → A → Type 0) (nothing : A) (begun : Bool) (x : X)
+    (so_far : Option A) : Type 0 where
+  pub made : A
+  pub stands : Stands x made
+  pub is : so_far ≡ (if begun then Some made else None)
+  pub empty : begun ≡ false → made ≡ nothing

@@ -1,6 +1,6 @@
 -- What a node is opened with, and the bytes of its binary form.
-use Rattle.std.specs.Prelude.{◌≡◌, ◌≢◌, ℕ, ◌+◌, ◌*◌, ◌^◌, ◌<◌, ◌≤◌, ◌==◌, List, [], ◌∷◌, ◌++◌, length}
-use Rattle.std.specs.Prelude.{All, AllPairs, Option, find}
+use Rattle.std.specs.Prelude.{◌≡◌, ◌≢◌, ℕ, ◌+◌, ◌*◌, ◌^◌, ◌<◌, ◌≤◌, List, [], ◌∷◌, ◌++◌, length}
+use Rattle.std.specs.Prelude.{All, AllPairs}
 use Rattle.std.specs.List.{flat_map}
 use Rattle.std.specs.Int.{w16, w32, w64, to_be_bytes}
 pub use Rattle.keyed_seal.specs.Keys.{key_of}
@@ -9,7 +9,6 @@ use Rattle.object_core.specs.Operation.{IsContent, IsAccessList}
 use Rattle.prin_term.specs.declared.term.Anchor.{Anchor}
 use Rattle.object_core.specs.Spelling.{content_bytes, list_bytes}
 use Rattle.prin_term.specs.Steps.{IsByte, counted}
-use Rattle.prin_term.specs.View.{Grant}
 use Rattle.prin_text.specs.Labels.{Labels, AreLabels}
 use Rattle.sealed_cert.specs.declared.kind.TheConstants.{RELAYED}
 use Rattle.sealed_cert.specs.Seals.{sealed}

@@ -174,9 +174,3 @@ opening_of bytes = do
 abbrev pub at_byte : FormatFault → FileFault
 at_byte (Malformed o) = Byte o
 at_byte NoMemory = files.NoMemory
-
--- the opening that a file means, or its fault: one that is too long is refused at no line
-unfoldable pub opening_in : List ℕ → Result Opening FileFault
-opening_in bytes =
-    if nat_lt MAX_FILE (length bytes) then Err (Line 0 Limit)
-    else with_fault at_byte (opening_of bytes)

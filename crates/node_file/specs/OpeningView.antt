@@ -7,25 +7,26 @@ use Rattle.prin_term.specs.declared.fault.FormatFault.TheVariants.{NoMemory}
 use Rattle.stmt_codec.specs.declared.cert.Cert.{Cert}
 use Rattle.stmt_codec.specs.Certificates.{Certificate, certificate}
 use Rattle.node_file.specs.declared.fault.FileFault.{FileFault}
-use Rattle.node_file.specs.declared.fault.FileFault.TheVariants as files
 use Rattle.node_file.specs.declared.opening.Opening as code
 use Rattle.node_file.specs.Opening.{Opening}
-use Rattle.node_file.specs.Held.{HoldsKeys}
+use Rattle.node_file.specs.Held.{HoldsKeys, HoldsRows}
+use Rattle.node_file.specs.LineView.{IsReadFor}
 use Rattle.node_file.specs.Plans.{HoldsPlans}
 
 -- the certificate that the program shares, wherever it lies
 abbrev pub common : {Z : Type 0} → Arc Cert Z → Certificate
 common c = certificate (arc_value c).body
 
--- the program's opening stands for the opening o: channels and objects are looked up by number,
--- so their order is not kept
+-- the program's opening stands for the opening o: texts, channels and objects are looked
+-- up, so their order is not kept
 pub record Represents (code : code.Opening) (o : Opening) : Type 0 where
   pub node : code.node ≡ o.node
   pub relay_key : code.relay_key ≡ o.relay_key
   pub shards : code.shards ≡ o.shards
   pub keep : code.keep ≡ o.keep
   pub limit : code.limit ≡ o.limit
-  pub names : code.names ≡ o.names
+  pub names : HoldsRows code.names.names o.names.names
+  pub roles : HoldsRows code.names.roles o.names.roles
   pub channels : HoldsKeys code.channels o.channels
   pub anchors : (arc_value code.anchors).items ≡ o.anchors
   pub commons : map common code.commons.items ≡ o.commons
@@ -43,5 +44,4 @@ Agrees Stands (Err e) read = (e ≡ NoMemory) ⊎ (read ≡ Err e)
 
 -- the same of a file's opening and its faults
 abbrev pub IsReadAs : Result code.Opening FileFault → Result Opening FileFault → Type 0
-IsReadAs (Ok x) read = (o : Opening) × (read ≡ Ok o) × Represents x o
-IsReadAs (Err e) read = (e ≡ files.NoMemory) ⊎ (read ≡ Err e)
+IsReadAs result read = IsReadFor Represents result read

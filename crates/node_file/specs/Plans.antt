@@ -1,5 +1,6 @@
 -- Objects by ascending number, and one more of them.
 use Rattle.std.specs.Prelude.{◌≡◌, ◌≢◌, ℕ, ◌+◌, ◌<◌, ◌≤◌, List, [], length, map, slice_index_or, Some}
+use Rattle.std.specs.Option.{option_map}
 use Rattle.std.specs.Arc.{arc_value}
 use Rattle.prin_term.specs.View.{grant}
 use Rattle.node_file.specs.declared.object_plan.ObjectPlan as code
@@ -44,3 +45,10 @@ pub record AddsPlan (old new : List ObjectPlan) (p : ObjectPlan) : Type 0 where
 pub record HoldsPlans (plans list : List ObjectPlan) : Type 0 where
   pub each : (number : ℕ) → object_of plans number ≡ object_of list number
   pub count : length plans ≡ length list
+
+-- the object of the number is changed so, where there is one, and the others are the old ones
+pub record ChangesPlan (old new : List ObjectPlan) (number : ℕ)
+    (change : ObjectPlan → ObjectPlan) : Type 0 where
+  pub this_plan : object_of new number ≡ option_map change (object_of old number)
+  pub other_plans : (n : ℕ) → n ≢ number → object_of new n ≡ object_of old n
+  pub count : length new ≡ length old

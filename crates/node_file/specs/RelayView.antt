@@ -1,7 +1,8 @@
 -- What the program's relay file means.
-use Rattle.std.specs.Prelude.{◌≡◌, Bool, false, Option, Some, None, if◌then◌else◌}
+use Rattle.std.specs.Prelude.{◌≡◌, Bool, Option}
 use Rattle.node_file.specs.declared.relay_file.RelayFile as code
 use Rattle.node_file.specs.Held.{HoldsKeys, HoldsRows}
+use Rattle.node_file.specs.LineView.{SoFar}
 use Rattle.node_file.specs.RelayFile.{RelayFile, no_relay}
 use Rattle.node_file.specs.declared.limits.TheConstants.{MAX_ISSUERS, MAX_NODES}
 
@@ -16,9 +17,5 @@ pub record StandsFor (file : code.RelayFile) (r : RelayFile) : Type 0 where
   pub roles : HoldsRows file.names.roles r.roles
 
 -- the program's relay file stands for what the lines make, of which the first is there, or is not
-pub record StandsSoFar (begun : Bool) (file : code.RelayFile)
-    (so_far : Option RelayFile) : Type 0 where
-  pub made : RelayFile
-  pub stands : StandsFor file made
-  pub is : so_far ≡ (if begun then Some made else None)
-  pub empty : begun ≡ false → made ≡ no_relay
+abbrev pub StandsSoFar : Bool → code.RelayFile → Option RelayFile → Type 0
+StandsSoFar begun file so_far = SoFar StandsFor no_relay begun file so_far

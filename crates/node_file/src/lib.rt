@@ -6,11 +6,13 @@ mod fault;
 mod laws;
 mod limits;
 mod line_fault;
+mod node_text;
 mod object_plan;
 mod object_plans;
 mod opening;
 mod relay_file;
 mod relay_reading;
+mod taking;
 mod text;
 
 pub use fault::{FileCause, FileFault};

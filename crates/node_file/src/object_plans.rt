@@ -4,11 +4,16 @@ ghost use Rattle.std.specs.Prelude.{◌≡◌, ◌↔◌, [], length, IsOk, IfOk
 ghost use Rattle.std.specs.Prelude.{None, map, slice_get};
 ghost use Rattle.std.specs.Option.{option_map};
 ghost use Rattle.object_core.specs.Objects.{object_of};
-ghost use Rattle.node_file.specs.Plans.{AddsPlan, AreByNumber, IsAt, IsGapFor, plan};
+ghost use Rattle.prin_term.specs.View.{grant};
+ghost use Rattle.std.specs.Arc.{arc_value};
+ghost use Rattle.node_file.specs.NodeLines.{with_content, with_list};
+ghost use Rattle.node_file.specs.Plans.{AddsPlan, AreByNumber, ChangesPlan, IsAt, IsGapFor, plan};
 
 use crate::object_plan::ObjectPlan;
+use prin_term::Entry;
 use std::alloc::{AllocError, Global};
 use std::marker::Model;
+use std::sync::Arc;
 
 /// Objects with numbers of their own. A contract sees their list, ascending by number.
 #[derive(Debug, Drop)]
@@ -76,6 +81,25 @@ impl ObjectPlans {
         ensures sound { AreByNumber self.now }
     {
         self.plans.get(place)
+    }
+
+    // Gives the object of a number, where there is one, this content.
+    pub(crate) fn set_content(&mut self, number: u32, content: Vec<u8>)
+        ensures { ChangesPlan self.old self.new number (with_content content.items) }
+    {
+        if let Ok(place) = self.place_of(number) {
+            self.plans[place].content = content;
+        }
+    }
+
+    // Gives the object of a number, where there is one, this access list.
+    pub(crate) fn set_list(&mut self, number: u32, list: Arc<Vec<Entry>>)
+        ensures { ChangesPlan self.old self.new number
+            (with_list (map grant (arc_value list).items)) }
+    {
+        if let Ok(place) = self.place_of(number) {
+            self.plans[place].list = list;
+        }
     }
 
     // Where a number that is not there would go.

@@ -1,10 +1,10 @@
 //! What a node is opened with.
 
-mod common;
+pub(crate) mod common;
 mod field;
 mod head;
 mod object;
-mod reading;
+pub(crate) mod reading;
 mod table;
 
 use crate::object_plans::ObjectPlans;

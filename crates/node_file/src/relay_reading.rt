@@ -1,22 +1,17 @@
 //! Reading a relay file.
 
 ghost use Rattle.std.specs.Prelude.{◌≡◌, IfOk, Option, codes, true};
-ghost use Rattle.keyed_seal.specs.Keys.{Entries};
-ghost use Rattle.prin_text.specs.Labels.{Rows};
-ghost use Rattle.prin_text.specs.declared.limits.TheConstants.{MAX_NAMES, MAX_ROLES};
-ghost use Rattle.node_file.specs.FileLines.{first_or, is_first_line, keys_with, texts_with};
-ghost use Rattle.node_file.specs.Held.{HoldsKeys, HoldsRows};
+ghost use Rattle.node_file.specs.FileLines.{first_or, is_first_line};
 ghost use Rattle.node_file.specs.RelayFile as meant;
 ghost use Rattle.node_file.specs.RelayFile.{no_relay, relay_in, relay_step};
 ghost use Rattle.node_file.specs.LineView.{IsReadFor, TakesLine};
 ghost use Rattle.node_file.specs.RelayView.{StandsFor, StandsSoFar};
 
-use crate::adding::{add_key, add_name, add_role};
 use crate::fault::{FileCause, FileFault};
 use crate::limits::{MAX_FILE, MAX_ISSUERS, MAX_NODES};
 use crate::line_fault::LineFault;
 use crate::relay_file::RelayFile;
-use crate::text::field::{keyed, numbered};
+use crate::taking::{take_key, take_name, take_role};
 use crate::text::line::line_at;
 use crate::text::word::{is_first_line, is_skipped, is_word, word_off};
 use keyed_seal::KeyTable;
@@ -35,48 +30,6 @@ fn empty(alloc: Global) -> Result<RelayFile, AllocError>
         },
         names: Names::new(alloc)?,
     })
-}
-
-// Gives a name the text that the line says.
-fn take_name(alloc: Global, names: &mut Names, line: &[u8], rest: &[u8]) -> Result<(), LineFault>
-    ensures takes { (rows : Rows) → HoldsRows names.old.names rows
-        → TakesLine HoldsRows result names.new.names
-        (texts_with MAX_NAMES rows line.now rest.now) }
-    ensures roles { names.new.roles ≡ names.old.roles }
-{
-    match numbered(line, rest) {
-        Ok((number, text)) => add_name(alloc, names, number, text),
-        Err(cause) => Err(LineFault::Refused(cause)),
-    }
-}
-
-// Gives a role the text that the line says.
-fn take_role(alloc: Global, names: &mut Names, line: &[u8], rest: &[u8]) -> Result<(), LineFault>
-    ensures takes { (rows : Rows) → HoldsRows names.old.roles rows
-        → TakesLine HoldsRows result names.new.roles
-        (texts_with MAX_ROLES rows line.now rest.now) }
-    ensures names { names.new.names ≡ names.old.names }
-{
-    match numbered(line, rest) {
-        Ok((number, text)) => add_role(alloc, names, number, text),
-        Err(cause) => Err(LineFault::Refused(cause)),
-    }
-}
-
-// Gives a number the key that the line says.
-fn take_key(table: &mut KeyTable, line: &[u8], rest: &[u8]) -> Result<(), LineFault>
-    ensures takes { (keys : Entries) → HoldsKeys table.old keys
-        → TakesLine HoldsKeys result table.new
-        (keys_with table.old.room keys line.now rest.now) }
-    ensures room { table.new.room ≡ table.old.room }
-{
-    match keyed(line, rest) {
-        Ok(said) => {
-            let key = said.1;
-            add_key(table, said.0, key)
-        }
-        Err(cause) => Err(LineFault::Refused(cause)),
-    }
 }
 
 // What a line says is added, or nothing.

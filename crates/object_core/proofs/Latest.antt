@@ -1,5 +1,5 @@
 -- The latest of what entries bring, and the place of the entry that brought it.
-use Rattle.std.proofs.Common.{◌≡◌, refl, sym, subst, ap, ◌∙◌, ℕ, zero, suc, Bool, ◌+◌, ◌<◌, ◌≤◌, if◌then◌else◌, List, [], ◌∷◌, ◌++◌, length, map, Option, Some, None, arith, vec_capacity, Vec, Global}
+use Rattle.std.proofs.Common.{◌≡◌, refl, sym, subst, ap, ◌∙◌, ℕ, zero, suc, Bool, ◌<◌, ◌≤◌, if◌then◌else◌, List, [], ◌∷◌, ◌++◌, length, map, Option, Some, None, arith, vec_capacity, Vec, Global}
 use Rattle.std.specs.List.{cons_option, filter_map, slice_get}
 use Rattle.std.specs.Option.{is_some, unwrap_or}
 use Rattle.std.proofs.lemmas.List.{length-append, length-map, map-append}
@@ -16,12 +16,12 @@ latest-append : {X : Type 0} (x : X) (xs ys : List X) → latest x (xs ++ ys) �
 latest-append x [] ys = refl
 latest-append x (y ∷ xs) ys = latest-append y xs ys
 
-get_front : {X : Type 0} (xs ys : List X) (i : ℕ) (x : X) → slice_get xs i ≡ Some x → slice_get (xs ++ ys) i ≡ Some x
+pub get_front : {X : Type 0} (xs ys : List X) (i : ℕ) (x : X) → slice_get xs i ≡ Some x → slice_get (xs ++ ys) i ≡ Some x
 get_front [] ys i x is = absurd cc
 get_front (z ∷ xs) ys zero x is = is
 get_front (z ∷ xs) ys (suc i) x is = get_front xs ys i x is
 
-get_end : {X : Type 0} (xs : List X) (x : X) → slice_get (xs ++ x ∷ []) (length xs) ≡ Some x
+pub get_end : {X : Type 0} (xs : List X) (x : X) → slice_get (xs ++ x ∷ []) (length xs) ≡ Some x
 get_end [] x = refl
 get_end (z ∷ xs) x = get_end xs x
 
@@ -30,7 +30,7 @@ last_of x None = refl
 last_of x (Some y) = refl
 
 -- the latest of the entries and one more
-latest_more : {X : Type 0} (by : ObjectEntry → Option X) (x : X) (journal : List ObjectEntry) (e : ObjectEntry) →
+pub latest_more : {X : Type 0} (by : ObjectEntry → Option X) (x : X) (journal : List ObjectEntry) (e : ObjectEntry) →
     latest x (filter_map by (journal ++ e ∷ [])) ≡ unwrap_or (by e) (latest x (filter_map by journal))
 latest_more by x journal e =
     ap (latest x) (filter_map-append by journal (e ∷ [])) ∙ latest-append x (filter_map by journal) (filter_map by (e ∷ [])) ∙ last_of (latest x (filter_map by journal)) (by e)

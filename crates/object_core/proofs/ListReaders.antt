@@ -1,5 +1,5 @@
 -- Contents and access lists: what is read is spelled so, and the other way.
-use Rattle.std.proofs.Common.{◌≡◌, ℕ, ◌+◌, ◌≤◌, leb, List, ◌∷◌, ◌++◌, length, drop, Ok, refl, sym, ap, subst, arith}
+use Rattle.std.proofs.Common.{◌≡◌, ℕ, ◌+◌, ◌≤◌, leb, List, ◌++◌, length, drop, Ok, refl, sym, ap, subst, arith}
 use Rattle.std.specs.Int.{w16, to_be_bytes}
 use Rattle.std.proofs.lemmas.Bool.{leb-true, le-leb}
 use Rattle.object_core.specs.declared.limits.TheConstants.{MAX_CONTENT, MAX_ENTRIES, MAX_RIGHTS}
@@ -10,7 +10,7 @@ use Rattle.prin_term.specs.declared.fault.FormatFault.TheVariants.{Malformed}
 use Rattle.prin_term.specs.declared.limits.TheConstants.{ENTRY_NODES}
 use Rattle.prin_term.specs.Formats.{ended, seen_as}
 use Rattle.prin_term.specs.View.{Grant}
-use Rattle.prin_term.proofs.FieldLaws.{IsBytes, TakesAt}
+use Rattle.prin_term.proofs.FieldLaws.{IsBytes}
 use Rattle.prin_term.proofs.FieldReaders.{reads_term}
 use Rattle.prin_term.proofs.FormatFields.{reads_u8, reads_u16, reads_u8_in}
 use Rattle.prin_term.proofs.ReaderLaws.{Reads, reads_bytes, reads_followed, reads_passing, reads_made, reads_each}

@@ -6,3 +6,6 @@ pub mod Objects
 pub mod ObjectView
 pub mod Kept
 pub mod FixedView
+pub mod Shelving
+pub mod Numbered
+pub mod OneOwner

@@ -1,10 +1,10 @@
 -- The objects that a node is opened with, and what the journal of each makes of it.
-use Rattle.std.specs.Prelude.{◌≡◌, ℕ, ◌==◌, List, [], ◌∷◌, Option, Some, None, find}
-use Rattle.std.specs.List.{filter_map}
+use Rattle.std.specs.Prelude.{◌≡◌, ℕ, ◌==◌, Bool, true, false, List, [], ◌∷◌, ◌++◌, Option, Some, None, find}
+use Rattle.std.specs.List.{filter, filter_map}
 use Rattle.prin_term.specs.View.{Grant}
-use Rattle.object_core.specs.Operation.{Op, Read, Write, SetList}
+use Rattle.object_core.specs.Operation.{Op, Write, SetList}
 use Rattle.object_core.specs.declared.ruling.Ruling.{Ruling}
-use Rattle.object_core.specs.declared.ruling.Ruling.TheVariants.{Granted}
+use Rattle.object_core.specs.declared.ruling.Ruling.TheVariants.{Granted, Denied}
 
 -- a guarded object: its number, its content and its access list
 pub record ObjectPlan : Type 0 where
@@ -65,3 +65,27 @@ content_after plan journal = latest plan.content (filter_map written_by journal)
 -- the access list after these entries: that of the last granted SetList, else the one at opening
 abbrev pub list_after : ObjectPlan → List ObjectEntry → List Grant
 list_after plan journal = latest plan.list (filter_map listed_by journal)
+
+-- ---- what follows
+
+-- whether the ruling is a grant
+abbrev pub is_grant : Ruling → Bool
+is_grant (Granted entry) = true
+is_grant Denied = false
+
+-- the entries that were granted, in order
+abbrev pub granted_of : List ObjectEntry → List ObjectEntry
+granted_of journal = filter (λ (e : ObjectEntry). is_grant e.ruling) journal
+
+-- what the granted entries alone make of an object is what all of them make of it
+abbrev pub ChangesByGrants : Type 0
+ChangesByGrants = (plan : ObjectPlan) (journal : List ObjectEntry) →
+    (content_after plan (granted_of journal) ≡ content_after plan journal)
+    × (list_after plan (granted_of journal) ≡ list_after plan journal)
+
+-- an entry that was denied changes no byte of the content, and no entry of the list
+abbrev pub StaysWhenDenied : Type 0
+StaysWhenDenied = (plan : ObjectPlan) (journal : List ObjectEntry) (e : ObjectEntry) →
+    e.ruling ≡ Denied →
+    (content_after plan (journal ++ e ∷ []) ≡ content_after plan journal)
+    × (list_after plan (journal ++ e ∷ []) ≡ list_after plan journal)

@@ -1,6 +1,7 @@
-//! Laws of contents and access lists, stated as contracts of functions that do nothing.
+//! Laws of objects, contents and access lists, stated as contracts of functions that do nothing.
 
 ghost use Rattle.std.specs.Prelude.{◌≡◌, ◌↔◌, ◌+◌, ◌≤◌, ℕ, List, length, All, Ok, Err};
+ghost use Rattle.object_core.specs.Objects.{ChangesByGrants, StaysWhenDenied};
 ghost use Rattle.object_core.specs.Reading.{content_at, list_at};
 ghost use Rattle.object_core.specs.Spelling.{content_bytes, list_bytes, IsContentAt, IsListAt};
 ghost use Rattle.prin_term.specs.declared.fault.FormatFault.{FormatFault};
@@ -26,4 +27,10 @@ pub fn lists_are_read()
         ↔ (IsListAt bytes at list × (end ≡ at + length (list_bytes list))) }
     ensures refused { (bytes : List ℕ) (at : ℕ) (f : FormatFault) → at ≤ length bytes
         → All IsByte bytes → list_at bytes at ≡ Err f → IsFaultIn bytes f }
+{}
+
+/// What an object shows is made by the entries that were granted, and by no other.
+pub fn objects_change_by_grants()
+    ensures granted { ChangesByGrants }
+    ensures denied { StaysWhenDenied }
 {}

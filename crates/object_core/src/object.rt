@@ -184,7 +184,8 @@ impl Object {
 
     /// The operations that came to a ruling, in their order.
     pub fn journal(&self) -> &[ObjectEntry]
-        ensures { map object_entry result.now ≡ self.now.journal }
+        ensures value { map object_entry result.now ≡ self.now.journal }
+        ensures within { length self.now.journal ≤ self.now.limit }
     {
         &self.entries
     }

@@ -2,7 +2,7 @@
 use Rattle.std.proofs.Common.{◌≡◌, ℕ, ◌+◌, ◌<◌, min, List, [], ◌∷◌, ◌++◌, length, get_or, map, take, ap, ◌∙◌, arith}
 use Rattle.std.proofs.lemmas.List.{map_more}
 use Rattle.stmt_codec.specs.Certificates.{Certificate}
-use Rattle.proof_cache.specs.Cached.{lease_of}
+use Rattle.proof_cache.specs.Lease.{lease_of}
 
 lease_of-push : (cs : List Certificate) (c : Certificate) → lease_of (cs ++ c ∷ []) ≡ min (lease_of cs) c.until
 lease_of-push [] c = omega arith

@@ -1,5 +1,5 @@
 mod Least
-mod Lists
-mod Marks
-mod One
+pub mod Lists
+pub mod Marks
+pub mod One
 mod Rows

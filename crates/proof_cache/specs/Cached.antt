@@ -1,5 +1,5 @@
 -- Proofs that are kept, as mathematics has them.
-use Rattle.std.specs.Prelude.{ℕ, ◌-◌, ◌^◌, min, List, [], ◌∷◌}
+use Rattle.std.specs.Prelude.{ℕ, List}
 use Rattle.prin_term.specs.Principal.{Principal}
 use Rattle.prin_term.specs.View.{principal}
 use Rattle.stmt_codec.specs.Certificates.{Certificate}
@@ -7,6 +7,7 @@ use Rattle.stmt_codec.specs.View.{certificates}
 use Rattle.taos_calculus.specs.Rules.{Line}
 use Rattle.taos_calculus.specs.Tables.{lines_of}
 use Rattle.std.specs.Arc.{arc_value}
+pub use Rattle.proof_cache.specs.Lease.{lease_of}
 use Rattle.proof_cache.specs.declared.cached.Cached.{Cached as CachedValue}
 
 -- a proof that its subject speaks for someone, with what it cites and the moment at which it ends
@@ -20,11 +21,6 @@ pub record Cached : Type 0 where
   pub cites : List Certificate
   -- the moment at which it ends, in the unit of the service's clock
   pub lease : ℕ
-
--- the least end of these certificates, or the largest u64 where there is none
-abbrev pub lease_of : List Certificate → ℕ
-lease_of [] = 2 ^ 64 - 1
-lease_of (c ∷ cs) = min c.until (lease_of cs)
 
 -- what a kept proof of the program means, wherever its parts lie
 abbrev pub cached : CachedValue → Cached

@@ -1,3 +1,4 @@
+pub mod Lease
 pub mod Cached
 pub mod Cache
 pub mod Mark

@@ -2,7 +2,7 @@
 
 ghost use Rattle.std.specs.Prelude.{◌≡◌};
 ghost use Rattle.stmt_codec.specs.View.{certificates};
-ghost use Rattle.proof_cache.specs.Cached as math;
+ghost use Rattle.proof_cache.specs.Lease as math;
 
 use prin_term::Term;
 use std::sync::Arc;
@@ -10,7 +10,7 @@ use stmt_codec::Cert;
 use taos_calculus::Proof;
 
 /// A proof that the subject speaks for someone, with the certificates that it cites, in the order
-/// of its numbers.
+/// of its numbers. Its lease is the one that `lease_of` gives of these.
 #[derive(Debug, Drop)]
 pub struct Cached {
     pub subject: Term,
@@ -19,6 +19,7 @@ pub struct Cached {
     pub cites: Vec<Arc<Cert>>,
     /// The moment at which the first of the cites ends.
     pub lease: u64,
+    pub ghost leased: { lease ≡ math.lease_of (certificates cites.items) },
 }
 
 /// The moment at which the first of the certificates ends, or the last moment where there is none.

@@ -4,7 +4,6 @@ use proof_cache::*;
 use std::alloc::Global;
 use std::sync::Arc;
 use std::test::*;
-use stmt_codec::Cert;
 use taos_calculus::Proof;
 
 enum Step {
@@ -27,16 +26,11 @@ const STEPS: [(Step, u32, u32, bool); 7] = [
     (Step::Cert, 3, 2, false),
 ];
 
-fn kept(
-    alloc: Global,
-    cert: &Arc<Cert>,
-    key: u32,
-    name: u32,
-    lease: u64,
-) -> Result<Arc<Cached>, Fail> {
+fn kept(alloc: Global, key: u32, name: u32, end: u64) -> Result<Arc<Cached>, Fail> {
     let proof = Proof::from_parts(Vec::new(alloc), Vec::new(alloc)).unwrap();
     let mut cites = Vec::new(alloc);
-    cites.push(Arc::try_clone(cert)?)?;
+    cites.push(hand_off(alloc, end)?)?;
+    let lease = lease_of(&cites);
     let cached = Cached {
         subject: Term::Key(key),
         who: Term::Name(name),
@@ -53,13 +47,13 @@ fn the_last_of_too_many_goes_and_each_purge_drops_its_own(rt: HostRuntime) -> Re
     let cert = hand_off(alloc, 2000)?;
     let mut cache = Cache::new(alloc)?;
     for name in 0..64 {
-        cache.keep(kept(alloc, &cert, 2, name, 2000)?);
+        cache.keep(kept(alloc, 2, name, 2000)?);
     }
     assert!(rt; cache.find(&Term::Key(2), &Term::Name(0)));
     assert!(rt; !cache.find(&Term::Key(1), &Term::Name(0)));
     for (number, (step, key, name, there)) in STEPS.iter().enumerate() {
         match step {
-            Step::Keep(key, name, lease) => cache.keep(kept(alloc, &cert, *key, *name, *lease)?),
+            Step::Keep(key, name, end) => cache.keep(kept(alloc, *key, *name, *end)?),
             Step::Before(clock) => cache.purge_before(*clock),
             Step::Channel(channel) => cache.purge_channel(*channel),
             Step::Cert => cache.purge_cert(&cert.digest),

@@ -1,7 +1,7 @@
 """Conversations, and how a file of them is written."""
 import textwrap
 
-from formats import Fields, grant_front
+from formats import LAST, Fields, grant_front
 
 WIDTH = 100
 NUMBERS = ["pieces", "clock"]
@@ -27,11 +27,12 @@ class Times:
 
 
 class Grant:
-    """The frame of a grant whose proof may be any."""
+    """The frame of a grant whose proof may be any. The first of its certificates ends as `until` says."""
 
-    def __init__(self, channel, number, certificates, entry=0, shard=0, place=0, content=b"hello"):
-        self.front = grant_front(channel, number, entry, shard, place)
+    def __init__(self, channel, number, certificates, entry=0, shard=0, place=0, content=b"hello", kept=0, until=2000):
+        self.front = grant_front(channel, number, entry, shard, place, kept)
         self.certificates, self.content = certificates, content
+        self.until = until if certificates else LAST
 
     def line(self):
         content = f" content {self.content.hex()}".rstrip()

@@ -202,9 +202,9 @@ def grant_text(front, proof, bodies, content):
     return Fields(front, u32(len(proof)), proof, rest)
 
 
-def granted(channel, number, proof, entry=0, shard=0, place=0, bodies=(), content=b"hello"):
+def granted(channel, number, proof, entry=0, shard=0, place=0, bodies=(), content=b"hello", kept=0):
     """The frame of a grant by this proof."""
-    text = grant_text(grant_front(channel, number, entry, shard, place), proof, bodies, content)
+    text = grant_text(grant_front(channel, number, entry, shard, place, kept), proof, bodies, content)
     return frame(tagged(key_of(channel), text))
 
 

@@ -9,9 +9,15 @@ import os
 import sys
 
 from cases import THEMES
+from checking import fault
 from conversation import file_text
 
 HERE = os.path.dirname(os.path.dirname(os.path.abspath(__file__)))
+
+
+def faults():
+    """What cases state otherwise than the shards of tools/shard.py have it."""
+    return [f"{theme}: {wrong}" for theme, _, cases in THEMES for wrong in map(fault, cases()) if wrong]
 
 
 def files():
@@ -62,6 +68,10 @@ def main(words):
     if words not in ([], ["--check"]):
         print(__doc__, end="", file=sys.stderr)
         return 2
+    wrong = faults()
+    if wrong:
+        print("\n".join(wrong))
+        return 1
     return check(files()) if words else write(files())
 
 

@@ -122,8 +122,10 @@ def fault(program, path, case, relay):
     note = "" if case.text("note") is None else case.text("note") + "\n"
     if run.returncode != int(case.text("status")):
         return f"status {run.returncode}"
-    if run.stderr.decode() != note:
-        return f"note {run.stderr.decode().strip()}"
+    # Lines of the program's own part, as warnings of equal keys, stand before the note.
+    told = "".join(line for line in run.stderr.decode().splitlines(True) if not line.startswith("taosd: "))
+    if told != note:
+        return f"note {told.strip()}"
     return output_fault(program, path, case, run.stdout)
 
 

@@ -1,5 +1,5 @@
 -- Courses of one payload do not differ in their status.
-use Rattle.std.proofs.Common.{◌≡◌, ◌≢◌, ◌⊎◌, ℕ, List, [], ◌∷◌, ◌++◌, length, take, drop, map, None, Some, refl, sym, ap, ap₂, subst, subst₂, ◌∙◌, inl, inr}
+use Rattle.std.proofs.Common.{◌≡◌, ◌≢◌, ◌⊎◌, ℕ, Bool, List, [], ◌∷◌, ◌++◌, length, take, drop, map, None, Some, refl, sym, ap, ap₂, subst, subst₂, ◌∙◌, inl, inr}
 use Rattle.std.proofs.Math.Seq.{take-append_seam, drop-append_seam}
 use Rattle.std.proofs.lemmas.Option.{same_Some}
 use Rattle.keyed_seal.specs.Keys.{key_of}
@@ -8,15 +8,18 @@ use Rattle.taos_wire.specs.Reply.{Reply, Sent, status_of}
 use Rattle.taos_wire.proofs.RequestLaws.{spelled_once}
 use Rattle.stmt_codec.specs.Certificates.{Certificate}
 use Rattle.denial_link.specs.declared.link.Link.{Link}
+use Rattle.proof_cache.specs.Cached.{Cached}
+use Rattle.agent_core.specs.declared.asked.Settled.{Settled}
 use Rattle.agent_core.specs.declared.told.Told.{Told}
 use Rattle.agent_core.specs.State.{Plan, Ask, Asks}
 use Rattle.agent_core.specs.Journals.{Entry, entry, Stands, IsVerdict, Granted, Denied}
+use Rattle.agent_core.specs.Asked.{IsGrantedAt, IsGrant, by_kept, was_kept, was_dropped, had_no_room}
 use Rattle.agent_core.proofs.Few.{one_verdict}
 use Rattle.agent_core.proofs.Onward.{granted_verdict, denied_verdict}
 use Rattle.object_core.specs.Objects.{ObjectPlan, object_of}
 use Rattle.taos_monitor.specs.Cells.{Node, home, HasPlan, Journals, Place, in_shard}
 use Rattle.taos_monitor.specs.Credentials.{LinkCall, AreOpened, IsFirstRefused, IsFirstFailed}
-use Rattle.taos_monitor.specs.Course.{asking, Used, uses, IsUnbuilt, IsRuled, full, replayed, channel_full, denied, granted, unanswered, Course, malformed, unknown_channel, bad_seal, unbuilt, cert_refused, relay_failed, unknown_object, ruled, unread, unopened}
+use Rattle.taos_monitor.specs.Course.{asking, Used, uses, IsUnbuilt, IsRuled, full, replayed, channel_full, denied, granted, untold, unanswered, Course, malformed, unknown_channel, bad_seal, unbuilt, cert_refused, relay_failed, unknown_object, ruled, unread, unopened}
 use Rattle.taos_monitor.specs.Laws.{CoursesAgree}
 use Rattle.taos_monitor.proofs.Firsts.{opened_or_refused, opened_or_failed, refused_or_link}
 
@@ -53,24 +56,34 @@ same_ask a b told said e = (asks a b (ap (λ (x : Entry). x.event) e), ap (λ (x
 data Ends (plan : Plan) (before : List Entry) (a : Ask) : Told → ℕ → Type 0 where
   by_number : {last : ℕ} → Ends plan before a (Told.Replayed last) 5
   by_count : {held : ℕ} → Ends plan before a (Told.Full held) 7
+  by_hit : {entry : ℕ} → Ends plan before a (Told.Hit entry) 0
   by_grant : IsVerdict plan before a Granted → Ends plan before a Told.Miss 0
   by_denial : {link : Link} → IsVerdict plan before a (Denied link) → Ends plan before a Told.Miss 1
 
 same_end : (plan : Plan) (before : List Entry) (a : Ask) (told said : Told) (s t : ℕ) → Ends plan before a told s → Ends plan before a said t → told ≡ said → s ≡ t
 same_end plan before a told said s t by_number by_number e = refl
 same_end plan before a told said s t by_number by_count e = absurd cc
+same_end plan before a told said s t by_number by_hit e = absurd cc
 same_end plan before a told said s t by_number (by_grant v) e = absurd cc
 same_end plan before a told said s t by_number (by_denial v) e = absurd cc
 same_end plan before a told said s t by_count by_number e = absurd cc
 same_end plan before a told said s t by_count by_count e = refl
+same_end plan before a told said s t by_count by_hit e = absurd cc
 same_end plan before a told said s t by_count (by_grant v) e = absurd cc
 same_end plan before a told said s t by_count (by_denial v) e = absurd cc
+same_end plan before a told said s t by_hit by_number e = absurd cc
+same_end plan before a told said s t by_hit by_count e = absurd cc
+same_end plan before a told said s t by_hit by_hit e = refl
+same_end plan before a told said s t by_hit (by_grant v) e = refl
+same_end plan before a told said s t by_hit (by_denial v) e = absurd cc
 same_end plan before a told said s t (by_grant v) by_number e = absurd cc
 same_end plan before a told said s t (by_grant v) by_count e = absurd cc
+same_end plan before a told said s t (by_grant v) by_hit e = refl
 same_end plan before a told said s t (by_grant v) (by_grant w) e = refl
 same_end plan before a told said s t (by_grant v) (by_denial {link} w) e = absurd (one_verdict plan before a link v w)
 same_end plan before a told said s t (by_denial v) by_number e = absurd cc
 same_end plan before a told said s t (by_denial v) by_count e = absurd cc
+same_end plan before a told said s t (by_denial v) by_hit e = absurd cc
 same_end plan before a told said s t (by_denial {link} v) (by_grant w) e = absurd (one_verdict plan before a link w v)
 same_end plan before a told said s t (by_denial v) (by_denial w) e = refl
 
@@ -79,9 +92,20 @@ record Ended (plan : Plan) (journal : List Entry) (own : List ℕ) (status : ℕ
   before : List Entry
   ask : Ask
   told : Told
-  at : own ≡ place ∷ []
+  -- behind it a place of its proof, where that has one
+  more : List ℕ
+  at : own ≡ place ∷ more
   stands : Stands journal place before (entry (Asks ask) told)
   ends : Ends plan before ask told status
+
+made_ended : (plan : Plan) (journal : List Entry) (a : Ask) (place e : ℕ) (c : Cached) (more : List ℕ) → IsGrantedAt plan journal a place e c → Ended plan journal (place ∷ more) 0
+made_ended plan journal a place e c rest g = record { place = place; before = g.before; ask = a; told = Told.Miss; more = rest; at = refl; stands = g.stands; ends = by_grant (granted_verdict plan journal a place e c g) }
+
+grant_ended : (plan : Plan) (journal : List Entry) (a : Ask) (place e : ℕ) (c : Cached) (kept : Bool) (settled : Settled) (own : List ℕ) → IsGrant plan journal a place e c kept settled own → Ended plan journal own 0
+grant_ended plan journal a place e c kept settled own (by_kept h) = record { place = place; before = h.before; ask = a; told = Told.Hit e; more = []; at = refl; stands = h.stands; ends = by_hit }
+grant_ended plan journal a place e c kept settled own (was_kept {keep} g t) = made_ended plan journal a place e c (keep ∷ []) g
+grant_ended plan journal a place e c kept settled own (was_dropped {keep} g t) = made_ended plan journal a place e c (keep ∷ []) g
+grant_ended plan journal a place e c kept settled own (had_no_room g at) = made_ended plan journal a place e c [] g
 
 abbrev IsRuledBy : Plan → List Entry → List ℕ → ℕ → Type 0
 IsRuledBy plan journal own status = ((own ≡ []) × (status ≡ 10)) ⊎ Ended plan journal own status
@@ -89,26 +113,26 @@ IsRuledBy plan journal own status = ((own ≡ []) × (status ≡ 10)) ⊎ Ended 
 ways : (plan : Plan) (journal : List Entry) (shard : ℕ) (a : Ask) (object : ObjectPlan) (own : List ℕ) (reply : Reply) → IsRuled plan journal (asking shard a object) own reply → status_of reply ≢ 11 →
     IsRuledBy plan journal own (status_of reply)
 ways plan journal shard a object own reply (full at) known = inl (refl, refl)
-ways plan journal shard a object own reply (replayed {place} {last} t) known = inr (record { place = place; before = t.0; ask = a; told = Told.Replayed last; at = refl; stands = t.1; ends = by_number })
-ways plan journal shard a object own reply (channel_full {place} {held} t) known = inr (record { place = place; before = t.0; ask = a; told = Told.Full held; at = refl; stands = t.1; ends = by_count })
+ways plan journal shard a object own reply (replayed {place} {last} t) known = inr (record { place = place; before = t.0; ask = a; told = Told.Replayed last; more = []; at = refl; stands = t.1; ends = by_number })
+ways plan journal shard a object own reply (channel_full {place} {held} t) known = inr (record { place = place; before = t.0; ask = a; told = Told.Full held; more = []; at = refl; stands = t.1; ends = by_count })
 ways plan journal shard a object own reply (denied {place} {denial} d tells) known =
-    inr (record { place = place; before = d.before; ask = a; told = Told.Miss; at = refl; stands = d.stands; ends = by_denial (denied_verdict plan journal a place denial d) })
-ways plan journal shard a object own reply (granted {place} {entry = e} {c} g) known =
-    inr (record { place = place; before = g.before; ask = a; told = Told.Miss; at = refl; stands = g.stands; ends = by_grant (granted_verdict plan journal a place e c g) })
+    inr (record { place = place; before = d.before; ask = a; told = Told.Miss; more = []; at = refl; stands = d.stands; ends = by_denial (denied_verdict plan journal a place denial d) })
+ways plan journal shard a object own reply (granted {place} {entry = e} {c} {kept} {settled} {own = places} g) known = inr (grant_ended plan journal a place e c kept settled places g)
+ways plan journal shard a object own reply (untold g) known = absurd (known refl)
 ways plan journal shard a object own reply (unanswered u) known = absurd (known refl)
 
-one_place : (p q : ℕ) → p ∷ [] ≡ q ∷ [] → p ≡ q
-one_place p q e = cc
+first_place : (p q : ℕ) (ps qs : List ℕ) → p ∷ ps ≡ q ∷ qs → p ≡ q
+first_place p q ps qs e = cc
 
-no_place : (p : ℕ) → [] ≡ p ∷ [] → ⊥
-no_place p e = absurd cc
+no_place : (p : ℕ) (ps : List ℕ) → [] ≡ p ∷ ps → ⊥
+no_place p ps e = absurd cc
 
 same_ruled : (plan : Plan) (journal : List Entry) (own : List ℕ) (s t : ℕ) → IsRuledBy plan journal own s → IsRuledBy plan journal own t → s ≡ t
 same_ruled plan journal own s t (inl x) (inl y) = x.1 ∙ sym y.1
-same_ruled plan journal own s t (inl x) (inr y) = absurd (no_place y.place (sym x.0 ∙ y.at))
-same_ruled plan journal own s t (inr x) (inl y) = absurd (no_place x.place (sym y.0 ∙ x.at))
+same_ruled plan journal own s t (inl x) (inr y) = absurd (no_place y.place y.more (sym x.0 ∙ y.at))
+same_ruled plan journal own s t (inr x) (inl y) = absurd (no_place x.place x.more (sym y.0 ∙ x.at))
 same_ruled plan journal own s t (inr x) (inr y) =
-    let there = subst (λ (p : ℕ). Stands journal p y.before (entry (Asks y.ask) y.told)) (one_place y.place x.place (sym y.at ∙ x.at)) y.stands in
+    let there = subst (λ (p : ℕ). Stands journal p y.before (entry (Asks y.ask) y.told)) (first_place y.place x.place y.more x.more (sym y.at ∙ x.at)) y.stands in
     let ex = entry (Asks x.ask) x.told in
     let ey = entry (Asks y.ask) y.told in
     let asks = same_ask y.ask x.ask y.told x.told (same_entry journal y.before x.before x.place ey ex there x.stands) in

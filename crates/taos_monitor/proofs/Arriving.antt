@@ -1,5 +1,5 @@
 -- What is known of a request that is built, and what is answered where its certificates do not come.
-use Rattle.std.proofs.Common.{◌≡◌, ◌≤◌, ℕ, suc, Bool, true, false, List, [], length, Some, None, refl, sym, ap, ◌∙◌, arith}
+use Rattle.std.proofs.Common.{◌≡◌, ◌≤◌, ℕ, suc, Bool, true, false, List, length, Some, None, refl, sym, ap, ◌∙◌, arith}
 use Rattle.std.specs.Prelude.{Option, IfSome}
 use Rattle.prin_term.specs.declared.limits.TheConstants.{ENTRY_NODES, QUOTED_NODES}
 use Rattle.prin_term.specs.Principal.{Principal, node_count}

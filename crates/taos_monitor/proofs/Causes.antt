@@ -7,7 +7,7 @@ use Rattle.object_core.specs.Objects.{ObjectPlan}
 use Rattle.taos_monitor.specs.Cells.{Node}
 use Rattle.taos_monitor.specs.Credentials.{LinkAnswer, Resealed, Refused, Lacked, Failed, LinkCall, IsRefused, refused, bad_reseal, CountsAs, FailedAs}
 use Rattle.taos_monitor.specs.Credentials as cert
-use Rattle.taos_monitor.specs.Course.{asking, IsRuled, full, replayed, channel_full, denied, granted, unanswered, malformed, unknown_channel, bad_seal, unbuilt, cert_refused, relay_failed, unknown_object, ruled, unread, unopened}
+use Rattle.taos_monitor.specs.Course.{asking, IsRuled, full, replayed, channel_full, denied, granted, untold, unanswered, malformed, unknown_channel, bad_seal, unbuilt, cert_refused, relay_failed, unknown_object, ruled, unread, unopened}
 use Rattle.taos_monitor.specs.Laws.{CodesAreKnown, FaultsAreCounted, failed_in}
 
 abbrev IsCode : ℕ → Type 0
@@ -29,6 +29,7 @@ ruled_code plan journal shard a object own reply (replayed t) index code e = abs
 ruled_code plan journal shard a object own reply (channel_full t) index code e = absurd cc
 ruled_code plan journal shard a object own reply (denied d tells) index code e = absurd cc
 ruled_code plan journal shard a object own reply (granted g) index code e = absurd cc
+ruled_code plan journal shard a object own reply (untold g) index code e = absurd cc
 ruled_code plan journal shard a object own reply (unanswered u) index code e = absurd cc
 
 pub codes_are_known : (n : Node) → CodesAreKnown n

@@ -21,9 +21,9 @@ use Rattle.taos_monitor.specs.declared.node_keys.NodeKeys.{NodeKeys}
 use Rattle.taos_monitor.specs.declared.refusal.Refusal.{Refusal}
 use Rattle.taos_monitor.specs.Refusals.{refusal}
 use Rattle.object_core.specs.Objects.{ObjectPlan}
-use Rattle.taos_monitor.specs.Cells.{Node, Journals, Place, in_shard, seen_of}
+use Rattle.taos_monitor.specs.Cells.{Node, Journals, in_shard, seen_of}
 use Rattle.taos_monitor.specs.World.{Setting, World, setting_of, world_of}
-use Rattle.taos_monitor.specs.Credentials.{LinkCall, link_use}
+use Rattle.taos_monitor.specs.Credentials.{link_use}
 use Rattle.taos_monitor.specs.Course.{Arrival, Used, uses, nothing, only_calls, Course, IsRuled, asking, ask_of, ruled}
 use Rattle.taos_monitor.specs.Arriving.{node_of, object_seen, StandsFor, IsNotAsked, Arrives, NotArrives}
 use Rattle.taos_monitor.specs.Ruling.{Leaves, RuledTo, ask_seen}

@@ -10,7 +10,7 @@ use Rattle.agent_core.specs.Journals.{Entry}
 use Rattle.object_core.specs.Objects.{ObjectPlan, object_of}
 use Rattle.taos_monitor.specs.Cells.{Node}
 use Rattle.taos_monitor.specs.Credentials.{LinkCall, AreOpened}
-use Rattle.taos_monitor.specs.Course.{asking, IsUnbuilt, IsRuled, full, replayed, channel_full, denied, granted, unanswered, Arrival, malformed, unknown_channel, bad_seal, unbuilt, cert_refused, relay_failed, unknown_object, ruled, unread, unopened}
+use Rattle.taos_monitor.specs.Course.{asking, IsUnbuilt, IsRuled, full, replayed, channel_full, denied, granted, untold, unanswered, Arrival, malformed, unknown_channel, bad_seal, unbuilt, cert_refused, relay_failed, unknown_object, ruled, unread, unopened}
 use Rattle.taos_monitor.specs.Laws.{ArrivalExcludes}
 use Rattle.taos_monitor.proofs.Firsts.{opened_or_refused, opened_or_failed}
 
@@ -26,6 +26,7 @@ ruled_late plan journal shard a object own reply (denied d tells) = late 1 (inr 
 ruled_late plan journal shard a object own reply (replayed t) = late 5 (inr (inr (inl refl)))
 ruled_late plan journal shard a object own reply (channel_full t) = late 7 (inr (inr (inr (inl refl))))
 ruled_late plan journal shard a object own reply (full at) = late 10 (inr (inr (inr (inr (inl refl)))))
+ruled_late plan journal shard a object own reply (untold g) = late 11 (inr (inr (inr (inr (inr refl)))))
 ruled_late plan journal shard a object own reply (unanswered u) = late 11 (inr (inr (inr (inr (inr refl)))))
 
 -- a refusal of what was presented, or of the object's number

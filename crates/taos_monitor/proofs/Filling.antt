@@ -1,19 +1,21 @@
 -- A journal that a turn found full has no place of a later one.
-use Rattle.std.proofs.Common.{◌≡◌, ◌≢◌, ℕ, ◌<◌, ◌≤◌, List, [], ◌∷◌, ◌++◌, length, map, All, AllPairs, refl, sym, ap, subst, arith, inl, inr, length-append}
+use Rattle.std.proofs.Common.{◌≡◌, ◌≢◌, ℕ, ◌<◌, ◌≤◌, Bool, List, [], ◌∷◌, ◌++◌, length, map, All, AllPairs, refl, sym, ap, subst, arith, inl, inr, length-append}
 use Rattle.std.proofs.lemmas.List.Elements.{All-nil, All-cons, All-head, All-tail}
 use Rattle.std.proofs.lemmas.List.Quantifiers.{all_pairs_push}
-use Rattle.taos_wire.specs.Reply.{Reply, Sent}
+use Rattle.taos_wire.specs.Reply.{Reply, Granted, Sent}
+use Rattle.proof_cache.specs.Cached.{Cached}
+use Rattle.agent_core.specs.declared.asked.Settled.{Settled}
 use Rattle.agent_core.specs.State.{Plan, Ask}
 use Rattle.agent_core.specs.Journals.{Entry, Stands}
+use Rattle.agent_core.specs.Asked.{IsGrant, by_kept, was_kept, was_dropped, had_no_room}
 use Rattle.object_core.specs.Objects.{ObjectPlan}
 use Rattle.taos_monitor.specs.Cells.{Node, HasPlan, Journals, OfShard, Place, in_shard, entries_in, AreLegal}
-use Rattle.taos_monitor.specs.Credentials.{LinkCall}
-use Rattle.taos_monitor.specs.Course.{asking, Used, shard_full, IsRuled, full, replayed, channel_full, denied, granted, unanswered, Course, malformed, unknown_channel, bad_seal, unbuilt, cert_refused, relay_failed, unknown_object, ruled, unread, unopened}
-use Rattle.taos_monitor.specs.Run.{Turn, IsCourse, IsFilledBefore}
+use Rattle.taos_monitor.specs.Course.{asking, Used, shard_full, IsRuled, full, replayed, channel_full, denied, granted, untold, unanswered, Course, malformed, unknown_channel, bad_seal, unbuilt, cert_refused, relay_failed, unknown_object, ruled, unread, unopened}
+use Rattle.taos_monitor.specs.Run.{Turn, IsCourse, IsMade, FoundFull, IsFilledBefore}
 use Rattle.taos_monitor.specs.Laws.{NoEntryAfterFull}
 use Rattle.taos_monitor.proofs.Staying.{short}
 
--- ---- what status 10 says of the journal
+-- ---- what status 10, and a grant without a place for its proof, say of the journal
 
 same_number : (h s l m : ℕ) → shard_full h l ≡ shard_full s m → h ≡ s
 same_number h s l m e = cc
@@ -28,7 +30,28 @@ module _ (n : Node) (J : Journals) (h : ℕ) (plan : Plan) (planned : HasPlan n 
   ruled_full own reply (channel_full t) s limit e = absurd cc
   ruled_full own reply (denied d tells) s limit e = absurd cc
   ruled_full own reply (granted g) s limit e = absurd cc
+  ruled_full own reply (untold g) s limit e = absurd cc
   ruled_full own reply (unanswered u) s limit e = absurd cc
+
+  one_own : (p k : ℕ) (q : Place) → in_shard h p ∷ in_shard h k ∷ [] ≡ q ∷ [] → ⊥
+  one_own p k q e = absurd cc
+
+  -- a proof that was made and has no place found no room
+  unkept_full : (place entry : ℕ) (c : Cached) (kept : Bool) (settled : Settled) (own : List ℕ) → IsGrant plan (J.shards h) a place entry c kept settled own →
+      (s : ℕ) → IsMade s (Granted kept entry h place c.proof c.cites object.content) → (q : Place) → map (in_shard h) own ≡ q ∷ [] → IsFull n J s
+  unkept_full place entry c kept settled own (by_kept hit) s made q one = absurd made
+  unkept_full place entry c kept settled own (was_kept {keep} g t) s made q one = absurd (one_own place keep q one)
+  unkept_full place entry c kept settled own (was_dropped {keep} g t) s made q one = absurd (one_own place keep q one)
+  unkept_full place entry c kept settled own (had_no_room g at) s made q one = subst (IsFull n J) made (plan, planned, at)
+
+  ruled_unkept : (own : List ℕ) (reply : Reply) → IsRuled plan (J.shards h) (asking h a object) own reply → (s : ℕ) → IsMade s reply → (q : Place) → map (in_shard h) own ≡ q ∷ [] → IsFull n J s
+  ruled_unkept own reply (full at) s made q one = absurd made
+  ruled_unkept own reply (replayed t) s made q one = absurd made
+  ruled_unkept own reply (channel_full t) s made q one = absurd made
+  ruled_unkept own reply (denied d tells) s made q one = absurd made
+  ruled_unkept own reply (granted {place} {entry} {c} {kept} {settled} {own = places} g) s made q one = unkept_full place entry c kept settled places g s made q one
+  ruled_unkept own reply (untold g) s made q one = absurd made
+  ruled_unkept own reply (unanswered u) s made q one = absurd made
 
 full_at : (n : Node) (J : Journals) (payload : List ℕ) (used : Used) (sent : Sent) → Course n J payload used sent →
     (s limit : ℕ) → sent.reply ≡ shard_full s limit → IsFull n J s
@@ -43,6 +66,23 @@ full_at n J payload used sent (ruled {own} {reply} t reading plan planned r) s l
 full_at n J payload used sent unread s limit e = absurd cc
 full_at n J payload used sent (unopened built interrupted) s limit e = absurd cc
 
+unkept_at : (n : Node) (J : Journals) (payload : List ℕ) (used : Used) (sent : Sent) → Course n J payload used sent →
+    (s : ℕ) → IsMade s sent.reply → (q : Place) → used.places ≡ q ∷ [] → IsFull n J s
+unkept_at n J payload used sent (malformed none reads) s made q one = absurd made
+unkept_at n J payload used sent (unknown_channel r spelled none) s made q one = absurd made
+unkept_at n J payload used sent (bad_seal r key spelled keyed other) s made q one = absurd made
+unkept_at n J payload used sent (unbuilt asked is) s made q one = absurd made
+unkept_at n J payload used sent (cert_refused built first) s made q one = absurd made
+unkept_at n J payload used sent (relay_failed built first) s made q one = absurd made
+unkept_at n J payload used sent (unknown_object opened none) s made q one = absurd made
+unkept_at n J payload used sent (ruled {own} {reply} t reading plan planned r) s made q one = ruled_unkept n J _ plan planned _ t.object own reply r s made q one
+unkept_at n J payload used sent unread s made q one = absurd made
+unkept_at n J payload used sent (unopened built interrupted) s made q one = absurd made
+
+found_full : (n : Node) (J : Journals) (u : Turn) → IsCourse n J u → (s : ℕ) → FoundFull (OfShard s) u → IsFull n J s
+found_full n J u done s (inl (limit, told)) = full_at n J u.frame u.used u.sent done s limit told
+found_full n J u done s (inr (made, (place, one))) = unkept_at n J u.frame u.used u.sent done s made (in_shard s place) one
+
 -- ---- the places of a course are there
 
 stands_within : (journal before : List Entry) (place : ℕ) (e : Entry) → Stands journal place before e → place < length journal
@@ -54,12 +94,22 @@ AreIn journal own = All (λ (p : ℕ). p < length journal) own
 one_in : (journal : List Entry) (place : ℕ) → place < length journal → AreIn journal (place ∷ [])
 one_in journal place within = All-cons (λ (p : ℕ). p < length journal) place [] within (All-nil (λ (p : ℕ). p < length journal))
 
+two_in : (journal : List Entry) (place keep : ℕ) → place < length journal → keep < length journal → AreIn journal (place ∷ keep ∷ [])
+two_in journal place keep within also = All-cons (λ (p : ℕ). p < length journal) place (keep ∷ []) within (one_in journal keep also)
+
+grant_there : (plan : Plan) (journal : List Entry) (a : Ask) (place entry : ℕ) (c : Cached) (kept : Bool) (settled : Settled) (own : List ℕ) → IsGrant plan journal a place entry c kept settled own → AreIn journal own
+grant_there plan journal a place entry c kept settled own (by_kept h) = one_in journal place (stands_within journal h.before place _ h.stands)
+grant_there plan journal a place entry c kept settled own (was_kept {keep} g t) = two_in journal place keep (stands_within journal g.before place _ g.stands) (stands_within journal t.0 keep _ t.1)
+grant_there plan journal a place entry c kept settled own (was_dropped {keep} g t) = two_in journal place keep (stands_within journal g.before place _ g.stands) (stands_within journal t.0 keep _ t.1)
+grant_there plan journal a place entry c kept settled own (had_no_room g at) = one_in journal place (stands_within journal g.before place _ g.stands)
+
 ruled_there : (plan : Plan) (journal : List Entry) (shard : ℕ) (a : Ask) (object : ObjectPlan) (own : List ℕ) (reply : Reply) → IsRuled plan journal (asking shard a object) own reply → AreIn journal own
 ruled_there plan journal shard a object own reply (full at) = All-nil (λ (p : ℕ). p < length journal)
 ruled_there plan journal shard a object own reply (replayed {place} {last} t) = one_in journal place (stands_within journal t.0 place _ t.1)
 ruled_there plan journal shard a object own reply (channel_full {place} {held} t) = one_in journal place (stands_within journal t.0 place _ t.1)
 ruled_there plan journal shard a object own reply (denied {place} {denial} d tells) = one_in journal place (stands_within journal d.before place _ d.stands)
-ruled_there plan journal shard a object own reply (granted {place} {entry} {c} g) = one_in journal place (stands_within journal g.before place _ g.stands)
+ruled_there plan journal shard a object own reply (granted {place} {entry} {c} {kept} {settled} {own = places} g) = grant_there plan journal a place entry c kept settled places g
+ruled_there plan journal shard a object own reply (untold {place} {entry} {c} {kept} {settled} {own = places} g) = grant_there plan journal a place entry c kept settled places g
 ruled_there plan journal shard a object own reply (unanswered {own = places} (inl none)) = subst (AreIn journal) (sym none) (All-nil (λ (p : ℕ). p < length journal))
 ruled_there plan journal shard a object own reply (unanswered {own = places} (inr (place, before, stands, verdict, is))) = subst (AreIn journal) (sym is) (one_in journal place (stands_within journal before place _ stands))
 
@@ -88,8 +138,8 @@ course_there n J payload used sent (unopened built interrupted) = All-nil (λ (p
 module _ (n : Node) (J K : Journals) (legal : AreLegal n K) (t : Turn) (course : IsCourse n K t) (new : All (λ (p : Place). entries_in J p.cell ≤ p.number) t.used.places) where
   -- a new place would stand past the limit
   comes_after : (u : Turn) → IsCourse n J u → IsFilledBefore u t
-  comes_after u done (OfShard s) (limit, e) =
-      let (plan, planned, at) = full_at n J u.frame u.used u.sent done s limit e in
+  comes_after u done (OfShard s) found =
+      let (plan, planned, at) = found_full n J u done s found in
       λ k d lt same. omega (arith, new k d lt, course_there n K t.frame t.used t.sent course k d lt, ap (entries_in J) same, ap (entries_in K) same, at, short plan (K.shards s) (legal s plan planned))
 
 pub none_filled : AllPairs IsFilledBefore []
@@ -101,7 +151,7 @@ filled_more n J K legal turns courses filled t course new =
     all_pairs_push IsFilledBefore turns t filled (λ k d lt. comes_after n J K legal t course new _ (courses k d lt))
 
 pub no_entry_after_full : (n : Node) → NoEntryAfterFull n
-no_entry_after_full n J used frames replies outcome a first second is shard limit number found placed =
+no_entry_after_full n J used frames replies outcome a first second is shard number found placed =
     let pairs = subst (AllPairs IsFilledBefore) is a.filled in
-    let none = pairs 0 1 first (omega arith) (omega arith) (OfShard shard) (limit, found) in
+    let none = pairs 0 1 first (omega arith) (omega arith) (OfShard shard) found in
     subst (λ (l : List Place). All (λ (p : Place). p.cell ≢ OfShard shard) l) placed none 0 (in_shard shard number) (omega arith) refl

@@ -3,6 +3,8 @@ mod Opening
 mod Presenting
 mod Arriving
 mod Going
+mod Keeping
+mod Cited
 mod Parts
 mod Telling
 mod AtHome
@@ -18,3 +20,4 @@ mod Firsts
 mod Agreeing
 mod Excluding
 mod Causes
+mod Verdicts

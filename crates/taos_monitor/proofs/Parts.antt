@@ -1,7 +1,6 @@
--- What a denial names is there, and what a grant cites is few.
-use Rattle.std.proofs.Common.{◌≡◌, ℕ, zero, suc, ◌+◌, ◌<◌, ◌≤◌, List, [], ◌∷◌, ◌++◌, length, Contains, Option, None, Some, slice_get, refl, sym, ap, subst, ◌∙◌, ◌^◌, inl, inr, arith, append-nil, length-append}
-use Rattle.std.specs.Prelude.{All, AllPairs, IsSome, option_map, slice_index, sum_by, filter_map}
-use Rattle.std.specs.List.{cons_option}
+-- What a verdict names is there, and may be told.
+use Rattle.std.proofs.Common.{◌≡◌, ℕ, Bool, zero, suc, ◌+◌, ◌<◌, ◌≤◌, List, [], ◌∷◌, ◌++◌, length, Contains, Option, None, Some, slice_get, refl, sym, ap, subst, ◌∙◌, ◌^◌, inl, inr, arith, append-nil, length-append}
+use Rattle.std.specs.Prelude.{All, IsSome, option_map, slice_index, sum_by}
 use Rattle.std.specs.Int.{bytes_high_first, byte_at, to_be_bytes, w32}
 use Rattle.sha2.specs.Sha256.{digest_bytes, sha256}
 use Rattle.sha2.proofs.Facts256.{length-sha256}
@@ -10,11 +9,6 @@ use Rattle.prin_term.specs.Steps.{IsByte}
 use Rattle.std.proofs.lemmas.Option.{none-some, slice_get_within}
 use Rattle.std.specs.List.{flat_map}
 use Rattle.std.proofs.Math.Nat.{le-max_left, le-max_right}
-use Rattle.std.proofs.lemmas.Bool.{eqb-true}
-use Rattle.std.proofs.lemmas.Bool.Decides.{Decides-eqb}
-use Rattle.std.proofs.lemmas.Map.Made.{IsDistinct-from_AllPairs}
-use Rattle.std.proofs.lemmas.Map.Steps.{length-le_from_distinct_below}
-use Rattle.std.proofs.lemmas.Map.Views.{Contains-from_any}
 use Rattle.std.proofs.lemmas.Grind.{flat_map-append}
 use Rattle.std.proofs.lemmas.List.Concat.{flat_map-cons}
 use Rattle.std.proofs.lemmas.List.Sums.{sum_by-cons}
@@ -25,21 +19,20 @@ use Rattle.prin_term.specs.Refusal.{FitsLimits}
 use Rattle.prin_term.specs.View.{Grant}
 use Rattle.prin_term.proofs.Parts.{length-parts, first_part}
 use Rattle.stmt_codec.specs.Certificates.{Certificate, body_spelling, digest_of}
-use Rattle.taos_calculus.proofs.Induction.{All-at}
 use Rattle.denial_link.specs.declared.link.Link.{Link}
 use Rattle.denial_link.specs.declared.link.Link.TheVariants as links
 use Rattle.denial_link.specs.Links.{Lacks, here, below, IsFirstLink, no_entry, expired, missing}
-use Rattle.denial_link.proofs.Members.{at-has, has-at, has-cases, has-nil}
-use Rattle.proof_cache.specs.Cached.{Cached}
+use Rattle.denial_link.proofs.Members.{has-at, has-cases, has-nil}
 use Rattle.agent_core.specs.declared.asked.Denial.{Denial}
+use Rattle.agent_core.specs.declared.asked.Settled.{Settled}
 use Rattle.agent_core.specs.declared.asked.Verdict.{Verdict}
 use Rattle.agent_core.specs.declared.asked.Verdict.TheVariants as verdict
 use Rattle.agent_core.specs.State.{Plan, Ask}
 use Rattle.agent_core.specs.Plans.{IsPlan}
-use Rattle.agent_core.specs.Journals.{Entry}
-use Rattle.agent_core.specs.Asked.{IsGrantedAt, IsDeniedAt, EndsBy, Names}
-use Rattle.agent_core.proofs.Few.{judges_few}
+use Rattle.agent_core.specs.Journals.{Entry, IsLegalJournal}
+use Rattle.agent_core.specs.Asked.{IsDeniedAt, Ends, Names}
 use Rattle.taos_monitor.specs.Ruling.{HasPart, MayTell}
+use Rattle.taos_monitor.proofs.Cited.{grant_few}
 
 -- ---- a part by its place
 
@@ -185,33 +178,11 @@ has_part plan journal a place denial (links.Expired k i) few d at (c, stands, is
 has_part plan journal a place denial (links.Missing k n) few d at is = subst (HasPart a.list) (sym is) (named plan.anchors d.certs d.moment a.subject a.list a.right d.link k n at d.first)
 has_part plan journal a place denial links.NoEntry few d at is = subst (HasPart a.list) (sym is) tt
 
--- ---- what is cited
+-- ---- what is told
 
-cons_few : {X : Type 0} (o : Option X) (xs : List X) → length (cons_option o xs) ≤ suc (length xs)
-cons_few None xs = omega arith
-cons_few (Some x) xs = omega arith
-
-picked_few : {X : Type 0} (xs : List X) (places : List ℕ) → length (filter_map (slice_get xs) places) ≤ length places
-picked_few xs [] = omega arith
-picked_few xs (p ∷ places) = omega (arith, cons_few (slice_get xs p) (filter_map (slice_get xs) places), picked_few xs places)
-
-places_few : (places : List ℕ) (n : ℕ) → AllPairs (λ c d. (c ≡ d) → ⊥) places → ((p : ℕ) → Contains places p → p < n) → length places ≤ n
-places_few places n apart within =
-    length-le_from_distinct_below places n (IsDistinct-from_AllPairs Decides-eqb places apart) (λ q e. within q (Contains-from_any (λ x y t. eqb-true x y t) q places e))
-
-pub cites_few : (plan : Plan) (journal : List Entry) (a : Ask) (place e : ℕ) (c : Cached) → IsPlan plan → IsGrantedAt plan journal a place e c → length c.cites ≤ 64
-cites_few plan journal a place e c sound g =
-    let places = g.proof.places in
-    let few = places_few places (length g.certs) g.proof.tidy.apart (λ p has. let (k, at) = at-has places p has in inside k p at) in
-    let held = judges_few plan sound.few_commons g.before a g.moment g.certs g.judged in
-    omega (arith, ap length g.proof.cites_are, picked_few g.certs places, few, held)
-  where
-    inside : (k p : ℕ) → slice_get g.proof.places k ≡ Some p → p < length g.certs
-    inside k p at = All-at (λ i. i < length g.certs) g.proof.places k p g.proof.inside at
-
-pub may_tell : (plan : Plan) (journal : List Entry) (a : Ask) (place : ℕ) (v : Verdict) (own : List ℕ) → IsPlan plan → length a.list ≤ 8 → EndsBy plan journal a place v own → MayTell a.list v
-may_tell plan journal a place (verdict.Granted e c) own sound few (granted, is) = cites_few plan journal a place e _ sound granted
-may_tell plan journal a place (verdict.Denied denial) own sound few (denied, is) = has_part plan journal a place denial denied.link few denied refl denied.names
-may_tell plan journal a place (verdict.Replayed last) own sound few ends = tt
-may_tell plan journal a place (verdict.Full held) own sound few ends = tt
-may_tell plan journal a place (verdict.JournalFull n) own sound few ends = tt
+pub may_tell : (plan : Plan) (journal : List Entry) (a : Ask) (place : ℕ) (v : Verdict) (kept : Bool) (settled : Settled) (own : List ℕ) → IsPlan plan → IsLegalJournal plan journal → length a.list ≤ 8 → Ends plan journal a place v kept settled own → MayTell a.list v
+may_tell plan journal a place (verdict.Granted e c) kept settled own sound legal few granted = grant_few plan journal a place e _ kept settled own sound legal granted
+may_tell plan journal a place (verdict.Denied denial) kept settled own sound legal few ((denied, is), plain, none) = has_part plan journal a place denial denied.link few denied refl denied.names
+may_tell plan journal a place (verdict.Replayed last) kept settled own sound legal few ends = tt
+may_tell plan journal a place (verdict.Full held) kept settled own sound legal few ends = tt
+may_tell plan journal a place (verdict.JournalFull n) kept settled own sound legal few ends = tt

@@ -4,10 +4,10 @@ use Rattle.taos_wire.specs.Reply.{Reply}
 use Rattle.agent_core.specs.State.{Plan, Ask}
 use Rattle.agent_core.specs.Journals.{Entry, Begins, IsLegalJournal}
 use Rattle.agent_core.specs.Asked.{Unanswered}
-use Rattle.agent_core.proofs.Onward.{stands_on, granted_stays, denied_stays, told_stays}
+use Rattle.agent_core.proofs.Onward.{stands_on, grant_stays, denied_stays, told_stays}
 use Rattle.object_core.specs.Objects.{ObjectPlan}
 use Rattle.taos_monitor.specs.Cells.{Node}
-use Rattle.taos_monitor.specs.Course.{asking, IsRuled, full, replayed, channel_full, denied, granted, unanswered, malformed, unknown_channel, bad_seal, unbuilt, cert_refused, relay_failed, unknown_object, ruled, unread, unopened}
+use Rattle.taos_monitor.specs.Course.{asking, IsRuled, full, replayed, channel_full, denied, granted, untold, unanswered, malformed, unknown_channel, bad_seal, unbuilt, cert_refused, relay_failed, unknown_object, ruled, unread, unopened}
 use Rattle.taos_monitor.specs.Laws.{CourseStays}
 
 last_of : (e : Entry) (es : List Entry) → (before : List Entry) × (last : Entry) × (e ∷ es ≡ before ++ last ∷ [])
@@ -35,7 +35,8 @@ module _ (plan : Plan) (xs ys : List Entry) (shard : ℕ) (a : Ask) (object : Ob
   ruled_stays own reply (replayed {place} {last} t) = replayed (told_stays plan xs ys a goes place _ t)
   ruled_stays own reply (channel_full {place} {held} t) = channel_full (told_stays plan xs ys a goes place _ t)
   ruled_stays own reply (denied {place} {denial} d tells) = denied (denied_stays plan xs ys a goes place denial d) tells
-  ruled_stays own reply (granted {place} {entry} {c} g) = granted (granted_stays plan xs ys a goes place entry c g)
+  ruled_stays own reply (granted {place} {entry} {c} {kept} {settled} {own = places} g) = granted (grant_stays plan xs ys a goes place entry c kept settled places (short plan ys legal) g)
+  ruled_stays own reply (untold {place} {entry} {c} {kept} {settled} {own = places} g) = untold (grant_stays plan xs ys a goes place entry c kept settled places (short plan ys legal) g)
   ruled_stays own reply (unanswered {own = places} u) = unanswered (unanswered_stays places u)
 
 pub course_stays : (n : Node) → CourseStays n

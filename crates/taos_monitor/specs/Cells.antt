@@ -1,6 +1,6 @@
 -- A node and its cells: what it is opened with, what stands in the journals of its shards, and the
 -- places of entries there.
-use Rattle.std.specs.Prelude.{◌≡◌, ℕ, ◌+◌, ◌<◌, ◌≤◌, ◌==◌, if◌then◌else◌, Bool, true, List, ◌++◌, length, find, filter_map, Option, Some, None, slice_get, All, AllPairs}
+use Rattle.std.specs.Prelude.{◌≡◌, ℕ, ◌+◌, ◌<◌, ◌≤◌, ◌==◌, if◌then◌else◌, Bool, true, List, ◌++◌, length, filter_map, Option, Some, None, slice_get, All, AllPairs}
 use Rattle.keyed_seal.specs.Keys.{Entries}
 use Rattle.object_core.specs.Objects.{ObjectPlan}
 use Rattle.agent_core.specs.State.{Plan}

@@ -1,5 +1,5 @@
 -- The course of a request: from its payload to its reply, one case for each way that it may end.
-use Rattle.std.specs.Prelude.{◌≡◌, ◌≢◌, ℕ, false, List, [], ◌∷◌, length, map, Err, None, Some, slice_get}
+use Rattle.std.specs.Prelude.{◌≡◌, ◌≢◌, ℕ, Bool, List, [], ◌∷◌, length, map, Err, None, Some, slice_get}
 use Rattle.keyed_seal.specs.Keys.{key_of}
 use Rattle.object_core.specs.Operation.{Read, right_of}
 use Rattle.prin_term.specs.Principal.{Principal, subterms}
@@ -14,9 +14,10 @@ use Rattle.taos_wire.specs.Reply.{Reply, LinkSent, Sent, sealed, unsealed}
 use Rattle.agent_core.specs.declared.told.Told.{Told}
 use Rattle.agent_core.specs.declared.asked.Denial.{Denial}
 use Rattle.agent_core.specs.declared.asked.Denial.TheVariants as denials
+use Rattle.agent_core.specs.declared.asked.Settled.{Settled}
 use Rattle.agent_core.specs.State.{Plan, Ask}
 use Rattle.agent_core.specs.Journals.{Entry}
-use Rattle.agent_core.specs.Asked.{IsGrantedAt, IsDeniedAt, IsTold, Unanswered}
+use Rattle.agent_core.specs.Asked.{IsGrant, IsDeniedAt, IsTold, Unanswered}
 use Rattle.object_core.specs.Objects.{ObjectPlan, object_of}
 use Rattle.taos_monitor.specs.Cells.{Node, home, HasPlan, Journals, Place, in_shard}
 use Rattle.taos_monitor.specs.Credentials.{LinkCall, AreOpened, IsFirstRefused, IsFirstFailed, IsInterrupted}
@@ -60,8 +61,9 @@ pub record Asking : Type 0 where
 abbrev pub asking : ℕ → Ask → ObjectPlan → Asking
 asking shard ask object = record { shard = shard; ask = ask; object = object }
 
--- What comes of an ask at the shard of its channel: the own places there, and the reply. Once the
--- Ask stands, a node that is out of memory says so only where it is granted.
+-- What comes of an ask at the shard of its channel: the own places there, and the reply. A grant
+-- says whether its proof was kept before; one that was made for it has a place of its own, where
+-- there was room. Once the Ask stands, a node that is out of memory says so only of a grant.
 pub data IsRuled (plan : Plan) (journal : List Entry) (x : Asking) : List ℕ → Reply → Type 0 where
   full : length journal ≡ plan.limit →
       IsRuled plan journal x [] (shard_full x.shard plan.limit)
@@ -74,10 +76,14 @@ pub data IsRuled (plan : Plan) (journal : List Entry) (x : Asking) : List ℕ �
   denied : {place : ℕ} {denial : Denial} {told : LinkSent} →
       IsDeniedAt plan journal x.ask place denial → TellsDenial x.object.list denial told →
       IsRuled plan journal x (place ∷ []) (replies.Denied x.shard place told)
-  granted : {place entry : ℕ} {c : Cached} →
-      IsGrantedAt plan journal x.ask place entry c →
-      IsRuled plan journal x (place ∷ [])
-      (replies.Granted false entry x.shard place c.proof c.cites x.object.content)
+  granted : {place entry : ℕ} {c : Cached} {kept : Bool} {settled : Settled} {own : List ℕ} →
+      IsGrant plan journal x.ask place entry c kept settled own →
+      IsRuled plan journal x own
+      (replies.Granted kept entry x.shard place c.proof c.cites x.object.content)
+  -- the grant stands, and memory was refused for the reply
+  untold : {place entry : ℕ} {c : Cached} {kept : Bool} {settled : Settled} {own : List ℕ} →
+      IsGrant plan journal x.ask place entry c kept settled own →
+      IsRuled plan journal x own replies.NoMemory
   unanswered : {own : List ℕ} →
       Unanswered plan journal x.ask own →
       IsRuled plan journal x own replies.NoMemory

@@ -3,10 +3,10 @@ use Rattle.std.specs.Prelude.{◌≡◌, ◌≢◌, ℕ, ◌+◌, ◌-◌, ◌^�
 use Rattle.frame_link.specs.declared.outcome.Outcome.{Outcome}
 use Rattle.frame_link.specs.declared.outcome.Outcome.TheVariants.{End}
 use Rattle.taos_wire.specs.Reply.{Sent, CertRefused, spelling, status_of}
-use Rattle.taos_monitor.specs.Cells.{Node, Journals, Place, in_shard, entries_in, AreLegal, Extends, IsAfter, Seen, GoesOn}
+use Rattle.taos_monitor.specs.Cells.{Node, Journals, OfShard, Place, in_shard, entries_in, AreLegal, Extends, IsAfter, Seen, GoesOn}
 use Rattle.taos_monitor.specs.Credentials.{LinkAnswer, Resealed, Refused, Lacked, Failed, LinkCall, FailedAs}
-use Rattle.taos_monitor.specs.Course.{Arrival, Used, uses, Course, shard_full}
-use Rattle.taos_monitor.specs.Run.{Turn, IsCourse, Answered}
+use Rattle.taos_monitor.specs.Course.{Arrival, Used, uses, Course}
+use Rattle.taos_monitor.specs.Run.{Turn, IsCourse, FoundFull, Answered}
 
 -- a course in journals is one in all legal journals that go on from these
 abbrev pub CourseStays : Node → Type 0
@@ -94,12 +94,12 @@ FaultsAreCounted =
     (before now : ℕ) (calls : List LinkCall) → FailedAs before now calls → now < 2 ^ 64 - 1 →
     before + failures calls ≤ now
 
--- of two frames the first is not answered that a shard's journal is full, where the second has an
--- entry there
+-- of two frames the first does not find a shard's journal full, for itself or for its proof, where
+-- the second has an entry there
 abbrev pub NoEntryAfterFull : Node → Type 0
 NoEntryAfterFull n =
     (J : Journals) (used : Used) (frames replies : List (List ℕ)) (outcome : Outcome) →
     (a : Answered n J used frames replies outcome) →
-    (first second : Turn) → a.turns ≡ first ∷ second ∷ [] → (shard limit number : ℕ) →
-    first.sent.reply ≡ shard_full shard limit →
+    (first second : Turn) → a.turns ≡ first ∷ second ∷ [] → (shard number : ℕ) →
+    FoundFull (OfShard shard) first →
     second.used.places ≡ in_shard shard number ∷ [] → ⊥

@@ -12,3 +12,4 @@ pub mod Run
 pub mod Connection
 pub mod Serving
 pub mod Laws
+pub mod Verdicts

@@ -1,5 +1,5 @@
 -- What is promised of a ruling: of the ask that a request makes, and of the reply that is left.
-use Rattle.std.specs.Prelude.{◌≡◌, ◌⊎◌, ℕ, ◌<◌, ◌≤◌, ◌^◌, Bool, false, List, length, map, Some, slice_get}
+use Rattle.std.specs.Prelude.{◌≡◌, ◌⊎◌, ℕ, ◌<◌, ◌≤◌, ◌^◌, Bool, List, length, map, Some, slice_get}
 use Rattle.std.specs.Arc.{arc_value}
 use Rattle.object_core.specs.Operation.{IsDigest}
 use Rattle.prin_term.specs.Steps.{IsByte}
@@ -55,17 +55,18 @@ MayTell list (verdict.Granted e c) =
 MayTell list (verdict.Denied denial) = HasPart list denial
 MayTell list _ = Unit {0}
 
--- the reply tells the verdict; of a grant it may tell that memory is lacking
-abbrev pub IsToldBy : ObjectPlan → ℕ → ℕ → Verdict → Reply → Type 0
-IsToldBy object shard place (verdict.Granted e c) reply =
-    (reply ≡ replies.Granted false e shard place
+-- the reply tells the verdict, and of a grant whether its proof was kept before; of a grant it may
+-- tell that memory is lacking
+abbrev pub IsToldBy : ObjectPlan → (shard place : ℕ) → (kept : Bool) → Verdict → Reply → Type 0
+IsToldBy object shard place kept (verdict.Granted e c) reply =
+    (reply ≡ replies.Granted kept e shard place
     (cached (arc_value {X = CachedValue} c)).proof (cached (arc_value {X = CachedValue} c)).cites
     object.content) ⊎ (reply ≡ replies.NoMemory)
-IsToldBy object shard place (verdict.Denied denial) reply =
+IsToldBy object shard place kept (verdict.Denied denial) reply =
     (told : LinkSent) × TellsDenial object.list denial told × (reply ≡ replies.Denied shard place told)
-IsToldBy object shard place (verdict.Replayed last) reply = reply ≡ replies.Replayed last
-IsToldBy object shard place (verdict.Full held) reply = reply ≡ replies.ChannelFull held
-IsToldBy object shard place (verdict.JournalFull n) reply = reply ≡ shard_full shard n
+IsToldBy object shard place kept (verdict.Replayed last) reply = reply ≡ replies.Replayed last
+IsToldBy object shard place kept (verdict.Full held) reply = reply ≡ replies.ChannelFull held
+IsToldBy object shard place kept (verdict.JournalFull n) reply = reply ≡ shard_full shard n
 
 -- the bytes of a reply of which this holds
 pub record Leaves (channel seq : ℕ) (key bytes : List ℕ) (Holds : Reply → Type 0) :

@@ -1,11 +1,11 @@
 -- Connections in the journals of a node: the whole frames of an input, each with its course, and
 -- the replies.
-use Rattle.std.specs.Prelude.{◌≡◌, ◌≢◌, ℕ, List, [], ◌∷◌, ◌++◌, map, All, AllPairs}
+use Rattle.std.specs.Prelude.{◌≡◌, ◌≢◌, ◌⊎◌, ℕ, false, List, [], ◌∷◌, ◌++◌, map, All, AllPairs}
 use Rattle.std.specs.List.{flat_map}
 use Rattle.frame_link.specs.declared.outcome.Outcome.{Outcome}
 use Rattle.frame_link.specs.declared.outcome.Outcome.TheVariants.{ClockFault}
-use Rattle.taos_wire.specs.Reply.{Sent, spelling}
-use Rattle.taos_monitor.specs.Cells.{Node, Journals, Cell, OfShard, Place, IsAfter}
+use Rattle.taos_wire.specs.Reply.{Reply, Granted, Sent, spelling}
+use Rattle.taos_monitor.specs.Cells.{Node, Journals, Cell, OfShard, Place, in_shard, IsAfter}
 use Rattle.taos_monitor.specs.Credentials.{LinkCall}
 use Rattle.taos_monitor.specs.Course.{Arrival, Used, Course, shard_full}
 
@@ -46,9 +46,17 @@ AreTurns n ClockFault turns frames calls =
     × (calls ≡ calls_of turns ++ t.calls)
 AreTurns n _ turns frames calls = (frames ≡ frames_of turns) × (calls ≡ calls_of turns)
 
--- the turn's reply says that the journal of the cell is full
+-- the reply is a grant of the shard, by a proof that was not kept before
+abbrev pub IsMade : ℕ → Reply → Type 0
+IsMade s (Granted false entry shard place proof cites content) = shard ≡ s
+IsMade s _ = ⊥
+
+-- the turn's reply says that the journal of the cell is full; or that had no room for the proof of
+-- a grant, which stands there alone
 abbrev pub FoundFull : Cell → Turn → Type 0
-FoundFull (OfShard s) t = (limit : ℕ) × (t.sent.reply ≡ shard_full s limit)
+FoundFull (OfShard s) t =
+    ((limit : ℕ) × (t.sent.reply ≡ shard_full s limit))
+    ⊎ (IsMade s t.sent.reply × ((place : ℕ) × (t.used.places ≡ in_shard s place ∷ [])))
 
 -- a journal that the earlier turn found full has no place of the later one
 abbrev pub IsFilledBefore : Turn → Turn → Type 0

@@ -2,6 +2,7 @@
 
 ghost use Rattle.taos_monitor.specs.Cells.{Node};
 ghost use Rattle.taos_monitor.specs.Laws.{AnsweredStays, AnswersMore, ArrivalExcludes, CodesAreKnown, CourseStays, CoursesAgree, FaultsAreCounted, GoesOnTwice, NoEntryAfterFull};
+ghost use Rattle.taos_monitor.specs.Verdicts.{RepliesAreVerdicts};
 
 /// A course in journals is one in all legal journals that go on from these.
 pub fn courses_stay()
@@ -24,10 +25,16 @@ pub fn one_more_is_answered()
     ensures { (n : Node) → AnswersMore n }
 {}
 
-/// Of two frames the first is not answered that a journal is full, where the second has an entry
-/// there.
+/// Of two frames the first does not find a journal full, for itself or for the proof of its grant,
+/// where the second has an entry there.
 pub fn nothing_follows_a_full_journal()
     ensures { (n : Node) → NoEntryAfterFull n }
+{}
+
+/// Kept proofs change no verdict: a grant, by a proof that was kept or not, is one by what its Ask is
+/// judged by, and a denial is none by that.
+pub fn replies_are_verdicts()
+    ensures { (n : Node) → RepliesAreVerdicts n }
 {}
 
 /// Courses of one payload in the same journals, with the same answers of the link and the same own

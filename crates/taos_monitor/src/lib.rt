@@ -18,7 +18,7 @@ pub use connection::{MAX_REQUEST, serve_connection};
 pub use handling::{Handled, request};
 pub use laws::{
     courses_exclude_each_other, courses_stay, going_on_goes_on, nothing_follows_a_full_journal,
-    one_more_is_answered, refusals_have_causes, what_is_answered_stays,
+    one_more_is_answered, refusals_have_causes, replies_are_verdicts, what_is_answered_stays,
 };
 pub use node_keys::NodeKeys;
 pub use presented::BAD_RESEAL;

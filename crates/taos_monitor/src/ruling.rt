@@ -1,7 +1,7 @@
 //! The ruling on a request that came to its object: its ask, and the reply that tells how that
 //! ended.
 
-ghost use Rattle.std.specs.Prelude.{◌≡◌, ◌<◌, All, IfOk, OnErr, Some, length, slice_get, ℕ};
+ghost use Rattle.std.specs.Prelude.{◌≡◌, ◌<◌, All, IfOk, OnErr, Some, false, length, slice_get, ℕ};
 ghost use Rattle.object_core.specs.Operation.{IsAccessList, IsContent};
 ghost use Rattle.agent_core.specs.declared.asked.Verdict.TheVariants as verdicts;
 ghost use Rattle.agent_core.specs.Asked.{AskEnds, Unanswered};
@@ -111,7 +111,8 @@ fn leave_denied(
     requires list { IsAccessList (object_seen asked.now.object shown).list }
     requires named { HasPart (object_seen asked.now.object shown).list denial }
     ensures { Leaves asked.now.channel asked.now.seq sealer.now out.new
-        (IsToldBy (object_seen asked.now.object shown.entry) shard place (verdicts.Denied denial)) }
+        (IsToldBy (object_seen asked.now.object shown.entry) shard place false
+        (verdicts.Denied denial)) }
 {
     let (channel, seq) = (asked.channel, asked.seq);
     let link = match denial {
@@ -147,13 +148,13 @@ fn leave_asked(
     requires named { MayTell (object_seen asked.now.object shown).list ended.now.verdict }
     ensures { Leaves asked.now.channel asked.now.seq sealer.now out.new
         (IsToldBy (object_seen asked.now.object shown.entry) shard ended.now.place
-        ended.now.verdict) }
+        ended.now.kept ended.now.verdict) }
 {
     let (channel, seq, place) = (asked.channel, asked.seq, ended.place);
     let answer = match &ended.verdict {
         Verdict::Granted { entry, cached } => {
             let grant = LentGrant {
-                kept: false,
+                kept: ended.kept,
                 entry: *entry,
                 shard,
                 place,

@@ -1,5 +1,5 @@
 -- What a file decides, and what the first lane tells.
-use Rattle.std.proofs.Common.{◌≡◌, ◌≢◌, ◌⊎◌, ℕ, ◌-◌, ◌^◌, ◌<◌, ◌≤◌, true, List, [], ◌∷◌, length, slice_index_or, slice_set, Some, Err, refl, sym, ap, subst, arith, inl, inr}
+use Rattle.std.proofs.Common.{◌≡◌, ◌≢◌, ◌⊎◌, ℕ, ◌-◌, ◌^◌, ◌<◌, ◌≤◌, true, List, [], ◌∷◌, length, slice_index_or, slice_set, Some, Ok, Err, refl, sym, ap, subst, arith, inl, inr}
 use Rattle.std.specs.Prelude.{Option}
 use Rattle.std.specs.Io.KnownBytes.{Consumes, IsAtEnd}
 use Rattle.std.proofs.lemmas.List.{length-append}
@@ -7,21 +7,24 @@ use Rattle.frame_link.specs.declared.outcome.Outcome.{Outcome}
 use Rattle.frame_link.specs.Faults.{Rose}
 use Rattle.frame_link.specs.Relay.{Said}
 use Rattle.taos_node.specs.declared.command.Lane.{Lane}
-use Rattle.node_file.specs.Opening.{Opening, Spells}
+use Rattle.node_file.specs.Opening.{Opening}
 use Rattle.taos_monitor.specs.Cells.{Node, Seen}
 use Rattle.taos_monitor.specs.Connection.{IsConnection}
 use Rattle.taos_node.specs.declared.ending.FileFault.{FileFault}
 use Rattle.taos_node.specs.declared.ending.FileFault.TheVariants as fault
-use Rattle.taos_node.specs.declared.ending.FileFault.TheVariants.{Malformed, TooLarge}
+use Rattle.taos_node.specs.declared.ending.FileFault.TheVariants.{Malformed, Refused}
 use Rattle.taos_node.specs.Ending.{file_status}
+use Rattle.taos_node.specs.Files.{FaultHasCause, FileDecides, FileFails, IsNodeFile, IsRead, IsRefused, IsRelayFile, IsUnread, Meaning, Opens, OpensNode, OpensRelay, fault_of, max_file, node_means, relay_means}
 use Rattle.frame_link.specs.Streams.{Stream, stream}
-use Rattle.taos_node.specs.Command.{IsOpeningFile, OpensNode, IsMalformed, IsTooLarge, FileFails, FaultHasCause, FileDecides, Link, link, touched, with_seen, first_clock, first_link, max_file}
-use Rattle.node_file.specs.declared.fault.FileCause.{FileCause}
-use Rattle.node_file.specs.declared.fault.FileFault.{FileFault as OpeningFault}
-use Rattle.node_file.specs.declared.fault.FileFault.TheVariants as openings
-use Rattle.node_file.specs.declared.limits.TheConstants.{MAX_FILE as MAX_OPENING}
-use Rattle.node_file.specs.OpeningReading.{opening_in}
-use Rattle.node_file.proofs.Whole.{meant_again, no_line}
+use Rattle.taos_node.specs.Command.{Link, link, touched, with_seen, first_clock, first_link}
+use Rattle.node_file.specs.declared.fault.FileCause.TheVariants.{Limit}
+use Rattle.node_file.specs.declared.fault.FileFault.{FileFault as Refusal}
+use Rattle.node_file.specs.declared.fault.FileFault.TheVariants as refusals
+use Rattle.node_file.specs.declared.fault.FileFault.TheVariants.{Line, Byte}
+use Rattle.node_file.specs.OpeningFile.{Means as NodeMeans, opening_in}
+use Rattle.node_file.specs.RelayFile.{RelayFile, relay_in}
+use Rattle.node_file.proofs.Whole.{meant_again}
+use Rattle.std.proofs.lemmas.Bool.{cases_lt, lt-ltb}
 use Rattle.frame_link.proofs.Complete.{left_after, all_taken}
 use Rattle.taos_monitor.specs.World.{setting_of}
 
@@ -33,51 +36,124 @@ still before now s rose = omega (arith, s.0, s.1, rose)
 pub told_is : (file0 file1 : Option (List ℕ)) (bytes read : List ℕ) → Consumes file0 file1 read → IsAtEnd file1 → file0 ≡ Some bytes → bytes ≡ read
 told_is file0 file1 bytes read took at_end told = all_taken bytes read file1 (subst (λ (f : Option (List ℕ)). Consumes f file1 read) told took) at_end
 
--- a file that tells that it opens a node is not refused
-pub not_malformed : (file0 file1 : Stream) (bytes : List ℕ) (o : Opening) (offset : ℕ) → IsMalformed file0 file1 offset → file0.told ≡ Some bytes → IsOpeningFile o bytes → ⊥
-not_malformed file0 file1 bytes o offset bad told is =
-    let same : bytes ≡ bad.bytes = told_is file0.told file1.told bytes bad.bytes bad.read bad.at_end told in
-    absurd (cc (bad.fault, meant_again bad.bytes o bad.short (subst (Spells o) same is.0)))
+-- ---- what a file means
 
-pub not_too_large : (file0 file1 : Stream) (bytes : List ℕ) (o : Opening) → IsTooLarge file0 file1 → file0.told ≡ Some bytes → IsOpeningFile o bytes → ⊥
-not_too_large file0 file1 bytes o bad told is =
-    let behind = left_after bytes bad.bytes file1.told (subst (λ (f : Option (List ℕ)). Consumes f file1.told bad.bytes) told bad.read) in
-    absurd (omega (arith, bad.large, is.1, ap length behind.2, length-append bad.bytes behind.0))
+-- what a file means is read of its bytes, which are not too many
+pub record IsMeantBy {A : Type 0} (Means : A → List ℕ → Type 0) (means : Meaning A) : Type 0 where
+  pub read : (bytes : List ℕ) (a : A) → Means a bytes → means bytes ≡ Ok a
+  pub short : (bytes : List ℕ) (a : A) → Means a bytes → length bytes ≤ max_file
 
--- and one that was opened tells nothing else
-pub is_opened : (file0 file1 : Stream) (bytes : List ℕ) (o : Opening) → OpensNode file0 file1 o → file0.told ≡ Some bytes → IsOpeningFile o bytes
-is_opened file0 file1 bytes o opened told =
-    subst (IsOpeningFile o) (sym (told_is file0.told file1.told bytes opened.bytes opened.read opened.at_end told)) opened.is_opening
+long_opening : (bytes : List ℕ) → max_file < length bytes → opening_in bytes ≡ Err (Line 0 Limit)
+unfolding opening_in
+long_opening bytes long = rw (lt-ltb max_file (length bytes) long) refl
 
-pub file_opens : (file0 file1 : Stream) (bytes : List ℕ) (o : Opening) → Consumes file0.told file1.told bytes → IsAtEnd file1.told → Spells o bytes → length bytes ≤ max_file → OpensNode file0 file1 o
-file_opens file0 file1 bytes o read at_end spelled short = record { bytes = bytes; read = read; at_end = at_end; is_opening = (spelled, short) }
+long_relay : (bytes : List ℕ) → max_file < length bytes → relay_in bytes ≡ Err (Line 0 Limit)
+unfolding relay_in
+long_relay bytes long = rw (lt-ltb max_file (length bytes) long) refl
 
--- ---- what the file decides, by what came of it
+short_opening : (bytes : List ℕ) (o : Opening) → opening_in bytes ≡ Ok o → length bytes ≤ max_file
+short_opening bytes o is = elim (cases_lt max_file (length bytes)) [
+  | inl long ↦ absurd (cc (is, long_opening bytes long))
+  | inr short ↦ omega (arith, short)
+]
 
-module _ (file0 file1 : Stream) where
-  pub decided_opened : (o : Opening) (status : ℕ) → OpensNode file0 file1 o → status ≢ 2 → FileDecides file0 file1 status
-  decided_opened o status opened other = record {
-    opens = λ bytes p told is. other;
-    refuses = λ bytes told none steady. absurd (none o (is_opened file0 file1 bytes o opened told));
+short_relay : (bytes : List ℕ) (r : RelayFile) → relay_in bytes ≡ Ok r → length bytes ≤ max_file
+short_relay bytes r is = elim (cases_lt max_file (length bytes)) [
+  | inl long ↦ absurd (cc (is, long_relay bytes long))
+  | inr short ↦ omega (arith, short)
+]
+
+pub node_files : IsMeantBy IsNodeFile node_means
+node_files = record { read = λ bytes o is. meant_again bytes o is.1 is.0; short = λ bytes o is. is.1 }
+
+pub relay_files : IsMeantBy IsRelayFile relay_means
+relay_files = record { read = λ bytes r is. is; short = short_relay }
+
+module _ {A : Type 0} (Means : A → List ℕ → Type 0) (means : Meaning A) (laws : IsMeantBy Means means) (file0 file1 : Stream) where
+  -- a file that tells that it means something is not refused
+  pub not_refused : (bytes : List ℕ) (a : A) (why : Refusal) → IsRefused means file0 file1 why → file0.told ≡ Some bytes → Means a bytes → ⊥
+  not_refused bytes a why bad told is = elim bad.read.whole [
+    | inl at_end ↦
+        let same : bytes ≡ bad.bytes = told_is file0.told file1.told bytes bad.bytes bad.read.read at_end told in
+        absurd (cc (bad.refused, laws.read bad.bytes a (subst (Means a) same is)))
+    | inr long ↦
+        let behind = left_after bytes bad.bytes file1.told (subst (λ (f : Option (List ℕ)). Consumes f file1.told bad.bytes) told bad.read.read) in
+        absurd (omega (arith, long, laws.short bytes a is, ap length behind.2, length-append bad.bytes behind.0))
+  ]
+
+  -- and one that was opened tells nothing else
+  pub is_opened : (bytes : List ℕ) (a : A) → Opens Means file0 file1 a → file0.told ≡ Some bytes → Means a bytes
+  is_opened bytes a opened told = subst (Means a) (sym (told_is file0.told file1.told bytes opened.bytes opened.read opened.at_end told)) opened.means
+
+  -- ---- what the file decides, by what came of it
+
+  pub decided_opened : (a : A) (status : ℕ) → Opens Means file0 file1 a → status ≢ 2 → FileDecides Means file0 file1 status
+  decided_opened a status opened other = record {
+    opens = λ bytes b told is. other;
+    refuses = λ bytes told none steady. absurd (none a (is_opened bytes a opened told));
   }
 
-  pub decided_fault : (f : FileFault) → FileFails file0 file1 f → FaultHasCause file0 file1 f → FileDecides file0 file1 (file_status f)
-  decided_fault (Malformed offset) bad cause = record {
-    opens = λ bytes p told is e. not_malformed file0 file1 bytes p offset bad told is;
+  refused_decides : (why : Refusal) → IsRefused means file0 file1 why → FileDecides Means file0 file1 2
+  refused_decides why bad = record {
+    opens = λ bytes a told is e. not_refused bytes a why bad told is;
     refuses = λ bytes told none steady. inl refl;
   }
-  decided_fault TooLarge bad cause = record {
-    opens = λ bytes p told is e. not_too_large file0 file1 bytes p bad told is;
-    refuses = λ bytes told none steady. inl refl;
+
+  pub decided_fault : (f : FileFault) → FileFails means file0 file1 f → FaultHasCause file0 file1 f → FileDecides Means file0 file1 (file_status f)
+  decided_fault (Refused line cause) bad why = refused_decides (Line line cause) bad
+  decided_fault (Malformed offset) bad why = refused_decides (Byte offset) bad
+  decided_fault fault.ReadFault bad why = record {
+    opens = λ bytes a told is e. omega (arith, e);
+    refuses = λ bytes told none steady. absurd (still file0.faults file1.faults steady why.1);
   }
-  decided_fault fault.ReadFault bad cause = record {
-    opens = λ bytes p told is e. omega (arith, e);
-    refuses = λ bytes told none steady. absurd (still file0.faults file1.faults steady cause.1);
-  }
-  decided_fault fault.NoMemory bad cause = record {
-    opens = λ bytes p told is e. omega (arith, e);
+  decided_fault fault.NoMemory bad why = record {
+    opens = λ bytes a told is e. omega (arith, e);
     refuses = λ bytes told none steady. inr refl;
   }
+
+-- ---- what comes of a file that was read
+
+-- a fault of reading alone is one of any file
+pub unread_fails : {A : Type 0} (means : Meaning A) (file0 file1 : Stream) (f : FileFault) → IsUnread f → FileFails means file0 file1 f
+unread_fails means file0 file1 (Refused line cause) is = absurd is
+unread_fails means file0 file1 (Malformed offset) is = absurd is
+unread_fails means file0 file1 fault.ReadFault is = tt
+unread_fails means file0 file1 fault.NoMemory is = tt
+
+-- bytes that are refused are a fault of the file
+pub refusal_fails : {A : Type 0} (means : Meaning A) (file0 file1 : Stream) (bytes : List ℕ) (why : Refusal) (f : FileFault) → IsRead file0 file1 bytes → (why ≡ refusals.NoMemory) ⊎ (means bytes ≡ Err why) → f ≡ fault_of why → FileFails means file0 file1 f
+refusal_fails means file0 file1 bytes why f read is same = subst (FileFails means file0 file1) (sym same) (by why is)
+  where
+    by : (w : Refusal) → (w ≡ refusals.NoMemory) ⊎ (means bytes ≡ Err w) → FileFails means file0 file1 (fault_of w)
+    by (Line line cause) (inl none) = absurd (cc none)
+    by (Line line cause) (inr e) = record { bytes = bytes; read = read; refused = e }
+    by (Byte offset) (inl none) = absurd (cc none)
+    by (Byte offset) (inr e) = record { bytes = bytes; read = read; refused = e }
+    by refusals.NoMemory e = tt
+
+-- a fault that comes of bytes is no fault of reading
+pub refusal_steady : (file0 file1 : Stream) (why : Refusal) (f : FileFault) → f ≡ fault_of why → file1.faults ≡ file0.faults → FaultHasCause file0 file1 f
+refusal_steady file0 file1 why f same steady = subst (FaultHasCause file0 file1) (sym same) (by why)
+  where
+    by : (w : Refusal) → FaultHasCause file0 file1 (fault_of w)
+    by (Line line cause) = steady
+    by (Byte offset) = steady
+    by refusals.NoMemory = steady
+
+-- bytes that mean something were all there are
+pub node_opens : (file0 file1 : Stream) (bytes : List ℕ) (o p : Opening) → IsRead file0 file1 bytes → NodeMeans o bytes → opening_in bytes ≡ Ok p → OpensNode file0 file1 o
+node_opens file0 file1 bytes o p read spelled is =
+    let short = short_opening bytes p is in
+    elim read.whole [
+      | inl at_end ↦ record { bytes = bytes; read = read.read; at_end = at_end; means = (spelled, short) }
+      | inr long ↦ absurd (omega (arith, short, long))
+    ]
+
+pub relay_opens : (file0 file1 : Stream) (bytes : List ℕ) (r : RelayFile) → IsRead file0 file1 bytes → relay_in bytes ≡ Ok r → OpensRelay file0 file1 r
+relay_opens file0 file1 bytes r read is = elim read.whole [
+  | inl at_end ↦ record { bytes = bytes; read = read.read; at_end = at_end; means = is }
+  | inr long ↦ absurd (cc (is, long_relay bytes long))
+]
 
 -- ---- the first lane
 
@@ -109,8 +185,3 @@ pub touches : (n : Node) (frames : ℕ) (file0 file1 in0 in1 out0 out1 clock0 cl
     IsConnection (setting_of n true relay0.says) frames (with_seen (touched file0 in0 out0 clock0 relay0) seen) (with_seen (touched file1 in1 out1 clock1 relay1) last) outcome →
     IsConnection (setting_of n true relay0'.says) frames (with_seen (touched file0 in0 out0 clock0' relay0') seen') (with_seen (touched file1 in1 out1 clock1' relay1') last) outcome
 touches n frames file0 file1 in0 in1 out0 out1 clock0 clock0' clock1 clock1' relay0 relay0' relay1 relay1' seen seen' last outcome e1 e2 e3 e4 e5 c = rw (e1, e2, e3, e4, e5) c
-
--- a file that is short enough is refused at no line
-pub never_line : (bytes : List ℕ) (f : OpeningFault) (line : ℕ) (cause : FileCause) → f ≡ openings.Line line cause → length bytes ≤ MAX_OPENING → (f ≡ openings.NoMemory) ⊎ (opening_in bytes ≡ Err f) → ⊥
-never_line bytes f line cause is short (inl none) = absurd (cc (is, none))
-never_line bytes f line cause is short (inr read) = no_line bytes line cause short (subst (λ (e : OpeningFault). opening_in bytes ≡ Err e) is read)

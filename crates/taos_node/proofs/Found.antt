@@ -1,5 +1,5 @@
 -- What is read of words.
-use Rattle.std.proofs.Common.{◌≡◌, ℕ, ◌<◌, Bool, true, List, [], ◌∷◌, ◌++◌, ◌+◌, length, Option, Some, None, Result, Ok, Err, refl, sym, ap, subst, ◌∙◌, codes, arith, inl, inr, IsTrue}
+use Rattle.std.proofs.Common.{append_assoc, ◌≡◌, ℕ, zero, suc, ◌<◌, Bool, List, [], ◌∷◌, ◌++◌, ◌+◌, length, Option, Some, None, Result, Ok, Err, refl, sym, ap, subst, ◌∙◌, codes, arith, inl, inr, IsTrue}
 use Rattle.std.specs.Option.{option_map}
 use Rattle.std.specs.Borrow.{Bor}
 use Rattle.std.specs.Str.Parse.{ParsesUnsigned}
@@ -7,10 +7,8 @@ use Rattle.std.proofs.lemmas.Fmt.{parse-decimal}
 use Rattle.clap.specs.Words.{Row, Text, first_of, first_value, rows_of}
 use Rattle.clap.specs.declared.parser.matches.Found.{Found}
 use Rattle.clap.proofs.WalkLemmas.{first_value-rows}
-use Rattle.std.specs.List.{starts_with}
-use Rattle.std.specs.Prelude.{drop, nat_eq}
+use Rattle.std.specs.Prelude.{nat_eq}
 use Rattle.std.proofs.lemmas.Bool.Decides.{Decides-eqb}
-use Rattle.std.proofs.lemmas.Slice.Eq.{starts_is}
 use Rattle.std.specs.List.{All, slice_index_or}
 use Rattle.std.proofs.lemmas.Bool.{cases_lt}
 use Rattle.std.proofs.lemmas.List.{get_or_default}
@@ -24,14 +22,15 @@ use Rattle.clap.specs.declared.error.Error.{Error}
 use Rattle.clap.specs.declared.error.kind.ErrorKind.TheVariants as kind
 use Rattle.clap.specs.declared.parser.matches.ArgMatches.{ArgMatches}
 use Rattle.taos_node.specs.declared.wanted.Wanted.{Wanted}
-use Rattle.taos_node.specs.declared.wanted.Wanted.TheVariants.{Run, Check}
-use Rattle.taos_node.specs.Words.{AreFrames, IsCount, IsMeaning, Mean, TextsMean, value_of}
-use Rattle.taos_node.specs.Table.{taos_app, IsRunOf, IsTaken}
-use Rattle.taos_node.specs.Table as table
+use Rattle.taos_node.specs.Words.{Given, IsCount, IsMeaning, Mean, ServeFrames, TextsMean, Task, Run, Check, Relay, serving_options, task_of, value_of, words_of}
+use Rattle.taos_node.specs.Table.{IsOfTable, IsOption, IsPlainWord, IsServingOf, all_options, commands, taos_app, plain, option, alone, joined}
 use Rattle.taos_node.proofs.Made.{taos_is_simple}
-use Rattle.taos_node.proofs.Taken.{taken_line}
-use Rattle.taos_node.proofs.Meanings.{Asked, asked, run_asked, check_asked, joined_asked, apart_asked, run_found, check_found, run_means, check_means, same_option, no_run}
-use Rattle.taos_node.specs.Table.{IsOfTable, IsPlainWord, plain, alone, joined}
+use Rattle.taos_node.proofs.Rows.{AreNew, first_of_rows, rows_for}
+use Rattle.taos_node.proofs.Levels.{Entry, IsFound, IsSplit, each_command, line_found, line_split}
+use Rattle.taos_node.proofs.Meanings.{IsTaken, TextMeaning, check_there, is_line, meant_found, other_command, relay_there, run_there, serve_line, served_frames}
+use Rattle.std.specs.List.{flat_map}
+use Rattle.std.proofs.lemmas.List.{append-nil, append_cancel_left}
+use Rattle.std.specs.Prelude.{Contains}
 
 pub text_found : (r : Option (Bor Text)) (f : Found) (name : Text) → option_map (λ s. s.now) r ≡ first_value f name → option_map (λ s. s.now) r ≡ first_of name (rows_of f)
 text_found r f name is = is ∙ first_value-rows f name
@@ -40,17 +39,6 @@ text_found r f name is = is ∙ first_value-rows f name
 pub count_is_read : {E : Type 0} (text : Text) (r : Result ℕ E) (n : ℕ) → ParsesUnsigned 64 10 text r → IsCount text n → r ≡ Ok n
 count_is_read text r n parses is = parse-decimal 64 n text r is.2 is.2 is.0 parses
 
--- a word that is no plain one, nor `--frames`, is of the table where it begins with `--frames=`
-pub last_way : (w : Text) (b : Bool) → (IsPlainWord w → ⊥) → (w ≡ codes "--frames" → ⊥) → b ≡ starts_with nat_eq w (codes "--frames=") → (IsTrue b → IsOfTable w) × (IsOfTable w → IsTrue b)
-last_way w b dashed other tells =
-    let two = starts_is Decides-eqb w (codes "--frames=") b tells in
-    (λ is. joined (drop 9 w) (two.0 is), λ is. from_way w b dashed other two.1 is)
-  where
-    from_way : (v : Text) (c : Bool) → (IsPlainWord v → ⊥) → (v ≡ codes "--frames" → ⊥) → ((rest : Text) → v ≡ codes "--frames=" ++ rest → c ≡ true) → IsOfTable v → IsTrue c
-    from_way v c dash alone_not begins (plain is) = absurd (dash is)
-    from_way v c dash alone_not begins (alone is) = absurd (alone_not is)
-    from_way v c dash alone_not begins (joined rest is) = begins rest is
-
 -- a text that is no number is no count
 pub not_read : {E : Type 0} (text : Text) (r : Result ℕ E) (e : E) (n : ℕ) → ParsesUnsigned 64 10 text r → r ≡ Err e → IsCount text n → ⊥
 not_read text r e n parses failed is = absurd (cc (failed, count_is_read text r n parses is))
@@ -58,6 +46,59 @@ not_read text r e n parses failed is = absurd (cc (failed, count_is_read text r 
 -- what is read of a count is the count
 pub is_read : {E : Type 0} (text : Text) (r : Result ℕ E) (m n : ℕ) → ParsesUnsigned 64 10 text r → r ≡ Ok m → IsCount text n → m ≡ n
 is_read text r m n parses read is = cc (read, count_is_read text r n parses is)
+
+-- ---- the words of an option
+
+-- the name ends here: nothing follows, or `=` (61) does
+abbrev pub EndsName : Text → Type 0
+EndsName [] = Unit {0}
+EndsName (x ∷ rest) = x ≡ 61
+
+-- an option begins with two dashes
+pub has_dashes : (w name : Text) → IsOption w name → (text : Text) × (w ≡ codes "--" ++ text)
+has_dashes w name (alone e) = (name, e)
+has_dashes w name (joined v e) = (name ++ codes "=" ++ v, e)
+
+-- behind them stands its name, which ends there
+pub behind_dashes : (w text name : Text) → w ≡ codes "--" ++ text → IsOption w name → (rest : Text) × (text ≡ name ++ rest) × EndsName rest
+behind_dashes w text name is (alone e) = ([], append_cancel_left (codes "--") text name (sym is ∙ e) ∙ sym (append-nil name), tt)
+behind_dashes w text name is (joined v e) = (61 ∷ v, append_cancel_left (codes "--") text (name ++ codes "=" ++ v) (sym is ∙ e) ∙ append_assoc name (codes "=") v, refl)
+
+pub is_named : (w text name rest : Text) → w ≡ codes "--" ++ text → text ≡ name ++ rest → EndsName rest → IsOption w name
+is_named w text name [] is named ends = alone (is ∙ ap (λ (t : Text). codes "--" ++ t) (named ∙ append-nil name))
+is_named w text name (x ∷ v) is named ends =
+    joined v (is ∙ ap (λ (t : Text). codes "--" ++ t) (named ∙ ap (λ (y : ℕ). name ++ y ∷ v) ends ∙ sym (append_assoc name (codes "=") v)))
+
+-- an option whose name is there ends it
+pub ends_name : (w text name rest : Text) → w ≡ codes "--" ++ text → text ≡ name ++ rest → IsOption w name → EndsName rest
+ends_name w text name rest is named o =
+    let b = behind_dashes w text name is o in
+    subst EndsName (append_cancel_left name b.0 rest (sym b.1 ∙ named)) b.2
+
+-- what has no bytes ends a name, and what has begins with `=` where it does
+pub none_ends : (rest : Text) → length rest < 1 → EndsName rest
+none_ends [] none = tt
+none_ends (x ∷ rest) none = absurd (omega (arith, none))
+
+pub first_ends : (rest : Text) → 0 < length rest → (IsTrue (nat_eq (slice_index_or rest 0 0) 61) → EndsName rest) × (EndsName rest → IsTrue (nat_eq (slice_index_or rest 0 0) 61))
+first_ends [] some = absurd (omega (arith, some))
+first_ends (x ∷ rest) some = (λ yes. (Decides-eqb x 61).0 yes, λ is. (Decides-eqb x 61).1 is)
+
+-- no option of the name where that does not follow the dashes
+pub not_named : (w text name : Text) → w ≡ codes "--" ++ text → ((rest : Text) → text ≡ name ++ rest → ⊥) → IsOption w name → ⊥
+not_named w text name is none o = let b = behind_dashes w text name is o in none b.0 b.1
+
+-- a word of the table is plain, or the one option
+pub of_table : (w name : Text) (b : Bool) → (IsPlainWord w → ⊥) → name ≡ codes "frames" → (IsTrue b → IsOption w name) × (IsOption w name → IsTrue b) → (IsTrue b → IsOfTable w) × (IsOfTable w → IsTrue b)
+of_table w name b dashed named tells = (λ yes. option (codes "frames") (0, omega arith, refl) (subst (IsOption w) named (tells.0 yes)), from)
+  where
+    only : (n : Text) → Contains all_options n → n ≡ codes "frames"
+    only n (zero, within, is) = sym is
+    only n (suc k, within, is) = absurd (omega (arith, within))
+
+    from : IsOfTable w → IsTrue b
+    from (plain is) = absurd (dashed is)
+    from (option n has o) = tells.1 (subst (IsOption w) (only n has ∙ sym named) o)
 
 -- ---- all words
 
@@ -73,11 +114,10 @@ back [] all = λ k d within. absurd (omega (arith, within))
 back (w ∷ ws) all = All-cons OfTable w ws (All-head IsOfTable (string_bytes w) (map string_bytes ws) all) (back ws (All-tail IsOfTable (string_bytes w) (map string_bytes ws) all))
 
 -- words that mean something are of the table, and `clap` takes them
-pub found_line : (texts : List Text) (wanted : Wanted) → TextsMean texts wanted → All IsOfTable texts × (fault_of taos_app texts ≡ [])
-found_line texts (Run n) is = let f = run_found texts is.0 is.1 in (f.known, f.no_fault)
-found_line texts Check is = let f = check_found texts is.0 is.1 in (f.known, f.no_fault)
+found_line : (texts : List Text) (wanted : Task) → TextsMean texts wanted → All IsOfTable texts × (fault_of taos_app texts ≡ [])
+found_line texts wanted is = let f = (meant_found texts wanted is).1 in (f.known, f.no_fault)
 
-pub all_words : (words : List (String Global)) (wanted : Wanted) → Mean words wanted → All OfTable words
+pub all_words : (words : List (String Global)) (wanted : Task) → Mean words wanted → All OfTable words
 all_words words wanted is = back words (found_line (map string_bytes words) wanted is).0
 
 -- what `clap` refuses means nothing, but for want of memory
@@ -86,74 +126,85 @@ among_none e [] none (inl is) = is
 among_none e [] none (inr is) = absurd is
 among_none e (k ∷ ks) none h = absurd cc
 
-pub refused_meaning : (words : List (String Global)) (e : Error) (wanted : Wanted) → HasKind (fault_of taos_app (map string_bytes words)) e → (kind_of e ≡ kind.OutOfMemory → ⊥) → Mean words wanted → ⊥
+pub refused_meaning : (words : List (String Global)) (e : Error) (wanted : Task) → HasKind (fault_of taos_app (map string_bytes words)) e → (kind_of e ≡ kind.OutOfMemory → ⊥) → Mean words wanted → ⊥
 refused_meaning words e wanted has other is = other (among_none e (fault_of taos_app (map string_bytes words)) (found_line (map string_bytes words) wanted is).1 has)
 
 -- ---- what was found
 
--- what is found where `clap` takes the words
-pub data Finding (words : List Text) : Type 0 where
-  run : (text : Option Text) → asked words ≡ Some (codes "run", text) → Finding words
-  check : (text : Option Text) → asked words ≡ Some (codes "check", text) → Finding words
+serving_means : (texts : List Text) (command : Text) (serves : ℕ → Task) (given : List Given) (r : Option Wanted) → ((n : ℕ) → ServeFrames texts command n → TextsMean texts (serves n)) →
+    ((wanted : Task) → TextsMean texts wanted → (n : ℕ) × ServeFrames texts command n) → Contains commands (command, serving_options) →
+    texts ≡ command ∷ flat_map words_of given → AreNew serving_options [] given → IsServingOf serves (value_of (codes "frames") given) r → TextMeaning texts r
+serving_means texts command serves given (Some wanted) means only there are new is =
+    subst (TextsMean texts) (sym is.1) (means is.0 (serve_line texts command given is.0 are new is.2))
+serving_means texts command serves given None means only there are new none = λ wanted is.
+    let f = subst (λ (w : List Text). IsFound w command given) (sym are) (line_found (command, serving_options) there given new) in
+    let o = only wanted is in
+    none o.0 (served_frames texts command given o.0 there f o.1)
 
-finding : (words : List Text) → IsTaken words → Finding words
-finding words (table.run is) = run None (ap asked is ∙ run_asked)
-finding words (table.run_joined v is) = run (Some v) (ap asked is ∙ joined_asked v)
-finding words (table.run_apart v value is) = run (Some v) (ap asked is ∙ apart_asked v value)
-finding words (table.check is) = check None (ap asked is ∙ check_asked)
+-- texts that are taken as a command mean no other
+found_as : (texts : List Text) (c : Entry) (given : List Given) → Contains commands c → texts ≡ c.0 ∷ flat_map words_of given → AreNew c.1 [] given → IsFound texts c.0 given
+found_as texts c given there are new = subst (λ (w : List Text). IsFound w c.0 given) (sym are) (line_found c there given new)
 
--- the rows behind what is found
-rows_behind : (o : Option (Text × List Row)) (name : Text) (text : Option Text) → ◌≡◌ {A = Asked} (option_map (λ p. (p.0, first_of (codes "frames") p.1)) o) (Some (name, text)) →
-    (rows : List Row) × (◌≡◌ {A = Option (Text × List Row)} o (Some (name, rows))) × (first_of (codes "frames") rows ≡ text)
-rows_behind None name text e = absurd (none_is (name, text) e)
-  where
-    none_is : (p : Text × Option Text) → ◌≡◌ {A = Asked} None (Some p) → ⊥
-    none_is p e = absurd cc
-rows_behind (Some p) name text e =
-    let same : ◌≡◌ {A = Text × Option Text} (p.0, first_of (codes "frames") p.1) (name, text) = same_Some _ _ e in
-    let named : p.0 ≡ name = ap (λ (q : Text × Option Text). q.0) same in
-    (p.1, subst (λ n. ◌≡◌ {A = Option (Text × List Row)} (Some p) (Some (n, p.1))) named refl, ap (λ (q : Text × Option Text). q.1) same)
+taken_as : (texts : List Text) (c : Entry) (given : List Given) → Contains commands c → texts ≡ c.0 ∷ flat_map words_of given → AreNew c.1 [] given → IsTaken texts c.0
+taken_as texts c given there are new = (given, found_as texts c given there are new)
 
-not_run : (texts : List Text) (text : Option Text) → asked texts ≡ Some (codes "check", text) → (n : ℕ) → TextsMean texts (Run n) → ⊥
-not_run texts text e n is = no_run _ text (sym (run_found texts is.0 is.1).asked ∙ e)
+only_run : (texts : List Text) → IsTaken texts (codes "run") → (wanted : Task) → TextsMean texts wanted → (n : ℕ) × ServeFrames texts (codes "run") n
+only_run texts taken (Run n) is = (n, is)
+only_run texts taken Check is = absurd (other_command texts (codes "check") (codes "run") refl (meant_found texts Check is) taken)
+only_run texts taken (Relay n) is = absurd (other_command texts (codes "relay") (codes "run") refl (meant_found texts (Relay n) is) taken)
 
--- what is found is what the texts mean
-abbrev TextMeaning : List Text → Option Wanted → Type 0
-TextMeaning texts (Some wanted) = TextsMean texts wanted
-TextMeaning texts None = (wanted : Wanted) → TextsMean texts wanted → ⊥
+only_relay : (texts : List Text) → IsTaken texts (codes "relay") → (wanted : Task) → TextsMean texts wanted → (n : ℕ) × ServeFrames texts (codes "relay") n
+only_relay texts taken (Relay n) is = (n, is)
+only_relay texts taken Check is = absurd (other_command texts (codes "check") (codes "relay") refl (meant_found texts Check is) taken)
+only_relay texts taken (Run n) is = absurd (other_command texts (codes "run") (codes "relay") refl (meant_found texts (Run n) is) taken)
 
-run_meaning : (texts : List Text) (text : Option Text) (r : Option Wanted) → IsTaken texts → asked texts ≡ Some (codes "run", text) → IsRunOf text r → TextMeaning texts r
-run_meaning texts text (Some (Run n)) taken e is = run_means texts text n taken e is
-run_meaning texts text (Some Check) taken e is = absurd is
-run_meaning texts text None taken e none = λ wanted is. nothing wanted is
-  where
-    nothing : (wanted : Wanted) → TextsMean texts wanted → ⊥
-    nothing (Run n) is =
-        let f = run_found texts is.0 is.1 in
-        none n (subst (λ o. AreFrames o n) (same_option (codes "run") (codes "run") (value_of (codes "frames") is.0) text (sym f.asked ∙ e)) is.2)
-    nothing Check is = no_run text None (sym e ∙ (check_found texts is.0 is.1).asked)
+-- what the program reads of each command's rows
+pub record IsReadAs (m : ArgMatches) (r : Option Wanted) : Type 0 where
+  pub run : (rows : List Row) → subcommand_rows_of m ≡ Some (codes "run", rows) → IsServingOf (λ n. Run n) (first_of (codes "frames") rows) r
+  pub check : (rows : List Row) → subcommand_rows_of m ≡ Some (codes "check", rows) → option_map task_of r ≡ Some Check
+  pub relay : (rows : List Row) → subcommand_rows_of m ≡ Some (codes "relay", rows) → IsServingOf (λ n. Relay n) (first_of (codes "frames") rows) r
 
-by_finding : (texts : List Text) (m : ArgMatches) (r : Option Wanted) → IsTaken texts → subcommand_rows_of m ≡ subcommand_of taos_app texts →
-    ((rows : List Row) → subcommand_rows_of m ≡ Some (codes "run", rows) → IsRunOf (first_of (codes "frames") rows) r) →
-    ((rows : List Row) → subcommand_rows_of m ≡ Some (codes "check", rows) → r ≡ Some Check) → Finding texts → TextMeaning texts r
-by_finding texts m r taken same is_run is_check (run text e) =
-    let b = rows_behind (subcommand_of taos_app texts) (codes "run") text e in
-    run_meaning texts text r taken e (subst (λ t. IsRunOf t r) b.2 (is_run b.0 (same ∙ b.1)))
-by_finding texts m r taken same is_run is_check (check text e) =
-    let b = rows_behind (subcommand_of taos_app texts) (codes "check") text e in
-    subst (TextMeaning texts) (sym (is_check b.0 (same ∙ b.1))) (check_means texts text taken e)
+module _ (texts : List Text) (m : ArgMatches) (r : Option Wanted) (read : IsReadAs m r) (same : ◌≡◌ {A = Option (Text × List Row)} (subcommand_rows_of m) (subcommand_of taos_app texts)) where
+  -- what is read of a line of this command is what it means
+  abbrev MeansIt : Entry → Type 0
+  MeansIt c = (given : List Given) → texts ≡ c.0 ∷ flat_map words_of given → AreNew c.1 [] given → TextMeaning texts r
+
+  rows_found : (c : Entry) (given : List Given) → Contains commands c → texts ≡ c.0 ∷ flat_map words_of given → AreNew c.1 [] given → ◌≡◌ {A = Option (Text × List Row)} (subcommand_rows_of m) (Some (c.0, rows_for given))
+  rows_found c given there are new = same ∙ (found_as texts c given there are new).found
+
+  run_means : MeansIt (codes "run", serving_options)
+  run_means given are new =
+      serving_means texts (codes "run") (λ n. Run n) given r (λ n is. is) (only_run texts (taken_as texts (codes "run", serving_options) given run_there are new)) run_there are new
+      (subst (λ o. IsServingOf (λ n. Run n) o r) (first_of_rows (codes "frames") given) (read.run (rows_for given) (rows_found (codes "run", serving_options) given run_there are new)))
+
+  relay_means : MeansIt (codes "relay", serving_options)
+  relay_means given are new =
+      serving_means texts (codes "relay") (λ n. Relay n) given r (λ n is. is) (only_relay texts (taken_as texts (codes "relay", serving_options) given relay_there are new)) relay_there are new
+      (subst (λ o. IsServingOf (λ n. Relay n) o r) (first_of_rows (codes "frames") given) (read.relay (rows_for given) (rows_found (codes "relay", serving_options) given relay_there are new)))
+
+  check_means : MeansIt (codes "check", [])
+  check_means given are new = is_check r (read.check (rows_for given) (rows_found (codes "check", []) given check_there are new))
+    where
+      is_check : (o : Option Wanted) → option_map task_of o ≡ Some Check → TextMeaning texts o
+      is_check None e = absurd (none_is Check e)
+        where
+          none_is : (t : Task) → ◌≡◌ {A = Option Task} None (Some t) → ⊥
+          none_is t e = absurd cc
+      is_check (Some w) e =
+          subst (TextsMean texts) (sym (same_Some (task_of w) Check e)) (given, is_line texts (codes "check", []) given are new (λ name v has is. absurd (omega (arith, has.1))))
+
+  read_means : IsSplit texts → TextMeaning texts r
+  read_means split = each_command MeansIt run_means check_means relay_means split.command split.there split.given split.are split.new
 
 as_meaning : (words : List (String Global)) (r : Option Wanted) → TextMeaning (map string_bytes words) r → IsMeaning words r
 as_meaning words (Some wanted) is = is
 as_meaning words None is = is
 
 pub found_meaning : (words : List (String Global)) (m : ArgMatches) (r : Option Wanted) → All IsOfTable (map string_bytes words) → fault_of taos_app (map string_bytes words) ≡ [] → HasMatchesOf taos_app (map string_bytes words) m →
-    ((rows : List Row) → subcommand_rows_of m ≡ Some (codes "run", rows) → IsRunOf (first_of (codes "frames") rows) r) →
-    ((rows : List Row) → subcommand_rows_of m ≡ Some (codes "check", rows) → r ≡ Some Check) → IsMeaning words r
-found_meaning words m r known none has is_run is_check =
+    IsReadAs m r → IsMeaning words r
+found_meaning words m r known none has read =
     let texts = map string_bytes words in
-    let taken = taken_line texts known none in
-    as_meaning words r (by_finding texts m r taken (has taos_is_simple).1 is_run is_check (finding texts taken))
+    as_meaning words r (read_means texts m r read (has taos_is_simple).1 (line_split texts known none))
 
 -- ---- one word after the other
 

@@ -9,7 +9,10 @@ pub mod SameFindings
 pub mod CheckCommands
 pub mod Statuses
 pub mod Made
+pub mod Options
+pub mod Rows
+pub mod Walks
 pub mod Lines
-pub mod Taken
+pub mod Levels
 pub mod Meanings
 pub mod Found

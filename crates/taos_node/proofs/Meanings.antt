@@ -1,43 +1,19 @@
--- What the lines that `clap` takes mean, and that it takes each line that means anything.
-use Rattle.std.proofs.Common.{◌≡◌, ◌≢◌, ℕ, zero, suc, ◌<◌, ◌≤◌, ◌^◌, Bool, true, false, List, [], ◌∷◌, ◌++◌, length, get_or, Option, Some, None, refl, sym, ap, subst, ◌∙◌, codes, decimal, arith}
-use Rattle.std.specs.Prelude.{Contains}
+-- What words mean: one command.
+use Rattle.std.proofs.Common.{◌≡◌, ℕ, zero, suc, ◌<◌, ◌≤◌, ◌^◌, Bool, false, List, [], ◌∷◌, length, get_or, Option, Some, None, refl, sym, ap, subst, ◌∙◌, codes, decimal, arith, slice_index_or}
+use Rattle.std.specs.Prelude.{Contains, cond, find}
 use Rattle.std.specs.List.{All, flat_map}
 use Rattle.std.specs.Option.{option_map}
+use Rattle.std.specs.Str.{bytes_eq}
 use Rattle.std.proofs.lemmas.Fmt.{decimal_nonempty, first_decimal, decimal_injective}
-use Rattle.std.proofs.lemmas.List.Elements.{All-head, All-tail, All-cons}
+use Rattle.std.proofs.lemmas.List.Elements.{All-nil, All-cons}
 use Rattle.std.proofs.lemmas.Option.{same_Some}
-use Rattle.clap.specs.Words.{Text, fault_of, first_of, subcommand_of}
-use Rattle.clap.proofs.OnLiterals.{clap_on_literals}
+use Rattle.clap.specs.Words.{Row, Text, first_of}
 use Rattle.taos_node.specs.declared.wanted.Wanted.{Wanted}
-use Rattle.taos_node.specs.declared.wanted.Wanted.TheVariants.{Run, Check}
-use Rattle.taos_node.specs.Table.{taos_app, IsOfTable, IsPlainWord, IsTaken, plain, alone, joined}
-use Rattle.taos_node.specs.Table as table
-use Rattle.taos_node.specs.Words.{AreFrames, Given, IsCount, IsLine, IsValue, TextsMean, value_of, words_of}
-use Rattle.taos_node.proofs.Lines.{is_other, run_fault, check_fault_none, joined_fault, apart_fault}
-
--- the command that is found in words, and the value of `--frames`
-abbrev pub Asked : Type 0
-Asked = Option (Text × Option Text)
-
-abbrev pub asked : List Text → Asked
-asked words = option_map (λ p. (p.0, first_of (codes "frames") p.1)) (subcommand_of taos_app words)
-
-pub run_asked : asked (codes "run" ∷ []) ≡ Some (codes "run", None)
-unfolding clap_on_literals
-run_asked = refl
-
-pub check_asked : asked (codes "check" ∷ []) ≡ Some (codes "check", None)
-unfolding clap_on_literals
-check_asked = refl
-
-pub joined_asked : (v : Text) → asked (codes "run" ∷ (codes "--frames=" ++ v) ∷ []) ≡ Some (codes "run", Some v)
-unfolding clap_on_literals
-joined_asked v = refl
-
-pub apart_asked : (w : Text) → IsPlainWord w → asked (codes "run" ∷ codes "--frames" ∷ w ∷ []) ≡ Some (codes "run", Some w)
-unfolding clap_on_literals
-apart_asked [] is = refl
-apart_asked (x ∷ w) is = let other = is_other x is in rw other (rw other refl)
+use Rattle.taos_node.specs.Table.{commands}
+use Rattle.taos_node.specs.Words.{AreFrames, AreOnce, Given, IsCount, IsLine, IsValue, ServeFrames, TextsMean, Task, Run, Check, Relay, serving_options, task_of, value_of, words_of}
+use Rattle.taos_node.proofs.Options.{other_text, same_text, two_texts}
+use Rattle.taos_node.proofs.Rows.{AreNew, all_are_new, all_known, are_once, first_of_rows, rows_for}
+use Rattle.taos_node.proofs.Levels.{Entry, IsFound, line_found}
 
 -- ---- values
 
@@ -48,125 +24,93 @@ count_first n some small (x ∷ v) is = λ dash. omega (arith, dash, first_decim
 count_is_value : (v : Text) (n : ℕ) → IsCount v n → IsValue v
 count_is_value v n is = count_first n is.1 is.2 v is.0
 
-value_is_plain : (v : Text) → IsValue v → IsPlainWord v
-value_is_plain [] is = absurd is
-value_is_plain (x ∷ v) is = is
+abbrev by_first : Given → List Given → Text → Bool → Option Text
+by_first g gs name b = option_map (λ (x : Given). x.value) (cond b (Some g) (find (λ (x : Given). bytes_eq x.name name) gs))
 
--- ---- what is taken means something
+-- an option that is given once has its value
+value_found : (gs : List Given) → AreOnce gs → All (λ g. value_of g.name gs ≡ Some g.value) gs
+value_found [] once = All-nil (λ (g : Given). value_of g.name [] ≡ Some g.value)
+value_found (g ∷ gs) once =
+    let rest = value_found gs once.1 in
+    All-cons (λ (x : Given). value_of x.name (g ∷ gs) ≡ Some x.value) g gs (ap (by_first g gs g.name) (same_text g.name))
+    (λ k d within. ap (by_first g gs (slice_index_or gs k d).name) (other_text g.name (slice_index_or gs k d).name (λ same. once.0 k d within (sym same))) ∙ rest k d within)
 
-abbrev frames_given : Text → Bool → Given
-frames_given v b = record { name = codes "frames"; value = v; joined = b }
+-- values are all right where each that is read is
+all_values : (options : List Text) (gs : List Given) → AreNew options [] gs → ((name v : Text) → Contains options name → value_of name gs ≡ Some v → IsValue v) → All (λ g. IsValue g.value) gs
+all_values options gs new values = λ k d within.
+    let g = slice_index_or gs k d in
+    values g.name g.value (all_known options [] gs new k d within) (value_found gs (are_once options [] gs new) k d within)
 
-no_given : (P : Given → Type 0) → All P []
-no_given P = λ k d within. absurd (omega (arith, within))
+-- ---- lines
 
-one_line : (words : List Text) (v : Text) (b : Bool) → words ≡ codes "run" ∷ flat_map words_of (frames_given v b ∷ []) → IsValue v →
-    IsLine words (codes "run") (codes "frames" ∷ []) (frames_given v b ∷ [])
-one_line words v b are value = record {
-  are = are;
-  known = All-cons (λ (g : Given). Contains (codes "frames" ∷ []) g.name) (frames_given v b) [] (0, omega arith, refl) (no_given (λ g. Contains (codes "frames" ∷ []) g.name));
-  once = (no_given (λ h. h.name ≢ codes "frames"), tt);
-  values = All-cons (λ (g : Given). IsValue g.value) (frames_given v b) [] value (no_given (λ g. IsValue g.value));
-}
+pub is_line : (words : List Text) (c : Entry) (given : List Given) → words ≡ c.0 ∷ flat_map words_of given → AreNew c.1 [] given → ((name v : Text) → Contains c.1 name → value_of name given ≡ Some v → IsValue v) → IsLine words c.0 c.1 given
+is_line words c given are new values = record { are = are; known = all_known c.1 [] given new; once = are_once c.1 [] given new; values = all_values c.1 given new values }
 
-pub same_option : (a b : Text) (o p : Option Text) → ◌≡◌ {A = Asked} (Some (a, o)) (Some (b, p)) → o ≡ p
-same_option a b o p e = ap (λ (q : Text × Option Text). q.1) (same_Some _ _ e)
+pub found_line : (words : List Text) (c : Entry) (given : List Given) → Contains commands c → IsLine words c.0 c.1 given → IsFound words c.0 given
+found_line words c given there l = subst (λ (w : List Text). IsFound w c.0 given) (sym l.are) (line_found c there given (all_are_new c.1 given l.known l.once l.values))
 
-pub no_check : (o p : Option Text) → ◌≡◌ {A = Asked} (Some (codes "check", o)) (Some (codes "run", p)) → ⊥
-no_check o p e = let first : ◌≡◌ {A = ℕ} 99 114 = ap (λ (q : Text × Option Text). get_or q.0 0 0) (same_Some _ _ e) in omega (arith, first)
+-- words are one command, and give each option one value
+same_pair : (words : List Text) (a b : Text) (gs hs : List Given) → IsFound words a gs → IsFound words b hs → ◌≡◌ {A = Text × List Row} (a, rows_for gs) (b, rows_for hs)
+same_pair words a b gs hs f g = same_Some _ _ (sym f.found ∙ g.found)
 
-pub no_run : (o p : Option Text) → ◌≡◌ {A = Asked} (Some (codes "run", o)) (Some (codes "check", p)) → ⊥
-no_run o p e = let first : ◌≡◌ {A = ℕ} 114 99 = ap (λ (q : Text × Option Text). get_or q.0 0 0) (same_Some _ _ e) in omega (arith, first)
+pub same_command : (words : List Text) (a b : Text) (gs hs : List Given) → IsFound words a gs → IsFound words b hs → a ≡ b
+same_command words a b gs hs f g = ap (λ (p : Text × List Row). p.0) (same_pair words a b gs hs f g)
 
-pub run_means : (words : List Text) (o : Option Text) (n : ℕ) → IsTaken words → asked words ≡ Some (codes "run", o) → AreFrames o n → TextsMean words (Run n)
-run_means words o n (table.run is) e frames =
-    let none : None ≡ o = same_option (codes "run") (codes "run") None o (sym run_asked ∙ subst (λ w. asked w ≡ Some (codes "run", o)) is e) in
-    ([], record { are = is; known = no_given (λ g. Contains (codes "frames" ∷ []) g.name); once = tt; values = no_given (λ g. IsValue g.value) }, subst (λ q. AreFrames q n) (sym none) frames)
-run_means words o n (table.run_joined v is) e frames =
-    let some : Some v ≡ o = same_option (codes "run") (codes "run") (Some v) o (sym (joined_asked v) ∙ subst (λ w. asked w ≡ Some (codes "run", o)) is e) in
-    let count : IsCount v n = subst (λ q. AreFrames q n) (sym some) frames in
-    (frames_given v true ∷ [], one_line words v true is (count_is_value v n count), count)
-run_means words o n (table.run_apart v value is) e frames =
-    let some : Some v ≡ o = same_option (codes "run") (codes "run") (Some v) o (sym (apart_asked v value) ∙ subst (λ w. asked w ≡ Some (codes "run", o)) is e) in
-    let count : IsCount v n = subst (λ q. AreFrames q n) (sym some) frames in
-    (frames_given v false ∷ [], one_line words v false is (count_is_value v n count), count)
-run_means words o n (table.check is) e frames = absurd (no_check None o (sym check_asked ∙ subst (λ w. asked w ≡ Some (codes "run", o)) is e))
+pub same_values : (words : List Text) (a b : Text) (gs hs : List Given) → IsFound words a gs → IsFound words b hs → (name : Text) → value_of name gs ≡ value_of name hs
+same_values words a b gs hs f g name = sym (first_of_rows name gs) ∙ ap (λ (p : Text × List Row). first_of name p.1) (same_pair words a b gs hs f g) ∙ first_of_rows name hs
 
-apart_not_check : (words : List Text) (o : Option Text) → asked words ≡ Some (codes "check", o) → (p : Option Text) → asked words ≡ Some (codes "run", p) → ⊥
-apart_not_check words o c p r = no_run p o (sym r ∙ c)
+-- ---- what a command's words give
 
-pub check_means : (words : List Text) (o : Option Text) → IsTaken words → asked words ≡ Some (codes "check", o) → TextsMean words Check
-check_means words o (table.run is) e = absurd (apart_not_check words o e None (ap asked is ∙ run_asked))
-check_means words o (table.run_joined v is) e = absurd (apart_not_check words o e (Some v) (ap asked is ∙ joined_asked v))
-check_means words o (table.run_apart v value is) e = absurd (apart_not_check words o e (Some v) (ap asked is ∙ apart_asked v value))
-check_means words o (table.check is) e =
-    ([], record { are = is; known = no_given (λ g. Contains [] g.name); once = tt; values = no_given (λ g. IsValue g.value) })
+pub run_there : Contains commands (codes "run", serving_options)
+run_there = (0, omega arith, refl)
 
--- ---- what means something is taken
+pub check_there : Contains commands (codes "check", [])
+check_there = (1, omega arith, refl)
 
--- what is found in a line
-pub record IsFound (words : List Text) (name : Text) (o : Option Text) : Type 0 where
-  pub known : All IsOfTable words
-  pub no_fault : fault_of taos_app words ≡ []
-  pub asked : asked words ≡ Some (name, o)
+pub relay_there : Contains commands (codes "relay", serving_options)
+relay_there = (2, omega arith, refl)
 
-two_of : (w : Text) (ws : List Text) → IsOfTable w → All IsOfTable ws → All IsOfTable (w ∷ ws)
-two_of w ws = All-cons IsOfTable w ws
+-- the name of the command that is asked for
+abbrev pub command_of : Task → Text
+command_of (Run n) = codes "run"
+command_of Check = codes "check"
+command_of (Relay n) = codes "relay"
 
-no_words : All IsOfTable []
-no_words = λ k d within. absurd (omega (arith, within))
+-- what means something is a line that is taken
+abbrev pub IsTaken : List Text → Text → Type 0
+IsTaken words command = (given : List Given) × IsFound words command given
 
-run_of_table : IsOfTable (codes "run")
-run_of_table = plain (λ e. omega (arith, e))
+pub meant_found : (words : List Text) (wanted : Task) → TextsMean words wanted → IsTaken words (command_of wanted)
+meant_found words (Run n) is = (is.0, found_line words (codes "run", serving_options) is.0 run_there is.1)
+meant_found words Check is = (is.0, found_line words (codes "check", []) is.0 check_there is.1)
+meant_found words (Relay n) is = (is.0, found_line words (codes "relay", serving_options) is.0 relay_there is.1)
 
-check_of_table : IsOfTable (codes "check")
-check_of_table = plain (λ e. omega (arith, e))
+-- no words are two commands
+pub other_command : (words : List Text) (a b : Text) → bytes_eq a b ≡ false → IsTaken words a → IsTaken words b → ⊥
+other_command words a b apart x y = two_texts a b apart (same_command words a b x.0 y.0 x.1 y.1)
 
-found_bare : (words : List Text) → words ≡ codes "run" ∷ [] → IsFound words (codes "run") None
-found_bare words is = subst (λ w. IsFound w (codes "run") None) (sym is)
-    (record { known = two_of (codes "run") [] run_of_table no_words; no_fault = run_fault; asked = run_asked })
+-- ---- commands that serve
 
-found_joined : (words : List Text) (v : Text) → words ≡ codes "run" ∷ (codes "--frames=" ++ v) ∷ [] → IsFound words (codes "run") (Some v)
-found_joined words v is = subst (λ w. IsFound w (codes "run") (Some v)) (sym is) (record {
-  known = two_of (codes "run") ((codes "--frames=" ++ v) ∷ []) run_of_table (two_of (codes "--frames=" ++ v) [] (joined v refl) no_words);
-  no_fault = joined_fault v;
-  asked = joined_asked v;
-})
-
-found_apart : (words : List Text) (v : Text) → IsPlainWord v → words ≡ codes "run" ∷ codes "--frames" ∷ v ∷ [] → IsFound words (codes "run") (Some v)
-found_apart words v value is = subst (λ w. IsFound w (codes "run") (Some v)) (sym is) (record {
-  known = two_of (codes "run") (codes "--frames" ∷ v ∷ []) run_of_table (two_of (codes "--frames") (v ∷ []) (alone refl) (two_of v [] (plain value) no_words));
-  no_fault = apart_fault v value;
-  asked = apart_asked v value;
-})
-
-found_check : (words : List Text) → words ≡ codes "check" ∷ [] → IsFound words (codes "check") None
-found_check words is = subst (λ w. IsFound w (codes "check") None) (sym is)
-    (record { known = two_of (codes "check") [] check_of_table no_words; no_fault = check_fault_none; asked = check_asked })
-
--- the only option of `run`
-only_frames : (name : Text) → Contains (codes "frames" ∷ []) name → name ≡ codes "frames"
+only_frames : (name : Text) → Contains serving_options name → name ≡ codes "frames"
 only_frames name (zero, within, is) = sym is
 only_frames name (suc k, within, is) = absurd (omega (arith, within))
 
-found_one : (words : List Text) (name v : Text) (b : Bool) → name ≡ codes "frames" → IsValue v → words ≡ codes "run" ∷ flat_map words_of (record { name = name; value = v; joined = b } ∷ []) →
-    IsFound words (codes "run") (value_of (codes "frames") (record { name = name; value = v; joined = b } ∷ []))
-found_one words name v true frames value is = rw frames (found_joined words v (is ∙ rw frames refl))
-found_one words name v false frames value is = rw frames (found_apart words v (value_is_plain v value) (is ∙ rw frames refl))
+frames_value : (o : Option Text) (v : Text) (n : ℕ) → o ≡ Some v → AreFrames o n → IsValue v
+frames_value o v n is frames = count_is_value v n (subst (λ q. AreFrames q n) is frames)
 
-pub run_found : (words : List Text) (given : List Given) → IsLine words (codes "run") (codes "frames" ∷ []) given → IsFound words (codes "run") (value_of (codes "frames") given)
-run_found words [] l = found_bare words l.are
-run_found words (g ∷ []) l =
-    found_one words g.name g.value g.joined (only_frames g.name (All-head (λ (h : Given). Contains (codes "frames" ∷ []) h.name) g [] l.known)) (All-head (λ (h : Given). IsValue h.value) g [] l.values) l.are
-run_found words (g ∷ h ∷ gs) l =
-    let one = only_frames g.name (All-head (λ (x : Given). Contains (codes "frames" ∷ []) x.name) g (h ∷ gs) l.known) in
-    let more = All-tail (λ (x : Given). Contains (codes "frames" ∷ []) x.name) g (h ∷ gs) l.known in
-    let other = only_frames h.name (All-head (λ (x : Given). Contains (codes "frames" ∷ []) x.name) h gs more) in
-    absurd (All-head (λ (x : Given). x.name ≢ g.name) h gs l.once.0 (other ∙ sym one))
+pub serve_line : (words : List Text) (command : Text) (given : List Given) (n : ℕ) → words ≡ command ∷ flat_map words_of given → AreNew serving_options [] given → AreFrames (value_of (codes "frames") given) n → ServeFrames words command n
+serve_line words command given n are new frames = (
+  given,
+  is_line words (command, serving_options) given are new
+      (λ name v has is. frames_value (value_of (codes "frames") given) v n (subst (λ t. value_of t given ≡ Some v) (only_frames name has) is) frames),
+  frames,
+)
 
-pub check_found : (words : List Text) (given : List Given) → IsLine words (codes "check") [] given → IsFound words (codes "check") None
-check_found words [] l = found_check words l.are
-check_found words (g ∷ gs) l = let has = All-head (λ (x : Given). Contains [] x.name) g gs l.known in absurd (omega (arith, has.1))
+-- what is served is told by what is found
+pub served_frames : (words : List Text) (command : Text) (given : List Given) (n : ℕ) → Contains commands (command, serving_options) → IsFound words command given → ServeFrames words command n → AreFrames (value_of (codes "frames") given) n
+served_frames words command given n there f is =
+    let g = found_line words (command, serving_options) is.0 there is.1 in
+    subst (λ o. AreFrames o n) (same_values words command command is.0 given g f (codes "frames")) is.2
 
 -- ---- one meaning
 
@@ -174,11 +118,27 @@ same_frames : (o : Option Text) (m n : ℕ) → AreFrames o m → AreFrames o n 
 same_frames None m n a b = a ∙ sym b
 same_frames (Some v) m n a b = decimal_injective m n a.2 b.2 (sym a.0 ∙ b.0)
 
-pub one_meaning : (words : List Text) (a b : Wanted) → TextsMean words a → TextsMean words b → a ≡ b
-one_meaning words (Run m) (Run n) x y =
-    let o = run_found words x.0 x.1 in
-    let p = run_found words y.0 y.1 in
-    ap (λ k. Run k) (same_frames (value_of (codes "frames") x.0) m n x.2 (subst (λ q. AreFrames q n) (sym (same_option (codes "run") (codes "run") (value_of (codes "frames") x.0) (value_of (codes "frames") y.0) (sym o.asked ∙ p.asked))) y.2))
-one_meaning words (Run m) Check x y = absurd (no_run _ _ (sym (run_found words x.0 x.1).asked ∙ (check_found words y.0 y.1).asked))
-one_meaning words Check (Run n) x y = absurd (no_run _ _ (sym (run_found words y.0 y.1).asked ∙ (check_found words x.0 x.1).asked))
+same_serving : (words : List Text) (command : Text) (m n : ℕ) → Contains commands (command, serving_options) → ServeFrames words command m → ServeFrames words command n → m ≡ n
+same_serving words command m n there x y =
+    same_frames (value_of (codes "frames") x.0) m n x.2 (served_frames words command x.0 n there (found_line words (command, serving_options) x.0 there x.1) y)
+
+cross : (words : List Text) (a b : Task) → TextsMean words a → TextsMean words b → bytes_eq (command_of a) (command_of b) ≡ false → a ≡ b
+cross words a b x y apart = absurd (other_command words (command_of a) (command_of b) apart (meant_found words a x) (meant_found words b y))
+
+pub one_meaning : (words : List Text) (a b : Task) → TextsMean words a → TextsMean words b → a ≡ b
+one_meaning words (Run m) (Run n) x y = ap (λ k. Run k) (same_serving words (codes "run") m n run_there x y)
+one_meaning words (Run m) Check x y = cross words (Run m) Check x y refl
+one_meaning words (Run m) (Relay n) x y = cross words (Run m) (Relay n) x y refl
+one_meaning words Check (Run n) x y = cross words Check (Run n) x y refl
 one_meaning words Check Check x y = refl
+one_meaning words Check (Relay n) x y = cross words Check (Relay n) x y refl
+one_meaning words (Relay m) (Run n) x y = cross words (Relay m) (Run n) x y refl
+one_meaning words (Relay m) Check x y = cross words (Relay m) Check x y refl
+one_meaning words (Relay m) (Relay n) x y = ap (λ k. Relay k) (same_serving words (codes "relay") m n relay_there x y)
+
+-- ---- what is read
+
+-- what is found is what the texts mean
+abbrev pub TextMeaning : List Text → Option Wanted → Type 0
+TextMeaning texts (Some wanted) = TextsMean texts (task_of wanted)
+TextMeaning texts None = (wanted : Task) → TextsMean texts wanted → ⊥

@@ -2,13 +2,11 @@
 use Rattle.std.proofs.Common.{◌≡◌, ℕ, zero, suc, ◌+◌, ◌<◌, Bool, true, false, List, [], ◌∷◌, ◌++◌, length, map, take, get_or, None, Some, slice_get, refl, sym, ap, ap₂, subst, ◌∙◌, arith, inl, inr}
 use Rattle.std.specs.Prelude.{Contains, Option, cond, ◌==◌}
 use Rattle.std.specs.List.Sorted.{IsStrictlyIncreasing}
-use Rattle.std.specs.Option.{option_map}
 use Rattle.std.proofs.Math.Path.{fun_ext}
 use Rattle.std.proofs.lemmas.Bool.{eqb-true}
 use Rattle.std.proofs.lemmas.List.{get_or-map, length-map, map_push, take_more}
 use Rattle.std.proofs.lemmas.Option.{get_or_from_slice_get, none-some, same_Some, slice_get_cases, slice_get_within}
 use Rattle.keyed_seal.specs.Keys.{Entries, Keys, IsKeyTable, key_of, number_at}
-use Rattle.object_core.specs.Operation.{IsAccessList, IsContent}
 use Rattle.denial_link.proofs.Members.{Contains-to_map}
 use Rattle.taos_calculus.proofs.Atoms.{Contains-at}
 use Rattle.node_file.specs.declared.opening.Opening as code

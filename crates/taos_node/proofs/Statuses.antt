@@ -1,59 +1,72 @@
 -- What the status tells, by what was done.
-use Rattle.std.proofs.Common.{◌≡◌, ◌≢◌, ℕ, ◌<◌, List, refl, ap, subst, arith, inl, inr}
+use Rattle.std.proofs.Common.{◌≡◌, ◌≢◌, ℕ, ◌-◌, ◌^◌, ◌<◌, List, refl, ap, subst, arith, inl, inr}
 use Rattle.std.specs.Prelude.{String}
 use Rattle.std.specs.declared.alloc.Global.{Global}
 use Rattle.frame_link.specs.declared.outcome.Outcome.{Outcome}
 use Rattle.frame_link.specs.declared.outcome.Outcome.TheVariants.{End, Truncated, TooLong, ReadFault, WriteFault, ClockFault, Spent, NoMemory}
 use Rattle.node_file.specs.Opening.{Opening}
+use Rattle.node_file.specs.RelayFile.{RelayFile}
+use Rattle.node_file.specs.declared.fault.FileFault.TheVariants.{Line, Byte}
 use Rattle.frame_link.specs.Served.{FaultCounts, counts, IsComplete, HasCauses}
 use Rattle.taos_node.specs.declared.check.CheckEnd.{CheckEnd}
 use Rattle.taos_node.specs.declared.check.CheckEnd.TheVariants as ends
 use Rattle.taos_node.specs.declared.ending.FileFault.{FileFault}
 use Rattle.taos_node.specs.declared.ending.FileFault.TheVariants as fault
-use Rattle.taos_node.specs.declared.ending.FileFault.TheVariants.{Malformed, TooLarge}
-use Rattle.taos_node.specs.declared.finding.Finding.TheVariants.{Granted, Refused}
+use Rattle.taos_node.specs.declared.ending.FileFault.TheVariants.{Malformed, Refused}
+use Rattle.taos_node.specs.declared.finding.Finding.TheVariants.{Granted, Refused as Wrong}
+use Rattle.taos_node.specs.Words.{IsMeaning, Mean, Task, Run, Check, Relay, task_of}
 use Rattle.taos_node.specs.declared.wanted.Wanted.{Wanted}
-use Rattle.taos_node.specs.declared.wanted.Wanted.TheVariants.{Run, Check}
-use Rattle.taos_node.specs.Words.{IsMeaning, Mean}
-use Rattle.taos_node.specs.Command.{IsCommand, OpensNode, FileFails, FaultHasCause, Touched, EndsWell, ChecksWell, IsCaused, TellsFaults, IsStatus, counts_of}
+use Rattle.taos_node.specs.Files.{FaultHasCause, FileDecides, FileFails, IsNodeFile, IsRelayFile, Meaning, OpensNode, OpensRelay, node_means, relay_means}
+use Rattle.taos_node.specs.Command.{IsCommand, FileDecidesFor, FileFailsFor, Touched, EndsWell, ChecksWell, IsCaused, TellsFaults, IsStatus, counts_of}
 use Rattle.taos_node.specs.Ending.{file_status, served_status, checked_status}
 use Rattle.taos_node.specs.Findings.{CheckCauses}
 use Rattle.std.specs.Prelude.{Option, Some, None, map, string_bytes}
 use Rattle.taos_node.proofs.Meanings.{one_meaning}
-use Rattle.taos_node.proofs.Commands.{not_malformed, not_too_large, decided_opened, decided_fault, still}
+use Rattle.taos_node.proofs.Commands.{IsMeantBy, decided_opened, decided_fault, node_files, not_refused, relay_files, still}
 
 stayed : {P : Type 0} (a b : ℕ) → b ≡ a → a < b → P
 stayed a b same rose = absurd (omega (arith, same, rose))
 
 -- ---- words
 
--- words give one limit
-same_limit : (words : List (String Global)) (m n : ℕ) → Mean words (Run m) → Mean words (Run n) → m ≡ n
-same_limit words m n a b = ap frames_in (one_meaning (map string_bytes words) (Run m) (Run n) a b)
-  where
-    frames_in : Wanted → ℕ
-    frames_in (Run frames) = frames
-    frames_in Check = 0
+-- what holds of the command that words mean holds of every command that they mean
+of_command : (P : Task → Type 0) (words : List (String Global)) (a b : Task) → Mean words a → Mean words b → P a → P b
+of_command P words a b is other h = subst P (one_meaning (map string_bytes words) a b is other) h
 
--- no words are both commands
-one_command : (words : List (String Global)) (frames : ℕ) → Mean words (Run frames) → Mean words Check → ⊥
-one_command words frames run check = absurd (cc (one_meaning (map string_bytes words) (Run frames) Check run check))
+-- the most frames of a command that serves
+abbrev frames_in : Task → ℕ
+frames_in (Run frames) = frames
+frames_in Check = 0
+frames_in (Relay frames) = frames
+
+-- no words are two commands
+two_commands : {P : Type 0} (words : List (String Global)) (a b : Task) → Mean words a → Mean words b → (a ≡ b → ⊥) → P
+two_commands words a b is other apart = absurd (apart (one_meaning (map string_bytes words) a b is other))
 
 -- what was found is what the words mean
-pub meant : (words : List (String Global)) (found : Option Wanted) (wanted : Wanted) → IsMeaning words found → found ≡ Some wanted → Mean words wanted
+pub meant : (words : List (String Global)) (found : Option Wanted) (wanted : Wanted) → IsMeaning words found → found ≡ Some wanted → Mean words (task_of wanted)
 meant words found wanted means is = subst (IsMeaning words) is means
 
 -- nothing was found in words that mean nothing
 pub none_meant : (words : List (String Global)) (found : Option Wanted) → IsMeaning words found → found ≡ None → IsCommand words → ⊥
 none_meant words found means none command = subst (IsMeaning words) none means command.0 command.1
 
+lacks_decides : {A : Type 0} (Means : A → List ℕ → Type 0) (t : Touched) → FileDecides Means t.file t.file 6
+lacks_decides Means t = record { opens = λ bytes a told is e. omega (arith, e); refuses = λ bytes told none steady. inr refl }
+
+unread_decides : (wanted : Task) (t : Touched) → FileDecidesFor wanted t.file t.file 6
+unread_decides (Run n) t = lacks_decides IsNodeFile t
+unread_decides Check t = lacks_decides IsNodeFile t
+unread_decides (Relay n) t = lacks_decides IsRelayFile t
+
 -- memory was refused before the words were read, and nothing was touched
 pub unread : (words : List (String Global)) (t : Touched) → IsStatus words t t 6
 unread words t = record {
   usage = record { usage = λ e. absurd (omega (arith, e)); no_command = λ _. inr refl };
-  file = λ _. record { opens = λ bytes o told is e. omega (arith, e); refuses = λ bytes told none steady. inr refl };
-  complete = λ frames is bytes o told opens fs whole within few sf si so sc. inr refl;
+  file = λ wanted is. unread_decides wanted t;
+  complete = λ frames is sc bytes o told opens fs whole within few sf si so. inr refl;
   checks_well = λ is bytes o told opens sf si so. inr (inr refl);
+  relays_well = λ frames is bytes r told opens fs whole within few sf si so. inr refl;
   causes = record { read = λ e. absurd (omega (arith, e)); write = λ e. absurd (omega (arith, e)); clock = λ e. absurd (omega (arith, e)) };
   told = record {
     file = stayed t.file.faults t.file.faults refl;
@@ -67,9 +80,10 @@ unread words t = record {
 pub unused : (words : List (String Global)) (t : Touched) → (IsCommand words → ⊥) → IsStatus words t t 1
 unused words t none = record {
   usage = record { usage = λ _. none; no_command = λ _. inl refl };
-  file = λ is. absurd (none is);
+  file = λ wanted is. absurd (none (wanted, is));
   complete = λ frames is. absurd (none (Run frames, is));
   checks_well = λ is. absurd (none (Check, is));
+  relays_well = λ frames is. absurd (none (Relay frames, is));
   causes = record { read = λ e. absurd (omega (arith, e)); write = λ e. absurd (omega (arith, e)); clock = λ e. absurd (omega (arith, e)) };
   told = record {
     file = stayed t.file.faults t.file.faults refl;
@@ -88,52 +102,68 @@ record Rests (before after : Touched) : Type 0 where
   pub clock : after.clock.faults ≡ before.clock.faults
 
 module _ (before after : Touched) where
-  ends_unserved : (most : ℕ) (f : FileFault) → FileFails before.file after.file f → FaultHasCause before.file after.file f → EndsWell most before after (file_status f)
-  ends_unserved most (Malformed offset) bad cause bytes o told is frames whole within few sf si so sc =
-      absurd (not_malformed before.file after.file bytes o offset bad told is)
-  ends_unserved most TooLarge bad cause bytes o told is frames whole within few sf si so sc = absurd (not_too_large before.file after.file bytes o bad told is)
-  ends_unserved most fault.ReadFault bad cause bytes o told is frames whole within few sf si so sc = absurd (still before.file.faults after.file.faults sf cause.1)
-  ends_unserved most fault.NoMemory bad cause bytes o told is frames whole within few sf si so sc = inr refl
+  module _ {A : Type 0} (Means : A → List ℕ → Type 0) (means : Meaning A) (laws : IsMeantBy Means means) where
+    ends_unserved : (most : ℕ) (f : FileFault) → FileFails means before.file after.file f → FaultHasCause before.file after.file f → EndsWell Means most before after (file_status f)
+    ends_unserved most (Refused line cause) bad why bytes a told is frames whole within few sf si so = absurd (not_refused Means means laws before.file after.file bytes a (Line line cause) bad told is)
+    ends_unserved most (Malformed offset) bad why bytes a told is frames whole within few sf si so = absurd (not_refused Means means laws before.file after.file bytes a (Byte offset) bad told is)
+    ends_unserved most fault.ReadFault bad why bytes a told is frames whole within few sf si so = absurd (still before.file.faults after.file.faults sf why.1)
+    ends_unserved most fault.NoMemory bad why bytes a told is frames whole within few sf si so = inr refl
 
-  checks_unserved : (f : FileFault) → FileFails before.file after.file f → FaultHasCause before.file after.file f → ChecksWell before after (file_status f)
-  checks_unserved (Malformed offset) bad cause bytes o told is sf si so = absurd (not_malformed before.file after.file bytes o offset bad told is)
-  checks_unserved TooLarge bad cause bytes o told is sf si so = absurd (not_too_large before.file after.file bytes o bad told is)
-  checks_unserved fault.ReadFault bad cause bytes o told is sf si so = absurd (still before.file.faults after.file.faults sf cause.1)
-  checks_unserved fault.NoMemory bad cause bytes o told is sf si so = inr (inr refl)
+  checks_unserved : (f : FileFault) → FileFails node_means before.file after.file f → FaultHasCause before.file after.file f → ChecksWell before after (file_status f)
+  checks_unserved (Refused line cause) bad why bytes o told is sf si so = absurd (not_refused IsNodeFile node_means node_files before.file after.file bytes o (Line line cause) bad told is)
+  checks_unserved (Malformed offset) bad why bytes o told is sf si so = absurd (not_refused IsNodeFile node_means node_files before.file after.file bytes o (Byte offset) bad told is)
+  checks_unserved fault.ReadFault bad why bytes o told is sf si so = absurd (still before.file.faults after.file.faults sf why.1)
+  checks_unserved fault.NoMemory bad why bytes o told is sf si so = inr (inr refl)
+
+  decides_unserved : (wanted : Task) (f : FileFault) → FileFailsFor wanted before.file after.file f → FaultHasCause before.file after.file f → FileDecidesFor wanted before.file after.file (file_status f)
+  decides_unserved (Run n) f bad why = decided_fault IsNodeFile node_means node_files before.file after.file f bad why
+  decides_unserved Check f bad why = decided_fault IsNodeFile node_means node_files before.file after.file f bad why
+  decides_unserved (Relay n) f bad why = decided_fault IsRelayFile relay_means relay_files before.file after.file f bad why
+
+  not_caused : (status : ℕ) → status ≢ 3 → status ≢ 4 → status ≢ 5 → IsCaused before after status
+  not_caused status r w c = record { read = λ e. absurd (r e); write = λ e. absurd (w e); clock = λ e. absurd (c e) }
 
   file_caused : (f : FileFault) → FaultHasCause before.file after.file f → IsCaused before after (file_status f)
-  file_caused (Malformed offset) cause = record { read = λ e. absurd (omega (arith, e)); write = λ e. absurd (omega (arith, e)); clock = λ e. absurd (omega (arith, e)) }
-  file_caused TooLarge cause = record { read = λ e. absurd (omega (arith, e)); write = λ e. absurd (omega (arith, e)); clock = λ e. absurd (omega (arith, e)) }
+  file_caused (Refused line why) cause = not_caused 2 (λ e. omega (arith, e)) (λ e. omega (arith, e)) (λ e. omega (arith, e))
+  file_caused (Malformed offset) cause = not_caused 2 (λ e. omega (arith, e)) (λ e. omega (arith, e)) (λ e. omega (arith, e))
   file_caused fault.ReadFault cause = record { read = λ e. inl cause.1; write = λ e. absurd (omega (arith, e)); clock = λ e. absurd (omega (arith, e)) }
   file_caused fault.NoMemory cause = record { read = λ e. absurd (omega (arith, e)); write = λ e. absurd (omega (arith, e)); clock = λ e. absurd (omega (arith, e)) }
 
   file_told : (f : FileFault) → FaultHasCause before.file after.file f → before.file.faults < after.file.faults → file_status f ≡ 3
   file_told (Malformed offset) cause rose = stayed before.file.faults after.file.faults cause rose
-  file_told TooLarge cause rose = stayed before.file.faults after.file.faults cause rose
+  file_told (Refused line why) cause rose = stayed before.file.faults after.file.faults cause rose
   file_told fault.ReadFault cause rose = refl
   file_told fault.NoMemory cause rose = stayed before.file.faults after.file.faults cause rose
 
 not_one_file : (f : FileFault) → file_status f ≢ 1
 not_one_file (Malformed offset) = λ e. omega (arith, e)
-not_one_file TooLarge = λ e. omega (arith, e)
+not_one_file (Refused line cause) = λ e. omega (arith, e)
 not_one_file fault.ReadFault = λ e. omega (arith, e)
 not_one_file fault.NoMemory = λ e. omega (arith, e)
 
-pub unserved : (words : List (String Global)) (before after : Touched) (f : FileFault) → IsCommand words → FileFails before.file after.file f → FaultHasCause before.file after.file f →
-    after.input.faults ≡ before.input.faults → after.output.faults ≡ before.output.faults → after.clock.faults ≡ before.clock.faults → IsStatus words before after (file_status f)
-unserved words before after f command fails cause input output clock = record {
-  usage = record { usage = λ e. absurd (not_one_file f e); no_command = λ none. absurd (none command) };
-  file = λ _. decided_fault before.file after.file f fails cause;
-  complete = λ most _. ends_unserved before after most f fails cause;
-  checks_well = λ _. checks_unserved before after f fails cause;
-  causes = file_caused before after f cause;
-  told = record {
-    file = file_told before after f cause;
-    input = stayed before.input.faults after.input.faults input;
-    output = stayed before.output.faults after.output.faults output;
-    clock = stayed before.clock.faults after.clock.faults clock;
-  };
-}
+-- the command's file was not served, and nothing else was touched
+module _ (words : List (String Global)) (before after : Touched) (wanted : Task) (f : FileFault) (command : Mean words wanted) (cause : FaultHasCause before.file after.file f) where
+  complete_unserved : FileFailsFor wanted before.file after.file f → (most : ℕ) → Mean words (Run most) → EndsWell IsNodeFile most before after (file_status f)
+  complete_unserved bad most is = ends_unserved before after IsNodeFile node_means node_files most f (of_command (λ w. FileFailsFor w before.file after.file f) words wanted (Run most) command is bad) cause
+
+  relays_unserved : FileFailsFor wanted before.file after.file f → (most : ℕ) → Mean words (Relay most) → EndsWell IsRelayFile most before after (file_status f)
+  relays_unserved bad most is = ends_unserved before after IsRelayFile relay_means relay_files most f (of_command (λ w. FileFailsFor w before.file after.file f) words wanted (Relay most) command is bad) cause
+
+  pub unserved : FileFailsFor wanted before.file after.file f → after.input.faults ≡ before.input.faults → after.output.faults ≡ before.output.faults → after.clock.faults ≡ before.clock.faults → IsStatus words before after (file_status f)
+  unserved bad input output clock = record {
+    usage = record { usage = λ e. absurd (not_one_file f e); no_command = λ none. absurd (none (wanted, command)) };
+    file = λ other is. of_command (λ w. FileDecidesFor w before.file after.file (file_status f)) words wanted other command is (decides_unserved before after wanted f bad cause);
+    complete = λ most is clock. complete_unserved bad most is;
+    checks_well = λ is. checks_unserved before after f (of_command (λ w. FileFailsFor w before.file after.file f) words wanted Check command is bad) cause;
+    relays_well = λ most is. relays_unserved bad most is;
+    causes = file_caused before after f cause;
+    told = record {
+      file = file_told before after f cause;
+      input = stayed before.input.faults after.input.faults input;
+      output = stayed before.output.faults after.output.faults output;
+      clock = stayed before.clock.faults after.clock.faults clock;
+    };
+  }
 
 -- ---- a connection that was served
 
@@ -145,27 +175,25 @@ module _ (before after : Touched) where
   abbrev Causes : Outcome → Type 0
   Causes outcome = HasCauses (counts_of before) (counts_of after) outcome
 
-  ends_well : (most : ℕ) (outcome : Outcome) → IsComplete most before.input.told (counts_of before) (counts_of after) outcome →
-      EndsWell most before after (served_status outcome)
-  ends_well most outcome complete bytes o told is frames whole within few sf si so sc =
-      let same = same_counts before.input.faults before.output.faults before.clock.faults after.input.faults after.output.faults after.clock.faults si.0 so.0 sc.0 in
+  ends_well : {A : Type 0} (Means : A → List ℕ → Type 0) (most c0 c1 : ℕ) (outcome : Outcome) →
+      IsComplete most before.input.told (counts before.input.faults before.output.faults c0) (counts after.input.faults after.output.faults c1) outcome →
+      (c1 ≡ c0) × (c0 < 2 ^ 64 - 1) → EndsWell Means most before after (served_status outcome)
+  ends_well Means most c0 c1 outcome complete sc bytes a told is frames whole within few sf si so =
+      let same = same_counts before.input.faults before.output.faults c0 after.input.faults after.output.faults c1 si.0 so.0 sc.0 in
       elim (complete frames whole within few (record { same = same; input = si.1; output = so.1; clock = sc.1 })) [
         | inl ended ↦ inl (ap served_status ended)
         | inr want ↦ inr (ap served_status want)
       ]
 
-  not_caused : (status : ℕ) → status ≢ 3 → status ≢ 4 → status ≢ 5 → IsCaused before after status
-  not_caused status r w c = record { read = λ e. absurd (r e); write = λ e. absurd (w e); clock = λ e. absurd (c e) }
-
   serving_caused : (outcome : Outcome) → Causes outcome → IsCaused before after (served_status outcome)
   serving_caused ReadFault h = record { read = λ e. inr h.1; write = λ e. absurd (omega (arith, e)); clock = λ e. absurd (omega (arith, e)) }
   serving_caused WriteFault h = record { read = λ e. absurd (omega (arith, e)); write = λ e. h.1; clock = λ e. absurd (omega (arith, e)) }
   serving_caused ClockFault h = record { read = λ e. absurd (omega (arith, e)); write = λ e. absurd (omega (arith, e)); clock = λ e. h.1 }
-  serving_caused (End n) h = not_caused 0 (λ e. omega (arith, e)) (λ e. omega (arith, e)) (λ e. omega (arith, e))
-  serving_caused (Truncated n) h = not_caused 7 (λ e. omega (arith, e)) (λ e. omega (arith, e)) (λ e. omega (arith, e))
-  serving_caused (TooLong n) h = not_caused 8 (λ e. omega (arith, e)) (λ e. omega (arith, e)) (λ e. omega (arith, e))
-  serving_caused (Spent n) h = not_caused 10 (λ e. omega (arith, e)) (λ e. omega (arith, e)) (λ e. omega (arith, e))
-  serving_caused NoMemory h = not_caused 6 (λ e. omega (arith, e)) (λ e. omega (arith, e)) (λ e. omega (arith, e))
+  serving_caused (End n) h = not_caused before after 0 (λ e. omega (arith, e)) (λ e. omega (arith, e)) (λ e. omega (arith, e))
+  serving_caused (Truncated n) h = not_caused before after 7 (λ e. omega (arith, e)) (λ e. omega (arith, e)) (λ e. omega (arith, e))
+  serving_caused (TooLong n) h = not_caused before after 8 (λ e. omega (arith, e)) (λ e. omega (arith, e)) (λ e. omega (arith, e))
+  serving_caused (Spent n) h = not_caused before after 10 (λ e. omega (arith, e)) (λ e. omega (arith, e)) (λ e. omega (arith, e))
+  serving_caused NoMemory h = not_caused before after 6 (λ e. omega (arith, e)) (λ e. omega (arith, e)) (λ e. omega (arith, e))
 
   all_still : (status : ℕ) → after.file.faults ≡ before.file.faults → after.input.faults ≡ before.input.faults → after.output.faults ≡ before.output.faults → after.clock.faults ≡ before.clock.faults →
       TellsFaults before after status
@@ -225,24 +253,63 @@ not_two ClockFault = λ e. omega (arith, e)
 not_two (Spent n) = λ e. omega (arith, e)
 not_two NoMemory = λ e. omega (arith, e)
 
-pub served : (words : List (String Global)) (frames : ℕ) (before after : Touched) (o : Opening) (outcome : Outcome) → Mean words (Run frames) → OpensNode before.file after.file o →
-    after.file.faults ≡ before.file.faults → IsComplete frames before.input.told (counts_of before) (counts_of after) outcome →
-    Causes before after outcome → IsStatus words before after (served_status outcome)
-served words frames before after o outcome run opens same complete h = record {
-  usage = record { usage = λ e. absurd (not_one outcome e); no_command = λ none. absurd (none (Run frames, run)) };
-  file = λ _. decided_opened before.file after.file o (served_status outcome) opens (not_two outcome);
-  complete = λ most is. ends_well before after most outcome (subst (λ n. IsComplete n before.input.told (counts_of before) (counts_of after) outcome) (same_limit words frames most run is) complete);
-  checks_well = λ check. absurd (one_command words frames run check);
-  causes = serving_caused before after outcome h;
-  told = serving_told before after outcome same h;
-}
+-- the causes of a service without a clock are those with a clock that stood still
+clockless : (i o i1 o1 c c1 : ℕ) (outcome : Outcome) → HasCauses (counts i o 0) (counts i1 o1 0) outcome → outcome ≢ ClockFault → c1 ≡ c → HasCauses (counts i o c) (counts i1 o1 c1) outcome
+clockless i o i1 o1 c c1 ReadFault h other same = (h.0, h.1, h.2, same)
+clockless i o i1 o1 c c1 WriteFault h other same = (h.0, h.1, h.2, same)
+clockless i o i1 o1 c c1 ClockFault h other same = absurd (other refl)
+clockless i o i1 o1 c c1 (End n) h other same = same_counts i o c i1 o1 c1 (ap (λ (f : FaultCounts). f.input) h) (ap (λ (f : FaultCounts). f.output) h) same
+clockless i o i1 o1 c c1 (Truncated n) h other same = same_counts i o c i1 o1 c1 (ap (λ (f : FaultCounts). f.input) h) (ap (λ (f : FaultCounts). f.output) h) same
+clockless i o i1 o1 c c1 (TooLong n) h other same = same_counts i o c i1 o1 c1 (ap (λ (f : FaultCounts). f.input) h) (ap (λ (f : FaultCounts). f.output) h) same
+clockless i o i1 o1 c c1 (Spent n) h other same = same_counts i o c i1 o1 c1 (ap (λ (f : FaultCounts). f.input) h) (ap (λ (f : FaultCounts). f.output) h) same
+clockless i o i1 o1 c c1 NoMemory h other same = same_counts i o c i1 o1 c1 (ap (λ (f : FaultCounts). f.input) h) (ap (λ (f : FaultCounts). f.output) h) same
+
+module _ (words : List (String Global)) (frames : ℕ) (before after : Touched) (outcome : Outcome) (same : after.file.faults ≡ before.file.faults) where
+  pub served : (o : Opening) → Mean words (Run frames) → OpensNode before.file after.file o → IsComplete frames before.input.told (counts_of before) (counts_of after) outcome →
+      Causes before after outcome → IsStatus words before after (served_status outcome)
+  served o run opens complete h = record {
+    usage = record { usage = λ e. absurd (not_one outcome e); no_command = λ none. absurd (none (Run frames, run)) };
+    file = λ other is. of_command (λ w. FileDecidesFor w before.file after.file (served_status outcome)) words (Run frames) other run is
+        (decided_opened IsNodeFile node_means node_files before.file after.file o (served_status outcome) opens (not_two outcome));
+    complete = λ most is clock. ends_well before after IsNodeFile most before.clock.faults after.clock.faults outcome
+        (complete_for most is complete) clock;
+    checks_well = λ check. two_commands words (Run frames) Check run check (λ e. cc e);
+    relays_well = λ most is. two_commands words (Run frames) (Relay most) run is (λ e. cc e);
+    causes = serving_caused before after outcome h;
+    told = serving_told before after outcome same h;
+  }
+    where
+      complete_for : (most : ℕ) → Mean words (Run most) → IsComplete frames before.input.told (counts_of before) (counts_of after) outcome → IsComplete most before.input.told (counts_of before) (counts_of after) outcome
+      complete_for most is c = of_command (λ w. IsComplete (frames_in w) before.input.told (counts_of before) (counts_of after) outcome) words (Run frames) (Run most) run is c
+
+  pub relayed : (r : RelayFile) → Mean words (Relay frames) → OpensRelay before.file after.file r →
+      IsComplete frames before.input.told (counts before.input.faults before.output.faults 0) (counts after.input.faults after.output.faults 0) outcome →
+      HasCauses (counts before.input.faults before.output.faults 0) (counts after.input.faults after.output.faults 0) outcome → outcome ≢ ClockFault → after.clock.faults ≡ before.clock.faults →
+      IsStatus words before after (served_status outcome)
+  relayed r relay opens complete h no_clock clock =
+      let causes = clockless before.input.faults before.output.faults after.input.faults after.output.faults before.clock.faults after.clock.faults outcome h no_clock clock in
+      record {
+        usage = record { usage = λ e. absurd (not_one outcome e); no_command = λ none. absurd (none (Relay frames, relay)) };
+        file = λ other is. of_command (λ w. FileDecidesFor w before.file after.file (served_status outcome)) words (Relay frames) other relay is
+            (decided_opened IsRelayFile relay_means relay_files before.file after.file r (served_status outcome) opens (not_two outcome));
+        complete = λ most is. two_commands words (Relay frames) (Run most) relay is (λ e. cc e);
+        checks_well = λ check. two_commands words (Relay frames) Check relay check (λ e. cc e);
+        relays_well = λ most is. ends_well before after IsRelayFile most 0 0 outcome (complete_for most is complete) (refl, omega arith);
+        causes = serving_caused before after outcome causes;
+        told = serving_told before after outcome same causes;
+      }
+    where
+      complete_for : (most : ℕ) → Mean words (Relay most) → IsComplete frames before.input.told (counts before.input.faults before.output.faults 0) (counts after.input.faults after.output.faults 0) outcome →
+          IsComplete most before.input.told (counts before.input.faults before.output.faults 0) (counts after.input.faults after.output.faults 0) outcome
+      complete_for most is c =
+          of_command (λ w. IsComplete (frames_in w) before.input.told (counts before.input.faults before.output.faults 0) (counts after.input.faults after.output.faults 0) outcome) words (Relay frames) (Relay most) relay is c
 
 -- ---- a request and its reply that were looked over
 
 module _ (before after : Touched) where
   check_caused : (end : CheckEnd) → CheckCauses before.input.faults after.input.faults before.output.faults after.output.faults end → IsCaused before after (checked_status end)
   check_caused (ends.Done (Granted e l c)) h = not_caused before after 0 (λ e. omega (arith, e)) (λ e. omega (arith, e)) (λ e. omega (arith, e))
-  check_caused (ends.Done (Refused w)) h = not_caused before after 11 (λ e. omega (arith, e)) (λ e. omega (arith, e)) (λ e. omega (arith, e))
+  check_caused (ends.Done (Wrong w)) h = not_caused before after 11 (λ e. omega (arith, e)) (λ e. omega (arith, e)) (λ e. omega (arith, e))
   check_caused ends.ReadFault h = record { read = λ e. inr h.1; write = λ e. absurd (omega (arith, e)); clock = λ e. absurd (omega (arith, e)) }
   check_caused ends.WriteFault h = record { read = λ e. absurd (omega (arith, e)); write = λ e. h.2; clock = λ e. absurd (omega (arith, e)) }
   check_caused ends.NoMemory h = not_caused before after 6 (λ e. omega (arith, e)) (λ e. omega (arith, e)) (λ e. omega (arith, e))
@@ -266,21 +333,21 @@ module _ (before after : Touched) where
 
   check_well : (end : CheckEnd) → CheckCauses before.input.faults after.input.faults before.output.faults after.output.faults end → ChecksWell before after (checked_status end)
   check_well (ends.Done (Granted e l c)) h bytes o told is sf si so = inl refl
-  check_well (ends.Done (Refused w)) h bytes o told is sf si so = inr (inl refl)
+  check_well (ends.Done (Wrong w)) h bytes o told is sf si so = inr (inl refl)
   check_well ends.ReadFault h bytes o told is sf si so = absurd (still before.input.faults after.input.faults si h.1)
   check_well ends.WriteFault h bytes o told is sf si so = absurd (still before.output.faults after.output.faults so h.2)
   check_well ends.NoMemory h bytes o told is sf si so = inr (inr refl)
 
 not_one_check : (end : CheckEnd) → checked_status end ≢ 1
 not_one_check (ends.Done (Granted e l c)) = λ e. omega (arith, e)
-not_one_check (ends.Done (Refused w)) = λ e. omega (arith, e)
+not_one_check (ends.Done (Wrong w)) = λ e. omega (arith, e)
 not_one_check ends.ReadFault = λ e. omega (arith, e)
 not_one_check ends.WriteFault = λ e. omega (arith, e)
 not_one_check ends.NoMemory = λ e. omega (arith, e)
 
 not_two_check : (end : CheckEnd) → checked_status end ≢ 2
 not_two_check (ends.Done (Granted e l c)) = λ e. omega (arith, e)
-not_two_check (ends.Done (Refused w)) = λ e. omega (arith, e)
+not_two_check (ends.Done (Wrong w)) = λ e. omega (arith, e)
 not_two_check ends.ReadFault = λ e. omega (arith, e)
 not_two_check ends.WriteFault = λ e. omega (arith, e)
 not_two_check ends.NoMemory = λ e. omega (arith, e)
@@ -290,9 +357,11 @@ pub checked : (words : List (String Global)) (before after : Touched) (o : Openi
     IsStatus words before after (checked_status end)
 checked words before after o end check opens same clock h = record {
   usage = record { usage = λ e. absurd (not_one_check end e); no_command = λ none. absurd (none (Check, check)) };
-  file = λ _. decided_opened before.file after.file o (checked_status end) opens (not_two_check end);
-  complete = λ frames run. absurd (one_command words frames run check);
+  file = λ other is. of_command (λ w. FileDecidesFor w before.file after.file (checked_status end)) words Check other check is
+      (decided_opened IsNodeFile node_means node_files before.file after.file o (checked_status end) opens (not_two_check end));
+  complete = λ frames run. two_commands words Check (Run frames) check run (λ e. cc e);
   checks_well = λ _. check_well before after end h;
+  relays_well = λ frames relay. two_commands words Check (Relay frames) check relay (λ e. cc e);
   causes = check_caused before after end h;
   told = check_told before after end same clock h;
 }

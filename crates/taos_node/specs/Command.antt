@@ -1,28 +1,26 @@
 -- The top call: the words, the file, and then the work.
-use Rattle.std.specs.Prelude.{◌≡◌, ◌≢◌, ◌⊎◌, ℕ, true, ◌-◌, ◌^◌, ◌<◌, ◌≤◌, List, [], ◌∷◌, length, All, Option, Some, None, Result, Ok, Err, String}
-use Rattle.std.specs.Io.KnownBytes.{Keeps, Consumes, IsAtEnd}
+use Rattle.std.specs.Prelude.{◌≡◌, ◌⊎◌, ℕ, true, ◌<◌, ◌≤◌, List, [], ◌∷◌, length, All, Option, Some, None, String}
+use Rattle.std.specs.Io.KnownBytes.{Keeps}
 use Rattle.std.specs.declared.alloc.Global.{Global}
 use Rattle.frame_link.specs.declared.outcome.Outcome.{Outcome}
 use Rattle.frame_link.specs.Frames.{framed}
-use Rattle.frame_link.specs.Served.{Line, line, FaultCounts, counts}
+use Rattle.frame_link.specs.Served.{Line, line, FaultCounts, counts, IsServed}
 use Rattle.frame_link.specs.Streams.{Stream, stream}
-use Rattle.frame_link.specs.Faults.{Rose}
 use Rattle.taos_node.specs.declared.ending.FileFault.{FileFault}
-use Rattle.taos_node.specs.declared.ending.FileFault.TheVariants as fault
-use Rattle.taos_node.specs.declared.ending.FileFault.TheVariants.{Malformed, TooLarge}
 use Rattle.taos_node.specs.declared.ending.Ending.{Ending}
 use Rattle.taos_node.specs.declared.ending.Ending.TheVariants as ending
-use Rattle.taos_node.specs.declared.ending.Ending.TheVariants.{Usage, File, Served, Checked}
-use Rattle.taos_node.specs.declared.wanted.Wanted.{Wanted}
-use Rattle.taos_node.specs.declared.wanted.Wanted.TheVariants.{Run, Check}
-use Rattle.taos_node.specs.Words.{Mean}
+use Rattle.taos_node.specs.declared.ending.Ending.TheVariants.{Usage, File, Served, Checked, Relayed}
+use Rattle.taos_node.specs.Files.{IsNodeFile, IsRelayFile, OpensNode, OpensRelay, FileFails, FileDecides, HasFailed, IsSteady, node_means, relay_means}
+use Rattle.taos_node.specs.Words.{Mean, Task, Run, Check, Relay}
 use Rattle.taos_node.specs.declared.check.CheckEnd.{CheckEnd}
 use Rattle.taos_node.specs.Ending.{status_of}
 use Rattle.taos_node.specs.Notes.{note_of, IsNoted}
 use Rattle.taos_node.specs.declared.command.Lane.{Lane}
-use Rattle.node_file.specs.declared.fault.FileFault.TheVariants.{Byte}
-use Rattle.node_file.specs.OpeningReading.{opening_in}
-use Rattle.node_file.specs.Opening.{Opening, Spells}
+use Rattle.node_file.specs.Opening.{Opening}
+use Rattle.node_file.specs.Held.{HoldsKeys}
+use Rattle.node_file.specs.RelayFile.{RelayFile}
+use Rattle.relay_core.specs.declared.resealing.RelayTable.{RelayTable}
+use Rattle.relay_core.specs.Serving.{Answers, GivesUp}
 use Rattle.frame_link.specs.Relay.{Said}
 use Rattle.taos_monitor.specs.Cells.{Node, Seen}
 use Rattle.taos_monitor.specs.declared.connection.TheConstants.{MAX_REQUEST}
@@ -33,15 +31,7 @@ use Rattle.taos_node.specs.Findings.{Checks}
 
 -- the words are a command line
 abbrev pub IsCommand : List (String Global) → Type 0
-IsCommand words = (wanted : Wanted) × Mean words wanted
-
--- the most bytes of a file
-abbrev pub max_file : ℕ
-max_file = 4194304
-
--- the file's bytes spell the opening, and are not too many
-abbrev pub IsOpeningFile : Opening → List ℕ → Type 0
-IsOpeningFile o bytes = Spells o bytes × (length bytes ≤ max_file)
+IsCommand words = (task : Task) × Mean words task
 
 -- ---- what a call touches
 
@@ -78,62 +68,6 @@ abbrev pub first_link : {C R D I O : Type 0} → (R → Option (ℕ → List ℕ
     List (Lane C R D I O) → Link
 first_link says faults [] = link None 0
 first_link says faults (lane ∷ lanes) = link (says lane.relay) (faults lane.relay)
-
--- it did not fail in between, and its count does not stand at the largest u64
-abbrev pub IsSteady : Stream → Stream → Type 0
-IsSteady s0 s1 = (s1.faults ≡ s0.faults) × (s0.faults < 2 ^ 64 - 1)
-
--- its count of faults rose in between, or stands at the largest u64
-abbrev pub HasFailed : Stream → Stream → Type 0
-HasFailed s0 s1 = Rose s0.faults s1.faults
-
--- ---- the file
-
--- the file was read to its end, and opens the node
-pub record OpensNode (file0 file1 : Stream) (o : Opening) : Type 0 where
-  pub bytes : List ℕ
-  pub read : Consumes file0.told file1.told bytes
-  pub at_end : IsAtEnd file1.told
-  pub is_opening : IsOpeningFile o bytes
-
--- the file was read to its end, and its first byte that can't stand where it does is at the offset
-pub record IsMalformed (file0 file1 : Stream) (offset : ℕ) : Type 0 where
-  pub bytes : List ℕ
-  pub read : Consumes file0.told file1.told bytes
-  pub at_end : IsAtEnd file1.told
-  pub short : length bytes ≤ max_file
-  pub fault : opening_in bytes ≡ Err (Byte offset)
-
--- one byte more than the most was read
-pub record IsTooLarge (file0 file1 : Stream) : Type 0 where
-  pub bytes : List ℕ
-  pub read : Consumes file0.told file1.told bytes
-  pub large : max_file < length bytes
-
--- why a file is not served
-abbrev pub FileFails : Stream → Stream → FileFault → Type 0
-FileFails file0 file1 (Malformed offset) = IsMalformed file0 file1 offset
-FileFails file0 file1 TooLarge = IsTooLarge file0 file1
-FileFails file0 file1 fault.ReadFault = Unit {0}
-FileFails file0 file1 fault.NoMemory = Unit {0}
-
--- what comes of a file: what stands for the opening that it spells, or why there is none
-abbrev pub FileGives : {A : Type 0} → (Opening → A → Type 0) → Stream → Stream →
-    Result A FileFault → Type 0
-FileGives {A} StandsFor file0 file1 (Ok x) = (o : Opening) × OpensNode file0 file1 o × StandsFor o x
-FileGives {A} StandsFor file0 file1 (Err fault) = FileFails file0 file1 fault
-
--- the file's count of faults rose where a fault of reading is answered, and else stayed
-abbrev pub FaultHasCause : Stream → Stream → FileFault → Type 0
-FaultHasCause file0 file1 (Malformed offset) = file1.faults ≡ file0.faults
-FaultHasCause file0 file1 TooLarge = file1.faults ≡ file0.faults
-FaultHasCause file0 file1 fault.ReadFault = (file0.faults ≤ file1.faults) × HasFailed file0 file1
-FaultHasCause file0 file1 fault.NoMemory = file1.faults ≡ file0.faults
-
--- the same of what comes of a file
-abbrev pub FileHasCause : {A : Type 0} → Stream → Stream → Result A FileFault → Type 0
-FileHasCause {A} file0 file1 (Ok x) = file1.faults ≡ file0.faults
-FileHasCause {A} file0 file1 (Err fault) = FaultHasCause file0 file1 fault
 
 -- ---- what is done
 
@@ -176,21 +110,46 @@ pub record LooksOver (before after : Touched) (end : CheckEnd) : Type 0 where
       after.output.told end
   pub lane : UsesNoLane before after
 
+-- the relay has the keys of the file
+pub record IsRelayOf (r : RelayFile) (table : RelayTable) : Type 0 where
+  pub issuers : HoldsKeys table.issuers r.issuers
+  pub nodes : HoldsKeys table.nodes r.nodes
+
+-- a relay of the file serves the connection, of at most so many frames
+pub record ServesRelay (r : RelayFile) (frames : ℕ) (before after : Touched)
+    (outcome : Outcome) : Type 0 where
+  pub table : RelayTable
+  pub is_relay : IsRelayOf r table
+  pub served : IsServed Answers GivesUp frames
+      (line before.input.told before.output.told table)
+      (line after.input.told after.output.told table) outcome
+  pub lane : UsesNoLane before after
+
+-- the file that the command wants is refused by the fault
+abbrev pub FileFailsFor : Task → Stream → Stream → FileFault → Type 0
+FileFailsFor (Run frames) = FileFails node_means
+FileFailsFor Check = FileFails node_means
+FileFailsFor (Relay frames) = FileFails relay_means
+
 -- What is done, by how it ends. Other words do nothing, nor is anything done where memory is refused
--- before the words are read. A file that is malformed or too large, or
--- fails, and one for which memory is refused, leaves the rest untouched; every other opens a node
--- that serves the connection, or by which a request and its reply are looked over.
+-- before the words are read. A file that is refused, or fails, and one for which memory is refused,
+-- leaves the rest untouched; every other opens a node that serves the connection, or by which a
+-- request and its reply are looked over, or a relay that serves it.
 abbrev pub Runs : List (String Global) → Touched → Touched → Ending → Type 0
 Runs words before after Usage =
     (IsCommand words → ⊥) × Keeps before.file.told after.file.told × LeavesRest before after
 Runs words before after ending.NoMemory =
     Keeps before.file.told after.file.told × LeavesRest before after
 Runs words before after (File fault) =
-    IsCommand words × FileFails before.file after.file fault × LeavesRest before after
+    ((task : Task) × Mean words task × FileFailsFor task before.file after.file fault)
+    × LeavesRest before after
 Runs words before after (Served outcome) =
     (frames : ℕ) × Mean words (Run frames) ×
     ((o : Opening) × OpensNode before.file after.file o × ServesConnection o frames before after outcome)
 Runs words before after (Checked end) = Mean words Check × LooksOver before after end
+Runs words before after (Relayed outcome) =
+    (frames : ℕ) × Mean words (Relay frames) ×
+    ((r : RelayFile) × OpensRelay before.file after.file r × ServesRelay r frames before after outcome)
 
 -- How it ended, with what was done: the status and the note tell that ending.
 pub record Ends (words : List (String Global)) (before after : Touched) (notes0 notes1 : Stream)
@@ -202,31 +161,27 @@ pub record Ends (words : List (String Global)) (before after : Touched) (notes0 
 
 -- ---- what the status tells
 
--- Which files are refused: one that opens no node is, and every other is not, unless its count
--- rises or memory is refused.
-pub record FileDecides (file0 file1 : Stream) (status : ℕ) : Type 0 where
-  pub opens : (bytes : List ℕ) (o : Opening) → file0.told ≡ Some bytes → IsOpeningFile o bytes →
-      status ≢ 2
-  pub refuses : (bytes : List ℕ) → file0.told ≡ Some bytes →
-      ((o : Opening) → IsOpeningFile o bytes → ⊥) → IsSteady file0 file1 →
-      (status ≡ 2) ⊎ (status ≡ 6)
+-- which files are refused, by the file that the command wants
+abbrev pub FileDecidesFor : Task → Stream → Stream → ℕ → Type 0
+FileDecidesFor (Run frames) = FileDecides IsNodeFile
+FileDecidesFor Check = FileDecides IsNodeFile
+FileDecidesFor (Relay frames) = FileDecides IsRelayFile
 
--- An input of whole frames is answered to its end: where the file opens a node, the frames are not
--- more than may be answered, and nothing fails, the status is 0, or 6 where memory was refused.
-abbrev pub EndsWell : ℕ → Touched → Touched → ℕ → Type 0
-EndsWell most before after status =
-    (bytes : List ℕ) (o : Opening) → before.file.told ≡ Some bytes → IsOpeningFile o bytes →
+-- An input of whole frames is answered to its end: where the file means something, the frames are
+-- not more than may be answered, and nothing fails, the status is 0, or 6 where memory was refused.
+abbrev pub EndsWell : {A : Type 0} → (A → List ℕ → Type 0) → ℕ → Touched → Touched → ℕ → Type 0
+EndsWell {A} Means most before after status =
+    (bytes : List ℕ) (a : A) → before.file.told ≡ Some bytes → Means a bytes →
     (frames : List (List ℕ)) → before.input.told ≡ Some (framed frames) →
     All (λ p. length p ≤ MAX_REQUEST) frames → length frames ≤ most →
     IsSteady before.file after.file → IsSteady before.input after.input →
-    IsSteady before.output after.output → IsSteady before.clock after.clock →
-    (status ≡ 0) ⊎ (status ≡ 6)
+    IsSteady before.output after.output → (status ≡ 0) ⊎ (status ≡ 6)
 
 -- A check comes to its end: where the file opens a node and nothing fails, it finds something, or
 -- memory was refused.
 abbrev pub ChecksWell : Touched → Touched → ℕ → Type 0
 ChecksWell before after status =
-    (bytes : List ℕ) (o : Opening) → before.file.told ≡ Some bytes → IsOpeningFile o bytes →
+    (bytes : List ℕ) (o : Opening) → before.file.told ≡ Some bytes → IsNodeFile o bytes →
     IsSteady before.file after.file → IsSteady before.input after.input →
     IsSteady before.output after.output → (status ≡ 0) ⊎ ((status ≡ 11) ⊎ (status ≡ 6))
 
@@ -253,8 +208,12 @@ pub record WordsDecide (words : List (String Global)) (status : ℕ) : Type 0 wh
 pub record IsStatus (words : List (String Global)) (before after : Touched)
     (status : ℕ) : Type 0 where
   pub usage : WordsDecide words status
-  pub file : IsCommand words → FileDecides before.file after.file status
-  pub complete : (frames : ℕ) → Mean words (Run frames) → EndsWell frames before after status
+  pub file : (task : Task) → Mean words task →
+      FileDecidesFor task before.file after.file status
+  pub complete : (frames : ℕ) → Mean words (Run frames) → IsSteady before.clock after.clock →
+      EndsWell IsNodeFile frames before after status
   pub checks_well : Mean words Check → ChecksWell before after status
+  pub relays_well : (frames : ℕ) → Mean words (Relay frames) →
+      EndsWell IsRelayFile frames before after status
   pub causes : IsCaused before after status
   pub told : TellsFaults before after status

@@ -4,18 +4,18 @@ use Rattle.frame_link.specs.declared.outcome.Outcome.{Outcome}
 use Rattle.frame_link.specs.declared.outcome.Outcome.TheVariants.{End, Truncated, TooLong, ReadFault, WriteFault, ClockFault, Spent, NoMemory}
 use Rattle.taos_node.specs.declared.ending.FileFault.{FileFault}
 use Rattle.taos_node.specs.declared.ending.FileFault.TheVariants as fault
-use Rattle.taos_node.specs.declared.ending.FileFault.TheVariants.{Malformed, TooLarge}
+use Rattle.taos_node.specs.declared.ending.FileFault.TheVariants.{Malformed, Refused}
 use Rattle.taos_node.specs.declared.ending.Ending.{Ending}
 use Rattle.taos_node.specs.declared.ending.Ending.TheVariants as ending
-use Rattle.taos_node.specs.declared.ending.Ending.TheVariants.{Usage, File, Served, Checked}
+use Rattle.taos_node.specs.declared.ending.Ending.TheVariants.{Usage, File, Served, Checked, Relayed}
 use Rattle.taos_node.specs.declared.check.CheckEnd.{CheckEnd}
 use Rattle.taos_node.specs.declared.check.CheckEnd.TheVariants as ends
 use Rattle.taos_node.specs.Findings.{finding_status}
 
 -- the exit status where the file is not served
 abbrev pub file_status : FileFault → ℕ
+file_status (Refused line cause) = 2
 file_status (Malformed offset) = 2
-file_status TooLarge = 2
 file_status fault.ReadFault = 3
 file_status fault.NoMemory = 6
 
@@ -44,3 +44,4 @@ status_of ending.NoMemory = 6
 status_of (File fault) = file_status fault
 status_of (Served outcome) = served_status outcome
 status_of (Checked end) = checked_status end
+status_of (Relayed outcome) = served_status outcome

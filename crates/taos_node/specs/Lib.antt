@@ -4,6 +4,7 @@ pub mod Ending
 pub mod Notes
 pub mod Words
 pub mod Table
+pub mod Files
 pub mod Command
 pub mod Checking
 pub mod Findings

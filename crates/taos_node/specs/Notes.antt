@@ -4,20 +4,41 @@ use Rattle.std.specs.Io.KnownBytes.{Appends}
 use Rattle.frame_link.specs.declared.outcome.Outcome.{Outcome}
 use Rattle.frame_link.specs.declared.outcome.Outcome.TheVariants.{End, Truncated, TooLong, ReadFault, WriteFault, ClockFault, Spent, NoMemory}
 use Rattle.frame_link.specs.Faults.{Rose}
+use Rattle.node_file.specs.declared.fault.FileCause.{FileCause}
+use Rattle.node_file.specs.declared.fault.FileCause.TheVariants.{FirstLine, UnknownWord, Words, Number, Hex, Rights, NodeFirst, UnknownObject, UnknownName, Principal, Text, Certificate, Twice, Limit, NoNode}
 use Rattle.taos_node.specs.declared.ending.FileFault.{FileFault}
 use Rattle.taos_node.specs.declared.ending.FileFault.TheVariants as fault
-use Rattle.taos_node.specs.declared.ending.FileFault.TheVariants.{Malformed, TooLarge}
+use Rattle.taos_node.specs.declared.ending.FileFault.TheVariants.{Malformed, Refused}
 use Rattle.taos_node.specs.declared.ending.Ending.{Ending}
 use Rattle.taos_node.specs.declared.ending.Ending.TheVariants as ending
-use Rattle.taos_node.specs.declared.ending.Ending.TheVariants.{Usage, File, Served, Checked}
+use Rattle.taos_node.specs.declared.ending.Ending.TheVariants.{Usage, File, Served, Checked, Relayed}
 use Rattle.taos_node.specs.declared.check.CheckEnd.{CheckEnd}
 use Rattle.taos_node.specs.declared.check.CheckEnd.TheVariants as ends
 
+-- a cause, as notes name it
+abbrev pub cause_text : FileCause → List ℕ
+cause_text FirstLine = codes "first line"
+cause_text UnknownWord = codes "unknown word"
+cause_text Words = codes "words"
+cause_text Number = codes "number"
+cause_text Hex = codes "hex"
+cause_text Rights = codes "rights"
+cause_text NodeFirst = codes "node first"
+cause_text UnknownObject = codes "unknown object"
+cause_text UnknownName = codes "unknown name"
+cause_text Principal = codes "principal"
+cause_text Text = codes "text"
+cause_text Certificate = codes "certificate"
+cause_text Twice = codes "twice"
+cause_text Limit = codes "limit"
+cause_text NoNode = codes "no node"
+
 -- the note where the file is not served
 abbrev pub file_note : FileFault → List ℕ
+file_note (Refused line cause) = codes "taos: node file: line " ++ decimal line ++ codes ": "
+    ++ cause_text cause ++ codes "\n"
 file_note (Malformed offset) = codes "taos: node file: byte " ++ decimal offset
     ++ codes ": malformed\n"
-file_note TooLarge = codes "taos: node file: line 0: limit\n"
 file_note fault.ReadFault = codes "taos: read fault\n"
 file_note fault.NoMemory = codes "taos: no memory\n"
 
@@ -47,6 +68,7 @@ note_of ending.NoMemory = codes "taos: no memory\n"
 note_of (File fault) = file_note fault
 note_of (Served outcome) = served_note outcome
 note_of (Checked end) = checked_note end
+note_of (Relayed outcome) = served_note outcome
 
 -- the note was written, or a proper front of it where the notes failed; what was told of the notes,
 -- and how often they had failed, before and after

@@ -1,9 +1,8 @@
 -- The node that an opening opens.
 use Rattle.std.specs.Prelude.{◌≡◌, ℕ, List, [], length, map}
 use Rattle.std.specs.List.Sorted.{IsStrictlyIncreasing}
-use Rattle.std.specs.Option.{option_map}
 use Rattle.keyed_seal.specs.Keys.{Entries, key_of}
-use Rattle.object_core.specs.Objects.{object_of, ObjectPlan}
+use Rattle.object_core.specs.Objects.{object_of}
 use Rattle.node_file.specs.Opening.{Opening}
 use Rattle.agent_core.specs.Alone.{plans_in, seen_in, own_in}
 use Rattle.agent_core.specs.Opened.{plans_for}

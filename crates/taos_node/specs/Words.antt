@@ -2,11 +2,26 @@
 use Rattle.std.specs.Prelude.{◌≡◌, ◌≢◌, ℕ, ◌^◌, ◌<◌, ◌≤◌, Bool, if◌then◌else◌, List, [], ◌∷◌, ◌++◌, map, flat_map, All, Contains, Option, Some, None, option_map, find, codes, decimal, string_bytes, String, bytes_eq}
 use Rattle.std.specs.declared.alloc.Global.{Global}
 use Rattle.taos_node.specs.declared.wanted.Wanted.{Wanted}
-use Rattle.taos_node.specs.declared.wanted.Wanted.TheVariants.{Run, Check}
+use Rattle.taos_node.specs.declared.wanted.Wanted.TheVariants as wanted
 use Rattle.taos_node.specs.declared.wanted.TheConstants.{MAX_FRAMES}
 
 abbrev pub Text : Type 0
 Text = List ℕ
+
+-- what a command line asks for
+pub data Task : Type 0 where
+  -- to serve a connection, of at most so many frames
+  Run : ℕ → Task
+  -- to look over a request and its reply
+  Check : Task
+  -- to serve a connection as a relay, of at most so many frames
+  Relay : ℕ → Task
+
+-- the task that the program has
+abbrev pub task_of : Wanted → Task
+task_of (wanted.Run frames) = Run frames
+task_of wanted.Check = Check
+task_of (wanted.Relay frames) = Relay frames
 
 -- an option that is given with its value, both in one word or in two
 pub record Given : Type 0 where
@@ -50,16 +65,27 @@ abbrev pub AreFrames : Option Text → ℕ → Type 0
 AreFrames None n = n ≡ MAX_FRAMES
 AreFrames (Some text) n = IsCount text n
 
--- the words of a command line, each by its bytes, mean the command
-abbrev pub TextsMean : List Text → Wanted → Type 0
-TextsMean words (Run frames) = (given : List Given) × IsLine words (codes "run") (codes "frames" ∷ []) given × AreFrames (value_of (codes "frames") given) frames
+-- the options of a command that serves
+abbrev pub serving_options : List Text
+serving_options = codes "frames" ∷ []
+
+-- the words are this command, which serves at most so many frames
+abbrev pub ServeFrames : List Text → Text → ℕ → Type 0
+ServeFrames words command frames =
+    (given : List Given) × IsLine words command serving_options given
+    × AreFrames (value_of (codes "frames") given) frames
+
+-- the words of a command line, each by its bytes, mean the task
+abbrev pub TextsMean : List Text → Task → Type 0
+TextsMean words (Run frames) = ServeFrames words (codes "run") frames
+TextsMean words (Relay frames) = ServeFrames words (codes "relay") frames
 TextsMean words Check = (given : List Given) × IsLine words (codes "check") [] given
 
--- the words mean the command
-abbrev pub Mean : List (String Global) → Wanted → Type 0
-Mean words wanted = TextsMean (map string_bytes words) wanted
+-- the words mean the task
+abbrev pub Mean : List (String Global) → Task → Type 0
+Mean words task = TextsMean (map string_bytes words) task
 
 -- what was found is what the words mean, and nothing is found where they mean nothing
 abbrev pub IsMeaning : List (String Global) → Option Wanted → Type 0
-IsMeaning words (Some wanted) = Mean words wanted
-IsMeaning words None = (wanted : Wanted) → Mean words wanted → ⊥
+IsMeaning words (Some wanted) = Mean words (task_of wanted)
+IsMeaning words None = (task : Task) → Mean words task → ⊥

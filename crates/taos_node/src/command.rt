@@ -4,25 +4,25 @@ ghost use Rattle.std.specs.Prelude.{◌≡◌, ◌⊎◌, ◌<◌, ◌≤◌, Li
 ghost use Rattle.std.specs.declared.alloc.Global.{Global};
 ghost use Rattle.agent_core.specs.Alone.{plans_in};
 ghost use Rattle.frame_link.specs.Served.{counts, HasCauses, IsComplete};
-ghost use Rattle.node_file.specs.Meaning.{opening, FitsByNumber};
 ghost use Rattle.node_file.specs.Opening.{Opening as Meaning};
-ghost use Rattle.node_file.specs.OpeningView.{Represents};
 ghost use Rattle.taos_monitor.specs.Planned.{ArePlanned};
 ghost use Rattle.taos_node.specs.Ending.{status_of};
 ghost use Rattle.frame_link.specs.Streams.{Stream, stream};
-ghost use Rattle.taos_node.specs.Command.{Link, touched, first_clock, first_link, Runs, Ends, IsStatus, FileGives, FileHasCause, ServesConnection};
+ghost use Rattle.taos_node.specs.Command.{Link, touched, first_clock, first_link, Runs, Ends, IsStatus, ServesConnection};
+ghost use Rattle.taos_node.specs.Files.{FileHasCause, NodeFileGives};
 ghost use Rattle.taos_node.specs.Opened.{IsOpenedBy};
-ghost use Rattle.taos_node.specs.Words.{Mean};
+ghost use Rattle.taos_node.specs.Words.{Check, Mean};
 
 use crate::check::check_connection;
 use crate::ending::{Ending, FileFault, status_of};
+use crate::file::file_opening;
 use crate::note::tell;
 use crate::opened::{OpenNode, open_node};
+use crate::relay::relay_by_file;
 use crate::wanted::Wanted;
 use crate::words::wanted_of;
-use frame_link::{Clock, Door, Outcome, RelayLink, Sink, Source, fill};
-use node_file::{FileFault as OpeningFault, Opening, read_opening};
-use std::alloc::{AllocError, Global};
+use frame_link::{Clock, Door, Outcome, RelayLink, Sink, Source};
+use std::alloc::Global;
 use std::sync::Wait;
 use std::thread::Threads;
 use taos_monitor::serve_connection;
@@ -57,43 +57,9 @@ impl<C: Clock, R: RelayLink, D: Door> Lane<C, R, D> {
     }
 }
 
-/// The most bytes of a node file.
-pub const MAX_FILE: usize = 4_194_304;
-
-fn zeros(alloc: Global, len: usize) -> Result<Vec<u8>, AllocError>
-    ensures { IfOk result (λ v. length v.items ≡ len) }
-{
-    vec![in alloc; 0; len]
-}
-
-// The opening that a file spells.
-fn file_opening<F: Source>(alloc: Global, file: &mut F) -> Result<Opening, FileFault>
-    ensures gives { FileGives (λ o x. Represents x o) (stream (F.left file.old) (F.faults file.old))
-        (stream (F.left file.new) (F.faults file.new)) result }
-    ensures fits { IfOk result (λ x. FitsByNumber (opening x)) }
-    ensures cause { FileHasCause (stream (F.left file.old) (F.faults file.old))
-        (stream (F.left file.new) (F.faults file.new)) result }
-{
-    let mut room = zeros(alloc, MAX_FILE + 1)?;
-    let Ok(len) = fill(file, &mut room) else {
-        return Err(FileFault::ReadFault);
-    };
-    if len > MAX_FILE {
-        return Err(FileFault::TooLarge);
-    }
-    match read_opening(alloc, &room[..len]) {
-        Ok(opening) => Ok(opening),
-        Err(OpeningFault::NoMemory) => Err(FileFault::NoMemory),
-        Err(OpeningFault::Byte { offset }) => Err(FileFault::Malformed {
-            offset: offset as usize,
-        }),
-        Err(OpeningFault::Line { .. }) => Err(FileFault::TooLarge),
-    }
-}
-
 // The node that it opens, with the room that decisions take.
 fn node_file_of<F: Source>(alloc: Global, file: &mut F) -> Result<(OpenNode, Saturator), FileFault>
-    ensures gives { FileGives (λ o x. IsOpenedBy o x.0)
+    ensures gives { NodeFileGives (λ o x. IsOpenedBy o x.0)
         (stream (F.left file.old) (F.faults file.old))
         (stream (F.left file.new) (F.faults file.new)) result }
     ensures planned { IfOk result (λ x. ArePlanned x.0.keys.channels.entries
@@ -165,7 +131,7 @@ fn check_file<F: Source, I: Source, O: Sink>(
 ) -> Ending
     // Whatever clock and link there are.
     ensures checks { (words : List (String Global)) (clock : Stream) (relay : Link)
-        → Mean words Wanted.Check
+        → Mean words Check
         → let before = touched (stream (F.left file.old) (F.faults file.old))
         (stream (I.left input.old) (I.faults input.old))
         (stream (O.written output.old) (O.faults output.old)) clock relay in
@@ -210,6 +176,7 @@ fn run<W: Wait + Sync, F: Source, I: Source, O: Sink, C: Clock, R: RelayLink, D:
     };
     match wanted {
         Wanted::Check => check_file(alloc, file, input, output),
+        Wanted::Relay { frames } => relay_by_file(alloc, file, input, output, frames),
         Wanted::Run { frames } => match node_file_of(alloc, file) {
             Ok(mut opened) => Ending::Served(serve(
                 rt,
@@ -226,11 +193,13 @@ fn run<W: Wait + Sync, F: Source, I: Source, O: Sink, C: Clock, R: RelayLink, D:
 }
 
 /// Does all that the program does, and answers its exit status. The command lines are `run` with
-/// `--frames N` or without, and `check`, and both read the file to a node's opening. By `run` each
-/// request frame of the input, of at most N or a million, is answered by one reply frame of the
-/// output, by a node of that opening whose journals are empty at first, with the first lane's clock
-/// and its link to the relay. By `check` the frames of a request and its reply are looked over, and
-/// one line of the output says what is found. A note tells how it ended.
+/// `--frames N` or without, `check`, and `relay` with `--frames N` or without. `run` and `check` read
+/// the file to a node's opening, `relay` to what a relay knows. By `run` each request frame of the
+/// input, of at most N or a million, is answered by one reply frame of the output, by a node of that
+/// opening whose journals are empty at first, with the first lane's clock and its link to the relay.
+/// By `check` the frames of a request and its reply are looked over, and one line of the output says
+/// what is found. By `relay` each frame of the input is answered by the relay's answer to a node. A
+/// note tells how it ended.
 pub fn taos<
     W: Threads + Wait + Sync,
     F: Source,
@@ -254,8 +223,8 @@ pub fn taos<
     requires few { length lanes.old ≤ 16 }
 
     // Every whole frame has its course in the journals of this connection alone, and the bytes that
-    // are written are the replies; or the line is written of what a request and its reply show. The
-    // note and the status tell how it ended.
+    // are written are the replies; or the line is written of what a request and its reply show; or a
+    // relay answers each frame. The note and the status tell how it ended.
     ensures run { let before = touched (stream (F.left file.old) (F.faults file.old))
         (stream (I.left input.old) (I.faults input.old))
         (stream (O.written output.old) (O.faults output.old))
@@ -271,7 +240,7 @@ pub fn taos<
     // Success has no note, nor what a check refused.
     ensures silent { (result ≡ 0) ⊎ (result ≡ 11) → notes.new ≡ notes.old }
 
-    // Neither command touches another lane than the first.
+    // No command touches another lane than the first.
     ensures others { drop 1 lanes.new ≡ drop 1 lanes.old }
 {
     let ending = run(rt, alloc, words, file, input, output, lanes);

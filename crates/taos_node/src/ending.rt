@@ -7,17 +7,19 @@ ghost use Rattle.taos_node.specs.Ending.{checked_status, file_status, served_sta
 use crate::check::CheckEnd;
 use crate::finding::finding_status;
 use frame_link::Outcome;
+use node_file::FileCause;
 use std::alloc::AllocError;
 
-/// Why a file opens no node that is served.
+/// Why a file opens no node and no relay that serves.
 #[derive(Clone, Copy, Debug, PartialEq, Eq)]
 pub enum FileFault {
     /// A read failed.
     ReadFault,
+    /// The line is refused for the cause: 0 is the whole file, and one more than there are what is
+    /// lacking behind the last.
+    Refused { line: u32, cause: FileCause },
     /// Its byte at the offset can't stand there, or is lacking.
     Malformed { offset: usize },
-    /// It has too many bytes.
-    TooLarge,
     /// Memory was refused, for the opening or for what it opens.
     NoMemory,
 }
@@ -43,6 +45,8 @@ pub enum Ending {
     Served(Outcome),
     /// A request and its reply were looked over.
     Checked(CheckEnd),
+    /// A connection to a relay was served.
+    Relayed(Outcome),
 }
 
 const USAGE: u8 = 1;
@@ -68,7 +72,7 @@ fn file_status(fault: FileFault) -> u8
 {
     match fault {
         FileFault::ReadFault => READ_FAULT,
-        FileFault::Malformed { .. } | FileFault::TooLarge => NODE_FILE,
+        FileFault::Refused { .. } | FileFault::Malformed { .. } => NODE_FILE,
         FileFault::NoMemory => MEMORY,
     }
 }
@@ -109,5 +113,6 @@ pub fn status_of(ending: Ending) -> u8
         Ending::File(fault) => file_status(fault),
         Ending::Served(outcome) => served_status(outcome),
         Ending::Checked(end) => checked_status(end),
+        Ending::Relayed(outcome) => served_status(outcome),
     }
 }

@@ -2,13 +2,14 @@
 
 ghost use Rattle.std.specs.Prelude.{◌≡◌, ◌⊎◌, ◌≤◌, ◌++◌, length, decimal};
 ghost use Rattle.taos_node.specs.Ending.{status_of};
-ghost use Rattle.taos_node.specs.Notes.{checked_note, file_note, served_note, note_of, IsNoted};
+ghost use Rattle.taos_node.specs.Notes.{cause_text, checked_note, file_note, served_note, note_of, IsNoted};
 
 use crate::check::CheckEnd;
 use crate::ending::{Ending, FileFault};
 use arrayvec::ArrayVec;
 use frame_link::{Outcome, Sink, pour};
 use itoa::Buffer;
+use node_file::FileCause;
 
 // A note has no more bytes than this.
 const ROOM: usize = 96;
@@ -26,7 +27,8 @@ fn plain(text: &[u8]) -> ArrayVec<u8, ROOM>
 fn numbered(front: &[u8], number: u64, back: &[u8]) -> ArrayVec<u8, ROOM>
     requires front { length front.now ≤ 40 }
     requires back { length back.now ≤ 16 }
-    ensures { result.items ≡ front.now ++ decimal number ++ back.now }
+    ensures text { result.items ≡ front.now ++ decimal number ++ back.now }
+    ensures short { length result.items ≤ 76 }
 {
     let mut digits = Buffer::new();
     let mut line = ArrayVec::new();
@@ -37,15 +39,48 @@ fn numbered(front: &[u8], number: u64, back: &[u8]) -> ArrayVec<u8, ROOM>
     line
 }
 
+fn cause_text(cause: FileCause) -> &'static [u8]
+    ensures text { result.now ≡ cause_text cause }
+    ensures short { length result.now ≤ 16 }
+{
+    match cause {
+        FileCause::FirstLine => b"first line",
+        FileCause::UnknownWord => b"unknown word",
+        FileCause::Words => b"words",
+        FileCause::Number => b"number",
+        FileCause::Hex => b"hex",
+        FileCause::Rights => b"rights",
+        FileCause::NodeFirst => b"node first",
+        FileCause::UnknownObject => b"unknown object",
+        FileCause::UnknownName => b"unknown name",
+        FileCause::Principal => b"principal",
+        FileCause::Text => b"text",
+        FileCause::Certificate => b"certificate",
+        FileCause::Twice => b"twice",
+        FileCause::Limit => b"limit",
+        FileCause::NoNode => b"no node",
+    }
+}
+
+// The note of a line that is refused.
+fn of_line(number: u32, cause: FileCause) -> ArrayVec<u8, ROOM>
+    ensures { result.items ≡ file_note (FileFault.Refused number cause) }
+{
+    let mut line = numbered(b"taos: node file: line ", number as u64, b": ");
+    line.try_extend_from_slice(cause_text(cause)).unwrap();
+    line.try_extend_from_slice(b"\n").unwrap();
+    line
+}
+
 fn of_file(fault: FileFault) -> ArrayVec<u8, ROOM>
     ensures { result.items ≡ file_note fault }
 {
     match fault {
         FileFault::ReadFault => plain(b"taos: read fault\n"),
+        FileFault::Refused { line, cause } => of_line(line, cause),
         FileFault::Malformed { offset } => {
             numbered(b"taos: node file: byte ", offset as u64, b": malformed\n")
         }
-        FileFault::TooLarge => plain(b"taos: node file: line 0: limit\n"),
         FileFault::NoMemory => plain(b"taos: no memory\n"),
     }
 }
@@ -87,6 +122,7 @@ fn note_of(ending: Ending) -> ArrayVec<u8, ROOM>
         Ending::File(fault) => of_file(fault),
         Ending::Served(outcome) => of_served(outcome),
         Ending::Checked(end) => of_checked(end),
+        Ending::Relayed(outcome) => of_served(outcome),
     }
 }
 

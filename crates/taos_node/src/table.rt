@@ -1,8 +1,10 @@
 //! The commands and their options, as `clap` reads them.
 
-ghost use Rattle.std.specs.Prelude.{◌≡◌, IfOk, map, string_bytes, false};
+ghost use Rattle.std.specs.Prelude.{◌≡◌, [], IfOk, map, string_bytes, false};
 ghost use Rattle.clap.specs.Words.{rule_of, HasMatchesOf, FailsBy, fault_of};
-ghost use Rattle.taos_node.specs.Table.{option_rule, plain_app, base_app, run_app, taos_app, IsMade};
+ghost use Rattle.clap.specs.Words.{App, with_rule};
+ghost use Rattle.taos_node.specs.Table.{option_rule, command_app, base_app, taos_app, IsMade};
+ghost use Rattle.taos_node.specs.Words.{serving_options};
 
 use clap::{Arg, ArgAction, ArgMatches, Command, Error};
 use std::alloc::{AllocError, Global};
@@ -15,7 +17,7 @@ fn option<'a>(alloc: Global, name: &'a str) -> Arg<'a>
 }
 
 fn plain<'a>(alloc: Global, name: &'a str) -> Command<'a>
-    ensures { IsMade (plain_app name.entry.now) result }
+    ensures { IsMade (command_app name.entry.now []) result }
 {
     Command::new(alloc, name).disable_help_flag(true)
 }
@@ -29,21 +31,24 @@ fn base<'a>(alloc: Global) -> Command<'a>
         .subcommand_required(true)
 }
 
+// A command that serves connections.
 #[tactic(auto, using(crate::proofs::Made::adds_rule))]
-fn run_command<'a>(alloc: Global) -> Result<Command<'a>, AllocError>
-    ensures { IfOk result (IsMade run_app) }
+fn serving<'a>(alloc: Global, name: &'a str) -> Result<Command<'a>, AllocError>
+    ensures { IfOk result (IsMade (command_app name.entry.now serving_options)) }
 {
-    let run = plain(alloc, "run").arg(option(alloc, "frames"))?;
-    Ok(run)
+    let command = plain(alloc, name).arg(option(alloc, "frames"))?;
+    Ok(command)
 }
 
 #[tactic(auto, using(crate::proofs::Made::adds_subcommand))]
 fn commands<'a>(alloc: Global) -> Result<Command<'a>, AllocError>
     ensures { IfOk result (IsMade taos_app) }
 {
-    let run = run_command(alloc)?;
+    let run = serving(alloc, "run")?;
+    let relay = serving(alloc, "relay")?;
     let first = base(alloc).subcommand(run)?;
-    let whole = first.subcommand(plain(alloc, "check"))?;
+    let second = first.subcommand(plain(alloc, "check"))?;
+    let whole = second.subcommand(relay)?;
     Ok(whole)
 }
 

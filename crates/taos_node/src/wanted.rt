@@ -10,4 +10,6 @@ pub enum Wanted {
     Run { frames: u64 },
     /// Look over a request and its reply.
     Check,
+    /// Serve one connection to a relay, of at most so many frames.
+    Relay { frames: u64 },
 }

@@ -3,9 +3,8 @@
 ghost use Rattle.std.specs.Prelude.{◌≡◌, ◌↔◌, ℕ, List, String, Some, codes, decimal, option_map, string_bytes, All, IsTrue, IfOk, MatchOption};
 ghost use Rattle.std.specs.declared.alloc.Global.{Global};
 ghost use Rattle.clap.specs.Words.{Row, first_of, found_of, rows_of, subcommand_rows_of};
-ghost use Rattle.taos_node.specs.Words.{IsCount, IsMeaning, Mean};
-ghost use Rattle.taos_node.specs.Table.{IsOfTable, IsPlainWord, IsRunOf};
-ghost use Rattle.taos_node.specs.declared.wanted.Wanted.{Wanted as Meant};
+ghost use Rattle.taos_node.specs.Words.{Check, IsCount, IsMeaning, Mean, Relay, Run, Task, task_of};
+ghost use Rattle.taos_node.specs.Table.{IsFramesOf, IsOfTable, IsOption, IsPlainWord, IsServingOf};
 
 use crate::table::matches_of;
 use crate::wanted::{MAX_FRAMES, Wanted};
@@ -14,9 +13,9 @@ use clap::error::ErrorKind;
 use itoa::Buffer;
 use std::alloc::{AllocError, Global};
 
-/// Words mean one command.
+/// Words mean one task.
 pub fn one_meaning()
-    ensures { (words : List (String Global)) (a b : Meant) → Mean words a → Mean words b → a ≡ b }
+    ensures { (words : List (String Global)) (a b : Task) → Mean words a → Mean words b → a ≡ b }
 {}
 
 fn is_plain(word: &[u8]) -> bool
@@ -28,18 +27,25 @@ fn is_plain(word: &[u8]) -> bool
     }
 }
 
-// Whether a word is no option, or one of the table in either of its ways.
-#[tactic(auto, using(crate::proofs::Found::last_way))]
+// Whether a word is the option of this name, in either of its ways.
+fn is_option(word: &[u8], name: &[u8]) -> bool
+    ensures { IsTrue result ↔ IsOption word.now name.now }
+{
+    let Some(text) = word.strip_prefix(b"--".as_slice()) else {
+        return false;
+    };
+    match text.strip_prefix(name) {
+        Some([first, ..]) => *first == b'=',
+        Some([]) => true,
+        None => false,
+    }
+}
+
+// Whether a word is no option, or one of the table.
 fn is_of_table(word: &[u8]) -> bool
     ensures { IsTrue result ↔ IsOfTable word.now }
 {
-    if is_plain(word) {
-        return true;
-    }
-    if word == b"--frames".as_slice() {
-        return true;
-    }
-    word.starts_with(b"--frames=".as_slice())
+    is_plain(word) || is_option(word, b"frames".as_slice())
 }
 
 fn are_of_table(words: &[String]) -> bool
@@ -85,29 +91,50 @@ fn text_of<'a>(options: &ArgMatches<'a>, name: &str) -> Option<&'a str>
     options.get_str(name)
 }
 
-fn run_of(frames: Option<&str>) -> Option<Wanted>
-    ensures { IsRunOf (option_map (λ s. s.now) frames.entry) result }
+// The most frames, by the text of the option where that is given.
+fn frames_of(text: Option<&str>) -> Option<u64>
+    ensures { IsFramesOf (option_map (λ s. s.now) text.entry) result }
 {
-    match frames {
-        Some(text) => match count_of(text) {
-            Some(frames) => Some(Wanted::Run { frames }),
-            None => None,
-        },
-        None => Some(Wanted::Run { frames: MAX_FRAMES }),
+    match text {
+        Some(text) => count_of(text),
+        None => Some(MAX_FRAMES),
+    }
+}
+
+fn run_of(text: Option<&str>) -> Option<Wanted>
+    ensures { IsServingOf (λ frames. Run frames) (option_map (λ s. s.now) text.entry)
+        result }
+{
+    match frames_of(text) {
+        Some(frames) => Some(Wanted::Run { frames }),
+        None => None,
+    }
+}
+
+fn relay_of(text: Option<&str>) -> Option<Wanted>
+    ensures { IsServingOf (λ frames. Relay frames) (option_map (λ s. s.now) text.entry)
+        result }
+{
+    match frames_of(text) {
+        Some(frames) => Some(Wanted::Relay { frames }),
+        None => None,
     }
 }
 
 // What is asked for by what `clap` found.
 fn found_in<'a>(matches: &ArgMatches<'a>) -> Option<Wanted>
     ensures run { (rows : List Row) → subcommand_rows_of matches.now ≡ Some (codes "run", rows)
-        → IsRunOf (first_of (codes "frames") rows) result }
+        → IsServingOf (λ frames. Run frames) (first_of (codes "frames") rows) result }
     ensures check { (rows : List Row) → subcommand_rows_of matches.now ≡ Some (codes "check", rows)
-        → result ≡ Some Wanted.Check }
+        → option_map task_of result ≡ Some Check }
+    ensures relay { (rows : List Row) → subcommand_rows_of matches.now ≡ Some (codes "relay", rows)
+        → IsServingOf (λ frames. Relay frames) (first_of (codes "frames") rows) result }
 {
     let (name, options) = matches.subcommand()?;
     match name {
         "run" => run_of(text_of(options, "frames")),
         "check" => Some(Wanted::Check),
+        "relay" => relay_of(text_of(options, "frames")),
         _ => None,
     }
 }

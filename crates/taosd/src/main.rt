@@ -10,6 +10,7 @@ mod relay;
 mod streams;
 mod term;
 mod usage;
+mod warnings;
 
 use clock::SystemSeconds;
 use frame_link::{Clock, ClosedDoor, Door, NoRelay, RelayLink, Sink, pour};
@@ -26,6 +27,7 @@ use std::time::Duration;
 use streams::{FileReading, Origin, Reading, Writing};
 use taos_node::{Ending, FileFault, Lane, Outcome, status_of, taos, tell};
 use usage::{USAGE, VERSION};
+use warnings::{Watched, tell_readers};
 
 // The input is read in pieces of this many bytes.
 const PIECE: usize = 65_536;
@@ -85,7 +87,11 @@ fn work<W: Threads + Wait + Sync, N: Sink, C: Clock + Send, R: RelayLink + Send,
     let Ok(standard_input) = BufReader::with_capacity(alloc, PIECE, rt.stdin()) else {
         return ended(notes, Ending::NoMemory);
     };
-    let mut file = file_of(rt, path);
+    let file = file_of(rt, path);
+    if let Origin::Open(open) = file.origin() {
+        tell_readers(&mut rt.stderr(), path, open);
+    }
+    let mut file = Watched::new(alloc, file, path, rt.stderr());
     let mut input = Reading::new(standard_input);
     let mut output = Writing::new(rt.stdout());
     taos(

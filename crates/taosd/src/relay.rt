@@ -117,43 +117,24 @@ impl<'a, R: Net<Listener = TcpListener, Stream = TcpStream> + Clock> TcpRelay<'a
         Term::after(self.network, self.limit)
     }
 
-    // Asks on the stream that is kept. Where it is none of use any more, it is closed.
-    fn ask_kept(
-        &mut self,
-        term: Term,
-        node: u32,
-        sealed: &[u8],
-        out: &mut ArrayVec<u8, 2048>,
-    ) -> Result<RelayAnswer, Silence>
-        requires fits { length sealed.now ≤ 65531 }
-        requires empty { out.old.items ≡ [] }
-        ensures closed { OnErr result (self.new.line ≡ None) }
-        ensures open { IfOk result (λ _. IsSome self.new.line) }
-        ensures answer { AnswersAs None node sealed.now result out.new.items }
-        ensures codes { IfOk result HasRelayCode }
+    // The stream that is kept, if one is and it is of use yet. It is kept no more.
+    fn quiet_stream(&mut self) -> Option<TcpStream>
+        ensures closed { self.new.line ≡ None }
         ensures place { (self.new.address ≡ self.old.address)
             × (self.new.limit ≡ self.old.limit) }
         ensures faults { self.new.faults ≡ self.old.faults }
     {
-        let Some(stream) = self.line.take() else {
-            return Err(Silence::Closed);
-        };
+        let stream = self.line.take()?;
         if !is_quiet(&stream) {
-            return Err(Silence::Closed);
+            return None;
         }
-        let line = Line {
-            stream: &stream,
-            clock: self.network,
-            term,
-        };
-        let answer = exchange(self.alloc, &line, node, sealed, out)?;
-        self.line = Some(stream);
-        Ok(answer)
+        Some(stream)
     }
 
-    // Asks on a new stream.
-    fn ask_anew(
+    // Asks on a stream, which is kept where that is answered.
+    fn ask_on(
         &mut self,
+        stream: TcpStream,
         term: Term,
         node: u32,
         sealed: &[u8],
@@ -170,9 +151,6 @@ impl<'a, R: Net<Listener = TcpListener, Stream = TcpStream> + Clock> TcpRelay<'a
             × (self.new.limit ≡ self.old.limit) }
         ensures faults { self.new.faults ≡ self.old.faults }
     {
-        let Ok(stream) = stream_to(self.network, self.address, term) else {
-            return Err(Silence::Failed);
-        };
         let line = Line {
             stream: &stream,
             clock: self.network,
@@ -183,7 +161,7 @@ impl<'a, R: Net<Listener = TcpListener, Stream = TcpStream> + Clock> TcpRelay<'a
         Ok(answer)
     }
 
-    // Asks on the stream that is kept, or on a new one.
+    // Asks on the stream that is kept; or on a new one, where there is none or it is closed.
     fn ask(
         &mut self,
         node: u32,
@@ -202,10 +180,16 @@ impl<'a, R: Net<Listener = TcpListener, Stream = TcpStream> + Clock> TcpRelay<'a
         let Some(term) = self.term() else {
             return Err(Silence::Failed);
         };
-        match self.ask_kept(term, node, sealed, out) {
-            Err(Silence::Closed) => self.ask_anew(term, node, sealed, out),
-            heard => heard,
+        if let Some(stream) = self.quiet_stream() {
+            match self.ask_on(stream, term, node, sealed, out) {
+                Err(Silence::Closed) => {}
+                heard => return heard,
+            }
         }
+        let Ok(stream) = stream_to(self.network, self.address, term) else {
+            return Err(Silence::Failed);
+        };
+        self.ask_on(stream, term, node, sealed, out)
     }
 }
 

@@ -1,6 +1,7 @@
 use crate::clock::SystemSeconds;
 use crate::relay::{LIMIT, TcpRelay};
 use crate::streams::{FileReading, Origin, Reading, Writing};
+use crate::warnings::Watched;
 use arrayvec::ArrayVec;
 use frame_link::{Clock, Failed, RelayAnswer, RelayLink, Sink, Source};
 use std::fs::File;
@@ -21,6 +22,27 @@ fn each_fault_of_a_stream_is_counted(rt: HostRuntime) -> Result<(), Fail> {
     let mut output = Writing::new(File::open(&rt, "/")?);
     assert!(rt; output.write(&[1]) == Err(Failed));
     assert_eq!(rt; output.faults(), 1);
+    Ok(())
+}
+
+// Keys of one digit each: two alike, and one of zeros.
+#[test]
+fn lines_whose_keys_are_alike_or_zero_are_named(rt: HostRuntime) -> Result<(), Fail> {
+    let file = b"taos 1\nnode 1 1111111111111111111111111111111111111111111111111111111111111111\n\
+        channel 1 2222222222222222222222222222222222222222222222222222222222222222\n# channel\n\
+        channel 2 1111111111111111111111111111111111111111111111111111111111111111\n\
+        channel 3 0000000000000000000000000000000000000000000000000000000000000000\n";
+    let mut room = [0u8; 512];
+    let mut told = Vec::new(rt.alloc());
+    let mut watched = Watched::new(rt.alloc(), Reading::new(file.as_slice()), "keys", &mut told);
+    assert!(rt; watched.read(&mut room) == Ok(file.len()));
+    assert!(rt; watched.read(&mut room) == Ok(0));
+    assert!(rt; watched.read(&mut room) == Ok(0));
+    drop(watched);
+    assert_eq!(rt;
+        told.as_slice(),
+        b"taosd: keys: line 6: a key of zeros\ntaosd: keys: line 5: the key of line 2\n".as_slice()
+    );
     Ok(())
 }
 
@@ -78,16 +100,21 @@ fn is_asked(stream: &mut TcpStream) -> io::Result<bool> {
     Ok(got == ASKED)
 }
 
-// Two connections: one that answers once and then closes, and one that answers once.
-fn answer_twice(listener: &TcpListener) -> io::Result<(bool, bool)> {
+// Two connections: one whose answer has these bytes, and which is closed where that is wanted; and
+// one that answers once.
+fn answer_twice(listener: &TcpListener, first: &[u8], is_closed: bool) -> io::Result<(bool, bool)> {
     let (mut stream, _) = listener.accept()?;
-    let first = is_asked(&mut stream)?;
-    stream.write_all(&[0, 0, 0, 2, 6, 3])?;
-    drop(stream);
-    let (mut stream, _) = listener.accept()?;
-    let second = is_asked(&mut stream)?;
-    stream.write_all(&[0, 0, 0, 2, 6, 2])?;
-    Ok((first, second))
+    let is_first = is_asked(&mut stream)?;
+    stream.write_all(first)?;
+    let mut kept = Some(stream);
+    if is_closed {
+        kept = None;
+    }
+    let (mut other, _) = listener.accept()?;
+    let is_second = is_asked(&mut other)?;
+    other.write_all(&[0, 0, 0, 2, 6, 2])?;
+    drop(kept);
+    Ok((is_first, is_second))
 }
 
 // What is answered to the same question, and how often the link has failed.
@@ -97,53 +124,27 @@ fn ask_again(relay: &mut TcpRelay<'_, HostRuntime>) -> (Result<RelayAnswer, Fail
     (answer, relay.faults())
 }
 
+// The first answer is all there is, or it has a frame behind it that nobody asked for.
 #[test]
-fn a_stream_that_the_relay_has_closed_is_opened_again(rt: HostRuntime) -> Result<(), Fail> {
-    let (listener, address) = listen(&rt)?;
-    let (rt, listener, address) = (&rt, &listener, address.as_str());
-    let (told, asked) = thread::join(
-        rt,
-        move || {
-            let mut relay = TcpRelay::new(rt, rt.alloc(), address, Duration::from_secs(LIMIT));
-            let first = ask_again(&mut relay);
-            (first, ask_again(&mut relay))
-        },
-        move || answer_twice(listener),
-    );
-    assert_eq!(rt; asked?, (true, true));
-    assert_eq!(rt; told.0, (Ok(RelayAnswer::Refused { code: 3 }), 0));
-    assert_eq!(rt; told.1, (Ok(RelayAnswer::Refused { code: 2 }), 0));
-    Ok(())
-}
-
-// One connection whose answer has a frame behind it that nobody asked for, and one that answers
-// once.
-fn answer_too_much(listener: &TcpListener) -> io::Result<(bool, bool)> {
-    let (mut stream, _) = listener.accept()?;
-    let first = is_asked(&mut stream)?;
-    stream.write_all(&[0, 0, 0, 2, 6, 3, 0, 0, 0, 2, 6, 5])?;
-    let (mut other, _) = listener.accept()?;
-    let second = is_asked(&mut other)?;
-    other.write_all(&[0, 0, 0, 2, 6, 2])?;
-    Ok((first, second))
-}
-
-#[test]
-fn an_answer_that_nobody_asked_for_is_passed_over(rt: HostRuntime) -> Result<(), Fail> {
-    let (listener, address) = listen(&rt)?;
-    let (rt, listener, address) = (&rt, &listener, address.as_str());
-    let (told, asked) = thread::join(
-        rt,
-        move || {
-            let mut relay = TcpRelay::new(rt, rt.alloc(), address, Duration::from_secs(LIMIT));
-            let first = ask_again(&mut relay);
-            (first, ask_again(&mut relay))
-        },
-        move || answer_too_much(listener),
-    );
-    assert_eq!(rt; asked?, (true, true));
-    assert_eq!(rt; told.0, (Ok(RelayAnswer::Refused { code: 3 }), 0));
-    assert_eq!(rt; told.1, (Ok(RelayAnswer::Refused { code: 2 }), 0));
+fn a_stream_that_is_closed_or_has_more_is_opened_again(rt: HostRuntime) -> Result<(), Fail> {
+    let whole = [0, 0, 0, 2, 6, 3];
+    let more = [0, 0, 0, 2, 6, 3, 0, 0, 0, 2, 6, 5];
+    for (first, is_closed) in [(whole.as_slice(), true), (more.as_slice(), false)] {
+        let (listener, address) = listen(&rt)?;
+        let (rt, listener, address) = (&rt, &listener, address.as_str());
+        let (told, asked) = thread::join(
+            rt,
+            move || {
+                let mut relay = TcpRelay::new(rt, rt.alloc(), address, Duration::from_secs(LIMIT));
+                let first = ask_again(&mut relay);
+                (first, ask_again(&mut relay))
+            },
+            move || answer_twice(listener, first, is_closed),
+        );
+        assert_eq!(rt; asked?, (true, true));
+        assert_eq!(rt; told.0, (Ok(RelayAnswer::Refused { code: 3 }), 0));
+        assert_eq!(rt; told.1, (Ok(RelayAnswer::Refused { code: 2 }), 0));
+    }
     Ok(())
 }
 

@@ -5,7 +5,7 @@ pub const USAGE: &[u8] = b"\
 taosd FILE LISTEN RELAY COMMAND
 taosd --help | --version | --key
 
-FILE    the path of a node file, or - for none
+FILE    the path of a node file, or for relay of a relay file, or - for none
 LISTEN  -
 RELAY   the address HOST:PORT of the node's relay, or - for none
 
@@ -14,6 +14,9 @@ COMMAND is one of
                     output, N of them at most (1 or more; 1000000 without)
   check             reads a request frame and its reply frame, and prints what
                     the reply shows
+  relay [--frames N]
+                    answers the frames of a node on standard input as a relay,
+                    N of them at most (1 or more; 1000000 without)
 
 --help     prints this text
 --version  prints the program's version
@@ -22,7 +25,7 @@ COMMAND is one of
 Exit status, told on standard error but for 0 and 11:
   0  done                          6  no memory
   1  the words are no command      7  the input ends inside a frame
-  2  the file opens no node        8  a frame is too long
+  2  the file is refused           8  a frame is too long
   3  a read failed                10  N frames were answered, and more came
   4  a write failed               11  check refused the reply
   5  the clock failed

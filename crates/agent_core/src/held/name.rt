@@ -35,7 +35,7 @@ pub(crate) fn brought_by(event: &Event) -> &[Arc<Cert>]
     match event {
         Event::Ask(ask) => &ask.presented,
         Event::Hold(certs) => certs,
-        Event::Discard(_) | Event::Forget(_) | Event::Expire(_) => &[],
+        Event::Keep { .. } | Event::Discard(_) | Event::Forget(_) | Event::Expire(_) => &[],
     }
 }
 

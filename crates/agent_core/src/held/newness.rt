@@ -17,8 +17,13 @@ use stmt_codec::Cert;
 /// Places in a list of certificates that an event brings.
 pub(crate) type Places = ArrayVec<u8, MAX_PRESENTED>;
 
-// Whether one of the names is that of an equal certificate.
-fn is_among(commons: &[Arc<Cert>], entries: &[ShardEntry], names: &Names, cert: &Cert) -> bool
+/// Whether one of the names is that of an equal certificate.
+pub(crate) fn is_among(
+    commons: &[Arc<Cert>],
+    entries: &[ShardEntry],
+    names: &Names,
+    cert: &Cert,
+) -> bool
     requires { AreNames (certificates commons.now) (map entry_of entries.now) names.now.items }
     ensures { result ≡ among (certs_named (certificates commons.now) (map entry_of entries.now)
         names.now.items) (certificate cert.now.body) }

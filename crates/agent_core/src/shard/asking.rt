@@ -1,11 +1,13 @@
 //! An Ask at a shard.
 
-ghost use Rattle.std.specs.Prelude.{◌≡◌, ◌+◌, ◌<◌, ◌≤◌, length, map, Contains, IfOk, OnErr};
+ghost use Rattle.std.specs.Prelude.{◌≡◌, ◌+◌, ◌<◌, ◌≤◌, length, map, Contains, IfOk, OnErr, OnOk};
+ghost use Rattle.agent_core.specs.Answers.{TakesMemory};
+ghost use Rattle.agent_core.specs.Caches.{first_hit, hit_or_miss, unlapsed};
 ghost use Rattle.agent_core.specs.Kept.{IsKept, IsStore, Tells};
 ghost use Rattle.agent_core.specs.Looking.{IsLook, IsTaken, Takes, Answered};
 ghost use Rattle.agent_core.specs.Plans.{IsPlan};
 ghost use Rattle.agent_core.specs.State.{Asks, Plain, asking, swept};
-ghost use Rattle.agent_core.specs.Journals.{state_after, told_at, IsMeant};
+ghost use Rattle.agent_core.specs.Journals.{state_after, cache_after, told_at, IsMeant};
 ghost use Rattle.agent_core.specs.Views.{ask_of, entry_of, plan_of};
 
 use crate::event::{Ask, Event, ShardEntry};
@@ -18,8 +20,10 @@ use crate::plan::ShardPlan;
 use crate::shard::append::append;
 use crate::shard::removal::{Removal, left_of};
 use crate::shard::row::place_of;
+use crate::shard::serving::{bring, serving};
 use crate::shard::store::Store;
 use crate::told::{Answer, Snapshot, Told};
+use proof_cache::Cache;
 use std::alloc::{AllocError, Global};
 use std::sync::Arc;
 
@@ -83,8 +87,9 @@ fn refuse(
     requires plain { let s = swept plan.now.keep look.moment
         (state_after (plan_of plan.now) (map entry_of entries.old.items)) in
         asking s (ask_of asked.value) ≡ (s, Plain told) }
-    ensures { Tells (plan_of plan.now) entries.old (Asks (ask_of asked.value)) told entries.new
-        store.new }
+    ensures tells { Tells (plan_of plan.now) entries.old (Asks (ask_of asked.value)) told
+        entries.new store.new }
+    ensures clock { store.new.clock ≡ look.moment }
 {
     store.clock = look.moment;
     store.swept = entries.len() as u64 + 1;
@@ -92,13 +97,14 @@ fn refuse(
     append(entries, Event::Ask(asked), told);
 }
 
-// Journals an Ask that is to be judged, and holds what it brings.
+// Journals an Ask that a kept proof serves or that is to be judged, and holds what it brings.
 fn take(
     plan: &ShardPlan,
     entries: &mut Vec<ShardEntry>,
     store: &mut Store,
     asked: Arc<Ask>,
     look: Look,
+    told: Told,
 )
     requires kept { IsKept (plan_of plan.now) entries.old store.old }
     requires room { length entries.old.items < plan.now.limit }
@@ -111,7 +117,11 @@ fn take(
     requires judged { let s = swept plan.now.keep look.moment
         (state_after (plan_of plan.now) (map entry_of entries.old.items)) in
         IsTaken s (ask_of asked.value) }
-    ensures { Takes (plan_of plan.now) entries.old (ask_of asked.value) entries.new store.new }
+    requires told { let cache = cache_after (plan_of plan.now) (map entry_of entries.old.items) in
+        told ≡ hit_or_miss (first_hit (unlapsed look.moment cache) (ask_of asked.value)) }
+    ensures takes { Takes (plan_of plan.now) entries.old (ask_of asked.value) told entries.new
+        store.new }
+    ensures clock { store.new.clock ≡ look.moment }
 {
     let Look {
         place,
@@ -126,7 +136,7 @@ fn take(
     store.clock = moment;
     store.swept = stamp;
     store.commons = shared;
-    append(entries, Event::Ask(asked), Told::Miss);
+    append(entries, Event::Ask(asked), told);
     let mut own = own;
     name_all(&mut own, entry, &new);
     let row = &mut store.rows[place];
@@ -135,12 +145,71 @@ fn take(
     row.own = own;
 }
 
-/// Asks. Memory is taken before anything changes.
+// An Ask whose number is new and that has room: a kept proof serves it, or it is to be judged.
+// Memory is taken before anything changes; where a proof serves, nothing is gathered.
+fn ask_new(
+    alloc: Global,
+    plan: &ShardPlan,
+    entries: &mut Vec<ShardEntry>,
+    store: &mut Store,
+    cache: &mut Cache,
+    asked: Arc<Ask>,
+    look: Look,
+) -> Result<Answer, AllocError>
+    requires kept { IsKept (plan_of plan.now) entries.old store.old }
+    requires room { length entries.old.items < plan.now.limit }
+    requires meant { IsMeant (plan_of plan.now) (map entry_of entries.old.items)
+        (Asks (ask_of asked.value)) }
+    requires short { length asked.value.list.value.items ≤ 8 }
+    requires look { IsLook (plan_of plan.now) (map entry_of entries.old.items)
+        (state_after (plan_of plan.now) (map entry_of entries.old.items)) store.old
+        (ask_of asked.value) look }
+    requires fits { length look.own.items + length look.new.items ≤ 32 }
+    requires judged { let s = swept plan.now.keep look.moment
+        (state_after (plan_of plan.now) (map entry_of entries.old.items)) in
+        IsTaken s (ask_of asked.value) }
+    requires cached { cache.old ≡ cache_after (plan_of plan.now) (map entry_of entries.old.items) }
+    ensures answered { IfOk result (λ answer. Answered (plan_of plan.now) entries.old
+        (Asks (ask_of asked.value)) answer entries.new store.new) }
+    ensures cached { OnOk result
+        (cache.new ≡ cache_after (plan_of plan.now) (map entry_of entries.new.items)) }
+    ensures unchanged { OnErr result ((entries.new ≡ entries.old) × (store.new ≡ store.old)
+        × (cache.new ≡ cache.old)) }
+    ensures wanted { OnErr result (TakesMemory (told_at (plan_of plan.now)
+        (map entry_of entries.old.items) (Asks (ask_of asked.value)))) }
+{
+    let moment = look.moment;
+    let served = serving(cache, moment, &asked)?;
+    match served {
+        Some((entry, cached)) => {
+            bring(cache, moment, &asked, entry);
+            take(plan, entries, store, asked, look, Told::Hit { entry });
+            Ok(Answer::Hit { entry, cached })
+        }
+        None => {
+            let certs = gathered(
+                alloc,
+                &plan.commons,
+                entries,
+                &look.own,
+                &look.shared,
+                &asked.presented,
+                &look.new,
+            )?;
+            cache.purge_before(moment);
+            take(plan, entries, store, asked, look, Told::Miss);
+            Ok(Answer::Miss(Snapshot { moment, certs }))
+        }
+    }
+}
+
+/// Asks.
 pub(crate) fn ask(
     alloc: Global,
     plan: &ShardPlan,
     entries: &mut Vec<ShardEntry>,
     store: &mut Store,
+    cache: &mut Cache,
     asked: Arc<Ask>,
 ) -> Result<Answer, AllocError>
     requires kept { IsKept (plan_of plan.now) entries.old store.old }
@@ -148,34 +217,30 @@ pub(crate) fn ask(
     requires meant { IsMeant (plan_of plan.now) (map entry_of entries.old.items)
         (Asks (ask_of asked.value)) }
     requires few { length asked.value.presented.items ≤ 16 }
+    requires short { length asked.value.list.value.items ≤ 8 }
+    requires cached { cache.old ≡ cache_after (plan_of plan.now) (map entry_of entries.old.items) }
     ensures answered { IfOk result (λ answer. Answered (plan_of plan.now) entries.old
         (Asks (ask_of asked.value)) answer entries.new store.new) }
-    ensures unchanged { OnErr result ((entries.new ≡ entries.old) × (store.new ≡ store.old)) }
-    ensures wanted { OnErr result (told_at (plan_of plan.now) (map entry_of entries.old.items)
-        (Asks (ask_of asked.value)) ≡ Told.Miss) }
+    ensures cached { OnOk result
+        (cache.new ≡ cache_after (plan_of plan.now) (map entry_of entries.new.items)) }
+    ensures unchanged { OnErr result ((entries.new ≡ entries.old) × (store.new ≡ store.old)
+        × (cache.new ≡ cache.old)) }
+    ensures wanted { OnErr result (TakesMemory (told_at (plan_of plan.now)
+        (map entry_of entries.old.items) (Asks (ask_of asked.value)))) }
 {
     let look = look_at(plan, entries, store, &asked);
     let last = store.rows[look.place].last;
     if asked.seq <= last {
+        cache.purge_before(look.moment);
         refuse(plan, entries, store, asked, look, Told::Replayed { last });
         return Ok(Answer::Replayed { last });
     }
     let held = look.own.len();
     if held + look.new.len() > MAX_OWN {
         let held = held as u8;
+        cache.purge_before(look.moment);
         refuse(plan, entries, store, asked, look, Told::Full { held });
         return Ok(Answer::Full { held });
     }
-    let certs = gathered(
-        alloc,
-        &plan.commons,
-        entries,
-        &look.own,
-        &look.shared,
-        &asked.presented,
-        &look.new,
-    )?;
-    let moment = look.moment;
-    take(plan, entries, store, asked, look);
-    Ok(Answer::Miss(Snapshot { moment, certs }))
+    ask_new(alloc, plan, entries, store, cache, asked, look)
 }

@@ -1,18 +1,20 @@
 //! What an event has to be.
 
-ghost use Rattle.std.specs.Prelude.{◌≡◌, ◌↔◌, IsTrue, Contains, []};
+ghost use Rattle.std.specs.Prelude.{◌≡◌, ◌↔◌, IsTrue, Contains, map};
 ghost use Rattle.std.specs.List.Sorted.{IsStrictlyIncreasing};
 ghost use Rattle.prin_term.specs.Principal.{Key};
 ghost use Rattle.prin_term.specs.View.{principal};
 ghost use Rattle.agent_core.specs.Answers.{FitsEvent};
 ghost use Rattle.agent_core.specs.Journals.{IsMeant, IsOn};
-ghost use Rattle.agent_core.specs.Views.{event_of, plan_of};
+ghost use Rattle.agent_core.specs.Views.{entry_of, event_of, plan_of};
 
-use crate::event::Event;
+use crate::event::{Event, ShardEntry};
 use crate::limits::MAX_PRESENTED;
 use crate::plan::ShardPlan;
+use crate::shard::keepable::is_keepable;
 use crate::shard::row::place_of;
 use prin_term::Term;
+use taos_calculus::MAX_ENTRIES;
 
 // Whether the term is the key of this number.
 fn is_key(term: &Term, number: u32) -> bool
@@ -46,18 +48,20 @@ fn has_channel(channels: &[u32], channel: u32) -> bool
     }
 }
 
-/// Whether the event is one that a shard of this plan takes.
-pub(crate) fn is_taken(plan: &ShardPlan, event: &Event) -> bool
+/// Whether the event is one that a shard of this plan takes after these entries.
+pub(crate) fn is_taken(plan: &ShardPlan, entries: &[ShardEntry], event: &Event) -> bool
     requires { IsStrictlyIncreasing (plan_of plan.now).channels }
-    ensures { IsTrue result ↔ (IsMeant (plan_of plan.now) [] (event_of event.now)
+    ensures { IsTrue result ↔ (IsMeant (plan_of plan.now) (map entry_of entries.now) (event_of event.now)
         × FitsEvent (event_of event.now)) }
 {
     match event {
         Event::Ask(asked) => {
             asked.presented.len() <= MAX_PRESENTED
+                && asked.list.len() <= MAX_ENTRIES
                 && is_on(asked.channel, &asked.subject)
                 && has_channel(&plan.channels, asked.channel)
         }
+        Event::Keep { ask, entry, cached } => is_keepable(plan, entries, *ask, *entry, cached),
         Event::Hold(certs) => certs.len() <= MAX_PRESENTED,
         Event::Discard(_) | Event::Forget(_) | Event::Expire(_) => true,
     }

@@ -11,7 +11,7 @@ ghost use Rattle.agent_core.specs.Asked.{Names};
 ghost use Rattle.agent_core.specs.Settling.{IsPlaceIn, Settles};
 ghost use Rattle.agent_core.specs.Views.{ask_of};
 
-use crate::asked::{Denial, Verdict};
+use crate::asked::Denial;
 use crate::event::Ask;
 use crate::gate::Gate;
 use crate::told::Snapshot;
@@ -19,10 +19,19 @@ use crate::whole_ask::grant::proof_for;
 use crate::whole_ask::verdict::{Decision, judge};
 use denial_link::Link;
 use prin_term::Anchor;
+use proof_cache::Cached;
 use std::alloc::{AllocError, Global};
 use std::sync::Arc;
 use stmt_codec::Cert;
 use taos_calculus::Decide;
+
+/// What an Ask comes to that is judged.
+#[derive(Debug, Drop)]
+pub(crate) enum Settlement {
+    /// By this entry of the list and this proof.
+    Granted { entry: u8, cached: Arc<Cached> },
+    Denied(Denial),
+}
 
 // What a denial names of a link: a certificate by its digest.
 fn denial_of(link: Link, certs: &[Arc<Cert>]) -> Denial
@@ -39,8 +48,8 @@ fn denial_of(link: Link, certs: &[Arc<Cert>]) -> Denial
     }
 }
 
-/// The verdict on an Ask by what it was handed out, as it is answered. The gate is passed between
-/// the decision and its answer.
+/// What an Ask comes to by what it was handed out. The gate is passed between the decision and
+/// its proof.
 pub(crate) fn settle<D: Decide, G: Gate>(
     alloc: Global,
     anchors: &[Anchor],
@@ -48,7 +57,7 @@ pub(crate) fn settle<D: Decide, G: Gate>(
     gate: &mut G,
     snapshot: &Snapshot,
     asked: &Ask,
-) -> Result<Verdict, AllocError>
+) -> Result<Settlement, AllocError>
     requires { IsAskable anchors.now (certificates snapshot.now.certs.items)
         (replicate (length snapshot.now.certs.items) true) (principal asked.now.subject)
         (map grant asked.now.list.value.items) }
@@ -66,8 +75,8 @@ pub(crate) fn settle<D: Decide, G: Gate>(
         Decision::Granted { entry } => {
             let cached = proof_for(alloc, bench, anchors, snapshot, asked, entry)?;
             let cached = Arc::new(alloc, cached)?;
-            Ok(Verdict::Granted { entry, cached })
+            Ok(Settlement::Granted { entry, cached })
         }
-        Decision::Denied(link) => Ok(Verdict::Denied(denial_of(link, &snapshot.certs))),
+        Decision::Denied(link) => Ok(Settlement::Denied(denial_of(link, &snapshot.certs))),
     }
 }

@@ -47,7 +47,7 @@ fn same(body: &CertBody, other: &CertBody) -> bool
     body.same(other)
 }
 
-fn is_among(before: &[Arc<Cert>], cert: &Cert) -> bool
+pub(crate) fn is_among(before: &[Arc<Cert>], cert: &Cert) -> bool
     ensures { result ≡ list_any (same_certificate (certificate cert.now.body))
         (map common before.now) }
 {

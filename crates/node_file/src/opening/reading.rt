@@ -4,13 +4,15 @@ ghost use Rattle.std.specs.Prelude.{◌≡◌, ◌≤◌, length, nat_le, IfOk, 
 ghost use Rattle.node_file.specs.declared.fault.FileFault.TheVariants.{NoMemory};
 ghost use Rattle.node_file.specs.declared.limits.TheConstants.{MAX_FILE};
 ghost use Rattle.node_file.specs.Meaning.{opening, FitsByNumber};
-ghost use Rattle.node_file.specs.Opening.{Opening as Meaning, Spells, journal_room};
-ghost use Rattle.node_file.specs.OpeningReading.{at_byte, fields_at, opening_in, opening_of};
+ghost use Rattle.node_file.specs.Opening.{Opening as Meaning, journal_room};
+ghost use Rattle.node_file.specs.OpeningFile.{Means, is_binary, opening_in};
+ghost use Rattle.node_file.specs.OpeningReading.{at_byte, fields_at, opening_of};
 ghost use Rattle.node_file.specs.OpeningView.{Agrees, IsReadAs, Represents, WithEnd};
 ghost use Rattle.prin_term.specs.Steps.{with_fault};
 
 use crate::fault::{FileCause, FileFault};
 use crate::limits::{MAX_FILE, MAX_ROOM};
+use crate::node_text::text_of;
 use crate::opening::Opening;
 use crate::opening::common::commons_of;
 use crate::opening::head::head_of;
@@ -50,7 +52,7 @@ fn fields_of(alloc: Global, bytes: &[u8]) -> Result<(Opening, usize), FormatFaul
 }
 
 // Whether the journals have room for that many entries each.
-fn has_room(opening: &Opening) -> bool
+pub(crate) fn has_room(opening: &Opening) -> bool
     ensures { (o : Meaning) → Represents opening.now o → result ≡ nat_le (journal_room o) MAX_ROOM }
 {
     let journals = opening.shards as u128 + opening.objects.count() as u128;
@@ -88,13 +90,24 @@ fn binary_of(alloc: Global, bytes: &[u8]) -> Result<Opening, FileFault>
     }
 }
 
-/// The opening of a file in its binary form. Memory is taken for what the opening holds; where it
-/// is refused, the fault is `NoMemory`.
+// Whether the file is in the binary form.
+fn is_binary(bytes: &[u8]) -> bool
+    ensures { result ≡ is_binary bytes.now }
+{
+    match bytes {
+        [] => false,
+        [first, ..] => *first == 0,
+    }
+}
+
+/// The opening that a file means: in the binary form where its first byte is 0, as a text
+/// otherwise. Memory is taken for what the opening holds; where it is refused, the fault is
+/// `NoMemory`.
 pub fn read_opening(alloc: Global, bytes: &[u8]) -> Result<Opening, FileFault>
-    // What is read is spelled so.
-    ensures found { IfOk result (λ x. (o : Meaning) × Spells o bytes.now × Represents x o) }
-    // What is spelled so is read, unless memory runs out.
-    ensures only { (o : Meaning) → Spells o bytes.now → length bytes.now ≤ MAX_FILE
+    // What is read is meant.
+    ensures found { IfOk result (λ x. (o : Meaning) × Means o bytes.now × Represents x o) }
+    // What is meant is read, unless memory runs out.
+    ensures only { (o : Meaning) → Means o bytes.now → length bytes.now ≤ MAX_FILE
         → MatchResult result (λ x. Represents x o) (λ f. f ≡ NoMemory) }
     // What is looked up in what is read is within the limits.
     ensures fits { IfOk result (λ x. FitsByNumber (opening x)) }
@@ -107,5 +120,9 @@ pub fn read_opening(alloc: Global, bytes: &[u8]) -> Result<Opening, FileFault>
             cause: FileCause::Limit,
         });
     }
-    binary_of(alloc, bytes)
+    if is_binary(bytes) {
+        binary_of(alloc, bytes)
+    } else {
+        text_of(alloc, bytes)
+    }
 }

@@ -1,12 +1,32 @@
 //! The fields of a line.
 
-ghost use Rattle.std.specs.Prelude.{◌≡◌};
-ghost use Rattle.node_file.specs.Fields.{keyed, numbered, two_words};
+ghost use Rattle.std.specs.Prelude.{◌≡◌, ◌≤◌, IfOk};
+ghost use Rattle.node_file.specs.Fields.{digits, digits_of, granted, keyed, numbered};
+ghost use Rattle.node_file.specs.Fields.{numbered_digits};
+ghost use Rattle.node_file.specs.Fields.{one_number, one_word, two_and_rest, two_words};
+ghost use Rattle.node_file.specs.LineView.{GivesLine};
 ghost use Rattle.prin_term.specs.Steps.{with_value};
 
 use crate::fault::FileCause;
-use crate::text::number::{key_of_digits, number_up_to};
+use crate::line_fault::LineFault;
+use crate::text::number::{bytes_of_digits, key_of_digits, number_up_to};
+use crate::text::rights::rights_of;
 use crate::text::word::{is_plain, unblanked, word_off};
+use std::alloc::Global;
+use std::str::from_utf8;
+
+// The word behind the first.
+#[tactic(auto, unfolding(crate::specs::Fields::one_word))]
+fn one_word<'a>(line: &[u8], rest: &'a [u8]) -> Result<&'a [u8], FileCause>
+    ensures { with_value (λ w. w.now) result ≡ one_word line.now rest.now }
+{
+    let (word, rest) = word_off(rest);
+    if is_plain(line) && !word.is_empty() && unblanked(rest).is_empty() {
+        Ok(word)
+    } else {
+        Err(FileCause::Words)
+    }
+}
 
 // The two words behind the first.
 #[tactic(auto, unfolding(crate::specs::Fields::two_words))]
@@ -39,4 +59,80 @@ pub(crate) fn keyed(line: &[u8], rest: &[u8]) -> Result<(u32, [u8; 32]), FileCau
 {
     let (number, digits) = numbered(line, rest)?;
     Ok((number, key_of_digits(digits)?))
+}
+
+// A number up to the most.
+#[tactic(auto, unfolding(crate::specs::Fields::one_number))]
+pub(crate) fn one_number(line: &[u8], rest: &[u8], most: u64) -> Result<u64, FileCause>
+    ensures value { result ≡ one_number most line.now rest.now }
+    ensures most { IfOk result (λ n. n ≤ most) }
+{
+    let word = one_word(line, rest)?;
+    number_up_to(word, most)
+}
+
+// Bytes.
+#[tactic(auto, unfolding(crate::specs::Fields::digits))]
+pub(crate) fn digits(alloc: Global, line: &[u8], rest: &[u8]) -> Result<Vec<u8>, LineFault>
+    ensures { GivesLine (λ v. v.items) result (digits line.now rest.now) }
+{
+    match one_word(line, rest) {
+        Ok(word) => bytes_of_digits(alloc, word),
+        Err(cause) => Err(LineFault::Refused(cause)),
+    }
+}
+
+// Bytes of a number.
+fn digits_of(alloc: Global, number: u32, word: &[u8]) -> Result<(u32, Vec<u8>), LineFault>
+    ensures { GivesLine (λ x. (x.0, x.1.items)) result (digits_of number word.now) }
+{
+    match bytes_of_digits(alloc, word) {
+        Ok(bytes) => Ok((number, bytes)),
+        Err(fault) => Err(fault),
+    }
+}
+
+// A number, and the bytes behind it.
+#[tactic(auto, unfolding(crate::specs::Fields::numbered_digits))]
+pub(crate) fn numbered_digits(
+    alloc: Global,
+    line: &[u8],
+    rest: &[u8],
+) -> Result<(u32, Vec<u8>), LineFault>
+    ensures { GivesLine (λ x. (x.0, x.1.items)) result (numbered_digits line.now rest.now) }
+{
+    match numbered(line, rest) {
+        Ok((number, word)) => digits_of(alloc, number, word),
+        Err(cause) => Err(LineFault::Refused(cause)),
+    }
+}
+
+// Two words behind the first, and the text behind them.
+#[tactic(auto, unfolding(crate::specs::Fields::two_and_rest))]
+fn two_and_rest(line: &[u8]) -> Result<(&[u8], &[u8], &str), FileCause>
+    ensures { with_value (λ w. (w.0.now, w.1.now, w.2.now)) result ≡ two_and_rest line.now }
+{
+    let (_, rest) = word_off(line);
+    let (first, rest) = word_off(rest);
+    let (second, rest) = word_off(rest);
+    if !is_plain(line) || unblanked(rest).is_empty() {
+        return Err(FileCause::Words);
+    }
+    match from_utf8(rest) {
+        Ok(text) => Ok((first, second, text)),
+        Err(_) => Err(FileCause::Words),
+    }
+}
+
+// A number, rights, and the text of a principal.
+#[tactic(auto, unfolding(crate::specs::Fields::granted))]
+pub(crate) fn granted(line: &[u8]) -> Result<(u32, u8, &str), FileCause>
+    ensures { with_value (λ x. (x.0, x.1, x.2.now)) result ≡ granted line.now }
+{
+    let (number, rights, text) = two_and_rest(line)?;
+    let number = number_up_to(number, u32::MAX as u64)?;
+    match rights_of(rights) {
+        Some(rights) => Ok((number as u32, rights, text)),
+        None => Err(FileCause::Rights),
+    }
 }

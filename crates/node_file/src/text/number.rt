@@ -2,13 +2,16 @@
 
 ghost use Rattle.std.specs.Prelude.{◌≡◌, ◌≤◌, IfOk, IsTrue, Ok, Err, nat_le, if◌then◌else◌};
 ghost use Rattle.std.specs.List.{list_all};
-ghost use Rattle.node_file.specs.Fields.{key_of_digits, number_up_to};
+ghost use Rattle.node_file.specs.Fields.{bytes_of_digits, key_of_digits, number_up_to};
+ghost use Rattle.node_file.specs.LineView.{GivesLine};
 ghost use Rattle.node_file.specs.declared.fault.FileCause.TheVariants.{Number};
 ghost use Rattle.prin_text.specs.Labels.{is_digit};
 ghost use Rattle.prin_text.specs.Words.{are_digits, has_leading_zero, value_after};
 
 use crate::fault::FileCause;
-use hex::decode_to_slice;
+use crate::line_fault::LineFault;
+use hex::{FromHexError, decode, decode_to_slice};
+use std::alloc::Global;
 
 // The number that the word is, up to the most.
 #[tactic(auto, unfolding(crate::specs::Fields::number_up_to))]
@@ -76,5 +79,17 @@ pub(crate) fn key_of_digits(word: &[u8]) -> Result<[u8; 32], FileCause>
     match decode_to_slice(word, &mut key) {
         Ok(()) => Ok(key),
         Err(_) => Err(FileCause::Hex),
+    }
+}
+
+// The bytes whose digits the word is.
+#[tactic(auto, unfolding(crate::specs::Fields::bytes_of_digits))]
+pub(crate) fn bytes_of_digits(alloc: Global, word: &[u8]) -> Result<Vec<u8>, LineFault>
+    ensures { GivesLine (λ v. v.items) result (bytes_of_digits word.now) }
+{
+    match decode(alloc, word) {
+        Ok(bytes) => Ok(bytes),
+        Err(FromHexError::OutOfMemory) => Err(LineFault::NoMemory),
+        Err(_) => Err(LineFault::Refused(FileCause::Hex)),
     }
 }

@@ -196,7 +196,7 @@ def words():
     frames = [BY_ONE, GRANT]
     return [
         Case("check by a file of no bytes", "It is no opening.", 2, ["check"], input=frames, left=frames,
-             note="taos: node file: byte 0: malformed"),
+             note="taos: node file: line 1: first line"),
         Case("a longer word than check", "There is no such command.", 1, ["checks"], file=node(shards=2),
              input=frames, left=frames, note="taos: usage"),
         Case("a denial by a node of two shards", "It is refused, with no note.", 11, ["check"],

@@ -131,8 +131,8 @@ def writing_large():
     """A reply of more than 512 bytes is written by two calls: its length, and its payload."""
     content = LARGE[:512]
     file, asked = node(content=content), [ask(1, 1), ask(1, 9)]
-    large = [granted(1, number, anchor_proof(1, 10, 0), content=content, place=place)
-             for number, place in ((1, 0), (9, 1))]
+    large = [granted(1, number, anchor_proof(1, 10, 0), content=content, place=place, kept=kept)
+             for number, place, kept in ((1, 0, 0), (9, 2, 1))]
     size = len(large[0])
     cuts = [0, 4, size, size + 4]
     cases = [Case(f"writing large replies fails at call {call}", "A length is a call of its own.", 4, file=file,
@@ -146,7 +146,7 @@ def writing_large():
 
 def noting():
     """A note is one call."""
-    file, note = node(), "taos: node file: byte 0: malformed"
+    file, note = node(), "taos: node file: line 1: first line"
     cut = "The status is the same."
     return [
         Case("writing the note fails", cut, 2, notes_fails=[0], faults=1),

@@ -90,10 +90,10 @@ def frames():
                        input=one + one, output=[by_anchor(1)], left=behind_one, note="taos: frames spent: 1")]
     cases += [Case("two frames of three", "The third frame is cut: its first byte tells that it is there.", 10,
                    ["run", "--frames=2"], file=node(), input=[ask(1, 1), ask(1, 2), Fields(b"\0\0")],
-                   output=[by_anchor(1), by_anchor(2, place=1)], left=[Fields(b"\0")],
+                   output=[by_anchor(1), by_anchor(2, place=2, kept=1)], left=[Fields(b"\0")],
                    note="taos: frames spent: 2")]
     cases += [Case("two frames of two", "Both are answered.", words=["run", "--frames", "2"], file=node(),
-                   input=[ask(1, 1), ask(1, 2)], output=[by_anchor(1), by_anchor(2, place=1)])]
+                   input=[ask(1, 1), ask(1, 2)], output=[by_anchor(1), by_anchor(2, place=2, kept=1)])]
     return cases
 
 
@@ -125,10 +125,9 @@ def listing(*rest):
     return held(u16(1), u32(5), u16(0), *rest)
 
 
-CUTS = [0, 1, 2, 5, 6, 37, 38, 41, 42, 49, 50, 57, 58, 59, 60, 61, 62, 63]
+CUTS = [1, 2, 5, 6, 37, 38, 41, 42, 49, 50, 57, 58, 59, 60, 61, 62, 63]
 
 HEADS = [
-    ("another mark", 0, [Fields(b"\1\1"), Fields(joined(SMALL)[2:])]),
     ("another mark in its second byte", 1, [Fields(b"\0\2"), Fields(joined(SMALL)[2:])]),
     ("no shard", 38, headed(shards=0)),
     ("65 shards", 38, headed(shards=65)),
@@ -183,7 +182,9 @@ TABLES = [
 
 def no_openings():
     cases = [refused_at(f"cut behind {count} bytes", "A byte is lacking at the file's length.", count,
-                        [Fields(joined(SMALL)[:count])] if count else []) for count in CUTS]
+                        [Fields(joined(SMALL)[:count])]) for count in CUTS]
+    cases += [Case("another mark", "A file whose first byte is not 0 is a text.", 2,
+                   file=[Fields(b"\1\1"), Fields(joined(SMALL)[2:])], note="taos: node file: line 1: first line")]
     cases += [refused_at(title, f"At byte {offset}.", offset, lines) for title, offset, lines in HEADS + TABLES]
     large = "One byte more than a file may have."
     cases += [Case("a file that is too long", large, 2, file=[Times(b"\0", 4_194_305)],
@@ -227,7 +228,7 @@ def openings():
              [(ask(1, 1), by_anchor(1, shard=1))]),
         talk("one key of two names, one name of two keys", "No pair is there twice.",
              most([1, 2], [(1, 10), (1, 11), (2, 11)], [], one),
-             [by_first, (ask(2, 1), no_alice(2, 1, place=1))]),
+             [by_first, (ask(2, 1), no_alice(2, 1, place=2))]),
     ]
 
 

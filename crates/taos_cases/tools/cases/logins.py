@@ -67,7 +67,7 @@ def logins():
     for title, entries, channel, quoted, chain in CHAINS:
         asked = ask(channel, 1, *own(chain), quoted=quoted)
         cases += [over(f"{title}, a second before it ends", "Each certificate is needed and cited.", entries,
-                       [(asked, Grant(channel, 1, len(chain)))], END - 1)]
+                       [(asked, Grant(channel, 1, len(chain), until=END))], END - 1)]
         cases += [over(f"{title}, as it ends", "The certificate with the greatest digest is named.", entries,
                        [(asked, expired(channel, 1, last(chain)))], END)]
     cases += without_one() + directly()
@@ -91,8 +91,8 @@ def without_one():
     cases += [over("a delegation without its word", "The second machine speaks for itself.", FOR_SECOND,
                    [(ask(18, 1, *own(ISSUED[:6]), quoted=A), missing(18, 1, acting_for(T, A)))], 1000)]
     cases += [over("a login, and then its channel's own", "The channel holds the login.", FOR_LOGIN,
-                   [(ask(15, 1, *own(ISSUED[:4]), quoted=BOB), Grant(15, 1, 4)),
-                    (ask(15, 2, quoted=BOB), Grant(15, 2, 4, place=1))], 1000)]
+                   [(ask(15, 1, *own(ISSUED[:4]), quoted=BOB), Grant(15, 1, 4, until=END)),
+                    (ask(15, 2, quoted=BOB), Grant(15, 2, 4, place=2, kept=1, until=END))], 1000)]
     return cases
 
 
@@ -101,11 +101,11 @@ def directly():
     chain = RELAYED
     return [
         talk("a login under the relay's key", "It was resealed before.", node(FOR_LOGIN, machines=True),
-             [(ask(15, 1, *opened(chain[:4]), quoted=BOB), Grant(15, 1, 4))], clock=[1000]),
+             [(ask(15, 1, *opened(chain[:4]), quoted=BOB), Grant(15, 1, 4, until=END))], clock=[1000]),
         talk("a delegation under the relay's key", "It was resealed before.", node(FOR_SECOND, machines=True),
-             [(ask(18, 1, *opened(chain), quoted=A), Grant(18, 1, 7))], clock=[1000]),
+             [(ask(18, 1, *opened(chain), quoted=A), Grant(18, 1, 7, until=END))], clock=[1000]),
         talk("a role under the relay's key", "It was resealed before.", node(FOR_ROLE, machines=True),
-             [(ask(4, 1, *opened([ROLE_ONE])), Grant(4, 1, 1))], clock=[1000]),
+             [(ask(4, 1, *opened([ROLE_ONE])), Grant(4, 1, 1, until=END))], clock=[1000]),
     ]
 
 

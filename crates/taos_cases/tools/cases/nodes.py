@@ -52,9 +52,9 @@ def ask(channel, number, *certificates, target=OBJECT, quoted=None):
     return frame(request(channel, number, target=target, certificates=certificates, quoted=quoted))
 
 
-def by_anchor(number, place=0, shard=0, entry=0):
+def by_anchor(number, place=0, shard=0, entry=0, kept=0):
     """Channel 1 is granted by anchor 0."""
-    return granted(1, number, anchor_proof(1, 10, 0), entry=entry, shard=shard, place=place)
+    return granted(1, number, anchor_proof(1, 10, 0), entry=entry, shard=shard, place=place, kept=kept)
 
 
 def by_itself(channel, number, place=0):

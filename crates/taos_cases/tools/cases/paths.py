@@ -23,7 +23,7 @@ def first():
         talk("a listed key", "A key speaks for itself.", node([(1, key(2))]), [(ask(2, 1), by_itself(2, 1))]),
         talk("a listed key that quotes", "Who is quoted makes another subject, which is listed here.",
              node([(1, quoted)]), [(ask(1, 1, quoted=BOB), Grant(1, 1, 0)),
-                                   (ask(1, 2), missing(1, 2, BOB, place=1))]),
+                                   (ask(1, 2), missing(1, 2, BOB, place=2))]),
         talk("a hand-off", "Key 1 hands on to key 2 what it is anchored to.",
              node(), [(ask(2, 1, handed()), Grant(2, 1, 1))], clock=[1000]),
         talk("the second entry, behind one that may not read", "The first entry with the right is granted.",
@@ -45,7 +45,7 @@ def first():
 
 
 def three_replies():
-    return [by_anchor(1), no_alice(2, 1, place=1), malformed(0)]
+    return [by_anchor(1), no_alice(2, 1, place=2), malformed(0)]
 
 
 def writing(channel=1, certificates=()):

@@ -50,7 +50,7 @@ def by_table():
 def by_calls():
     known, second = table([1, 3], 7, 7), issued(1, handing(serial=2))
     by_three = [issued(3, handing(issuer=3, serial=serial)) for serial in (1, 2)]
-    again = [(ASKED, GRANTED), (ask(2, 2, second), relay_failed(2, 2, 0)), (ask(2, 2), Grant(2, 2, 1, place=1))]
+    again = [(ASKED, GRANTED), (ask(2, 2, second), relay_failed(2, 2, 0)), (ask(2, 2), Grant(2, 2, 1, place=2, kept=1))]
     both = [(ask(2, 1, *by_three), relay_failed(2, 1, 1)), (ask(2, 1, *by_three), no_alice(2, 1))]
     unseen = [(ask(2, 1, *by_three), no_alice(2, 1)), (ask(2, 2, *by_three), no_alice(2, 2, 1))]
     return [
@@ -76,12 +76,12 @@ def no_relay():
     stranger = [handed(issuer=3), OWN]
     return [
         talk("the places go on", "A link that fails leaves no entry.", node(),
-             [(ask(1, 1), by_anchor(1)), (ASKED, FAILED), (ask(2, 1), no_alice(2, 1, 1)),
-              (ask(1, 2), by_anchor(2, 2))], clock=[1000], faults=1),
+             [(ask(1, 1), by_anchor(1)), (ASKED, FAILED), (ask(2, 1), no_alice(2, 1, 2)),
+              (ask(1, 2), by_anchor(2, 3, kept=1))], clock=[1000], faults=1),
         talk("what was opened before is not held", "The second of two has to go to the relay.", node(),
              [(opened, relay_failed(2, 1, 1)), (ask(2, 1), no_alice(2, 1))], clock=[1000], faults=1),
         talk("no reading is taken", "1999 is the reading of the second frame.", node(),
-             [(ASKED, FAILED), (ask(2, 1, NEW), GRANTED), (ask(2, 2), expired(2, 2, C1, place=1))],
+             [(ASKED, FAILED), (ask(2, 1, NEW), GRANTED), (ask(2, 2), expired(2, 2, C1, place=2))],
              clock=[1999, 2000], faults=1),
         talk("a link that fails, and an object that is not there", "The certificates come first.", node(),
              [(ask(2, 1, OWN, target=6), FAILED)], faults=1),

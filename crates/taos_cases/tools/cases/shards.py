@@ -11,9 +11,14 @@ BOBS = body(1, BOB, ALICE, 2000, 1)
 SHOWN = relayed(C1)
 
 
-def granted(channel, number, place=0, shard=0):
+def granted(channel, number, place=0, shard=0, kept=0, until=2000):
     """By one certificate."""
-    return Grant(channel, number, 1, shard=shard, place=place)
+    return Grant(channel, number, 1, shard=shard, place=place, kept=kept, until=until)
+
+
+def again(channel, number, place, shard=0):
+    """By one certificate, and a proof that was kept."""
+    return granted(channel, number, place, shard, kept=1)
 
 
 def ended(number, place=0, until=2000, channel=2, text=None, shard=0):
@@ -34,21 +39,21 @@ def clocks():
         ("the end is no longer live", "A certificate is live where it ends after the moment.", plain, [80, 79],
          [(ask_80, ended(1, 0, 80)), (ask(2, 2), ended(2, 1, 80))]),
         ("both readings before the end", "The second is lower, and the moment is the first.", plain, [79, 78],
-         [(ask_80, granted(2, 1)), (ask(2, 2), granted(2, 2, 1))]),
+         [(ask_80, granted(2, 1, until=80)), (ask(2, 2), granted(2, 2, 2, kept=1))]),
         ("one reading before the end and one at it", "It ends in between.", plain, [79, 80],
-         [(ask_80, granted(2, 1)), (ask(2, 2), ended(2, 1, 80))]),
+         [(ask_80, granted(2, 1, until=80)), (ask(2, 2), ended(2, 2, 80))]),
         ("another channel's reading", "The clock is the shard's.", plain, [2000, 1000],
-         [(ask(1, 1), by_anchor(1)), (ask(2, 1, SHOWN), ended(1, 1))]),
+         [(ask(1, 1), by_anchor(1)), (ask(2, 1, SHOWN), ended(1, 2))]),
         ("the reading of a number that was there", "It is an entry, and so a moment.", plain, [1000, 2000, 1000],
-         [(ask(2, 1, SHOWN), granted(2, 1)), (ask(2, 1), replayed(2, 1, 1)), (ask(2, 2), ended(2, 2))]),
+         [(ask(2, 1, SHOWN), granted(2, 1)), (ask(2, 1), replayed(2, 1, 1)), (ask(2, 2), ended(2, 3))]),
         ("no reading for what has no object or no seal", "2000 is the reading of the fourth frame.", plain,
          [1000, 2000, 1000],
          [(ask(2, 1, SHOWN), granted(2, 1)), (ask(2, 2, target=9), unknown_object(2, 2, 9)),
-          (turned(ask(2, 2)), bad_seal()), (ask(2, 2), ended(2, 1))]),
+          (turned(ask(2, 2)), bad_seal()), (ask(2, 2), ended(2, 2))]),
         ("no reading for a certificate that is refused", "2000 is the reading of the third frame.", plain,
          [1000, 2000, 1000],
          [(ask(2, 1, SHOWN), granted(2, 1)), (ask(2, 2, turned(SHOWN)), refused(2, 2, 0, 3)),
-          (ask(2, 2), ended(2, 1))]),
+          (ask(2, 2), ended(2, 2))]),
         ("the reading for a journal that is full", "It is taken, and no moment: the third frame has the next.",
          node(limit=1, shards=2), [1000, 2000, 1999],
          [(ask(1, 1), by_anchor(1, shard=1)), (ask(1, 2), journal_full(1, 2, 1, 1)),
@@ -60,15 +65,15 @@ def ends_of_time():
     plain = node()
     return told([
         ("at the first moment", "A certificate until 1 is live at 0.", plain, [0],
-         [(ask(2, 1, handed(until=1)), granted(2, 1)), (ask(1, 1), by_anchor(1, 1))]),
+         [(ask(2, 1, handed(until=1)), granted(2, 1, until=1)), (ask(1, 1), by_anchor(1, 2))]),
         ("ended at the first moment", "One until 0 is never live.", plain, [0],
          [(ask(2, 1, handed(until=0)), ended(1, 0, 0))]),
         ("before the last moment, and at it", "One until the last is not live at it; and 0 comes too late.",
          plain, [LAST - 1, LAST, 0],
-         [(ask(2, 1, handed(until=LAST)), granted(2, 1)), (ask(2, 2), ended(2, 1, LAST)),
-          (ask(1, 1), by_anchor(1, 2))]),
+         [(ask(2, 1, handed(until=LAST)), granted(2, 1, until=LAST)), (ask(2, 2), ended(2, 2, LAST)),
+          (ask(1, 1), by_anchor(1, 3))]),
         ("swept at the last moment", "What ended long ago is let go.", plain, [1000, LAST],
-         [(ask(2, 1, SHOWN), granted(2, 1)), (ask(2, 2), no_alice(2, 2, 1))]),
+         [(ask(2, 1, SHOWN), granted(2, 1)), (ask(2, 2), no_alice(2, 2, 2))]),
     ])
 
 
@@ -76,15 +81,16 @@ def numbers():
     plain, at = node(), [1000]
     return told([
         ("a number twice", "The second is replayed, and takes an entry.", plain, at,
-         [(ask(1, 1), by_anchor(1)), (ask(1, 1), replayed(1, 1, 1)), (ask(1, 2), by_anchor(2, 2))]),
+         [(ask(1, 1), by_anchor(1)), (ask(1, 1), replayed(1, 1, 1)), (ask(1, 2), by_anchor(2, 3, kept=1))]),
         ("equal, lower, and with gaps up to the last", "Numbers rise, and may leave some out.", plain, at,
          [(ask(1, 5), by_anchor(5)), (ask(1, 5), replayed(1, 5, 5)), (ask(1, 4), replayed(1, 4, 5)),
-          (ask(1, 6), by_anchor(6, 3)), (ask(1, 1000), by_anchor(1000, 4)), (ask(1, LAST), by_anchor(LAST, 5)),
+          (ask(1, 6), by_anchor(6, 4, kept=1)), (ask(1, 1000), by_anchor(1000, 5, kept=1)),
+          (ask(1, LAST), by_anchor(LAST, 6, kept=1)),
           (ask(1, LAST), replayed(1, LAST, LAST)), (ask(1, 1000), replayed(1, 1000, LAST))]),
         ("number 0", "It is not above the last number, which is 0 at first.", plain, at,
          [(ask(1, 0), replayed(1, 0, 0)), (ask(1, 1), by_anchor(1, 1))]),
         ("each channel by itself", "Channel 2 has numbers of its own.", plain, at,
-         [(ask(1, 5), by_anchor(5)), (ask(2, 1), no_alice(2, 1, 1)), (ask(1, 4), replayed(1, 4, 5))]),
+         [(ask(1, 5), by_anchor(5)), (ask(2, 1), no_alice(2, 1, 2)), (ask(1, 4), replayed(1, 4, 5))]),
         ("what never came to its object takes no number", "Nor an entry.", plain, at,
          [(ask(1, 1, target=9), unknown_object(1, 1, 9)), (ask(1, 1), by_anchor(1))]),
         ("a number that was denied", "It was taken.", plain, at,
@@ -96,7 +102,7 @@ def held():
     plain, at = node(), [1000]
     return told([
         ("presented once and used again", "The second request presents none.", plain, at,
-         [(ask(2, 1, SHOWN), granted(2, 1)), (ask(2, 2), granted(2, 2, 1))]),
+         [(ask(2, 1, SHOWN), granted(2, 1)), (ask(2, 2), again(2, 2, 2))]),
         ("presented by one who quotes", "The channel holds it, whoever was quoted.", plain, at,
          [(ask(2, 1, SHOWN, quoted=BOB), no_alice(2, 1)), (ask(2, 2), granted(2, 2, 1))]),
         ("presented for another channel", "That has to present it itself.", plain, at,
@@ -111,7 +117,7 @@ def held():
         ("presented where the journal is full", "Nothing is done.", node(limit=1), at,
          [(ask(2, 1), no_alice(2, 1)), (ask(2, 2, SHOWN), journal_full(2, 2, 0, 1))]),
         ("presented twice in one request", "It is held, and cited once.", plain, at,
-         [(ask(2, 1, SHOWN, SHOWN), granted(2, 1)), (ask(2, 2), granted(2, 2, 1))]),
+         [(ask(2, 1, SHOWN, SHOWN), granted(2, 1)), (ask(2, 2), again(2, 2, 2))]),
     ])
 
 
@@ -132,9 +138,9 @@ def kept():
         ("presented too late, and once more", "What is gone can be presented again, and is named.", ten, [2010],
          [(shown, ended(1)), (ask(2, 2), no_alice(2, 2, 1)), (ask(2, 3, SHOWN), ended(3, 2))]),
         ("swept for another channel", "Each entry lets go of what is gone.", ten, [1000, 2010, 1000],
-         [(shown, granted(2, 1)), (ask(1, 1), by_anchor(1, 1)), (ask(2, 2), no_alice(2, 2, 2))]),
+         [(shown, granted(2, 1)), (ask(1, 1), by_anchor(1, 2)), (ask(2, 2), no_alice(2, 2, 4))]),
         ("swept for a number that was there", "That is an entry too.", ten, [1000, 2010, 1000],
-         [(shown, granted(2, 1)), (ask(2, 1), replayed(2, 1, 1)), (ask(2, 2), no_alice(2, 2, 2))]),
+         [(shown, granted(2, 1)), (ask(2, 1), replayed(2, 1, 1)), (ask(2, 2), no_alice(2, 2, 3))]),
     ])
 
 
@@ -145,8 +151,10 @@ def limits():
          node(limit=1), at,
          [(ask(1, 1), by_anchor(1)), (ask(1, 2), journal_full(1, 2, 0, 1)), (ask(1, 1), journal_full(1, 1, 0, 1)),
           (ask(2, 1), journal_full(2, 1, 0, 1)), (ask(1, 1, target=9), unknown_object(1, 1, 9))]),
-        ("a journal of two entries", "One of them is of a number that was there.", node(limit=2), at,
-         [(ask(1, 1), by_anchor(1)), (ask(1, 1), replayed(1, 1, 1)), (ask(1, 2), journal_full(1, 2, 0, 2))]),
+        ("a journal of two entries", "One of them is of the proof that is kept.", node(limit=2), at,
+         [(ask(1, 1), by_anchor(1)), (ask(1, 1), journal_full(1, 1, 0, 2)), (ask(1, 2), journal_full(1, 2, 0, 2))]),
+        ("a journal of three entries", "The last of them is of a number that was there.", node(limit=3), at,
+         [(ask(1, 1), by_anchor(1)), (ask(1, 1), replayed(1, 1, 1)), (ask(1, 2), journal_full(1, 2, 0, 3))]),
         ("each shard's own journal", "Each has its own length.", node(shards=2, limit=1), at,
          [(ask(1, 1), by_anchor(1, shard=1)), (ask(1, 2), journal_full(1, 2, 1, 1)), (ask(2, 1), no_alice(2, 1)),
           (ask(2, 2), journal_full(2, 2, 0, 1)), (ask(1, 2), journal_full(1, 2, 1, 1))]),
@@ -158,16 +166,16 @@ def shards():
     return told([
         ("the higher reading at the other shard", "Each shard has its own clock and places.", two, at,
          [(ask(1, 1), by_anchor(1, shard=1)), (ask(2, 1, SHOWN), granted(2, 1)),
-          (ask(1, 2), by_anchor(2, 1, shard=1)), (ask(3, 1), no_alice(3, 1, 2, 1)),
-          (ask(4, 1), no_alice(4, 1, 1)), (ask(2, 2), granted(2, 2, 2))]),
+          (ask(1, 2), by_anchor(2, 2, shard=1, kept=1)), (ask(3, 1), no_alice(3, 1, 3, 1)),
+          (ask(4, 1), no_alice(4, 1, 2)), (ask(2, 2), again(2, 2, 3))]),
         ("the higher reading at its own shard", "3000 is the moment of channel 3, which is of the same shard.",
          two, at,
-         [(ask(1, 1), by_anchor(1, shard=1)), (ask(3, 1, relayed(C3)), ended(1, 1, channel=3, text=C3, shard=1)),
+         [(ask(1, 1), by_anchor(1, shard=1)), (ask(3, 1, relayed(C3)), ended(1, 2, channel=3, text=C3, shard=1)),
           (ask(2, 1, SHOWN), granted(2, 1))]),
         ("sixty-four shards", "Channels 18, 1 and 2 are of the shards of their numbers.",
          node(shards=64, limit=16, machines=True), [1000],
          [(ask(18, 1), no_alice(18, 1, 0, 18)), (ask(1, 1), by_anchor(1, shard=1)),
-          (ask(2, 1, SHOWN), granted(2, 1, shard=2)), (ask(2, 2), granted(2, 2, 1, 2))]),
+          (ask(2, 1, SHOWN), granted(2, 1, shard=2)), (ask(2, 2), again(2, 2, 2, 2))]),
         ("three shards", "Channels 3, 15 and 18 are of shard 0, 4 and 1 of shard 1.",
          node(shards=3, machines=True), [1000],
          [(ask(3, 1), no_alice(3, 1)), (ask(15, 1), no_alice(15, 1, 1)), (ask(18, 1), no_alice(18, 1, 2)),
@@ -181,7 +189,7 @@ def commons():
     split = node(shards=2, keep=10, commons=[SHOWN, relayed(C3)])
     return told([
         ("cited, and presented besides", "Who presents what is common does not own it.", with_c1, at,
-         [(ask(2, 1), granted(2, 1)), (ask(2, 2, SHOWN), granted(2, 2, 1))]),
+         [(ask(2, 1), granted(2, 1)), (ask(2, 2, SHOWN), again(2, 2, 2))]),
         ("ended for each of two channels", "Each is told of its own.", both, [3000],
          [(ask(2, 1), ended(1)), (ask(4, 1), ended(1, 1, channel=4, text=C4)), (ask(3, 1), no_alice(3, 1, 2))]),
         ("ended for who is anchored", "Key 1 handed alice on to bob, until 2000.", bobs, [2000],
@@ -222,7 +230,7 @@ def full():
             (ask(2, 5, *idle([33])), no_alice(2, 5, 7))]),
         ("a hand-off that has no place", "It is not judged by: the channel is full.", plain, at, filled + [
             (ask(2, 3, *idle([32]), SHOWN), channel_full(2, 3, 31)), (ask(2, 3, SHOWN), granted(2, 3, 3)),
-            (ask(2, 4), granted(2, 4, 4))]),
+            (ask(2, 4), again(2, 4, 5))]),
         ("a common one takes no place", "Nor does one that is held, or one twice.", both, at, filled + [
             (ask(2, 3, *idle([40, 1, 32, 32])), no_alice(2, 3, 2)), (ask(2, 4, *idle([40])), no_alice(2, 4, 3)),
             (ask(2, 5, *idle([41])), channel_full(2, 5, 32))]),

@@ -1,13 +1,21 @@
 -- the Ask's step, and what it came to, make the whole
-use Rattle.std.proofs.Common.{List, length, replicate, map, true, sym, ap, subst, inl, refl}
+use Rattle.std.proofs.Common.{◌≡◌, ◌∙◌, ap₂, Some, slice_get, List, length, replicate, map, true, sym, ap, subst, inl, refl}
 use Rattle.prin_term.specs.View.{grant, principal}
 use Rattle.stmt_codec.specs.View.{certificates}
 use Rattle.taos_calculus.specs.Question.{IsAskable}
 use Rattle.agent_core.specs.declared.event.Ask.{Ask as AskValue}
 use Rattle.agent_core.specs.Plans.{AreShards, home}
+use Rattle.std.specs.Arc.{arc_value}
+use Rattle.proof_cache.specs.Cached.{Cached, cached}
+use Rattle.proof_cache.specs.declared.cached.Cached.{Cached as CachedValue}
+use Rattle.agent_core.specs.declared.asked.Verdict.TheVariants as verdict
+use Rattle.agent_core.specs.Journals.{IsKeepable}
+use Rattle.agent_core.specs.Settling.{IsGrantedBy, IsDeniedBy, KeptAs, Settles}
+use Rattle.agent_core.specs.Steps.{StepRefused, seen_at}
 use Rattle.agent_core.specs.State.{Plan}
 use Rattle.agent_core.specs.Views.{ask_of}
-use Rattle.agent_core.proofs.Asks.{on_err, refused_asks, missed_step, replayed_ends, full_ends, journal_full_ends, hit_never, other_never, judged_by, settled_asks, unanswered_asks, ends_made, standing, askable, anchors_are}
+use Rattle.agent_core.proofs.Asks.{on_err, refused_asks, missed_step, replayed_ends, full_ends, journal_full_ends, hit_ends, hit_made, other_never, judged_by, denied_asks, unanswered_asks, ends_made, standing, askable, anchors_are}
+use Rattle.agent_core.proofs.Granting.{granted_as, kept_asks, may_keep, unkept_asks}
 use Rattle.agent_core.proofs.Places.{certificate_count}
 use Rattle.agent_core.proofs.whole_ask.ask_taken_in.Goals as goal
 
@@ -25,24 +33,87 @@ settle-requires g c =
     (askable plans c.anchors.result.now are (home plans c.args.asked.value.channel) plan at s.before (ask_of c.args.asked.value) c.in-Miss.snapshot.moment certs (length c.in-Miss.snapshot.certs.items)
     (certificate_count c.in-Miss.snapshot.certs.items) (judged_by _ _ _ _ s) c.requires.fits)
 
-pub returns-in_err-verdict-in-Miss-clause-unanswered :
-    goal.returns-in_err-verdict-in-Miss-clause-unanswered
-returns-in_err-verdict-in-Miss-clause-unanswered g c plan at =
+pub returns-in_err-entry-in-Miss-clause-unanswered : goal.returns-in_err-entry-in-Miss-clause-unanswered
+returns-in_err-entry-in-Miss-clause-unanswered g c plan at =
     let plans : List Plan = g.S.Shards.plans c.args.shards.now in
     let s = missed_step (c.in_ok-place.ensures.steps plan at) c.in-Miss.snapshot c.in-Miss.is in
     let are = subst (λ p. AreShards p c.anchors.result.now) c.in_ok-place.ensures.plans c.anchors.ensures in
-    on_err c.from_residual-in_err-verdict-in-Miss.result
+    on_err c.from_residual-in_err-entry-in-Miss.result
     (unanswered_asks _ _ _ _ s c.anchors.result.now (anchors_are plans c.anchors.result.now are (home plans c.args.asked.value.channel) plan at)
-    (ask_of c.deref.result.now) (ap ask_of c.deref.ensures) c.in_err-verdict-in-Miss.ensures.wanted)
+    (ask_of c.deref.result.now) (ap ask_of c.deref.ensures) c.in_err-entry-in-Miss.ensures.wanted)
+
+pub keep_at_home-requires-clause-meant : goal.keep_at_home-requires-clause-meant
+keep_at_home-requires-clause-meant g c = λ lifetimes lives plan at.
+    let plans : List Plan = g.S.Shards.plans c.args.shards.now in
+    let same : g.S.Shards.plans c.step_at_home.new.shards ≡ plans = c.in_ok-place.ensures.plans in
+    let here : home (g.S.Shards.plans c.step_at_home.new.shards) c.deref-in-Granted.result.now.channel ≡ home plans c.args.asked.value.channel = ap₂ home same (ap (λ (x : AskValue). x.channel) c.deref-in-Granted.ensures) in
+    let there : slice_get plans (home plans c.args.asked.value.channel) ≡ Some plan = ap₂ (λ (l : List Plan) n. slice_get l n) (sym same) (sym here) ∙ at in
+    let s = missed_step (c.in_ok-place.ensures.steps plan there) c.in-Miss.snapshot c.in-Miss.is in
+    let are = subst (λ p. AreShards p c.anchors.result.now) c.in_ok-place.ensures.plans c.anchors.ensures in
+    let certs = certificates c.in-Miss.snapshot.certs.items in
+    let kept : Cached = cached (arc_value {X = CachedValue} c.in-Granted.cached) in
+    let grant : IsGrantedBy c.anchors.result.now certs c.in-Miss.snapshot.moment (ask_of c.deref.result.now) c.in-Granted.entry kept =
+    subst (Settles c.anchors.result.now certs c.in-Miss.snapshot.moment (ask_of c.deref.result.now)) c.in-Granted.is c.in_ok-entry-in-Miss.ensures.settled in
+    subst (λ n. IsKeepable plan (g.S.Shards.seen c.step_at_home.new.shards n) c.in_ok-place.place c.in-Granted.entry kept) (sym here)
+    (may_keep (ask_of c.args.asked.value) c.in_ok-place.place c.in-Miss.snapshot.moment certs s c.in-Granted.entry kept
+    (granted_as c.anchors.result.now plan.anchors (anchors_are plans c.anchors.result.now are (home plans c.args.asked.value.channel) plan there) (ask_of c.args.asked.value) (ask_of c.deref.result.now) (ap ask_of c.deref.ensures) certs c.in-Miss.snapshot.moment c.in-Granted.entry kept grant))
+
+pub returns-in_err-settled-in-Granted-clause-unanswered : goal.returns-in_err-settled-in-Granted-clause-unanswered
+returns-in_err-settled-in-Granted-clause-unanswered g c plan at =
+    let plans : List Plan = g.S.Shards.plans c.args.shards.now in
+    let mid = c.step_at_home.new.shards in
+    let later = c.keep_at_home.new.shards in
+    let same : g.S.Shards.plans mid ≡ plans = c.in_ok-place.ensures.plans in
+    let here : home (g.S.Shards.plans mid) c.deref-in-Granted.result.now.channel ≡ home plans c.args.asked.value.channel = ap₂ home same (ap (λ (x : AskValue). x.channel) c.deref-in-Granted.ensures) in
+    let there : slice_get (g.S.Shards.plans mid) (home (g.S.Shards.plans mid) c.deref-in-Granted.result.now.channel) ≡ Some plan = ap₂ (λ (l : List Plan) n. slice_get l n) same here ∙ at in
+    let s = missed_step (c.in_ok-place.ensures.steps plan at) c.in-Miss.snapshot c.in-Miss.is in
+    let are = subst (λ p. AreShards p c.anchors.result.now) same c.anchors.ensures in
+    let certs = certificates c.in-Miss.snapshot.certs.items in
+    let kept : Cached = cached (arc_value {X = CachedValue} c.in-Granted.cached) in
+    let grant : IsGrantedBy c.anchors.result.now certs c.in-Miss.snapshot.moment (ask_of c.deref.result.now) c.in-Granted.entry kept =
+    subst (Settles c.anchors.result.now certs c.in-Miss.snapshot.moment (ask_of c.deref.result.now)) c.in-Granted.is c.in_ok-entry-in-Miss.ensures.settled in
+    let refused =
+    subst (λ al. StepRefused plan (seen_at al (g.S.Shards.seen mid) (g.S.Shards.own mid) (home plans c.args.asked.value.channel)) (seen_at al (g.S.Shards.seen later) (g.S.Shards.own later) (home plans c.args.asked.value.channel))) c.in_ok-place.ensures.alone
+    (subst (λ n. StepRefused plan (seen_at (g.S.Shards.alone mid) (g.S.Shards.seen mid) (g.S.Shards.own mid) n) (seen_at (g.S.Shards.alone mid) (g.S.Shards.seen later) (g.S.Shards.own later) n)) here
+    (c.in_err-settled-in-Granted.ensures.refused plan there)) in
+    on_err c.from_residual-in_err-settled-in-Granted.result
+    (unkept_asks (ask_of c.args.asked.value) c.in_ok-place.place c.in-Miss.snapshot.moment certs s c.in-Granted.entry kept
+    (granted_as c.anchors.result.now plan.anchors (anchors_are plans c.anchors.result.now are (home plans c.args.asked.value.channel) plan at) (ask_of c.args.asked.value) (ask_of c.deref.result.now) (ap ask_of c.deref.ensures) certs c.in-Miss.snapshot.moment c.in-Granted.entry kept grant)
+    (seen_at (g.S.Shards.alone c.args.shards.now) (g.S.Shards.seen later) (g.S.Shards.own later) (home plans c.args.asked.value.channel)) refl refused)
+
+pub returns-in-Granted-clause-asked : goal.returns-in-Granted-clause-asked
+returns-in-Granted-clause-asked g c plan at =
+    let plans : List Plan = g.S.Shards.plans c.args.shards.now in
+    let mid = c.step_at_home.new.shards in
+    let later = c.keep_at_home.new.shards in
+    let same : g.S.Shards.plans mid ≡ plans = c.in_ok-place.ensures.plans in
+    let here : home (g.S.Shards.plans mid) c.deref-in-Granted.result.now.channel ≡ home plans c.args.asked.value.channel = ap₂ home same (ap (λ (x : AskValue). x.channel) c.deref-in-Granted.ensures) in
+    let there : slice_get (g.S.Shards.plans mid) (home (g.S.Shards.plans mid) c.deref-in-Granted.result.now.channel) ≡ Some plan = ap₂ (λ (l : List Plan) n. slice_get l n) same here ∙ at in
+    let s = missed_step (c.in_ok-place.ensures.steps plan at) c.in-Miss.snapshot c.in-Miss.is in
+    let are = subst (λ p. AreShards p c.anchors.result.now) same c.anchors.ensures in
+    let certs = certificates c.in-Miss.snapshot.certs.items in
+    let kept : Cached = cached (arc_value {X = CachedValue} c.in-Granted.cached) in
+    let settled = c.in_ok-settled-in-Granted.settled in
+    let grant : IsGrantedBy c.anchors.result.now certs c.in-Miss.snapshot.moment (ask_of c.deref.result.now) c.in-Granted.entry kept =
+    subst (Settles c.anchors.result.now certs c.in-Miss.snapshot.moment (ask_of c.deref.result.now)) c.in-Granted.is c.in_ok-entry-in-Miss.ensures.settled in
+    let became =
+    subst (λ al. KeptAs plan (seen_at al (g.S.Shards.seen mid) (g.S.Shards.own mid) (home plans c.args.asked.value.channel)) (seen_at al (g.S.Shards.seen later) (g.S.Shards.own later) (home plans c.args.asked.value.channel)) c.in_ok-place.place c.in-Granted.entry kept settled) c.in_ok-place.ensures.alone
+    (subst (λ n. KeptAs plan (seen_at (g.S.Shards.alone mid) (g.S.Shards.seen mid) (g.S.Shards.own mid) n) (seen_at (g.S.Shards.alone mid) (g.S.Shards.seen later) (g.S.Shards.own later) n) c.in_ok-place.place c.in-Granted.entry kept settled) here
+    (c.in_ok-settled-in-Granted.ensures.kept plan there)) in
+    kept_asks (ask_of c.args.asked.value) c.in_ok-place.place c.in-Miss.snapshot.moment certs s c.in-Granted.entry kept
+    (granted_as c.anchors.result.now plan.anchors (anchors_are plans c.anchors.result.now are (home plans c.args.asked.value.channel) plan at) (ask_of c.args.asked.value) (ask_of c.deref.result.now) (ap ask_of c.deref.ensures) certs c.in-Miss.snapshot.moment c.in-Granted.entry kept grant)
+    (seen_at (g.S.Shards.alone c.args.shards.now) (g.S.Shards.seen later) (g.S.Shards.own later) (home plans c.args.asked.value.channel)) refl settled became
 
 pub returns-in-Miss-clause-asked : goal.returns-in-Miss-clause-asked
 returns-in-Miss-clause-asked g c plan at =
     let plans : List Plan = g.S.Shards.plans c.args.shards.now in
     let s = missed_step (c.in_ok-place.ensures.steps plan at) c.in-Miss.snapshot c.in-Miss.is in
     let are = subst (λ p. AreShards p c.anchors.result.now) c.in_ok-place.ensures.plans c.anchors.ensures in
-    ends_made c.ended.result c.in_ok-place.place c.in_ok-verdict-in-Miss.verdict c.ended.ensures
-    (settled_asks _ _ _ _ s c.anchors.result.now (anchors_are plans c.anchors.result.now are (home plans c.args.asked.value.channel) plan at)
-    (ask_of c.deref.result.now) (ap ask_of c.deref.ensures) c.in_ok-verdict-in-Miss.verdict c.in_ok-verdict-in-Miss.ensures.settled)
+    let certs = certificates c.in-Miss.snapshot.certs.items in
+    let denied : IsDeniedBy c.anchors.result.now certs c.in-Miss.snapshot.moment (ask_of c.deref.result.now) c.in-Denied.denial =
+    subst (Settles c.anchors.result.now certs c.in-Miss.snapshot.moment (ask_of c.deref.result.now)) c.in-Denied.is c.in_ok-entry-in-Miss.ensures.settled in
+    ends_made c.ended.result c.in_ok-place.place (verdict.Denied c.in-Denied.denial) c.ended.ensures
+    (denied_asks _ _ _ _ s c.anchors.result.now (anchors_are plans c.anchors.result.now are (home plans c.args.asked.value.channel) plan at) (ask_of c.deref.result.now) (ap ask_of c.deref.ensures) c.in-Denied.denial denied)
 
 pub returns-in-Replayed-clause-asked : goal.returns-in-Replayed-clause-asked
 returns-in-Replayed-clause-asked g c plan at =
@@ -57,10 +128,11 @@ returns-in-JournalFull-clause-asked g c plan at =
     ends_made c.ended-in-JournalFull.result c.in_ok-place.place _ c.ended-in-JournalFull.ensures (journal_full_ends (c.in_ok-place.ensures.steps plan at) c.in-JournalFull.length c.in-JournalFull.is)
 
 pub returns-in-Hit-clause-asked : goal.returns-in-Hit-clause-asked
-returns-in-Hit-clause-asked g c plan at = absurd (hit_never (c.in_ok-place.ensures.steps plan at) c.in-Hit.entry c.in-Hit.cached c.in-Hit.is)
+returns-in-Hit-clause-asked g c plan at =
+    hit_made c.ended-in-Hit.result c.in_ok-place.place c.in-Hit.entry c.in-Hit.cached c.ended-in-Hit.ensures (hit_ends (c.in_ok-place.ensures.steps plan at) c.in-Hit.entry c.in-Hit.cached c.in-Hit.is)
 
 pub unreachable-requires : goal.unreachable-requires
 unreachable-requires g c =
     let plans : List Plan = g.S.Shards.plans c.args.shards.now in
     let (plan, at) = standing plans (home plans c.args.asked.value.channel) c.in_ok-place.ensures.there in
-    other_never (c.in_ok-place.ensures.steps plan at) c.in-Held.is
+    other_never (c.in_ok-place.ensures.steps plan at) c.in-Kept.is

@@ -1,10 +1,14 @@
 -- What the whole relay file means.
-use Rattle.std.proofs.Common.{◌≡◌, ◌⊎◌, false, cond, Err, Some, None, sym, ap, subst, ◌∙◌, arith, inr}
+use Rattle.std.proofs.Common.{◌≡◌, ◌⊎◌, false, cond, Err, Some, None, sym, ap, subst, ◌∙◌, arith, inr, true}
+use Rattle.std.specs.Prelude.{codes}
 use Rattle.node_file.specs.declared.fault.FileFault.{FileFault}
 use Rattle.node_file.specs.declared.fault.FileFault.TheVariants.{NoMemory}
+use Rattle.node_file.specs.FileLines.{is_first_line}
 use Rattle.node_file.specs.Lines.{is_skipped}
-use Rattle.node_file.specs.RelayFile.{relay_in}
-use Rattle.node_file.proofs.RelayRead.{never_begun, relay_done, relay_long, stops_with}
+use Rattle.node_file.specs.RelayFile.{no_relay, relay_in, relay_step}
+use Rattle.node_file.specs.RelayView.{StandsSoFar}
+use Rattle.node_file.proofs.FileRead.{all_done, never_begun, stops_with}
+use Rattle.node_file.proofs.RelayRead.{relay_long, relay_short, relay_stops}
 use Rattle.node_file.proofs.relay_reading.read_relay_file.Goals as goal
 
 pub returns-then-bytes-gt-MAX_FILE : goal.returns-then-bytes-gt-MAX_FILE
@@ -18,7 +22,9 @@ returns-in-Err c =
     let skipped : is_skipped line ≡ false = grind (arith, c.is_skipped.ensures, c.if-not-is_skipped.ensures, c.if-not-is_skipped.true) in
     record {
       exact = subst (λ (e : FileFault). (e ≡ NoMemory) ⊎ (relay_in bytes ≡ Err e)) (sym c.at-in-Err.ensures)
-          (stops_with bytes (omega (arith, c.if-bytes-gt-MAX_FILE.false)) c.loop-at.number c.loop-at.at so.so_far so.same c.take_any.new.file line _ c.in-Err.fault c.line_at-next.ensures.line skipped (c.in-Err.ensures.takes so.so_far so.stands));
+          (relay_stops bytes _ (omega (arith, c.if-bytes-gt-MAX_FILE.false))
+          (stops_with (is_first_line (codes "taos-relay")) no_relay relay_step bytes c.loop-at.number c.loop-at.at so.so_far so.same (StandsSoFar true) c.take_any.new.file line _ c.in-Err.fault c.line_at-next.ensures.line skipped
+          (c.in-Err.ensures.takes so.so_far so.stands)));
     }
 
 pub returns-then-begun : goal.returns-then-begun
@@ -28,7 +34,8 @@ returns-then-begun c =
     record {
       exact = (
         so.stands.made,
-        relay_done bytes (omega (arith, c.if-bytes-gt-MAX_FILE.false)) c.loop-at.number c.loop-at.at so.so_far so.same so.stands.made (omega (arith, c.loop-at-test.false))
+        relay_short bytes (omega (arith, c.if-bytes-gt-MAX_FILE.false))
+            ∙ all_done (is_first_line (codes "taos-relay")) no_relay relay_step bytes c.loop-at.number c.loop-at.at so.so_far so.same so.stands.made (omega (arith, c.loop-at-test.false))
             (so.stands.is ∙ ap (λ b. cond b (Some so.stands.made) None) c.if-begun.true),
         so.stands.stands,
       );
@@ -39,6 +46,7 @@ returns-else-begun c =
     let bytes = c.args.bytes.now in
     let so = c.loop-at.invariant in
     record {
-      exact = inr (never_begun bytes (omega (arith, c.if-bytes-gt-MAX_FILE.false)) c.loop-at.number c.loop-at.at so.so_far so.same (omega (arith, c.loop-at-test.false))
+      exact = inr (relay_short bytes (omega (arith, c.if-bytes-gt-MAX_FILE.false))
+          ∙ never_begun (is_first_line (codes "taos-relay")) no_relay relay_step bytes c.loop-at.number c.loop-at.at so.so_far so.same (omega (arith, c.loop-at-test.false))
           (so.stands.is ∙ ap (λ b. cond b (Some so.stands.made) None) c.if-begun.false) so.count ∙ ap (λ (e : FileFault). Err e) (sym c.at-else-begun.ensures));
     }

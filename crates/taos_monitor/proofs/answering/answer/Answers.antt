@@ -1,5 +1,5 @@
 -- The course of the payload is that of the request that it is.
-use Rattle.std.proofs.Common.{[], refl, sym, subst}
+use Rattle.std.proofs.Common.{refl, sym, subst}
 use Rattle.std.specs.Prelude.{IsSome}
 use Rattle.taos_wire.specs.View.{request as request_of}
 use Rattle.taos_monitor.proofs.Payloads.{texts_short}

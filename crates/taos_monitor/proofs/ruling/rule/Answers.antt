@@ -18,7 +18,9 @@ leave_asked-requires-clause-named g c =
     let a = ask_came c.args.came in
     let x = c.in-Ok.ensures.ended in
     let sound = All-at IsPlan plans (home plans c.args.came.asked.now.channel) x.plan c.requires.sound x.planned in
-    may_tell x.plan (g.S.Shards.seen c.ask_at_home.new.shards (home plans c.args.came.asked.now.channel)) a c.in-Ok.ended.place c.in-Ok.ended.verdict x.own sound c.requires.stands.list.0 x.ends.0
+    let h = home plans c.args.came.asked.now.channel in
+    let seen1 = g.S.Shards.seen c.ask_at_home.new.shards in
+    may_tell x.plan (seen1 h) a c.in-Ok.ended.place c.in-Ok.ended.verdict c.in-Ok.ended.kept c.in-Ok.ended.settled x.own sound (x.legal h x.plan x.planned) c.requires.stands.list.0 x.ends
 
 pub returns-in-Ok-clause-ruled : goal.returns-in-Ok-clause-ruled
 returns-in-Ok-clause-ruled g c =
@@ -28,12 +30,12 @@ returns-in-Ok-clause-ruled g c =
     let object = object_seen c.args.came.asked.now.object c.args.came.arrived.shown in
     let x = c.in-Ok.ensures.ended in
     let seen1 = g.S.Shards.seen c.ask_at_home.new.shards in
-    let told = subst (λ (n : ℕ). IsToldBy object n c.in-Ok.ended.place c.in-Ok.ended.verdict c.leave_asked.ensures.reply) c.requires.shard c.leave_asked.ensures.holds in
+    let told = subst (λ (n : ℕ). IsToldBy object n c.in-Ok.ended.place c.in-Ok.ended.kept c.in-Ok.ended.verdict c.leave_asked.ensures.reply) c.requires.shard c.leave_asked.ensures.holds in
     record {
       reply = c.leave_asked.ensures.reply;
       holds = ends_as plans (g.S.Shards.alone c.args.shards.now) (g.S.Shards.seen c.args.shards.now) seen1 (g.S.Shards.own c.args.shards.now) (g.S.Shards.own c.ask_at_home.new.shards) h
           (λ p journal own. AskEnds p journal a c.in-Ok.ended own) (λ p journal own. IsRuled p journal (asking h a object) own c.leave_asked.ensures.reply) x
-          (ruled_by x.plan (seen1 h) h a object c.in-Ok.ended.place c.in-Ok.ended.verdict x.own c.leave_asked.ensures.reply x.ends.0 told);
+          (ruled_by x.plan (seen1 h) h a object c.in-Ok.ended.place c.in-Ok.ended.verdict c.in-Ok.ended.kept c.in-Ok.ended.settled x.own c.leave_asked.ensures.reply x.ends told);
       spelled = c.leave_asked.ensures.spelled;
       short = c.leave_asked.ensures.short;
     }

@@ -3,7 +3,7 @@ use Rattle.std.proofs.KnownBytes.{Keeps-refl}
 use Rattle.frame_link.specs.Streams.{stream}
 use Rattle.taos_node.specs.Command.{touched, UsesNoLane, LeavesRest}
 use Rattle.taos_node.proofs.CheckCommands.{looked_over}
-use Rattle.taos_node.specs.declared.wanted.Wanted.TheVariants.{Check}
+use Rattle.taos_node.specs.Words.{Check}
 use Rattle.taos_node.proofs.Statuses.{checked, unserved}
 use Rattle.taos_node.proofs.command.check_file.Goals as goal
 
@@ -29,7 +29,7 @@ returns-in-Err g c = record {
       let before = touched (stream (g.F.Source.left c.args.file.now) (g.F.Source.faults c.args.file.now)) input output clock relay in
       let after = touched (stream (g.F.Source.left c.file_opening.new.file) (g.F.Source.faults c.file_opening.new.file)) input output clock relay in
       let rest : LeavesRest before after = record { input = Keeps-refl input.told; output = Keeps-refl output.told; lane = record { clock = Keeps-refl clock.told; link = refl } } in (
-        ((Check, check), c.in-Err.ensures.gives, rest),
-        unserved words before after c.in-Err.fault (Check, check) c.in-Err.ensures.gives c.in-Err.ensures.cause refl refl refl,
+        ((Check, check, c.in-Err.ensures.gives), rest),
+        unserved words before after Check c.in-Err.fault check c.in-Err.ensures.cause c.in-Err.ensures.gives refl refl refl,
       );
 }

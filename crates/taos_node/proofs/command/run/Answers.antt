@@ -2,11 +2,20 @@
 use Rattle.std.proofs.Common.{refl, subst}
 use Rattle.std.proofs.KnownBytes.{Keeps-refl}
 use Rattle.frame_link.specs.Streams.{stream}
-use Rattle.taos_node.specs.declared.wanted.Wanted.TheVariants.{Run}
-use Rattle.taos_node.specs.Words.{Mean}
+use Rattle.taos_node.specs.Words.{Mean, Run, task_of}
 use Rattle.taos_node.specs.Command.{touched, first_clock, first_link, LeavesRest}
-use Rattle.taos_node.proofs.Statuses.{meant, none_meant, served, unserved, unused}
+use Rattle.taos_node.proofs.Statuses.{meant, none_meant, served, unread, unserved, unused}
 use Rattle.taos_node.proofs.command.run.Goals as goal
+
+pub returns-in_default-clause-runs : goal.returns-in_default-clause-runs
+returns-in_default-clause-runs g c =
+    let file = stream (g.F.Source.left c.args.file.now) (g.F.Source.faults c.args.file.now) in
+    let input = stream (g.I.Source.left c.args.input.now) (g.I.Source.faults c.args.input.now) in
+    let output = stream (g.O.Sink.written c.args.output.now) (g.O.Sink.faults c.args.output.now) in
+    let clock = first_clock g.C.Clock.readings g.C.Clock.faults c.args.lanes.now in
+    let before = touched file input output clock (first_link g.R.RelayLink.says g.R.RelayLink.faults c.args.lanes.now) in
+    let rest : LeavesRest before before = record { input = Keeps-refl input.told; output = Keeps-refl output.told; lane = record { clock = Keeps-refl clock.told; link = refl } } in
+    ((Keeps-refl file.told, rest), unread c.args.words.now before)
 
 pub returns-in_default-found-clause-runs : goal.returns-in_default-found-clause-runs
 returns-in_default-found-clause-runs g c =
@@ -23,8 +32,13 @@ returns-in_default-found-clause-runs g c =
 
 pub returns-in-Check-clause-runs : goal.returns-in-Check-clause-runs
 returns-in-Check-clause-runs g c =
-    let is = subst (Mean c.args.words.now) c.in-Check.is (meant c.args.words.now c.in-Ok.found c.in-Some.wanted c.in-Ok.ensures c.in-Some.is) in
+    let is = subst (λ w. Mean c.args.words.now (task_of w)) c.in-Check.is (meant c.args.words.now c.in-Ok.found c.in-Some.wanted c.in-Ok.ensures c.in-Some.is) in
     c.check_file.ensures.checks c.args.words.now (first_clock g.C.Clock.readings g.C.Clock.faults c.args.lanes.now) (first_link g.R.RelayLink.says g.R.RelayLink.faults c.args.lanes.now) is
+
+pub returns-in-Relay-clause-runs : goal.returns-in-Relay-clause-runs
+returns-in-Relay-clause-runs g c =
+    let is = subst (λ w. Mean c.args.words.now (task_of w)) c.in-Relay.is (meant c.args.words.now c.in-Ok.found c.in-Some.wanted c.in-Ok.ensures c.in-Some.is) in
+    c.relay_by_file.ensures.relays c.args.words.now (first_clock g.C.Clock.readings g.C.Clock.faults c.args.lanes.now) (first_link g.R.RelayLink.says g.R.RelayLink.faults c.args.lanes.now) is
 
 pub returns-in-Ok-node_file_of-clause-runs : goal.returns-in-Ok-node_file_of-clause-runs
 returns-in-Ok-node_file_of-clause-runs g c =
@@ -33,9 +47,9 @@ returns-in-Ok-node_file_of-clause-runs g c =
     let after = touched (stream (g.F.Source.left c.node_file_of.new.file) (g.F.Source.faults c.node_file_of.new.file)) (stream (g.I.Source.left c.serve.new.input) (g.I.Source.faults c.serve.new.input))
     (stream (g.O.Sink.written c.serve.new.output) (g.O.Sink.faults c.serve.new.output)) (first_clock g.C.Clock.readings g.C.Clock.faults c.serve.new.lanes) (first_link g.R.RelayLink.says g.R.RelayLink.faults c.serve.new.lanes) in
     let gives = c.in-Ok-node_file_of.ensures.gives in
-    let run = subst (Mean c.args.words.now) c.in-Run.is (meant c.args.words.now c.in-Ok.found c.in-Some.wanted c.in-Ok.ensures c.in-Some.is) in (
+    let run = subst (λ w. Mean c.args.words.now (task_of w)) c.in-Run.is (meant c.args.words.now c.in-Ok.found c.in-Some.wanted c.in-Ok.ensures c.in-Some.is) in (
       (c.in-Run.frames, run, (gives.0, gives.1, c.serve.ensures.connection gives.0 before.file after.file gives.2)),
-      served c.args.words.now c.in-Run.frames before after gives.0 c.serve.result run gives.1 c.in-Ok-node_file_of.ensures.cause c.serve.ensures.complete c.serve.ensures.causes,
+      served c.args.words.now c.in-Run.frames before after c.serve.result c.in-Ok-node_file_of.ensures.cause gives.0 run gives.1 c.serve.ensures.complete c.serve.ensures.causes,
     )
 
 pub returns-in-Err-clause-runs : goal.returns-in-Err-clause-runs
@@ -47,7 +61,7 @@ returns-in-Err-clause-runs g c =
     let before = touched (stream (g.F.Source.left c.args.file.now) (g.F.Source.faults c.args.file.now)) input output clock relay in
     let after = touched (stream (g.F.Source.left c.node_file_of.new.file) (g.F.Source.faults c.node_file_of.new.file)) input output clock relay in
     let rest : LeavesRest before after = record { input = Keeps-refl input.told; output = Keeps-refl output.told; lane = record { clock = Keeps-refl clock.told; link = refl } } in
-    let run = subst (Mean c.args.words.now) c.in-Run.is (meant c.args.words.now c.in-Ok.found c.in-Some.wanted c.in-Ok.ensures c.in-Some.is) in (
-      ((Run c.in-Run.frames, run), c.in-Err.ensures.gives, rest),
-      unserved c.args.words.now before after c.in-Err.fault (Run c.in-Run.frames, run) c.in-Err.ensures.gives c.in-Err.ensures.cause refl refl refl,
+    let run = subst (λ w. Mean c.args.words.now (task_of w)) c.in-Run.is (meant c.args.words.now c.in-Ok.found c.in-Some.wanted c.in-Ok.ensures c.in-Some.is) in (
+      ((Run c.in-Run.frames, run, c.in-Err.ensures.gives), rest),
+      unserved c.args.words.now before after (Run c.in-Run.frames) c.in-Err.fault run c.in-Err.ensures.cause c.in-Err.ensures.gives refl refl refl,
     )

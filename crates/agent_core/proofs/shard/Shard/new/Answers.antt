@@ -1,8 +1,10 @@
 -- what is kept at opening stands for the opening state
-use Rattle.std.proofs.Common.{◌∙◌, sym, ap, refl, subst}
+use Rattle.std.proofs.Common.{◌∙◌, List, map, sym, ap, refl, subst}
+use Rattle.agent_core.specs.declared.event.ShardEntry.{ShardEntry}
+use Rattle.agent_core.specs.Journals.{cache_after}
 use Rattle.agent_core.specs.declared.shard.store.Store.{Store}
 use Rattle.agent_core.specs.Kept.{AreNew, first_names}
-use Rattle.agent_core.specs.Views.{plan_of}
+use Rattle.agent_core.specs.Views.{entry_of, plan_of}
 use Rattle.agent_core.proofs.Opening.{opened_kept}
 use Rattle.agent_core.proofs.Places.{certificate_count}
 use Rattle.agent_core.proofs.shard.Shard.new.Goals as goal
@@ -15,4 +17,5 @@ invariant_of-result c =
           (c.names_of.ensures ∙ ap first_names (c.len-2.ensures ∙ c.args.plan.commons.ok.0 ∙ sym (certificate_count c.args.plan.commons.items)))
           (subst (AreNew c.in_ok-rows.rows.items) (c.len.ensures ∙ c.args.plan.channels.ok.0) c.in_ok-rows.ensures);
       counted = c.in_ok-presented.ensures;
+      cached = c.in_ok-cache.ensures ∙ sym (ap (λ (es : List ShardEntry). cache_after (plan_of c.args.plan) (map entry_of es)) c.in_ok-entries.ensures.items);
     }

@@ -10,8 +10,8 @@ use Rattle.agent_core.proofs.Journaling.{store_more, tells_more}
 use Rattle.agent_core.proofs.Looks.{asked_now, swept_now}
 use Rattle.agent_core.proofs.shard.asking.refuse.Goals as goal
 
-pub returns : goal.returns
-returns c =
+pub returns-clause-tells : goal.returns-clause-tells
+returns-clause-tells c =
     let plan : Plan = plan_of c.args.plan.now in
     let journal : List Entry = map entry_of c.args.entries.now.items in
     let s : State = state_after plan journal in

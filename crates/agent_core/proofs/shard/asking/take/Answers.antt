@@ -7,9 +7,8 @@ use Rattle.agent_core.specs.declared.event.Event.TheVariants as code
 use Rattle.agent_core.specs.declared.event.ShardEntry.{ShardEntry}
 use Rattle.agent_core.specs.declared.shard.store.Row.{Row}
 use Rattle.agent_core.specs.declared.shard.store.Store.{Store}
-use Rattle.agent_core.specs.declared.told.Told.{Told}
 use Rattle.agent_core.specs.State.{Plan, State, Ask, Asks, Answer, Judged, swept, taking, brought, next}
-use Rattle.agent_core.specs.Journals.{Entry, state_after, told_of}
+use Rattle.agent_core.specs.Journals.{Entry, state_after, cache_after, told_of}
 use Rattle.agent_core.specs.Kept.{IsStore}
 use Rattle.agent_core.specs.Names.{name_in}
 use Rattle.agent_core.specs.Views.{ask_of, entry_of, plan_of}
@@ -18,14 +17,14 @@ use Rattle.agent_core.proofs.Judging.{taken}
 use Rattle.agent_core.proofs.Looks.{asked_now, store_taken}
 use Rattle.agent_core.proofs.shard.asking.take.Goals as goal
 
-pub returns : goal.returns
-returns c =
+pub returns-clause-takes : goal.returns-clause-takes
+returns-clause-takes c =
     let plan : Plan = plan_of c.args.plan.now in
     let journal : List Entry = map entry_of c.args.entries.now.items in
     let s : State = state_after plan journal in
     let now : State = swept plan.keep c.args.look.moment s in
     let a : Ask = ask_of c.args.asked.value in
-    let e : ShardEntry = record { event = code.Ask c.args.asked; told = Told.Miss } in
+    let e : ShardEntry = record { event = code.Ask c.args.asked; told = c.args.told } in
     let row : Row = record { last = c.deref.result.now.seq; swept = c.len.result + 1; own = c.name_all.new.names } in
     let swept_store : Store = record { clock = c.args.look.moment; swept = c.len.result + 1; commons = c.args.look.shared; rows = c.args.store.now.rows } in
     let after : Store = record { clock = c.args.look.moment; swept = c.len.result + 1; commons = c.args.look.shared; rows = with_item c.args.store.now.rows c.args.look.place row } in
@@ -40,6 +39,6 @@ returns c =
     record {
       adds = adds_entry plan c.args.entries.now c.args.store.now c.requires.kept e c.append.new.entries c.requires.room c.append.ensures.added c.append.ensures.capacity;
       kept = kept_more plan c.args.entries.now c.args.store.now c.requires.kept e c.append.new.entries c.requires.room c.append.ensures.added c.append.ensures.capacity
-          after c.requires.meant (ap (λ (r : State × Answer). told_of r.1) (sym nexts))
+          after c.requires.meant (c.requires.told ∙ ap (λ (r : State × Answer). told_of (cache_after plan journal) (Asks a) r.1) (sym nexts))
           (subst (λ t. IsStore plan (journal ++ entry_of e ∷ []) t after) (ap (λ (r : State × Answer). r.0) (sym nexts)) is) (omega (arith, long));
     }

@@ -53,5 +53,5 @@ returns g c =
     let lease = rw c.deref-4.ensures.value at c.lease_of-lease.ensures in
     proof_made c.args.anchors.now (certificates c.args.snapshot.now.certs.items) c.args.snapshot.now.moment (ask_of c.args.asked.now) (g.D.Decide.question c.args.bench.now)
     c.requires.asked (principal c.index.result.now.who) (lines_of c.in_ok-taken.taken.proof) c.in_ok-taken.taken.cites.items c.in_ok-taken.ensures.taken
-    c.args.entry (grant c.index.result.now) (cached (record { subject = c.in_ok-subject.subject; who = c.in_ok-who.who; proof = c.in_ok-proof.proof; cites = c.push_cited.new.out; lease = c.lease_of-lease.result })) at refl
+    c.args.entry (grant c.index.result.now) (cached (record { subject = c.in_ok-subject.subject; who = c.in_ok-who.who; proof = c.in_ok-proof.proof; cites = c.push_cited.new.out; lease = c.lease_of-lease.result; leased = lease })) at refl
     c.in_ok-subject.ensures c.in_ok-who.ensures (ap lines_of c.in_ok-proof.ensures.ok) gathered lease

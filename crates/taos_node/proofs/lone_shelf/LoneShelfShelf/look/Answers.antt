@@ -1,7 +1,6 @@
 -- what is looked up is what the objects have
-use Rattle.std.proofs.Common.{◌≡◌, ℕ, List, Option, Some, None, map, sym, ap, subst, ◌∙◌}
+use Rattle.std.proofs.Common.{◌≡◌, ℕ, List, Some, map, sym, ap, subst, ◌∙◌}
 use Rattle.std.specs.Arc.{arc_value}
-use Rattle.std.specs.Option.{option_map}
 use Rattle.object_core.specs.Operation.{IsAccessList, IsContent}
 use Rattle.prin_term.specs.View.{grant}
 use Rattle.object_core.specs.Objects.{object_of, ObjectPlan}

@@ -1,0 +1,114 @@
+//! Whether a proof may be kept for an Ask.
+
+ghost use Rattle.std.specs.Prelude.{◌≡◌, ◌≢◌, ◌↔◌, ◌<◌, AllPairs, IsTrue, length, map};
+ghost use Rattle.std.specs.Option.{option_map};
+ghost use Rattle.stmt_codec.specs.View.{certificates};
+ghost use Rattle.taos_calculus.specs.Rules.{Proves, SpeaksFor};
+ghost use Rattle.denial_link.specs.Revived.{claims};
+ghost use Rattle.proof_cache.specs.Cached.{cached};
+ghost use Rattle.agent_core.specs.Journals.{IsKeepable};
+ghost use Rattle.agent_core.specs.Kept.{DiffersBefore, IsAsked, IsForEntry, ask_in};
+ghost use Rattle.agent_core.specs.Views.{ask_of, entry_of, event_of, plan_of};
+
+use crate::event::{Ask, Event, ShardEntry};
+use crate::plan::ShardPlan;
+use prin_term::Anchor;
+use proof_cache::Cached;
+use std::sync::Arc;
+use stmt_codec::Cert;
+use taos_calculus::check_proof;
+
+// The Ask that an event is, if it is one.
+fn ask_in(event: &Event) -> Option<&Ask>
+    ensures { option_map (λ a. ask_of a.now) result ≡ ask_in (event_of event.now) }
+{
+    match event {
+        Event::Ask(asked) => Some(asked),
+        Event::Keep { .. }
+        | Event::Hold(_)
+        | Event::Discard(_)
+        | Event::Forget(_)
+        | Event::Expire(_) => None,
+    }
+}
+
+// Whether it is for the entry of the Ask.
+fn is_for_entry(asked: &Ask, entry: u8, proof: &Cached) -> bool
+    ensures { IsTrue result ↔ IsForEntry (ask_of asked.now) entry (cached proof.now) }
+{
+    if entry as usize >= asked.list.len() {
+        return false;
+    }
+    let who = &asked.list[entry as usize].who;
+    proof.subject.same(&asked.subject) && proof.who.same(who)
+}
+
+// Whether it is for the entry of the Ask at the place.
+fn is_asked(entries: &[ShardEntry], ask: u64, entry: u8, proof: &Cached) -> bool
+    ensures { IsTrue result ↔ IsAsked (map entry_of entries.now) ask entry (cached proof.now) }
+{
+    if ask as usize >= entries.len() {
+        return false;
+    }
+    let found = &entries[ask as usize];
+    match ask_in(&found.event) {
+        Some(asked) => is_for_entry(asked, entry, proof),
+        None => false,
+    }
+}
+
+// Whether it proves that its subject speaks for its principal.
+fn is_proof(anchors: &[Anchor], proof: &Cached) -> bool
+    ensures { IsTrue result ↔ Proves anchors.now (claims (cached proof.now).cites)
+        (cached proof.now).proof
+        (SpeaksFor (cached proof.now).subject (cached proof.now).who) }
+{
+    match check_proof(anchors, &proof.cites, &proof.proof) {
+        Ok(conclusion) => {
+            proof.proof.node_is(conclusion.left, &proof.subject)
+                && proof.proof.node_is(conclusion.right, &proof.who)
+        }
+        Err(_) => false,
+    }
+}
+
+// Whether the certificate at the place is none of those before it.
+fn is_first(cites: &[Arc<Cert>], place: usize) -> bool
+    requires { place < length cites.now }
+    ensures { IsTrue result ↔ DiffersBefore (certificates cites.now) place place }
+{
+    for earlier in 0..place {
+        if cites[earlier].body.same(&cites[place].body) {
+            return false;
+        }
+    }
+    true
+}
+
+// Whether no certificate stands twice.
+fn are_apart(cites: &[Arc<Cert>]) -> bool
+    ensures { IsTrue result ↔ AllPairs (λ x y. x ≢ y) (certificates cites.now) }
+{
+    for place in 0..cites.len() {
+        if !is_first(cites, place) {
+            return false;
+        }
+    }
+    true
+}
+
+/// Whether the proof may be kept for the entry of the Ask at the place.
+pub(crate) fn is_keepable(
+    plan: &ShardPlan,
+    entries: &[ShardEntry],
+    ask: u64,
+    entry: u8,
+    proof: &Cached,
+) -> bool
+    ensures { IsTrue result ↔ IsKeepable (plan_of plan.now) (map entry_of entries.now) ask entry
+        (cached proof.now) }
+{
+    is_asked(entries, ask, entry, proof)
+        && is_proof(&plan.anchors, proof)
+        && are_apart(&proof.cites)
+}

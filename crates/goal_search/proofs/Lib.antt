@@ -1,0 +1,9 @@
+pub mod Settling
+pub mod Deciding
+pub mod More
+pub mod Adding
+pub mod ByNumber
+pub mod ByCited
+pub mod Numbers
+pub mod NumberedAdding
+pub mod NumberedMore

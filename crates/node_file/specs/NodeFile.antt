@@ -1,0 +1,134 @@
+-- What a node file means.
+use Rattle.std.specs.Prelude.{ℕ, nat_le, codes, if◌then◌else◌}
+use Rattle.std.specs.Prelude.{List, [], length, None, Result, Ok, Err}
+use Rattle.std.specs.Option.{unwrap_or}
+use Rattle.keyed_seal.specs.Keys.{Entries}
+use Rattle.object_core.specs.Objects.{ObjectPlan}
+use Rattle.prin_term.specs.declared.term.Anchor.{Anchor}
+use Rattle.prin_term.specs.Steps.{◌>>=◌, with_fault, with_value}
+use Rattle.prin_text.specs.Labels.{Labels, Rows}
+use Rattle.prin_text.specs.declared.limits.TheConstants.{MAX_NAMES, MAX_ROLES}
+use Rattle.stmt_codec.specs.Certificates.{Certificate}
+use Rattle.node_file.specs.declared.fault.FileCause.{FileCause}
+use Rattle.node_file.specs.declared.fault.FileCause.TheVariants.{UnknownWord, Limit, NoNode}
+use Rattle.node_file.specs.declared.fault.FileFault.{FileFault}
+use Rattle.node_file.specs.declared.fault.FileFault.TheVariants.{Line}
+use Rattle.node_file.specs.declared.limits.TheConstants.{MAX_CHANNELS, MAX_ROOM}
+use Rattle.node_file.specs.declared.node_text.kind.LineKind.{LineKind}
+use Rattle.node_file.specs.declared.node_text.kind.LineKind.TheVariants as kinds
+use Rattle.node_file.specs.declared.node_text.settings.Settings.{Settings}
+use Rattle.node_file.specs.Fields.{some_or}
+use Rattle.node_file.specs.FileLines.{LineStep, file_makes, is_first_line, keys_with, texts_with}
+use Rattle.node_file.specs.Lines.{lines_from, word_off}
+use Rattle.node_file.specs.NodeLines.{anchors_with, commons_with, contents_with, grants_with}
+use Rattle.node_file.specs.NodeLines.{kind_of, objects_with, settings_with}
+use Rattle.node_file.specs.Opening.{Opening, journal_room, no_texts}
+
+-- what the lines of a node file say so far, in the order of the lines
+pub record Draft : Type 0 where
+  pub settings : Settings
+  pub labels : Labels
+  pub channels : Entries
+  pub anchors : List Anchor
+  pub commons : List Certificate
+  pub objects : List ObjectPlan
+
+-- no line says anything
+abbrev pub no_draft : Draft
+no_draft = record {
+  settings = record { node = None; shards = None; keep = None; limit = None };
+  labels = no_texts;
+  channels = [];
+  anchors = [];
+  commons = [];
+  objects = [];
+}
+
+-- with other settings
+abbrev pub settings_in : Draft → Settings → Draft
+settings_in above settings = record above { settings = settings }
+
+-- with other texts of names
+abbrev pub names_in : Draft → Rows → Draft
+names_in above rows = record above { labels = record { names = rows; roles = above.labels.roles } }
+
+-- with other texts of roles
+abbrev pub roles_in : Draft → Rows → Draft
+roles_in above rows = record above { labels = record { names = above.labels.names; roles = rows } }
+
+-- with other channels
+abbrev pub channels_in : Draft → Entries → Draft
+channels_in above channels = record above { channels = channels }
+
+-- with other anchors
+abbrev pub anchors_in : Draft → List Anchor → Draft
+anchors_in above anchors = record above { anchors = anchors }
+
+-- with other certificates in common
+abbrev pub commons_in : Draft → List Certificate → Draft
+commons_in above commons = record above { commons = commons }
+
+-- with other objects
+abbrev pub objects_in : Draft → List ObjectPlan → Draft
+objects_in above objects = record above { objects = objects }
+
+-- what a line about this adds
+abbrev pub adds : Draft → LineKind → List ℕ → List ℕ → Result Draft FileCause
+adds above (kinds.Setting setting) line rest =
+    with_value (settings_in above) (settings_with above.settings setting line rest)
+adds above kinds.Name line rest =
+    with_value (names_in above) (texts_with MAX_NAMES above.labels.names line rest)
+adds above kinds.Role line rest =
+    with_value (roles_in above) (texts_with MAX_ROLES above.labels.roles line rest)
+adds above kinds.Channel line rest =
+    with_value (channels_in above) (keys_with MAX_CHANNELS above.channels line rest)
+adds above kinds.Anchor line rest =
+    with_value (anchors_in above) (anchors_with above.labels.names above.anchors line rest)
+adds above kinds.Common line rest =
+    with_value (commons_in above) (commons_with above.settings.node above.commons line rest)
+adds above kinds.Object line rest =
+    with_value (objects_in above) (objects_with above.objects line rest)
+adds above kinds.Content line rest =
+    with_value (objects_in above) (contents_with above.objects line rest)
+adds above kinds.Allow line rest =
+    with_value (objects_in above) (grants_with above.labels above.objects line)
+
+-- what a line adds
+unfoldable pub node_step : LineStep Draft
+node_step above line =
+    let w = word_off line in
+    some_or UnknownWord (kind_of w.0) >>= λ kind. adds above kind line w.1
+
+-- what the lines of a node file say together
+unfoldable pub draft_in : List ℕ → Result Draft FileFault
+draft_in bytes = file_makes (is_first_line (codes "taos")) no_draft node_step (lines_from bytes 0)
+
+-- the opening of a node with this number and this key of its relay, and with 1 shard, 3,600 seconds
+-- and 16,384 entries where no line says how many
+abbrev pub opening_with : ℕ × List ℕ → Draft → Opening
+opening_with node draft = record {
+  node = node.0;
+  relay_key = node.1;
+  shards = unwrap_or draft.settings.shards 1;
+  keep = unwrap_or draft.settings.keep 3600;
+  limit = unwrap_or draft.settings.limit 16384;
+  names = draft.labels;
+  channels = draft.channels;
+  anchors = draft.anchors;
+  commons = draft.commons;
+  objects = draft.objects;
+}
+
+-- the opening, where its journals have room
+abbrev pub roomy : Opening → Result Opening FileCause
+roomy o = if nat_le (journal_room o) MAX_ROOM then Ok o else Err Limit
+
+-- the opening that is said
+unfoldable pub opening_said : Draft → Result Opening FileCause
+opening_said draft =
+    some_or NoNode draft.settings.node >>= λ node. roomy (opening_with node draft)
+
+-- the opening that a text means, or its fault; what is lacking is so behind its last line
+unfoldable pub text_in : List ℕ → Result Opening FileFault
+text_in bytes = draft_in bytes >>= λ draft.
+    with_fault (Line (length (lines_from bytes 0))) (opening_said draft)

@@ -1,0 +1,80 @@
+//! What the lines of a node file say so far.
+
+ghost use Rattle.std.specs.Prelude.{IfOk};
+ghost use Rattle.node_file.specs.LineView.{IsSaidFor};
+ghost use Rattle.node_file.specs.NodeFile as meant;
+ghost use Rattle.node_file.specs.NodeFile.{no_draft, opening_said};
+ghost use Rattle.node_file.specs.NodeView.{IsDraftOf};
+ghost use Rattle.node_file.specs.OpeningView.{Represents};
+
+use crate::fault::FileCause;
+use crate::limits::MAX_CHANNELS;
+use crate::line_fault::LineFault;
+use crate::node_text::settings::Settings;
+use crate::object_plans::ObjectPlans;
+use crate::opening::Opening;
+use crate::opening::reading::has_room;
+use keyed_seal::KeyTable;
+use prin_term::Anchor;
+use prin_text::Names;
+use std::alloc::{AllocError, Global};
+use std::sync::Arc;
+use stmt_codec::Cert;
+
+// What the lines say so far.
+#[derive(Drop)]
+pub(super) struct Draft {
+    pub settings: Settings,
+    pub names: Names,
+    pub channels: KeyTable,
+    pub anchors: Vec<Anchor>,
+    pub commons: Vec<Arc<Cert>>,
+    pub objects: ObjectPlans,
+}
+
+// No line says anything.
+pub(super) fn empty(alloc: Global) -> Result<Draft, AllocError>
+    ensures { IfOk result (λ draft. IsDraftOf draft no_draft) }
+{
+    Ok(Draft {
+        settings: Settings {
+            node: None,
+            shards: None,
+            keep: None,
+            limit: None,
+        },
+        names: Names::new(alloc)?,
+        channels: KeyTable::new(alloc, MAX_CHANNELS as usize)?,
+        anchors: Vec::new(alloc),
+        commons: Vec::new(alloc),
+        objects: ObjectPlans::new(alloc),
+    })
+}
+
+// The opening that is said, where its journals have room.
+pub(super) fn opening_said(alloc: Global, draft: Draft) -> Result<Opening, LineFault>
+    ensures { (d : meant.Draft) → IsDraftOf draft d
+        → IsSaidFor Represents result (opening_said d) }
+{
+    let Some(said) = draft.settings.node else {
+        return Err(LineFault::Refused(FileCause::NoNode));
+    };
+    let relay_key = said.1;
+    let opening = Opening {
+        node: said.0,
+        relay_key,
+        shards: draft.settings.shards.unwrap_or(1),
+        keep: draft.settings.keep.unwrap_or(3600),
+        limit: draft.settings.limit.unwrap_or(16384),
+        names: draft.names,
+        channels: draft.channels,
+        anchors: Arc::new(alloc, draft.anchors)?,
+        commons: draft.commons,
+        objects: draft.objects,
+    };
+    if has_room(&opening) {
+        Ok(opening)
+    } else {
+        Err(LineFault::Refused(FileCause::Limit))
+    }
+}

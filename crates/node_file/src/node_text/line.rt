@@ -1,0 +1,101 @@
+//! Taking the lines of a node file.
+
+ghost use Rattle.std.specs.Prelude.{◌≡◌, Option, codes, true};
+ghost use Rattle.node_file.specs.FileLines.{first_or, is_first_line};
+ghost use Rattle.node_file.specs.LineView.{SoFar, TakesLine};
+ghost use Rattle.node_file.specs.NodeFile as meant;
+ghost use Rattle.node_file.specs.NodeFile.{adds, no_draft, node_step};
+ghost use Rattle.node_file.specs.NodeLines.{settings_with};
+ghost use Rattle.node_file.specs.NodeView.{IsDraftOf};
+
+use crate::fault::FileCause;
+use crate::line_fault::LineFault;
+use crate::node_text::allow::take_allow;
+use crate::node_text::anchor::take_anchor;
+use crate::node_text::common::take_common;
+use crate::node_text::draft::Draft;
+use crate::node_text::kind::{LineKind, Setting, kind_of};
+use crate::node_text::object::{take_content, take_object};
+use crate::node_text::settings::{Settings, settings_with};
+use crate::taking::{take_key, take_name, take_role};
+use crate::text::word::{is_first_line, word_off};
+use std::alloc::Global;
+
+// Sets what the line says.
+fn take_setting(
+    settings: &mut Settings,
+    setting: Setting,
+    line: &[u8],
+    rest: &[u8],
+) -> Result<(), LineFault>
+    ensures { TakesLine (λ s t. s ≡ t) result settings.new
+        (settings_with settings.old setting line.now rest.now) }
+{
+    match settings_with(*settings, setting, line, rest) {
+        Ok(more) => {
+            *settings = more;
+            Ok(())
+        }
+        Err(cause) => Err(LineFault::Refused(cause)),
+    }
+}
+
+// What a line about this says is added.
+fn take_kind(
+    alloc: Global,
+    draft: &mut Draft,
+    kind: LineKind,
+    line: &[u8],
+    rest: &[u8],
+) -> Result<(), LineFault>
+    ensures takes { (above : meant.Draft) → IsDraftOf draft.old above
+        → TakesLine IsDraftOf result draft.new (adds above kind line.now rest.now) }
+{
+    match kind {
+        LineKind::Setting(setting) => take_setting(&mut draft.settings, setting, line, rest),
+        LineKind::Name => take_name(alloc, &mut draft.names, line, rest),
+        LineKind::Role => take_role(alloc, &mut draft.names, line, rest),
+        LineKind::Channel => take_key(&mut draft.channels, line, rest),
+        LineKind::Anchor => take_anchor(&draft.names, &mut draft.anchors, line, rest),
+        LineKind::Common => {
+            take_common(alloc, &draft.settings.node, &mut draft.commons, line, rest)
+        }
+        LineKind::Object => take_object(alloc, &mut draft.objects, line, rest),
+        LineKind::Content => take_content(alloc, &mut draft.objects, line, rest),
+        LineKind::Allow => take_allow(alloc, &draft.names, &mut draft.objects, line),
+    }
+}
+
+// What a line says is added, or nothing.
+#[tactic(auto, unfolding(crate::specs::NodeFile::node_step))]
+fn take_line(alloc: Global, draft: &mut Draft, line: &[u8]) -> Result<(), LineFault>
+    ensures takes { (above : meant.Draft) → IsDraftOf draft.old above
+        → TakesLine IsDraftOf result draft.new (node_step above line.now) }
+{
+    let (word, rest) = word_off(line);
+    match kind_of(word) {
+        Some(kind) => take_kind(alloc, draft, kind, line, rest),
+        None => Err(LineFault::Refused(FileCause::UnknownWord)),
+    }
+}
+
+// The first line says what file it is, and each behind it adds to it.
+pub(super) fn take_any(
+    alloc: Global,
+    draft: &mut Draft,
+    begun: bool,
+    line: &[u8],
+) -> Result<(), LineFault>
+    ensures takes { (so_far : Option meant.Draft)
+        → SoFar IsDraftOf no_draft begun draft.old so_far
+        → TakesLine (SoFar IsDraftOf no_draft true) result draft.new
+        (first_or (is_first_line (codes "taos")) no_draft node_step so_far line.now) }
+{
+    if begun {
+        return take_line(alloc, draft, line);
+    }
+    if is_first_line("taos", line) {
+        return Ok(());
+    }
+    Err(LineFault::Refused(FileCause::FirstLine))
+}

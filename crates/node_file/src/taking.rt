@@ -1,0 +1,68 @@
+//! Lines of a number with a text, and of a number with a key.
+
+ghost use Rattle.std.specs.Prelude.{◌≡◌};
+ghost use Rattle.keyed_seal.specs.Keys.{Entries};
+ghost use Rattle.prin_text.specs.Labels.{Rows};
+ghost use Rattle.prin_text.specs.declared.limits.TheConstants.{MAX_NAMES, MAX_ROLES};
+ghost use Rattle.node_file.specs.FileLines.{keys_with, texts_with};
+ghost use Rattle.node_file.specs.Held.{HoldsKeys, HoldsRows};
+ghost use Rattle.node_file.specs.LineView.{TakesLine};
+
+use crate::adding::{add_key, add_name, add_role};
+use crate::line_fault::LineFault;
+use crate::text::field::{keyed, numbered};
+use keyed_seal::KeyTable;
+use prin_text::Names;
+use std::alloc::Global;
+
+// Gives a name the text that the line says.
+pub(crate) fn take_name(
+    alloc: Global,
+    names: &mut Names,
+    line: &[u8],
+    rest: &[u8],
+) -> Result<(), LineFault>
+    ensures takes { (rows : Rows) → HoldsRows names.old.names rows
+        → TakesLine HoldsRows result names.new.names
+        (texts_with MAX_NAMES rows line.now rest.now) }
+    ensures roles { names.new.roles ≡ names.old.roles }
+{
+    match numbered(line, rest) {
+        Ok((number, text)) => add_name(alloc, names, number, text),
+        Err(cause) => Err(LineFault::Refused(cause)),
+    }
+}
+
+// Gives a role the text that the line says.
+pub(crate) fn take_role(
+    alloc: Global,
+    names: &mut Names,
+    line: &[u8],
+    rest: &[u8],
+) -> Result<(), LineFault>
+    ensures takes { (rows : Rows) → HoldsRows names.old.roles rows
+        → TakesLine HoldsRows result names.new.roles
+        (texts_with MAX_ROLES rows line.now rest.now) }
+    ensures names { names.new.names ≡ names.old.names }
+{
+    match numbered(line, rest) {
+        Ok((number, text)) => add_role(alloc, names, number, text),
+        Err(cause) => Err(LineFault::Refused(cause)),
+    }
+}
+
+// Gives a number the key that the line says.
+pub(crate) fn take_key(table: &mut KeyTable, line: &[u8], rest: &[u8]) -> Result<(), LineFault>
+    ensures takes { (keys : Entries) → HoldsKeys table.old keys
+        → TakesLine HoldsKeys result table.new
+        (keys_with table.old.room keys line.now rest.now) }
+    ensures room { table.new.room ≡ table.old.room }
+{
+    match keyed(line, rest) {
+        Ok(said) => {
+            let key = said.1;
+            add_key(table, said.0, key)
+        }
+        Err(cause) => Err(LineFault::Refused(cause)),
+    }
+}

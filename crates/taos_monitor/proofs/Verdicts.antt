@@ -1,0 +1,87 @@
+-- A grant and a denial are verdicts.
+use Rattle.std.proofs.Common.{◌≡◌, ℕ, Bool, List, subst₂}
+use Rattle.stmt_codec.specs.Certificates.{Certificate}
+use Rattle.taos_calculus.specs.Rules.{Line}
+use Rattle.denial_link.specs.declared.link.Link.{Link}
+use Rattle.taos_wire.specs.Reply as replies
+use Rattle.taos_wire.specs.Reply.{LinkSent, Reply, Sent}
+use Rattle.proof_cache.specs.Cached.{Cached}
+use Rattle.agent_core.specs.declared.asked.Settled.{Settled}
+use Rattle.agent_core.specs.declared.told.Told.{Told}
+use Rattle.agent_core.specs.State.{Plan, Ask}
+use Rattle.agent_core.specs.Journals.{Granted, Denied}
+use Rattle.agent_core.specs.Asked.{IsGrantedAt, IsGrant, by_kept, was_kept, was_dropped, had_no_room}
+use Rattle.agent_core.proofs.Onward.{granted_verdict, hit_verdict, denied_verdict}
+use Rattle.object_core.specs.Objects.{ObjectPlan}
+use Rattle.taos_monitor.specs.Cells.{Node, Journals, HasPlan}
+use Rattle.taos_monitor.specs.Course.{asking, Used, IsRuled, full, replayed, channel_full, denied, granted, untold, unanswered, Course, malformed, unknown_channel, bad_seal, unbuilt, cert_refused, relay_failed, unknown_object, ruled, unread, unopened}
+use Rattle.taos_monitor.specs.Verdicts.{HasVerdict, RepliesAreVerdicts}
+
+same_granted : (k l : Bool) (d e h s p q : ℕ) (x y : List Line) (c b : List Certificate) (m n : List ℕ) → replies.Granted k d h p x c m ≡ replies.Granted l e s q y b n → (h ≡ s) × (p ≡ q)
+same_granted k l d e h s p q x y c b m n same = (cc, cc)
+
+same_denied : (h s p q : ℕ) (x y : LinkSent) → replies.Denied h p x ≡ replies.Denied s q y → (h ≡ s) × (p ≡ q)
+same_denied h s p q x y same = (cc, cc)
+
+module _ (n : Node) (J : Journals) (h : ℕ) (plan : Plan) (planned : HasPlan n h plan) (a : Ask) where
+  made_verdict : (place e : ℕ) (c : Cached) → IsGrantedAt plan (J.shards h) a place e c → HasVerdict n J h place Granted
+  made_verdict place e c g = record { plan = plan; planned = planned; before = g.before; ask = a; told = Told.Miss; stands = g.stands; is = granted_verdict plan (J.shards h) a place e c g }
+
+  grant_verdict : (place e : ℕ) (c : Cached) (kept : Bool) (settled : Settled) (own : List ℕ) → IsGrant plan (J.shards h) a place e c kept settled own → HasVerdict n J h place Granted
+  grant_verdict place e c kept settled own (by_kept g) = record { plan = plan; planned = planned; before = g.before; ask = a; told = Told.Hit e; stands = g.stands; is = hit_verdict plan (J.shards h) a place e c g }
+  grant_verdict place e c kept settled own (was_kept g t) = made_verdict place e c g
+  grant_verdict place e c kept settled own (was_dropped g t) = made_verdict place e c g
+  grant_verdict place e c kept settled own (had_no_room g at) = made_verdict place e c g
+
+  module _ (object : ObjectPlan) (shard place : ℕ) where
+    ruled_granted : (own : List ℕ) (reply : Reply) → IsRuled plan (J.shards h) (asking h a object) own reply → (kept : Bool) (entry : ℕ) (proof : List Line) (cites : List Certificate) (content : List ℕ) →
+        reply ≡ replies.Granted kept entry shard place proof cites content → HasVerdict n J shard place Granted
+    ruled_granted own reply (full at) kept entry proof cites content e = absurd cc
+    ruled_granted own reply (replayed t) kept entry proof cites content e = absurd cc
+    ruled_granted own reply (channel_full t) kept entry proof cites content e = absurd cc
+    ruled_granted own reply (denied d tells) kept entry proof cites content e = absurd cc
+    ruled_granted own reply (granted {place = p} {entry = d} {c} {kept = k} {settled} {own = places} g) kept entry proof cites content e =
+        let (there, at) = same_granted k kept d entry h shard p place c.proof proof c.cites cites object.content content e in
+        subst₂ (λ (s q : ℕ). HasVerdict n J s q Granted) there at (grant_verdict p d c k settled places g)
+    ruled_granted own reply (untold g) kept entry proof cites content e = absurd cc
+    ruled_granted own reply (unanswered u) kept entry proof cites content e = absurd cc
+
+    ruled_denied : (own : List ℕ) (reply : Reply) → IsRuled plan (J.shards h) (asking h a object) own reply → (link : LinkSent) → reply ≡ replies.Denied shard place link → (why : Link) × HasVerdict n J shard place (Denied why)
+    ruled_denied own reply (full at) link e = absurd cc
+    ruled_denied own reply (replayed t) link e = absurd cc
+    ruled_denied own reply (channel_full t) link e = absurd cc
+    ruled_denied own reply (denied {place = p} {denial} {told} d tells) link e =
+        let (there, at) = same_denied h shard p place told link e in
+        subst₂ (λ (s q : ℕ). (why : Link) × HasVerdict n J s q (Denied why)) there at
+        (d.link, record { plan = plan; planned = planned; before = d.before; ask = a; told = Told.Miss; stands = d.stands; is = denied_verdict plan (J.shards h) a p denial d })
+    ruled_denied own reply (granted g) link e = absurd cc
+    ruled_denied own reply (untold g) link e = absurd cc
+    ruled_denied own reply (unanswered u) link e = absurd cc
+
+module _ (n : Node) (J : Journals) (payload : List ℕ) (shard place : ℕ) where
+  grants : (used : Used) (sent : Sent) → Course n J payload used sent → (kept : Bool) (entry : ℕ) (proof : List Line) (cites : List Certificate) (content : List ℕ) → sent.reply ≡ replies.Granted kept entry shard place proof cites content → HasVerdict n J shard place Granted
+  grants used sent (malformed none reads) kept entry proof cites content e = absurd cc
+  grants used sent (unknown_channel r spelled none) kept entry proof cites content e = absurd cc
+  grants used sent (bad_seal r key spelled keyed other) kept entry proof cites content e = absurd cc
+  grants used sent (unbuilt asked is) kept entry proof cites content e = absurd cc
+  grants used sent (cert_refused built first) kept entry proof cites content e = absurd cc
+  grants used sent (relay_failed built first) kept entry proof cites content e = absurd cc
+  grants used sent (unknown_object opened none) kept entry proof cites content e = absurd cc
+  grants used sent (ruled {own} {reply} t reading plan planned r) kept entry proof cites content e = ruled_granted n J _ plan planned _ t.object shard place own reply r kept entry proof cites content e
+  grants used sent unread kept entry proof cites content e = absurd cc
+  grants used sent (unopened built interrupted) kept entry proof cites content e = absurd cc
+
+  denies : (used : Used) (sent : Sent) → Course n J payload used sent → (link : LinkSent) → sent.reply ≡ replies.Denied shard place link → (why : Link) × HasVerdict n J shard place (Denied why)
+  denies used sent (malformed none reads) link e = absurd cc
+  denies used sent (unknown_channel r spelled none) link e = absurd cc
+  denies used sent (bad_seal r key spelled keyed other) link e = absurd cc
+  denies used sent (unbuilt asked is) link e = absurd cc
+  denies used sent (cert_refused built first) link e = absurd cc
+  denies used sent (relay_failed built first) link e = absurd cc
+  denies used sent (unknown_object opened none) link e = absurd cc
+  denies used sent (ruled {own} {reply} t reading plan planned r) link e = ruled_denied n J _ plan planned _ t.object shard place own reply r link e
+  denies used sent unread link e = absurd cc
+  denies used sent (unopened built interrupted) link e = absurd cc
+
+pub replies_are_verdicts : (n : Node) → RepliesAreVerdicts n
+replies_are_verdicts n J payload used sent course shard place = (grants n J payload shard place used sent course, denies n J payload shard place used sent course)

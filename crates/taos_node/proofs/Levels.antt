@@ -1,0 +1,220 @@
+-- Which lines `clap` takes: a command of the table, and behind it its options.
+use Rattle.std.proofs.Common.{◌≡◌, zero, suc, ◌||◌, Bool, true, false, List, [], ◌∷◌, ◌++◌, map, Option, Some, None, is_some, refl, sym, ap, ap₂, subst, ◌∙◌, codes, arith}
+use Rattle.std.specs.Prelude.{Contains, cond, find, not, ◌&&◌}
+use Rattle.std.specs.List.{All, flat_map, fold}
+use Rattle.std.specs.Option.{option_map, option_map_or}
+use Rattle.std.specs.Str.{bytes_eq}
+use Rattle.std.proofs.lemmas.List.Elements.{All-nil, All-head, All-tail, All-cons}
+use Rattle.std.proofs.lemmas.Slice.Eq.{bytes_eq-Decides}
+use Rattle.clap.specs.Words.{App, Kinds, Row, Shape, Text, built, fault_of, subcommand_of}
+use Rattle.clap.specs.Kinds.{or_else}
+use Rattle.clap.specs.Walk.{Walk, after_step, answers_to, finished, idle, nothing_held, settled, subcommand_met, subcommand_or_other, walk, walk_from, walked}
+use Rattle.clap.specs.Simple.{entered, label_of, names_of, rows_at}
+use Rattle.clap.specs.Faults.{check_fault, defaults_fault, entered_fault, level_fault, other_fault, settle_fault, step_fault, turn_fault, walk_fault}
+use Rattle.clap.specs.declared.error.kind.ErrorKind.{ErrorKind}
+use Rattle.clap.specs.declared.error.kind.ErrorKind.TheVariants as kind
+use Rattle.clap.proofs.OnLiterals.{clap_on_literals}
+use Rattle.clap.proofs.FaultLemmas.{stopped_fault}
+use Rattle.clap.proofs.WalkLemmas.{walk_stopped}
+use Rattle.taos_node.specs.Table.{IsOfTable, IsPlainWord, all_options, commands, taos_app, plain, option, alone, joined}
+use Rattle.taos_node.specs.Words.{Given, words_of}
+use Rattle.taos_node.proofs.Rows.{AreNew, rows_for}
+use Rattle.taos_node.proofs.Walks.{Reads, fault_by, is_rest, leaf_of, rest_fault_by}
+use Rattle.taos_node.proofs.Lines.{given_pass, given_rows, names, words_split}
+
+-- the table's commands, once they are built
+abbrev pub whole : App
+whole = built taos_app
+
+-- a command's name, and its options
+abbrev pub Entry : Type 0
+Entry = Text × List Text
+
+-- ---- the commands of the table
+
+-- the command is met by its name, and found by it
+pub record IsEntry (c : Entry) : Type 0 where
+  pub met : ◌≡◌ {A = Option Text} (subcommand_met (names_of whole) idle c.0) (Some c.0)
+  pub found : ◌≡◌ {A = Option Shape} (find (λ s. answers_to c.0 (label_of s)) whole.subs) (Some (leaf_of c.0 c.1))
+  pub no_help : bytes_eq c.0 (codes "help") ≡ false
+  pub word : IsPlainWord c.0
+  pub within : (name : Text) → Contains c.1 name → Contains all_options name
+
+none_of : (name : Text) → Contains [] name → ⊥
+none_of name has = absurd (omega (arith, has.1))
+
+run_entry : IsEntry (codes "run", codes "frames" ∷ [])
+run_entry = record { met = refl; found = refl; no_help = refl; word = λ e. omega (arith, e); within = λ name has. has }
+
+check_entry : IsEntry (codes "check", [])
+check_entry = record { met = refl; found = refl; no_help = refl; word = λ e. omega (arith, e); within = λ name has. absurd (none_of name has) }
+
+relay_entry : IsEntry (codes "relay", codes "frames" ∷ [])
+relay_entry = record { met = refl; found = refl; no_help = refl; word = λ e. omega (arith, e); within = λ name has. has }
+
+-- what holds of each command of the table holds of all
+pub each_command : (P : Entry → Type 0) → P (codes "run", codes "frames" ∷ []) → P (codes "check", []) → P (codes "relay", codes "frames" ∷ []) → (c : Entry) → Contains commands c → P c
+each_command P run check relay c (zero, within, is) = subst P is run
+each_command P run check relay c (suc zero, within, is) = subst P is check
+each_command P run check relay c (suc (suc zero), within, is) = subst P is relay
+each_command P run check relay c (suc (suc (suc k)), within, is) = absurd (omega (arith, within))
+
+pub entries : (c : Entry) → Contains commands c → IsEntry c
+entries = each_command IsEntry run_entry check_entry relay_entry
+
+-- ---- a line that begins with a command
+
+abbrev stopped_at : Text → List Text → Walk
+stopped_at name ws = record (walk_from nothing_held) { stopped = Some (name, ws) }
+
+-- the faults of a line, by the walk over its words and the faults of that
+abbrev by_walk : Walk → Kinds → Kinds
+by_walk end fault =
+    or_else fault (or_else (entered_fault whole end.stopped)
+    (or_else (settle_fault whole.top.rules whole.top.args_override_self end.held)
+    (or_else (defaults_fault (settled whole.top.rules end.held).rows whole.top.rules)
+    (check_fault whole.top (finished whole.top.rules end.held) (is_some (entered whole end.stopped))))))
+
+-- the faults of a command's words, by its shape
+abbrev leaf_fault : Shape → List Text → Kinds
+leaf_fault s ws = level_fault s [] nothing_held ws false []
+
+abbrev by_found : List Text → Option Shape → Kinds
+by_found ws found =
+    or_else (option_map_or (λ s. leaf_fault s ws) found [])
+    (or_else (defaults_fault (settled whole.top.rules nothing_held).rows whole.top.rules)
+    (check_fault whole.top (finished whole.top.rules nothing_held) (is_some (option_map (λ s. rows_at s ws) found))))
+
+module _ (c : Entry) (e : IsEntry c) (ws : List Text) where
+  first_walk : walked whole.top.rules (names_of whole) (walk_from nothing_held) c.0 ≡ stopped_at c.0 []
+  unfolding clap_on_literals
+  first_walk = ap (λ m. after_step whole.top.rules c.0 (walk_from nothing_held) (subcommand_or_other whole.top.rules m idle 1 c.0 nothing_held).0 (subcommand_or_other whole.top.rules m idle 1 c.0 nothing_held).1) e.met
+
+  command_walk : walk whole.top.rules (names_of whole) nothing_held (c.0 ∷ ws) ≡ stopped_at c.0 ws
+  command_walk = ap (λ k. fold (walked whole.top.rules (names_of whole)) k ws) first_walk ∙ sym (walk_stopped whole.top.rules (names_of whole) (walk_from nothing_held) c.0 [] ws)
+
+  abbrev turn_by : Option Text → Kinds
+  turn_by m =
+      or_else (other_fault whole.top m c.0 nothing_held) (step_fault whole.top 1 (subcommand_or_other whole.top.rules m idle 1 c.0 nothing_held).0 (subcommand_or_other whole.top.rules m idle 1 c.0 nothing_held).1)
+
+  first_turn : turn_fault whole.top (names_of whole) (walk_from nothing_held) c.0 ≡ []
+  unfolding clap_on_literals
+  first_turn = ap turn_by e.met ∙ ap (λ b. or_else (cond (b && not whole.top.disable_help_subcommand) (kind.DisplayHelp ∷ kind.InvalidSubcommand ∷ []) []) []) e.no_help
+
+  command_fault : walk_fault whole.top (names_of whole) (walk_from nothing_held) (c.0 ∷ ws) ≡ []
+  unfolding clap_on_literals
+  command_fault =
+      ap (λ f. or_else f (walk_fault whole.top (names_of whole) (walked whole.top.rules (names_of whole) (walk_from nothing_held) c.0) ws)) first_turn
+      ∙ ap (λ k. walk_fault whole.top (names_of whole) k ws) first_walk
+      ∙ stopped_fault whole.top (names_of whole) (walk_from nothing_held) (c.0, []) ws
+
+  pub command_level : fault_of taos_app (c.0 ∷ ws) ≡ or_else (leaf_fault (leaf_of c.0 c.1) ws) []
+  unfolding clap_on_literals
+  command_level = ap₂ by_walk command_walk command_fault ∙ ap (by_found ws) e.found
+
+  pub command_found : ◌≡◌ {A = Option (Text × List Row)} (subcommand_of taos_app (c.0 ∷ ws)) (Some (rows_at (leaf_of c.0 c.1) ws))
+  unfolding clap_on_literals
+  command_found = ap (λ (k : Walk). entered whole k.stopped) command_walk ∙ ap (option_map (λ s. rows_at s ws)) e.found
+
+-- ---- lines that are taken
+
+given_known : (name value : Text) (b : Bool) (options : List Text) (rows : List Row) (ws : List Text) → Contains all_options name → AreNew options rows (record { name = name; value = value; joined = b } ∷ []) → All IsOfTable ws →
+    All IsOfTable (words_of (record { name = name; value = value; joined = b }) ++ ws)
+given_known name value true options rows ws has new rest = All-cons IsOfTable (codes "--" ++ name ++ codes "=" ++ value) ws (option name has (joined value refl)) rest
+given_known name value false options rows ws has new rest =
+    All-cons IsOfTable (codes "--" ++ name) (value ∷ ws) (option name has (alone refl)) (All-cons IsOfTable value ws (plain new.2) rest)
+
+all_given_known : (options : List Text) (rows : List Row) (gs : List Given) → ((name : Text) → Contains options name → Contains all_options name) → AreNew options rows gs → All IsOfTable (flat_map words_of gs)
+all_given_known options rows [] within new = All-nil IsOfTable
+all_given_known options rows (g ∷ gs) within new =
+    given_known g.name g.value g.joined options rows (flat_map words_of gs) (within g.name new.0) (new.0, new.1, new.2, tt) (all_given_known options _ gs within new.3)
+
+-- what is found in a line that is taken
+pub record IsFound (words : List Text) (command : Text) (given : List Given) : Type 0 where
+  pub known : All IsOfTable words
+  pub no_fault : fault_of taos_app words ≡ []
+  pub found : ◌≡◌ {A = Option (Text × List Row)} (subcommand_of taos_app words) (Some (command, rows_for given))
+
+pub line_found : (c : Entry) → Contains commands c → (given : List Given) → AreNew c.1 [] given → IsFound (c.0 ∷ flat_map words_of given) c.0 given
+line_found c there given new =
+    let e = entries c there in
+    let ws = flat_map words_of given in
+    record {
+      known = All-cons IsOfTable c.0 ws (plain e.word) (all_given_known c.1 [] given e.within new);
+      no_fault = command_level c e ws ∙ ap (λ f. or_else f []) (given_pass c.0 c.1 e.within given new);
+      found = command_found c e ws ∙ ap (λ (rows : List Row). Some (c.0, rows)) (given_rows c.0 c.1 e.within given new);
+    }
+
+-- ---- lines that are not
+
+-- the word is a command's name, or names none
+data Which (cs : List Entry) (w : Text) : Type 0 where
+  this : (c : Entry) → Contains cs c → c.0 ≡ w → Which cs w
+  other : ◌≡◌ {A = Option (Text × List Text)} (find (answers_to w) (map (λ (c : Entry). (c.0, [])) cs)) None → Which cs w
+
+abbrev by_name : Entry → List Entry → Text → Bool → Option (Text × List Text)
+by_name c cs w b = cond (b || false) (Some (c.0, [])) (find (answers_to w) (map (λ (x : Entry). (x.0, [])) cs))
+
+or_none : (c : Entry) (cs : List Entry) (w : Text) (b : Bool) → bytes_eq c.0 w ≡ b → Which cs w → Which (c ∷ cs) w
+or_none c cs w true is rest = this c (0, omega arith, refl) ((bytes_eq-Decides c.0 w).0 is)
+or_none c cs w false is (this d there same) = this d (suc there.0, omega (arith, there.1), there.2) same
+or_none c cs w false is (other none) = other (ap (by_name c cs w) is ∙ none)
+
+which : (cs : List Entry) (w : Text) → Which cs w
+which [] w = other refl
+which (c ∷ cs) w = or_none c cs w (bytes_eq c.0 w) refl (which cs w)
+
+abbrev other_turn_by : Text → Option Text → Kinds
+other_turn_by w m =
+    or_else (other_fault whole.top m w nothing_held) (step_fault whole.top 1 (subcommand_or_other whole.top.rules m idle 1 w nothing_held).0 (subcommand_or_other whole.top.rules m idle 1 w nothing_held).1)
+
+module _ (w : Text) (none : ◌≡◌ {A = Option Text} (subcommand_met (names_of whole) idle w) None) where
+  pub no_command : IsPlainWord w → turn_fault whole.top (names_of whole) (walk_from nothing_held) w ≡ kind.UnknownArgument ∷ kind.InvalidSubcommand ∷ []
+  unfolding clap_on_literals
+  no_command is =
+      let r = is_rest w is in
+      ap (other_turn_by w) none ∙ ap₂ (fault_by whole.top idle nothing_held w) r.dashes r.long ∙ ap (rest_fault_by whole.top idle nothing_held w) r.short
+
+  pub no_option : (name : Text) (v : Option Text) → Reads w name v → turn_fault whole.top (names_of whole) (walk_from nothing_held) w ≡ kind.UnknownArgument ∷ []
+  unfolding clap_on_literals
+  no_option name v r = ap (other_turn_by w) none ∙ ap₂ (fault_by whole.top idle nothing_held w) r.dashes r.long
+
+  -- the line is refused
+  refused : (x : ErrorKind) (xs : Kinds) (ws : List Text) → turn_fault whole.top (names_of whole) (walk_from nothing_held) w ≡ x ∷ xs → fault_of taos_app (w ∷ ws) ≡ [] → ⊥
+  unfolding clap_on_literals
+  refused x xs ws is e =
+      let later = walk_fault whole.top (names_of whole) (walked whole.top.rules (names_of whole) (walk_from nothing_held) w) ws in
+      let bad : ◌≡◌ {A = Kinds} (x ∷ xs) [] = sym (ap (λ turn. by_walk (walk whole.top.rules (names_of whole) nothing_held (w ∷ ws)) (or_else turn later)) is) ∙ e in
+      absurd (cc bad)
+
+  other_line : (ws : List Text) → IsOfTable w → fault_of taos_app (w ∷ ws) ≡ [] → ⊥
+  other_line ws (plain is) e = refused kind.UnknownArgument (kind.InvalidSubcommand ∷ []) ws (no_command is) e
+  other_line ws (option name has (alone is)) e = refused kind.UnknownArgument [] ws (no_option name None (subst (λ y. Reads y name None) (sym is) (names name has).bare)) e
+  other_line ws (option name has (joined v is)) e = refused kind.UnknownArgument [] ws (no_option name (Some v) (subst (λ y. Reads y name (Some v)) (sym is) ((names name has).whole v))) e
+
+no_word : fault_of taos_app [] ≡ kind.MissingSubcommand ∷ []
+unfolding clap_on_literals
+no_word = refl
+
+-- a line that is taken is that of a command
+pub record IsSplit (words : List Text) : Type 0 where
+  pub command : Entry
+  pub there : Contains commands command
+  pub given : List Given
+  pub are : words ≡ command.0 ∷ flat_map words_of given
+  pub new : AreNew command.1 [] given
+
+or_else_none : (a b : Kinds) → or_else a b ≡ [] → a ≡ []
+or_else_none [] b none = refl
+or_else_none (k ∷ ks) b none = absurd cc
+
+split_which : (w : Text) (ws : List Text) → Which commands w → IsOfTable w → All IsOfTable ws → fault_of taos_app (w ∷ ws) ≡ [] → IsSplit (w ∷ ws)
+split_which w ws (this c there same) known all none =
+    let e = entries c there in
+    let split = words_split c.0 c.1 ws all (or_else_none (leaf_fault (leaf_of c.0 c.1) ws) [] (sym (command_level c e ws) ∙ subst (λ y. fault_of taos_app (y ∷ ws) ≡ []) (sym same) none)) in
+    record { command = c; there = there; given = split.0; are = ap₂ (λ (y : Text) (l : List Text). y ∷ l) (sym same) split.1; new = split.2 }
+split_which w ws (other none_met) known all none = absurd (other_line w (ap (option_map (λ (s : Text × List Text). s.0)) none_met) ws known none)
+
+pub line_split : (words : List Text) → All IsOfTable words → fault_of taos_app words ≡ [] → IsSplit words
+line_split [] all none = absurd (cc (no_word, none))
+line_split (w ∷ ws) all none = split_which w ws (which commands w) (All-head IsOfTable w ws all) (All-tail IsOfTable w ws all) none

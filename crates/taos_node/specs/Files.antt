@@ -1,0 +1,130 @@
+-- The file of a command: what its bytes mean, and why it is refused.
+use Rattle.std.specs.Prelude.{◌≡◌, ◌≢◌, ◌⊎◌, ℕ, ◌-◌, ◌^◌, ◌<◌, ◌≤◌, List, length, Some, Result, Ok, Err}
+use Rattle.std.specs.Io.KnownBytes.{Consumes, IsAtEnd}
+use Rattle.frame_link.specs.Streams.{Stream}
+use Rattle.frame_link.specs.Faults.{Rose}
+use Rattle.node_file.specs.declared.fault.FileFault.{FileFault as Refusal}
+use Rattle.node_file.specs.declared.fault.FileFault.TheVariants.{Line, Byte}
+use Rattle.node_file.specs.declared.fault.FileFault.TheVariants as refusals
+use Rattle.node_file.specs.Opening.{Opening}
+use Rattle.node_file.specs.OpeningFile.{Means, opening_in}
+use Rattle.node_file.specs.RelayFile.{RelayFile, relay_in}
+use Rattle.taos_node.specs.declared.ending.FileFault.{FileFault}
+use Rattle.taos_node.specs.declared.ending.FileFault.TheVariants as fault
+use Rattle.taos_node.specs.declared.ending.FileFault.TheVariants.{Malformed, Refused}
+
+-- it did not fail in between, and its count does not stand at the largest u64
+abbrev pub IsSteady : Stream → Stream → Type 0
+IsSteady s0 s1 = (s1.faults ≡ s0.faults) × (s0.faults < 2 ^ 64 - 1)
+
+-- its count of faults rose in between, or stands at the largest u64
+abbrev pub HasFailed : Stream → Stream → Type 0
+HasFailed s0 s1 = Rose s0.faults s1.faults
+
+-- the most bytes of a file
+abbrev pub max_file : ℕ
+max_file = 4194304
+
+-- the file's bytes mean the opening of a node, and are not too many
+abbrev pub IsNodeFile : Opening → List ℕ → Type 0
+IsNodeFile o bytes = Means o bytes × (length bytes ≤ max_file)
+
+-- the file's bytes mean what a relay knows
+abbrev pub IsRelayFile : RelayFile → List ℕ → Type 0
+IsRelayFile r bytes = relay_in bytes ≡ Ok r
+
+-- what bytes mean, or why they are refused
+abbrev pub Meaning : Type 0 → Type 0
+Meaning A = List ℕ → Result A Refusal
+
+-- what the bytes of a node file mean
+abbrev pub node_means : Meaning Opening
+node_means = opening_in
+
+-- what the bytes of a relay file mean
+abbrev pub relay_means : Meaning RelayFile
+relay_means = relay_in
+
+-- the bytes were read, and those were all, or more than there may be
+pub record IsRead (file0 file1 : Stream) (bytes : List ℕ) : Type 0 where
+  pub read : Consumes file0.told file1.told bytes
+  pub whole : IsAtEnd file1.told ⊎ (max_file < length bytes)
+
+-- the file was read to its end, and means this
+pub record Opens {A : Type 0} (Means : A → List ℕ → Type 0) (file0 file1 : Stream) (a : A) :
+    Type 0 where
+  pub bytes : List ℕ
+  pub read : Consumes file0.told file1.told bytes
+  pub at_end : IsAtEnd file1.told
+  pub means : Means a bytes
+
+-- the file opens the node
+abbrev pub OpensNode : Stream → Stream → Opening → Type 0
+OpensNode = Opens IsNodeFile
+
+-- the file opens the relay
+abbrev pub OpensRelay : Stream → Stream → RelayFile → Type 0
+OpensRelay = Opens IsRelayFile
+
+-- what was read of the file is refused
+pub record IsRefused {A : Type 0} (means : Meaning A) (file0 file1 : Stream) (why : Refusal) :
+    Type 0 where
+  pub bytes : List ℕ
+  pub read : IsRead file0 file1 bytes
+  pub refused : means bytes ≡ Err why
+
+-- the fault that a refusal is answered by
+abbrev pub fault_of : Refusal → FileFault
+fault_of (Line line cause) = Refused line cause
+fault_of (Byte offset) = Malformed offset
+fault_of refusals.NoMemory = fault.NoMemory
+
+-- the file could not be read, or memory was refused for its bytes
+abbrev pub IsUnread : FileFault → Type 0
+IsUnread (Refused line cause) = ⊥
+IsUnread (Malformed offset) = ⊥
+IsUnread fault.ReadFault = Unit {0}
+IsUnread fault.NoMemory = Unit {0}
+
+-- why a file is not served: what was read is refused at a line or at a byte, or could not be read
+abbrev pub FileFails : {A : Type 0} → Meaning A → Stream → Stream → FileFault → Type 0
+FileFails means file0 file1 (Refused line cause) = IsRefused means file0 file1 (Line line cause)
+FileFails means file0 file1 (Malformed offset) = IsRefused means file0 file1 (Byte offset)
+FileFails means file0 file1 fault.ReadFault = Unit {0}
+FileFails means file0 file1 fault.NoMemory = Unit {0}
+
+-- what comes of a file: what stands for that which it means, or why there is none
+abbrev pub FileGives : {A X : Type 0} → (A → List ℕ → Type 0) → Meaning A → (A → X → Type 0) →
+    Stream → Stream → Result X FileFault → Type 0
+FileGives {A} Means means StandsFor file0 file1 (Ok x) =
+    (a : A) × Opens Means file0 file1 a × StandsFor a x
+FileGives Means means StandsFor file0 file1 (Err fault) = FileFails means file0 file1 fault
+
+-- the same of a node file, and of a relay file
+abbrev pub NodeFileGives : {X : Type 0} → (Opening → X → Type 0) → Stream → Stream →
+    Result X FileFault → Type 0
+NodeFileGives = FileGives IsNodeFile node_means
+
+abbrev pub RelayFileGives : {X : Type 0} → (RelayFile → X → Type 0) → Stream → Stream →
+    Result X FileFault → Type 0
+RelayFileGives = FileGives IsRelayFile relay_means
+
+-- the file's count of faults rose where a fault of reading is answered, and else stayed
+abbrev pub FaultHasCause : Stream → Stream → FileFault → Type 0
+FaultHasCause file0 file1 (Refused line cause) = file1.faults ≡ file0.faults
+FaultHasCause file0 file1 (Malformed offset) = file1.faults ≡ file0.faults
+FaultHasCause file0 file1 fault.ReadFault = (file0.faults ≤ file1.faults) × HasFailed file0 file1
+FaultHasCause file0 file1 fault.NoMemory = file1.faults ≡ file0.faults
+
+-- the same of what comes of a file
+abbrev pub FileHasCause : {A : Type 0} → Stream → Stream → Result A FileFault → Type 0
+FileHasCause {A} file0 file1 (Ok x) = file1.faults ≡ file0.faults
+FileHasCause {A} file0 file1 (Err fault) = FaultHasCause file0 file1 fault
+
+-- Which files are refused: one that means nothing is, and every other is not, unless its count rises
+-- or memory is refused.
+pub record FileDecides {A : Type 0} (Means : A → List ℕ → Type 0) (file0 file1 : Stream)
+    (status : ℕ) : Type 0 where
+  pub opens : (bytes : List ℕ) (a : A) → file0.told ≡ Some bytes → Means a bytes → status ≢ 2
+  pub refuses : (bytes : List ℕ) → file0.told ≡ Some bytes → ((a : A) → Means a bytes → ⊥) →
+      IsSteady file0 file1 → (status ≡ 2) ⊎ (status ≡ 6)

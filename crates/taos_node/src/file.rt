@@ -1,0 +1,81 @@
+//! The file of a command, read.
+
+ghost use Rattle.std.specs.Prelude.{◌≡◌, ◌≤◌, length, IfErr, IfOk};
+ghost use Rattle.frame_link.specs.Streams.{stream};
+ghost use Rattle.node_file.specs.Meaning.{opening, FitsByNumber};
+ghost use Rattle.node_file.specs.OpeningView.{Represents};
+ghost use Rattle.node_file.specs.RelayView.{StandsFor};
+ghost use Rattle.taos_node.specs.Files.{fault_of, FileHasCause, IsRead, IsUnread, NodeFileGives, RelayFileGives};
+
+use crate::ending::FileFault;
+use frame_link::{Source, fill};
+use node_file::{FileFault as Refusal, Opening, RelayFile, read_opening, read_relay_file};
+use std::alloc::{AllocError, Global};
+
+/// The most bytes of a file.
+pub const MAX_FILE: usize = 4_194_304;
+
+fn zeros(alloc: Global, len: usize) -> Result<Vec<u8>, AllocError>
+    ensures { IfOk result (λ v. length v.items ≡ len) }
+{
+    vec![in alloc; 0; len]
+}
+
+// The bytes of a file, or one more than there may be.
+fn file_bytes<F: Source>(alloc: Global, file: &mut F) -> Result<Vec<u8>, FileFault>
+    ensures read { IfOk result (λ v. IsRead (stream (F.left file.old) (F.faults file.old))
+        (stream (F.left file.new) (F.faults file.new)) v.items) }
+    ensures unread { IfErr result IsUnread }
+    ensures cause { FileHasCause (stream (F.left file.old) (F.faults file.old))
+        (stream (F.left file.new) (F.faults file.new)) result }
+{
+    let mut bytes = zeros(alloc, MAX_FILE + 1)?;
+    let Ok(len) = fill(file, &mut bytes) else {
+        return Err(FileFault::ReadFault);
+    };
+    bytes.truncate(len);
+    Ok(bytes)
+}
+
+fn fault_of(refusal: Refusal) -> FileFault
+    ensures { result ≡ fault_of refusal }
+{
+    match refusal {
+        Refusal::Line { line, cause } => FileFault::Refused { line, cause },
+        Refusal::Byte { offset } => FileFault::Malformed {
+            offset: offset as usize,
+        },
+        Refusal::NoMemory => FileFault::NoMemory,
+    }
+}
+
+/// The opening of a node that a file means.
+pub(crate) fn file_opening<F: Source>(alloc: Global, file: &mut F) -> Result<Opening, FileFault>
+    ensures gives { NodeFileGives (λ o x. Represents x o)
+        (stream (F.left file.old) (F.faults file.old))
+        (stream (F.left file.new) (F.faults file.new)) result }
+    ensures fits { IfOk result (λ x. FitsByNumber (opening x)) }
+    ensures cause { FileHasCause (stream (F.left file.old) (F.faults file.old))
+        (stream (F.left file.new) (F.faults file.new)) result }
+{
+    let bytes = file_bytes(alloc, file)?;
+    match read_opening(alloc, &bytes) {
+        Ok(opening) => Ok(opening),
+        Err(refusal) => Err(fault_of(refusal)),
+    }
+}
+
+/// What a relay knows by a file.
+pub(crate) fn file_relay<F: Source>(alloc: Global, file: &mut F) -> Result<RelayFile, FileFault>
+    ensures gives { RelayFileGives (λ r x. StandsFor x r)
+        (stream (F.left file.old) (F.faults file.old))
+        (stream (F.left file.new) (F.faults file.new)) result }
+    ensures cause { FileHasCause (stream (F.left file.old) (F.faults file.old))
+        (stream (F.left file.new) (F.faults file.new)) result }
+{
+    let bytes = file_bytes(alloc, file)?;
+    match read_relay_file(alloc, &bytes) {
+        Ok(relay) => Ok(relay),
+        Err(refusal) => Err(fault_of(refusal)),
+    }
+}
