@@ -1,10 +1,10 @@
 #!/usr/bin/env python3
 """Prints requests and the replies to them.
 
-    show.py OPENING REQUESTS REPLIES
+    show.py NODE REQUESTS REPLIES
     show.py pair NUMBER REQUESTS REPLIES
 
-The opening gives the channels' keys: each reply's tag is computed again under the key of the
+NODE is the node file, which has the channels' keys: each reply's tag is computed again under the key of the
 channel that it names. Ends with status 0 where each request has its reply, each reply reads as
 docs/FORMATS.md says, and each tag checks. By `pair` the frames of the request of that number, counted
 from 1, and of its reply are written as they are, for `check`.
@@ -44,11 +44,9 @@ def frames(data):
     return found
 
 
-def channel_keys(opening):
-    fields = Bytes(opening)
-    fields.take(2 + 4 + 32 + 4 + 8 + 8)
-    count = fields.number(2)
-    return {fields.number(4): fields.take(32) for _ in range(count)}
+def channel_keys(node_file):
+    lines = [line.split() for line in node_file.decode("ascii").splitlines()]
+    return {int(line[1]): bytes.fromhex(line[2]) for line in lines if line[:1] == ["channel"]}
 
 
 PAIRS = {3: "and", 4: "|", 6: "for"}
@@ -213,7 +211,8 @@ REFUSALS = {
     9: ("unknown object", [4]),
     10: ("a journal is full (0 an object's, 1 a shard's), its number, its length:", [1, 4, 8]),
     11: ("no memory", []),
-    255: ("not built", []),
+    12: ("a shard has no room for more in common, and holds, and its number:", [1, 4]),
+    13: ("no shard held the certificate of this digest", [32]),
 }
 # These come before the seal of a request is found right, and NO_MEMORY may.
 UNSEALED, NO_MEMORY = (2, 3, 4), 11
@@ -251,8 +250,8 @@ def reply(payload, keys):
     return f"{said}\n    THE TAG DOES NOT CHECK under the key of channel {channel}", False
 
 
-def show(opening, asked, replied):
-    keys, requests, replies = channel_keys(opening), frames(asked), frames(replied)
+def show(node_file, asked, replied):
+    keys, requests, replies = channel_keys(node_file), frames(asked), frames(replied)
     all_check = True
     for payload, answer in zip(requests, replies):
         said, checks = reply(answer, keys)

@@ -61,25 +61,26 @@ fn passes<W: Wait + Sync>(
     Ok((gate.passed, is_judged))
 }
 
+// The number; the first serial number of what is presented and how many there are; how often the
+// gate is passed. The second is replayed, the fourth finds the channel full, the last the journal.
+const ASKS: &[(u64, u64, u64, u64)] = &[
+    (1, 100, 16, 1),
+    (1, 100, 0, 0),
+    (2, 116, 16, 1),
+    (3, 132, 1, 0),
+    (3, 0, 0, 1),
+    (4, 0, 0, 0),
+];
+
 #[test]
 fn the_gate_is_passed_where_an_ask_is_judged(rt: HostRuntime) -> Result<(), Fail> {
-    let alloc = rt.alloc();
-    let mut shards = one_shard(alloc, 5)?;
-    let mut bench = Saturator::reserve(alloc)?;
-    // the number; the first serial number of what is presented and how many there are; how often it
-    // is passed. The second is replayed, the fourth finds the channel full, the last the journal.
-    let asks = [
-        (1, 100, 16, 1),
-        (1, 100, 0, 0),
-        (2, 116, 16, 1),
-        (3, 132, 1, 0),
-        (3, 0, 0, 1),
-        (4, 0, 0, 0),
-    ];
-    for (seq, first, count, expected) in asks {
-        let presented = hand_offs(alloc, first, count)?;
-        let got = passes(&rt, alloc, &mut shards, &mut bench, seq, presented)?;
-        assert_eq!(rt; got, (expected, expected == 1), "{seq}, by {count}");
+    let mut shards = one_shard(rt.alloc(), 5)?;
+    let mut bench = Saturator::reserve(rt.alloc())?;
+    for &(seq, first, count, expected) in ASKS {
+        let presented = hand_offs(rt.alloc(), first, count)?;
+        let (passed, is_judged) = passes(&rt, rt.alloc(), &mut shards, &mut bench, seq, presented)?;
+        let is_so = passed == expected && is_judged == (expected == 1);
+        assert!(rt; is_so, "{seq}, by {count}");
     }
     Ok(())
 }

@@ -24,75 +24,84 @@ fn hand_off(alloc: Global) -> Result<Arc<Cert>, Fail> {
 }
 
 // That key 2 speaks for name 10, by the anchor of key 1 and its hand-off.
-fn proof(alloc: Global) -> Result<Proof, Fail> {
-    let nodes = vec![in alloc; Node::Key(1), Node::Name(10), Node::Key(2)]?;
-    let lines = vec![in alloc;
-        Line {
-            fact: Fact::Speaks { left: 0, right: 1 },
-            step: Step::Anchor { index: 0 },
+const NODES: &[Node] = &[Node::Key(1), Node::Name(10), Node::Key(2)];
+
+const LINES: &[Line] = &[
+    Line {
+        fact: Fact::Speaks { left: 0, right: 1 },
+        step: Step::Anchor { index: 0 },
+    },
+    Line {
+        fact: Fact::Says {
+            who: 0,
+            left: 2,
+            right: 1,
         },
-        Line {
-            fact: Fact::Says {
-                who: 0,
-                left: 2,
-                right: 1
-            },
-            step: Step::Said { cite: 0 },
+        step: Step::Said { cite: 0 },
+    },
+    Line {
+        fact: Fact::Says {
+            who: 1,
+            left: 2,
+            right: 1,
         },
-        Line {
-            fact: Fact::Says {
-                who: 1,
-                left: 2,
-                right: 1
-            },
-            step: Step::Lift { says: 1, speaks: 0 },
-        },
-        Line {
-            fact: Fact::Speaks { left: 2, right: 1 },
-            step: Step::HandOff { says: 2 },
-        },
-    ]?;
-    Ok(Proof::from_parts(nodes, lines).ok_or("no proof")?)
+        step: Step::Lift { says: 1, speaks: 0 },
+    },
+    Line {
+        fact: Fact::Speaks { left: 2, right: 1 },
+        step: Step::HandOff { says: 2 },
+    },
+];
+
+fn proof(alloc: Global) -> Result<Arc<Proof>, Fail> {
+    let nodes = NODES.to_vec(alloc)?;
+    let proof = Proof::from_parts(nodes, LINES.to_vec(alloc)?).ok_or("no proof")?;
+    Ok(Arc::new(alloc, proof)?)
 }
 
-// That this proof is to be kept for the Ask at a place.
-fn keep(alloc: Global, ask: u64, cert: &Arc<Cert>) -> Result<Event, Fail> {
-    let cites = vec![in alloc; Arc::try_clone(cert)?]?;
+fn cites(alloc: Global, cert: &Arc<Cert>) -> Result<Vec<Arc<Cert>>, Fail> {
+    Ok(vec![in alloc; Arc::try_clone(cert)?]?)
+}
+
+// This proof with the certificate that it cites.
+fn cached(alloc: Global, cert: &Arc<Cert>) -> Result<Arc<Cached>, Fail> {
+    let proof = proof(alloc)?;
+    let cites = cites(alloc, cert)?;
     let lease = lease_of(&cites);
     let cached = Cached {
         subject: Term::Key(2),
         who: Term::Name(10),
-        proof: Arc::new(alloc, proof(alloc)?)?,
+        proof,
         cites,
         lease,
     };
-    Ok(Event::Keep {
-        ask,
-        entry: 1,
-        cached: Arc::new(alloc, cached)?,
-    })
+    Ok(Arc::new(alloc, cached)?)
 }
 
-// That key 2 asks to read what name 30 and name 10 may read.
+// What name 30 and name 10 may read.
+fn list(alloc: Global) -> Result<Arc<Vec<Entry>>, Fail> {
+    let mut list = Vec::new(alloc);
+    for number in [30, 10] {
+        list.push(Entry {
+            rights: 1,
+            who: Term::Name(number),
+        })?;
+    }
+    Ok(Arc::new(alloc, list)?)
+}
+
+// That key 2 asks to read it.
 fn ask(alloc: Global, seq: u64, reading: u64, cert: &Arc<Cert>) -> Result<Event, Fail> {
-    let list = vec![in alloc;
-        Entry {
-            rights: 1,
-            who: Term::Name(30)
-        },
-        Entry {
-            rights: 1,
-            who: Term::Name(10)
-        },
-    ]?;
+    let list = list(alloc)?;
+    let presented = cites(alloc, cert)?;
     let asked = Ask {
         channel: 2,
         seq,
         reading,
         subject: Term::Key(2),
-        list: Arc::new(alloc, list)?,
+        list,
         right: 1,
-        presented: vec![in alloc; Arc::try_clone(cert)?]?,
+        presented,
     };
     Ok(Event::Ask(Arc::new(alloc, asked)?))
 }
@@ -115,45 +124,125 @@ fn shard(alloc: Global) -> Result<Shard, Fail> {
     Ok(Shard::new(alloc, plan)?)
 }
 
+// What happens to the shard. A proof is kept for the Ask at a place, by its second entry.
+#[derive(Clone, Copy)]
+enum Deed {
+    Asks { seq: u64, reading: u64 },
+    Discards,
+    Keeps { ask: u64 },
+    Forgets,
+}
+
+use Deed::{Asks, Discards, Forgets, Keeps};
+
+fn event_of(alloc: Global, deed: Deed, cert: &Arc<Cert>) -> Result<Event, Fail> {
+    match deed {
+        Asks { seq, reading } => ask(alloc, seq, reading, cert),
+        Discards => Ok(Event::Discard(cert.digest)),
+        Keeps { ask } => Ok(Event::Keep {
+            ask,
+            entry: 1,
+            cached: cached(alloc, cert)?,
+        }),
+        Forgets => Ok(Event::Forget(2)),
+    }
+}
+
+// The SHA-256 of the hand-off's body, by Python's hashlib.
+const DIGEST: [u8; 32] = [
+    241, 8, 158, 92, 49, 13, 241, 53, 120, 169, 226, 50, 230, 141, 66, 181, 239, 183, 33, 93, 9,
+    90, 136, 247, 177, 42, 244, 78, 21, 235, 9, 156,
+];
+
+const NOT_HELD: Told = Told::Dropped(DropCause::NotHeld { digest: DIGEST });
+
+const LAPSED: Told = Told::Dropped(DropCause::Lapsed {
+    clock: 2000,
+    lease: 2000,
+});
+
+// Places, what happens, and what is told of it; nothing where the shard does not take it.
+const DEEDS: &[(u64, Deed, Option<Told>)] = &[
+    (
+        0,
+        Asks {
+            seq: 1,
+            reading: 1000,
+        },
+        Some(Told::Miss),
+    ),
+    // let go between an Ask and its Keep
+    (1, Discards, Some(Told::Removed { count: 1 })),
+    (2, Keeps { ask: 0 }, Some(NOT_HELD)),
+    (
+        3,
+        Asks {
+            seq: 2,
+            reading: 1000,
+        },
+        Some(Told::Miss),
+    ),
+    (4, Keeps { ask: 3 }, Some(Told::Kept)),
+    // by the second entry
+    (
+        5,
+        Asks {
+            seq: 3,
+            reading: 1999,
+        },
+        Some(Told::Hit { entry: 1 }),
+    ),
+    (6, Forgets, Some(Told::Removed { count: 1 })),
+    (
+        7,
+        Asks {
+            seq: 4,
+            reading: 1999,
+        },
+        Some(Told::Miss),
+    ),
+    (8, Keeps { ask: 0 }, Some(Told::Kept)),
+    (
+        9,
+        Asks {
+            seq: 5,
+            reading: 2000,
+        },
+        Some(Told::Miss),
+    ),
+    (10, Keeps { ask: 0 }, Some(LAPSED)),
+    // a Discard is no Ask
+    (11, Keeps { ask: 1 }, None),
+];
+
+// Whether the shard tells this of an event, at this place.
+fn is_told(
+    alloc: Global,
+    shard: &mut Shard,
+    event: Event,
+    place: u64,
+    told: Option<Told>,
+) -> Result<bool, Fail> {
+    if !shard.takes(&event) {
+        return Ok(told.is_none());
+    }
+    let (at, _) = shard.step(alloc, event)?;
+    match shard.journal().last() {
+        Some(entry) => Ok(at == place && Some(entry.told) == told),
+        None => Ok(false),
+    }
+}
+
 #[test]
 fn a_proof_is_kept_until_its_lease_or_what_it_cites_ends(rt: HostRuntime) -> Result<(), Fail> {
-    let alloc = rt.alloc();
-    let cert = hand_off(alloc)?;
-    let digest = cert.digest;
-    let not_held = DropCause::NotHeld { digest };
-    let lapsed = DropCause::Lapsed {
-        clock: 2000,
-        lease: 2000,
-    };
-    let cases = [
-        (ask(alloc, 1, 1000, &cert)?, Told::Miss),
-        // let go between an Ask and its Keep
-        (Event::Discard(digest), Told::Removed { count: 1 }),
-        (keep(alloc, 0, &cert)?, Told::Dropped(not_held)),
-        (ask(alloc, 2, 1000, &cert)?, Told::Miss),
-        (keep(alloc, 3, &cert)?, Told::Kept),
-        // by the second entry
-        (ask(alloc, 3, 1999, &cert)?, Told::Hit { entry: 1 }),
-        (Event::Forget(2), Told::Removed { count: 1 }),
-        (ask(alloc, 4, 1999, &cert)?, Told::Miss),
-        (keep(alloc, 0, &cert)?, Told::Kept),
-        (ask(alloc, 5, 2000, &cert)?, Told::Miss),
-        (keep(alloc, 0, &cert)?, Told::Dropped(lapsed)),
-    ];
-    let mut shard = shard(alloc)?;
-    for (number, (event, told)) in cases.into_iter().enumerate() {
-        if !shard.takes(&event) {
-            return Err(Fail::new("not taken"));
-        }
-        let (place, _) = shard.step(alloc, event)?;
-        assert_eq!(rt; place, number as u64);
-        assert_eq!(rt;
-            shard.journal().last().map(|e| e.told),
-            Some(told),
-            "at {number}"
+    let cert = hand_off(rt.alloc())?;
+    let mut shard = shard(rt.alloc())?;
+    for &(place, deed, told) in DEEDS {
+        let event = event_of(rt.alloc(), deed, &cert)?;
+        assert!(rt;
+            is_told(rt.alloc(), &mut shard, event, place, told)?,
+            "at {place}"
         );
     }
-    // A Discard is no Ask, and the first entry is another's.
-    assert!(rt; !shard.takes(&keep(alloc, 1, &cert)?));
     Ok(())
 }

@@ -77,50 +77,58 @@ fn ask<W: Wait + Sync>(
     }
 }
 
+// Channel, number, reading; the place, and the moment, or the last number, or the journal's length.
+const ASKS: &[(u32, u64, u64, u64, Result<u64, u64>)] = &[
+    (2, 1, 1000, 0, Ok(1000)),
+    (3, 1, 900, 0, Ok(900)),
+    (2, 1, 1100, 1, Err(1)),
+    (2, 2, 1000, 2, Ok(1100)),
+    (3, 2, 0, 1, Ok(900)),
+    (2, 3, 1200, 3, Err(3)),
+    (3, 3, 901, 2, Ok(901)),
+];
+
 #[test]
 fn each_shard_has_its_own_journal_and_clock(rt: HostRuntime) -> Result<(), Fail> {
-    let alloc = rt.alloc();
-    let mut shards = two_shards(alloc)?;
-    // channel, number, reading; the place, and the moment, or the last number, or the journal's
-    // length
-    let asks = [
-        (2, 1, 1000, 0, Ok(1000)),
-        (3, 1, 900, 0, Ok(900)),
-        (2, 1, 1100, 1, Err(1)),
-        (2, 2, 1000, 2, Ok(1100)),
-        (3, 2, 0, 1, Ok(900)),
-        (2, 3, 1200, 3, Err(3)),
-        (3, 3, 901, 2, Ok(901)),
-    ];
-    for (channel, seq, reading, place, expected) in asks {
-        assert_eq!(rt;
-            ask(&rt, alloc, &mut shards, channel, seq, reading)?,
-            (place, expected),
-            "{channel} {seq} at {reading}"
-        );
+    let mut shards = two_shards(rt.alloc())?;
+    for &(channel, seq, reading, place, expected) in ASKS {
+        let (at, got) = ask(&rt, rt.alloc(), &mut shards, channel, seq, reading)?;
+        let is_so = at == place && got == expected;
+        assert!(rt; is_so, "{channel} {seq} at {reading}");
     }
     Ok(())
 }
 
+// Whether a shard's journal tells this, and nothing else.
+fn tells(shard: &Shard, tolds: &[Told]) -> bool {
+    let journal = shard.journal();
+    if journal.len() != tolds.len() {
+        return false;
+    }
+    for (entry, told) in journal.iter().zip(tolds) {
+        if entry.told != *told {
+            return false;
+        }
+    }
+    true
+}
+
+// Channel; the place.
+const BEFORE: &[(u32, u64)] = &[(3, 0), (3, 1), (2, 0)];
+
 #[test]
 fn closing_gives_the_journals_back(rt: HostRuntime) -> Result<(), Fail> {
-    let alloc = rt.alloc();
-    let mut shards = two_shards(alloc)?;
-    // channel; the place
-    let asks = [(3, 0), (3, 1), (2, 0)];
-    for (channel, expected) in asks {
-        let (place, _) = ask(&rt, alloc, &mut shards, channel, 1, 900)?;
-        assert_eq!(rt; place, expected, "{channel}");
+    let mut shards = two_shards(rt.alloc())?;
+    for &(channel, place) in BEFORE {
+        let (at, _) = ask(&rt, rt.alloc(), &mut shards, channel, 1, 900)?;
+        assert!(rt; at == place, "{channel}");
     }
     let shards = shards.close();
-    assert_eq!(rt; shards.len(), 2);
-    let journal = shards[0].journal();
-    assert_eq!(rt; journal.len(), 1);
-    assert_eq!(rt; journal[0].told, Told::Miss);
-    let journal = shards[1].journal();
-    assert_eq!(rt; journal.len(), 2);
-    assert_eq!(rt; journal[0].told, Told::Miss);
-    assert_eq!(rt; journal[1].told, Told::Replayed { last: 1 });
+    let [even, odd] = shards.as_slice() else {
+        return Err(Fail::new("not two"));
+    };
+    assert!(rt; tells(even, &[Told::Miss]));
+    assert!(rt; tells(odd, &[Told::Miss, Told::Replayed { last: 1 }]));
     Ok(())
 }
 
@@ -150,22 +158,19 @@ fn opened(alloc: Global) -> Result<Lone, Fail> {
     Ok(Lone::new(shards, whole.anchors))
 }
 
+// Whether a shard has this number and these channels, and an empty journal.
+fn is_new(shard: &Shard, number: u32, channels: &[u32]) -> bool {
+    let plan = shard.plan();
+    plan.number == number && plan.channels.as_slice() == channels && shard.journal().is_empty()
+}
+
 #[test]
 fn a_node_opens_each_channel_at_its_shard(rt: HostRuntime) -> Result<(), Fail> {
-    let alloc = rt.alloc();
-    let shards = opened(alloc)?.close();
-    assert_eq!(rt; shards.len(), 2);
-    // number; the channels
-    let plans = [(0, [2, 4]), (1, [1, 3])];
-    for (number, expected) in plans {
-        let shard = shards.get(number as usize).ok_or("no shard")?;
-        assert_eq!(rt; shard.plan().number, number);
-        assert_eq!(rt;
-            shard.plan().channels.as_slice(),
-            expected.as_slice(),
-            "at {number}"
-        );
-        assert_eq!(rt; shard.journal().len(), 0, "at {number}");
-    }
+    let shards = opened(rt.alloc())?.close();
+    let [even, odd] = shards.as_slice() else {
+        return Err(Fail::new("not two"));
+    };
+    assert!(rt; is_new(even, 0, &[2, 4]));
+    assert!(rt; is_new(odd, 1, &[1, 3]));
     Ok(())
 }

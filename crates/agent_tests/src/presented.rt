@@ -8,7 +8,7 @@ use stmt_codec::{Cert, CertBody};
 use taos_saturate::Saturator;
 
 // What came of an ask.
-#[derive(Clone, Copy, Debug, PartialEq, Eq)]
+#[derive(Clone, Copy, PartialEq, Eq)]
 enum End {
     Judged,
     Replayed,
@@ -25,8 +25,25 @@ fn doubled(alloc: Global, term: Term) -> Result<Term, Fail> {
 
 // A term of 63 nodes.
 fn large(alloc: Global) -> Result<Term, Fail> {
-    let term = doubled(alloc, doubled(alloc, Term::Key(2))?)?;
-    doubled(alloc, doubled(alloc, doubled(alloc, term)?)?)
+    let mut term = Term::Key(2);
+    for _ in 0..5 {
+        term = doubled(alloc, term)?;
+    }
+    Ok(term)
+}
+
+fn large_cert(alloc: Global, serial: u64) -> Result<Arc<Cert>, Fail> {
+    let body = CertBody {
+        issuer: 1,
+        quoted: Some(large(alloc)?),
+        statement: Statement {
+            left: large(alloc)?,
+            right: large(alloc)?,
+        },
+        until: 2000,
+        serial,
+    };
+    Ok(Arc::new(alloc, Cert::of(alloc, body)?)?)
 }
 
 // Sixteen certificates of this number's own. Each is counted as 320 bytes and 32 for each of 4 * 63
@@ -34,17 +51,8 @@ fn large(alloc: Global) -> Result<Term, Fail> {
 fn large_certs(alloc: Global, number: u64) -> Result<Vec<Arc<Cert>>, Fail> {
     let mut certs = Vec::new(alloc);
     for place in 0..16 {
-        let body = CertBody {
-            issuer: 1,
-            quoted: Some(large(alloc)?),
-            statement: Statement {
-                left: large(alloc)?,
-                right: large(alloc)?,
-            },
-            until: 2000,
-            serial: number.wrapping_mul(16).wrapping_add(place),
-        };
-        certs.push(Arc::new(alloc, Cert::of(alloc, body)?)?)?;
+        let serial = number.wrapping_mul(16).wrapping_add(place);
+        certs.push(large_cert(alloc, serial)?)?;
     }
     Ok(certs)
 }
@@ -73,32 +81,49 @@ fn end_of<W: Wait + Sync>(
     }
 }
 
+// The first number and how many there are, whether they rise, and what comes of each: once no more
+// are kept, those that are kept may still be presented.
+type Row = (u64, u64, bool, End);
+
+const ASKS: &[Row] = &[
+    (1, 2, true, End::Judged),
+    (3, 248, true, End::Full),
+    (251, 1, true, End::NoMemory),
+    (2, 3, false, End::Replayed),
+    (250, 3, false, End::Full),
+    (251, 1, true, End::NoMemory),
+];
+
+// Whether each ask of a row ends so.
+fn end_so<W: Wait + Sync>(
+    rt: &W,
+    alloc: Global,
+    shards: &mut Lone,
+    bench: &mut Saturator,
+    row: Row,
+) -> Result<bool, Fail> {
+    let (first, count, rises, expected) = row;
+    for more in 0..count {
+        let seq = if rises {
+            first.wrapping_add(more)
+        } else {
+            first
+        };
+        let presented = large_certs(alloc, seq)?;
+        if end_of(rt, alloc, shards, bench, seq, presented)? != expected {
+            return Ok(false);
+        }
+    }
+    Ok(true)
+}
+
 #[test]
 fn equal_certificates_are_kept_once_and_others_up_to_a_limit(rt: HostRuntime) -> Result<(), Fail> {
-    let alloc = rt.alloc();
-    let mut shards = one_shard(alloc, 1000)?;
-    let mut bench = Saturator::reserve(alloc)?;
-    // the first number and how many there are, whether they rise, and what comes of each: once no
-    // more are kept, those that are kept may still be presented
-    let asks: [(u64, u64, bool, End); 6] = [
-        (1, 2, true, End::Judged),
-        (3, 248, true, End::Full),
-        (251, 1, true, End::NoMemory),
-        (2, 3, false, End::Replayed),
-        (250, 3, false, End::Full),
-        (251, 1, true, End::NoMemory),
-    ];
-    for (first, count, rises, expected) in asks {
-        for more in 0..count {
-            let seq = if rises {
-                first.wrapping_add(more)
-            } else {
-                first
-            };
-            let presented = large_certs(alloc, seq)?;
-            let got = end_of(&rt, alloc, &mut shards, &mut bench, seq, presented)?;
-            assert_eq!(rt; got, expected, "{seq}, after {more}");
-        }
+    let mut shards = one_shard(rt.alloc(), 1000)?;
+    let mut bench = Saturator::reserve(rt.alloc())?;
+    for &row in ASKS {
+        let is_so = end_so(&rt, rt.alloc(), &mut shards, &mut bench, row)?;
+        assert!(rt; is_so, "{}, {} times", row.0, row.1);
     }
     Ok(())
 }

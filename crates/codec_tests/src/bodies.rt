@@ -2,7 +2,7 @@ ghost use Rattle.std.specs.Prelude.{◌≤◌, length};
 
 use prin_term::{Statement, Term};
 use std::alloc::Global;
-use std::process::Abort;
+use std::sync::Arc;
 use std::test::*;
 use stmt_codec::*;
 
@@ -24,23 +24,13 @@ const QUOTING: [u8; 42] = [
     0, 7, 0, 0, 0, 0, 0, 0, 0, 8,
 ];
 
-fn name(number: u8) -> [u8; 5] {
-    [2, 0, 0, 0, number]
-}
-
-// Key 1 says that the names 1 to 7 and 0, joined by seven Ands, speak for this name.
-fn joined(alloc: Global, right: u8) -> Result<Vec<u8>, Fail> {
-    let mut text = Vec::new(alloc);
-    text.extend_from_slice(&[1, 0, 0, 0, 1, 0])?;
-    for number in 1..8 {
-        text.push(3)?;
-        text.extend_from_slice(&name(number))?;
-    }
-    text.extend_from_slice(&name(0))?;
-    text.extend_from_slice(&name(right))?;
-    text.extend_from_slice(&[0; 16])?;
-    Ok(text)
-}
+// Key 1 says that the names 1 to 7 and 0, joined by seven Ands, speak for the name 0: with the key
+// sixteen distinct subterms.
+const JOINED: [u8; 74] = [
+    1, 0, 0, 0, 1, 0, 3, 2, 0, 0, 0, 1, 3, 2, 0, 0, 0, 2, 3, 2, 0, 0, 0, 3, 3, 2, 0, 0, 0, 4, 3, 2,
+    0, 0, 0, 5, 3, 2, 0, 0, 0, 6, 3, 2, 0, 0, 0, 7, 2, 0, 0, 0, 0, 2, 0, 0, 0, 0, 0, 0, 0, 0, 0, 0,
+    0, 0, 0, 0, 0, 0, 0, 0, 0, 0,
+];
 
 fn fault_of(alloc: Global, bytes: &[u8], at: usize) -> Option<BodyFault>
     requires { at ≤ length bytes.now }
@@ -52,131 +42,196 @@ fn malformed(offset: usize) -> Option<BodyFault> {
     Some(BodyFault::Malformed { offset })
 }
 
-fn comes_back(rt: &impl Abort, alloc: Global, bytes: &[u8]) -> Result<(), Fail> {
-    let (cert, end) = read_body(alloc, bytes, 0)?;
-    assert_eq!(rt; end, bytes.len());
+fn read(alloc: Global, bytes: &[u8]) -> Result<Arc<Cert>, Fail> {
+    let (cert, _) = read_body(alloc, bytes, 0)?;
+    Ok(Arc::new(alloc, cert)?)
+}
+
+fn end_of(alloc: Global, bytes: &[u8]) -> Option<usize> {
+    match read_body(alloc, bytes, 0) {
+        Ok((_, end)) => Some(end),
+        Err(_) => None,
+    }
+}
+
+fn is_written(alloc: Global, body: &CertBody, bytes: &[u8]) -> Result<bool, Fail> {
     let mut out = Vec::new(alloc);
-    write_body(&mut out, &cert.body)?;
-    assert_eq!(rt; out.as_slice(), bytes);
-    let digest = cert.digest;
-    let again = Cert::of(alloc, cert.body)?;
-    assert_eq!(rt; again.digest, digest);
-    assert!(rt; again.speaker.same(&cert.speaker));
-    Ok(())
+    write_body(&mut out, body)?;
+    Ok(out.as_slice() == bytes)
+}
+
+// Whether a body is read whole, and written back as it was.
+fn comes_back(alloc: Global, bytes: &[u8]) -> Result<bool, Fail> {
+    let cert = read(alloc, bytes)?;
+    Ok(end_of(alloc, bytes) == Some(bytes.len()) && is_written(alloc, &cert.body, bytes)?)
+}
+
+// The certificate that is made of the body.
+fn made(alloc: Global, bytes: &[u8]) -> Result<Arc<Cert>, Fail> {
+    let (body, _) = read_bare_body(alloc, bytes, 0)?;
+    Ok(Arc::new(alloc, Cert::of(alloc, body)?)?)
+}
+
+// Whether that is the one that is read.
+fn is_made_again(alloc: Global, bytes: &[u8]) -> Result<bool, Fail> {
+    let cert = read(alloc, bytes)?;
+    let again = made(alloc, bytes)?;
+    Ok(again.digest == cert.digest && again.speaker.same(&cert.speaker))
+}
+
+fn is_the_hand_off(cert: &Cert) -> bool {
+    matches!(cert.speaker, Term::Key(1))
+        && matches!(cert.body.statement.left, Term::Key(2))
+        && matches!(cert.body.statement.right, Term::Name(10))
+        && cert.body.serial == 1
+        && cert.digest == DIGEST
+}
+
+// Whether a body alone is that of its certificate.
+fn is_read_bare(alloc: Global, bytes: &[u8], cert: &Cert) -> bool {
+    match read_bare_body(alloc, bytes, 0) {
+        Ok((bare, end)) => end == bytes.len() && bare.same(&cert.body),
+        Err(_) => false,
+    }
 }
 
 #[test]
 fn a_hand_off_is_read_and_written_back(rt: HostRuntime) -> Result<(), Fail> {
-    let alloc = rt.alloc();
-    comes_back(&rt, alloc, &HAND_OFF)?;
-    let (cert, _) = read_body(alloc, &HAND_OFF, 0)?;
-    assert!(rt; matches!(cert.speaker, Term::Key(1)));
-    assert!(rt; matches!(cert.body.statement.left, Term::Key(2)));
-    assert!(rt; matches!(cert.body.statement.right, Term::Name(10)));
-    assert_eq!(rt; cert.body.serial, 1);
-    assert_eq!(rt; cert.digest, DIGEST);
-    let (bare, end) = read_bare_body(alloc, &HAND_OFF, 0)?;
-    assert_eq!(rt; end, HAND_OFF.len());
-    assert!(rt; bare.same(&cert.body));
+    assert!(rt; comes_back(rt.alloc(), &HAND_OFF)?);
+    assert!(rt; is_made_again(rt.alloc(), &HAND_OFF)?);
+    let cert = read(rt.alloc(), &HAND_OFF)?;
+    assert!(rt; is_the_hand_off(&cert));
+    assert!(rt; is_read_bare(rt.alloc(), &HAND_OFF, &cert));
     Ok(())
+}
+
+// Whether the speaker is key 9 quoting name 3.
+fn is_quoting(cert: &Cert) -> bool {
+    matches!(cert.speaker.part(1), Some(Term::Key(9)))
+        && matches!(cert.speaker.part(2), Some(Term::Name(3)))
+        && cert.speaker.part(3).is_none()
 }
 
 #[test]
 fn a_quoting_speaker_is_read_and_written_back(rt: HostRuntime) -> Result<(), Fail> {
-    let alloc = rt.alloc();
-    comes_back(&rt, alloc, &QUOTING)?;
-    let (cert, _) = read_body(alloc, &QUOTING, 0)?;
-    assert!(rt; matches!(cert.speaker.part(1), Some(Term::Key(9))));
-    assert!(rt; matches!(cert.speaker.part(2), Some(Term::Name(3))));
-    assert!(rt; cert.speaker.part(3).is_none());
+    assert!(rt; comes_back(rt.alloc(), &QUOTING)?);
+    assert!(rt; is_made_again(rt.alloc(), &QUOTING)?);
+    let cert = read(rt.alloc(), &QUOTING)?;
+    assert!(rt; is_quoting(&cert));
     Ok(())
+}
+
+fn are_same(alloc: Global, first: &[u8], second: &[u8]) -> Result<bool, Fail> {
+    let first = read(alloc, first)?;
+    let second = read(alloc, second)?;
+    Ok(first.body.same(&second.body))
 }
 
 #[test]
 fn a_body_is_the_same_as_itself_alone(rt: HostRuntime) -> Result<(), Fail> {
-    let (first, _) = read_body(rt.alloc(), &HAND_OFF, 0)?;
-    let (again, _) = read_body(rt.alloc(), &HAND_OFF, 0)?;
-    let (other, _) = read_body(rt.alloc(), &QUOTING, 0)?;
-    assert!(rt; first.body.same(&again.body));
-    assert!(rt; !first.body.same(&other.body));
-    assert!(rt; !other.body.same(&first.body));
+    assert!(rt; are_same(rt.alloc(), &HAND_OFF, &HAND_OFF)?);
+    assert!(rt; !are_same(rt.alloc(), &HAND_OFF, &QUOTING)?);
+    assert!(rt; !are_same(rt.alloc(), &QUOTING, &HAND_OFF)?);
     Ok(())
 }
 
 #[test]
 fn a_certificate_ends_at_its_moment(rt: HostRuntime) -> Result<(), Fail> {
-    let (cert, _) = read_body(rt.alloc(), &HAND_OFF, 0)?;
-    assert!(rt; cert.is_live(1999));
-    assert!(rt; !cert.is_live(2000));
-    assert!(rt; !cert.is_live(2001));
+    let cert = read(rt.alloc(), &HAND_OFF)?;
+    assert!(rt; cert.is_live(1999) && !cert.is_live(2000) && !cert.is_live(2001));
     Ok(())
+}
+
+// Whether each proper prefix is refused at its length.
+fn is_refused_when_cut(alloc: Global, bytes: &[u8]) -> bool {
+    for count in 0..bytes.len() {
+        if fault_of(alloc, &bytes[..count], 0) != malformed(count) {
+            return false;
+        }
+    }
+    true
 }
 
 #[test]
 fn each_proper_prefix_is_refused_at_its_length(rt: HostRuntime) {
-    let alloc = rt.alloc();
-    for count in 0..32 {
-        let fault = fault_of(alloc, &HAND_OFF[..count], 0);
-        assert_eq!(rt; fault, malformed(count), "at {count}");
+    assert!(rt; is_refused_when_cut(rt.alloc(), &HAND_OFF));
+    assert!(rt; is_refused_when_cut(rt.alloc(), &QUOTING));
+}
+
+const WRONG: &[(usize, u8)] = &[(0, 2), (0, 0), (5, 2), (6, 0), (11, 7)];
+
+// What is answered where another byte stands at a place.
+fn fault_with(alloc: Global, place: usize, byte: u8) -> Option<BodyFault> {
+    let mut bytes = HAND_OFF;
+    if place < 32 {
+        bytes[place] = byte;
     }
-    for count in 0..42 {
-        let fault = fault_of(alloc, &QUOTING[..count], 0);
-        assert_eq!(rt; fault, malformed(count), "at {count}");
-    }
+    fault_of(alloc, &bytes, 0)
 }
 
 #[test]
 fn the_first_wrong_byte_is_named(rt: HostRuntime) {
-    let alloc = rt.alloc();
-    for (place, byte) in [(0, 2), (0, 0), (5, 2), (6, 0), (11, 7)] {
-        let mut bytes = HAND_OFF;
-        bytes[place] = byte;
-        assert_eq!(rt; fault_of(alloc, &bytes, 0), malformed(place), "at {place}");
+    for &(place, byte) in WRONG {
+        assert!(rt;
+            fault_with(rt.alloc(), place, byte) == malformed(place),
+            "at {place}"
+        );
     }
-    assert_eq!(rt; fault_of(alloc, &HAND_OFF, 1), malformed(1));
+    assert!(rt; fault_of(rt.alloc(), &HAND_OFF, 1) == malformed(1));
 }
 
 #[test]
 fn sixteen_distinct_subterms_are_read_and_seventeen_refused(rt: HostRuntime) -> Result<(), Fail> {
-    let alloc = rt.alloc();
-    // Eight names, seven Ands and the key.
-    let most = joined(alloc, 0)?;
-    comes_back(&rt, alloc, &most)?;
+    assert!(rt; comes_back(rt.alloc(), &JOINED)?);
+    assert!(rt; is_made_again(rt.alloc(), &JOINED)?);
     // Another name besides.
-    let more = joined(alloc, 8)?;
-    assert_eq!(rt; fault_of(alloc, &more, 0), malformed(58));
+    let mut more = JOINED;
+    more[57] = 8;
+    assert!(rt; fault_of(rt.alloc(), &more, 0) == malformed(58));
     Ok(())
 }
 
-#[test]
-fn a_body_with_too_large_a_term_makes_no_certificate(rt: HostRuntime) -> Result<(), Fail> {
-    let alloc = rt.alloc();
-    let mut left = Term::Name(1);
+// A name in sixteen roles.
+fn deep(alloc: Global) -> Result<Term, Fail> {
+    let mut term = Term::Name(1);
     for _ in 0..16 {
-        left = Term::AsRole(Box::new(alloc, left)?, 1);
+        term = Term::AsRole(Box::new(alloc, term)?, 1);
     }
+    Ok(term)
+}
+
+fn fault_of_deep(alloc: Global) -> Result<Option<CertFault>, Fail> {
     let body = CertBody {
         issuer: 1,
         quoted: None,
         statement: Statement {
-            left,
+            left: deep(alloc)?,
             right: Term::Name(2),
         },
         until: 1,
         serial: 1,
     };
-    assert_eq!(rt; Cert::of(alloc, body).err(), Some(CertFault::TooLarge));
+    Ok(Cert::of(alloc, body).err())
+}
+
+#[test]
+fn a_body_with_too_large_a_term_makes_no_certificate(rt: HostRuntime) -> Result<(), Fail> {
+    assert!(rt; fault_of_deep(rt.alloc())? == Some(CertFault::TooLarge));
     Ok(())
 }
 
 #[test]
-fn faults_print_their_place(rt: HostRuntime) -> Result<(), Fail> {
-    let alloc = rt.alloc();
+fn a_fault_prints_its_place(rt: HostRuntime) -> Result<(), Fail> {
     let fault = BodyFault::Malformed { offset: 31 };
-    let printed = format!(in alloc; "{fault}")?;
-    assert_eq!(rt; printed.as_str(), "byte 31: malformed");
+    let printed = format!(in rt.alloc(); "{fault}")?;
+    assert!(rt; printed.as_str() == "byte 31: malformed");
+    Ok(())
+}
+
+#[test]
+fn too_large_terms_are_printed_so(rt: HostRuntime) -> Result<(), Fail> {
     let large = CertFault::TooLarge;
-    let printed = format!(in alloc; "{large}")?;
-    assert_eq!(rt; printed.as_str(), "the certificate's terms are too large");
+    let printed = format!(in rt.alloc(); "{large}")?;
+    assert!(rt; printed.as_str() == "the certificate's terms are too large");
     Ok(())
 }

@@ -3,8 +3,9 @@ use keyed_seal::KeyTable;
 use prin_term::Term;
 use sealed_cert::open_issued;
 use std::alloc::Global;
-use std::process::Abort;
+use std::sync::Arc;
 use std::test::*;
+use stmt_codec::Cert;
 
 // The certificates of a login by bob (name 30, key 13) on the machine ws1 (name 20, key 11), whose
 // node has the key 12, the session the key 14 and the channel the key 15; a role of bob's, and the
@@ -56,68 +57,100 @@ fn signer(number: u8) -> Signer {
     }
 }
 
+#[derive(Clone, Copy)]
+enum Form {
+    Boot,
+    Channel,
+    Login,
+    Session,
+    Role,
+    Delegate,
+}
+
+const FORMS: &[(u64, Form, &[u8])] = &[
+    (1, Form::Boot, &BOOT),
+    (2, Form::Channel, &CHANNEL),
+    (3, Form::Login, &LOGIN),
+    (4, Form::Session, &SESSION),
+    (5, Form::Role, &ROLE),
+    (6, Form::Delegate, &DELEGATE),
+];
+
+// What a call gives, with a serial number.
+fn made(alloc: Global, form: Form, serial: u64) -> Result<Vec<u8>, Fail> {
+    let bytes = match form {
+        Form::Boot => boot(alloc, &signer(11), 12, 20, 1, 5000, serial)?,
+        Form::Channel => channel(alloc, &signer(12), 15, 5000, serial)?,
+        Form::Login => login(alloc, &signer(13), 20, 1, 14, 30, 5000, serial)?,
+        Form::Session => session(alloc, &signer(14), 15, 5000, serial)?,
+        Form::Role => role(alloc, &signer(3), 4, 30, 2, 5000, serial)?,
+        Form::Delegate => delegate(alloc, &signer(15), 30, 20, 1, 21, 1, 5000, serial)?,
+    };
+    Ok(bytes)
+}
+
 #[test]
 fn each_call_gives_its_form_under_the_signers_seal(rt: HostRuntime) -> Result<(), Fail> {
-    let alloc = rt.alloc();
-    let made = boot(alloc, &signer(11), 12, 20, 1, 5000, 1)?;
-    assert_eq!(rt; made.as_slice(), BOOT.as_slice());
-    let made = channel(alloc, &signer(12), 15, 5000, 2)?;
-    assert_eq!(rt; made.as_slice(), CHANNEL.as_slice());
-    let made = login(alloc, &signer(13), 20, 1, 14, 30, 5000, 3)?;
-    assert_eq!(rt; made.as_slice(), LOGIN.as_slice());
-    let made = session(alloc, &signer(14), 15, 5000, 4)?;
-    assert_eq!(rt; made.as_slice(), SESSION.as_slice());
-    let made = role(alloc, &signer(3), 4, 30, 2, 5000, 5)?;
-    assert_eq!(rt; made.as_slice(), ROLE.as_slice());
-    let made = delegate(alloc, &signer(15), 30, 20, 1, 21, 1, 5000, 6)?;
-    assert_eq!(rt; made.as_slice(), DELEGATE.as_slice());
+    for &(serial, form, bytes) in FORMS {
+        let made = made(rt.alloc(), form, serial)?;
+        assert!(rt; made.as_slice() == bytes, "of {serial}");
+    }
     Ok(())
 }
 
-fn opens(
-    rt: &impl Abort,
-    alloc: Global,
-    table: &KeyTable,
-    bytes: &[u8],
-    serial: u64,
-) -> Result<(), Fail> {
-    let cert = open_issued(alloc, table, bytes)?;
-    assert_eq!(rt; cert.body.serial, serial);
-    assert_eq!(rt; cert.body.until, 5000);
-    Ok(())
-}
-
-#[test]
-fn a_logins_certificates_open_by_their_signers_keys(rt: HostRuntime) -> Result<(), Fail> {
-    let alloc = rt.alloc();
+// The keys of the signers of a login.
+fn signers(alloc: Global) -> Result<KeyTable, Fail> {
     let mut table = KeyTable::new(alloc, 4)?;
     for number in 11..15u8 {
         table.add(number as u32, [number; 32])?;
     }
-    opens(&rt, alloc, &table, &BOOT, 1)?;
-    opens(&rt, alloc, &table, &CHANNEL, 2)?;
-    opens(&rt, alloc, &table, &LOGIN, 3)?;
-    opens(&rt, alloc, &table, &SESSION, 4)?;
-    assert!(rt; open_issued(alloc, &table, &DELEGATE).is_err());
+    Ok(table)
+}
+
+// The number and the end of a certificate that opens, if it does.
+fn opened(alloc: Global, table: &KeyTable, bytes: &[u8]) -> Option<(u64, u64)> {
+    match open_issued(alloc, table, bytes) {
+        Ok(cert) => Some((cert.body.serial, cert.body.until)),
+        Err(_) => None,
+    }
+}
+
+const LOGGED_IN: &[(u64, &[u8])] = &[(1, &BOOT), (2, &CHANNEL), (3, &LOGIN), (4, &SESSION)];
+
+#[test]
+fn a_logins_certificates_open_by_their_signers_keys(rt: HostRuntime) -> Result<(), Fail> {
+    let table = signers(rt.alloc())?;
+    for &(serial, bytes) in LOGGED_IN {
+        let opened = opened(rt.alloc(), &table, bytes);
+        assert!(rt; opened == Some((serial, 5000)), "of {serial}");
+    }
+    assert!(rt; opened(rt.alloc(), &table, &DELEGATE).is_none());
     Ok(())
+}
+
+fn delegation(alloc: Global) -> Result<Arc<Cert>, Fail> {
+    let mut table = KeyTable::new(alloc, 1)?;
+    table.add(15, [15; 32])?;
+    Ok(Arc::new(alloc, open_issued(alloc, &table, &DELEGATE)?)?)
+}
+
+// Whether key 15 quotes name 30.
+fn is_quoting(speaker: &Term) -> bool {
+    matches!(speaker.part(1), Some(Term::Key(15)))
+        && matches!(speaker.part(2), Some(Term::Name(30)))
 }
 
 #[test]
 fn a_delegation_is_spoken_by_the_channel_that_quotes(rt: HostRuntime) -> Result<(), Fail> {
-    let alloc = rt.alloc();
-    let mut table = KeyTable::new(alloc, 1)?;
-    table.add(15, [15; 32])?;
-    let cert = open_issued(alloc, &table, &DELEGATE)?;
-    assert!(rt; matches!(cert.speaker.part(1), Some(Term::Key(15))));
-    assert!(rt; matches!(cert.speaker.part(2), Some(Term::Name(30))));
+    let cert = delegation(rt.alloc())?;
+    assert!(rt; is_quoting(&cert.speaker));
     Ok(())
 }
 
 #[test]
 fn a_signer_prints_no_key(rt: HostRuntime) -> Result<(), Fail> {
-    let alloc = rt.alloc();
     let who = signer(7);
-    let printed = format!(in alloc; "{who:?}")?;
-    assert_eq!(rt; printed.as_str(), "Signer { issuer: 7, .. }");
+    let printed = format!(in rt.alloc(); "{who:?}")?;
+    assert!(rt; printed.as_str() == "Signer { issuer: 7, .. }");
     Ok(())
 }

@@ -13,6 +13,8 @@ mod operations;
 #[cfg(test)]
 mod seals;
 #[cfg(test)]
+mod shelves;
+#[cfg(test)]
 mod tags;
 #[cfg(test)]
 mod terms;

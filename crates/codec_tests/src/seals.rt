@@ -1,6 +1,7 @@
 use keyed_seal::{KeyTable, Sealer};
 use sealed_cert::*;
 use std::alloc::Global;
+use std::sync::Arc;
 use std::test::*;
 use stmt_codec::{Cert, read_body};
 
@@ -43,135 +44,189 @@ fn changed(bytes: &[u8; 65], place: usize, byte: u8) -> [u8; 65] {
     out
 }
 
-fn hand_off(alloc: Global) -> Result<Cert, Fail> {
+fn hand_off(alloc: Global) -> Result<Arc<Cert>, Fail> {
     let (cert, _) = read_body(alloc, &HAND_OFF, 0)?;
-    Ok(cert)
+    Ok(Arc::new(alloc, cert)?)
 }
 
 fn malformed(offset: usize) -> Option<SealFault> {
     Some(SealFault::Malformed { offset })
 }
 
-#[test]
-fn an_issuers_seal_opens_to_what_was_sealed(rt: HostRuntime) -> Result<(), Fail> {
-    let alloc = rt.alloc();
-    let cert = hand_off(alloc)?;
+fn seals_for_an_issuer(alloc: Global, cert: &Cert) -> Result<bool, Fail> {
     let mut out = Vec::new(alloc);
     seal_issued(&mut out, &ISSUER_KEY, &cert.body)?;
-    assert_eq!(rt; out.as_slice(), FROM_ISSUER.as_slice());
-    let table = table_of(alloc, 1)?;
-    let opened = open_issued(alloc, &table, &FROM_ISSUER)?;
-    assert_eq!(rt; opened.digest, cert.digest);
-    assert_eq!(rt; opened.body.until, 2000);
-    let bare = open_issued_body(alloc, &table, &FROM_ISSUER)?;
-    assert!(rt; bare.same(&cert.body));
+    Ok(out.as_slice() == FROM_ISSUER.as_slice())
+}
+
+fn opens_to(alloc: Global, table: &KeyTable, cert: &Cert) -> bool {
+    match open_issued(alloc, table, &FROM_ISSUER) {
+        Ok(opened) => opened.digest == cert.digest && opened.body.until == 2000,
+        Err(_) => false,
+    }
+}
+
+fn opens_bare_to(alloc: Global, table: &KeyTable, cert: &Cert) -> bool {
+    match open_issued_body(alloc, table, &FROM_ISSUER) {
+        Ok(bare) => bare.same(&cert.body),
+        Err(_) => false,
+    }
+}
+
+#[test]
+fn an_issuers_seal_opens_to_what_was_sealed(rt: HostRuntime) -> Result<(), Fail> {
+    let cert = hand_off(rt.alloc())?;
+    assert!(rt; seals_for_an_issuer(rt.alloc(), &cert)?);
+    let table = table_of(rt.alloc(), 1)?;
+    assert!(rt; opens_to(rt.alloc(), &table, &cert));
+    assert!(rt; opens_bare_to(rt.alloc(), &table, &cert));
     Ok(())
+}
+
+fn seals_for_a_node(alloc: Global, cert: &Cert) -> Result<bool, Fail> {
+    let mut out = Vec::new(alloc);
+    seal_relayed(&mut out, &RELAY_KEY, &cert.body)?;
+    Ok(out.as_slice() == FROM_RELAY.as_slice())
+}
+
+fn opens_relayed_to(alloc: Global, cert: &Cert) -> bool {
+    match open_relayed(alloc, &RELAY_KEY, &FROM_RELAY) {
+        Ok(opened) => opened.digest == cert.digest,
+        Err(_) => false,
+    }
+}
+
+fn opens_by_a_sealer(alloc: Global) -> bool {
+    match open_with(alloc, &Sealer::of(&RELAY_KEY), &FROM_RELAY) {
+        Ok(opened) => opened.body.serial == 1,
+        Err(_) => false,
+    }
 }
 
 #[test]
 fn a_relays_seal_opens_to_what_was_sealed(rt: HostRuntime) -> Result<(), Fail> {
-    let alloc = rt.alloc();
-    let cert = hand_off(alloc)?;
-    let mut out = Vec::new(alloc);
-    seal_relayed(&mut out, &RELAY_KEY, &cert.body)?;
-    assert_eq!(rt; out.as_slice(), FROM_RELAY.as_slice());
-    let opened = open_relayed(alloc, &RELAY_KEY, &FROM_RELAY)?;
-    assert_eq!(rt; opened.digest, cert.digest);
-    let again = open_with(alloc, &Sealer::of(&RELAY_KEY), &FROM_RELAY)?;
-    assert_eq!(rt; again.body.serial, 1);
+    let cert = hand_off(rt.alloc())?;
+    assert!(rt; seals_for_a_node(rt.alloc(), &cert)?);
+    assert!(rt; opens_relayed_to(rt.alloc(), &cert));
+    assert!(rt; opens_by_a_sealer(rt.alloc()));
     Ok(())
 }
 
+// What is answered of bytes where the key is that of an issuer, and where it is the relay's.
+fn issued_fault(alloc: Global, issuer: u32, bytes: &[u8]) -> Result<Option<SealFault>, Fail> {
+    let table = table_of(alloc, issuer)?;
+    Ok(open_issued(alloc, &table, bytes).err())
+}
+
+fn relayed_fault(alloc: Global, bytes: &[u8]) -> Option<SealFault> {
+    fault_by(alloc, &RELAY_KEY, bytes)
+}
+
+fn fault_by(alloc: Global, key: &[u8; 32], bytes: &[u8]) -> Option<SealFault> {
+    open_relayed(alloc, key, bytes).err()
+}
+
+const BAD: Option<SealFault> = Some(SealFault::BadSeal);
+
 #[test]
 fn a_turned_bit_is_a_bad_seal(rt: HostRuntime) -> Result<(), Fail> {
-    let alloc = rt.alloc();
-    let bad = Some(SealFault::BadSeal);
-    let table = table_of(alloc, 1)?;
     // The last byte of the tag, and the serial, which is sealed too.
     let bytes = changed(&FROM_ISSUER, 64, FROM_ISSUER[64] ^ 1);
-    assert_eq!(rt; open_issued(alloc, &table, &bytes).err(), bad);
+    assert!(rt; issued_fault(rt.alloc(), 1, &bytes)? == BAD);
     let bytes = changed(&FROM_RELAY, 64, FROM_RELAY[64] ^ 1);
-    assert_eq!(rt; open_relayed(alloc, &RELAY_KEY, &bytes).err(), bad);
+    assert!(rt; relayed_fault(rt.alloc(), &bytes) == BAD);
     let bytes = changed(&FROM_RELAY, 32, FROM_RELAY[32] ^ 1);
-    assert_eq!(rt; open_relayed(alloc, &RELAY_KEY, &bytes).err(), bad);
-    assert_eq!(rt; open_relayed(alloc, &ISSUER_KEY, &FROM_RELAY).err(), bad);
+    assert!(rt; relayed_fault(rt.alloc(), &bytes) == BAD);
+    assert!(rt; fault_by(rt.alloc(), &ISSUER_KEY, &FROM_RELAY) == BAD);
     Ok(())
 }
 
 #[test]
 fn an_issuer_without_a_key_is_named_before_the_seal(rt: HostRuntime) -> Result<(), Fail> {
-    let alloc = rt.alloc();
     let unknown = Some(SealFault::UnknownIssuer { issuer: 1 });
-    let table = table_of(alloc, 2)?;
-    assert_eq!(rt; open_issued(alloc, &table, &FROM_ISSUER).err(), unknown);
+    assert!(rt; issued_fault(rt.alloc(), 2, &FROM_ISSUER)? == unknown);
     let bytes = changed(&FROM_ISSUER, 64, 0);
-    assert_eq!(rt; open_issued(alloc, &table, &bytes).err(), unknown);
+    assert!(rt; issued_fault(rt.alloc(), 2, &bytes)? == unknown);
     Ok(())
 }
 
 #[test]
 fn the_other_kind_is_named(rt: HostRuntime) -> Result<(), Fail> {
-    let alloc = rt.alloc();
-    let table = table_of(alloc, 1)?;
-    let fault = open_issued(alloc, &table, &FROM_RELAY).err();
-    assert_eq!(rt; fault, Some(SealFault::WrongKind { kind: 2 }));
-    let fault = open_relayed(alloc, &RELAY_KEY, &FROM_ISSUER).err();
-    assert_eq!(rt; fault, Some(SealFault::WrongKind { kind: 1 }));
+    let second = Some(SealFault::WrongKind { kind: 2 });
+    assert!(rt; issued_fault(rt.alloc(), 1, &FROM_RELAY)? == second);
+    let first = Some(SealFault::WrongKind { kind: 1 });
+    assert!(rt; relayed_fault(rt.alloc(), &FROM_ISSUER) == first);
     Ok(())
 }
 
+// No kind, no version, neither quoting nor not, no term, no term.
+const WRONG: &[(usize, u8)] = &[(0, 0), (0, 3), (1, 2), (6, 2), (7, 0), (12, 7)];
+
 #[test]
 fn a_byte_that_cannot_stand_there_is_refused_at_its_place(rt: HostRuntime) {
-    let alloc = rt.alloc();
-    // No kind, no version, neither quoting nor not, no term, no term.
-    for (place, byte) in [(0, 0), (0, 3), (1, 2), (6, 2), (7, 0), (12, 7)] {
+    for &(place, byte) in WRONG {
         let bytes = changed(&FROM_RELAY, place, byte);
-        let fault = open_relayed(alloc, &RELAY_KEY, &bytes).err();
-        assert_eq!(rt; fault, malformed(place), "at {place}");
+        assert!(rt;
+            relayed_fault(rt.alloc(), &bytes) == malformed(place),
+            "at {place}"
+        );
     }
+}
+
+// Whether each proper prefix of both kinds is refused at its length.
+fn is_refused_when_cut(alloc: Global, table: &KeyTable) -> bool {
+    for count in 0..65 {
+        let fault = open_issued(alloc, table, &FROM_ISSUER[..count]).err();
+        if fault != malformed(count) || relayed_fault(alloc, &FROM_RELAY[..count]) != fault {
+            return false;
+        }
+    }
+    true
 }
 
 #[test]
 fn each_proper_prefix_is_refused_at_its_length(rt: HostRuntime) -> Result<(), Fail> {
-    let alloc = rt.alloc();
-    let table = table_of(alloc, 2)?;
-    for count in 0..65 {
-        let fault = open_issued(alloc, &table, &FROM_ISSUER[..count]).err();
-        assert_eq!(rt; fault, malformed(count), "at {count}");
-        let fault = open_relayed(alloc, &RELAY_KEY, &FROM_RELAY[..count]).err();
-        assert_eq!(rt; fault, malformed(count), "at {count}");
-    }
+    let table = table_of(rt.alloc(), 2)?;
+    assert!(rt; is_refused_when_cut(rt.alloc(), &table));
     Ok(())
+}
+
+// What is answered where so many bytes stand behind the tag.
+fn longer_fault(alloc: Global, more: usize) -> Result<Option<SealFault>, Fail> {
+    let mut bytes = FROM_RELAY.to_vec(alloc)?;
+    for _ in 0..more {
+        bytes.push(0)?;
+    }
+    Ok(relayed_fault(alloc, &bytes))
 }
 
 #[test]
 fn bytes_behind_the_tag_are_refused_at_the_first(rt: HostRuntime) -> Result<(), Fail> {
-    let alloc = rt.alloc();
-    let mut bytes = Vec::new(alloc);
-    bytes.extend_from_slice(&FROM_RELAY)?;
-    bytes.push(0)?;
-    let fault = open_relayed(alloc, &RELAY_KEY, &bytes).err();
-    assert_eq!(rt; fault, malformed(65));
-    bytes.push(0)?;
-    let fault = open_relayed(alloc, &RELAY_KEY, &bytes).err();
-    assert_eq!(rt; fault, malformed(65));
+    assert!(rt; longer_fault(rt.alloc(), 1)? == malformed(65));
+    assert!(rt; longer_fault(rt.alloc(), 2)? == malformed(65));
     Ok(())
 }
 
+const PRINTED: &[(SealFault, &str)] = &[
+    (
+        SealFault::Malformed { offset: 65 },
+        "the sealed certificate is malformed at 65",
+    ),
+    (
+        SealFault::UnknownIssuer { issuer: 9 },
+        "there is no key of issuer 9",
+    ),
+    (
+        SealFault::WrongKind { kind: 2 },
+        "the certificate is of kind 2",
+    ),
+];
+
 #[test]
 fn faults_print_what_they_name(rt: HostRuntime) -> Result<(), Fail> {
-    let alloc = rt.alloc();
-    let fault = SealFault::Malformed { offset: 65 };
-    let printed = format!(in alloc; "{fault}")?;
-    assert_eq!(rt;
-        printed.as_str(),
-        "the sealed certificate is malformed at 65"
-    );
-    let fault = SealFault::UnknownIssuer { issuer: 9 };
-    let printed = format!(in alloc; "{fault}")?;
-    assert_eq!(rt; printed.as_str(), "there is no key of issuer 9");
-    let fault = SealFault::WrongKind { kind: 2 };
-    let printed = format!(in alloc; "{fault}")?;
-    assert_eq!(rt; printed.as_str(), "the certificate is of kind 2");
+    for &(fault, text) in PRINTED {
+        let printed = format!(in rt.alloc(); "{fault}")?;
+        assert!(rt; printed.as_str() == text, "{text}");
+    }
     Ok(())
 }

@@ -1,4 +1,5 @@
 use keyed_seal::{KeyFault, KeyTable, Sealer, hmac, tag_is};
+use std::alloc::Global;
 use std::test::Fail;
 
 // The tags of RFC 4231, cases 1, 2 and 6.
@@ -22,23 +23,27 @@ const ABC_UNDER_ONES: [u8; 32] = [
     0xce, 0xdd, 0x5f, 0x24, 0xa2, 0x21, 0xeb, 0xa7, 0x40, 0xb2, 0xaa, 0x83, 0x50, 0x27, 0x6c, 0xfc,
 ];
 
+const VECTORS: &[(&[u8], &str, &[u8; 32])] = &[
+    (&[0x0b; 20], "Hi There", &HI_THERE),
+    (b"Jefe", "what do ya want for nothing?", &JEFE),
+    (
+        &[0xaa; 131],
+        "Test Using Larger Than Block-Size Key - Hash Key First",
+        &LONG_KEY,
+    ),
+];
+
+// Whether this is the tag, and it is none with a bit turned.
+fn is_the_tag(key: &[u8], text: &[u8], tag: &[u8; 32]) -> bool {
+    let mut turned = *tag;
+    turned[31] ^= 1;
+    hmac(key, text) == *tag && tag_is(key, text, tag) && !tag_is(key, text, &turned)
+}
+
 #[test]
 fn tags_are_those_of_rfc_4231(rt: HostRuntime) {
-    let vectors: [(&[u8], &str, [u8; 32]); 3] = [
-        (&[0x0b; 20], "Hi There", HI_THERE),
-        (b"Jefe", "what do ya want for nothing?", JEFE),
-        (
-            &[0xaa; 131],
-            "Test Using Larger Than Block-Size Key - Hash Key First",
-            LONG_KEY,
-        ),
-    ];
-    for (key, text, tag) in vectors {
-        assert_eq!(rt; hmac(key, text.as_bytes()), tag, "at {text}");
-        assert!(rt; tag_is(key, text.as_bytes(), &tag), "at {text}");
-        let mut turned = tag;
-        turned[31] ^= 1;
-        assert!(rt; !tag_is(key, text.as_bytes(), &turned), "at {text}");
+    for &(key, text, tag) in VECTORS {
+        assert!(rt; is_the_tag(key, text.as_bytes(), tag), "at {text}");
     }
 }
 
@@ -52,77 +57,94 @@ fn a_tag_of_another_length_is_none(rt: HostRuntime) {
 fn a_sealer_gives_the_tag_of_its_key(rt: HostRuntime) {
     let sealer = Sealer::of(&[1; 32]);
     let mut tag = ABC_UNDER_ONES;
-    assert_eq!(rt; sealer.tag(b"abc"), tag);
-    assert!(rt; sealer.tag_is(b"abc", &tag));
-    assert_eq!(rt; sealer.key(), &[1; 32]);
+    let is_so = sealer.tag(b"abc") == tag && sealer.tag_is(b"abc", &tag);
+    assert!(rt; is_so && sealer.key() == &[1; 32]);
     tag[0] ^= 0x80;
     assert!(rt; !sealer.tag_is(b"abc", &tag));
 }
 
+fn table_of(alloc: Global, numbers: &[u8], room: usize) -> Result<KeyTable, Fail> {
+    let mut table = KeyTable::new(alloc, room)?;
+    for number in numbers {
+        table.add(*number as u32, [*number; 32])?;
+    }
+    Ok(table)
+}
+
+// Whether the table has the key of a number, at this place.
+fn has(table: &KeyTable, place: usize, number: u8) -> bool {
+    let key = [number; 32];
+    let wide = number as u32;
+    table.at(place) == Some((wide, &key)) && table.get(wide) == Some(&key)
+}
+
+const PLACES: &[(usize, u8)] = &[(0, 1), (1, 4), (2, 9)];
+
+fn lacks(table: &KeyTable, numbers: &[u32]) -> bool {
+    for number in numbers {
+        if table.get(*number).is_some() {
+            return false;
+        }
+    }
+    true
+}
+
 #[test]
 fn a_table_gives_each_key_under_its_number(rt: HostRuntime) -> Result<(), Fail> {
-    let mut table = KeyTable::new(rt.alloc(), 3)?;
-    for number in [9, 1, 4] {
-        table.add(number, [number as u8; 32])?;
+    let table = table_of(rt.alloc(), &[9, 1, 4], 3)?;
+    for &(place, number) in PLACES {
+        assert!(rt; has(&table, place, number), "at {place}");
     }
-    assert_eq!(rt; table.count(), 3);
-    for (place, number) in [1, 4, 9].into_iter().enumerate() {
-        let key = [number as u8; 32];
-        assert_eq!(rt; table.at(place), Some((number, &key)), "at {place}");
-        assert_eq!(rt; table.get(number), Some(&key), "at {number}");
-    }
-    assert_eq!(rt; table.at(3), None);
-    for number in [0, 2, 5, 10, u32::MAX] {
-        assert_eq!(rt; table.get(number), None, "at {number}");
-    }
+    assert!(rt; table.count() == 3 && table.at(3).is_none());
+    assert!(rt; lacks(&table, &[0, 2, 5, 10, u32::MAX]));
     Ok(())
 }
 
 #[test]
 fn a_full_table_still_names_the_key_that_is_there(rt: HostRuntime) -> Result<(), Fail> {
-    let mut table = KeyTable::new(rt.alloc(), 1)?;
-    table.add(1, [1; 32])?;
-    assert_eq!(rt; table.add(1, [2; 32]), Err(KeyFault::Twice { number: 1 }));
-    assert_eq!(rt; table.add(2, [2; 32]), Err(KeyFault::TableFull { room: 1 }));
-    assert_eq!(rt; table.get(1), Some(&[1; 32]));
+    let mut table = table_of(rt.alloc(), &[1], 1)?;
+    assert!(rt; table.add(1, [2; 32]) == Err(KeyFault::Twice { number: 1 }));
+    assert!(rt; table.add(2, [2; 32]) == Err(KeyFault::TableFull { room: 1 }));
+    assert!(rt; table.get(1) == Some(&[1; 32]));
     Ok(())
 }
 
 #[test]
 fn a_table_without_room_takes_no_key(rt: HostRuntime) -> Result<(), Fail> {
     let mut table = KeyTable::new(rt.alloc(), 0)?;
-    assert_eq!(rt; table.add(1, [1; 32]), Err(KeyFault::TableFull { room: 0 }));
+    assert!(rt; table.add(1, [1; 32]) == Err(KeyFault::TableFull { room: 0 }));
     Ok(())
 }
 
 #[test]
-fn no_key_is_printed(rt: HostRuntime) -> Result<(), Fail> {
-    let alloc = rt.alloc();
-    let mut table = KeyTable::new(alloc, 2)?;
-    table.add(7, [0xab; 32])?;
-    assert_eq!(rt;
-        format!(in alloc; "{table:?}")?.as_str(),
-        "KeyTable { count: 1, room: 2, .. }"
-    );
-    assert_eq!(rt;
-        format!(in alloc; "{:?}", table.sealer(7))?.as_str(),
-        "Some(Sealer { .. })"
-    );
+fn a_table_prints_no_key(rt: HostRuntime) -> Result<(), Fail> {
+    let table = table_of(rt.alloc(), &[7], 2)?;
+    let printed = format!(in rt.alloc(); "{table:?}")?;
+    assert!(rt; printed.as_str() == "KeyTable { count: 1, room: 2, .. }");
     Ok(())
 }
+
+#[test]
+fn a_sealer_prints_no_key(rt: HostRuntime) -> Result<(), Fail> {
+    let table = table_of(rt.alloc(), &[7], 2)?;
+    let printed = format!(in rt.alloc(); "{:?}", table.sealer(7))?;
+    assert!(rt; printed.as_str() == "Some(Sealer { .. })");
+    Ok(())
+}
+
+const PRINTED: &[(KeyFault, &str)] = &[
+    (KeyFault::Twice { number: 7 }, "key 7 is there already"),
+    (
+        KeyFault::TableFull { room: 2 },
+        "the table has room for 2 keys",
+    ),
+];
 
 #[test]
 fn a_fault_is_printed_with_its_number(rt: HostRuntime) -> Result<(), Fail> {
-    let alloc = rt.alloc();
-    let twice = KeyFault::Twice { number: 7 };
-    let full = KeyFault::TableFull { room: 2 };
-    assert_eq!(rt;
-        format!(in alloc; "{twice}")?.as_str(),
-        "key 7 is there already"
-    );
-    assert_eq!(rt;
-        format!(in alloc; "{full}")?.as_str(),
-        "the table has room for 2 keys"
-    );
+    for &(fault, text) in PRINTED {
+        let printed = format!(in rt.alloc(); "{fault}")?;
+        assert!(rt; printed.as_str() == text, "{text}");
+    }
     Ok(())
 }

@@ -5,12 +5,11 @@ ghost use Rattle.std.specs.Option.{option_map};
 ghost use Rattle.prin_term.specs.Principal.{Key, Quoting, For};
 ghost use Rattle.prin_term.specs.View.{principal};
 ghost use Rattle.stmt_codec.specs.Certificates.{certificate, IsWithinLimits};
-ghost use Rattle.sealed_cert.specs.Seals.{IsSealed};
 ghost use Rattle.credential_kit.specs.Forms.{says, IsIssued, in_role, logged_in, seat};
 
 use crate::signer::Signer;
 use prin_term::{Statement, Term};
-use sealed_cert::{ISSUED, seal_issued};
+use sealed_cert::seal_issued;
 use std::alloc::{AllocError, Global};
 use stmt_codec::CertBody;
 
@@ -35,13 +34,14 @@ fn body_of(
     }
 }
 
-fn sealed(alloc: Global, key: &[u8; 32], body: &CertBody) -> Result<Vec<u8>, AllocError>
-    requires { IsWithinLimits (certificate body.now) }
-    ensures { IfOk result
-        (λ bytes. IsSealed ISSUED key.now bytes.items (certificate body.now)) }
+/// What a body says, under its signer's seal.
+pub fn issue_body(alloc: Global, signer: &Signer, body: &CertBody) -> Result<Vec<u8>, AllocError>
+    requires issuer { body.now.issuer ≡ signer.now.issuer }
+    requires limits { IsWithinLimits (certificate body.now) }
+    ensures { IfOk result (λ bytes. IsIssued signer.now (certificate body.now) bytes.items) }
 {
     let mut bytes = Vec::new(alloc);
-    seal_issued(&mut bytes, key, body)?;
+    seal_issued(&mut bytes, &signer.key, body)?;
     Ok(bytes)
 }
 
@@ -62,7 +62,7 @@ pub(crate) fn issue(
         until serial) bytes.items) }
 {
     let body = body_of(signer.issuer, quoted, left, right, until, serial);
-    sealed(alloc, &signer.key, &body)
+    issue_body(alloc, signer, &body)
 }
 
 pub(crate) fn key(number: u32) -> Term

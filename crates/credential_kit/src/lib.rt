@@ -7,4 +7,5 @@ pub mod laws;
 mod signer;
 
 pub use forms::{boot, channel, delegate, login, role, session};
+pub use issuing::issue_body;
 pub use signer::Signer;

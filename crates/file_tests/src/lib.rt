@@ -2,4 +2,6 @@
 #![tactic(auto)]
 
 #[cfg(test)]
+mod openings;
+#[cfg(test)]
 mod relays;

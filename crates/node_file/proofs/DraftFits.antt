@@ -1,21 +1,19 @@
 -- What the lines of a node file say together is within the limits.
-use Rattle.std.proofs.Common.{◌≡◌, ℕ, ◌+◌, ◌^◌, ◌<◌, ◌≤◌, Bool, true, false, cond, not, List, [], ◌∷◌, ◌++◌, length, Option, None, Some, Result, Ok, Err, refl, sym, ap, subst, ◌∙◌, arith, inl, inr}
-use Rattle.std.specs.Prelude.{All, codes, nat_le}
+use Rattle.std.proofs.Common.{◌≡◌, ℕ, ◌^◌, ◌<◌, ◌≤◌, not, List, [], ◌∷◌, ◌++◌, length, Option, None, Some, Ok, subst, arith}
+use Rattle.std.specs.Prelude.{nat_le}
 use Rattle.std.specs.Option.{is_some}
 use Rattle.std.proofs.lemmas.List.Elements.{All-nil, All-push}
 use Rattle.std.proofs.lemmas.Option.{none-some, same_Some}
 use Rattle.keyed_seal.specs.Keys.{Entries, key_of}
-use Rattle.object_core.specs.Objects.{ObjectPlan, object_of}
 use Rattle.prin_term.specs.Readers.{is_new}
-use Rattle.prin_term.specs.Steps.{◌>>=◌, with_fault, with_value}
+use Rattle.prin_term.specs.Steps.{◌>>=◌, with_fault}
 use Rattle.prin_term.specs.declared.term.Anchor.{Anchor}
 use Rattle.prin_term.proofs.Results.{bind_ok, chosen_ok, ok_is, with_fault_ok}
 use Rattle.prin_text.specs.Labels.{Rows}
 use Rattle.stmt_codec.specs.Certificates.{Certificate}
 use Rattle.stmt_codec.specs.Equality.{same_certificate}
 use Rattle.node_file.specs.declared.fault.FileCause.{FileCause}
-use Rattle.node_file.specs.declared.fault.FileCause.TheVariants.{Twice, Limit, FirstLine, NoNode, UnknownWord}
-use Rattle.node_file.specs.declared.fault.FileFault.{FileFault}
+use Rattle.node_file.specs.declared.fault.FileCause.TheVariants.{Twice, Limit, NoNode, UnknownWord}
 use Rattle.node_file.specs.declared.fault.FileFault.TheVariants.{Line}
 use Rattle.node_file.specs.declared.limits.TheConstants.{MAX_SHARDS, MAX_LIMIT, MAX_CHANNELS, MAX_ANCHORS, MAX_COMMONS, MAX_ROOM}
 use Rattle.node_file.specs.declared.node_text.kind.LineKind.{LineKind}
@@ -24,12 +22,13 @@ use Rattle.node_file.specs.declared.node_text.kind.Setting.{Setting}
 use Rattle.node_file.specs.declared.node_text.kind.Setting.TheVariants as settings
 use Rattle.node_file.specs.declared.node_text.settings.Settings.{Settings}
 use Rattle.node_file.specs.Fields.{digits, granted, keyed, numbered, numbered_digits, one_number, some_or}
-use Rattle.node_file.specs.FileLines.{LineStep, begun, file_makes, first_of, first_or, is_first_line, key_cause, lines_make, text_cause, unless}
-use Rattle.node_file.specs.Lines.{is_skipped, lines_from, word_off}
+use Rattle.node_file.specs.FileLines.{first_of, key_cause, text_cause, unless}
+use Rattle.node_file.specs.Lines.{lines_from, word_off}
 use Rattle.node_file.specs.NodeFile.{Draft, adds, anchors_in, channels_in, commons_in, draft_in, names_in, no_draft, node_step, objects_in, opening_said, opening_with, roles_in, roomy, settings_in, text_in}
 use Rattle.node_file.specs.NodeLines.{anchor_said, anchors_and, common_said, commons_and, commons_of, contents_and, grants_and, journal_with, keep_with, kind_of, new_within, node_with, objects_and, settings_with, shards_with}
 use Rattle.node_file.specs.Opening.{Opening, journal_room}
 use Rattle.node_file.specs.OpeningReading.{same_anchor}
+use Rattle.node_file.proofs.Kept.{draft_keeps}
 use Rattle.node_file.proofs.NodeFits.{AreSmall, ObjectsFit, contents_fit, granted_fit, grants_fit, more_fit, numbered_digits_fit}
 use Rattle.node_file.proofs.PartsFit.{new_bounds, numbered_small, one_small, room_for, unless_ok, with_value_ok}
 
@@ -160,43 +159,6 @@ step_fits d more line fit e =
 
 -- ---- the whole
 
--- what fits, where there is something
-abbrev MaybeFits : Option Draft → Type 0
-MaybeFits None = Unit {0}
-MaybeFits (Some d) = DraftFits d
-
-abbrev any_step : LineStep (Option Draft)
-any_step = first_or (is_first_line (codes "taos")) no_draft node_step
-
-any_fits : (o p : Option Draft) (line : List ℕ) → MaybeFits o → any_step o line ≡ Ok p → MaybeFits p
-any_fits None p line fit e =
-    let c = chosen_ok (is_first_line (codes "taos") line) FirstLine (Some no_draft) p e in
-    subst MaybeFits c.1 nothing_fits
-any_fits (Some d) p line fit e =
-    let m = bind_ok (node_step d line) (λ more. Ok (Some more)) p e in
-    subst MaybeFits (ok_is FileCause (Some m.0) p m.2) (step_fits d m.0 line fit m.1)
-
-lines_fit : (number : ℕ) (o p : Option Draft) (lines : List (List ℕ)) → MaybeFits o → lines_make any_step number o lines ≡ Ok p → MaybeFits p
-lines_fit number o p [] fit e = subst MaybeFits (ok_is FileFault o p e) fit
-lines_fit number o p (line ∷ rest) fit e = by (is_skipped line) e (λ q fits e. lines_fit (number + 1) q p rest fits e)
-  where
-    by : (b : Bool) → cond b (lines_make any_step (number + 1) o rest) (with_fault (λ cause. Line number cause) (any_step o line) >>= λ more. lines_make any_step (number + 1) more rest) ≡ Ok p
-        → ((q : Option Draft) → MaybeFits q → lines_make any_step (number + 1) q rest ≡ Ok p → MaybeFits p) → MaybeFits p
-    by true e later = later o fit e
-    by false e later =
-        let m = bind_ok (with_fault (λ cause. Line number cause) (any_step o line)) (λ more. lines_make any_step (number + 1) more rest) p e in
-        later m.0 (any_fits o m.0 line fit (with_fault_ok (λ cause. Line number cause) (any_step o line) m.0 m.1)) m.2
-
-draft_fits : (bytes : List ℕ) (d : Draft) → draft_in bytes ≡ Ok d → DraftFits d
-unfolding draft_in
-draft_fits bytes d e =
-    let o = bind_ok (lines_make any_step 1 None (lines_from bytes 0)) (begun (length (lines_from bytes 0))) d e in
-    by o.0 (lines_fit 1 None o.0 (lines_from bytes 0) tt o.1) o.2
-  where
-    by : (o : Option Draft) → MaybeFits o → begun (length (lines_from bytes 0)) o ≡ Ok d → DraftFits d
-    by None fit e = absurd cc
-    by (Some x) fit e = subst DraftFits (ok_is FileFault x d e) fit
-
 -- what a text means is an opening of what its lines say
 pub text_is : (bytes : List ℕ) (o : Opening) → text_in bytes ≡ Ok o → (d : Draft) × (node : ℕ × List ℕ) × DraftFits d × (opening_with node d ≡ o)
 unfolding text_in opening_said
@@ -205,4 +167,4 @@ text_is bytes o e =
     let said = with_fault_ok (Line (length (lines_from bytes 0))) (opening_said d.0) o d.2 in
     let node = bind_ok (some_or NoNode d.0.settings.node) (λ node. roomy (opening_with node d.0)) o said in
     let c = chosen_ok (nat_le (journal_room (opening_with node.0 d.0)) MAX_ROOM) Limit (opening_with node.0 d.0) o node.2 in
-    (d.0, node.0, draft_fits bytes d.0 d.1, c.1)
+    (d.0, node.0, draft_keeps DraftFits nothing_fits step_fits bytes d.0 d.1, c.1)

@@ -16,7 +16,7 @@ ended true e = refl
 ended false e = absurd cc
 
 -- a byte that is no line feed goes on with the line
-line-byte : (line : List ℕ) (b : ℕ) (rest : List ℕ) → not (eqb b 10) ≡ true → lines_after line (b ∷ rest) ≡ lines_after (line ++ b ∷ []) rest
+pub line-byte : (line : List ℕ) (b : ℕ) (rest : List ℕ) → not (eqb b 10) ≡ true → lines_after line (b ∷ rest) ≡ lines_after (line ++ b ∷ []) rest
 line-byte line b rest other = taken (eqb b 10) _ _ other
 
 -- the bytes from one place to another are of one line

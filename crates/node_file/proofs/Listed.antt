@@ -31,7 +31,7 @@ found_at P test y xs x true all is later = subst P (same_Some y x is) (All-head 
 found_at P test y xs x false all is later = later is
 
 -- what is found passes what all do
-found_all : {A : Type 0} (P : A → Type 0) (test : A → Bool) (xs : List A) (x : A) → All P xs → find test xs ≡ Some x → P x
+pub found_all : {A : Type 0} (P : A → Type 0) (test : A → Bool) (xs : List A) (x : A) → All P xs → find test xs ≡ Some x → P x
 found_all P test [] x all is = absurd (none-some x is)
 found_all P test (y ∷ xs) x all is = found_at P test y xs x (test y) all is (λ e. found_all P test xs x (All-tail P y xs all) e)
 
@@ -46,7 +46,7 @@ fits_by_number node o r fits = record {
 }
 
 -- what is said, or else what holds where no line says it
-said_within : (o : Option ℕ) (other most : ℕ) → (1 ≤ other) × (other ≤ most) → ((n : ℕ) → o ≡ Some n → (1 ≤ n) × (n ≤ most)) → (1 ≤ unwrap_or o other) × (unwrap_or o other ≤ most)
+pub said_within : (o : Option ℕ) (other most : ℕ) → (1 ≤ other) × (other ≤ most) → ((n : ℕ) → o ≡ Some n → (1 ≤ n) × (n ≤ most)) → (1 ≤ unwrap_or o other) × (unwrap_or o other ≤ most)
 said_within None other most fits said = fits
 said_within (Some n) other most fits said = said n refl
 

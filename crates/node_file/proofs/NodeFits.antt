@@ -1,19 +1,18 @@
 -- What a node file means is within the limits.
-use Rattle.std.proofs.Common.{◌≡◌, ◌⊎◌, ℕ, ◌+◌, ◌^◌, ◌<◌, ◌≤◌, Bool, true, false, cond, leb, ltb, eqb, not, List, [], ◌∷◌, ◌++◌, length, Option, None, Some, Result, Ok, Err, refl, sym, ap, subst, ◌∙◌, arith, inl, inr, length-append}
+use Rattle.std.proofs.Common.{◌≡◌, ℕ, ◌^◌, ◌<◌, ◌≤◌, Bool, true, false, cond, ltb, eqb, List, [], ◌∷◌, ◌++◌, length, Option, None, Some, Result, Ok, Err, refl, sym, ap, subst, ◌∙◌, arith, inl, inr, length-append}
 use Rattle.std.specs.Prelude.{All, bytes_eq, codes, nat_le}
 use Rattle.std.specs.Option.{is_some, option_map}
-use Rattle.std.proofs.lemmas.Bool.{eqb-true, false≢true}
+use Rattle.std.proofs.lemmas.Bool.{eqb-true}
 use Rattle.std.proofs.lemmas.Bool.Decides.{nat_tests}
-use Rattle.std.proofs.lemmas.List.Elements.{All-cons, All-head, All-nil, All-push, All-tail}
+use Rattle.std.proofs.lemmas.List.Elements.{All-head, All-nil, All-push, All-tail}
 use Rattle.std.proofs.lemmas.Option.{none-some, same_Some}
-use Rattle.keyed_seal.specs.Keys.{key_of}
 use Rattle.object_core.specs.Objects.{ObjectPlan, object_of}
-use Rattle.object_core.specs.Operation.{FitsGrant, IsContent, IsAccessList}
+use Rattle.object_core.specs.Operation.{FitsGrant}
 use Rattle.prin_term.specs.Kind as kinds
 use Rattle.prin_term.specs.Kind.{Kind, pair}
 use Rattle.prin_term.specs.Principal.{Principal, Key, Name, And, Quoting, InRole, For, HasSpelling, node_count}
 use Rattle.prin_term.specs.Refusal.{FitsLimits}
-use Rattle.prin_term.specs.Steps.{◌>>=◌, IsByte, with_fault, with_value}
+use Rattle.prin_term.specs.Steps.{◌>>=◌, IsByte, with_fault}
 use Rattle.prin_term.specs.View.{Grant}
 use Rattle.prin_term.specs.declared.limits.TheConstants.{ENTRY_NODES}
 use Rattle.prin_term.proofs.Results.{bind_ok, chosen_ok, ok_is, with_fault_ok}
@@ -26,13 +25,12 @@ use Rattle.prin_text.proofs.Whole.{read_is_meant}
 use Rattle.node_file.specs.declared.fault.FileCause.{FileCause}
 use Rattle.node_file.specs.declared.fault.FileCause.TheVariants as causes
 use Rattle.node_file.specs.declared.fault.FileCause.TheVariants.{Twice, Limit, Rights, UnknownObject}
-use Rattle.node_file.specs.declared.limits.TheConstants.{MAX_SHARDS, MAX_LIMIT, MAX_CHANNELS, MAX_ANCHORS, MAX_COMMONS}
 use Rattle.node_file.specs.Fields.{bytes_of_digits, digits_of, granted, number_up_to, numbered, numbered_digits, some_or, two_and_rest}
 use Rattle.node_file.specs.FileLines.{first_of, unless}
 use Rattle.node_file.specs.NodeLines.{changed_at, changed_if, contents_and, empty_object, grants_and, objects_and, who_cause, who_said, with_content, with_grant}
 use Rattle.node_file.specs.Opening.{FitsObject}
 use Rattle.node_file.proofs.Changed.{has_number, object_of-changed}
-use Rattle.node_file.proofs.PartsFit.{digits_are_bytes, find_push, number_small, numbered_small, one_passes, two_pass, unless_ok}
+use Rattle.node_file.proofs.PartsFit.{digits_are_bytes, find_push, one_passes, two_pass, unless_ok}
 
 -- each object that is found is within the limits
 abbrev pub ObjectsFit : List ObjectPlan → Type 0
@@ -58,7 +56,7 @@ more_fit above plans n fit small e =
 
 -- ---- an object changed
 
-some_of : {A : Type 0} (cause : FileCause) (o : Option A) (x : A) → some_or cause o ≡ Ok x → o ≡ Some x
+pub some_of : {A : Type 0} (cause : FileCause) (o : Option A) (x : A) → some_or cause o ≡ Ok x → o ≡ Some x
 some_of cause None x e = absurd cc
 some_of cause (Some y) x e = ap (λ z. Some z) (ok_is FileCause y x e)
 
@@ -92,7 +90,7 @@ contents_fit above plans x fit bytes e =
 
 -- ---- an entry more
 
-found_small : (rows : Rows) (word : List ℕ) (n : ℕ) → AreSmall rows → number_of rows word ≡ Some n → n < 2 ^ 32
+pub found_small : (rows : Rows) (word : List ℕ) (n : ℕ) → AreSmall rows → number_of rows word ≡ Some n → n < 2 ^ 32
 found_small [] word n small e = absurd (none-some n e)
 found_small (r ∷ rows) word n small e = by (bytes_eq r.1 word) e (λ later. found_small rows word n (All-tail (λ (r : ℕ × List ℕ). r.0 < 2 ^ 32) r rows small) later)
   where

@@ -28,13 +28,13 @@ pub record IsHead (h : Head) : Type 0 where
   pub keep : (1 ≤ h.keep) × (h.keep ≤ 31536000)
   pub limit : (1 ≤ h.limit) × (h.limit ≤ 1048576)
 
-apart : (a b : Anchor) → same_anchor a b ≡ false → b ≢ a
+pub apart : (a b : Anchor) → same_anchor a b ≡ false → b ≢ a
 apart a b e same =
     let keys : b.key ≡ a.key = ap (λ (x : Anchor). x.key) same in
     let names : b.name ≡ a.name = ap (λ (x : Anchor). x.name) same in
     grind (arith, nat_tests, keys, names, e)
 
-same_anchor-false : (a b : Anchor) → b ≢ a → same_anchor a b ≡ false
+pub same_anchor-false : (a b : Anchor) → b ≢ a → same_anchor a b ≡ false
 same_anchor-false a b differ = by_tests (eqb b.key a.key) (eqb b.name a.name) refl refl
   where
     by_tests : (k n : Bool) → eqb b.key a.key ≡ k → eqb b.name a.name ≡ n → (k && n) ≡ false

@@ -1,5 +1,5 @@
 -- What a line that is taken says is within the limits.
-use Rattle.std.proofs.Common.{◌≡◌, ◌⊎◌, ℕ, ◌+◌, ◌*◌, ◌^◌, ◌<◌, ◌≤◌, Bool, true, false, cond, leb, ltb, eqb, not, ◌&&◌, List, [], ◌∷◌, ◌++◌, length, Option, None, Some, Result, Ok, Err, refl, sym, ap, subst, ◌∙◌, arith, inl, inr, length-append}
+use Rattle.std.proofs.Common.{◌≡◌, ◌⊎◌, ℕ, ◌<◌, ◌≤◌, Bool, true, false, cond, leb, not, ◌&&◌, List, [], ◌∷◌, ◌++◌, length, Option, None, Some, Result, Ok, Err, refl, sym, ap, subst, arith, inl, inr, length-append}
 use Rattle.std.specs.Prelude.{All, find}
 use Rattle.std.proofs.lemmas.Bool.{false≢true}
 use Rattle.std.proofs.lemmas.Bool.Decides.{nat_tests}
@@ -13,7 +13,7 @@ use Rattle.prin_term.proofs.Results.{bind_ok, chosen_ok, ok_is}
 use Rattle.prin_term.specs.Steps.{◌>>=◌, IsByte, with_value}
 use Rattle.node_file.specs.declared.fault.FileCause.{FileCause}
 use Rattle.node_file.specs.declared.fault.FileCause.TheVariants.{Twice, Limit, Number}
-use Rattle.node_file.specs.Fields.{bytes_of_digits, decoded, keyed, number_up_to, numbered, one_number, one_word, key_of_digits, two_words}
+use Rattle.node_file.specs.Fields.{bytes_of_digits, decoded, number_up_to, numbered, one_number, one_word, two_words}
 use Rattle.node_file.specs.FileLines.{first_of, unless}
 use Rattle.node_file.specs.NodeLines.{new_within}
 use Rattle.prin_text.specs.Words.{are_digits, has_leading_zero, value_after}
@@ -69,7 +69,7 @@ numbered_small line rest x e =
     let n = bind_ok (number_up_to 4294967295 w.0.0) (λ n. Ok (n, w.0.1)) x w.2 in
     subst (λ (y : ℕ × List ℕ). y.0 ≤ 4294967295) (ok_is FileCause (n.0, w.0.1) x n.2) (number_small 4294967295 n.0 w.0.0 n.1)
 
-decoded_ok : (r : Result (List ℕ) _) (bytes : List ℕ) → decoded r ≡ Ok bytes → r ≡ Ok bytes
+pub decoded_ok : (r : Result (List ℕ) _) (bytes : List ℕ) → decoded r ≡ Ok bytes → r ≡ Ok bytes
 decoded_ok (Ok b) bytes e = ap (λ (l : List ℕ). Ok l) (ok_is FileCause b bytes e)
 decoded_ok (Err d) bytes e = absurd cc
 

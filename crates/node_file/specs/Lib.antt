@@ -14,3 +14,4 @@ pub mod NodeLines
 pub mod NodeFile
 pub mod NodeView
 pub mod OpeningFile
+pub mod FilePrinting

@@ -14,8 +14,7 @@ use Rattle.stmt_codec.specs.Certificates.{Certificate}
 use Rattle.stmt_codec.specs.Equality.{same_certificate}
 use Rattle.node_file.specs.declared.limits.TheConstants.{MAX_KEEP, MAX_LIMIT, MAX_CHANNELS}
 use Rattle.node_file.specs.declared.limits.TheConstants.{MAX_ANCHORS, MAX_COMMONS, MAX_OBJECTS}
-use Rattle.node_file.specs.declared.limits.TheConstants.{MAX_FILE, MAX_SHARDS, MAX_ROOM}
-use Rattle.node_file.specs.declared.fault.FileCause.TheVariants.{Limit}
+use Rattle.node_file.specs.declared.limits.TheConstants.{MAX_SHARDS, MAX_ROOM}
 use Rattle.node_file.specs.declared.fault.FileFault.{FileFault}
 use Rattle.node_file.specs.declared.fault.FileFault.TheVariants.{Line, Byte}
 use Rattle.node_file.specs.declared.fault.FileFault.TheVariants as files

@@ -3,7 +3,9 @@
 ghost use Rattle.std.specs.Prelude.{◌≡◌, ◌↔◌, ℕ, List, All, Ok, Err};
 ghost use Rattle.prin_term.specs.Steps.{IsByte};
 ghost use Rattle.prin_term.specs.declared.fault.FormatFault.{FormatFault};
-ghost use Rattle.node_file.specs.Opening.{Opening, Spells};
+ghost use Rattle.node_file.specs.FilePrinting.{opening_text};
+ghost use Rattle.node_file.specs.Opening.{FitsOpening, Opening, Spells};
+ghost use Rattle.node_file.specs.OpeningFile.{opening_in};
 ghost use Rattle.node_file.specs.OpeningReading.{IsFaultIn, opening_of};
 
 /// No bytes spell two openings.
@@ -18,4 +20,9 @@ pub fn openings_are_read()
         → (opening_of bytes ≡ Ok o) ↔ Spells o bytes }
     ensures refused { (bytes : List ℕ) (f : FormatFault) → All IsByte bytes
         → opening_of bytes ≡ Err f → IsFaultIn bytes f }
+{}
+
+/// What is printed of an opening within the limits is read as the same.
+pub fn printed_openings_are_read()
+    ensures { (o : Opening) → FitsOpening o → opening_in (opening_text o) ≡ Ok o }
 {}

@@ -21,6 +21,7 @@ pub use limits::{
     MAX_ANCHORS, MAX_CHANNELS, MAX_COMMONS, MAX_FILE, MAX_ISSUERS, MAX_KEEP, MAX_LIMIT, MAX_NODES,
     MAX_OBJECTS, MAX_ROOM, MAX_SHARDS,
 };
+pub use node_text::print_opening;
 pub use object_plan::ObjectPlan;
 pub use object_plans::ObjectPlans;
 pub use opening::{Opening, read_opening};

@@ -70,7 +70,8 @@ impl ObjectPlans {
 
     /// How many objects there are.
     pub fn count(&self) -> usize
-        ensures { result ≡ length self.now }
+        ensures count { result ≡ length self.now }
+        ensures sound { AreByNumber self.now }
     {
         self.plans.len()
     }

@@ -3,5 +3,4 @@
 pub(crate) mod field;
 pub(crate) mod line;
 pub(crate) mod number;
-pub(crate) mod rights;
 pub(crate) mod word;

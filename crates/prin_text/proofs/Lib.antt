@@ -1,6 +1,7 @@
 pub mod Texts
 pub mod Finding
 pub mod Gaps
+pub mod Indexed
 pub mod Decimals
 pub mod Wording
 pub mod Pieced

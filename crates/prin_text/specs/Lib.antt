@@ -1,4 +1,5 @@
 pub mod Labels
+pub mod Numbers
 pub mod Printing
 pub mod Tokens
 pub mod Words

@@ -11,6 +11,7 @@ mod piece;
 mod printing;
 mod reading;
 mod rights;
+mod table;
 mod tokens;
 mod words;
 
@@ -24,3 +25,4 @@ pub use list::{print_list, read_list};
 pub use names::Names;
 pub use printing::print_principal;
 pub use reading::read_principal;
+pub use rights::rights_of;

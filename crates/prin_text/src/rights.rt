@@ -24,7 +24,7 @@ fn push_if(out: &mut String, given: bool, letter: &str) -> Result<(), AllocError
     if given { out.push_str(letter) } else { Ok(()) }
 }
 
-// The rights whose letters the word is.
+/// The rights whose letters the word is: one or more of `r`, `w`, `c` and `m`, in this order.
 #[tactic(auto, unfolding(crate::specs::Words::rights_of))]
 pub fn rights_of(word: &[u8]) -> Option<u8>
     ensures { result ≡ rights_of word.now }

@@ -1,12 +1,15 @@
-"""Holds what a case states of a run against the shards of tools/shard.py: each place, each number, and each `kept`."""
+"""Holds what a case states of a run against the shards of tools/shard.py: each place, each number, and each `kept`;
+and what the objects are, and what becomes of operations."""
 from conversation import Grant, Times, joined
-from formats import key, quoting, u8, u32, u64
+from formats import DISCARD, FORGET, HOLD, READ, SET_LIST, SWEEP, WRITE, key, quoting, u8, u32, u64
 from shard import Kept, Shard, lease_of
 
-TAG, FRAME, READ_RIGHT = 32, 4, 1
+TAG, FRAME = 32, 4
 OPERANDS = {3: 2, 4: 2, 5: 1, 6: 2}
-# The statuses of requests that came to their shard.
-RULED = {0, 1, 5, 7, 10}
+# The right that an operation needs: to read, write, control or manage.
+RIGHTS = {READ: 1, WRITE: 2, SET_LIST: 4, HOLD: 8, DISCARD: 8, FORGET: 8, SWEEP: 8}
+# The statuses of requests that came to their object.
+RULED = {0, 1, 5, 7, 10, 12, 13}
 
 
 class Reader:
@@ -27,6 +30,9 @@ class Reader:
     def counted(self):
         return self.take(self.number(2))
 
+    def entries(self):
+        return [(self.number(1), self.term()) for _ in range(self.number(1))]
+
     def term(self):
         start, tag = self.at, self.number(1)
         for _ in range(OPERANDS.get(tag, 0)):
@@ -46,8 +52,26 @@ def frames_of(text):
     return found
 
 
+class Guarded:
+    """An object's content, its list, and how many entries it has."""
+
+    def __init__(self, content, entries):
+        self.content, self.list, self.length = content, entries, 0
+
+    def listed(self, operation):
+        """The places and principals of the entries with the right."""
+        return [(at, who) for at, (rights, who) in enumerate(self.list) if rights & RIGHTS[operation]]
+
+    def rule(self, request, granted):
+        self.length += 1
+        if granted and request.operation == WRITE:
+            self.content = request.fields
+        if granted and request.operation == SET_LIST:
+            self.list = request.fields
+
+
 class Node:
-    """What an opening says of shards and lists."""
+    """What an opening says of shards and objects."""
 
     def __init__(self, text):
         reader = Reader(text)
@@ -56,17 +80,18 @@ class Node:
         reader.take(36 * reader.number(2))
         reader.take(8 * reader.number(1))
         commons = [reader.counted()[1:-TAG] for _ in range(reader.number(1))]
-        self.lists = dict(self.object_of(reader) for _ in range(reader.number(2)))
+        self.limit = limit
+        self.objects = dict(self.object_of(reader) for _ in range(reader.number(2)))
         self.shards = [Shard(keep, limit, commons) for _ in range(count)]
 
     @staticmethod
     def object_of(reader):
-        number, _ = reader.number(4), reader.counted()
-        return number, [(reader.number(1), reader.term()) for _ in range(reader.number(1))]
+        number, content = reader.number(4), reader.counted()
+        return number, Guarded(content, reader.entries())
 
 
 class Request:
-    """What a request asks, as far as it is a Read."""
+    """What a request asks."""
 
     def __init__(self, text):
         reader = Reader(text)
@@ -76,7 +101,17 @@ class Request:
         if reader.number(1):
             self.subject = quoting(self.subject, reader.term())
         self.operation, self.target = reader.number(1), reader.number(4)
+        self.fields = self.fields_of(reader)
         self.presented = [reader.counted()[1:-TAG] for _ in range(reader.number(1))]
+
+
+    def fields_of(self, reader):
+        """What the operation says: bytes, a list, a digest or a channel."""
+        if self.operation == WRITE:
+            return reader.counted()
+        if self.operation == SET_LIST:
+            return reader.entries()
+        return {DISCARD: lambda: reader.take(32), FORGET: lambda: reader.number(4)}.get(self.operation, tuple)()
 
 
 class Reply:
@@ -96,7 +131,7 @@ class Reply:
         if reader.at < len(reader.text):
             self.proof = reader.take(reader.number(4))
             self.cites = [reader.counted() for _ in range(reader.number(1))]
-            self.lease = lease_of(self.cites)
+            self.lease, self.result = lease_of(self.cites), reader.counted()
 
     def place(self):
         return self.where if self.status == 0 else self.fields[:12]
@@ -109,7 +144,8 @@ def replies_of(output):
         if isinstance(part, Grant):
             found += map(Reply, frames_of(text))
             text, reply = b"", Reply(part.front)
-            reply.proof, reply.cites, reply.lease = None, None, part.until
+            reply.proof, reply.cites = None, None if part.certificates else []
+            reply.lease, reply.result = part.until, part.content
             found.append(reply)
         else:
             text += bytes(part)
@@ -132,27 +168,72 @@ class Run:
         if reply.status not in RULED:
             return None
         number, reading = request.channel % len(self.node.shards), self.reading()
-        shard = self.node.shards[number]
+        found, shard = self.node.objects[request.target], self.node.shards[number]
+        if found.length >= self.node.limit:
+            return differs(reply, 10, u8(0) + u32(request.target) + u64(found.length))
         if shard.is_full():
             return differs(reply, 10, u8(1) + u32(number) + u64(shard.length))
-        place, subject = shard.length, request.subject
-        entries = [(at, who) for at, (rights, who) in enumerate(self.node.lists[request.target]) if rights & READ_RIGHT]
-        told, what = shard.ask(request.channel, request.number, reading, request.presented, subject, entries)
+        place, entries = shard.length, found.listed(request.operation)
+        told, what = shard.ask(request.channel, request.number, reading, request.presented, request.subject, entries)
         if told == "replayed":
             return differs(reply, 5, u64(what))
         if told == "full":
             return differs(reply, 7, u8(what))
         wrong = differs_in_place(reply, number, place)
-        return wrong or (hit_fault(reply, *what) if told == "hit" else self.settle(shard, request, reply))
+        wrong = wrong or (hit_fault(reply, *what) if told == "hit" else self.settle(shard, request, reply))
+        return wrong or self.rule(found, request, reply, reading)
 
     def settle(self, shard, request, reply):
         """What comes of a miss, and whether the reply says so."""
         if reply.status == 0 and reply.kept:
             return "nothing is kept for it"
-        if reply.status == 0 and not shard.is_full():
-            _, who = self.node.lists[request.target][reply.entry]
-            shard.keep_proof(request.channel, Kept(request.subject, who, reply.lease, reply.cites, reply.proof))
+        if reply.status != 1 and not shard.is_full():
+            shard.keep_proof(request.channel, self.proof_of(request, reply))
         return None
+
+    def proof_of(self, request, reply):
+        """The proof of a grant. One that the reply does not tell is taken to be for the entry of who asks, or else for
+        the first, and to cite nothing."""
+        found = self.node.objects[request.target]
+        if reply.status == 0:
+            return Kept(request.subject, found.list[reply.entry][1], reply.lease, reply.cites, reply.proof)
+        listed = [who for _, who in found.listed(request.operation)]
+        who = request.subject if request.subject in listed else listed[0]
+        return Kept(request.subject, who, lease_of([]), [])
+
+    def rule(self, found, request, reply, reading):
+        """What the object and the shards make of the ruling, and whether the reply says so."""
+        content = found.content if request.operation == READ else b""
+        found.rule(request, reply.status != 1)
+        if reply.status == 1:
+            return None
+        stopped = self.perform(request, reading)
+        if stopped:
+            return differs(reply, *stopped)
+        if reply.status != 0:
+            return "it is granted, and performed"
+        return None if reply.result == content else f"its result is {content.hex()}"
+
+    def perform(self, request, reading):
+        """The status and fields of what stops the operation in the shards, if anything does."""
+        steps = {
+            HOLD: lambda shard: shard.hold(request.presented),
+            DISCARD: lambda shard: shard.discard(request.fields),
+            FORGET: lambda shard: shard.forget(request.fields),
+            SWEEP: lambda shard: shard.expire(reading),
+        }
+        if request.operation not in steps:
+            return None
+        numbers, removed = range(len(self.node.shards)), 0
+        for number in [request.fields % len(numbers)] if request.operation == FORGET else numbers:
+            shard = self.node.shards[number]
+            if shard.is_full():
+                return 10, u8(1) + u32(number) + u64(shard.length)
+            told, count = steps[request.operation](shard)
+            if told == "commons full":
+                return 12, u8(count) + u32(number)
+            removed += count
+        return (13, request.fields) if request.operation == DISCARD and not removed else None
 
 
 def differs(reply, status, fields):
@@ -162,16 +243,20 @@ def differs(reply, status, fields):
 
 
 def differs_in_place(reply, number, place):
-    if reply.status not in (0, 1):
+    if reply.status not in (0, 1, 10, 12, 13):
         return "it is to be ruled on"
+    if reply.status > 1:
+        return None
     wanted = u32(number) + u64(place)
     return None if reply.place() == wanted else f"it is at shard {number}, place {place}"
 
 
 def hit_fault(reply, entry, found):
-    if reply.status != 0 or not reply.kept or reply.entry != entry:
+    if reply.status == 1 or reply.status == 0 and (not reply.kept or reply.entry != entry):
         return f"it is granted by the proof that is kept for entry {entry}"
-    if reply.proof is not None and (reply.proof, reply.cites) != (found.proof, found.cites):
+    if reply.status != 0:
+        return None
+    if None not in (reply.proof, found.proof) and (reply.proof, reply.cites) != (found.proof, found.cites):
         return "its proof is the one that is kept"
     return None
 

@@ -262,12 +262,21 @@ def journal_full(channel, number, shard, length):
     return sealed_reply(channel, number, 10, u8(1), u32(shard), u64(length))
 
 
+def object_full(channel, number, target, length):
+    return sealed_reply(channel, number, 10, u8(0), u32(target), u64(length))
+
+
 def wants_memory(channel, number):
     return sealed_reply(channel, number, 11)
 
 
-def not_built(channel, number):
-    return sealed_reply(channel, number, 255)
+def commons_full(channel, number, shard, held=32):
+    return sealed_reply(channel, number, 12, u8(held), u32(shard))
+
+
+def not_held(channel, number, text):
+    """No shard held the certificate of this body."""
+    return sealed_reply(channel, number, 13, digest(text))
 
 
 # Proofs.

@@ -104,8 +104,9 @@ class Shard:
         return "held", len(new)
 
     def discard(self, of):
+        """A proof whose certificates are not known is taken to cite it."""
         self.enter()
-        self.kept = [each for each in self.kept if of not in map(digest, each.cites or [])]
+        self.kept = [each for each in self.kept if each.cites is not None and of not in map(digest, each.cites)]
         return "removed", self.let_go(lambda text: digest(text) != of)
 
     def forget(self, channel):

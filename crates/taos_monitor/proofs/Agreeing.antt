@@ -1,159 +1,276 @@
 -- Courses of one payload do not differ in their status.
-use Rattle.std.proofs.Common.{◌≡◌, ◌≢◌, ◌⊎◌, ℕ, Bool, List, [], ◌∷◌, ◌++◌, length, take, drop, map, None, Some, refl, sym, ap, ap₂, subst, subst₂, ◌∙◌, inl, inr}
-use Rattle.std.proofs.Math.Seq.{take-append_seam, drop-append_seam}
+use Rattle.std.proofs.Common.{◌≡◌, ◌≢◌, ◌⊎◌, ℕ, ◌+◌, List, [], ◌∷◌, ◌++◌, length, drop, map, All, Option, None, Some, refl, sym, ap, ap₂, subst, subst₂, ◌∙◌, inl, inr, arith, length-append}
+use Rattle.std.proofs.Math.Seq.{drop-append_seam, get_or-append_seam}
+use Rattle.std.proofs.lemmas.List.Elements.{All-head, All-tail, All-append, All-cons, All-nil}
 use Rattle.std.proofs.lemmas.Option.{same_Some}
 use Rattle.keyed_seal.specs.Keys.{key_of}
+use Rattle.object_core.specs.Objects.{ObjectEntry}
+use Rattle.object_core.specs.Operation.{Op, Discard}
+use Rattle.object_core.specs.Shelving.{ObjectFixed, fixed_at}
+use Rattle.object_core.specs.declared.ruling.Ruling.{Ruling}
+use Rattle.object_core.specs.declared.ruling.Ruling.TheVariants as rulings
 use Rattle.taos_wire.specs.Request.{Request, Spells, IsSealed}
 use Rattle.taos_wire.specs.Reply.{Reply, Sent, status_of}
 use Rattle.taos_wire.proofs.RequestLaws.{spelled_once}
 use Rattle.stmt_codec.specs.Certificates.{Certificate}
-use Rattle.denial_link.specs.declared.link.Link.{Link}
-use Rattle.proof_cache.specs.Cached.{Cached}
-use Rattle.agent_core.specs.declared.asked.Settled.{Settled}
 use Rattle.agent_core.specs.declared.told.Told.{Told}
-use Rattle.agent_core.specs.State.{Plan, Ask, Asks}
-use Rattle.agent_core.specs.Journals.{Entry, entry, Stands, IsVerdict, Granted, Denied}
-use Rattle.agent_core.specs.Asked.{IsGrantedAt, IsGrant, by_kept, was_kept, was_dropped, had_no_room}
-use Rattle.agent_core.proofs.Few.{one_verdict}
-use Rattle.agent_core.proofs.Onward.{granted_verdict, denied_verdict}
-use Rattle.object_core.specs.Objects.{ObjectPlan, object_of}
-use Rattle.taos_monitor.specs.Cells.{Node, home, HasPlan, Journals, Place, in_shard}
+use Rattle.agent_core.specs.State.{Plan, Ask, Event, Asks}
+use Rattle.agent_core.specs.Journals.{Entry, entry, Stands}
+use Rattle.taos_monitor.specs.Asking.{IsUnruled, full, replayed, channel_full, untold, unanswered}
+use Rattle.taos_monitor.specs.AtObject.{Seeking, Own, places_at, ruled_as, told_or, IsGuarded, object_is_full, no_ruling, denied, granted}
+use Rattle.taos_monitor.specs.Cells.{Node, home, Journals, Place, OfShard, OfObject, in_shard, in_object}
 use Rattle.taos_monitor.specs.Credentials.{LinkCall, AreOpened, IsFirstRefused, IsFirstFailed}
-use Rattle.taos_monitor.specs.Course.{asking, Used, uses, IsUnbuilt, IsRuled, full, replayed, channel_full, denied, granted, untold, unanswered, Course, malformed, unknown_channel, bad_seal, unbuilt, cert_refused, relay_failed, unknown_object, ruled, unread, unopened}
+use Rattle.taos_monitor.specs.Course.{Used, uses, Course, malformed, unknown_channel, bad_seal, cert_refused, relay_failed, unknown_object, ruled, unread, unopened}
+use Rattle.taos_monitor.specs.Effects.{ShardStep, step_at, its_place, shards_of, IsDone, LetsGo, IsStep, IsPerformed, through, not_held, no_room, no_place}
+use Rattle.taos_monitor.specs.Operations.{targets_of}
 use Rattle.taos_monitor.specs.Laws.{CoursesAgree}
 use Rattle.taos_monitor.proofs.Firsts.{opened_or_refused, opened_or_failed, refused_or_link}
 
 -- ---- entries at one place
 
-module _ (journal before others : List Entry) (place : ℕ) (e f : Entry) (s : Stands journal place before e) (t : Stands journal place others f) where
+module _ {E : Type 0} (journal before others : List E) (place : ℕ) (e f : E) (s : Stands journal place before e) (t : Stands journal place others f) where
   one_journal : before ++ e ∷ s.rest ≡ others ++ f ∷ t.rest
   one_journal = sym s.is ∙ t.is
 
   one_length : length before ≡ length others
   one_length = s.placed ∙ sym t.placed
 
-  same_before : before ≡ others
-  same_before = sym (take-append_seam before (e ∷ s.rest)) ∙ ap₂ take one_length one_journal ∙ take-append_seam others (f ∷ t.rest)
-
   same_rest : e ∷ s.rest ≡ f ∷ t.rest
   same_rest = sym (drop-append_seam before (e ∷ s.rest)) ∙ ap₂ drop one_length one_journal ∙ drop-append_seam others (f ∷ t.rest)
 
-  same_entry : e ≡ f
+  pub same_entry : e ≡ f
   same_entry = head_of e f s.rest t.rest same_rest
     where
-      head_of : (x y : Entry) (xs ys : List Entry) → x ∷ xs ≡ y ∷ ys → x ≡ y
+      head_of : (x y : E) (xs ys : List E) → x ∷ xs ≡ y ∷ ys → x ≡ y
       head_of x y xs ys e = cc
 
-same_ask : (a b : Ask) (told said : Told) → entry (Asks a) told ≡ entry (Asks b) said → (a ≡ b) × (told ≡ said)
-same_ask a b told said e = (asks a b (ap (λ (x : Entry). x.event) e), ap (λ (x : Entry). x.told) e)
-  where
-    asks : (a b : Ask) → Asks a ≡ Asks b → a ≡ b
-    asks a b e = cc
+heads : {X : Type 0} (x y : X) (xs ys : List X) → x ∷ xs ≡ y ∷ ys → (x ≡ y) × (xs ≡ ys)
+heads x y xs ys e = (cc, cc)
 
--- ---- how an ask ended, by its status
+none_some : {X : Type 0} (x : X) (xs : List X) → [] ≡ x ∷ xs → ⊥
+none_some x xs e = absurd cc
 
--- by what the entry tells, and else by the verdict
-data Ends (plan : Plan) (before : List Entry) (a : Ask) : Told → ℕ → Type 0 where
-  by_number : {last : ℕ} → Ends plan before a (Told.Replayed last) 5
-  by_count : {held : ℕ} → Ends plan before a (Told.Full held) 7
-  by_hit : {entry : ℕ} → Ends plan before a (Told.Hit entry) 0
-  by_grant : IsVerdict plan before a Granted → Ends plan before a Told.Miss 0
-  by_denial : {link : Link} → IsVerdict plan before a (Denied link) → Ends plan before a Told.Miss 1
+-- ---- an ask that has no ruling, by its status
 
-same_end : (plan : Plan) (before : List Entry) (a : Ask) (told said : Told) (s t : ℕ) → Ends plan before a told s → Ends plan before a said t → told ≡ said → s ≡ t
-same_end plan before a told said s t by_number by_number e = refl
-same_end plan before a told said s t by_number by_count e = absurd cc
-same_end plan before a told said s t by_number by_hit e = absurd cc
-same_end plan before a told said s t by_number (by_grant v) e = absurd cc
-same_end plan before a told said s t by_number (by_denial v) e = absurd cc
-same_end plan before a told said s t by_count by_number e = absurd cc
-same_end plan before a told said s t by_count by_count e = refl
-same_end plan before a told said s t by_count by_hit e = absurd cc
-same_end plan before a told said s t by_count (by_grant v) e = absurd cc
-same_end plan before a told said s t by_count (by_denial v) e = absurd cc
-same_end plan before a told said s t by_hit by_number e = absurd cc
-same_end plan before a told said s t by_hit by_count e = absurd cc
-same_end plan before a told said s t by_hit by_hit e = refl
-same_end plan before a told said s t by_hit (by_grant v) e = refl
-same_end plan before a told said s t by_hit (by_denial v) e = absurd cc
-same_end plan before a told said s t (by_grant v) by_number e = absurd cc
-same_end plan before a told said s t (by_grant v) by_count e = absurd cc
-same_end plan before a told said s t (by_grant v) by_hit e = refl
-same_end plan before a told said s t (by_grant v) (by_grant w) e = refl
-same_end plan before a told said s t (by_grant v) (by_denial {link} w) e = absurd (one_verdict plan before a link v w)
-same_end plan before a told said s t (by_denial v) by_number e = absurd cc
-same_end plan before a told said s t (by_denial v) by_count e = absurd cc
-same_end plan before a told said s t (by_denial v) by_hit e = absurd cc
-same_end plan before a told said s t (by_denial {link} v) (by_grant w) e = absurd (one_verdict plan before a link w v)
-same_end plan before a told said s t (by_denial v) (by_denial w) e = refl
+-- by what its entry tells
+data Ends : Told → ℕ → Type 0 where
+  by_number : {last : ℕ} → Ends (Told.Replayed last) 5
+  by_count : {held : ℕ} → Ends (Told.Full held) 7
 
-record Ended (plan : Plan) (journal : List Entry) (own : List ℕ) (status : ℕ) : Type 0 where
+same_end : (told said : Told) (s t : ℕ) → Ends told s → Ends said t → told ≡ said → s ≡ t
+same_end told said s t by_number by_number e = refl
+same_end told said s t by_number by_count e = absurd cc
+same_end told said s t by_count by_number e = absurd cc
+same_end told said s t by_count by_count e = refl
+
+record Ended (journal : List Entry) (own : List ℕ) (status : ℕ) : Type 0 where
   place : ℕ
   before : List Entry
-  ask : Ask
+  event : Event
   told : Told
-  -- behind it a place of its proof, where that has one
-  more : List ℕ
-  at : own ≡ place ∷ more
-  stands : Stands journal place before (entry (Asks ask) told)
-  ends : Ends plan before ask told status
+  at : own ≡ place ∷ []
+  stands : Stands journal place before (entry event told)
+  ends : Ends told status
 
-made_ended : (plan : Plan) (journal : List Entry) (a : Ask) (place e : ℕ) (c : Cached) (more : List ℕ) → IsGrantedAt plan journal a place e c → Ended plan journal (place ∷ more) 0
-made_ended plan journal a place e c rest g = record { place = place; before = g.before; ask = a; told = Told.Miss; more = rest; at = refl; stands = g.stands; ends = by_grant (granted_verdict plan journal a place e c g) }
+abbrev IsUnruledBy : List Entry → List ℕ → ℕ → Type 0
+IsUnruledBy journal own status = ((own ≡ []) × (status ≡ 10)) ⊎ Ended journal own status
 
-grant_ended : (plan : Plan) (journal : List Entry) (a : Ask) (place e : ℕ) (c : Cached) (kept : Bool) (settled : Settled) (own : List ℕ) → IsGrant plan journal a place e c kept settled own → Ended plan journal own 0
-grant_ended plan journal a place e c kept settled own (by_kept h) = record { place = place; before = h.before; ask = a; told = Told.Hit e; more = []; at = refl; stands = h.stands; ends = by_hit }
-grant_ended plan journal a place e c kept settled own (was_kept {keep} g t) = made_ended plan journal a place e c (keep ∷ []) g
-grant_ended plan journal a place e c kept settled own (was_dropped {keep} g t) = made_ended plan journal a place e c (keep ∷ []) g
-grant_ended plan journal a place e c kept settled own (had_no_room g at) = made_ended plan journal a place e c [] g
+unruled_ways : (plan : Plan) (journal : List Entry) (shard : ℕ) (a : Ask) (own : List ℕ) (reply : Reply) → IsUnruled plan journal shard a own reply → status_of reply ≢ 11 → IsUnruledBy journal own (status_of reply)
+unruled_ways plan journal shard a own reply (full at) known = inl (refl, refl)
+unruled_ways plan journal shard a own reply (replayed {place} {last} t) known = inr (record { place = place; before = t.0; event = Asks a; told = Told.Replayed last; at = refl; stands = t.1; ends = by_number })
+unruled_ways plan journal shard a own reply (channel_full {place} {held} t) known = inr (record { place = place; before = t.0; event = Asks a; told = Told.Full held; at = refl; stands = t.1; ends = by_count })
+unruled_ways plan journal shard a own reply (untold g) known = absurd (known refl)
+unruled_ways plan journal shard a own reply (unanswered u) known = absurd (known refl)
 
-abbrev IsRuledBy : Plan → List Entry → List ℕ → ℕ → Type 0
-IsRuledBy plan journal own status = ((own ≡ []) × (status ≡ 10)) ⊎ Ended plan journal own status
+same_unruled : (journal : List Entry) (own : List ℕ) (s t : ℕ) → IsUnruledBy journal own s → IsUnruledBy journal own t → s ≡ t
+same_unruled journal own s t (inl x) (inl y) = x.1 ∙ sym y.1
+same_unruled journal own s t (inl x) (inr y) = absurd (none_some y.place [] (sym x.0 ∙ y.at))
+same_unruled journal own s t (inr x) (inl y) = absurd (none_some x.place [] (sym y.0 ∙ x.at))
+same_unruled journal own s t (inr x) (inr y) =
+    let one = (heads x.place y.place [] [] (sym x.at ∙ y.at)).0 in
+    let there = subst (λ (p : ℕ). Stands journal p y.before (entry y.event y.told)) (sym one) y.stands in
+    same_end x.told y.told s t x.ends y.ends (ap (λ (e : Entry). e.told) (same_entry journal x.before y.before x.place (entry x.event x.told) (entry y.event y.told) x.stands there))
 
-ways : (plan : Plan) (journal : List Entry) (shard : ℕ) (a : Ask) (object : ObjectPlan) (own : List ℕ) (reply : Reply) → IsRuled plan journal (asking shard a object) own reply → status_of reply ≢ 11 →
-    IsRuledBy plan journal own (status_of reply)
-ways plan journal shard a object own reply (full at) known = inl (refl, refl)
-ways plan journal shard a object own reply (replayed {place} {last} t) known = inr (record { place = place; before = t.0; ask = a; told = Told.Replayed last; more = []; at = refl; stands = t.1; ends = by_number })
-ways plan journal shard a object own reply (channel_full {place} {held} t) known = inr (record { place = place; before = t.0; ask = a; told = Told.Full held; more = []; at = refl; stands = t.1; ends = by_count })
-ways plan journal shard a object own reply (denied {place} {denial} d tells) known =
-    inr (record { place = place; before = d.before; ask = a; told = Told.Miss; more = []; at = refl; stands = d.stands; ends = by_denial (denied_verdict plan journal a place denial d) })
-ways plan journal shard a object own reply (granted {place} {entry = e} {c} {kept} {settled} {own = places} g) known = inr (grant_ended plan journal a place e c kept settled places g)
-ways plan journal shard a object own reply (untold g) known = absurd (known refl)
-ways plan journal shard a object own reply (unanswered u) known = absurd (known refl)
+-- ---- what was performed, by its status
 
-first_place : (p q : ℕ) (ps qs : List ℕ) → p ∷ ps ≡ q ∷ qs → p ≡ q
-first_place p q ps qs e = cc
+data Way (op : Op) (targets : List ℕ) (steps : List ShardStep) : ℕ → Type 0 where
+  went : shards_of steps ≡ targets → All (λ (s : ShardStep). IsDone s.told) steps → ((digest : List ℕ) → op ≡ Discard digest → LetsGo steps) → Way op targets steps 0
+  unheld : (digest : List ℕ) → op ≡ Discard digest → shards_of steps ≡ targets → All (λ (s : ShardStep). IsDone s.told) steps → (LetsGo steps → ⊥) → Way op targets steps 13
+  roomless : (done : List ShardStep) (shard place held : ℕ) → steps ≡ done ++ step_at shard place (Told.CommonsFull held) ∷ [] → Way op targets steps 12
+  placeless : (shard : ℕ) (rest : List ℕ) → targets ≡ shards_of steps ++ shard ∷ rest → All (λ (s : ShardStep). IsDone s.told) steps → Way op targets steps 10
 
-no_place : (p : ℕ) (ps : List ℕ) → [] ≡ p ∷ ps → ⊥
-no_place p ps e = absurd cc
+way_of : (plans : List Plan) (J : ℕ → List Entry) (op : Op) (certs : List Certificate) (reading : ℕ) (told : Reply) (steps : List ShardStep) (refused : Option Reply) → status_of told ≡ 0 → IsPerformed plans J op certs reading steps refused →
+    Way op (targets_of plans op) steps (status_of (told_or refused told))
+way_of plans J op certs reading told steps refused zero (through w lets) = subst (Way op (targets_of plans op) steps) (sym zero) (went w.order w.are_done.done lets)
+way_of plans J op certs reading told steps refused zero (not_held digest is w none) = unheld digest is w.order w.are_done.done none
+way_of plans J op certs reading told steps refused zero (no_room {shard} {held} f) = roomless f.done shard f.place held f.steps_are
+way_of plans J op certs reading told steps refused zero (no_place {shard} f) = placeless shard f.rest f.order f.are_done.done
 
-same_ruled : (plan : Plan) (journal : List Entry) (own : List ℕ) (s t : ℕ) → IsRuledBy plan journal own s → IsRuledBy plan journal own t → s ≡ t
-same_ruled plan journal own s t (inl x) (inl y) = x.1 ∙ sym y.1
-same_ruled plan journal own s t (inl x) (inr y) = absurd (no_place y.place y.more (sym x.0 ∙ y.at))
-same_ruled plan journal own s t (inr x) (inl y) = absurd (no_place x.place x.more (sym y.0 ∙ x.at))
-same_ruled plan journal own s t (inr x) (inr y) =
-    let there = subst (λ (p : ℕ). Stands journal p y.before (entry (Asks y.ask) y.told)) (first_place y.place x.place y.more x.more (sym y.at ∙ x.at)) y.stands in
-    let ex = entry (Asks x.ask) x.told in
-    let ey = entry (Asks y.ask) y.told in
-    let asks = same_ask y.ask x.ask y.told x.told (same_entry journal y.before x.before x.place ey ex there x.stands) in
-    same_end plan x.before x.ask x.told y.told s t x.ends
-    (subst₂ (λ (b : List Entry) (a : Ask). Ends plan b a y.told t) (same_before journal y.before x.before x.place ey ex there x.stands) asks.0 y.ends) (sym asks.1)
+not_done : (steps done : List ShardStep) (shard place held : ℕ) → steps ≡ done ++ step_at shard place (Told.CommonsFull held) ∷ [] → All (λ (s : ShardStep). IsDone s.told) steps → ⊥
+not_done steps done shard place held is all =
+    let last = step_at shard place (Told.CommonsFull held) in
+    let more : length steps ≡ length done + 1 = ap (λ l. length l) is ∙ length-append done (last ∷ []) in
+    let there = subst (All (λ (s : ShardStep). IsDone s.told)) is all (length done) last (omega (arith, length-append done (last ∷ []))) in
+    subst (λ (s : ShardStep). IsDone s.told) (get_or-append_seam done last [] last) there
+
+no_more : (shards targets : List ℕ) (shard : ℕ) (rest : List ℕ) → shards ≡ targets → targets ≡ shards ++ shard ∷ rest → ⊥
+no_more shards targets shard rest all is = absurd (omega (arith, ap (λ l. length l) all, ap (λ l. length l) is, length-append shards (shard ∷ rest)))
+
+same_way : (op : Op) (targets : List ℕ) (steps : List ShardStep) (s t : ℕ) → Way op targets steps s → Way op targets steps t → s ≡ t
+same_way op targets steps s t (went a b c) (went d e f) = refl
+same_way op targets steps s t (went a b c) (unheld digest is d e none) = absurd (none (c digest is))
+same_way op targets steps s t (went a b c) (roomless done shard place held is) = absurd (not_done steps done shard place held is b)
+same_way op targets steps s t (went a b c) (placeless shard rest is d) = absurd (no_more (shards_of steps) targets shard rest a is)
+same_way op targets steps s t (unheld digest is d e none) (went a b c) = absurd (none (c digest is))
+same_way op targets steps s t (unheld digest is d e none) (unheld other also f g nobody) = refl
+same_way op targets steps s t (unheld digest so d e none) (roomless done shard place held is) = absurd (not_done steps done shard place held is e)
+same_way op targets steps s t (unheld digest so a e none) (placeless shard rest is d) = absurd (no_more (shards_of steps) targets shard rest a is)
+same_way op targets steps s t (roomless done shard place held is) (went a b c) = absurd (not_done steps done shard place held is b)
+same_way op targets steps s t (roomless done shard place held is) (unheld digest so d e none) = absurd (not_done steps done shard place held is e)
+same_way op targets steps s t (roomless done shard place held is) (roomless all other at many so) = refl
+same_way op targets steps s t (roomless done shard place held is) (placeless other rest so d) = absurd (not_done steps done shard place held is d)
+same_way op targets steps s t (placeless shard rest is d) (went a b c) = absurd (no_more (shards_of steps) targets shard rest a is)
+same_way op targets steps s t (placeless shard rest is d) (unheld digest so a e none) = absurd (no_more (shards_of steps) targets shard rest a is)
+same_way op targets steps s t (placeless other rest so d) (roomless done shard place held is) = absurd (not_done steps done shard place held is d)
+same_way op targets steps s t (placeless shard rest is d) (placeless other more so e) = refl
+
+-- steps that stand in the journals
+abbrev IsEntry : (ℕ → List Entry) → ShardStep → Type 0
+IsEntry J s = (event : Event) × (before : List Entry) × Stands (J s.shard) s.place before (entry event s.told)
+
+as_entry : (J : ℕ → List Entry) (effect : Option Event) (steps : List ShardStep) → All (IsStep J effect) steps → All (IsEntry J) steps
+as_entry J effect steps all k d lt = let s = all k d lt in (s.event, s.before, s.stands)
+
+performed_entries : (plans : List Plan) (J : ℕ → List Entry) (op : Op) (certs : List Certificate) (reading : ℕ) (steps : List ShardStep) (refused : Option Reply) → IsPerformed plans J op certs reading steps refused → All (IsEntry J) steps
+performed_entries plans J op certs reading steps refused (through w lets) = as_entry J _ steps w.are_done.stand
+performed_entries plans J op certs reading steps refused (not_held digest is w none) = as_entry J _ steps w.are_done.stand
+performed_entries plans J op certs reading steps refused (no_room {shard} {held} f) =
+    let last = step_at shard f.place (Told.CommonsFull held) in
+    subst (All (IsEntry J)) (sym f.steps_are)
+    (All-append (IsEntry J) f.done (last ∷ []) (as_entry J _ f.done f.are_done.stand) (All-cons (IsEntry J) last [] (f.refused.event, f.refused.before, f.refused.stands) (All-nil (IsEntry J))))
+performed_entries plans J op certs reading steps refused (no_place f) = as_entry J _ steps f.are_done.stand
+
+-- two steps at one place are one
+one_step : (J : ℕ → List Entry) (a b : ShardStep) → IsEntry J a → IsEntry J b → its_place a ≡ its_place b → a ≡ b
+one_step J a b (event, before, stands) (other, others, also) same =
+    let shard : a.shard ≡ b.shard = shard_of a.shard b.shard (ap (λ (p : Place). p.cell) same) in
+    let place : a.place ≡ b.place = ap (λ (p : Place). p.number) same in
+    let there = subst₂ (λ (s p : ℕ). Stands (J s) p others (entry other b.told)) (sym shard) (sym place) also in
+    let told : a.told ≡ b.told = ap (λ (e : Entry). e.told) (same_entry (J a.shard) before others a.place (entry event a.told) (entry other b.told) stands there) in
+    ap₂ (λ (s p : ℕ). step_at s p a.told) shard place ∙ ap (step_at b.shard b.place) told
+  where
+    shard_of : (s t : ℕ) → OfShard s ≡ OfShard t → s ≡ t
+    shard_of s t e = cc
+
+same_steps : (J : ℕ → List Entry) (ss tt : List ShardStep) → All (IsEntry J) ss → All (IsEntry J) tt → map its_place ss ≡ map its_place tt → ss ≡ tt
+same_steps J [] [] a b e = refl
+same_steps J [] (t ∷ ts) a b e = absurd (none_some (its_place t) (map its_place ts) e)
+same_steps J (s ∷ ss) [] a b e = absurd (none_some (its_place s) (map its_place ss) (sym e))
+same_steps J (s ∷ ss) (t ∷ ts) a b e =
+    let (first, more) = heads (its_place s) (its_place t) (map its_place ss) (map its_place ts) e in
+    ap₂ (λ (x : ShardStep) (xs : List ShardStep). x ∷ xs) (one_step J s t (All-head (IsEntry J) s ss a) (All-head (IsEntry J) t ts b) first) (same_steps J ss ts (All-tail (IsEntry J) s ss a) (All-tail (IsEntry J) t ts b) more)
+
+-- ---- all of a request, by its status
+
+apart_cells : (s o p q : ℕ) → in_shard s p ≡ in_object o q → ⊥
+apart_cells s o p q e = let cells = ap (λ (x : Place). x.cell) e in differ s o cells
+  where
+    differ : (s o : ℕ) → OfShard s ≡ OfObject o → ⊥
+    differ s o e = cc
+
+-- the object's place tells where the ask ends and the steps begin
+split : (h o : ℕ) (xs ys : List ℕ) (p q : ℕ) (more others : List Place) → (map (in_shard h) xs ++ in_object o p ∷ []) ++ more ≡ (map (in_shard h) ys ++ in_object o q ∷ []) ++ others → (p ≡ q) × (more ≡ others)
+split h o [] [] p q more others e = let (one, rest) = heads (in_object o p) (in_object o q) more others e in (ap (λ (x : Place). x.number) one, rest)
+split h o [] (y ∷ ys) p q more others e = absurd (apart_cells h o y p (sym (heads (in_object o p) (in_shard h y) more ((map (in_shard h) ys ++ in_object o q ∷ []) ++ others) e).0))
+split h o (x ∷ xs) [] p q more others e = absurd (apart_cells h o x q (heads (in_shard h x) (in_object o q) ((map (in_shard h) xs ++ in_object o p ∷ []) ++ more) others e).0)
+split h o (x ∷ xs) (y ∷ ys) p q more others e = split h o xs ys p q more others (heads (in_shard h x) (in_shard h y) ((map (in_shard h) xs ++ in_object o p ∷ []) ++ more) ((map (in_shard h) ys ++ in_object o q ∷ []) ++ others) e).1
+
+-- without a ruling there is no such place
+unsplit : (h o : ℕ) (xs ys : List ℕ) (q : ℕ) (others : List Place) → (map (in_shard h) xs ++ []) ++ [] ≡ (map (in_shard h) ys ++ in_object o q ∷ []) ++ others → ⊥
+unsplit h o [] [] q others e = none_some (in_object o q) others e
+unsplit h o [] (y ∷ ys) q others e = none_some (in_shard h y) ((map (in_shard h) ys ++ in_object o q ∷ []) ++ others) e
+unsplit h o (x ∷ xs) [] q others e = apart_cells h o x q (heads (in_shard h x) (in_object o q) ((map (in_shard h) xs ++ []) ++ []) others e).0
+unsplit h o (x ∷ xs) (y ∷ ys) q others e = unsplit h o xs ys q others (heads (in_shard h x) (in_shard h y) ((map (in_shard h) xs ++ []) ++ []) ((map (in_shard h) ys ++ in_object o q ∷ []) ++ others) e).1
+
+same_own : (h : ℕ) (xs ys : List ℕ) → (map (in_shard h) xs ++ []) ++ [] ≡ (map (in_shard h) ys ++ []) ++ [] → xs ≡ ys
+same_own h [] [] e = refl
+same_own h [] (y ∷ ys) e = absurd (none_some (in_shard h y) ((map (in_shard h) ys ++ []) ++ []) e)
+same_own h (x ∷ xs) [] e = absurd (none_some (in_shard h x) ((map (in_shard h) xs ++ []) ++ []) (sym e))
+same_own h (x ∷ xs) (y ∷ ys) e =
+    let (one, more) = heads (in_shard h x) (in_shard h y) ((map (in_shard h) xs ++ []) ++ []) ((map (in_shard h) ys ++ []) ++ []) e in
+    ap₂ (λ (p : ℕ) (ps : List ℕ). p ∷ ps) (ap (λ (p : Place). p.number) one) (same_own h xs ys more)
+
+-- what the ruling says, and what became of it
+abbrev IsRulingBy : Op → List ℕ → List ShardStep → Ruling → ℕ → Type 0
+IsRulingBy op targets steps rulings.Denied status = status ≡ 1
+IsRulingBy op targets steps (rulings.Granted entry) status = Way op targets steps status
+
+module _ (plans : List Plan) (J : Journals) (h : ℕ) (r : Request) where
+  record HasRuling (places : List Place) (status : ℕ) : Type 0 where
+    asks : List ℕ
+    at : ℕ
+    steps : List ShardStep
+    placed : places ≡ (map (in_shard h) asks ++ in_object r.object at ∷ []) ++ map its_place steps
+    before : List ObjectEntry
+    e : ObjectEntry
+    stands : Stands (J.objects r.object) at before e
+    entries : All (IsEntry J.shards) steps
+    ways : IsRulingBy r.op (targets_of plans r.op) steps e.ruling status
+
+  record HasNone (places : List Place) (status : ℕ) : Type 0 where
+    own : List ℕ
+    placed : places ≡ (map (in_shard h) own ++ []) ++ []
+    ways : IsUnruledBy (J.shards h) own status
+
+  abbrev IsGuardedBy : List Place → ℕ → Type 0
+  IsGuardedBy places status = HasNone places status ⊎ HasRuling places status
+
+  same_ruling : (op : Op) (targets : List ℕ) (ss tt : List ShardStep) (a b : Ruling) (s t : ℕ) → ss ≡ tt → a ≡ b → IsRulingBy op targets ss a s → IsRulingBy op targets tt b t → s ≡ t
+  same_ruling op targets ss tt rulings.Denied rulings.Denied s t same alike x y = x ∙ sym y
+  same_ruling op targets ss tt rulings.Denied (rulings.Granted e) s t same alike x y = absurd cc
+  same_ruling op targets ss tt (rulings.Granted e) rulings.Denied s t same alike x y = absurd cc
+  same_ruling op targets ss tt (rulings.Granted e) (rulings.Granted f) s t same alike x y = same_way op targets ss s t x (subst (λ (l : List ShardStep). Way op targets l t) (sym same) y)
+
+  same_guarded : (places : List Place) (s t : ℕ) → IsGuardedBy places s → IsGuardedBy places t → s ≡ t
+  same_guarded places s t (inl x) (inl y) = same_unruled (J.shards h) x.own s t x.ways (subst (λ (o : List ℕ). IsUnruledBy (J.shards h) o t) (same_own h y.own x.own (sym y.placed ∙ x.placed)) y.ways)
+  same_guarded places s t (inl x) (inr y) = absurd (unsplit h r.object x.own y.asks y.at (map its_place y.steps) (sym x.placed ∙ y.placed))
+  same_guarded places s t (inr x) (inl y) = absurd (unsplit h r.object y.own x.asks x.at (map its_place x.steps) (sym y.placed ∙ x.placed))
+  same_guarded places s t (inr x) (inr y) =
+      let (one, more) = split h r.object x.asks y.asks x.at y.at (map its_place x.steps) (map its_place y.steps) (sym x.placed ∙ y.placed) in
+      let there = subst (λ (p : ℕ). Stands (J.objects r.object) p y.before y.e) (sym one) y.stands in
+      let alike = ap (λ (e : ObjectEntry). e.ruling) (same_entry (J.objects r.object) x.before y.before x.at x.e y.e x.stands there) in
+      same_ruling r.op (targets_of plans r.op) x.steps y.steps x.e.ruling y.e.ruling s t (same_steps J.shards x.steps y.steps x.entries y.entries more) alike x.ways y.ways
+
+guarded_ways : (plans : List Plan) (plan : Plan) (J : Journals) (x : Seeking) (own : Own) (reply : Reply) → IsGuarded plans plan J x own reply → status_of reply ≢ 11 → IsGuardedBy plans J x.shard x.request (places_at x own) (status_of reply)
+guarded_ways plans plan J x own reply (object_is_full at) known = inl (record { own = []; placed = refl; ways = inl (refl, refl) })
+guarded_ways plans plan J x own reply (no_ruling {own = asks} before b u) known = inl (record { own = asks; placed = refl; ways = unruled_ways plan (J.shards x.shard) x.shard _ asks reply u known })
+guarded_ways plans plan J x own reply (denied {place} {at} before s d tells) known =
+    inr (record { asks = place ∷ []; at = at; steps = []; placed = refl; before = before; e = ruled_as x.shard place x.request.op rulings.Denied; stands = s; entries = All-nil (IsEntry J.shards); ways = refl })
+guarded_ways plans plan J x own reply (granted {place} {at} {entry} {c} {kept} {asks} {steps} {refused} before s g p) known =
+    inr (record {
+      asks = asks;
+      at = at;
+      steps = steps;
+      placed = refl;
+      before = before;
+      e = ruled_as x.shard place x.request.op (rulings.Granted entry);
+      stands = s;
+      entries = performed_entries plans J.shards x.request.op x.certs x.reading steps refused p;
+      ways = way_of plans J.shards x.request.op x.certs x.reading _ steps refused refl p;
+    })
 
 -- ---- how far a payload came
 
 module _ (n : Node) (payload : List ℕ) (calls : List LinkCall) (Rest : Request → ℕ → Type 0) where
   abbrev ToObject : Request → ℕ → Type 0
-  ToObject r s = ((object_of n.objects r.object ≡ None) × (s ≡ 9)) ⊎ ((object : ObjectPlan) × (object_of n.objects r.object ≡ Some object) × Rest r s)
+  ToObject r s = ((fixed_at n.objects r.object ≡ None) × (s ≡ 9)) ⊎ ((object : ObjectFixed) × (fixed_at n.objects r.object ≡ Some object) × Rest r s)
 
   abbrev ToCerts : Request → ℕ → Type 0
   ToCerts r s = (((index code : ℕ) × IsFirstRefused n.relay_key r.certs calls index code) × (s ≡ 6)) ⊎
       ((((index : ℕ) × IsFirstFailed n.relay_key r.certs calls index) × (s ≡ 8)) ⊎ (((certs : List Certificate) × AreOpened n.relay_key r.certs calls certs) × ToObject r s))
 
-  abbrev ToBuilt : Request → ℕ → Type 0
-  ToBuilt r s = (IsUnbuilt r × (s ≡ 255)) ⊎ ((IsUnbuilt r → ⊥) × ToCerts r s)
-
   abbrev ToSeal : Request → List ℕ → ℕ → Type 0
-  ToSeal r key s = ((IsSealed key payload → ⊥) × (s ≡ 4)) ⊎ (IsSealed key payload × ToBuilt r s)
+  ToSeal r key s = ((IsSealed key payload → ⊥) × (s ≡ 4)) ⊎ (IsSealed key payload × ToCerts r s)
 
   abbrev ToKey : Request → ℕ → Type 0
   ToKey r s = ((key_of n.channels r.channel ≡ None) × (s ≡ 3)) ⊎ ((key : List ℕ) × (key_of n.channels r.channel ≡ Some key) × ToSeal r key s)
@@ -185,17 +302,11 @@ module _ (n : Node) (payload : List ℕ) (calls : List LinkCall) (Rest : Request
     certs_agree r (inr (inr ((cs, x), e))) (inr (inl ((j, y), f))) = absurd (opened_or_failed n.relay_key r.certs calls cs j x y)
     certs_agree r (inr (inr (x, rest))) (inr (inr (y, more))) = objects_agree r rest more
 
-    built_agree : (r : Request) → ToBuilt r s → ToBuilt r t → s ≡ t
-    built_agree r (inl x) (inl y) = x.1 ∙ sym y.1
-    built_agree r (inl x) (inr y) = absurd (y.0 x.0)
-    built_agree r (inr x) (inl y) = absurd (x.0 y.0)
-    built_agree r (inr x) (inr y) = certs_agree r x.1 y.1
-
     seals_agree : (r : Request) (key : List ℕ) → ToSeal r key s → ToSeal r key t → s ≡ t
     seals_agree r key (inl x) (inl y) = x.1 ∙ sym y.1
     seals_agree r key (inl x) (inr y) = absurd (x.0 y.0)
     seals_agree r key (inr x) (inl y) = absurd (y.0 x.0)
-    seals_agree r key (inr x) (inr y) = built_agree r x.1 y.1
+    seals_agree r key (inr x) (inr y) = certs_agree r x.1 y.1
 
     keys_agree : (r : Request) → ToKey r s → ToKey r t → s ≡ t
     keys_agree r (inl x) (inl y) = x.1 ∙ sym y.1
@@ -218,77 +329,45 @@ module _ (n : Node) (payload : List ℕ) (calls : List LinkCall) (Rest : Request
 
 -- ---- courses
 
--- what was ruled at the shard of the request's channel
-record RuledAt (n : Node) (J : Journals) (places : List Place) (r : Request) (s : ℕ) : Type 0 where
-  plan : Plan
-  planned : HasPlan n (home n r.channel) plan
-  own : List ℕ
-  placed : places ≡ map (in_shard (home n r.channel)) own
-  ways : IsRuledBy plan (J.shards (home n r.channel)) own s
-
-same_places : (h : ℕ) (own others : List ℕ) → map (in_shard h) own ≡ map (in_shard h) others → own ≡ others
-same_places h [] [] e = refl
-same_places h [] (q ∷ others) e = absurd cc
-same_places h (p ∷ own) [] e = absurd cc
-same_places h (p ∷ own) (q ∷ others) e =
-    let parts = apart (in_shard h p) (in_shard h q) (map (in_shard h) own) (map (in_shard h) others) e in
-    ap₂ (λ (x : ℕ) (xs : List ℕ). x ∷ xs) (ap (λ (x : Place). x.number) parts.0) (same_places h own others parts.1)
-  where
-    apart : (x y : Place) (xs ys : List Place) → x ∷ xs ≡ y ∷ ys → (x ≡ y) × (xs ≡ ys)
-    apart x y xs ys e = (cc, cc)
-
-rulings_agree : (n : Node) (J : Journals) (places : List Place) (r : Request) (s t : ℕ) → RuledAt n J places r s → RuledAt n J places r t → s ≡ t
-rulings_agree n J places r s t x y =
-    let h = home n r.channel in
-    let own = same_places h y.own x.own (sym y.placed ∙ x.placed) in
-    same_ruled x.plan (J.shards h) x.own s t x.ways
-    (subst₂ (λ (p : Plan) (o : List ℕ). IsRuledBy p (J.shards h) o t) (same_Some y.plan x.plan (sym y.planned ∙ x.planned)) own y.ways)
-
 module _ (n : Node) (J : Journals) (payload : List ℕ) where
-  comes : (used : Used) (sent : Sent) → Course n J payload used sent → status_of sent.reply ≢ 11 →
-      Comes n payload used.calls (RuledAt n J used.places) (status_of sent.reply)
+  abbrev Rest : List Place → Request → ℕ → Type 0
+  Rest places r s = IsGuardedBy n.plans J (home n r.channel) r places s
+
+  comes : (used : Used) (sent : Sent) → Course n J payload used sent → status_of sent.reply ≢ 11 → Comes n payload used.calls (Rest used.places) (status_of sent.reply)
   comes used sent (malformed none reads) known = inl (none, refl)
   comes used sent (unknown_channel r spelled none) known = inr (r, spelled, inl (none, refl))
   comes used sent (bad_seal r key spelled keyed other) known = inr (r, spelled, inr (key, keyed, inl (other, refl)))
-  comes used sent (unbuilt {r} {key} asked is) known = inr (r, asked.spelled, inr (key, asked.keyed, inr (asked.seal, inl (is, refl))))
-  comes used sent (cert_refused {r} {key} {calls = by} {index} {code} built first) known =
-      inr (r, built.asked.spelled, inr (key, built.asked.keyed, inr (built.asked.seal, inr (built.built, inl ((index, code, first), refl)))))
-  comes used sent (relay_failed {r} {key} {calls = by} {index} built first) known =
-      inr (r, built.asked.spelled, inr (key, built.asked.keyed, inr (built.asked.seal, inr (built.built, inr (inl ((index, first), refl))))))
+  comes used sent (cert_refused {r} {key} {calls = by} {index} {code} asked first) known =
+      inr (r, asked.spelled, inr (key, asked.keyed, inr (asked.seal, inl ((index, code, first), refl))))
+  comes used sent (relay_failed {r} {key} {calls = by} {index} asked first) known =
+      inr (r, asked.spelled, inr (key, asked.keyed, inr (asked.seal, inr (inl ((index, first), refl)))))
   comes used sent (unknown_object {r} {key} {calls = by} {certs} opened none) known =
-      let built = opened.taken in
-      inr (r, built.asked.spelled, inr (key, built.asked.keyed, inr (built.asked.seal, inr (built.built, inr (inr ((certs, opened.opened), inl (none, refl)))))))
+      let asked = opened.asked in
+      inr (r, asked.spelled, inr (key, asked.keyed, inr (asked.seal, inr (inr ((certs, opened.opened), inl (none, refl))))))
   comes used sent (ruled {own} {reply} t reading plan planned is) known =
       let opened = t.arrived.presented in
-      let built = opened.taken in
+      let asked = opened.asked in
       inr (
         t.request,
-        built.asked.spelled,
+        asked.spelled,
         inr (
           t.key,
-          built.asked.keyed,
+          asked.keyed,
           inr (
-            built.asked.seal,
-            inr (
-              built.built,
-              inr (inr (
-                (t.certs, opened.opened),
-                inr (
-                  t.object,
-                  t.arrived.there,
-                  record { plan = plan; planned = planned; own = own; placed = refl; ways = ways plan _ _ _ t.object own reply is known },
-                ),
-              )),
-            ),
+            asked.seal,
+            inr (inr (
+              (t.certs, opened.opened),
+              inr (t.object, t.arrived.there, guarded_ways n.plans plan J _ own reply is known),
+            )),
           ),
         ),
       )
   comes used sent unread known = absurd (known refl)
-  comes used sent (unopened built interrupted) known = absurd (known refl)
+  comes used sent (unopened asked interrupted) known = absurd (known refl)
 
 pub courses_agree : (n : Node) → CoursesAgree n
 courses_agree n J payload readings others calls places first second a b known also =
     let s = status_of first.reply in
     let t = status_of second.reply in
-    all_agree n payload calls (RuledAt n J places) s t (λ r. rulings_agree n J places r s t)
+    all_agree n payload calls (Rest n J payload places) s t (λ r. same_guarded n.plans J (home n r.channel) r places s t)
     (comes n J payload (uses readings calls places) first a known) (comes n J payload (uses others calls places) second b also)

@@ -6,6 +6,8 @@ use Rattle.std.proofs.lemmas.List.{length-map}
 use Rattle.std.proofs.lemmas.Option.{same_Some}
 use Rattle.prin_term.specs.declared.limits.TheConstants.{ENTRY_NODES}
 use Rattle.prin_term.specs.Principal.{Principal, node_count}
+use Rattle.prin_term.specs.View.{Grant}
+use Rattle.object_core.specs.Operation.{IsAccessList}
 use Rattle.taos_wire.specs.Request.{Request, FitsRequest}
 use Rattle.taos_wire.specs.View.{cited as shared}
 use Rattle.agent_core.specs.declared.asked.Asked.{Asked}
@@ -16,22 +18,22 @@ use Rattle.agent_core.specs.Asked.{AskedTo, AskEnds, FitsAsk, Unanswered}
 use Rattle.agent_core.specs.Steps.{seen_at}
 use Rattle.taos_monitor.specs.declared.arrival.Arrived.{Arrived}
 use Rattle.taos_monitor.specs.Arriving.{StandsFor}
-use Rattle.taos_monitor.specs.Cells.{seen_of}
+use Rattle.taos_monitor.specs.Cells.{AreLegalShards, viewed}
 use Rattle.taos_monitor.specs.Ruling.{AskedAt, ask_seen}
 use Rattle.taos_monitor.proofs.Arriving.{is_on, subject_fits}
-use Rattle.taos_monitor.proofs.Going.{went_on, stood}
+use Rattle.taos_monitor.proofs.Going.{asked_goes_on, shard_went_on, shards_stood}
 
 -- ---- what an ask asks for
 
-pub is_meant : (r : Request) (a : Arrived) (reading : ℕ) (plan : Plan) (before : List Entry) → StandsFor r a → Contains plan.channels r.channel → IsMeant plan before (Asks (ask_seen r a reading))
-is_meant r a reading plan before stands has = (subst (IsOn r.channel) (sym stands.subject) (is_on r.channel r.quoted), has)
+pub is_meant : (r : Request) (a : Arrived) (list : List Grant) (reading : ℕ) (plan : Plan) (before : List Entry) → StandsFor r a → Contains plan.channels r.channel → IsMeant plan before (Asks (ask_seen r a list reading))
+is_meant r a list reading plan before stands has = (subst (IsOn r.channel) (sym stands.subject) (is_on r.channel r.quoted), has)
 
-pub fits_ask : (r : Request) (a : Arrived) (reading : ℕ) → FitsRequest r → StandsFor r a → FitsAsk (ask_seen r a reading)
-fits_ask r a reading limits stands = record {
+pub fits_ask : (r : Request) (a : Arrived) (list : List Grant) (reading : ℕ) → FitsRequest r → StandsFor r a → IsAccessList list → FitsAsk (ask_seen r a list reading)
+fits_ask r a list reading limits stands is = record {
   subject = subst (λ (p : Principal). node_count p ≤ ENTRY_NODES) (sym stands.subject)
       (subject_fits r.channel r.quoted limits.quoted);
-  few_entries = stands.list.0;
-  entries = λ k d lt. (stands.list.1 k d lt).who.nodes_fit;
+  few_entries = is.0;
+  entries = λ k d lt. (is.1 k d lt).who.nodes_fit;
   few_presented = omega (arith, stands.few_certs, length-map a.certs.items shared);
 }
 
@@ -48,23 +50,20 @@ module _ {E : Type 0} (plans : List Plan) (alone : Bool) (seen0 seen1 : ℕ → 
       (plan : Plan) → slice_get plans (home plans a.channel) ≡ Some plan →
       OnErr result (AskedTo plan (seen_at alone seen0 own0 (home plans a.channel)) (seen_at alone seen1 own1 (home plans a.channel)) a (Unanswered plan (seen1 (home plans a.channel)) a))
 
-abbrev pub AreLegalAt : List Plan → (ℕ → List Entry) → Type 0
-AreLegalAt plans seen = (s : ℕ) (p : Plan) → slice_get plans s ≡ Some p → IsLegalJournal p (seen s)
-
-module _ (plans : List Plan) (alone : Bool) (h : ℕ) (seen0 seen1 : ℕ → List Entry) (own0 own1 : ℕ → List ℕ) (legal : AreLegalAt plans seen0)
+module _ (plans : List Plan) (alone : Bool) (h : ℕ) (seen0 seen1 : ℕ → List Entry) (own0 own1 : ℕ → List ℕ) (legal : AreLegalShards plans seen0)
     (others : (s : ℕ) → s ≢ h → (seen1 s ≡ seen0 s) × (own1 s ≡ own0 s)) where
   pub asked_at : (plan : Plan) (a : Ask) (Ends : Plan → List Entry → List ℕ → Type 0) → slice_get plans h ≡ Some plan → AskedTo plan (seen_at alone seen0 own0 h) (seen_at alone seen1 own1 h) a (Ends plan (seen1 h)) →
-      AskedAt plans alone (seen_of seen0 own0) (seen_of seen1 own1) h Ends
+      AskedAt plans alone (viewed seen0 own0) (viewed seen1 own1) h Ends
   asked_at plan a Ends planned asked = record {
     plan = plan;
     planned = planned;
     own = asked.places;
-    goes_on = went_on h seen0 seen1 own0 own1 others plan alone a (Ends plan (seen1 h)) asked;
+    goes_on = shard_went_on h seen0 seen1 own0 own1 others alone asked.places (asked_goes_on asked);
     legal = legal_still;
     ends = asked.ends;
   }
     where
-      legal_still : AreLegalAt plans seen1
+      legal_still : AreLegalShards plans seen1
       legal_still s p at = elim (cases_Bool (s == h)) [
         | inl e ↦
             let same : s ≡ h = eqb-true s h e in
@@ -73,18 +72,18 @@ module _ (plans : List Plan) (alone : Bool) (h : ℕ) (seen0 seen1 : ℕ → Lis
         | inr e ↦ subst (IsLegalJournal p) (sym (others s (λ same. false≢true (sym e ∙ eq-eqb s h same))).0) (legal s p at)
       ]
 
-pub not_yet : (plans : List Plan) (alone : Bool) (h : ℕ) (seen : ℕ → List Entry) (own : ℕ → List ℕ) (plan : Plan) (Ends : Plan → List Entry → List ℕ → Type 0) → AreLegalAt plans seen → slice_get plans h ≡ Some plan → Ends plan (seen h) [] →
-    AskedAt plans alone (seen_of seen own) (seen_of seen own) h Ends
+pub not_yet : (plans : List Plan) (alone : Bool) (h : ℕ) (seen : ℕ → List Entry) (own : ℕ → List ℕ) (plan : Plan) (Ends : Plan → List Entry → List ℕ → Type 0) → AreLegalShards plans seen → slice_get plans h ≡ Some plan → Ends plan (seen h) [] →
+    AskedAt plans alone (viewed seen own) (viewed seen own) h Ends
 not_yet plans alone h seen own plan Ends legal planned ends = record {
   plan = plan;
   planned = planned;
   own = [];
-  goes_on = stood alone (seen_of seen own);
+  goes_on = shards_stood alone (viewed seen own);
   legal = legal;
   ends = ends;
 }
 
 -- what holds of how it ended may be told otherwise
 pub ends_as : (plans : List Plan) (alone : Bool) (seen0 seen1 : ℕ → List Entry) (own0 own1 : ℕ → List ℕ) (h : ℕ) (Ends Others : Plan → List Entry → List ℕ → Type 0) →
-    (x : AskedAt plans alone (seen_of seen0 own0) (seen_of seen1 own1) h Ends) → Others x.plan (seen1 h) x.own → AskedAt plans alone (seen_of seen0 own0) (seen_of seen1 own1) h Others
+    (x : AskedAt plans alone (viewed seen0 own0) (viewed seen1 own1) h Ends) → Others x.plan (seen1 h) x.own → AskedAt plans alone (viewed seen0 own0) (viewed seen1 own1) h Others
 ends_as plans alone seen0 seen1 own0 own1 h Ends Others x ends = record { plan = x.plan; planned = x.planned; own = x.own; goes_on = x.goes_on; legal = x.legal; ends = ends }

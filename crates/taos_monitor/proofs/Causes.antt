@@ -1,13 +1,18 @@
 -- The code of a certificate that is refused, and the faults of the link.
 use Rattle.std.proofs.Common.{◌≡◌, ℕ, ◌+◌, ◌-◌, ◌^◌, ◌<◌, ◌≤◌, List, [], ◌∷◌, subst, arith}
-use Rattle.taos_wire.specs.Reply.{Reply, CertRefused}
+use Rattle.std.specs.Prelude.{Option}
+use Rattle.object_core.specs.Operation.{Op}
+use Rattle.stmt_codec.specs.Certificates.{Certificate}
+use Rattle.taos_wire.specs.Reply.{Reply, Granted, CertRefused}
 use Rattle.agent_core.specs.State.{Plan, Ask}
 use Rattle.agent_core.specs.Journals.{Entry}
-use Rattle.object_core.specs.Objects.{ObjectPlan}
-use Rattle.taos_monitor.specs.Cells.{Node}
+use Rattle.taos_monitor.specs.Asking.{IsUnruled, full, replayed, channel_full, untold, unanswered}
+use Rattle.taos_monitor.specs.AtObject.{Seeking, Own, told_or, gives_for, IsGuarded, object_is_full, no_ruling, denied, granted}
+use Rattle.taos_monitor.specs.Cells.{Node, Journals}
+use Rattle.taos_monitor.specs.Effects.{ShardStep, IsPerformed, through, not_held, no_room, no_place}
 use Rattle.taos_monitor.specs.Credentials.{LinkAnswer, Resealed, Refused, Lacked, Failed, LinkCall, IsRefused, refused, bad_reseal, CountsAs, FailedAs}
 use Rattle.taos_monitor.specs.Credentials as cert
-use Rattle.taos_monitor.specs.Course.{asking, IsRuled, full, replayed, channel_full, denied, granted, untold, unanswered, malformed, unknown_channel, bad_seal, unbuilt, cert_refused, relay_failed, unknown_object, ruled, unread, unopened}
+use Rattle.taos_monitor.specs.Course.{malformed, unknown_channel, bad_seal, cert_refused, relay_failed, unknown_object, ruled, unread, unopened}
 use Rattle.taos_monitor.specs.Laws.{CodesAreKnown, FaultsAreCounted, failed_in}
 
 abbrev IsCode : ℕ → Type 0
@@ -22,26 +27,36 @@ one_code key text calls code (bad_reseal issued none) = (omega arith, omega arit
 same_code : (i j c d : ℕ) → CertRefused i c ≡ CertRefused j d → c ≡ d
 same_code i j c d e = cc
 
-ruled_code : (plan : Plan) (journal : List Entry) (shard : ℕ) (a : Ask) (object : ObjectPlan) (own : List ℕ) (reply : Reply) → IsRuled plan journal (asking shard a object) own reply →
-    (index code : ℕ) → reply ≡ CertRefused index code → ⊥
-ruled_code plan journal shard a object own reply (full at) index code e = absurd cc
-ruled_code plan journal shard a object own reply (replayed t) index code e = absurd cc
-ruled_code plan journal shard a object own reply (channel_full t) index code e = absurd cc
-ruled_code plan journal shard a object own reply (denied d tells) index code e = absurd cc
-ruled_code plan journal shard a object own reply (granted g) index code e = absurd cc
-ruled_code plan journal shard a object own reply (untold g) index code e = absurd cc
-ruled_code plan journal shard a object own reply (unanswered u) index code e = absurd cc
+unruled_code : (plan : Plan) (journal : List Entry) (shard : ℕ) (a : Ask) (own : List ℕ) (reply : Reply) → IsUnruled plan journal shard a own reply → (index code : ℕ) → reply ≡ CertRefused index code → ⊥
+unruled_code plan journal shard a own reply (full at) index code e = absurd cc
+unruled_code plan journal shard a own reply (replayed t) index code e = absurd cc
+unruled_code plan journal shard a own reply (channel_full t) index code e = absurd cc
+unruled_code plan journal shard a own reply (untold g) index code e = absurd cc
+unruled_code plan journal shard a own reply (unanswered u) index code e = absurd cc
+
+performed_code : (plans : List Plan) (J : ℕ → List Entry) (op : Op) (certs : List Certificate) (reading : ℕ) (told : Reply) (steps : List ShardStep) (after : Option Reply) → IsPerformed plans J op certs reading steps after → (index code : ℕ) →
+    (told ≡ CertRefused index code → ⊥) → told_or after told ≡ CertRefused index code → ⊥
+performed_code plans J op certs reading told steps after (through w lets) index code not e = not e
+performed_code plans J op certs reading told steps after (not_held digest is w none) index code not e = absurd cc
+performed_code plans J op certs reading told steps after (no_room f) index code not e = absurd cc
+performed_code plans J op certs reading told steps after (no_place f) index code not e = absurd cc
+
+guarded_code : (plans : List Plan) (plan : Plan) (J : Journals) (x : Seeking) (own : Own) (reply : Reply) → IsGuarded plans plan J x own reply → (index code : ℕ) → reply ≡ CertRefused index code → ⊥
+guarded_code plans plan J x own reply (object_is_full at) index code e = absurd cc
+guarded_code plans plan J x own reply (no_ruling {own = asks} before b u) index code e = unruled_code plan (J.shards x.shard) x.shard _ asks reply u index code e
+guarded_code plans plan J x own reply (denied before s d tells) index code e = absurd cc
+guarded_code plans plan J x own reply (granted {place} {entry} {c} {kept} {steps} {refused = after} before s g p) index code e =
+    performed_code plans J.shards x.request.op x.certs x.reading (Granted kept entry x.shard place c.proof c.cites (gives_for x before)) steps after p index code (λ same. cc) e
 
 pub codes_are_known : (n : Node) → CodesAreKnown n
 codes_are_known n J payload used sent (malformed none reads) index code e = absurd cc
 codes_are_known n J payload used sent (unknown_channel r spelled none) index code e = absurd cc
 codes_are_known n J payload used sent (bad_seal r key spelled keyed other) index code e = absurd cc
-codes_are_known n J payload used sent (unbuilt asked is) index code e = absurd cc
 codes_are_known n J payload used sent (cert_refused {r} {key} {calls = by} {index = i} {code = c} built first) index code e =
     subst IsCode (same_code i index c code e) (one_code n.relay_key first.text first.last c first.refused)
 codes_are_known n J payload used sent (relay_failed built first) index code e = absurd cc
 codes_are_known n J payload used sent (unknown_object opened none) index code e = absurd cc
-codes_are_known n J payload used sent (ruled {own} {reply} t reading plan planned is) index code e = absurd (ruled_code plan _ _ _ t.object own reply is index code e)
+codes_are_known n J payload used sent (ruled {own} {reply} t reading plan planned is) index code e = absurd (guarded_code n.plans plan J _ own reply is index code e)
 codes_are_known n J payload used sent unread index code e = absurd cc
 codes_are_known n J payload used sent (unopened built interrupted) index code e = absurd cc
 

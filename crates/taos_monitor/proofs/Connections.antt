@@ -13,8 +13,8 @@ use Rattle.std.proofs.lemmas.List.{map_push}
 use Rattle.agent_core.specs.State.{Plan}
 use Rattle.taos_monitor.specs.declared.node_keys.NodeKeys.{NodeKeys}
 use Rattle.taos_monitor.specs.Arriving.{node_of}
-use Rattle.object_core.specs.Objects.{ObjectPlan}
-use Rattle.taos_monitor.specs.Cells.{AreLegal}
+use Rattle.object_core.specs.Shelving.{ObjectFixed}
+use Rattle.taos_monitor.specs.Cells.{AreLegal, alone_of}
 use Rattle.taos_monitor.specs.World.{Setting, World, setting_of}
 use Rattle.taos_monitor.specs.Credentials.{LinkCall}
 use Rattle.taos_monitor.specs.Course.{uses}
@@ -168,7 +168,11 @@ module _ {S : Type 0} (state : S → State) (setting : Setting) where
     held_at_end Steps Stops Holds (λ s payload reply t h a. a.0 ∙ h) (λ s payload t h a. a.0 ∙ h) limit before after outcome holds served,
   )
 
+-- what a service borrows, name by name
+pub four_names : (a b c d p q r s : ℕ) → a ∷ b ∷ c ∷ d ∷ [] ≡ p ∷ q ∷ r ∷ s ∷ [] → (a ≡ p) × (b ≡ q) × (c ≡ r) × (d ≡ s)
+four_names a b c d p q r s e = (cc, cc, cc, cc)
+
 -- nothing that stays changed
-pub same_setting : (keys : NodeKeys) (objects : List ObjectPlan) {plans0 plans1 : List Plan} {alone0 alone1 : Bool} {says0 says1 : Option (ℕ → List ℕ → Said)} → plans1 ≡ plans0 → alone1 ≡ alone0 → says1 ≡ says0 →
-    setting_of (node_of keys plans1 objects) alone1 says1 ≡ setting_of (node_of keys plans0 objects) alone0 says0
-same_setting keys objects plans alone says = rw (plans, alone, says) refl
+pub same_setting : (keys : NodeKeys) {objects0 objects1 : List ObjectFixed} {plans0 plans1 : List Plan} {alone0 alone1 lone0 lone1 : Bool} {says0 says1 : Option (ℕ → List ℕ → Said)} → objects1 ≡ objects0 → plans1 ≡ plans0 → alone1 ≡ alone0 → lone1 ≡ lone0 → says1 ≡ says0 →
+    setting_of (node_of keys plans1 objects1) (alone_of alone1 lone1) says1 ≡ setting_of (node_of keys plans0 objects0) (alone_of alone0 lone0) says0
+same_setting keys objects plans alone lone says = rw (objects, plans, alone, lone, says) refl

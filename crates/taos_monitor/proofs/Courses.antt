@@ -1,17 +1,18 @@
 -- The course of a request, from what was done for it.
-use Rattle.std.proofs.Common.{◌≡◌, ◌<◌, ◌^◌, ℕ, Bool, List, [], ◌∷◌, length, map, Some, refl, sym, ap₂, subst, ◌∙◌}
+use Rattle.std.proofs.Common.{◌≡◌, ◌<◌, ◌^◌, ℕ, Bool, List, [], ◌∷◌, length, map, Some, refl, sym, subst, ◌∙◌}
 use Rattle.std.specs.Prelude.{Option}
 use Rattle.std.specs.Io.KnownBytes.{Keeps}
 use Rattle.std.proofs.KnownBytes.{Keeps-refl}
 use Rattle.std.proofs.lemmas.Option.{same_Some}
 use Rattle.keyed_seal.specs.Keys.{key_of}
-use Rattle.prin_term.specs.Principal.{Principal}
 use Rattle.frame_link.specs.Readings.{ShowsKnown}
 use Rattle.frame_link.specs.Relay.{Said}
+use Rattle.object_core.specs.Objects.{ObjectEntry}
+use Rattle.object_core.specs.Shelving.{ObjectFixed}
 use Rattle.taos_wire.specs.Request.{Request, IsAsked}
 use Rattle.taos_wire.specs.Reply.{Reply, sealed, unsealed, spelling}
 use Rattle.taos_wire.specs.View.{cited as shared}
-use Rattle.agent_core.specs.State.{Plan, Ask}
+use Rattle.agent_core.specs.State.{Plan}
 use Rattle.agent_core.specs.Plans.{home}
 use Rattle.agent_core.specs.Journals.{Entry}
 use Rattle.taos_monitor.specs.declared.arrival.Arrived.{Arrived}
@@ -20,25 +21,19 @@ use Rattle.taos_monitor.specs.declared.handling.Handled.TheVariants as handled
 use Rattle.taos_monitor.specs.declared.node_keys.NodeKeys.{NodeKeys}
 use Rattle.taos_monitor.specs.declared.refusal.Refusal.{Refusal}
 use Rattle.taos_monitor.specs.Refusals.{refusal}
-use Rattle.object_core.specs.Objects.{ObjectPlan}
-use Rattle.taos_monitor.specs.Cells.{Node, Journals, in_shard, seen_of}
+use Rattle.taos_monitor.specs.Cells.{Node, Cell, Journals, Viewed, seen_of, AreLegalIn}
 use Rattle.taos_monitor.specs.World.{Setting, World, setting_of, world_of}
 use Rattle.taos_monitor.specs.Credentials.{link_use}
-use Rattle.taos_monitor.specs.Course.{Arrival, Used, uses, nothing, only_calls, Course, IsRuled, asking, ask_of, ruled}
-use Rattle.taos_monitor.specs.Arriving.{node_of, object_seen, StandsFor, IsNotAsked, Arrives, NotArrives}
-use Rattle.taos_monitor.specs.Ruling.{Leaves, RuledTo, ask_seen}
+use Rattle.taos_monitor.specs.AtObject.{Seeking, places_at}
+use Rattle.taos_monitor.specs.Course.{Arrival, Used, uses, nothing, only_calls, Course, ruled}
+use Rattle.taos_monitor.specs.Arriving.{node_of, IsNotAsked, Arrives, NotArrives}
+use Rattle.taos_monitor.specs.Ruling.{Leaves, GuardedTo, standing_of}
 use Rattle.taos_monitor.specs.Handling.{HandledTo, StoppedAtClock, Handles, Answers}
-use Rattle.taos_monitor.proofs.AtHome.{AreLegalAt}
 use Rattle.taos_monitor.proofs.Going.{stood}
 use Rattle.taos_monitor.proofs.Presenting.{none_called, quiet_linked}
 
--- the ask that stands for what came is the request's
-same_ask : (r : Request) (a : Arrived) (reading : ℕ) → StandsFor r a → ask_seen r a reading ≡ ask_of r (map shared a.certs.items) (object_seen r.object a.shown) reading
-same_ask r a reading stands =
-    ap₂ (λ (who : Principal) (right : ℕ). record { channel = r.channel; seq = r.seq; reading = reading; subject = who; list = (object_seen r.object a.shown).list; right = right; presented = map shared a.certs.items }) stands.subject stands.right
-
-module _ (keys : NodeKeys) (plans : List Plan) (objects : List ObjectPlan) (alone : Bool) (says : Option (ℕ → List ℕ → Said)) (faults0 faults1 : ℕ)
-    (seen0 : ℕ → List Entry) (own0 : ℕ → List ℕ) (r : Request) (key : List ℕ) (known : key_of keys.channels.entries r.channel ≡ Some key) where
+module _ (keys : NodeKeys) (plans : List Plan) (objects : List ObjectFixed) (alone : Cell → Bool) (says : Option (ℕ → List ℕ → Said)) (faults0 faults1 : ℕ)
+    (shards0 : Viewed Entry) (objects0 : Viewed ObjectEntry) (r : Request) (key : List ℕ) (known : key_of keys.channels.entries r.channel ≡ Some key) where
   abbrev node : Node
   node = node_of keys plans objects
 
@@ -49,15 +44,15 @@ module _ (keys : NodeKeys) (plans : List Plan) (objects : List ObjectPlan) (alon
   under_key J used reply f payload k asked =
       subst (λ (other : List ℕ). Course node J payload used (sealed other r reply)) (same_Some k key (sym asked.keyed ∙ known)) (f payload k asked)
 
-  pub refused_to : (clock : Option (List ℕ)) (f : Refusal) (bytes : List ℕ) → AreLegalAt plans seen0 → NotArrives keys objects (link_use says keys.node faults0 faults1) r f →
+  pub refused_to : (clock : Option (List ℕ)) (f : Refusal) (bytes : List ℕ) → AreLegalIn plans objects (seen_of shards0 objects0).journals → NotArrives keys objects (link_use says keys.node faults0 faults1) r f →
       bytes ≡ spelling (sealed key r (refusal f)) → length bytes < 2 ^ 32 →
-      HandledTo (setting_of node alone says) (world_of clock faults0 seen0 own0) (world_of clock faults1 seen0 own0) r bytes
+      HandledTo (setting_of node alone says) (world_of clock faults0 shards0 objects0) (world_of clock faults1 shards0 objects0) r bytes
   refused_to clock f bytes legal stops spelled short = record {
     used = only_calls stops.calls;
     sent = sealed key r (refusal f);
-    goes_on = stood alone (seen_of seen0 own0);
+    goes_on = stood alone (seen_of shards0 objects0);
     legal = legal;
-    course = under_key (record { shards = seen0 }) (only_calls stops.calls) (refusal f) (λ payload k asked. stops.course plans (record { shards = seen0 }) payload k asked);
+    course = under_key (seen_of shards0 objects0).journals (only_calls stops.calls) (refusal f) (λ payload k asked. stops.course plans (seen_of shards0 objects0).journals payload k asked);
     gave = Keeps-refl clock;
     linked = stops.linked;
     spelled = spelled;
@@ -66,31 +61,33 @@ module _ (keys : NodeKeys) (plans : List Plan) (objects : List ObjectPlan) (alon
 
   module _ (a : Arrived) (came : Arrives keys objects (link_use says keys.node faults0 faults1) r a) where
     abbrev arrival : (payload k : List ℕ) → IsAsked node.channels payload r k → Arrival node payload
-    arrival payload k asked = record { request = r; key = k; calls = came.calls; certs = map shared a.certs.items; object = object_seen r.object a.shown; arrived = came.arrived plans payload k asked }
+    arrival payload k asked = record { request = r; key = k; calls = came.calls; certs = map shared a.certs.items; object = came.object; arrived = came.arrived plans payload k asked }
 
-    pub stopped_at_clock : (clock0 clock1 : Option (List ℕ)) → Keeps clock0 clock1 → StoppedAtClock (setting_of node alone says) (world_of clock0 faults0 seen0 own0) (world_of clock1 faults1 seen0 own0) r
+    pub stopped_at_clock : (clock0 clock1 : Option (List ℕ)) → Keeps clock0 clock1 → StoppedAtClock (setting_of node alone says) (world_of clock0 faults0 shards0 objects0) (world_of clock1 faults1 shards0 objects0) r
     stopped_at_clock clock0 clock1 keeps = record {
       calls = came.calls;
       unchanged = refl;
-      come = (map shared a.certs.items, object_seen r.object a.shown, λ payload k asked. came.arrived plans payload k asked);
+      come = (map shared a.certs.items, came.object, λ payload k asked. came.arrived plans payload k asked);
       keeps = keeps;
       linked = came.linked;
     }
 
-    pub ruled_to : (seen1 : ℕ → List Entry) (own1 : ℕ → List ℕ) (clock0 clock1 : Option (List ℕ)) (reading : ℕ) (bytes : List ℕ) → ShowsKnown clock0 clock1 reading →
-        Leaves r.channel r.seq key bytes (RuledTo plans alone (seen_of seen0 own0) (seen_of seen1 own1) (asking (home plans r.channel) (ask_seen r a reading) (object_seen r.object a.shown))) →
-        HandledTo (setting_of node alone says) (world_of clock0 faults0 seen0 own0) (world_of clock1 faults1 seen1 own1) r bytes
-    ruled_to seen1 own1 clock0 clock1 reading bytes shows left =
+    -- what is sought, at a reading
+    abbrev pub sought : ℕ → Seeking
+    sought reading = record { request = r; certs = map shared a.certs.items; reading = reading; shard = home plans r.channel; fixed = came.object }
+
+    pub ruled_to : (shards1 : Viewed Entry) (objects1 : Viewed ObjectEntry) (clock0 clock1 : Option (List ℕ)) (reading : ℕ) (bytes : List ℕ) → ShowsKnown clock0 clock1 reading →
+        Leaves r.channel r.seq key bytes (GuardedTo (standing_of plans objects alone) (seen_of shards0 objects0) (seen_of shards1 objects1) (sought reading)) →
+        HandledTo (setting_of node alone says) (world_of clock0 faults0 shards0 objects0) (world_of clock1 faults1 shards1 objects1) r bytes
+    ruled_to shards1 objects1 clock0 clock1 reading bytes shows left =
         let x = left.holds in
-        let h = home plans r.channel in
+        let used = uses (reading ∷ []) came.calls (places_at (sought reading) x.own) in
         record {
-          used = uses (reading ∷ []) came.calls (map (in_shard h) x.own);
+          used = used;
           sent = sealed key r left.reply;
           goes_on = x.goes_on;
           legal = x.legal;
-          course = under_key (record { shards = seen1 }) (uses (reading ∷ []) came.calls (map (in_shard h) x.own)) left.reply
-              (λ payload k asked. ruled (arrival payload k asked) reading x.plan x.planned
-              (subst (λ (b : Ask). IsRuled x.plan (seen1 h) (asking h b (object_seen r.object a.shown)) x.own left.reply) (same_ask r a reading came.stands) x.ends));
+          course = under_key (seen_of shards1 objects1).journals used left.reply (λ payload k asked. ruled (arrival payload k asked) reading x.plan x.planned x.guarded);
           gave = (clock1, shows, Keeps-refl clock1);
           linked = came.linked;
           spelled = left.spelled;
@@ -100,15 +97,15 @@ module _ (keys : NodeKeys) (plans : List Plan) (objects : List ObjectPlan) (alon
 -- ---- from the payload on
 
 -- no request under its seal
-pub unasked_to : (keys : NodeKeys) (plans : List Plan) (objects : List ObjectPlan) (alone : Bool) (says : Option (ℕ → List ℕ → Said)) (faults : ℕ) (seen : ℕ → List Entry) (own : ℕ → List ℕ) (clock : Option (List ℕ)) (payload : List ℕ) (f : Refusal) (bytes : List ℕ) →
-    AreLegalAt plans seen → IsNotAsked keys payload f → bytes ≡ spelling (unsealed (refusal f)) → length bytes < 2 ^ 32 →
-    Answers (setting_of (node_of keys plans objects) alone says) (world_of clock faults seen own) (world_of clock faults seen own) payload bytes handled.Replied
-unasked_to keys plans objects alone says faults seen own clock payload f bytes legal stops spelled short = record {
+pub unasked_to : (keys : NodeKeys) (plans : List Plan) (objects : List ObjectFixed) (alone : Cell → Bool) (says : Option (ℕ → List ℕ → Said)) (faults : ℕ) (shards0 : Viewed Entry) (objects0 : Viewed ObjectEntry) (clock : Option (List ℕ)) (payload : List ℕ) (f : Refusal) (bytes : List ℕ) →
+    AreLegalIn plans objects (seen_of shards0 objects0).journals → IsNotAsked keys payload f → bytes ≡ spelling (unsealed (refusal f)) → length bytes < 2 ^ 32 →
+    Answers (setting_of (node_of keys plans objects) alone says) (world_of clock faults shards0 objects0) (world_of clock faults shards0 objects0) payload bytes handled.Replied
+unasked_to keys plans objects alone says faults shards0 objects0 clock payload f bytes legal stops spelled short = record {
   used = nothing;
   sent = unsealed (refusal f);
-  goes_on = stood alone (seen_of seen own);
+  goes_on = stood alone (seen_of shards0 objects0);
   legal = legal;
-  course = stops plans objects (record { shards = seen });
+  course = stops plans objects (seen_of shards0 objects0).journals;
   gave = Keeps-refl clock;
   linked = quiet_linked says keys.node faults faults [] (none_called says keys.node faults);
   spelled = spelled;

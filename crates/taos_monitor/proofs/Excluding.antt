@@ -1,43 +1,58 @@
 -- What came to its object is refused for nothing before that.
-use Rattle.std.proofs.Common.{◌≡◌, ◌≢◌, ◌⊎◌, ℕ, List, None, Some, refl, sym, subst, ◌∙◌, inl, inr, arith}
+use Rattle.std.proofs.Common.{◌≡◌, ◌≢◌, ◌⊎◌, ℕ, List, Option, None, Some, refl, sym, subst, ◌∙◌, inl, inr, arith}
 use Rattle.std.proofs.lemmas.Option.{same_Some}
 use Rattle.keyed_seal.specs.Keys.{key_of}
 use Rattle.taos_wire.specs.Request.{Request, Spells, IsSealed}
 use Rattle.taos_wire.specs.Reply.{Reply, status_of}
 use Rattle.taos_wire.proofs.RequestLaws.{spelled_once}
+use Rattle.object_core.specs.Operation.{Op}
+use Rattle.object_core.specs.Shelving.{fixed_at}
+use Rattle.stmt_codec.specs.Certificates.{Certificate}
 use Rattle.agent_core.specs.State.{Plan, Ask}
 use Rattle.agent_core.specs.Journals.{Entry}
-use Rattle.object_core.specs.Objects.{ObjectPlan, object_of}
-use Rattle.taos_monitor.specs.Cells.{Node}
+use Rattle.taos_monitor.specs.Asking.{IsUnruled, full, replayed, channel_full, untold, unanswered}
+use Rattle.taos_monitor.specs.AtObject.{Seeking, Own, told_or, IsGuarded, object_is_full, no_ruling, denied, granted}
+use Rattle.taos_monitor.specs.Cells.{Node, Journals}
 use Rattle.taos_monitor.specs.Credentials.{LinkCall, AreOpened}
-use Rattle.taos_monitor.specs.Course.{asking, IsUnbuilt, IsRuled, full, replayed, channel_full, denied, granted, untold, unanswered, Arrival, malformed, unknown_channel, bad_seal, unbuilt, cert_refused, relay_failed, unknown_object, ruled, unread, unopened}
+use Rattle.taos_monitor.specs.Course.{Arrival, malformed, unknown_channel, bad_seal, cert_refused, relay_failed, unknown_object, ruled, unread, unopened}
+use Rattle.taos_monitor.specs.Effects.{ShardStep, IsPerformed, through, not_held, no_room, no_place}
 use Rattle.taos_monitor.specs.Laws.{ArrivalExcludes}
 use Rattle.taos_monitor.proofs.Firsts.{opened_or_refused, opened_or_failed}
 
 abbrev IsLate : ℕ → Type 0
-IsLate s = (s ≢ 2) × (s ≢ 3) × (s ≢ 4) × (s ≢ 255) × (s ≢ 6) × (s ≢ 8) × (s ≢ 9)
+IsLate s = (s ≢ 2) × (s ≢ 3) × (s ≢ 4) × (s ≢ 6) × (s ≢ 8) × (s ≢ 9)
 
-late : (s : ℕ) → (s ≡ 0) ⊎ ((s ≡ 1) ⊎ ((s ≡ 5) ⊎ ((s ≡ 7) ⊎ ((s ≡ 10) ⊎ (s ≡ 11))))) → IsLate s
-late s e = (λ f. omega (arith, e, f), λ f. omega (arith, e, f), λ f. omega (arith, e, f), λ f. omega (arith, e, f), λ f. omega (arith, e, f), λ f. omega (arith, e, f), λ f. omega (arith, e, f))
+late : (s : ℕ) → (s ≡ 0) ⊎ ((s ≡ 1) ⊎ ((s ≡ 5) ⊎ ((s ≡ 7) ⊎ ((s ≡ 10) ⊎ ((s ≡ 11) ⊎ ((s ≡ 12) ⊎ (s ≡ 13))))))) → IsLate s
+late s e = (λ f. omega (arith, e, f), λ f. omega (arith, e, f), λ f. omega (arith, e, f), λ f. omega (arith, e, f), λ f. omega (arith, e, f), λ f. omega (arith, e, f))
 
-ruled_late : (plan : Plan) (journal : List Entry) (shard : ℕ) (a : Ask) (object : ObjectPlan) (own : List ℕ) (reply : Reply) → IsRuled plan journal (asking shard a object) own reply → IsLate (status_of reply)
-ruled_late plan journal shard a object own reply (granted g) = late 0 (inl refl)
-ruled_late plan journal shard a object own reply (denied d tells) = late 1 (inr (inl refl))
-ruled_late plan journal shard a object own reply (replayed t) = late 5 (inr (inr (inl refl)))
-ruled_late plan journal shard a object own reply (channel_full t) = late 7 (inr (inr (inr (inl refl))))
-ruled_late plan journal shard a object own reply (full at) = late 10 (inr (inr (inr (inr (inl refl)))))
-ruled_late plan journal shard a object own reply (untold g) = late 11 (inr (inr (inr (inr (inr refl)))))
-ruled_late plan journal shard a object own reply (unanswered u) = late 11 (inr (inr (inr (inr (inr refl)))))
+unruled_late : (plan : Plan) (journal : List Entry) (shard : ℕ) (a : Ask) (own : List ℕ) (reply : Reply) → IsUnruled plan journal shard a own reply → IsLate (status_of reply)
+unruled_late plan journal shard a own reply (replayed t) = late 5 (inr (inr (inl refl)))
+unruled_late plan journal shard a own reply (channel_full t) = late 7 (inr (inr (inr (inl refl))))
+unruled_late plan journal shard a own reply (full at) = late 10 (inr (inr (inr (inr (inl refl)))))
+unruled_late plan journal shard a own reply (untold g) = late 11 (inr (inr (inr (inr (inr (inl refl))))))
+unruled_late plan journal shard a own reply (unanswered u) = late 11 (inr (inr (inr (inr (inr (inl refl))))))
+
+performed_late : (plans : List Plan) (J : ℕ → List Entry) (op : Op) (certs : List Certificate) (reading : ℕ) (told : Reply) (steps : List ShardStep) (refused : Option Reply) → IsLate (status_of told) → IsPerformed plans J op certs reading steps refused → IsLate (status_of (told_or refused told))
+performed_late plans J op certs reading told steps refused is (through w lets) = is
+performed_late plans J op certs reading told steps refused is (not_held digest so w none) = late 13 (inr (inr (inr (inr (inr (inr (inr refl)))))))
+performed_late plans J op certs reading told steps refused is (no_room f) = late 12 (inr (inr (inr (inr (inr (inr (inl refl)))))))
+performed_late plans J op certs reading told steps refused is (no_place f) = late 10 (inr (inr (inr (inr (inl refl)))))
+
+guarded_late : (plans : List Plan) (plan : Plan) (J : Journals) (x : Seeking) (own : Own) (reply : Reply) → IsGuarded plans plan J x own reply → IsLate (status_of reply)
+guarded_late plans plan J x own reply (object_is_full at) = late 10 (inr (inr (inr (inr (inl refl)))))
+guarded_late plans plan J x own reply (no_ruling {own = asks} before b u) = unruled_late plan (J.shards x.shard) x.shard _ asks reply u
+guarded_late plans plan J x own reply (denied before s d tells) = late 1 (inr (inl refl))
+guarded_late plans plan J x own reply (granted {steps} {refused} before s g p) = performed_late plans J.shards x.request.op x.certs x.reading _ steps refused (late 0 (inl refl)) p
 
 -- a refusal of what was presented, or of the object's number
 abbrev IsPresented : ℕ → Type 0
-IsPresented s = (s ≢ 2) × (s ≢ 3) × (s ≢ 4) × (s ≢ 255)
+IsPresented s = (s ≢ 2) × (s ≢ 3) × (s ≢ 4)
 
 abbrev Excludes : ℕ → Type 0 → Type 0
-Excludes s Same = (s ≢ 2) × (s ≢ 3) × (s ≢ 4) × (s ≢ 255) × (Same → (s ≢ 6) × (s ≢ 8) × (s ≢ 9))
+Excludes s Same = (s ≢ 2) × (s ≢ 3) × (s ≢ 4) × (Same → (s ≢ 6) × (s ≢ 8) × (s ≢ 9))
 
 excluded : (s : ℕ) (Same : Type 0) → IsPresented s → (Same → ⊥) → Excludes s Same
-excluded s Same (a, b, c, d) never = (a, b, c, d, λ same. absurd (never same))
+excluded s Same (a, b, c) never = (a, b, c, λ same. absurd (never same))
 
 nothing_there : {X : Type 0} (x : X) → None ≡ Some x → ⊥
 nothing_there x e = absurd cc
@@ -47,10 +62,10 @@ module _ (n : Node) (payload : List ℕ) (t : Arrival n payload) where
   asked = t.request
 
   same_request : (r : Request) → Spells r payload → r ≡ asked
-  same_request r spelled = spelled_once r asked payload spelled t.arrived.presented.taken.asked.spelled
+  same_request r spelled = spelled_once r asked payload spelled t.arrived.presented.asked.spelled
 
   keyed_so : (r : Request) → Spells r payload → key_of n.channels r.channel ≡ Some t.key
-  keyed_so r spelled = subst (λ (x : Request). key_of n.channels x.channel ≡ Some t.key) (sym (same_request r spelled)) t.arrived.presented.taken.asked.keyed
+  keyed_so r spelled = subst (λ (x : Request). key_of n.channels x.channel ≡ Some t.key) (sym (same_request r spelled)) t.arrived.presented.asked.keyed
 
   opened_so : (r : Request) (calls : List LinkCall) → Spells r payload → calls ≡ t.calls → AreOpened n.relay_key r.certs calls t.certs
   opened_so r calls spelled same =
@@ -58,22 +73,20 @@ module _ (n : Node) (payload : List ℕ) (t : Arrival n payload) where
       (subst (λ (x : Request). AreOpened n.relay_key x.certs t.calls t.certs) (sym (same_request r spelled)) t.arrived.presented.opened)
 
 pub arrival_excludes : (n : Node) → ArrivalExcludes n
-arrival_excludes n J payload used sent t (malformed none reads) = absurd (none t.request t.arrived.presented.taken.asked.spelled)
+arrival_excludes n J payload used sent t (malformed none reads) = absurd (none t.request t.arrived.presented.asked.spelled)
 arrival_excludes n J payload used sent t (unknown_channel r spelled none) = absurd (nothing_there t.key (sym none ∙ keyed_so n payload t r spelled))
 arrival_excludes n J payload used sent t (bad_seal r key spelled keyed other) =
-    absurd (other (subst (λ (k : List ℕ). IsSealed k payload) (same_Some t.key key (sym (keyed_so n payload t r spelled) ∙ keyed)) t.arrived.presented.taken.asked.seal))
-arrival_excludes n J payload used sent t (unbuilt {r} {key} asked is) =
-    absurd (t.arrived.presented.taken.built (subst (λ (x : Request). IsUnbuilt x) (same_request n payload t r asked.spelled) is))
-arrival_excludes n J payload used sent t (cert_refused {r} {key} {calls = by} {index} {code} built first) =
-    excluded 6 (used.calls ≡ t.calls) (λ e. cc, λ e. cc, λ e. cc, λ e. cc)
-    (λ same. opened_or_refused n.relay_key r.certs used.calls t.certs index code (opened_so n payload t r used.calls built.asked.spelled same) first)
-arrival_excludes n J payload used sent t (relay_failed {r} {key} {calls = by} {index} built first) =
-    excluded 8 (used.calls ≡ t.calls) (λ e. cc, λ e. cc, λ e. cc, λ e. cc)
-    (λ same. opened_or_failed n.relay_key r.certs used.calls t.certs index (opened_so n payload t r used.calls built.asked.spelled same) first)
+    absurd (other (subst (λ (k : List ℕ). IsSealed k payload) (same_Some t.key key (sym (keyed_so n payload t r spelled) ∙ keyed)) t.arrived.presented.asked.seal))
+arrival_excludes n J payload used sent t (cert_refused {r} {key} {calls = by} {index} {code} asked first) =
+    excluded 6 (used.calls ≡ t.calls) (λ e. cc, λ e. cc, λ e. cc)
+    (λ same. opened_or_refused n.relay_key r.certs used.calls t.certs index code (opened_so n payload t r used.calls asked.spelled same) first)
+arrival_excludes n J payload used sent t (relay_failed {r} {key} {calls = by} {index} asked first) =
+    excluded 8 (used.calls ≡ t.calls) (λ e. cc, λ e. cc, λ e. cc)
+    (λ same. opened_or_failed n.relay_key r.certs used.calls t.certs index (opened_so n payload t r used.calls asked.spelled same) first)
 arrival_excludes n J payload used sent t (unknown_object {r} {key} {calls = by} {certs} opened none) =
-    absurd (nothing_there t.object (sym none ∙ subst (λ (x : Request). object_of n.objects x.object ≡ Some t.object) (sym (same_request n payload t r opened.taken.asked.spelled)) t.arrived.there))
+    absurd (nothing_there t.object (sym none ∙ subst (λ (x : Request). fixed_at n.objects x.object ≡ Some t.object) (sym (same_request n payload t r opened.asked.spelled)) t.arrived.there))
 arrival_excludes n J payload used sent t (ruled {own} {reply} came reading plan planned is) =
-    let (a, b, c, d, e, f, g) = ruled_late plan _ _ _ came.object own reply is in
-    (a, b, c, d, λ same. (e, f, g))
-arrival_excludes n J payload used sent t unread = (λ e. cc, λ e. cc, λ e. cc, λ e. cc, λ same. (λ e. cc, λ e. cc, λ e. cc))
-arrival_excludes n J payload used sent t (unopened built interrupted) = (λ e. cc, λ e. cc, λ e. cc, λ e. cc, λ same. (λ e. cc, λ e. cc, λ e. cc))
+    let (a, b, c, e, f, g) = guarded_late n.plans plan J _ own reply is in
+    (a, b, c, λ same. (e, f, g))
+arrival_excludes n J payload used sent t unread = (λ e. cc, λ e. cc, λ e. cc, λ same. (λ e. cc, λ e. cc, λ e. cc))
+arrival_excludes n J payload used sent t (unopened asked interrupted) = (λ e. cc, λ e. cc, λ e. cc, λ same. (λ e. cc, λ e. cc, λ e. cc))

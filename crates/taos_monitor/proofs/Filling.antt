@@ -1,92 +1,174 @@
 -- A journal that a turn found full has no place of a later one.
-use Rattle.std.proofs.Common.{◌≡◌, ◌≢◌, ℕ, ◌<◌, ◌≤◌, Bool, List, [], ◌∷◌, ◌++◌, length, map, All, AllPairs, refl, sym, ap, subst, arith, inl, inr, length-append}
-use Rattle.std.proofs.lemmas.List.Elements.{All-nil, All-cons, All-head, All-tail}
+use Rattle.std.proofs.Common.{◌≡◌, ◌≢◌, ℕ, ◌<◌, ◌≤◌, Bool, true, false, List, [], ◌∷◌, ◌++◌, length, map, All, AllPairs, Option, Some, sym, ap, subst, ◌∙◌, arith, inl, inr, append_assoc, length-append}
+use Rattle.std.proofs.lemmas.List.Elements.{All-nil, All-cons, All-head, All-tail, All-append, All-contains, filter_map-append}
 use Rattle.std.proofs.lemmas.List.Quantifiers.{all_pairs_push}
+use Rattle.taos_wire.specs.Reply as replies
 use Rattle.taos_wire.specs.Reply.{Reply, Granted, Sent}
+use Rattle.object_core.specs.Operation.{Op}
+use Rattle.object_core.specs.Shelving.{ObjectFixed, fixed_at}
+use Rattle.stmt_codec.specs.Certificates.{Certificate}
 use Rattle.proof_cache.specs.Cached.{Cached}
 use Rattle.agent_core.specs.declared.asked.Settled.{Settled}
-use Rattle.agent_core.specs.State.{Plan, Ask}
+use Rattle.agent_core.specs.declared.told.Told.{Told}
+use Rattle.agent_core.specs.State.{Plan, Ask, Event}
 use Rattle.agent_core.specs.Journals.{Entry, Stands}
 use Rattle.agent_core.specs.Asked.{IsGrant, by_kept, was_kept, was_dropped, had_no_room}
-use Rattle.object_core.specs.Objects.{ObjectPlan}
-use Rattle.taos_monitor.specs.Cells.{Node, HasPlan, Journals, OfShard, Place, in_shard, entries_in, AreLegal}
-use Rattle.taos_monitor.specs.Course.{asking, Used, shard_full, IsRuled, full, replayed, channel_full, denied, granted, untold, unanswered, Course, malformed, unknown_channel, bad_seal, unbuilt, cert_refused, relay_failed, unknown_object, ruled, unread, unopened}
+use Rattle.taos_monitor.specs.Asking.{IsUnruled, full, replayed, channel_full, untold, unanswered, shard_full}
+use Rattle.taos_monitor.specs.AtObject.{Seeking, Own, own_at, places_at, told_or, object_full, gives_for, IsGuarded, object_is_full, no_ruling, denied, granted}
+use Rattle.taos_monitor.specs.Cells.{Node, HasPlan, Journals, Cell, OfShard, OfObject, Place, in_shard, in_object, number_in, numbers_in, entries_in, AreLegal}
+use Rattle.taos_monitor.specs.Course.{Used, Course, malformed, unknown_channel, bad_seal, cert_refused, relay_failed, unknown_object, ruled, unread, unopened}
+use Rattle.taos_monitor.specs.Effects.{ShardStep, its_place, step_at, IsStep, IsPerformed, through, not_held, no_room, no_place}
 use Rattle.taos_monitor.specs.Run.{Turn, IsCourse, IsMade, FoundFull, IsFilledBefore}
 use Rattle.taos_monitor.specs.Laws.{NoEntryAfterFull}
-use Rattle.taos_monitor.proofs.Staying.{short}
+use Rattle.taos_monitor.proofs.Going.{numbers_here}
+use Rattle.taos_monitor.proofs.Short.{short}
 
 -- ---- what status 10, and a grant without a place for its proof, say of the journal
 
 same_number : (h s l m : ℕ) → shard_full h l ≡ shard_full s m → h ≡ s
 same_number h s l m e = cc
 
-abbrev IsFull : Node → Journals → ℕ → Type 0
-IsFull n J s = (plan : Plan) × HasPlan n s plan × (length (J.shards s) ≡ plan.limit)
+same_object : (h s l m : ℕ) → object_full h l ≡ object_full s m → h ≡ s
+same_object h s l m e = cc
 
-module _ (n : Node) (J : Journals) (h : ℕ) (plan : Plan) (planned : HasPlan n h plan) (a : Ask) (object : ObjectPlan) where
-  ruled_full : (own : List ℕ) (reply : Reply) → IsRuled plan (J.shards h) (asking h a object) own reply → (s limit : ℕ) → reply ≡ shard_full s limit → IsFull n J s
-  ruled_full own reply (full at) s limit e = subst (IsFull n J) (same_number h s plan.limit limit e) (plan, planned, at)
-  ruled_full own reply (replayed t) s limit e = absurd cc
-  ruled_full own reply (channel_full t) s limit e = absurd cc
-  ruled_full own reply (denied d tells) s limit e = absurd cc
-  ruled_full own reply (granted g) s limit e = absurd cc
-  ruled_full own reply (untold g) s limit e = absurd cc
-  ruled_full own reply (unanswered u) s limit e = absurd cc
+which : (a b h s l m : ℕ) → replies.JournalFull a h l ≡ replies.JournalFull b s m → a ≡ b
+which a b h s l m e = cc
 
-  one_own : (p k : ℕ) (q : Place) → in_shard h p ∷ in_shard h k ∷ [] ≡ q ∷ [] → ⊥
-  one_own p k q e = absurd cc
+two_sorts : (h s l m : ℕ) → object_full h l ≡ shard_full s m → ⊥
+two_sorts h s l m e = let same = which 0 1 h s l m e in absurd (omega (arith, same))
+
+-- the journal of the cell stands at its limit
+abbrev IsFull : Node → Journals → Cell → Type 0
+IsFull n J (OfShard s) = (plan : Plan) × HasPlan n s plan × (length (J.shards s) ≡ plan.limit)
+IsFull n J (OfObject o) = (f : ObjectFixed) × (fixed_at n.objects o ≡ Some f) × (length (J.objects o) ≡ f.limit)
+
+module _ (n : Node) (J : Journals) (h : ℕ) (plan : Plan) (planned : HasPlan n h plan) (a : Ask) where
+  unruled_full : (own : List ℕ) (reply : Reply) → IsUnruled plan (J.shards h) h a own reply → (s limit : ℕ) → reply ≡ shard_full s limit → IsFull n J (OfShard s)
+  unruled_full own reply (full at) s limit e = subst (λ (k : ℕ). IsFull n J (OfShard k)) (same_number h s plan.limit limit e) (plan, planned, at)
+  unruled_full own reply (replayed t) s limit e = absurd cc
+  unruled_full own reply (channel_full t) s limit e = absurd cc
+  unruled_full own reply (untold g) s limit e = absurd cc
+  unruled_full own reply (unanswered u) s limit e = absurd cc
+
+  no_object_full : (own : List ℕ) (reply : Reply) → IsUnruled plan (J.shards h) h a own reply → (o limit : ℕ) → reply ≡ object_full o limit → ⊥
+  no_object_full own reply (full at) o limit e = two_sorts o h limit plan.limit (sym e)
+  no_object_full own reply (replayed t) o limit e = cc
+  no_object_full own reply (channel_full t) o limit e = cc
+  no_object_full own reply (untold g) o limit e = cc
+  no_object_full own reply (unanswered u) o limit e = cc
+
+  not_made : (own : List ℕ) (reply : Reply) → IsUnruled plan (J.shards h) h a own reply → (s : ℕ) → IsMade s reply → ⊥
+  not_made own reply (full at) s made = made
+  not_made own reply (replayed t) s made = made
+  not_made own reply (channel_full t) s made = made
+  not_made own reply (untold g) s made = made
+  not_made own reply (unanswered u) s made = made
+
+  two_first : (p k q : ℕ) (rest : List ℕ) → p ∷ k ∷ rest ≡ q ∷ [] → ⊥
+  two_first p k q rest e = absurd cc
 
   -- a proof that was made and has no place found no room
   unkept_full : (place entry : ℕ) (c : Cached) (kept : Bool) (settled : Settled) (own : List ℕ) → IsGrant plan (J.shards h) a place entry c kept settled own →
-      (s : ℕ) → IsMade s (Granted kept entry h place c.proof c.cites object.content) → (q : Place) → map (in_shard h) own ≡ q ∷ [] → IsFull n J s
-  unkept_full place entry c kept settled own (by_kept hit) s made q one = absurd made
-  unkept_full place entry c kept settled own (was_kept {keep} g t) s made q one = absurd (one_own place keep q one)
-  unkept_full place entry c kept settled own (was_dropped {keep} g t) s made q one = absurd (one_own place keep q one)
-  unkept_full place entry c kept settled own (had_no_room g at) s made q one = subst (IsFull n J) made (plan, planned, at)
+      (s : ℕ) (content : List ℕ) → IsMade s (Granted kept entry h place c.proof c.cites content) → (q : ℕ) (rest : List ℕ) → own ++ rest ≡ q ∷ [] → IsFull n J (OfShard s)
+  unkept_full place entry c kept settled own (by_kept hit) s content made q rest one = absurd made
+  unkept_full place entry c kept settled own (was_kept {keep} g t) s content made q rest one = absurd (two_first place keep q rest one)
+  unkept_full place entry c kept settled own (was_dropped {keep} g t) s content made q rest one = absurd (two_first place keep q rest one)
+  unkept_full place entry c kept settled own (had_no_room g at) s content made q rest one = subst (λ (k : ℕ). IsFull n J (OfShard k)) made (plan, planned, at)
 
-  ruled_unkept : (own : List ℕ) (reply : Reply) → IsRuled plan (J.shards h) (asking h a object) own reply → (s : ℕ) → IsMade s reply → (q : Place) → map (in_shard h) own ≡ q ∷ [] → IsFull n J s
-  ruled_unkept own reply (full at) s made q one = absurd made
-  ruled_unkept own reply (replayed t) s made q one = absurd made
-  ruled_unkept own reply (channel_full t) s made q one = absurd made
-  ruled_unkept own reply (denied d tells) s made q one = absurd made
-  ruled_unkept own reply (granted {place} {entry} {c} {kept} {settled} {own = places} g) s made q one = unkept_full place entry c kept settled places g s made q one
-  ruled_unkept own reply (untold g) s made q one = absurd made
-  ruled_unkept own reply (unanswered u) s made q one = absurd made
+module _ (n : Node) (J : Journals) (op : Op) (certs : List Certificate) (reading : ℕ) (told : Reply) where
+  performed_full : (steps : List ShardStep) (refused : Option Reply) → IsPerformed n.plans J.shards op certs reading steps refused → (s limit : ℕ) → (told ≡ shard_full s limit → ⊥) → told_or refused told ≡ shard_full s limit → IsFull n J (OfShard s)
+  performed_full steps refused (through w lets) s limit not e = absurd (not e)
+  performed_full steps refused (not_held digest is w none) s limit not e = absurd cc
+  performed_full steps refused (no_room f) s limit not e = absurd cc
+  performed_full steps refused (no_place {shard} {limit = l} f) s limit not e = subst (λ (k : ℕ). IsFull n J (OfShard k)) (same_number shard s l limit e) (f.plan, f.planned, f.full)
 
-full_at : (n : Node) (J : Journals) (payload : List ℕ) (used : Used) (sent : Sent) → Course n J payload used sent →
-    (s limit : ℕ) → sent.reply ≡ shard_full s limit → IsFull n J s
-full_at n J payload used sent (malformed none reads) s limit e = absurd cc
-full_at n J payload used sent (unknown_channel r spelled none) s limit e = absurd cc
-full_at n J payload used sent (bad_seal r key spelled keyed other) s limit e = absurd cc
-full_at n J payload used sent (unbuilt asked is) s limit e = absurd cc
-full_at n J payload used sent (cert_refused built first) s limit e = absurd cc
-full_at n J payload used sent (relay_failed built first) s limit e = absurd cc
-full_at n J payload used sent (unknown_object opened none) s limit e = absurd cc
-full_at n J payload used sent (ruled {own} {reply} t reading plan planned r) s limit e = ruled_full n J _ plan planned _ t.object own reply r s limit e
-full_at n J payload used sent unread s limit e = absurd cc
-full_at n J payload used sent (unopened built interrupted) s limit e = absurd cc
+  performed_object : (steps : List ShardStep) (refused : Option Reply) → IsPerformed n.plans J.shards op certs reading steps refused → (o limit : ℕ) → (told ≡ object_full o limit → ⊥) → told_or refused told ≡ object_full o limit → ⊥
+  performed_object steps refused (through w lets) o limit not e = not e
+  performed_object steps refused (not_held digest is w none) o limit not e = cc
+  performed_object steps refused (no_room f) o limit not e = cc
+  performed_object steps refused (no_place {shard} {limit = l} f) o limit not e = two_sorts o shard limit l (sym e)
 
-unkept_at : (n : Node) (J : Journals) (payload : List ℕ) (used : Used) (sent : Sent) → Course n J payload used sent →
-    (s : ℕ) → IsMade s sent.reply → (q : Place) → used.places ≡ q ∷ [] → IsFull n J s
-unkept_at n J payload used sent (malformed none reads) s made q one = absurd made
-unkept_at n J payload used sent (unknown_channel r spelled none) s made q one = absurd made
-unkept_at n J payload used sent (bad_seal r key spelled keyed other) s made q one = absurd made
-unkept_at n J payload used sent (unbuilt asked is) s made q one = absurd made
-unkept_at n J payload used sent (cert_refused built first) s made q one = absurd made
-unkept_at n J payload used sent (relay_failed built first) s made q one = absurd made
-unkept_at n J payload used sent (unknown_object opened none) s made q one = absurd made
-unkept_at n J payload used sent (ruled {own} {reply} t reading plan planned r) s made q one = ruled_unkept n J _ plan planned _ t.object own reply r s made q one
-unkept_at n J payload used sent unread s made q one = absurd made
-unkept_at n J payload used sent (unopened built interrupted) s made q one = absurd made
+  performed_made : (steps : List ShardStep) (refused : Option Reply) → IsPerformed n.plans J.shards op certs reading steps refused → (s : ℕ) → IsMade s (told_or refused told) → IsMade s told
+  performed_made steps refused (through w lets) s made = made
+  performed_made steps refused (not_held digest is w none) s made = absurd made
+  performed_made steps refused (no_room f) s made = absurd made
+  performed_made steps refused (no_place f) s made = absurd made
 
-found_full : (n : Node) (J : Journals) (u : Turn) → IsCourse n J u → (s : ℕ) → FoundFull (OfShard s) u → IsFull n J s
-found_full n J u done s (inl (limit, told)) = full_at n J u.frame u.used u.sent done s limit told
-found_full n J u done s (inr (made, (place, one))) = unkept_at n J u.frame u.used u.sent done s made (in_shard s place) one
+-- the numbers of the ask come first among those of its shard
+numbers_first : (x : Seeking) (own : Own) → (rest : List ℕ) × (numbers_in (OfShard x.shard) (places_at x own) ≡ own.asks ++ rest)
+numbers_first x own =
+    let asks = map (in_shard x.shard) own.asks in
+    let ruling = map (in_object x.request.object) own.ruling in
+    let steps = map its_place own.steps in (
+      numbers_in (OfShard x.shard) ruling ++ numbers_in (OfShard x.shard) steps,
+      filter_map-append (number_in (OfShard x.shard)) (asks ++ ruling) steps
+          ∙ ap (λ (l : List ℕ). l ++ numbers_in (OfShard x.shard) steps) (filter_map-append (number_in (OfShard x.shard)) asks ruling ∙ ap (λ (l : List ℕ). l ++ numbers_in (OfShard x.shard) ruling) (numbers_here x.shard own.asks))
+          ∙ append_assoc own.asks (numbers_in (OfShard x.shard) ruling) (numbers_in (OfShard x.shard) steps),
+    )
+
+module _ (n : Node) (J : Journals) (plan : Plan) (x : Seeking) (planned : HasPlan n x.shard plan) (there : fixed_at n.objects x.request.object ≡ Some x.fixed) where
+  guarded_full : (own : Own) (reply : Reply) → IsGuarded n.plans plan J x own reply → (s limit : ℕ) → reply ≡ shard_full s limit → IsFull n J (OfShard s)
+  guarded_full own reply (object_is_full at) s limit e = absurd (two_sorts x.request.object s x.fixed.limit limit e)
+  guarded_full own reply (no_ruling {own = asks} before b u) s limit e = unruled_full n J x.shard plan planned _ asks reply u s limit e
+  guarded_full own reply (denied before st d tells) s limit e = absurd cc
+  guarded_full own reply (granted {place} {entry} {c} {kept} {steps = ss} {refused} before st g p) s limit e =
+      performed_full n J x.request.op x.certs x.reading (Granted kept entry x.shard place c.proof c.cites (gives_for x before)) ss refused p s limit (λ same. cc) e
+
+  guarded_object : (own : Own) (reply : Reply) → IsGuarded n.plans plan J x own reply → (o limit : ℕ) → reply ≡ object_full o limit → IsFull n J (OfObject o)
+  guarded_object own reply (object_is_full at) o limit e = subst (λ (k : ℕ). IsFull n J (OfObject k)) (same_object x.request.object o x.fixed.limit limit e) (x.fixed, there, at)
+  guarded_object own reply (no_ruling {own = asks} before b u) o limit e = absurd (no_object_full n J x.shard plan planned _ asks reply u o limit e)
+  guarded_object own reply (denied before st d tells) o limit e = absurd cc
+  guarded_object own reply (granted {place} {entry} {c} {kept} {steps = ss} {refused} before st g p) o limit e =
+      absurd (performed_object n J x.request.op x.certs x.reading (Granted kept entry x.shard place c.proof c.cites (gives_for x before)) ss refused p o limit (λ same. cc) e)
+
+  guarded_unkept : (own : Own) (reply : Reply) → IsGuarded n.plans plan J x own reply → (s : ℕ) → IsMade s reply → (q : ℕ) → numbers_in (OfShard s) (places_at x own) ≡ q ∷ [] → IsFull n J (OfShard s)
+  guarded_unkept own reply (object_is_full at) s made q one = absurd made
+  guarded_unkept own reply (no_ruling {own = asks} before b u) s made q one = absurd (not_made n J x.shard plan planned _ asks reply u s made)
+  guarded_unkept own reply (denied before st d tells) s made q one = absurd made
+  guarded_unkept own reply (granted {place} {at} {entry} {c} {kept} {settled} {asks} {steps} {refused} before st g p) s made q one =
+      let was = performed_made n J x.request.op x.certs x.reading (Granted kept entry x.shard place c.proof c.cites (gives_for x before)) steps refused p s made in
+      let here = made_here kept entry x.shard place c (gives_for x before) s was in
+      let (rest, first) = numbers_first x (own_at asks (at ∷ []) steps) in
+      unkept_full n J x.shard plan planned _ place entry c kept settled asks g s (gives_for x before) was q rest
+      (sym first ∙ subst (λ (k : ℕ). numbers_in (OfShard k) (places_at x (own_at asks (at ∷ []) steps)) ≡ q ∷ []) (sym here) one)
+    where
+      made_here : (kept : Bool) (entry shard place : ℕ) (c : Cached) (content : List ℕ) (s : ℕ) → IsMade s (Granted kept entry shard place c.proof c.cites content) → shard ≡ s
+      made_here true entry shard place c content s made = absurd made
+      made_here false entry shard place c content s made = made
+
+found_full : (n : Node) (J : Journals) (payload : List ℕ) (used : Used) (sent : Sent) (cell : Cell) → Course n J payload used sent → FoundFull cell (record { frame = payload; used = used; sent = sent }) → IsFull n J cell
+found_full n J payload used sent (OfShard s) (malformed none reads) (inl (limit, e)) = absurd cc
+found_full n J payload used sent (OfShard s) (malformed none reads) (inr (made, one)) = absurd made
+found_full n J payload used sent (OfObject o) (malformed none reads) (limit, e) = absurd cc
+found_full n J payload used sent (OfShard s) (unknown_channel r spelled none) (inl (limit, e)) = absurd cc
+found_full n J payload used sent (OfShard s) (unknown_channel r spelled none) (inr (made, one)) = absurd made
+found_full n J payload used sent (OfObject o) (unknown_channel r spelled none) (limit, e) = absurd cc
+found_full n J payload used sent (OfShard s) (bad_seal r key spelled keyed other) (inl (limit, e)) = absurd cc
+found_full n J payload used sent (OfShard s) (bad_seal r key spelled keyed other) (inr (made, one)) = absurd made
+found_full n J payload used sent (OfObject o) (bad_seal r key spelled keyed other) (limit, e) = absurd cc
+found_full n J payload used sent (OfShard s) (cert_refused asked first) (inl (limit, e)) = absurd cc
+found_full n J payload used sent (OfShard s) (cert_refused asked first) (inr (made, one)) = absurd made
+found_full n J payload used sent (OfObject o) (cert_refused asked first) (limit, e) = absurd cc
+found_full n J payload used sent (OfShard s) (relay_failed asked first) (inl (limit, e)) = absurd cc
+found_full n J payload used sent (OfShard s) (relay_failed asked first) (inr (made, one)) = absurd made
+found_full n J payload used sent (OfObject o) (relay_failed asked first) (limit, e) = absurd cc
+found_full n J payload used sent (OfShard s) (unknown_object opened none) (inl (limit, e)) = absurd cc
+found_full n J payload used sent (OfShard s) (unknown_object opened none) (inr (made, one)) = absurd made
+found_full n J payload used sent (OfObject o) (unknown_object opened none) (limit, e) = absurd cc
+found_full n J payload used sent (OfShard s) (ruled {own} {reply} t reading plan planned r) (inl (limit, e)) = guarded_full n J plan _ planned t.arrived.there own reply r s limit e
+found_full n J payload used sent (OfShard s) (ruled {own} {reply} t reading plan planned r) (inr (made, (q, one))) = guarded_unkept n J plan _ planned t.arrived.there own reply r s made q one
+found_full n J payload used sent (OfObject o) (ruled {own} {reply} t reading plan planned r) (limit, e) = guarded_object n J plan _ planned t.arrived.there own reply r o limit e
+found_full n J payload used sent (OfShard s) unread (inl (limit, e)) = absurd cc
+found_full n J payload used sent (OfShard s) unread (inr (made, one)) = absurd made
+found_full n J payload used sent (OfObject o) unread (limit, e) = absurd cc
+found_full n J payload used sent (OfShard s) (unopened asked interrupted) (inl (limit, e)) = absurd cc
+found_full n J payload used sent (OfShard s) (unopened asked interrupted) (inr (made, one)) = absurd made
+found_full n J payload used sent (OfObject o) (unopened asked interrupted) (limit, e) = absurd cc
 
 -- ---- the places of a course are there
 
-stands_within : (journal before : List Entry) (place : ℕ) (e : Entry) → Stands journal place before e → place < length journal
-stands_within journal before place e s = omega (arith, ap (λ (l : List Entry). length l) s.is, length-append before (e ∷ s.rest), s.placed)
+stands_within : {E : Type 0} {journal before : List E} {place : ℕ} {e : E} → Stands journal place before e → place < length journal
+stands_within {before = before} {e = e} s = omega (arith, ap (λ l. length l) s.is, length-append before (e ∷ s.rest), s.placed)
 
 abbrev AreIn : List Entry → List ℕ → Type 0
 AreIn journal own = All (λ (p : ℕ). p < length journal) own
@@ -98,49 +180,81 @@ two_in : (journal : List Entry) (place keep : ℕ) → place < length journal �
 two_in journal place keep within also = All-cons (λ (p : ℕ). p < length journal) place (keep ∷ []) within (one_in journal keep also)
 
 grant_there : (plan : Plan) (journal : List Entry) (a : Ask) (place entry : ℕ) (c : Cached) (kept : Bool) (settled : Settled) (own : List ℕ) → IsGrant plan journal a place entry c kept settled own → AreIn journal own
-grant_there plan journal a place entry c kept settled own (by_kept h) = one_in journal place (stands_within journal h.before place _ h.stands)
-grant_there plan journal a place entry c kept settled own (was_kept {keep} g t) = two_in journal place keep (stands_within journal g.before place _ g.stands) (stands_within journal t.0 keep _ t.1)
-grant_there plan journal a place entry c kept settled own (was_dropped {keep} g t) = two_in journal place keep (stands_within journal g.before place _ g.stands) (stands_within journal t.0 keep _ t.1)
-grant_there plan journal a place entry c kept settled own (had_no_room g at) = one_in journal place (stands_within journal g.before place _ g.stands)
+grant_there plan journal a place entry c kept settled own (by_kept h) = one_in journal place (stands_within h.stands)
+grant_there plan journal a place entry c kept settled own (was_kept {keep} g t) = two_in journal place keep (stands_within g.stands) (stands_within t.1)
+grant_there plan journal a place entry c kept settled own (was_dropped {keep} g t) = two_in journal place keep (stands_within g.stands) (stands_within t.1)
+grant_there plan journal a place entry c kept settled own (had_no_room g at) = one_in journal place (stands_within g.stands)
 
-ruled_there : (plan : Plan) (journal : List Entry) (shard : ℕ) (a : Ask) (object : ObjectPlan) (own : List ℕ) (reply : Reply) → IsRuled plan journal (asking shard a object) own reply → AreIn journal own
-ruled_there plan journal shard a object own reply (full at) = All-nil (λ (p : ℕ). p < length journal)
-ruled_there plan journal shard a object own reply (replayed {place} {last} t) = one_in journal place (stands_within journal t.0 place _ t.1)
-ruled_there plan journal shard a object own reply (channel_full {place} {held} t) = one_in journal place (stands_within journal t.0 place _ t.1)
-ruled_there plan journal shard a object own reply (denied {place} {denial} d tells) = one_in journal place (stands_within journal d.before place _ d.stands)
-ruled_there plan journal shard a object own reply (granted {place} {entry} {c} {kept} {settled} {own = places} g) = grant_there plan journal a place entry c kept settled places g
-ruled_there plan journal shard a object own reply (untold {place} {entry} {c} {kept} {settled} {own = places} g) = grant_there plan journal a place entry c kept settled places g
-ruled_there plan journal shard a object own reply (unanswered {own = places} (inl none)) = subst (AreIn journal) (sym none) (All-nil (λ (p : ℕ). p < length journal))
-ruled_there plan journal shard a object own reply (unanswered {own = places} (inr (place, before, stands, verdict, is))) = subst (AreIn journal) (sym is) (one_in journal place (stands_within journal before place _ stands))
+unruled_there : (plan : Plan) (journal : List Entry) (shard : ℕ) (a : Ask) (own : List ℕ) (reply : Reply) → IsUnruled plan journal shard a own reply → AreIn journal own
+unruled_there plan journal shard a own reply (full at) = All-nil (λ (p : ℕ). p < length journal)
+unruled_there plan journal shard a own reply (replayed {place} {last} t) = one_in journal place (stands_within t.1)
+unruled_there plan journal shard a own reply (channel_full {place} {held} t) = one_in journal place (stands_within t.1)
+unruled_there plan journal shard a own reply (untold {place} {entry} {c} {kept} {settled} {own = places} g) = grant_there plan journal a place entry c kept settled places g
+unruled_there plan journal shard a own reply (unanswered {own = places} (inl none)) = subst (AreIn journal) (sym none) (All-nil (λ (p : ℕ). p < length journal))
+unruled_there plan journal shard a own reply (unanswered {own = places} (inr (place, before, stands, verdict, is))) = subst (AreIn journal) (sym is) (one_in journal place (stands_within stands))
+
+abbrev IsThere : Journals → Place → Type 0
+IsThere J p = p.number < entries_in J p.cell
 
 abbrev AreThere : Journals → List Place → Type 0
-AreThere J places = All (λ (p : Place). p.number < entries_in J p.cell) places
+AreThere J places = All (IsThere J) places
 
 in_journal : (J : Journals) (h : ℕ) (own : List ℕ) → AreIn (J.shards h) own → AreThere J (map (in_shard h) own)
-in_journal J h [] all = All-nil (λ (p : Place). p.number < entries_in J p.cell)
-in_journal J h (p ∷ own) all = All-cons (λ (q : Place). q.number < entries_in J q.cell) (in_shard h p) (map (in_shard h) own)
+in_journal J h [] all = All-nil (IsThere J)
+in_journal J h (p ∷ own) all = All-cons (IsThere J) (in_shard h p) (map (in_shard h) own)
     (All-head (λ (q : ℕ). q < length (J.shards h)) p own all) (in_journal J h own (All-tail (λ (q : ℕ). q < length (J.shards h)) p own all))
 
+steps_there : (J : Journals) (effect : Option Event) (steps : List ShardStep) → All (IsStep J.shards effect) steps → AreThere J (map its_place steps)
+steps_there J effect [] all = All-nil (IsThere J)
+steps_there J effect (s ∷ steps) all = All-cons (IsThere J) (its_place s) (map its_place steps) (stands_within (All-head (IsStep J.shards effect) s steps all).stands) (steps_there J effect steps (All-tail (IsStep J.shards effect) s steps all))
+
+performed_there : (plans : List Plan) (J : Journals) (op : Op) (certs : List Certificate) (reading : ℕ) (steps : List ShardStep) (refused : Option Reply) → IsPerformed plans J.shards op certs reading steps refused → AreThere J (map its_place steps)
+performed_there plans J op certs reading steps refused (through w lets) = steps_there J _ steps w.are_done.stand
+performed_there plans J op certs reading steps refused (not_held digest is w none) = steps_there J _ steps w.are_done.stand
+performed_there plans J op certs reading steps refused (no_room {shard = s} {held} f) =
+    steps_there J _ steps (subst (All (IsStep J.shards _)) (sym f.steps_are)
+    (All-append (IsStep J.shards _) f.done (step_at s f.place (Told.CommonsFull held) ∷ []) f.are_done.stand (All-cons (IsStep J.shards _) (step_at s f.place (Told.CommonsFull held)) [] f.refused (All-nil (IsStep J.shards _)))))
+performed_there plans J op certs reading steps refused (no_place f) = steps_there J _ steps f.are_done.stand
+
+places_there : (J : Journals) (x : Seeking) (asks ruling : List ℕ) (steps : List ShardStep) → AreIn (J.shards x.shard) asks → AreThere J (map (in_object x.request.object) ruling) → AreThere J (map its_place steps) → AreThere J (places_at x (own_at asks ruling steps))
+places_there J x asks ruling steps a r s =
+    All-append (IsThere J) (map (in_shard x.shard) asks ++ map (in_object x.request.object) ruling) (map its_place steps)
+    (All-append (IsThere J) (map (in_shard x.shard) asks) (map (in_object x.request.object) ruling) (in_journal J x.shard asks a) r) s
+
+one_there : (J : Journals) (o at : ℕ) → at < length (J.objects o) → AreThere J (map (in_object o) (at ∷ []))
+one_there J o at within = All-cons (IsThere J) (in_object o at) [] within (All-nil (IsThere J))
+
+guarded_there : (plans : List Plan) (plan : Plan) (J : Journals) (x : Seeking) (own : Own) (reply : Reply) → IsGuarded plans plan J x own reply → AreThere J (places_at x own)
+guarded_there plans plan J x own reply (object_is_full stopped) = All-nil (IsThere J)
+guarded_there plans plan J x own reply (no_ruling {own = asks} before b u) = places_there J x asks [] [] (unruled_there plan (J.shards x.shard) x.shard _ asks reply u) (All-nil (IsThere J)) (All-nil (IsThere J))
+guarded_there plans plan J x own reply (denied {place} {at} before s d tells) = places_there J x (place ∷ []) (at ∷ []) [] (one_in (J.shards x.shard) place (stands_within d.stands)) (one_there J x.request.object at (stands_within s)) (All-nil (IsThere J))
+guarded_there plans plan J x own reply (granted {place} {at} {entry} {c} {kept} {settled} {asks} {steps} {refused} before s g p) =
+    places_there J x asks (at ∷ []) steps (grant_there plan (J.shards x.shard) _ place entry c kept settled asks g) (one_there J x.request.object at (stands_within s)) (performed_there plans J x.request.op x.certs x.reading steps refused p)
+
 course_there : (n : Node) (J : Journals) (payload : List ℕ) (used : Used) (sent : Sent) → Course n J payload used sent → AreThere J used.places
-course_there n J payload used sent (malformed none reads) = All-nil (λ (p : Place). p.number < entries_in J p.cell)
-course_there n J payload used sent (unknown_channel r spelled none) = All-nil (λ (p : Place). p.number < entries_in J p.cell)
-course_there n J payload used sent (bad_seal r key spelled keyed other) = All-nil (λ (p : Place). p.number < entries_in J p.cell)
-course_there n J payload used sent (unbuilt asked is) = All-nil (λ (p : Place). p.number < entries_in J p.cell)
-course_there n J payload used sent (cert_refused built first) = All-nil (λ (p : Place). p.number < entries_in J p.cell)
-course_there n J payload used sent (relay_failed built first) = All-nil (λ (p : Place). p.number < entries_in J p.cell)
-course_there n J payload used sent (unknown_object opened none) = All-nil (λ (p : Place). p.number < entries_in J p.cell)
-course_there n J payload used sent (ruled {own} {reply} t reading plan planned r) = in_journal J _ own (ruled_there plan _ _ _ t.object own reply r)
-course_there n J payload used sent unread = All-nil (λ (p : Place). p.number < entries_in J p.cell)
-course_there n J payload used sent (unopened built interrupted) = All-nil (λ (p : Place). p.number < entries_in J p.cell)
+course_there n J payload used sent (malformed none reads) = All-nil (IsThere J)
+course_there n J payload used sent (unknown_channel r spelled none) = All-nil (IsThere J)
+course_there n J payload used sent (bad_seal r key spelled keyed other) = All-nil (IsThere J)
+course_there n J payload used sent (cert_refused asked first) = All-nil (IsThere J)
+course_there n J payload used sent (relay_failed asked first) = All-nil (IsThere J)
+course_there n J payload used sent (unknown_object opened none) = All-nil (IsThere J)
+course_there n J payload used sent (ruled {own} {reply} t reading plan planned r) = guarded_there n.plans plan J _ own reply r
+course_there n J payload used sent unread = All-nil (IsThere J)
+course_there n J payload used sent (unopened asked interrupted) = All-nil (IsThere J)
 
 -- ---- one turn more
 
 module _ (n : Node) (J K : Journals) (legal : AreLegal n K) (t : Turn) (course : IsCourse n K t) (new : All (λ (p : Place). entries_in J p.cell ≤ p.number) t.used.places) where
+  -- a full journal does not go on
+  limits : (cell : Cell) → IsFull n J cell → entries_in K cell ≤ entries_in J cell
+  limits (OfShard s) (plan, planned, at) = omega (arith, at, short plan (K.shards s) (legal.shards s plan planned))
+  limits (OfObject o) (f, there, at) = omega (arith, at, legal.objects o f there)
+
   -- a new place would stand past the limit
   comes_after : (u : Turn) → IsCourse n J u → IsFilledBefore u t
-  comes_after u done (OfShard s) found =
-      let (plan, planned, at) = found_full n J u done s found in
-      λ k d lt same. omega (arith, new k d lt, course_there n K t.frame t.used t.sent course k d lt, ap (entries_in J) same, ap (entries_in K) same, at, short plan (K.shards s) (legal s plan planned))
+  comes_after u done cell found =
+      let less = limits cell (found_full n J u.frame u.used u.sent cell done found) in
+      λ k d lt same. omega (arith, new k d lt, course_there n K t.frame t.used t.sent course k d lt, ap (entries_in J) same, ap (entries_in K) same, less)
 
 pub none_filled : AllPairs IsFilledBefore []
 none_filled = λ i j d lt within. absurd (omega (arith, within))
@@ -151,7 +265,6 @@ filled_more n J K legal turns courses filled t course new =
     all_pairs_push IsFilledBefore turns t filled (λ k d lt. comes_after n J K legal t course new _ (courses k d lt))
 
 pub no_entry_after_full : (n : Node) → NoEntryAfterFull n
-no_entry_after_full n J used frames replies outcome a first second is shard number found placed =
+no_entry_after_full n J used frames replies outcome a first second is cell p found has same =
     let pairs = subst (AllPairs IsFilledBefore) is a.filled in
-    let none = pairs 0 1 first (omega arith) (omega arith) (OfShard shard) found in
-    subst (λ (l : List Place). All (λ (p : Place). p.cell ≢ OfShard shard) l) placed none 0 (in_shard shard number) (omega arith) refl
+    All-contains (λ (q : Place). q.cell ≢ cell) second.used.places p (pairs 0 1 first (omega arith) (omega arith) cell found) has same

@@ -8,13 +8,19 @@ mod Cited
 mod Parts
 mod Telling
 mod AtHome
+mod EffectSteps
+mod Performed
+mod Dues
+mod Decisions
+mod Short
+mod Guards
 mod Courses
 mod Staying
 mod Filling
 mod Running
-mod Payloads
 mod Steps
 mod Connections
+mod Payloads
 pub mod Keyed
 mod Firsts
 mod Agreeing

@@ -123,7 +123,6 @@ module _ (key : List ℕ) (texts : List (Vec ℕ Global)) (place : ℕ) (d : Vec
   stopped before more certs (refusals.UnknownChannel n) opened why = absurd why
   stopped before more certs refusals.BadSeal opened why = absurd why
   stopped before more certs (refusals.UnknownObject n) opened why = absurd why
-  stopped before more certs refusals.Unbuilt opened why = absurd why
 
   pub first_stopped : (says : Option (ℕ → List ℕ → Said)) (node n middle now : ℕ) (certs : List Certificate) (f : Refusal) → AllCome key (link_use says node n middle) front certs →
       OneStops key (link_use says node middle now) place here f → AllStop key (link_use says node n now) (map text_of texts) f
@@ -167,7 +166,6 @@ module _ (says : Option (ℕ → List ℕ → Said)) (node : ℕ) where
       alone (refusals.UnknownChannel n) h = absurd h
       alone refusals.BadSeal h = absurd h
       alone (refusals.UnknownObject n) h = absurd h
-      alone refusals.Unbuilt h = absurd h
 
   -- after a call that did not fail
   pub stops_called : (key text : List ℕ) (before now index : ℕ) (answer : LinkAnswer) (f : Refusal) → IsIssued text → IsToldAs says node (call text answer) → answer ≢ Failed → now ≡ before →
@@ -187,7 +185,6 @@ module _ (says : Option (ℕ → List ℕ → Said)) (node : ℕ) where
   no_reseal key text new index (refusals.UnknownChannel n) issued h = absurd h
   no_reseal key text new index refusals.BadSeal issued h = absurd h
   no_reseal key text new index (refusals.UnknownObject n) issued h = absurd h
-  no_reseal key text new index refusals.Unbuilt issued h = absurd h
 
   pub stops_resealed : (key text new : List ℕ) (before now index : ℕ) (f : Refusal) → IsIssued text → IsToldAs says node (call text (Resealed new)) → now ≡ before → IsNoReseal key index text new f → OneStops key (link_use says node before now) index text f
   stops_resealed key text new before now index f issued told steady why = stops_called key text before now index (Resealed new) f issued told (λ e. cc) steady (no_reseal key text new index f issued why)

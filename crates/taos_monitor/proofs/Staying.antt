@@ -1,53 +1,95 @@
 -- A course stays where the journals go on.
-use Rattle.std.proofs.Common.{◌≡◌, ℕ, ◌≤◌, List, [], ◌∷◌, ◌++◌, length, refl, ap, inl, inr, arith, length-append}
+use Rattle.std.proofs.Common.{◌≡◌, ℕ, ◌≤◌, List, length, Option, Some, slice_get, inl, inr, arith}
+use Rattle.object_core.specs.Operation.{Op}
+use Rattle.stmt_codec.specs.Certificates.{Certificate}
 use Rattle.taos_wire.specs.Reply.{Reply}
-use Rattle.agent_core.specs.State.{Plan, Ask}
+use Rattle.agent_core.specs.State.{Plan, Ask, Event}
 use Rattle.agent_core.specs.Journals.{Entry, Begins, IsLegalJournal}
 use Rattle.agent_core.specs.Asked.{Unanswered}
-use Rattle.agent_core.proofs.Onward.{stands_on, grant_stays, denied_stays, told_stays}
-use Rattle.object_core.specs.Objects.{ObjectPlan}
-use Rattle.taos_monitor.specs.Cells.{Node}
-use Rattle.taos_monitor.specs.Course.{asking, IsRuled, full, replayed, channel_full, denied, granted, untold, unanswered, malformed, unknown_channel, bad_seal, unbuilt, cert_refused, relay_failed, unknown_object, ruled, unread, unopened}
+use Rattle.agent_core.proofs.Onward.{stands_on, begins_on, grant_stays, denied_stays, told_stays}
+use Rattle.taos_monitor.specs.Asking.{IsUnruled, full, replayed, channel_full, untold, unanswered}
+use Rattle.taos_monitor.specs.AtObject.{Seeking, Own, IsGuarded, object_is_full, no_ruling, denied, granted, asks_for}
+use Rattle.taos_monitor.specs.Cells.{Node, Journals, Extends, AreLegalShards}
+use Rattle.taos_monitor.specs.Course.{malformed, unknown_channel, bad_seal, cert_refused, relay_failed, unknown_object, ruled, unread, unopened}
+use Rattle.taos_monitor.specs.Effects.{ShardStep, WentThrough, FoundNoRoom, FoundNoPlace, IsPerformed, through, not_held, no_room, no_place}
 use Rattle.taos_monitor.specs.Laws.{CourseStays}
+use Rattle.taos_monitor.proofs.EffectSteps.{steps_stay}
+use Rattle.taos_monitor.proofs.Going.{longer_by}
+use Rattle.taos_monitor.proofs.Short.{short}
 
-last_of : (e : Entry) (es : List Entry) → (before : List Entry) × (last : Entry) × (e ∷ es ≡ before ++ last ∷ [])
-last_of e [] = ([], e, refl)
-last_of e (f ∷ fs) = let (before, last, is) = last_of f fs in (e ∷ before, last, ap (λ (l : List Entry). e ∷ l) is)
+-- one that begins with a journal at the limit is at the limit
+pub still_full : (plan : Plan) (xs ys : List Entry) → Begins xs ys → IsLegalJournal plan ys → length xs ≡ plan.limit → length ys ≡ plan.limit
+still_full plan xs ys b legal at = omega (arith, short plan ys legal, longer_by b, at)
 
--- a legal journal is not longer than its limit
-pub short : (plan : Plan) (journal : List Entry) → IsLegalJournal plan journal → length journal ≤ plan.limit
-short plan [] legal = omega arith
-short plan (e ∷ es) legal =
-    let (before, last, is) = last_of e es in
-    omega (arith, (legal before last [] is).room, ap (λ (l : List Entry). length l) is, length-append before (last ∷ []))
-
--- so one that begins with a journal at the limit is at the limit
-still_full : (plan : Plan) (xs ys : List Entry) → Begins xs ys → IsLegalJournal plan ys → length xs ≡ plan.limit → length ys ≡ plan.limit
-still_full plan xs ys b legal at = omega (arith, short plan ys legal, ap (λ (l : List Entry). length l) b.is, length-append xs b.rest, at)
-
-module _ (plan : Plan) (xs ys : List Entry) (shard : ℕ) (a : Ask) (object : ObjectPlan) (goes : Begins xs ys) (legal : IsLegalJournal plan ys) where
+module _ (plan : Plan) (xs ys : List Entry) (shard : ℕ) (a : Ask) (goes : Begins xs ys) (legal : IsLegalJournal plan ys) where
   unanswered_stays : (own : List ℕ) → Unanswered plan xs a own → Unanswered plan ys a own
   unanswered_stays own (inl none) = inl none
   unanswered_stays own (inr (place, before, stands, verdict, is)) = inr (place, before, stands_on stands goes, verdict, is)
 
-  ruled_stays : (own : List ℕ) (reply : Reply) → IsRuled plan xs (asking shard a object) own reply → IsRuled plan ys (asking shard a object) own reply
-  ruled_stays own reply (full at) = full (still_full plan xs ys goes legal at)
-  ruled_stays own reply (replayed {place} {last} t) = replayed (told_stays plan xs ys a goes place _ t)
-  ruled_stays own reply (channel_full {place} {held} t) = channel_full (told_stays plan xs ys a goes place _ t)
-  ruled_stays own reply (denied {place} {denial} d tells) = denied (denied_stays plan xs ys a goes place denial d) tells
-  ruled_stays own reply (granted {place} {entry} {c} {kept} {settled} {own = places} g) = granted (grant_stays plan xs ys a goes place entry c kept settled places (short plan ys legal) g)
-  ruled_stays own reply (untold {place} {entry} {c} {kept} {settled} {own = places} g) = untold (grant_stays plan xs ys a goes place entry c kept settled places (short plan ys legal) g)
-  ruled_stays own reply (unanswered {own = places} u) = unanswered (unanswered_stays places u)
+  unruled_stays : (own : List ℕ) (reply : Reply) → IsUnruled plan xs shard a own reply → IsUnruled plan ys shard a own reply
+  unruled_stays own reply (full at) = full (still_full plan xs ys goes legal at)
+  unruled_stays own reply (replayed {place} {last} t) = replayed (told_stays plan xs ys a goes place _ t)
+  unruled_stays own reply (channel_full {place} {held} t) = channel_full (told_stays plan xs ys a goes place _ t)
+  unruled_stays own reply (untold {place} {entry} {c} {kept} {settled} {own = places} g) = untold (grant_stays plan xs ys a goes place entry c kept settled places (short plan ys legal) g)
+  unruled_stays own reply (unanswered {own = places} u) = unanswered (unanswered_stays places u)
+
+-- ---- what was performed
+
+module _ (plans : List Plan) (J K : ℕ → List Entry) (goes : (s : ℕ) → Begins (J s) (K s)) (legal : AreLegalShards plans K) (effect : Option Event) (shards : List ℕ) where
+  went_stays : (steps : List ShardStep) → WentThrough J effect shards steps → WentThrough K effect shards steps
+  went_stays steps w = record { order = w.order; are_done = steps_stay J K effect steps goes w.are_done }
+
+  no_room_stays : (steps : List ShardStep) (shard held : ℕ) → FoundNoRoom J effect shards steps shard held → FoundNoRoom K effect shards steps shard held
+  no_room_stays steps shard held f = record {
+    done = f.done;
+    place = f.place;
+    rest = f.rest;
+    order = f.order;
+    are_done = steps_stay J K effect f.done goes f.are_done;
+    steps_are = f.steps_are;
+    refused = record { event = f.refused.event; effect_is = f.refused.effect_is; before = f.refused.before; stands = stands_on f.refused.stands (goes shard) };
+  }
+
+  no_place_stays : (steps : List ShardStep) (shard limit : ℕ) → FoundNoPlace J effect plans shards steps shard limit → FoundNoPlace K effect plans shards steps shard limit
+  no_place_stays steps shard limit f = record {
+    rest = f.rest;
+    order = f.order;
+    are_done = steps_stay J K effect steps goes f.are_done;
+    plan = f.plan;
+    planned = f.planned;
+    limit_is = f.limit_is;
+    full = still_full f.plan (J shard) (K shard) (goes shard) (legal shard f.plan f.planned) f.full;
+  }
+
+module _ (plans : List Plan) (J K : ℕ → List Entry) (goes : (s : ℕ) → Begins (J s) (K s)) (legal : AreLegalShards plans K) (op : Op) (certs : List Certificate) (reading : ℕ) where
+  performed_stays : (steps : List ShardStep) (refused : Option Reply) → IsPerformed plans J op certs reading steps refused → IsPerformed plans K op certs reading steps refused
+  performed_stays steps refused (through w lets) = through (went_stays plans J K goes legal _ _ steps w) lets
+  performed_stays steps refused (not_held digest is w none) = not_held digest is (went_stays plans J K goes legal _ _ steps w) none
+  performed_stays steps refused (no_room {shard = s} {held} f) = no_room (no_room_stays plans J K goes legal _ _ steps s held f)
+  performed_stays steps refused (no_place {shard = s} {limit} f) = no_place (no_place_stays plans J K goes legal _ _ steps s limit f)
+
+-- ---- the whole
+
+module _ (plans : List Plan) (plan : Plan) (J K : Journals) (goes : Extends J K) (legal : AreLegalShards plans K.shards) (x : Seeking) (planned : slice_get plans x.shard ≡ Some plan) (within : length (K.objects x.request.object) ≤ x.fixed.limit) where
+  guarded_stays : (own : Own) (reply : Reply) → IsGuarded plans plan J x own reply → IsGuarded plans plan K x own reply
+  guarded_stays own reply (object_is_full at) = object_is_full (omega (arith, at, within, longer_by (goes.objects x.request.object)))
+  guarded_stays own reply (no_ruling {own = asks} before b u) =
+      no_ruling before (begins_on b (goes.objects x.request.object)) (unruled_stays plan (J.shards x.shard) (K.shards x.shard) x.shard (asks_for x before) (goes.shards x.shard) (legal x.shard plan planned) asks reply u)
+  guarded_stays own reply (denied {place} {denial} before s d tells) =
+      denied before (stands_on s (goes.objects x.request.object)) (denied_stays plan (J.shards x.shard) (K.shards x.shard) (asks_for x before) (goes.shards x.shard) place denial d) tells
+  guarded_stays own reply (granted {place} {entry} {c} {kept} {settled} {asks} {steps} {refused} before s g p) =
+      granted before (stands_on s (goes.objects x.request.object))
+      (grant_stays plan (J.shards x.shard) (K.shards x.shard) (asks_for x before) (goes.shards x.shard) place entry c kept settled asks (short plan (K.shards x.shard) (legal x.shard plan planned)) g)
+      (performed_stays plans J.shards K.shards goes.shards legal x.request.op x.certs x.reading steps refused p)
 
 pub course_stays : (n : Node) → CourseStays n
 course_stays n J K goes legal payload used sent (malformed none reads) = malformed none reads
 course_stays n J K goes legal payload used sent (unknown_channel r spelled none) = unknown_channel r spelled none
 course_stays n J K goes legal payload used sent (bad_seal r key spelled keyed other) = bad_seal r key spelled keyed other
-course_stays n J K goes legal payload used sent (unbuilt asked is) = unbuilt asked is
-course_stays n J K goes legal payload used sent (cert_refused built first) = cert_refused built first
-course_stays n J K goes legal payload used sent (relay_failed built first) = relay_failed built first
+course_stays n J K goes legal payload used sent (cert_refused asked first) = cert_refused asked first
+course_stays n J K goes legal payload used sent (relay_failed asked first) = relay_failed asked first
 course_stays n J K goes legal payload used sent (unknown_object opened none) = unknown_object opened none
 course_stays n J K goes legal payload used sent (ruled {own} {reply} t reading plan planned r) =
-    ruled t reading plan planned (ruled_stays plan _ _ _ _ t.object (goes _) (legal _ plan planned) own reply r)
+    ruled t reading plan planned (guarded_stays n.plans plan J K goes legal.shards _ planned (legal.objects t.request.object t.object t.arrived.there) own reply r)
 course_stays n J K goes legal payload used sent unread = unread
-course_stays n J K goes legal payload used sent (unopened built interrupted) = unopened built interrupted
+course_stays n J K goes legal payload used sent (unopened asked interrupted) = unopened asked interrupted

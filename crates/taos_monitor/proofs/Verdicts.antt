@@ -1,5 +1,5 @@
 -- A grant and a denial are verdicts.
-use Rattle.std.proofs.Common.{◌≡◌, ℕ, Bool, List, subst₂}
+use Rattle.std.proofs.Common.{◌≡◌, ℕ, Bool, List, Option, subst₂}
 use Rattle.stmt_codec.specs.Certificates.{Certificate}
 use Rattle.taos_calculus.specs.Rules.{Line}
 use Rattle.denial_link.specs.declared.link.Link.{Link}
@@ -9,12 +9,15 @@ use Rattle.proof_cache.specs.Cached.{Cached}
 use Rattle.agent_core.specs.declared.asked.Settled.{Settled}
 use Rattle.agent_core.specs.declared.told.Told.{Told}
 use Rattle.agent_core.specs.State.{Plan, Ask}
-use Rattle.agent_core.specs.Journals.{Granted, Denied}
+use Rattle.agent_core.specs.Journals.{Entry, Granted, Denied}
 use Rattle.agent_core.specs.Asked.{IsGrantedAt, IsGrant, by_kept, was_kept, was_dropped, had_no_room}
 use Rattle.agent_core.proofs.Onward.{granted_verdict, hit_verdict, denied_verdict}
-use Rattle.object_core.specs.Objects.{ObjectPlan}
+use Rattle.object_core.specs.Operation.{Op}
 use Rattle.taos_monitor.specs.Cells.{Node, Journals, HasPlan}
-use Rattle.taos_monitor.specs.Course.{asking, Used, IsRuled, full, replayed, channel_full, denied, granted, untold, unanswered, Course, malformed, unknown_channel, bad_seal, unbuilt, cert_refused, relay_failed, unknown_object, ruled, unread, unopened}
+use Rattle.taos_monitor.specs.Asking.{IsUnruled, full, replayed, channel_full, untold, unanswered}
+use Rattle.taos_monitor.specs.AtObject.{Seeking, Own, told_or, asks_for, gives_for, IsGuarded, object_is_full, no_ruling, denied, granted}
+use Rattle.taos_monitor.specs.Course.{Used, Course, malformed, unknown_channel, bad_seal, cert_refused, relay_failed, unknown_object, ruled, unread, unopened}
+use Rattle.taos_monitor.specs.Effects.{ShardStep, IsPerformed, through, not_held, no_room, no_place}
 use Rattle.taos_monitor.specs.Verdicts.{HasVerdict, RepliesAreVerdicts}
 
 same_granted : (k l : Bool) (d e h s p q : ℕ) (x y : List Line) (c b : List Certificate) (m n : List ℕ) → replies.Granted k d h p x c m ≡ replies.Granted l e s q y b n → (h ≡ s) × (p ≡ q)
@@ -33,41 +36,66 @@ module _ (n : Node) (J : Journals) (h : ℕ) (plan : Plan) (planned : HasPlan n 
   grant_verdict place e c kept settled own (was_dropped g t) = made_verdict place e c g
   grant_verdict place e c kept settled own (had_no_room g at) = made_verdict place e c g
 
-  module _ (object : ObjectPlan) (shard place : ℕ) where
-    ruled_granted : (own : List ℕ) (reply : Reply) → IsRuled plan (J.shards h) (asking h a object) own reply → (kept : Bool) (entry : ℕ) (proof : List Line) (cites : List Certificate) (content : List ℕ) →
-        reply ≡ replies.Granted kept entry shard place proof cites content → HasVerdict n J shard place Granted
-    ruled_granted own reply (full at) kept entry proof cites content e = absurd cc
-    ruled_granted own reply (replayed t) kept entry proof cites content e = absurd cc
-    ruled_granted own reply (channel_full t) kept entry proof cites content e = absurd cc
-    ruled_granted own reply (denied d tells) kept entry proof cites content e = absurd cc
-    ruled_granted own reply (granted {place = p} {entry = d} {c} {kept = k} {settled} {own = places} g) kept entry proof cites content e =
-        let (there, at) = same_granted k kept d entry h shard p place c.proof proof c.cites cites object.content content e in
-        subst₂ (λ (s q : ℕ). HasVerdict n J s q Granted) there at (grant_verdict p d c k settled places g)
-    ruled_granted own reply (untold g) kept entry proof cites content e = absurd cc
-    ruled_granted own reply (unanswered u) kept entry proof cites content e = absurd cc
+  unruled_not_granted : (own : List ℕ) (reply : Reply) → IsUnruled plan (J.shards h) h a own reply → (kept : Bool) (entry shard place : ℕ) (proof : List Line) (cites : List Certificate) (content : List ℕ) →
+      reply ≡ replies.Granted kept entry shard place proof cites content → ⊥
+  unruled_not_granted own reply (full at) kept entry shard place proof cites content e = cc
+  unruled_not_granted own reply (replayed t) kept entry shard place proof cites content e = cc
+  unruled_not_granted own reply (channel_full t) kept entry shard place proof cites content e = cc
+  unruled_not_granted own reply (untold g) kept entry shard place proof cites content e = cc
+  unruled_not_granted own reply (unanswered u) kept entry shard place proof cites content e = cc
 
-    ruled_denied : (own : List ℕ) (reply : Reply) → IsRuled plan (J.shards h) (asking h a object) own reply → (link : LinkSent) → reply ≡ replies.Denied shard place link → (why : Link) × HasVerdict n J shard place (Denied why)
-    ruled_denied own reply (full at) link e = absurd cc
-    ruled_denied own reply (replayed t) link e = absurd cc
-    ruled_denied own reply (channel_full t) link e = absurd cc
-    ruled_denied own reply (denied {place = p} {denial} {told} d tells) link e =
-        let (there, at) = same_denied h shard p place told link e in
-        subst₂ (λ (s q : ℕ). (why : Link) × HasVerdict n J s q (Denied why)) there at
-        (d.link, record { plan = plan; planned = planned; before = d.before; ask = a; told = Told.Miss; stands = d.stands; is = denied_verdict plan (J.shards h) a p denial d })
-    ruled_denied own reply (granted g) link e = absurd cc
-    ruled_denied own reply (untold g) link e = absurd cc
-    ruled_denied own reply (unanswered u) link e = absurd cc
+  unruled_not_denied : (own : List ℕ) (reply : Reply) → IsUnruled plan (J.shards h) h a own reply → (shard place : ℕ) (link : LinkSent) → reply ≡ replies.Denied shard place link → ⊥
+  unruled_not_denied own reply (full at) shard place link e = cc
+  unruled_not_denied own reply (replayed t) shard place link e = cc
+  unruled_not_denied own reply (channel_full t) shard place link e = cc
+  unruled_not_denied own reply (untold g) shard place link e = cc
+  unruled_not_denied own reply (unanswered u) shard place link e = cc
+
+-- what is told of a grant is the grant, or a refusal
+module _ (plans : List Plan) (J : ℕ → List Entry) (op : Op) (certs : List Certificate) (reading : ℕ) (told : Reply) where
+  performed_granted : (steps : List ShardStep) (refused : Option Reply) → IsPerformed plans J op certs reading steps refused → (kept : Bool) (entry shard place : ℕ) (proof : List Line) (cites : List Certificate) (content : List ℕ) →
+      told_or refused told ≡ replies.Granted kept entry shard place proof cites content → told ≡ replies.Granted kept entry shard place proof cites content
+  performed_granted steps refused (through w lets) kept entry shard place proof cites content e = e
+  performed_granted steps refused (not_held digest is w none) kept entry shard place proof cites content e = absurd cc
+  performed_granted steps refused (no_room f) kept entry shard place proof cites content e = absurd cc
+  performed_granted steps refused (no_place f) kept entry shard place proof cites content e = absurd cc
+
+  performed_not_denied : (steps : List ShardStep) (refused : Option Reply) → IsPerformed plans J op certs reading steps refused → (shard place : ℕ) (link : LinkSent) → (told ≡ replies.Denied shard place link → ⊥) → told_or refused told ≡ replies.Denied shard place link → ⊥
+  performed_not_denied steps refused (through w lets) shard place link not e = not e
+  performed_not_denied steps refused (not_held digest is w none) shard place link not e = cc
+  performed_not_denied steps refused (no_room f) shard place link not e = cc
+  performed_not_denied steps refused (no_place f) shard place link not e = cc
+
+module _ (n : Node) (J : Journals) (plan : Plan) (x : Seeking) (planned : HasPlan n x.shard plan) (shard place : ℕ) where
+  ruled_granted : (own : Own) (reply : Reply) → IsGuarded n.plans plan J x own reply → (kept : Bool) (entry : ℕ) (proof : List Line) (cites : List Certificate) (content : List ℕ) →
+      reply ≡ replies.Granted kept entry shard place proof cites content → HasVerdict n J shard place Granted
+  ruled_granted own reply (object_is_full at) kept entry proof cites content e = absurd cc
+  ruled_granted own reply (no_ruling {own = asks} before b u) kept entry proof cites content e = absurd (unruled_not_granted n J x.shard plan planned _ asks reply u kept entry shard place proof cites content e)
+  ruled_granted own reply (denied before s d tells) kept entry proof cites content e = absurd cc
+  ruled_granted own reply (granted {place = p} {entry = d} {c} {kept = k} {settled} {asks} {steps} {refused} before s g performed) kept entry proof cites content e =
+      let told = performed_granted n.plans J.shards x.request.op x.certs x.reading (replies.Granted k d x.shard p c.proof c.cites (gives_for x before)) steps refused performed kept entry shard place proof cites content e in
+      let (there, at) = same_granted k kept d entry x.shard shard p place c.proof proof c.cites cites (gives_for x before) content told in
+      subst₂ (λ (s q : ℕ). HasVerdict n J s q Granted) there at (grant_verdict n J x.shard plan planned _ p d c k settled asks g)
+
+  ruled_denied : (own : Own) (reply : Reply) → IsGuarded n.plans plan J x own reply → (link : LinkSent) → reply ≡ replies.Denied shard place link → (why : Link) × HasVerdict n J shard place (Denied why)
+  ruled_denied own reply (object_is_full at) link e = absurd cc
+  ruled_denied own reply (no_ruling {own = asks} before b u) link e = absurd (unruled_not_denied n J x.shard plan planned _ asks reply u shard place link e)
+  ruled_denied own reply (denied {place = p} {denial} {told} before s d tells) link e =
+      let (there, at) = same_denied x.shard shard p place told link e in
+      subst₂ (λ (s q : ℕ). (why : Link) × HasVerdict n J s q (Denied why)) there at
+      (d.link, record { plan = plan; planned = planned; before = d.before; ask = asks_for x before; told = Told.Miss; stands = d.stands; is = denied_verdict plan (J.shards x.shard) (asks_for x before) p denial d })
+  ruled_denied own reply (granted {place = p} {entry} {c} {kept} {steps} {refused} before s g performed) link e =
+      absurd (performed_not_denied n.plans J.shards x.request.op x.certs x.reading (replies.Granted kept entry x.shard p c.proof c.cites (gives_for x before)) steps refused performed shard place link (λ same. cc) e)
 
 module _ (n : Node) (J : Journals) (payload : List ℕ) (shard place : ℕ) where
   grants : (used : Used) (sent : Sent) → Course n J payload used sent → (kept : Bool) (entry : ℕ) (proof : List Line) (cites : List Certificate) (content : List ℕ) → sent.reply ≡ replies.Granted kept entry shard place proof cites content → HasVerdict n J shard place Granted
   grants used sent (malformed none reads) kept entry proof cites content e = absurd cc
   grants used sent (unknown_channel r spelled none) kept entry proof cites content e = absurd cc
   grants used sent (bad_seal r key spelled keyed other) kept entry proof cites content e = absurd cc
-  grants used sent (unbuilt asked is) kept entry proof cites content e = absurd cc
   grants used sent (cert_refused built first) kept entry proof cites content e = absurd cc
   grants used sent (relay_failed built first) kept entry proof cites content e = absurd cc
   grants used sent (unknown_object opened none) kept entry proof cites content e = absurd cc
-  grants used sent (ruled {own} {reply} t reading plan planned r) kept entry proof cites content e = ruled_granted n J _ plan planned _ t.object shard place own reply r kept entry proof cites content e
+  grants used sent (ruled {own} {reply} t reading plan planned r) kept entry proof cites content e = ruled_granted n J plan _ planned shard place own reply r kept entry proof cites content e
   grants used sent unread kept entry proof cites content e = absurd cc
   grants used sent (unopened built interrupted) kept entry proof cites content e = absurd cc
 
@@ -75,11 +103,10 @@ module _ (n : Node) (J : Journals) (payload : List ℕ) (shard place : ℕ) wher
   denies used sent (malformed none reads) link e = absurd cc
   denies used sent (unknown_channel r spelled none) link e = absurd cc
   denies used sent (bad_seal r key spelled keyed other) link e = absurd cc
-  denies used sent (unbuilt asked is) link e = absurd cc
   denies used sent (cert_refused built first) link e = absurd cc
   denies used sent (relay_failed built first) link e = absurd cc
   denies used sent (unknown_object opened none) link e = absurd cc
-  denies used sent (ruled {own} {reply} t reading plan planned r) link e = ruled_denied n J _ plan planned _ t.object shard place own reply r link e
+  denies used sent (ruled {own} {reply} t reading plan planned r) link e = ruled_denied n J plan _ planned shard place own reply r link e
   denies used sent unread link e = absurd cc
   denies used sent (unopened built interrupted) link e = absurd cc
 

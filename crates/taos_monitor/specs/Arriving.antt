@@ -1,8 +1,8 @@
 -- What is promised of the way to the object.
-use Rattle.std.specs.Prelude.{◌≡◌, ℕ, ◌≤◌, List, length, map}
-use Rattle.std.specs.Arc.{arc_value}
-use Rattle.object_core.specs.Operation.{right_of, IsAccessList, IsContent}
-use Rattle.prin_term.specs.View.{grant, principal}
+use Rattle.std.specs.Prelude.{◌≡◌, ℕ, ◌≤◌, List, length, map, Some}
+use Rattle.object_core.specs.Operation.{right_of}
+use Rattle.object_core.specs.Shelving.{ObjectFixed, fixed_at}
+use Rattle.prin_term.specs.View.{principal}
 use Rattle.taos_wire.specs.Request.{Request, subject_of, IsAsked}
 use Rattle.taos_wire.specs.Reply.{sealed, unsealed}
 use Rattle.taos_wire.specs.View.{cited as shared}
@@ -10,15 +10,13 @@ use Rattle.agent_core.specs.State.{Plan}
 use Rattle.taos_monitor.specs.declared.arrival.Arrived.{Arrived}
 use Rattle.taos_monitor.specs.declared.node_keys.NodeKeys.{NodeKeys}
 use Rattle.taos_monitor.specs.declared.refusal.Refusal.{Refusal}
-use Rattle.taos_monitor.specs.declared.shelf.Shown.{Shown}
-use Rattle.object_core.specs.Objects.{ObjectPlan}
 use Rattle.taos_monitor.specs.Cells.{Journals, Node}
 use Rattle.taos_monitor.specs.Credentials.{LinkCall, LinkUse, IsLinked}
 use Rattle.taos_monitor.specs.Course.{brought, HasArrived, Course, nothing, only_calls}
 use Rattle.taos_monitor.specs.Refusals.{refusal}
 
 -- the node of these keys, plans and objects
-abbrev pub node_of : NodeKeys → List Plan → List ObjectPlan → Node
+abbrev pub node_of : NodeKeys → List Plan → List ObjectFixed → Node
 node_of keys plans objects = record {
   number = keys.node;
   relay_key = keys.relay_key;
@@ -27,22 +25,11 @@ node_of keys plans objects = record {
   objects = objects;
 }
 
--- the object of the number, as it is shown
-abbrev pub object_seen : ℕ → Shown → ObjectPlan
-object_seen number s =
-    record {
-      number = number;
-      content = s.content.now;
-      list = map grant (arc_value s.list.now).items;
-    }
-
 -- what came stands for what is asked, and is within the limits
 pub record StandsFor (r : Request) (a : Arrived) : Type 0 where
   pub subject : principal a.subject ≡ subject_of r
   pub right : a.right ≡ right_of r.op
   pub few_certs : length a.certs.items ≤ 16
-  pub content : IsContent (object_seen r.object a.shown).content
-  pub list : IsAccessList (object_seen r.object a.shown).list
 
 -- the payload is the request, under the seal of its channel's key
 pub record IsAskedBy (keys : NodeKeys) (payload : List ℕ) (r : Request) : Type 0 where
@@ -52,19 +39,21 @@ pub record IsAskedBy (keys : NodeKeys) (payload : List ℕ) (r : Request) : Type
 -- a course ends at the payload, without a seal, as the refusal says
 abbrev pub IsNotAsked : NodeKeys → List ℕ → Refusal → Type 0
 IsNotAsked keys payload f =
-    (plans : List Plan) (objects : List ObjectPlan) (J : Journals) →
+    (plans : List Plan) (objects : List ObjectFixed) (J : Journals) →
     Course (node_of keys plans objects) J payload nothing (unsealed (refusal f))
 
-module _ (keys : NodeKeys) (objects : List ObjectPlan) (u : LinkUse) (r : Request) where
+module _ (keys : NodeKeys) (objects : List ObjectFixed) (u : LinkUse) (r : Request) where
   -- the request came to its object, whichever payload under its channel's seal it was, and however
   -- the shards are opened
   pub record Arrives (a : Arrived) : Type 0 where
     pub calls : List LinkCall
     pub linked : IsLinked u.says u.node u.before u.after calls
+    pub object : ObjectFixed
+    pub there : fixed_at objects r.object ≡ Some object
     pub arrived : (plans : List Plan) (payload key : List ℕ) →
         IsAsked keys.channels.entries payload r key →
         HasArrived (node_of keys plans objects) payload r key
-        (brought calls (map shared a.certs.items) (object_seen r.object a.shown))
+        (brought calls (map shared a.certs.items) object)
     pub stands : StandsFor r a
 
   -- a course of the request ends before its object, as the refusal says

@@ -1,8 +1,9 @@
--- A node and its cells: what it is opened with, what stands in the journals of its shards, and the
--- places of entries there.
-use Rattle.std.specs.Prelude.{◌≡◌, ℕ, ◌+◌, ◌<◌, ◌≤◌, ◌==◌, if◌then◌else◌, Bool, true, List, ◌++◌, length, filter_map, Option, Some, None, slice_get, All, AllPairs}
+-- A node and its cells: what it is opened with, what stands in the journals of its shards and of its
+-- objects, and the places of entries there.
+use Rattle.std.specs.Prelude.{◌≡◌, ℕ, ◌+◌, ◌<◌, ◌≤◌, ◌==◌, if◌then◌else◌, Bool, true, false, List, ◌++◌, length, filter_map, Option, Some, None, slice_get, All, AllPairs}
 use Rattle.keyed_seal.specs.Keys.{Entries}
-use Rattle.object_core.specs.Objects.{ObjectPlan}
+use Rattle.object_core.specs.Objects.{ObjectEntry}
+use Rattle.object_core.specs.Shelving.{ObjectFixed, AreWithin}
 use Rattle.agent_core.specs.State.{Plan}
 use Rattle.agent_core.specs.Plans.{home as home_among}
 use Rattle.agent_core.specs.Journals.{Entry, Begins, IsLegalJournal}
@@ -17,7 +18,8 @@ pub record Node : Type 0 where
   pub channels : Entries
   -- the shard of number i has plan i
   pub plans : List Plan
-  pub objects : List ObjectPlan
+  -- what never changes of each object
+  pub objects : List ObjectFixed
 
 -- the number of a channel's shard
 abbrev pub home : Node → ℕ → ℕ
@@ -33,10 +35,13 @@ HasPlan n shard plan = slice_get n.plans shard ≡ Some plan
 pub record Journals : Type 0 where
   -- the journal of the shard of each number
   pub shards : ℕ → List Entry
+  -- the journal of the object of each number
+  pub objects : ℕ → List ObjectEntry
 
--- what holds a journal: a shard, by its number
+-- what holds a journal: a shard or an object, by its number
 pub data Cell : Type 0 where
   OfShard : ℕ → Cell
+  OfObject : ℕ → Cell
 
 -- an entry, by its cell and its number in the journal there
 pub record Place : Type 0 where
@@ -47,17 +52,34 @@ pub record Place : Type 0 where
 abbrev pub in_shard : ℕ → ℕ → Place
 in_shard shard number = record { cell = OfShard shard; number = number }
 
+-- an entry of the object of this number
+abbrev pub in_object : ℕ → ℕ → Place
+in_object object number = record { cell = OfObject object; number = number }
+
 -- the journal of a cell has so many entries
 abbrev pub entries_in : Journals → Cell → ℕ
 entries_in J (OfShard s) = length (J.shards s)
+entries_in J (OfObject o) = length (J.objects o)
 
 -- the journal of each shard that has a plan is legal
+abbrev pub AreLegalShards : List Plan → (ℕ → List Entry) → Type 0
+AreLegalShards plans shards =
+    (s : ℕ) (plan : Plan) → slice_get plans s ≡ Some plan → IsLegalJournal plan (shards s)
+
+-- the journal of each shard that has a plan is legal, and that of each object within its limit
+pub record AreLegalIn (plans : List Plan) (fixed : List ObjectFixed) (J : Journals) :
+    Type 0 where
+  pub shards : AreLegalShards plans J.shards
+  pub objects : AreWithin fixed J.objects
+
+-- the journals of the node's cells are so
 abbrev pub AreLegal : Node → Journals → Type 0
-AreLegal n J = (s : ℕ) (plan : Plan) → HasPlan n s plan → IsLegalJournal plan (J.shards s)
+AreLegal n J = AreLegalIn n.plans n.objects J
 
 -- each journal of K begins with that of J
-abbrev pub Extends : Journals → Journals → Type 0
-Extends J K = (s : ℕ) → Begins (J.shards s) (K.shards s)
+pub record Extends (J K : Journals) : Type 0 where
+  pub shards : (s : ℕ) → Begins (J.shards s) (K.shards s)
+  pub objects : (o : ℕ) → Begins (J.objects o) (K.objects o)
 
 -- ---- what is seen
 
@@ -69,6 +91,9 @@ pub record Seen : Type 0 where
 -- whether the two are one cell
 abbrev pub is_cell : Cell → Cell → Bool
 is_cell (OfShard s) (OfShard t) = s == t
+is_cell (OfObject o) (OfObject p) = o == p
+is_cell (OfShard s) (OfObject p) = false
+is_cell (OfObject o) (OfShard t) = false
 
 -- the number of a place, where it is in the cell
 abbrev pub number_in : Cell → Place → Option ℕ
@@ -83,8 +108,8 @@ abbrev pub IsAfter : Place → Place → Type 0
 IsAfter p q = p.cell ≡ q.cell → p.number < q.number
 
 -- The journals went on, and these places are new own ones: they are after what was seen, ascend in
--- each cell, and are all that came, where nobody else steps the cells.
-pub record GoesOn (alone : Bool) (old new : Seen) (places : List Place) : Type 0 where
+-- each cell, and are all that came to a cell that nobody else steps.
+pub record GoesOn (alone : Cell → Bool) (old new : Seen) (places : List Place) : Type 0 where
   pub goes_on : Extends old.journals new.journals
   -- the new places are own ones of their cells, after those before
   pub owned : (cell : Cell) → new.own cell ≡ old.own cell ++ numbers_in cell places
@@ -93,14 +118,42 @@ pub record GoesOn (alone : Bool) (old new : Seen) (places : List Place) : Type 0
   -- and within the journal of its cell as it is now
   pub there : All (λ (p : Place). p.number < entries_in new.journals p.cell) places
   pub ascending : AllPairs IsAfter places
-  -- where nobody else steps the cells, all new entries are own ones
-  pub undisturbed : alone ≡ true → (cell : Cell) →
+  -- where nobody else steps a cell, all its new entries are own ones
+  pub undisturbed : (cell : Cell) → alone cell ≡ true →
       entries_in new.journals cell ≡ entries_in old.journals cell + length (numbers_in cell places)
 
--- the own places in a cell, by those in each shard
-abbrev pub own_of : (ℕ → List ℕ) → Cell → List ℕ
-own_of own (OfShard s) = own s
+-- ---- what is seen of each sort
 
--- what was seen, by what was seen of each shard and the own places in it
-abbrev pub seen_of : (ℕ → List Entry) → (ℕ → List ℕ) → Seen
-seen_of seen own = record { journals = record { shards = seen }; own = own_of own }
+-- the cells of one sort, by their numbers: the journal of each as it was seen, and the own places in
+-- it
+pub record Viewed (E : Type 0) : Type 0 where
+  pub seen : ℕ → List E
+  pub own : ℕ → List ℕ
+
+-- the cells of one sort, by these
+abbrev pub viewed : {E : Type 0} → (ℕ → List E) → (ℕ → List ℕ) → Viewed E
+viewed seen own = record { seen = seen; own = own }
+
+-- the own places in a cell, by those in each shard and in each object
+abbrev pub own_of : Viewed Entry → Viewed ObjectEntry → Cell → List ℕ
+own_of shards objects (OfShard s) = shards.own s
+own_of shards objects (OfObject o) = objects.own o
+
+-- what was seen, by what was seen of the shards and of the objects
+abbrev pub seen_of : Viewed Entry → Viewed ObjectEntry → Seen
+seen_of shards objects = record {
+  journals = record { shards = shards.seen; objects = objects.seen };
+  own = own_of shards objects;
+}
+
+-- which cells nobody else steps: the shards, or the objects
+abbrev pub alone_of : Bool → Bool → Cell → Bool
+alone_of shards objects (OfShard s) = shards
+alone_of shards objects (OfObject o) = objects
+
+-- what was seen of the shards went on by these places; the objects are as they were, whatever was
+-- seen of them
+abbrev pub ShardsGoOn : Bool → (old new : Viewed Entry) → List Place → Type 0
+ShardsGoOn alone old new places =
+    (others : Bool) (objects : Viewed ObjectEntry) →
+    GoesOn (alone_of alone others) (seen_of old objects) (seen_of new objects) places

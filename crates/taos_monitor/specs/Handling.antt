@@ -8,7 +8,7 @@ use Rattle.taos_wire.specs.Request.{Request, IsAsked}
 use Rattle.taos_wire.specs.Reply.{Sent, spelling}
 use Rattle.taos_monitor.specs.declared.handling.Handled.{Handled}
 use Rattle.taos_monitor.specs.declared.handling.Handled.TheVariants as handled
-use Rattle.object_core.specs.Objects.{ObjectPlan}
+use Rattle.object_core.specs.Shelving.{ObjectFixed}
 use Rattle.taos_monitor.specs.Cells.{AreLegal, GoesOn}
 use Rattle.taos_monitor.specs.World.{Setting, World}
 use Rattle.taos_monitor.specs.Credentials.{LinkCall, IsLinked}
@@ -36,7 +36,7 @@ module _ (s : Setting) (before after : World) where
     -- the bytes fit a frame
     pub short : length bytes < 2 ^ 32
 
-  -- something came to the clock, which failed: no shard was stepped
+  -- something came to the clock, which failed: no shard was stepped, and no object taken
   pub record StopsAtClock (HasCome : List LinkCall → Type 0) : Type 0 where
     pub calls : List LinkCall
     pub unchanged : after.seen ≡ before.seen
@@ -53,7 +53,7 @@ module _ (s : Setting) (before after : World) where
   -- the request came to the clock, which failed
   abbrev pub StoppedAtClock : Request → Type 0
   StoppedAtClock r =
-      StopsAtClock (λ calls. (certs : List Certificate) × (object : ObjectPlan) ×
+      StopsAtClock (λ calls. (certs : List Certificate) × (object : ObjectFixed) ×
       ((payload key : List ℕ) → IsAsked s.node.channels payload r key →
       HasArrived s.node payload r key (brought calls certs object)))
 

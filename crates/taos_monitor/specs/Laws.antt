@@ -1,9 +1,9 @@
 -- What the definitions of a course imply: each law is the contract of a function that does nothing.
-use Rattle.std.specs.Prelude.{◌≡◌, ◌≢◌, ℕ, ◌+◌, ◌-◌, ◌^◌, ◌<◌, ◌≤◌, Bool, List, [], ◌∷◌, ◌++◌, All, AllPairs}
+use Rattle.std.specs.Prelude.{◌≡◌, ◌≢◌, ℕ, ◌+◌, ◌-◌, ◌^◌, ◌<◌, ◌≤◌, Bool, List, [], ◌∷◌, ◌++◌, All, AllPairs, Contains}
 use Rattle.frame_link.specs.declared.outcome.Outcome.{Outcome}
 use Rattle.frame_link.specs.declared.outcome.Outcome.TheVariants.{End}
 use Rattle.taos_wire.specs.Reply.{Sent, CertRefused, spelling, status_of}
-use Rattle.taos_monitor.specs.Cells.{Node, Journals, OfShard, Place, in_shard, entries_in, AreLegal, Extends, IsAfter, Seen, GoesOn}
+use Rattle.taos_monitor.specs.Cells.{Node, Journals, Cell, Place, entries_in, AreLegal, Extends, IsAfter, Seen, GoesOn}
 use Rattle.taos_monitor.specs.Credentials.{LinkAnswer, Resealed, Refused, Lacked, Failed, LinkCall, FailedAs}
 use Rattle.taos_monitor.specs.Course.{Arrival, Used, uses, Course}
 use Rattle.taos_monitor.specs.Run.{Turn, IsCourse, FoundFull, Answered}
@@ -18,7 +18,7 @@ CourseStays n =
 -- what went on, and then went on, went on
 abbrev pub GoesOnTwice : Type 0
 GoesOnTwice =
-    (alone : Bool) (a b c : Seen) (first later : List Place) →
+    (alone : Cell → Bool) (a b c : Seen) (first later : List Place) →
     GoesOn alone a b first → GoesOn alone b c later → GoesOn alone a c (first ++ later)
 
 -- what is answered in journals is so, with the same own places, in all legal journals that go on
@@ -65,7 +65,6 @@ ArrivalExcludes n =
     (J : Journals) (payload : List ℕ) (used : Used) (sent : Sent) →
     (t : Arrival n payload) → Course n J payload used sent →
     (status_of sent.reply ≢ 2) × (status_of sent.reply ≢ 3) × (status_of sent.reply ≢ 4)
-    × (status_of sent.reply ≢ 255)
     × (used.calls ≡ t.calls → (status_of sent.reply ≢ 6) × (status_of sent.reply ≢ 8)
     × (status_of sent.reply ≢ 9))
 
@@ -94,12 +93,11 @@ FaultsAreCounted =
     (before now : ℕ) (calls : List LinkCall) → FailedAs before now calls → now < 2 ^ 64 - 1 →
     before + failures calls ≤ now
 
--- of two frames the first does not find a shard's journal full, for itself or for its proof, where
--- the second has an entry there
+-- of two frames the first does not find the journal of a cell full, for itself or for its proof,
+-- where the second has an entry there
 abbrev pub NoEntryAfterFull : Node → Type 0
 NoEntryAfterFull n =
     (J : Journals) (used : Used) (frames replies : List (List ℕ)) (outcome : Outcome) →
     (a : Answered n J used frames replies outcome) →
-    (first second : Turn) → a.turns ≡ first ∷ second ∷ [] → (shard number : ℕ) →
-    FoundFull (OfShard shard) first →
-    second.used.places ≡ in_shard shard number ∷ [] → ⊥
+    (first second : Turn) → a.turns ≡ first ∷ second ∷ [] → (cell : Cell) (p : Place) →
+    FoundFull cell first → Contains second.used.places p → p.cell ≡ cell → ⊥

@@ -4,6 +4,10 @@ pub mod World
 pub mod Credentials
 pub mod Refusals
 pub mod Presenting
+pub mod Operations
+pub mod Asking
+pub mod Effects
+pub mod AtObject
 pub mod Course
 pub mod Arriving
 pub mod Ruling

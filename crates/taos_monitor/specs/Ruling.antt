@@ -1,11 +1,16 @@
--- What is promised of a ruling: of the ask that a request makes, and of the reply that is left.
-use Rattle.std.specs.Prelude.{◌≡◌, ◌⊎◌, ℕ, ◌<◌, ◌≤◌, ◌^◌, Bool, List, length, map, Some, slice_get}
+-- What is promised of a ruling: of the ask that a request makes, of the reply that is left, and of
+-- what is done at the object and in the shards.
+use Rattle.std.specs.Prelude.{◌≡◌, ◌⊎◌, ℕ, ◌<◌, ◌≤◌, ◌^◌, Bool, List, [], ◌∷◌, length, map, Option, None, Some, slice_get}
 use Rattle.std.specs.Arc.{arc_value}
+use Rattle.object_core.specs.Objects.{ObjectEntry, ObjectSeen, content_after, list_after}
 use Rattle.object_core.specs.Operation.{IsDigest}
+use Rattle.object_core.specs.Shelving.{ObjectFixed, fixed_of}
+use Rattle.object_core.specs.declared.ruling.Ruling.{Ruling}
+use Rattle.object_core.specs.declared.ruling.Ruling.TheVariants as rulings
 use Rattle.prin_term.specs.Steps.{IsByte}
 use Rattle.prin_term.specs.Principal.{Principal, subterms}
-use Rattle.prin_term.specs.View.{Grant, grant, principal}
-use Rattle.proof_cache.specs.Cached.{cached}
+use Rattle.prin_term.specs.View.{Grant, principal}
+use Rattle.proof_cache.specs.Cached.{Cached, cached}
 use Rattle.proof_cache.specs.declared.cached.Cached.{Cached as CachedValue}
 use Rattle.taos_wire.specs.Request.{Request}
 use Rattle.taos_wire.specs.Reply as replies
@@ -14,31 +19,41 @@ use Rattle.taos_wire.specs.View.{request, cited as shared}
 use Rattle.taos_wire.specs.declared.reply.TheConstants.{MAX_CITED}
 use Rattle.agent_core.specs.declared.asked.Denial.{Denial}
 use Rattle.agent_core.specs.declared.asked.Denial.TheVariants as denials
+use Rattle.agent_core.specs.declared.asked.Settled.{Settled}
 use Rattle.agent_core.specs.declared.asked.Verdict.{Verdict}
 use Rattle.agent_core.specs.declared.asked.Verdict.TheVariants as verdict
 use Rattle.agent_core.specs.State.{Plan, Ask}
-use Rattle.agent_core.specs.Journals.{Entry, IsLegalJournal}
+use Rattle.agent_core.specs.Journals.{Entry, ShardSeen}
+use Rattle.agent_core.specs.Asked.{IsGrant, IsDeniedAt}
 use Rattle.taos_monitor.specs.declared.arrival.Arrived.{Arrived}
-use Rattle.taos_monitor.specs.declared.ruling.Came.{Came}
-use Rattle.object_core.specs.Objects.{ObjectPlan}
-use Rattle.taos_monitor.specs.Cells.{Seen, GoesOn, in_shard}
-use Rattle.taos_monitor.specs.Course.{TellsDenial, Asking, IsRuled, shard_full}
+use Rattle.taos_monitor.specs.declared.deciding.Came.{Came}
+use Rattle.taos_monitor.specs.declared.deciding.Ruled.{Ruled}
+use Rattle.taos_monitor.specs.Cells.{Cell, Seen, GoesOn, Viewed, ShardsGoOn, AreLegalIn, AreLegalShards, in_shard}
+use Rattle.taos_monitor.specs.Asking.{TellsDenial, IsUnruled, shard_full}
+use Rattle.taos_monitor.specs.Operations.{result_of}
+use Rattle.taos_monitor.specs.AtObject.{Seeking, Own, places_at, asks_for, gives_for, object_full, IsGuarded}
 
--- the ask that stands for a request that came to its object
-abbrev pub ask_seen : Request → Arrived → ℕ → Ask
-ask_seen r a reading = record {
+-- ---- the ask
+
+-- the ask that stands for a request that came to its object, of this access list
+abbrev pub ask_seen : Request → Arrived → List Grant → ℕ → Ask
+ask_seen r a list reading = record {
   channel = r.channel;
   seq = r.seq;
   reading = reading;
   subject = principal a.subject;
-  list = map grant (arc_value a.shown.list.now).items;
+  list = list;
   right = a.right;
   presented = map shared a.certs.items;
 }
 
 -- the ask of what came to its object and to the clock
-abbrev pub ask_came : Came → Ask
-ask_came c = ask_seen (request c.asked.now) c.arrived c.reading
+abbrev pub ask_came : Came → List Grant → Ask
+ask_came c list = ask_seen (request c.asked.now) c.arrived list c.reading
+
+-- the access list of an object
+abbrev pub list_of : ObjectSeen → List Grant
+list_of o = list_after o.plan o.journal
 
 -- what a denial names is there, and may be told
 abbrev pub HasPart : List Grant → Denial → Type 0
@@ -55,18 +70,60 @@ MayTell list (verdict.Granted e c) =
 MayTell list (verdict.Denied denial) = HasPart list denial
 MayTell list _ = Unit {0}
 
--- the reply tells the verdict, and of a grant whether its proof was kept before; of a grant it may
--- tell that memory is lacking
-abbrev pub IsToldBy : ObjectPlan → (shard place : ℕ) → (kept : Bool) → Verdict → Reply → Type 0
-IsToldBy object shard place kept (verdict.Granted e c) reply =
-    (reply ≡ replies.Granted kept e shard place
+-- ---- the reply
+
+-- the ruling of an ask at this shard and place
+abbrev pub ruled_at : ℕ → ℕ → Ruling → Ruled
+ruled_at shard place ruling = record { shard = shard; place = place; ruling = ruling }
+
+-- the reply tells that there is no ruling
+abbrev pub IsRefusal : Reply → Option Ruled → Reply → Type 0
+IsRefusal refused ruled reply = (ruled ≡ None) × (reply ≡ refused)
+
+-- what the reply to an ask comes from, beside its verdict
+pub record Telling : Type 0 where
+  -- what the operation gives
+  pub result : List ℕ
+  -- the access list of the object
+  pub list : List Grant
+  pub shard : ℕ
+  pub place : ℕ
+  -- whether the proof of a grant was kept before
+  pub kept : Bool
+
+-- what is told of a request for an object, by an ask at this shard and place
+abbrev pub telling : Request → ObjectSeen → ℕ → ℕ → Bool → Telling
+telling r o shard place kept = record {
+  result = result_of r.op (content_after o.plan o.journal);
+  list = list_of o;
+  shard = shard;
+  place = place;
+  kept = kept;
+}
+
+-- the reply is the grant, and the ruling is this; or it tells that memory is lacking, and there is no
+-- ruling
+abbrev pub TellsGrant : Reply → Ruled → Option Ruled → Reply → Type 0
+TellsGrant grant ruling ruled reply =
+    ((ruled ≡ Some ruling) × (reply ≡ grant)) ⊎ IsRefusal replies.NoMemory ruled reply
+
+-- the reply tells the denial
+abbrev pub TellsDenied : List Grant → ℕ → ℕ → Denial → Reply → Type 0
+TellsDenied list shard place denial reply =
+    (told : LinkSent) × TellsDenial list denial told × (reply ≡ replies.Denied shard place told)
+
+-- the reply tells the verdict, and there is a ruling where it is a grant or a denial
+abbrev pub IsToldBy : Telling → Verdict → Option Ruled → Reply → Type 0
+IsToldBy t (verdict.Granted e c) ruled reply =
+    TellsGrant (replies.Granted t.kept e t.shard t.place
     (cached (arc_value {X = CachedValue} c)).proof (cached (arc_value {X = CachedValue} c)).cites
-    object.content) ⊎ (reply ≡ replies.NoMemory)
-IsToldBy object shard place kept (verdict.Denied denial) reply =
-    (told : LinkSent) × TellsDenial object.list denial told × (reply ≡ replies.Denied shard place told)
-IsToldBy object shard place kept (verdict.Replayed last) reply = reply ≡ replies.Replayed last
-IsToldBy object shard place kept (verdict.Full held) reply = reply ≡ replies.ChannelFull held
-IsToldBy object shard place kept (verdict.JournalFull n) reply = reply ≡ shard_full shard n
+    t.result) (ruled_at t.shard t.place (rulings.Granted e)) ruled reply
+IsToldBy t (verdict.Denied denial) ruled reply =
+    (ruled ≡ Some (ruled_at t.shard t.place rulings.Denied))
+    × TellsDenied t.list t.shard t.place denial reply
+IsToldBy t (verdict.Replayed last) ruled reply = IsRefusal (replies.Replayed last) ruled reply
+IsToldBy t (verdict.Full held) ruled reply = IsRefusal (replies.ChannelFull held) ruled reply
+IsToldBy t (verdict.JournalFull n) ruled reply = IsRefusal (shard_full t.shard n) ruled reply
 
 -- the bytes of a reply of which this holds
 pub record Leaves (channel seq : ℕ) (key bytes : List ℕ) (Holds : Reply → Type 0) :
@@ -76,19 +133,79 @@ pub record Leaves (channel seq : ℕ) (key bytes : List ℕ) (Holds : Reply → 
   pub spelled : bytes ≡ spelling (sent (Some key) channel seq reply)
   pub short : length bytes < 2 ^ 32
 
+-- ---- what came of the ask
+
 -- the ask was made at the shard, and this holds of how it ended in its journal, with these own
 -- places
-pub record AskedAt (plans : List Plan) (alone : Bool) (old new : Seen) (shard : ℕ)
+pub record AskedAt (plans : List Plan) (alone : Bool) (old new : Viewed Entry) (shard : ℕ)
     (Ends : Plan → List Entry → List ℕ → Type 0) : Type 0 where
   pub plan : Plan
   pub planned : slice_get plans shard ≡ Some plan
   pub own : List ℕ
-  pub goes_on : GoesOn alone old new (map (in_shard shard) own)
-  pub legal : (s : ℕ) (p : Plan) → slice_get plans s ≡ Some p →
-      IsLegalJournal p (new.journals.shards s)
-  pub ends : Ends plan (new.journals.shards shard) own
+  pub goes_on : ShardsGoOn alone old new (map (in_shard shard) own)
+  pub legal : AreLegalShards plans new.seen
+  pub ends : Ends plan (new.seen shard) own
 
--- the ask was made, and what came of it was left as the reply
-abbrev pub RuledTo : List Plan → Bool → Seen → Seen → Asking → Reply → Type 0
-RuledTo plans alone old new x reply =
-    AskedAt plans alone old new x.shard (λ plan journal own. IsRuled plan journal x own reply)
+-- what is sought of an object by what came to it and to the clock
+abbrev pub seeking_of : Came → ObjectFixed → Seeking
+seeking_of c fixed = record {
+  request = request c.asked.now;
+  certs = map shared c.arrived.certs.items;
+  reading = c.reading;
+  shard = c.shard;
+  fixed = fixed;
+}
+
+-- What is ruled on what is sought, where the object has these entries, by the journal of the shard
+-- that is asked: the own places there, and the reply.
+pub data IsRuled (s : ShardSeen) (x : Seeking) (before : List ObjectEntry) :
+    Option Ruled → List ℕ → Reply → Type 0 where
+  at_limit : length before ≡ x.fixed.limit →
+      IsRuled s x before None [] (object_full x.request.object x.fixed.limit)
+  unruled : {own : List ℕ} {reply : Reply} →
+      IsUnruled s.plan s.journal x.shard (asks_for x before) own reply →
+      IsRuled s x before None own reply
+  denied : {place : ℕ} {denial : Denial} {told : LinkSent} →
+      IsDeniedAt s.plan s.journal (asks_for x before) place denial →
+      TellsDenial (list_after x.fixed.plan before) denial told →
+      IsRuled s x before (Some (ruled_at x.shard place rulings.Denied)) (place ∷ [])
+      (replies.Denied x.shard place told)
+  granted : {place entry : ℕ} {c : Cached} {kept : Bool} {settled : Settled} {own : List ℕ} →
+      IsGrant s.plan s.journal (asks_for x before) place entry c kept settled own →
+      IsRuled s x before (Some (ruled_at x.shard place (rulings.Granted entry))) own
+      (replies.Granted kept entry x.shard place c.proof c.cites (gives_for x before))
+
+-- a shard of this plan and journal
+abbrev pub shard_of : Plan → List Entry → ShardSeen
+shard_of plan journal = record { plan = plan; journal = journal }
+
+-- the ask was made for the object as it was taken, unless that was full, and this was ruled
+abbrev pub DecidedTo : List Plan → Bool → (old new : Viewed Entry) →
+    Came × ObjectSeen → Option Ruled → Reply → Type 0
+DecidedTo plans alone old new (c, o) ruled reply =
+    AskedAt plans alone old new c.shard (λ plan journal own.
+    IsRuled (shard_of plan journal) (seeking_of c (fixed_of o)) o.journal ruled own reply)
+
+-- ---- the whole
+
+-- what stays while a request is ruled on: what the cells are opened with, and which of them nobody
+-- else steps
+pub record Standing : Type 0 where
+  pub plans : List Plan
+  pub objects : List ObjectFixed
+  pub alone : Cell → Bool
+
+-- what stays, of these
+abbrev pub standing_of : List Plan → List ObjectFixed → (Cell → Bool) → Standing
+standing_of plans objects alone =
+    record { plans = plans; objects = objects; alone = alone }
+
+-- the object was taken and given back, and what came of that is the reply
+pub record GuardedTo (s : Standing) (old new : Seen) (x : Seeking) (reply : Reply) :
+    Type 0 where
+  pub plan : Plan
+  pub planned : slice_get s.plans x.shard ≡ Some plan
+  pub own : Own
+  pub goes_on : GoesOn s.alone old new (places_at x own)
+  pub legal : AreLegalIn s.plans s.objects new.journals
+  pub guarded : IsGuarded s.plans plan new.journals x own reply

@@ -5,9 +5,11 @@ use Rattle.std.specs.List.{flat_map}
 use Rattle.frame_link.specs.declared.outcome.Outcome.{Outcome}
 use Rattle.frame_link.specs.declared.outcome.Outcome.TheVariants.{ClockFault}
 use Rattle.taos_wire.specs.Reply.{Reply, Granted, Sent, spelling}
-use Rattle.taos_monitor.specs.Cells.{Node, Journals, Cell, OfShard, Place, in_shard, IsAfter}
+use Rattle.taos_monitor.specs.Cells.{Node, Journals, Cell, OfShard, OfObject, Place, numbers_in, IsAfter}
 use Rattle.taos_monitor.specs.Credentials.{LinkCall}
-use Rattle.taos_monitor.specs.Course.{Arrival, Used, Course, shard_full}
+use Rattle.taos_monitor.specs.Asking.{shard_full}
+use Rattle.taos_monitor.specs.AtObject.{object_full}
+use Rattle.taos_monitor.specs.Course.{Arrival, Used, Course}
 
 -- a frame with what its course used, and its reply
 pub record Turn : Type 0 where
@@ -51,12 +53,14 @@ abbrev pub IsMade : ℕ → Reply → Type 0
 IsMade s (Granted false entry shard place proof cites content) = shard ≡ s
 IsMade s _ = ⊥
 
--- the turn's reply says that the journal of the cell is full; or that had no room for the proof of
--- a grant, which stands there alone
+-- the turn's reply says that the journal of the cell is full; or that of a shard had no room for the
+-- proof of a grant, whose Ask stands there alone
 abbrev pub FoundFull : Cell → Turn → Type 0
 FoundFull (OfShard s) t =
     ((limit : ℕ) × (t.sent.reply ≡ shard_full s limit))
-    ⊎ (IsMade s t.sent.reply × ((place : ℕ) × (t.used.places ≡ in_shard s place ∷ [])))
+    ⊎ (IsMade s t.sent.reply
+    × ((place : ℕ) × (numbers_in (OfShard s) t.used.places ≡ place ∷ [])))
+FoundFull (OfObject o) t = (limit : ℕ) × (t.sent.reply ≡ object_full o limit)
 
 -- a journal that the earlier turn found full has no place of the later one
 abbrev pub IsFilledBefore : Turn → Turn → Type 0

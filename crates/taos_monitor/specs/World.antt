@@ -1,19 +1,20 @@
 -- What requests are answered in: what stays as it is, and what an answer may change.
 use Rattle.std.specs.Prelude.{ℕ, Bool, List, Option}
 use Rattle.frame_link.specs.Relay.{Said}
+use Rattle.object_core.specs.Objects.{ObjectEntry}
 use Rattle.agent_core.specs.Journals.{Entry}
-use Rattle.taos_monitor.specs.Cells.{Node, Seen, seen_of}
+use Rattle.taos_monitor.specs.Cells.{Node, Cell, Seen, Viewed, seen_of}
 
 -- what stays as it is while a node answers
 pub record Setting : Type 0 where
   pub node : Node
-  -- whether nobody else steps its shards
-  pub alone : Bool
+  -- whether nobody else steps the cell
+  pub alone : Cell → Bool
   -- what the link tells of its answers
   pub says : Option (ℕ → List ℕ → Said)
 
 -- what stays, of these
-abbrev pub setting_of : Node → Bool → Option (ℕ → List ℕ → Said) → Setting
+abbrev pub setting_of : Node → (Cell → Bool) → Option (ℕ → List ℕ → Said) → Setting
 setting_of node alone says = record { node = node; alone = alone; says = says }
 
 -- what an answer may change, as contracts see it
@@ -22,10 +23,10 @@ pub record World : Type 0 where
   pub clock : Option (List ℕ)
   -- how often the link has failed
   pub faults : ℕ
-  -- the journals of the shards, and the own places in them
+  -- the journals of the shards and of the objects, and the own places in them
   pub seen : Seen
 
 -- what may change, of these
-abbrev pub world_of : Option (List ℕ) → ℕ → (ℕ → List Entry) → (ℕ → List ℕ) → World
-world_of clock faults seen own =
-    record { clock = clock; faults = faults; seen = seen_of seen own }
+abbrev pub world_of : Option (List ℕ) → ℕ → Viewed Entry → Viewed ObjectEntry → World
+world_of clock faults shards objects =
+    record { clock = clock; faults = faults; seen = seen_of shards objects }

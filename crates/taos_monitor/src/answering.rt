@@ -1,20 +1,22 @@
 //! The course of one payload.
 
-ghost use Rattle.std.specs.Prelude.{◌≡◌, ◌≤◌, IfErr, IfOk, length};
+ghost use Rattle.std.specs.Prelude.{◌≡◌, ◌≤◌, IfErr, IfOk, None, length};
 ghost use Rattle.taos_wire.specs.View.{request as request_of};
 ghost use Rattle.taos_monitor.specs.Arriving.{IsAskedBy, IsNotAsked, node_of};
+ghost use Rattle.taos_monitor.specs.Cells.{alone_of, viewed};
 ghost use Rattle.taos_monitor.specs.Handling.{Answers, HandlesCause, LeavesReply};
 ghost use Rattle.taos_monitor.specs.Planned.{ArePlanned};
 ghost use Rattle.taos_monitor.specs.World.{setting_of, world_of};
 
 use crate::connection::MAX_REQUEST;
 use crate::handling::{Handled, request};
+use crate::legal::are_legal;
 use crate::node_keys::NodeKeys;
 use crate::refusal::Refusal;
 use crate::reply::ReplyBuf;
-use crate::shelf::Shelf;
 use agent_core::{Gate, Shards};
 use frame_link::{Clock, RelayLink};
+use object_core::Shelf;
 use std::alloc::Global;
 use std::sync::Wait;
 use taos_calculus::Decide;
@@ -53,7 +55,7 @@ pub fn answer<W: Wait + Sync, H: Shelf, S: Shards, R: RelayLink, C: Clock, D: De
     rt: &W,
     alloc: Global,
     keys: &NodeKeys,
-    shelf: &H,
+    shelf: &mut H,
     shards: &mut S,
     relay: &mut R,
     clock: &mut C,
@@ -64,23 +66,30 @@ pub fn answer<W: Wait + Sync, H: Shelf, S: Shards, R: RelayLink, C: Clock, D: De
 ) -> Handled
     requires short { length payload.now ≤ MAX_REQUEST }
     requires planned { ArePlanned keys.now.channels.entries (S.plans shards.old) }
+    requires none_taken { H.taken shelf.old ≡ None }
     ensures answered { Answers
-        (setting_of (node_of keys.now (S.plans shards.old) (H.objects shelf.now))
-        (S.alone shards.old) (R.says relay.old))
-        (world_of (C.readings clock.old) (R.faults relay.old) (S.seen shards.old)
-        (S.own shards.old))
-        (world_of (C.readings clock.new) (R.faults relay.new) (S.seen shards.new)
-        (S.own shards.new)) payload.now out.new result }
+        (setting_of (node_of keys.now (S.plans shards.old) (H.objects shelf.old))
+        (alone_of (S.alone shards.old) (H.alone shelf.old)) (R.says relay.old))
+        (world_of (C.readings clock.old) (R.faults relay.old)
+        (viewed (S.seen shards.old) (S.own shards.old))
+        (viewed (H.seen shelf.old) (H.own shelf.old)))
+        (world_of (C.readings clock.new) (R.faults relay.new)
+        (viewed (S.seen shards.new) (S.own shards.new))
+        (viewed (H.seen shelf.new) (H.own shelf.new))) payload.now out.new result }
     ensures cause { HandlesCause (C.faults clock.old) (C.faults clock.new) result }
     ensures left { LeavesReply out.old out.new result }
+
+    // No object is left taken.
+    ensures taken { H.taken shelf.new ≡ None }
 
     // What nobody changes.
     ensures plans { S.plans shards.new ≡ S.plans shards.old }
     ensures alone { S.alone shards.new ≡ S.alone shards.old }
+    ensures objects { H.objects shelf.new ≡ H.objects shelf.old }
+    ensures others_take { H.alone shelf.new ≡ H.alone shelf.old }
     ensures says { R.says relay.new ≡ R.says relay.old }
 {
-    // It says that what was seen is legal.
-    let _count = shards.count();
+    are_legal(shelf, shards);
     match asked_of(alloc, keys, payload) {
         Ok(asked) => request(
             rt, alloc, keys, shelf, shards, relay, clock, bench, gate, &asked, out,

@@ -1,11 +1,10 @@
 //! A connection: one reply frame for each request frame, in order.
 
-ghost use Rattle.std.specs.Prelude.{◌≡◌, ℕ, [], ◌∷◌, IfOk, Some, slice_get};
+ghost use Rattle.std.specs.Prelude.{◌≡◌, [], ◌∷◌, IfOk, None};
 ghost use Rattle.std.specs.Thread.{IsSync};
 ghost use Rattle.frame_link.specs.Served.{line, counts, HasCauses, IsComplete};
-ghost use Rattle.agent_core.specs.Journals.{IsLegalJournal};
-ghost use Rattle.agent_core.specs.State.{Plan};
 ghost use Rattle.taos_monitor.specs.Arriving.{node_of};
+ghost use Rattle.taos_monitor.specs.Cells.{AreLegalIn, alone_of, seen_of, viewed};
 ghost use Rattle.taos_monitor.specs.Connection.{IsConnection};
 ghost use Rattle.taos_monitor.specs.Planned.{ArePlanned};
 ghost use Rattle.taos_monitor.specs.Serving.{StepsTo, StopsIn, state_of};
@@ -13,13 +12,14 @@ ghost use Rattle.taos_monitor.specs.World.{setting_of, world_of};
 
 use crate::answering::answer;
 use crate::handling::Handled;
+use crate::legal::are_legal;
 use crate::node_keys::NodeKeys;
 use crate::reply::ReplyBuf;
-use crate::shelf::Shelf;
 use agent_core::{FreeGate, Shards};
 use frame_link::{
     Clock, Failed, FrameBuf, MAX_PAYLOAD, Outcome, RelayLink, Service, Sink, Source, serve_frames,
 };
+use object_core::Shelf;
 use std::alloc::{AllocError, Global};
 use std::sync::Wait;
 use taos_calculus::Decide;
@@ -33,7 +33,7 @@ struct Answering<'w, 'k, 'h, 's, 'r, 'c, 'd, 'b, W, H, S, R, C, D> {
     rt: &'w W,
     alloc: Global,
     keys: &'k NodeKeys,
-    shelf: &'h H,
+    shelf: &'h mut H,
     shards: &'s mut S,
     relay: &'r mut R,
     clock: &'c mut C,
@@ -45,32 +45,38 @@ impl<W: Wait + Sync, H: Shelf, S: Shards, R: RelayLink, C: Clock, D: Decide> Ser
     for Answering<'_, '_, '_, '_, '_, '_, '_, '_, W, H, S, R, C, D> {
     ghost answers = { λ s payload reply t. StepsTo
         (state_of (setting_of (node_of s.keys.now (S.plans s.shards.now) (H.objects s.shelf.now))
-        (S.alone s.shards.now) (R.says s.relay.now))
-        (world_of (C.readings s.clock.now) (R.faults s.relay.now) (S.seen s.shards.now)
-        (S.own s.shards.now))) payload reply
+        (alone_of (S.alone s.shards.now) (H.alone s.shelf.now)) (R.says s.relay.now))
+        (world_of (C.readings s.clock.now) (R.faults s.relay.now)
+        (viewed (S.seen s.shards.now) (S.own s.shards.now))
+        (viewed (H.seen s.shelf.now) (H.own s.shelf.now)))) payload reply
         (state_of (setting_of (node_of t.keys.now (S.plans t.shards.now) (H.objects t.shelf.now))
-        (S.alone t.shards.now) (R.says t.relay.now))
-        (world_of (C.readings t.clock.now) (R.faults t.relay.now) (S.seen t.shards.now)
-        (S.own t.shards.now))) };
+        (alone_of (S.alone t.shards.now) (H.alone t.shelf.now)) (R.says t.relay.now))
+        (world_of (C.readings t.clock.now) (R.faults t.relay.now)
+        (viewed (S.seen t.shards.now) (S.own t.shards.now))
+        (viewed (H.seen t.shelf.now) (H.own t.shelf.now)))) };
 
     ghost gives_up = { λ s payload t. StopsIn
         (state_of (setting_of (node_of s.keys.now (S.plans s.shards.now) (H.objects s.shelf.now))
-        (S.alone s.shards.now) (R.says s.relay.now))
-        (world_of (C.readings s.clock.now) (R.faults s.relay.now) (S.seen s.shards.now)
-        (S.own s.shards.now))) payload
+        (alone_of (S.alone s.shards.now) (H.alone s.shelf.now)) (R.says s.relay.now))
+        (world_of (C.readings s.clock.now) (R.faults s.relay.now)
+        (viewed (S.seen s.shards.now) (S.own s.shards.now))
+        (viewed (H.seen s.shelf.now) (H.own s.shelf.now)))) payload
         (state_of (setting_of (node_of t.keys.now (S.plans t.shards.now) (H.objects t.shelf.now))
-        (S.alone t.shards.now) (R.says t.relay.now))
-        (world_of (C.readings t.clock.now) (R.faults t.relay.now) (S.seen t.shards.now)
-        (S.own t.shards.now))) };
+        (alone_of (S.alone t.shards.now) (H.alone t.shelf.now)) (R.says t.relay.now))
+        (world_of (C.readings t.clock.now) (R.faults t.relay.now)
+        (viewed (S.seen t.shards.now) (S.own t.shards.now))
+        (viewed (H.seen t.shelf.now) (H.own t.shelf.now)))) };
 
     ghost ready = { λ s. s.reply.now };
 
     ghost faults = { λ s. C.faults s.clock.now };
 
     ghost stands = { λ s. IsSync W.row
-        × ArePlanned s.keys.now.channels.entries (S.plans s.shards.now) };
+        × ArePlanned s.keys.now.channels.entries (S.plans s.shards.now)
+        × (H.taken s.shelf.now ≡ None) };
 
-    ghost borrows = { λ s. s.shards.ghost_name ∷ s.relay.ghost_name ∷ s.clock.ghost_name ∷ [] };
+    ghost borrows = { λ s. s.shelf.ghost_name ∷ s.shards.ghost_name ∷ s.relay.ghost_name
+        ∷ s.clock.ghost_name ∷ [] };
 
     fn answer(&mut self, payload: &[u8]) -> Result<(), Failed> {
         let mut gate = FreeGate;
@@ -116,19 +122,24 @@ fn serve_by<
 ) -> Outcome
     requires planned { ArePlanned service.old.keys.now.channels.entries
         (S.plans service.old.shards.now) }
-    requires legal { (s : ℕ) (p : Plan) → slice_get (S.plans service.old.shards.now) s ≡ Some p
-        → IsLegalJournal p (S.seen service.old.shards.now s) }
+    requires none_taken { H.taken service.old.shelf.now ≡ None }
+    requires legal { AreLegalIn (S.plans service.old.shards.now) (H.objects service.old.shelf.now)
+        (seen_of (viewed (S.seen service.old.shards.now) (S.own service.old.shards.now))
+        (viewed (H.seen service.old.shelf.now) (H.own service.old.shelf.now))).journals }
     requires limit { buf.old.limit ≡ MAX_REQUEST }
     ensures connection { IsConnection
         (setting_of (node_of service.old.keys.now (S.plans service.old.shards.now)
-        (H.objects service.old.shelf.now)) (S.alone service.old.shards.now)
+        (H.objects service.old.shelf.now))
+        (alone_of (S.alone service.old.shards.now) (H.alone service.old.shelf.now))
         (R.says service.old.relay.now)) frames
         (line (I.left input.old) (O.written output.old)
         (world_of (C.readings service.old.clock.now) (R.faults service.old.relay.now)
-        (S.seen service.old.shards.now) (S.own service.old.shards.now)))
+        (viewed (S.seen service.old.shards.now) (S.own service.old.shards.now))
+        (viewed (H.seen service.old.shelf.now) (H.own service.old.shelf.now))))
         (line (I.left input.new) (O.written output.new)
         (world_of (C.readings service.new.clock.now) (R.faults service.new.relay.now)
-        (S.seen service.new.shards.now) (S.own service.new.shards.now))) result }
+        (viewed (S.seen service.new.shards.now) (S.own service.new.shards.now))
+        (viewed (H.seen service.new.shelf.now) (H.own service.new.shelf.now)))) result }
     ensures causes { HasCauses
         (counts (I.faults input.old) (O.faults output.old) (C.faults service.old.clock.now))
         (counts (I.faults input.new) (O.faults output.new) (C.faults service.new.clock.now))
@@ -137,9 +148,13 @@ fn serve_by<
         (counts (I.faults input.old) (O.faults output.old) (C.faults service.old.clock.now))
         (counts (I.faults input.new) (O.faults output.new) (C.faults service.new.clock.now))
         result }
+    ensures taken { H.taken service.new.shelf.now ≡ None }
     ensures plans { S.plans service.new.shards.now ≡ S.plans service.old.shards.now }
     ensures alone { S.alone service.new.shards.now ≡ S.alone service.old.shards.now }
+    ensures objects { H.objects service.new.shelf.now ≡ H.objects service.old.shelf.now }
+    ensures others_take { H.alone service.new.shelf.now ≡ H.alone service.old.shelf.now }
     ensures says { R.says service.new.relay.now ≡ R.says service.old.relay.now }
+    ensures same_shelf { service.new.shelf.ghost_name ≡ service.old.shelf.ghost_name }
     ensures same_shards { service.new.shards.ghost_name ≡ service.old.shards.ghost_name }
     ensures same_relay { service.new.relay.ghost_name ≡ service.old.relay.ghost_name }
     ensures same_clock { service.new.clock.ghost_name ≡ service.old.clock.ghost_name }
@@ -169,7 +184,7 @@ pub fn serve_connection<
     rt: &W,
     alloc: Global,
     keys: &NodeKeys,
-    shelf: &H,
+    shelf: &mut H,
     shards: &mut S,
     relay: &mut R,
     clock: &mut C,
@@ -179,15 +194,18 @@ pub fn serve_connection<
     frames: u64,
 ) -> Outcome
     requires planned { ArePlanned keys.now.channels.entries (S.plans shards.old) }
+    requires none_taken { H.taken shelf.old ≡ None }
     ensures connection { IsConnection
-        (setting_of (node_of keys.now (S.plans shards.old) (H.objects shelf.now))
-        (S.alone shards.old) (R.says relay.old)) frames
+        (setting_of (node_of keys.now (S.plans shards.old) (H.objects shelf.old))
+        (alone_of (S.alone shards.old) (H.alone shelf.old)) (R.says relay.old)) frames
         (line (I.left input.old) (O.written output.old)
-        (world_of (C.readings clock.old) (R.faults relay.old) (S.seen shards.old)
-        (S.own shards.old)))
+        (world_of (C.readings clock.old) (R.faults relay.old)
+        (viewed (S.seen shards.old) (S.own shards.old))
+        (viewed (H.seen shelf.old) (H.own shelf.old))))
         (line (I.left input.new) (O.written output.new)
-        (world_of (C.readings clock.new) (R.faults relay.new) (S.seen shards.new)
-        (S.own shards.new))) result }
+        (world_of (C.readings clock.new) (R.faults relay.new)
+        (viewed (S.seen shards.new) (S.own shards.new))
+        (viewed (H.seen shelf.new) (H.own shelf.new)))) result }
     ensures causes { HasCauses
         (counts (I.faults input.old) (O.faults output.old) (C.faults clock.old))
         (counts (I.faults input.new) (O.faults output.new) (C.faults clock.new)) result }
@@ -195,13 +213,17 @@ pub fn serve_connection<
         (counts (I.faults input.old) (O.faults output.old) (C.faults clock.old))
         (counts (I.faults input.new) (O.faults output.new) (C.faults clock.new)) result }
 
+    // No object is left taken.
+    ensures taken { H.taken shelf.new ≡ None }
+
     // What nobody changes.
     ensures plans { S.plans shards.new ≡ S.plans shards.old }
     ensures alone { S.alone shards.new ≡ S.alone shards.old }
+    ensures objects { H.objects shelf.new ≡ H.objects shelf.old }
+    ensures others_take { H.alone shelf.new ≡ H.alone shelf.old }
     ensures says { R.says relay.new ≡ R.says relay.old }
 {
-    // It says that what was seen is legal.
-    let _count = shards.count();
+    are_legal(shelf, shards);
     let Ok((mut buf, mut reply)) = room_of(alloc) else {
         return Outcome::NoMemory;
     };

@@ -1,21 +1,24 @@
 //! The course of one request, from where it was read on.
 
-ghost use Rattle.std.specs.Prelude.{◌≡◌, ◌≤◌, IsSome, length, All};
+ghost use Rattle.std.specs.Prelude.{◌≡◌, ◌≤◌, IsSome, None, length, All};
 ghost use Rattle.keyed_seal.specs.Keys.{key_of};
 ghost use Rattle.taos_wire.specs.Request.{FitsRequest};
 ghost use Rattle.taos_wire.specs.View.{request as request_of};
 ghost use Rattle.taos_monitor.specs.Arriving.{node_of};
+ghost use Rattle.taos_monitor.specs.Cells.{alone_of, viewed};
 ghost use Rattle.taos_monitor.specs.Handling.{Handles, HandlesCause, LeavesReply};
 ghost use Rattle.taos_monitor.specs.Planned.{IsPlanned};
 ghost use Rattle.taos_monitor.specs.World.{setting_of, world_of};
 
 use crate::arrival::arrive;
+use crate::deciding::{Came, Deciding};
+use crate::legal::are_legal;
 use crate::node_keys::NodeKeys;
 use crate::reply::ReplyBuf;
-use crate::ruling::{Came, rule};
-use crate::shelf::Shelf;
+use crate::ruling::rule;
 use agent_core::{Gate, Shards};
 use frame_link::{Clock, RelayLink};
+use object_core::Shelf;
 use std::alloc::Global;
 use std::sync::Wait;
 use taos_calculus::Decide;
@@ -26,18 +29,18 @@ use taos_wire::Request;
 pub enum Handled {
     /// The reply was left.
     Replied,
-    /// The clock failed, before any shard was stepped.
+    /// The clock failed, before any shard was stepped or the object taken.
     ClockFault,
 }
 
 /// Handles one request, which was found to be under the seal of its channel's key, and leaves the
 /// sealed reply in the buffer. The moment is the clock's reading, or what the shard's clock had
-/// come to.
+/// come to. What is granted is performed after its ruling stands in the journal of the object.
 pub fn request<W: Wait + Sync, H: Shelf, S: Shards, R: RelayLink, C: Clock, D: Decide, G: Gate>(
     rt: &W,
     alloc: Global,
     keys: &NodeKeys,
-    shelf: &H,
+    shelf: &mut H,
     shards: &mut S,
     relay: &mut R,
     clock: &mut C,
@@ -50,21 +53,30 @@ pub fn request<W: Wait + Sync, H: Shelf, S: Shards, R: RelayLink, C: Clock, D: D
     requires short { All (λ t. length t ≤ 65531) (request_of asked.now).certs }
     requires keyed { IsSome (key_of keys.now.channels.entries asked.now.channel) }
     requires planned { IsPlanned (S.plans shards.old) asked.now.channel }
+    requires none_taken { H.taken shelf.old ≡ None }
     ensures handled { Handles
-        (setting_of (node_of keys.now (S.plans shards.old) (H.objects shelf.now))
-        (S.alone shards.old) (R.says relay.old))
-        (world_of (C.readings clock.old) (R.faults relay.old) (S.seen shards.old)
-        (S.own shards.old))
-        (world_of (C.readings clock.new) (R.faults relay.new) (S.seen shards.new)
-        (S.own shards.new)) (request_of asked.now) out.new result }
+        (setting_of (node_of keys.now (S.plans shards.old) (H.objects shelf.old))
+        (alone_of (S.alone shards.old) (H.alone shelf.old)) (R.says relay.old))
+        (world_of (C.readings clock.old) (R.faults relay.old)
+        (viewed (S.seen shards.old) (S.own shards.old))
+        (viewed (H.seen shelf.old) (H.own shelf.old)))
+        (world_of (C.readings clock.new) (R.faults relay.new)
+        (viewed (S.seen shards.new) (S.own shards.new))
+        (viewed (H.seen shelf.new) (H.own shelf.new))) (request_of asked.now) out.new result }
     ensures cause { HandlesCause (C.faults clock.old) (C.faults clock.new) result }
     ensures left { LeavesReply out.old out.new result }
+
+    // No object is left taken.
+    ensures taken { H.taken shelf.new ≡ None }
 
     // What nobody changes.
     ensures plans { S.plans shards.new ≡ S.plans shards.old }
     ensures alone { S.alone shards.new ≡ S.alone shards.old }
+    ensures objects { H.objects shelf.new ≡ H.objects shelf.old }
+    ensures others_take { H.alone shelf.new ≡ H.alone shelf.old }
     ensures says { R.says relay.new ≡ R.says relay.old }
 {
+    are_legal(shelf, shards);
     let sealer = keys.channels.sealer(asked.channel).unwrap();
     let shard = asked.channel % shards.count();
     let arrived = match arrive(alloc, keys, shelf, relay, asked) {
@@ -84,6 +96,14 @@ pub fn request<W: Wait + Sync, H: Shelf, S: Shards, R: RelayLink, C: Clock, D: D
         arrived,
         reading,
     };
-    rule(rt, alloc, shards, bench, gate, came, out);
+    rule(
+        rt,
+        alloc,
+        shelf,
+        shards,
+        Deciding { bench, gate },
+        came,
+        out,
+    );
     Handled::Replied
 }

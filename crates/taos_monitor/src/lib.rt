@@ -4,14 +4,19 @@
 mod answering;
 mod arrival;
 mod connection;
+mod deciding;
+mod due;
+mod guarding;
 mod handling;
 mod laws;
+mod legal;
 mod node_keys;
+mod performing;
 mod presented;
 mod refusal;
 mod reply;
 mod ruling;
-mod shelf;
+mod stepping;
 
 pub use answering::answer;
 pub use connection::{MAX_REQUEST, serve_connection};
@@ -24,4 +29,3 @@ pub use node_keys::NodeKeys;
 pub use presented::BAD_RESEAL;
 pub use refusal::Refusal;
 pub use reply::{REPLY_ROOM, ReplyBuf};
-pub use shelf::{Shelf, Shown};

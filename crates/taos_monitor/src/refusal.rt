@@ -24,8 +24,6 @@ pub enum Refusal {
     UnknownObject { number: u32 },
     /// Memory was refused.
     NoMemory,
-    /// What it asks is not built yet.
-    Unbuilt,
 }
 
 impl From<AllocError> for Refusal {
@@ -56,6 +54,5 @@ pub fn reply_of(why: Refusal) -> Reply
         Refusal::RelayFailed { index } => Reply::RelayFailed { index },
         Refusal::UnknownObject { number } => Reply::UnknownObject { number },
         Refusal::NoMemory => Reply::NoMemory,
-        Refusal::Unbuilt => Reply::Unbuilt,
     }
 }

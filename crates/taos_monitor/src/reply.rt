@@ -1,6 +1,6 @@
 //! Room for a reply.
 
-ghost use Rattle.std.specs.Prelude.{◌≡◌, ◌<◌, ◌≤◌, ◌^◌, ◌⊎◌, [], Some, length, IfOk};
+ghost use Rattle.std.specs.Prelude.{◌≡◌, ◌<◌, ◌≤◌, ◌^◌, if◌then◌else◌, [], Some, length, IfOk};
 ghost use Rattle.std.specs.Option.{option_copied};
 ghost use Rattle.prin_term.specs.Refusal.{FitsLimits};
 ghost use Rattle.prin_term.specs.View.{principal};
@@ -110,25 +110,27 @@ impl ReplyBuf {
         write_missing_with(&mut self.bytes, sealer, channel, seq, denial).unwrap();
     }
 
-    /// Leaves a grant, with the content that was read; or the reply of want of memory.
+    /// Leaves a grant, with what its operation gives; or the reply of want of memory. Whether it is
+    /// the grant.
     pub(crate) fn leave_granted(
         &mut self,
         sealer: &Sealer,
         channel: u32,
         seq: u64,
         grant: &LentGrant<'_>,
-    )
+    ) -> bool
         requires few { length grant.now.certs.now ≤ MAX_CITED }
         requires short { length grant.now.content.now < 2 ^ 16 }
-        ensures reply { (self.new ≡ spelling (sent (Some sealer.now) channel seq
-            (lent_grant grant.now)))
-            ⊎ (self.new ≡ spelling (sent (Some sealer.now) channel seq NoMemory)) }
+        ensures reply { self.new ≡ spelling (sent (Some sealer.now) channel seq
+            (if result then lent_grant grant.now else NoMemory)) }
         ensures short { length self.new < 2 ^ 32 }
     {
         self.bytes.clear();
         let written = write_granted(&mut self.bytes, sealer, channel, seq, grant);
         if written.is_err() {
             self.leave_refused(sealer, channel, seq, Refusal::NoMemory);
+            return false;
         }
+        true
     }
 }

@@ -1,220 +1,120 @@
-//! The ruling on a request that came to its object: its ask, and the reply that tells how that
-//! ended.
+//! The ruling on a request that came to its object: the object is taken, the operation ruled on, and
+//! the object given back; what is granted is performed.
 
-ghost use Rattle.std.specs.Prelude.{◌≡◌, ◌<◌, All, IfOk, OnErr, Some, false, length, slice_get, ℕ};
-ghost use Rattle.object_core.specs.Operation.{IsAccessList, IsContent};
-ghost use Rattle.agent_core.specs.declared.asked.Verdict.TheVariants as verdicts;
-ghost use Rattle.agent_core.specs.Asked.{AskEnds, Unanswered};
-ghost use Rattle.agent_core.specs.Journals.{IsLegalJournal};
+ghost use Rattle.std.specs.Prelude.{◌≡◌, ◌<◌, ◌≤◌, ℕ, All, IfOk, IsSome, List, None, Some, length};
+ghost use Rattle.object_core.specs.ObjectView.{object_entry};
+ghost use Rattle.object_core.specs.Shelving.{AreWithin, HaveOwnNumbers, ObjectFixed, fixed_at};
+ghost use Rattle.object_core.specs.View.{operation};
 ghost use Rattle.agent_core.specs.Plans.{IsPlan, home};
 ghost use Rattle.agent_core.specs.State.{Plan};
-ghost use Rattle.agent_core.specs.Views.{ask_of};
+ghost use Rattle.stmt_codec.specs.View.{certificates};
 ghost use Rattle.taos_wire.specs.Request.{FitsRequest};
 ghost use Rattle.taos_wire.specs.View.{request};
-ghost use Rattle.taos_monitor.specs.Arriving.{StandsFor, object_seen};
-ghost use Rattle.taos_monitor.specs.Cells.{seen_of};
-ghost use Rattle.taos_monitor.specs.Course.{asking};
+ghost use Rattle.taos_monitor.specs.Arriving.{StandsFor};
+ghost use Rattle.taos_monitor.specs.AtObject.{ruled_as};
+ghost use Rattle.taos_monitor.specs.Cells.{AreLegalShards, alone_of, seen_of, viewed};
+ghost use Rattle.taos_monitor.specs.Effects.{IsDueOf, IsReady};
 ghost use Rattle.taos_monitor.specs.Planned.{IsPlanned};
-ghost use Rattle.taos_monitor.specs.Ruling.{AskedAt, HasPart, IsToldBy, Leaves, MayTell, RuledTo, ask_came, ask_seen};
+ghost use Rattle.taos_monitor.specs.Ruling.{GuardedTo, Leaves, seeking_of, standing_of};
 
-use crate::arrival::Arrived;
+use crate::deciding::{Came, Deciding, Ruled, decide};
+use crate::due::{Due, due_for};
+use crate::guarding::{give_ruled, give_unruled};
+use crate::performing::perform_ruled;
 use crate::refusal::Refusal;
 use crate::reply::ReplyBuf;
-use crate::shelf::Shown;
-use agent_core::{Ask, Asked, Denial, Gate, Shards, Verdict, ask};
-use keyed_seal::Sealer;
+use agent_core::{Gate, Shards};
+use object_core::{ObjectEntry, Op, Shelf};
 use std::alloc::{AllocError, Global};
 use std::sync::{Arc, Wait};
 use taos_calculus::Decide;
-use taos_wire::{LentGrant, LentPart, LinkSent, Reply, Request};
 
-/// A request that came to its object and to the clock: whom it is answered, at which shard it is
-/// asked, and what the clock read.
+// What memory is taken for before the object is taken: the operation's entry in its journal, and
+// what is due in the shards.
 #[derive(Drop)]
-pub(crate) struct Came<'a> {
-    pub(crate) asked: &'a Request,
-    pub(crate) sealer: &'a Sealer,
-    pub(crate) shard: u32,
-    pub(crate) arrived: Arrived<'a>,
-    pub(crate) reading: u64,
+struct Ready {
+    op: Arc<Op>,
+    due: Due,
 }
 
-// The mark of a shard's journal.
-const SHARD: u8 = 1;
-
-// The ask that a request makes, at what the clock read.
-fn ask_for(
-    alloc: Global,
-    asked: &Request,
-    arrived: Arrived<'_>,
-    reading: u64,
-) -> Result<Arc<Ask>, AllocError>
-    ensures { IfOk result
-        (λ a. ask_of a.value ≡ ask_seen (request asked.now) arrived.entry reading) }
+fn ready_for(alloc: Global, count: u32, came: &Came<'_>) -> Result<Ready, AllocError>
+    requires some { 0 < count }
+    requires few { length came.now.arrived.certs.items ≤ 16 }
+    ensures op { IfOk result (λ r. r.op.value ≡ came.now.asked.now.op.value) }
+    ensures ready { IfOk result (λ r. (plans : List Plan) → length plans ≡ count
+        → IsReady plans r.due) }
+    ensures due { IfOk result (λ r. (plans : List Plan) → length plans ≡ count
+        → IsDueOf plans (operation came.now.asked.now.op.value)
+        (certificates came.now.arrived.certs.items) came.now.reading r.due) }
 {
-    let list = Arc::try_clone(arrived.shown.list)?;
-    let made = Ask {
-        channel: asked.channel,
-        seq: asked.seq,
-        reading,
-        subject: arrived.subject,
-        list,
-        right: arrived.right,
-        presented: arrived.certs,
-    };
-    Ok(Arc::new(alloc, made)?)
+    let asked = came.asked;
+    let op = Arc::try_clone(&asked.op)?;
+    let due = due_for(alloc, count, &asked.op, &came.arrived.certs, came.reading)?;
+    Ok(Ready { op, due })
 }
 
-// The ask at the shard of the channel, and how it ended.
-fn ask_at_home<W: Wait + Sync, S: Shards, D: Decide, G: Gate>(
+// The entry of the object's journal.
+fn entry_of(op: Arc<Op>, ruled: Ruled) -> ObjectEntry
+    ensures entry { object_entry result
+        ≡ ruled_as ruled.shard ruled.place (operation op.value) ruled.ruling }
+    ensures op { result.op ≡ op }
+{
+    ObjectEntry {
+        shard: ruled.shard,
+        place: ruled.place,
+        op,
+        ruling: ruled.ruling,
+    }
+}
+
+/// Takes the object, rules on the operation, and gives the object back; what is granted is
+/// performed. The reply is left.
+pub(crate) fn rule<W: Wait + Sync, H: Shelf, S: Shards, D: Decide, G: Gate>(
     rt: &W,
     alloc: Global,
+    shelf: &mut H,
     shards: &mut S,
-    bench: &mut D,
-    gate: &mut G,
-    came: Came<'_>,
-) -> Result<Asked, AllocError>
-    requires limits { FitsRequest (request came.asked.now) }
-    requires stands { StandsFor (request came.asked.now) came.arrived }
-    requires there { home (S.plans shards.old) came.asked.now.channel
-        < length (S.plans shards.old) }
-    requires legal { (s : ℕ) (p : Plan) → slice_get (S.plans shards.old) s ≡ Some p
-        → IsLegalJournal p (S.seen shards.old s) }
-    requires planned { IsPlanned (S.plans shards.old) came.asked.now.channel }
-    ensures ended { IfOk result (λ r. AskedAt (S.plans shards.old) (S.alone shards.old)
-        (seen_of (S.seen shards.old) (S.own shards.old))
-        (seen_of (S.seen shards.new) (S.own shards.new))
-        (home (S.plans shards.old) came.entry.asked.now.channel) (λ plan journal own.
-        AskEnds plan journal (ask_came came.entry) r own)) }
-    ensures lacked { OnErr result (AskedAt (S.plans shards.old) (S.alone shards.old)
-        (seen_of (S.seen shards.old) (S.own shards.old))
-        (seen_of (S.seen shards.new) (S.own shards.new))
-        (home (S.plans shards.old) came.entry.asked.now.channel) (λ plan journal own.
-        Unanswered plan journal (ask_came came.entry) own)) }
-    ensures plans { S.plans shards.new ≡ S.plans shards.old }
-    ensures alone { S.alone shards.new ≡ S.alone shards.old }
-{
-    let made = ask_for(alloc, came.asked, came.arrived, came.reading)?;
-    ask(rt, alloc, shards, bench, gate, made)
-}
-
-// Leaves a denial: a part of an entry is told by itself.
-fn leave_denied(
-    out: &mut ReplyBuf,
-    sealer: &Sealer,
-    asked: &Request,
-    shown: Shown<'_>,
-    shard: u32,
-    place: u64,
-    denial: Denial,
-)
-    requires list { IsAccessList (object_seen asked.now.object shown).list }
-    requires named { HasPart (object_seen asked.now.object shown).list denial }
-    ensures { Leaves asked.now.channel asked.now.seq sealer.now out.new
-        (IsToldBy (object_seen asked.now.object shown.entry) shard place false
-        (verdicts.Denied denial)) }
-{
-    let (channel, seq) = (asked.channel, asked.seq);
-    let link = match denial {
-        Denial::Missing { entry, node } => {
-            let part = shown.list[entry as usize].who.part(node).unwrap();
-            let missing = LentPart {
-                shard,
-                place,
-                entry,
-                part,
-            };
-            out.leave_missing(sealer, channel, seq, &missing);
-            return;
-        }
-        Denial::Expired { entry, digest } => LinkSent::Expired { entry, digest },
-        Denial::NoEntry => LinkSent::NoEntry,
-    };
-    let answer = Reply::Denied { shard, place, link };
-    out.leave_sealed(sealer, channel, seq, &answer);
-}
-
-// Leaves what an ask ended with.
-fn leave_asked(
-    out: &mut ReplyBuf,
-    sealer: &Sealer,
-    asked: &Request,
-    shown: Shown<'_>,
-    shard: u32,
-    ended: &Asked,
-)
-    requires content { IsContent (object_seen asked.now.object shown).content }
-    requires list { IsAccessList (object_seen asked.now.object shown).list }
-    requires named { MayTell (object_seen asked.now.object shown).list ended.now.verdict }
-    ensures { Leaves asked.now.channel asked.now.seq sealer.now out.new
-        (IsToldBy (object_seen asked.now.object shown.entry) shard ended.now.place
-        ended.now.kept ended.now.verdict) }
-{
-    let (channel, seq, place) = (asked.channel, asked.seq, ended.place);
-    let answer = match &ended.verdict {
-        Verdict::Granted { entry, cached } => {
-            let grant = LentGrant {
-                kept: ended.kept,
-                entry: *entry,
-                shard,
-                place,
-                proof: &cached.proof,
-                certs: &cached.cites,
-                content: shown.content,
-            };
-            out.leave_granted(sealer, channel, seq, &grant);
-            return;
-        }
-        Verdict::Denied(denial) => {
-            leave_denied(out, sealer, asked, shown, shard, place, *denial);
-            return;
-        }
-        Verdict::Replayed { last } => Reply::Replayed { last: *last },
-        Verdict::Full { held } => Reply::ChannelFull { held: *held },
-        Verdict::JournalFull { length } => Reply::JournalFull {
-            which: SHARD,
-            number: shard,
-            length: *length,
-        },
-    };
-    out.leave_sealed(sealer, channel, seq, &answer);
-}
-
-/// Asks at the shard of the channel, and leaves what came of it.
-pub(crate) fn rule<W: Wait + Sync, S: Shards, D: Decide, G: Gate>(
-    rt: &W,
-    alloc: Global,
-    shards: &mut S,
-    bench: &mut D,
-    gate: &mut G,
+    by: Deciding<'_, '_, D, G>,
     came: Came<'_>,
     out: &mut ReplyBuf,
 )
     requires shard { came.shard ≡ home (S.plans shards.old) came.asked.now.channel }
-    requires there { home (S.plans shards.old) came.asked.now.channel
-        < length (S.plans shards.old) }
     requires sound { All IsPlan (S.plans shards.old) }
-    requires legal { (s : ℕ) (p : Plan) → slice_get (S.plans shards.old) s ≡ Some p
-        → IsLegalJournal p (S.seen shards.old s) }
+    requires legal { AreLegalShards (S.plans shards.old) (S.seen shards.old) }
+    requires within { AreWithin (H.objects shelf.old) (H.seen shelf.old) }
+    requires none_taken { H.taken shelf.old ≡ None }
+    requires there { IsSome (fixed_at (H.objects shelf.old) came.asked.now.object) }
     requires limits { FitsRequest (request came.asked.now) }
     requires stands { StandsFor (request came.asked.now) came.arrived }
     requires planned { IsPlanned (S.plans shards.old) came.asked.now.channel }
-    ensures ruled { Leaves came.entry.asked.now.channel came.entry.asked.now.seq
-        came.entry.sealer.now out.new
-        (RuledTo (S.plans shards.old) (S.alone shards.old)
-        (seen_of (S.seen shards.old) (S.own shards.old))
-        (seen_of (S.seen shards.new) (S.own shards.new))
-        (asking (home (S.plans shards.old) came.entry.asked.now.channel) (ask_came came.entry)
-        (object_seen came.entry.asked.now.object came.entry.arrived.shown))) }
+    ensures guarded { (fixed : ObjectFixed)
+        → fixed_at (H.objects shelf.old) came.entry.asked.now.object ≡ Some fixed
+        → Leaves came.entry.asked.now.channel came.entry.asked.now.seq came.entry.sealer.now out.new
+        (GuardedTo (standing_of (S.plans shards.old) (H.objects shelf.old)
+        (alone_of (S.alone shards.old) (H.alone shelf.old)))
+        (seen_of (viewed (S.seen shards.old) (S.own shards.old))
+        (viewed (H.seen shelf.old) (H.own shelf.old)))
+        (seen_of (viewed (S.seen shards.new) (S.own shards.new))
+        (viewed (H.seen shelf.new) (H.own shelf.new))) (seeking_of came.entry fixed)) }
+    ensures taken { H.taken shelf.new ≡ None }
+    ensures objects { H.objects shelf.new ≡ H.objects shelf.old }
+    ensures others_take { H.alone shelf.new ≡ H.alone shelf.old }
     ensures plans { S.plans shards.new ≡ S.plans shards.old }
     ensures alone { S.alone shards.new ≡ S.alone shards.old }
 {
-    let (asked, sealer, shard) = (came.asked, came.sealer, came.shard);
-    let shown = came.arrived.shown;
-    match ask_at_home(rt, alloc, shards, bench, gate, came) {
-        Ok(ended) => leave_asked(out, sealer, asked, shown, shard, &ended),
-        Err(AllocError) => {
-            out.leave_refused(sealer, asked.channel, asked.seq, Refusal::NoMemory);
-        }
+    let (asked, sealer) = (came.asked, came.sealer);
+    let Ok(ready) = ready_for(alloc, shards.count(), &came) else {
+        out.leave_refused(sealer, asked.channel, asked.seq, Refusal::NoMemory);
+        return;
+    };
+    let object = shelf.take(rt, asked.object).unwrap();
+    let Some(ruled) = decide(rt, alloc, shards, by, came, &object, out) else {
+        give_unruled(shelf, object);
+        return;
+    };
+    give_ruled(shelf, object, entry_of(ready.op, ruled));
+    let refused = perform_ruled(rt, alloc, shards, &asked.op, ready.due, ruled.ruling);
+    if let Some(refused) = refused {
+        out.leave_sealed(sealer, asked.channel, asked.seq, &refused);
     }
 }

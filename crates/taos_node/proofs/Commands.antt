@@ -8,7 +8,7 @@ use Rattle.frame_link.specs.Faults.{Rose}
 use Rattle.frame_link.specs.Relay.{Said}
 use Rattle.taos_node.specs.declared.command.Lane.{Lane}
 use Rattle.node_file.specs.Opening.{Opening}
-use Rattle.taos_monitor.specs.Cells.{Node, Seen}
+use Rattle.taos_monitor.specs.Cells.{Node, Seen, alone_of}
 use Rattle.taos_monitor.specs.Connection.{IsConnection}
 use Rattle.taos_node.specs.declared.ending.FileFault.{FileFault}
 use Rattle.taos_node.specs.declared.ending.FileFault.TheVariants as fault
@@ -182,6 +182,6 @@ module _ {C R D I O : Type 0} where
 -- a connection over what is touched, as the first lane tells it
 pub touches : (n : Node) (frames : ℕ) (file0 file1 in0 in1 out0 out1 clock0 clock0' clock1 clock1' : Stream) (relay0 relay0' relay1 relay1' : Link) (seen seen' last : Seen) (outcome : Outcome) →
     clock0' ≡ clock0 → clock1' ≡ clock1 → relay0' ≡ relay0 → relay1' ≡ relay1 → seen' ≡ seen →
-    IsConnection (setting_of n true relay0.says) frames (with_seen (touched file0 in0 out0 clock0 relay0) seen) (with_seen (touched file1 in1 out1 clock1 relay1) last) outcome →
-    IsConnection (setting_of n true relay0'.says) frames (with_seen (touched file0 in0 out0 clock0' relay0') seen') (with_seen (touched file1 in1 out1 clock1' relay1') last) outcome
+    IsConnection (setting_of n (alone_of true true) relay0.says) frames (with_seen (touched file0 in0 out0 clock0 relay0) seen) (with_seen (touched file1 in1 out1 clock1 relay1) last) outcome →
+    IsConnection (setting_of n (alone_of true true) relay0'.says) frames (with_seen (touched file0 in0 out0 clock0' relay0') seen') (with_seen (touched file1 in1 out1 clock1' relay1') last) outcome
 touches n frames file0 file1 in0 in1 out0 out1 clock0 clock0' clock1 clock1' relay0 relay0' relay1 relay1' seen seen' last outcome e1 e2 e3 e4 e5 c = rw (e1, e2, e3, e4, e5) c

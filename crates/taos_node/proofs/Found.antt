@@ -1,9 +1,9 @@
 -- What is read of words.
-use Rattle.std.proofs.Common.{append_assoc, ◌≡◌, ℕ, zero, suc, ◌<◌, Bool, List, [], ◌∷◌, ◌++◌, ◌+◌, length, Option, Some, None, Result, Ok, Err, refl, sym, ap, subst, ◌∙◌, codes, arith, inl, inr, IsTrue}
+use Rattle.std.proofs.Common.{append_assoc, ◌≡◌, ℕ, zero, suc, ◌<◌, ◌≤◌, Bool, true, List, [], ◌∷◌, ◌++◌, ◌+◌, length, Option, Some, None, Result, Ok, Err, refl, sym, ap, subst, ◌∙◌, codes, arith, inl, inr, IsTrue, ◌^◌, decimal}
 use Rattle.std.specs.Option.{option_map}
 use Rattle.std.specs.Borrow.{Bor}
 use Rattle.std.specs.Str.Parse.{ParsesUnsigned}
-use Rattle.std.proofs.lemmas.Fmt.{parse-decimal}
+use Rattle.std.proofs.lemmas.Fmt.{decimal_digit, decimal_injective, parse-decimal}
 use Rattle.clap.specs.Words.{Row, Text, first_of, first_value, rows_of}
 use Rattle.clap.specs.declared.parser.matches.Found.{Found}
 use Rattle.clap.proofs.WalkLemmas.{first_value-rows}
@@ -22,12 +22,14 @@ use Rattle.clap.specs.declared.error.Error.{Error}
 use Rattle.clap.specs.declared.error.kind.ErrorKind.TheVariants as kind
 use Rattle.clap.specs.declared.parser.matches.ArgMatches.{ArgMatches}
 use Rattle.taos_node.specs.declared.wanted.Wanted.{Wanted}
-use Rattle.taos_node.specs.Words.{Given, IsCount, IsMeaning, Mean, ServeFrames, TextsMean, Task, Run, Check, Relay, serving_options, task_of, value_of, words_of}
-use Rattle.taos_node.specs.Table.{IsOfTable, IsOption, IsPlainWord, IsServingOf, all_options, commands, taos_app, plain, option, alone, joined}
+use Rattle.taos_node.specs.Words.{Given, HasNumber, IsMeaning, IsNumber, IsValue, Mean, ServeFrames, TextsMean, GivesMint, MintWords, Task, Run, Check, Relay, Mint, mint_options, serving_options, task_of, value_of, words_of}
+use Rattle.taos_node.specs.Table.{IsOfTable, IsOption, IsOptionOf, IsPlainWord, IsMintOf, IsServingOf, commands, taos_app, plain, option, alone, joined}
 use Rattle.taos_node.proofs.Made.{taos_is_simple}
+use Rattle.taos_node.proofs.Meanings as law
+use Rattle.std.proofs.Math.Path.{fun_ext}
 use Rattle.taos_node.proofs.Rows.{AreNew, first_of_rows, rows_for}
-use Rattle.taos_node.proofs.Levels.{Entry, IsFound, IsSplit, each_command, line_found, line_split}
-use Rattle.taos_node.proofs.Meanings.{IsTaken, TextMeaning, check_there, is_line, meant_found, other_command, relay_there, run_there, serve_line, served_frames}
+use Rattle.taos_node.proofs.Levels.{Entry, IsFound, IsSplit, each_command, line_found, line_split, mint_within}
+use Rattle.taos_node.proofs.Meanings.{IsTaken, TextMeaning, check_there, mint_there, is_line, same_values, meant_found, other_command, relay_there, run_there, serve_line, served_frames}
 use Rattle.std.specs.List.{flat_map}
 use Rattle.std.proofs.lemmas.List.{append-nil, append_cancel_left}
 use Rattle.std.specs.Prelude.{Contains}
@@ -35,17 +37,65 @@ use Rattle.std.specs.Prelude.{Contains}
 pub text_found : (r : Option (Bor Text)) (f : Found) (name : Text) → option_map (λ s. s.now) r ≡ first_value f name → option_map (λ s. s.now) r ≡ first_of name (rows_of f)
 text_found r f name is = is ∙ first_value-rows f name
 
--- a count is read as itself
-pub count_is_read : {E : Type 0} (text : Text) (r : Result ℕ E) (n : ℕ) → ParsesUnsigned 64 10 text r → IsCount text n → r ≡ Ok n
-count_is_read text r n parses is = parse-decimal 64 n text r is.2 is.2 is.0 parses
+-- a number is read as itself
+number_is_read : {E : Type 0} (text : Text) (r : Result ℕ E) (n : ℕ) → ParsesUnsigned 64 10 text r → IsNumber (2 ^ 64) text n → r ≡ Ok n
+number_is_read text r n parses is = parse-decimal 64 n text r is.1 is.1 is.0 parses
 
--- a text that is no number is no count
-pub not_read : {E : Type 0} (text : Text) (r : Result ℕ E) (e : E) (n : ℕ) → ParsesUnsigned 64 10 text r → r ≡ Err e → IsCount text n → ⊥
-not_read text r e n parses failed is = absurd (cc (failed, count_is_read text r n parses is))
+-- a text that is no number is not written as one
+pub not_read : {E : Type 0} (text : Text) (r : Result ℕ E) (e : E) (n : ℕ) → ParsesUnsigned 64 10 text r → r ≡ Err e → IsNumber (2 ^ 64) text n → ⊥
+not_read text r e n parses failed is = absurd (cc (failed, number_is_read text r n parses is))
 
--- what is read of a count is the count
-pub is_read : {E : Type 0} (text : Text) (r : Result ℕ E) (m n : ℕ) → ParsesUnsigned 64 10 text r → r ≡ Ok m → IsCount text n → m ≡ n
-is_read text r m n parses read is = cc (read, count_is_read text r n parses is)
+-- what is read of a number is the number
+pub is_read : {E : Type 0} (text : Text) (r : Result ℕ E) (m n : ℕ) → ParsesUnsigned 64 10 text r → r ≡ Ok m → IsNumber (2 ^ 64) text n → m ≡ n
+is_read text r m n parses read is = cc (read, number_is_read text r n parses is)
+
+-- a number of 32 bits is one of 64
+pub wider : (o : Option Text) (n : ℕ) → HasNumber (2 ^ 32) o n → HasNumber (2 ^ 64) o n
+wider None n is = absurd is
+wider (Some text) n is = (is.0, omega (arith, is.1))
+
+-- a text is one number, with a bound of its own
+pub one_number : (o : Option Text) (m n : ℕ) → HasNumber (2 ^ 64) o m → HasNumber (2 ^ 32) o n → (m ≡ n) × (m < 2 ^ 32)
+one_number None m n a b = absurd a
+one_number (Some text) m n a b =
+    let same : m ≡ n = decimal_injective m n a.1 (omega (arith, b.1)) (sym a.0 ∙ b.0) in
+    (same, omega (arith, same, b.1))
+
+pub narrower : (o : Option Text) (n : ℕ) → HasNumber (2 ^ 64) o n → n < 2 ^ 32 → HasNumber (2 ^ 32) o n
+narrower None n is small = absurd is
+narrower (Some text) n is small = (is.0, small)
+
+zero_value : (text : Text) → text ≡ decimal 0 → IsValue text
+zero_value text is = subst IsValue (sym (is ∙ decimal_digit 0 (omega arith))) (λ dash. omega (arith, dash))
+
+text_value : (text : Text) (n : ℕ) → text ≡ decimal n → n < 2 ^ 64 → IsValue text
+text_value text zero is small = zero_value text is
+text_value text (suc n) is small = law.count_is_value text (suc n) (is, omega arith, small)
+
+-- the text of a number may be a value
+pub number_value : (o : Option Text) (n : ℕ) → HasNumber (2 ^ 64) o n → (v : Text) → o ≡ Some v → IsValue v
+number_value None n is v e = absurd is
+number_value (Some text) n is v e = subst IsValue (same_Some text v e) (text_value text n is.0 is.1)
+
+-- a text that is no number of 64 bits is none of 32
+pub none_narrower : (o : Option Text) → ((n : ℕ) → HasNumber (2 ^ 64) o n → ⊥) → (n : ℕ) → HasNumber (2 ^ 32) o n → ⊥
+none_narrower o none n is = none n (wider o n is)
+
+-- a text that is needed is there, and is what every text there is
+pub needed_here : {text : Option Text} (there : Option Text) (v : Text) → text ≡ there → (text ≡ Some v) × IsValue v → (there ≡ Some v) × ((w : Text) → there ≡ Some w → IsValue w)
+needed_here there v same is =
+    let here : there ≡ Some v = sym same ∙ is.0 in
+    (here, λ w e. subst IsValue (same_Some v w (sym here ∙ e)) is.1)
+
+-- what holds of each option of `mint` holds of all
+pub each_option : (P : Text → Type 0) → P (codes "issuer") → P (codes "serial") → P (codes "until") → P (codes "quoted") → P (codes "left") → P (codes "right") → (name : Text) → Contains mint_options name → P name
+each_option P issuer serial until quoted left right name (zero, within, is) = subst P is issuer
+each_option P issuer serial until quoted left right name (suc zero, within, is) = subst P is serial
+each_option P issuer serial until quoted left right name (suc (suc zero), within, is) = subst P is until
+each_option P issuer serial until quoted left right name (suc (suc (suc zero)), within, is) = subst P is quoted
+each_option P issuer serial until quoted left right name (suc (suc (suc (suc zero))), within, is) = subst P is left
+each_option P issuer serial until quoted left right name (suc (suc (suc (suc (suc zero)))), within, is) = subst P is right
+each_option P issuer serial until quoted left right name (suc (suc (suc (suc (suc (suc k))))), within, is) = absurd (omega (arith, within))
 
 -- ---- the words of an option
 
@@ -88,17 +138,46 @@ first_ends (x ∷ rest) some = (λ yes. (Decides-eqb x 61).0 yes, λ is. (Decide
 pub not_named : (w text name : Text) → w ≡ codes "--" ++ text → ((rest : Text) → text ≡ name ++ rest → ⊥) → IsOption w name → ⊥
 not_named w text name is none o = let b = behind_dashes w text name is o in none b.0 b.1
 
--- a word of the table is plain, or the one option
-pub of_table : (w name : Text) (b : Bool) → (IsPlainWord w → ⊥) → name ≡ codes "frames" → (IsTrue b → IsOption w name) × (IsOption w name → IsTrue b) → (IsTrue b → IsOfTable w) × (IsOfTable w → IsTrue b)
-of_table w name b dashed named tells = (λ yes. option (codes "frames") (0, omega arith, refl) (subst (IsOption w) named (tells.0 yes)), from)
+-- the text of a name that is there
+at_name : (names : List (Bor Text)) (i : ℕ) (n : Bor Text) (bytes d : Text) → i < length names → bytes ≡ (slice_index_or names i n).now → slice_index_or (map (λ s. s.now) names) i d ≡ bytes
+at_name [] i n bytes d lt same = absurd (omega (arith, lt))
+at_name (x ∷ names) zero n bytes d lt same = sym same
+at_name (x ∷ names) (suc i) n bytes d lt same = at_name names i n bytes d (omega (arith, lt)) same
+
+texts_count : (names : List (Bor Text)) → length (map (λ s. s.now) names) ≡ length names
+texts_count [] = refl
+texts_count (x ∷ names) = ap suc (texts_count names)
+
+-- a name that is there is among the texts, and the name at a place below the next is one before it or this one
+pub among : (names : List (Bor Text)) (i : ℕ) (n : Bor Text) (bytes : Text) → i < length names → bytes ≡ (slice_index_or names i n).now → Contains (map (λ s. s.now) names) bytes
+among names i n bytes lt same = (i, omega (arith, lt, texts_count names), at_name names i n bytes bytes lt same)
+
+pub none_more : (w : Text) (names : List (Bor Text)) (i : ℕ) (n : Bor Text) (bytes : Text) → i < length names → bytes ≡ (slice_index_or names i n).now → ((k : ℕ) (name : Text) → k < i → slice_index_or (map (λ s. s.now) names) k name ≡ name → IsOption w name → ⊥) →
+    (IsOption w bytes → ⊥) → (k : ℕ) (name : Text) → k < i + 1 → slice_index_or (map (λ s. s.now) names) k name ≡ name → IsOption w name → ⊥
+none_more w names i n bytes lt same none not_this k name within there o = elim (cases_lt k i) [
+  | inl before ↦ none k name before there o
+  | inr here ↦
+      let at : k ≡ i = omega (arith, here, within) in
+      not_this (subst (IsOption w) (sym there ∙ ap (λ (j : ℕ). slice_index_or (map (λ s. s.now) names) j name) at ∙ at_name names i n bytes name lt same) o)
+]
+
+pub none_at_all : (w : Text) (names : List (Bor Text)) (i : ℕ) → length names ≤ i → ((k : ℕ) (name : Text) → k < i → slice_index_or (map (λ s. s.now) names) k name ≡ name → IsOption w name → ⊥) → IsOptionOf (map (λ s. s.now) names) w → ⊥
+none_at_all w names i all none o = none o.1.0 o.0 (omega (arith, o.1.1, all, texts_count names)) o.1.2 o.2
+
+-- a word of the table is plain, or one of the options
+pub of_frames : (w text : Text) → text ≡ codes "frames" → IsOption w text → (IsTrue true → IsOfTable w) × (IsOfTable w → IsTrue true)
+of_frames w text is o = (λ _. option (codes "frames") (0, omega arith, refl) (subst (IsOption w) is o), λ _. refl)
+
+pub of_mint : (w : Text) (b : Bool) → (IsPlainWord w → ⊥) → (IsOption w (codes "frames") → ⊥) → (IsTrue b → IsOptionOf mint_options w) × (IsOptionOf mint_options w → IsTrue b) → (IsTrue b → IsOfTable w) × (IsOfTable w → IsTrue b)
+of_mint w b dashed other tells = (to, from)
   where
-    only : (n : Text) → Contains all_options n → n ≡ codes "frames"
-    only n (zero, within, is) = sym is
-    only n (suc k, within, is) = absurd (omega (arith, within))
+    to : IsTrue b → IsOfTable w
+    to told = let o = tells.0 told in option o.0 (mint_within o.0 o.1) o.2
 
     from : IsOfTable w → IsTrue b
     from (plain is) = absurd (dashed is)
-    from (option n has o) = tells.1 (subst (IsOption w) (only n has ∙ sym named) o)
+    from (option n (zero, within, is) o) = absurd (other (subst (IsOption w) (sym is) o))
+    from (option n (suc k, within, is) o) = tells.1 (n, (k, omega (arith, within), is), o)
 
 -- ---- all words
 
@@ -150,19 +229,28 @@ taken_as texts c given there are new = (given, found_as texts c given there are 
 
 only_run : (texts : List Text) → IsTaken texts (codes "run") → (wanted : Task) → TextsMean texts wanted → (n : ℕ) × ServeFrames texts (codes "run") n
 only_run texts taken (Run n) is = (n, is)
+only_run texts taken (Mint m) is = absurd (other_command texts (codes "mint") (codes "run") refl (meant_found texts (Mint m) is) taken)
 only_run texts taken Check is = absurd (other_command texts (codes "check") (codes "run") refl (meant_found texts Check is) taken)
 only_run texts taken (Relay n) is = absurd (other_command texts (codes "relay") (codes "run") refl (meant_found texts (Relay n) is) taken)
 
 only_relay : (texts : List Text) → IsTaken texts (codes "relay") → (wanted : Task) → TextsMean texts wanted → (n : ℕ) × ServeFrames texts (codes "relay") n
 only_relay texts taken (Relay n) is = (n, is)
+only_relay texts taken (Mint m) is = absurd (other_command texts (codes "mint") (codes "relay") refl (meant_found texts (Mint m) is) taken)
 only_relay texts taken Check is = absurd (other_command texts (codes "check") (codes "relay") refl (meant_found texts Check is) taken)
 only_relay texts taken (Run n) is = absurd (other_command texts (codes "run") (codes "relay") refl (meant_found texts (Run n) is) taken)
+
+only_mint : (texts : List Text) → IsTaken texts (codes "mint") → (task : Task) → TextsMean texts task → (m : MintWords) × TextsMean texts (Mint m)
+only_mint texts taken (Mint m) is = (m, is)
+only_mint texts taken Check is = absurd (other_command texts (codes "check") (codes "mint") refl (meant_found texts Check is) taken)
+only_mint texts taken (Run n) is = absurd (other_command texts (codes "run") (codes "mint") refl (meant_found texts (Run n) is) taken)
+only_mint texts taken (Relay n) is = absurd (other_command texts (codes "relay") (codes "mint") refl (meant_found texts (Relay n) is) taken)
 
 -- what the program reads of each command's rows
 pub record IsReadAs (m : ArgMatches) (r : Option Wanted) : Type 0 where
   pub run : (rows : List Row) → subcommand_rows_of m ≡ Some (codes "run", rows) → IsServingOf (λ n. Run n) (first_of (codes "frames") rows) r
   pub check : (rows : List Row) → subcommand_rows_of m ≡ Some (codes "check", rows) → option_map task_of r ≡ Some Check
   pub relay : (rows : List Row) → subcommand_rows_of m ≡ Some (codes "relay", rows) → IsServingOf (λ n. Relay n) (first_of (codes "frames") rows) r
+  pub mint : (rows : List Row) → subcommand_rows_of m ≡ Some (codes "mint", rows) → IsMintOf (λ name. first_of name rows) r
 
 module _ (texts : List Text) (m : ArgMatches) (r : Option Wanted) (read : IsReadAs m r) (same : ◌≡◌ {A = Option (Text × List Row)} (subcommand_rows_of m) (subcommand_of taos_app texts)) where
   -- what is read of a line of this command is what it means
@@ -193,8 +281,25 @@ module _ (texts : List Text) (m : ArgMatches) (r : Option Wanted) (read : IsRead
       is_check (Some w) e =
           subst (TextsMean texts) (sym (same_Some (task_of w) Check e)) (given, is_line texts (codes "check", []) given are new (λ name v has is. absurd (omega (arith, has.1))))
 
+  mint_means : MeansIt (codes "mint", mint_options)
+  mint_means given are new = is_mint r (subst (λ f. IsMintOf f r) same_texts (read.mint (rows_for given) (rows_found (codes "mint", mint_options) given mint_there are new)))
+    where
+      same_texts : ◌≡◌ {A = Text → Option Text} (λ name. first_of name (rows_for given)) (λ name. value_of name given)
+      same_texts = fun_ext (λ name. first_of_rows name given)
+
+      is_mint : (o : Option Wanted) → IsMintOf (λ name. value_of name given) o → TextMeaning texts o
+      is_mint (Some w) is = subst (TextsMean texts) (sym is.1) (given, is_line texts (codes "mint", mint_options) given are new is.3, is.2)
+      is_mint None none = λ task is.
+          let taken = taken_as texts (codes "mint", mint_options) given mint_there are new in
+          let found = found_as texts (codes "mint", mint_options) given mint_there are new in
+          let o = only_mint texts taken task is in
+          let f = law.found_line texts (codes "mint", mint_options) o.1.0 mint_there o.1.1 in
+          let same : (name : Text) → value_of name o.1.0 ≡ value_of name given = same_values texts (codes "mint") (codes "mint") o.1.0 given f found in
+          none o.0 (subst (λ g. GivesMint g o.0) (fun_ext same) o.1.2)
+          (λ name v has e. law.value_is o.1.0 o.1.1.values name v (same name ∙ e))
+
   read_means : IsSplit texts → TextMeaning texts r
-  read_means split = each_command MeansIt run_means check_means relay_means split.command split.there split.given split.are split.new
+  read_means split = each_command MeansIt run_means check_means relay_means mint_means split.command split.there split.given split.are split.new
 
 as_meaning : (words : List (String Global)) (r : Option Wanted) → TextMeaning (map string_bytes words) r → IsMeaning words r
 as_meaning words (Some wanted) is = is

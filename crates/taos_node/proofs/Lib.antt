@@ -16,3 +16,4 @@ pub mod Lines
 pub mod Levels
 pub mod Meanings
 pub mod Found
+pub mod Minted

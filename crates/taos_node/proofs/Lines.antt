@@ -29,9 +29,39 @@ frames_name : IsName (codes "frames")
 unfolding clap_on_literals
 frames_name = record { bare = record { dashes = refl; long = refl }; whole = λ v. record { dashes = refl; long = refl } }
 
+issuer_name : IsName (codes "issuer")
+unfolding clap_on_literals
+issuer_name = record { bare = record { dashes = refl; long = refl }; whole = λ v. record { dashes = refl; long = refl } }
+
+serial_name : IsName (codes "serial")
+unfolding clap_on_literals
+serial_name = record { bare = record { dashes = refl; long = refl }; whole = λ v. record { dashes = refl; long = refl } }
+
+until_name : IsName (codes "until")
+unfolding clap_on_literals
+until_name = record { bare = record { dashes = refl; long = refl }; whole = λ v. record { dashes = refl; long = refl } }
+
+quoted_name : IsName (codes "quoted")
+unfolding clap_on_literals
+quoted_name = record { bare = record { dashes = refl; long = refl }; whole = λ v. record { dashes = refl; long = refl } }
+
+left_name : IsName (codes "left")
+unfolding clap_on_literals
+left_name = record { bare = record { dashes = refl; long = refl }; whole = λ v. record { dashes = refl; long = refl } }
+
+right_name : IsName (codes "right")
+unfolding clap_on_literals
+right_name = record { bare = record { dashes = refl; long = refl }; whole = λ v. record { dashes = refl; long = refl } }
+
 pub names : (name : Text) → Contains all_options name → IsName name
 names name (zero, within, is) = subst IsName is frames_name
-names name (suc k, within, is) = absurd (omega (arith, within))
+names name (suc zero, within, is) = subst IsName is issuer_name
+names name (suc (suc zero), within, is) = subst IsName is serial_name
+names name (suc (suc (suc zero)), within, is) = subst IsName is until_name
+names name (suc (suc (suc (suc zero))), within, is) = subst IsName is quoted_name
+names name (suc (suc (suc (suc (suc zero)))), within, is) = subst IsName is left_name
+names name (suc (suc (suc (suc (suc (suc zero))))), within, is) = subst IsName is right_name
+names name (suc (suc (suc (suc (suc (suc (suc k)))))), within, is) = absurd (omega (arith, within))
 
 -- ---- step by step
 

@@ -1,16 +1,16 @@
 -- What words mean: one command.
-use Rattle.std.proofs.Common.{◌≡◌, ℕ, zero, suc, ◌<◌, ◌≤◌, ◌^◌, Bool, false, List, [], ◌∷◌, length, get_or, Option, Some, None, refl, sym, ap, subst, ◌∙◌, codes, decimal, arith, slice_index_or}
+use Rattle.std.proofs.Common.{◌≡◌, ℕ, zero, suc, ◌<◌, ◌≤◌, ◌^◌, Bool, true, false, List, [], ◌∷◌, length, get_or, Option, Some, None, refl, sym, ap, subst, ◌∙◌, codes, decimal, arith, slice_index_or}
 use Rattle.std.specs.Prelude.{Contains, cond, find}
 use Rattle.std.specs.List.{All, flat_map}
 use Rattle.std.specs.Option.{option_map}
 use Rattle.std.specs.Str.{bytes_eq}
 use Rattle.std.proofs.lemmas.Fmt.{decimal_nonempty, first_decimal, decimal_injective}
-use Rattle.std.proofs.lemmas.List.Elements.{All-nil, All-cons}
+use Rattle.std.proofs.lemmas.List.Elements.{All-nil, All-cons, All-head, All-tail}
 use Rattle.std.proofs.lemmas.Option.{same_Some}
 use Rattle.clap.specs.Words.{Row, Text, first_of}
 use Rattle.taos_node.specs.declared.wanted.Wanted.{Wanted}
 use Rattle.taos_node.specs.Table.{commands}
-use Rattle.taos_node.specs.Words.{AreFrames, AreOnce, Given, IsCount, IsLine, IsValue, ServeFrames, TextsMean, Task, Run, Check, Relay, serving_options, task_of, value_of, words_of}
+use Rattle.taos_node.specs.Words.{AreFrames, AreOnce, Given, IsCount, IsLine, IsValue, ServeFrames, TextsMean, GivesMint, HasNumber, MintWords, Task, Run, Check, Relay, Mint, mint_options, serving_options, task_of, value_of, words_of}
 use Rattle.taos_node.proofs.Options.{other_text, same_text, two_texts}
 use Rattle.taos_node.proofs.Rows.{AreNew, all_are_new, all_known, are_once, first_of_rows, rows_for}
 use Rattle.taos_node.proofs.Levels.{Entry, IsFound, line_found}
@@ -21,7 +21,7 @@ count_first : (n : ℕ) → 1 ≤ n → n < 2 ^ 64 → (v : Text) → v ≡ deci
 count_first n some small [] is = absurd (omega (arith, decimal_nonempty n small, ap (λ (l : List ℕ). length l) is))
 count_first n some small (x ∷ v) is = λ dash. omega (arith, dash, first_decimal n some small, ap (λ (l : List ℕ). get_or l 0 0) is)
 
-count_is_value : (v : Text) (n : ℕ) → IsCount v n → IsValue v
+pub count_is_value : (v : Text) (n : ℕ) → IsCount v n → IsValue v
 count_is_value v n is = count_first n is.1 is.2 v is.0
 
 abbrev by_first : Given → List Given → Text → Bool → Option Text
@@ -40,6 +40,19 @@ all_values : (options : List Text) (gs : List Given) → AreNew options [] gs �
 all_values options gs new values = λ k d within.
     let g = slice_index_or gs k d in
     values g.name g.value (all_known options [] gs new k d within) (value_found gs (are_once options [] gs new) k d within)
+
+-- a value that is read is one of those that are given
+value_in : (g : Given) (gs : List Given) (name v : Text) (b : Bool) → bytes_eq g.name name ≡ b → IsValue g.value → (value_of name gs ≡ Some v → IsValue v) → value_of name (g ∷ gs) ≡ Some v → IsValue v
+value_in g gs name v true is value rest e = subst IsValue (same_Some g.value v (sym (ap (by_first g gs name) is) ∙ e)) value
+value_in g gs name v false is value rest e = rest (sym (ap (by_first g gs name) is) ∙ e)
+
+none_given : (v : Text) → ◌≡◌ {A = Option Text} None (Some v) → ⊥
+none_given v e = absurd cc
+
+pub value_is : (gs : List Given) → All (λ g. IsValue g.value) gs → (name v : Text) → value_of name gs ≡ Some v → IsValue v
+value_is [] all name v e = absurd (none_given v e)
+value_is (g ∷ gs) all name v e =
+    value_in g gs name v (bytes_eq g.name name) refl (All-head (λ (x : Given). IsValue x.value) g gs all) (value_is gs (All-tail (λ (x : Given). IsValue x.value) g gs all) name v) e
 
 -- ---- lines
 
@@ -70,11 +83,15 @@ check_there = (1, omega arith, refl)
 pub relay_there : Contains commands (codes "relay", serving_options)
 relay_there = (2, omega arith, refl)
 
+pub mint_there : Contains commands (codes "mint", mint_options)
+mint_there = (3, omega arith, refl)
+
 -- the name of the command that is asked for
 abbrev pub command_of : Task → Text
 command_of (Run n) = codes "run"
 command_of Check = codes "check"
 command_of (Relay n) = codes "relay"
+command_of (Mint m) = codes "mint"
 
 -- what means something is a line that is taken
 abbrev pub IsTaken : List Text → Text → Type 0
@@ -83,6 +100,7 @@ IsTaken words command = (given : List Given) × IsFound words command given
 pub meant_found : (words : List Text) (wanted : Task) → TextsMean words wanted → IsTaken words (command_of wanted)
 meant_found words (Run n) is = (is.0, found_line words (codes "run", serving_options) is.0 run_there is.1)
 meant_found words Check is = (is.0, found_line words (codes "check", []) is.0 check_there is.1)
+meant_found words (Mint m) is = (is.0, found_line words (codes "mint", mint_options) is.0 mint_there is.1)
 meant_found words (Relay n) is = (is.0, found_line words (codes "relay", serving_options) is.0 relay_there is.1)
 
 -- no words are two commands
@@ -125,10 +143,37 @@ same_serving words command m n there x y =
 cross : (words : List Text) (a b : Task) → TextsMean words a → TextsMean words b → bytes_eq (command_of a) (command_of b) ≡ false → a ≡ b
 cross words a b x y apart = absurd (other_command words (command_of a) (command_of b) apart (meant_found words a x) (meant_found words b y))
 
+same_number : (bound : ℕ) (o : Option Text) (m n : ℕ) → bound ≤ 2 ^ 64 → HasNumber bound o m → HasNumber bound o n → m ≡ n
+same_number bound None m n small a b = absurd a
+same_number bound (Some v) m n small a b = decimal_injective m n (omega (arith, a.1, small)) (omega (arith, b.1, small)) (sym a.0 ∙ b.0)
+
+-- what `mint` is asked for is given by the texts of its options
+same_mint : (given other : Text → Option Text) (m n : MintWords) → ((name : Text) → given name ≡ other name) → GivesMint given m → GivesMint other n → m ≡ n
+same_mint given other m n same a b = by
+    (same_number (2 ^ 32) (other (codes "issuer")) m.issuer n.issuer (omega arith) (subst (λ o. HasNumber (2 ^ 32) o m.issuer) (same (codes "issuer")) a.issuer) b.issuer)
+    (same_number (2 ^ 64) (other (codes "serial")) m.serial n.serial (omega arith) (subst (λ o. HasNumber (2 ^ 64) o m.serial) (same (codes "serial")) a.serial) b.serial)
+    (same_Some m.until n.until (sym a.until ∙ same (codes "until") ∙ b.until))
+    (sym a.quoted ∙ same (codes "quoted") ∙ b.quoted)
+    (same_Some m.left n.left (sym a.left ∙ same (codes "left") ∙ b.left))
+    (same_Some m.right n.right (sym a.right ∙ same (codes "right") ∙ b.right))
+  where
+    by : m.issuer ≡ n.issuer → m.serial ≡ n.serial → m.until ≡ n.until → m.quoted ≡ n.quoted → m.left ≡ n.left → m.right ≡ n.right → m ≡ n
+    by issuer serial until quoted left right = λ i. record { issuer = issuer i; serial = serial i; until = until i; quoted = quoted i; left = left i; right = right i }
+
 pub one_meaning : (words : List Text) (a b : Task) → TextsMean words a → TextsMean words b → a ≡ b
 one_meaning words (Run m) (Run n) x y = ap (λ k. Run k) (same_serving words (codes "run") m n run_there x y)
 one_meaning words (Run m) Check x y = cross words (Run m) Check x y refl
 one_meaning words (Run m) (Relay n) x y = cross words (Run m) (Relay n) x y refl
+one_meaning words (Mint m) (Mint n) x y =
+    let f = found_line words (codes "mint", mint_options) x.0 mint_there x.1 in
+    let g = found_line words (codes "mint", mint_options) y.0 mint_there y.1 in
+    ap (λ k. Mint k) (same_mint (λ name. value_of name x.0) (λ name. value_of name y.0) m n (same_values words (codes "mint") (codes "mint") x.0 y.0 f g) x.2 y.2)
+one_meaning words (Mint m) (Run n) x y = cross words (Mint m) (Run n) x y refl
+one_meaning words (Mint m) Check x y = cross words (Mint m) Check x y refl
+one_meaning words (Mint m) (Relay n) x y = cross words (Mint m) (Relay n) x y refl
+one_meaning words (Run m) (Mint n) x y = cross words (Run m) (Mint n) x y refl
+one_meaning words Check (Mint n) x y = cross words Check (Mint n) x y refl
+one_meaning words (Relay m) (Mint n) x y = cross words (Relay m) (Mint n) x y refl
 one_meaning words Check (Run n) x y = cross words Check (Run n) x y refl
 one_meaning words Check Check x y = refl
 one_meaning words Check (Relay n) x y = cross words Check (Relay n) x y refl

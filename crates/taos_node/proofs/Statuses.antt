@@ -14,12 +14,15 @@ use Rattle.taos_node.specs.declared.ending.FileFault.{FileFault}
 use Rattle.taos_node.specs.declared.ending.FileFault.TheVariants as fault
 use Rattle.taos_node.specs.declared.ending.FileFault.TheVariants.{Malformed, Refused}
 use Rattle.taos_node.specs.declared.finding.Finding.TheVariants.{Granted, Refused as Wrong}
-use Rattle.taos_node.specs.Words.{IsMeaning, Mean, Task, Run, Check, Relay, task_of}
+use Rattle.taos_node.specs.Words.{IsMeaning, Mean, MintWords, Task, Run, Check, Relay, Mint, task_of}
 use Rattle.taos_node.specs.declared.wanted.Wanted.{Wanted}
 use Rattle.taos_node.specs.Files.{FaultHasCause, FileDecides, FileFails, IsNodeFile, IsRelayFile, Meaning, OpensNode, OpensRelay, node_means, relay_means}
-use Rattle.taos_node.specs.Command.{IsCommand, FileDecidesFor, FileFailsFor, Touched, EndsWell, ChecksWell, IsCaused, TellsFaults, IsStatus, counts_of}
+use Rattle.taos_node.specs.Command.{IsCommand, FileDecidesFor, FileFailsFor, Touched, EndsWell, ChecksWell, MintsWell, IsCaused, TellsFaults, IsStatus, counts_of}
 use Rattle.taos_node.specs.Ending.{file_status, served_status, checked_status}
 use Rattle.taos_node.specs.Findings.{CheckCauses}
+use Rattle.taos_node.specs.Minting.{MintCauses, minted_status}
+use Rattle.taos_node.specs.declared.minting.MintEnd.{MintEnd}
+use Rattle.taos_node.specs.declared.minting.MintEnd.TheVariants as made
 use Rattle.std.specs.Prelude.{Option, Some, None, map, string_bytes}
 use Rattle.taos_node.proofs.Meanings.{one_meaning}
 use Rattle.taos_node.proofs.Commands.{IsMeantBy, decided_opened, decided_fault, node_files, not_refused, relay_files, still}
@@ -38,6 +41,7 @@ abbrev frames_in : Task → ℕ
 frames_in (Run frames) = frames
 frames_in Check = 0
 frames_in (Relay frames) = frames
+frames_in (Mint m) = 0
 
 -- no words are two commands
 two_commands : {P : Type 0} (words : List (String Global)) (a b : Task) → Mean words a → Mean words b → (a ≡ b → ⊥) → P
@@ -58,6 +62,7 @@ unread_decides : (wanted : Task) (t : Touched) → FileDecidesFor wanted t.file 
 unread_decides (Run n) t = lacks_decides IsNodeFile t
 unread_decides Check t = lacks_decides IsNodeFile t
 unread_decides (Relay n) t = lacks_decides IsRelayFile t
+unread_decides (Mint m) t = lacks_decides IsRelayFile t
 
 -- memory was refused before the words were read, and nothing was touched
 pub unread : (words : List (String Global)) (t : Touched) → IsStatus words t t 6
@@ -67,6 +72,7 @@ unread words t = record {
   complete = λ frames is sc bytes o told opens fs whole within few sf si so. inr refl;
   checks_well = λ is bytes o told opens sf si so. inr (inr refl);
   relays_well = λ frames is bytes r told opens fs whole within few sf si so. inr refl;
+  mints_well = λ m is bytes r told opens sf so. inr (inr refl);
   causes = record { read = λ e. absurd (omega (arith, e)); write = λ e. absurd (omega (arith, e)); clock = λ e. absurd (omega (arith, e)) };
   told = record {
     file = stayed t.file.faults t.file.faults refl;
@@ -84,6 +90,7 @@ unused words t none = record {
   complete = λ frames is. absurd (none (Run frames, is));
   checks_well = λ is. absurd (none (Check, is));
   relays_well = λ frames is. absurd (none (Relay frames, is));
+  mints_well = λ m is. absurd (none (Mint m, is));
   causes = record { read = λ e. absurd (omega (arith, e)); write = λ e. absurd (omega (arith, e)); clock = λ e. absurd (omega (arith, e)) };
   told = record {
     file = stayed t.file.faults t.file.faults refl;
@@ -115,10 +122,17 @@ module _ (before after : Touched) where
   checks_unserved fault.ReadFault bad why bytes o told is sf si so = absurd (still before.file.faults after.file.faults sf why.1)
   checks_unserved fault.NoMemory bad why bytes o told is sf si so = inr (inr refl)
 
+  mints_unserved : (f : FileFault) → FileFails relay_means before.file after.file f → FaultHasCause before.file after.file f → MintsWell before after (file_status f)
+  mints_unserved (Refused line cause) bad why bytes r told is sf so = absurd (not_refused IsRelayFile relay_means relay_files before.file after.file bytes r (Line line cause) bad told is)
+  mints_unserved (Malformed offset) bad why bytes r told is sf so = absurd (not_refused IsRelayFile relay_means relay_files before.file after.file bytes r (Byte offset) bad told is)
+  mints_unserved fault.ReadFault bad why bytes r told is sf so = absurd (still before.file.faults after.file.faults sf why.1)
+  mints_unserved fault.NoMemory bad why bytes r told is sf so = inr (inr refl)
+
   decides_unserved : (wanted : Task) (f : FileFault) → FileFailsFor wanted before.file after.file f → FaultHasCause before.file after.file f → FileDecidesFor wanted before.file after.file (file_status f)
   decides_unserved (Run n) f bad why = decided_fault IsNodeFile node_means node_files before.file after.file f bad why
   decides_unserved Check f bad why = decided_fault IsNodeFile node_means node_files before.file after.file f bad why
   decides_unserved (Relay n) f bad why = decided_fault IsRelayFile relay_means relay_files before.file after.file f bad why
+  decides_unserved (Mint m) f bad why = decided_fault IsRelayFile relay_means relay_files before.file after.file f bad why
 
   not_caused : (status : ℕ) → status ≢ 3 → status ≢ 4 → status ≢ 5 → IsCaused before after status
   not_caused status r w c = record { read = λ e. absurd (r e); write = λ e. absurd (w e); clock = λ e. absurd (c e) }
@@ -156,6 +170,7 @@ module _ (words : List (String Global)) (before after : Touched) (wanted : Task)
     complete = λ most is clock. complete_unserved bad most is;
     checks_well = λ is. checks_unserved before after f (of_command (λ w. FileFailsFor w before.file after.file f) words wanted Check command is bad) cause;
     relays_well = λ most is. relays_unserved bad most is;
+    mints_well = λ m is. mints_unserved before after f (of_command (λ w. FileFailsFor w before.file after.file f) words wanted (Mint m) command is bad) cause;
     causes = file_caused before after f cause;
     told = record {
       file = file_told before after f cause;
@@ -275,6 +290,7 @@ module _ (words : List (String Global)) (frames : ℕ) (before after : Touched) 
         (complete_for most is complete) clock;
     checks_well = λ check. two_commands words (Run frames) Check run check (λ e. cc e);
     relays_well = λ most is. two_commands words (Run frames) (Relay most) run is (λ e. cc e);
+    mints_well = λ m is. two_commands words (Run frames) (Mint m) run is (λ e. cc e);
     causes = serving_caused before after outcome h;
     told = serving_told before after outcome same h;
   }
@@ -294,6 +310,7 @@ module _ (words : List (String Global)) (frames : ℕ) (before after : Touched) 
             (decided_opened IsRelayFile relay_means relay_files before.file after.file r (served_status outcome) opens (not_two outcome));
         complete = λ most is. two_commands words (Relay frames) (Run most) relay is (λ e. cc e);
         checks_well = λ check. two_commands words (Relay frames) Check relay check (λ e. cc e);
+        mints_well = λ m is. two_commands words (Relay frames) (Mint m) relay is (λ e. cc e);
         relays_well = λ most is. ends_well before after IsRelayFile most 0 0 outcome (complete_for most is complete) (refl, omega arith);
         causes = serving_caused before after outcome causes;
         told = serving_told before after outcome same causes;
@@ -362,6 +379,61 @@ checked words before after o end check opens same clock h = record {
   complete = λ frames run. two_commands words Check (Run frames) check run (λ e. cc e);
   checks_well = λ _. check_well before after end h;
   relays_well = λ frames relay. two_commands words Check (Relay frames) check relay (λ e. cc e);
+  mints_well = λ m is. two_commands words Check (Mint m) check is (λ e. cc e);
   causes = check_caused before after end h;
   told = check_told before after end same clock h;
+}
+
+-- ---- a certificate that was made, or refused
+
+module _ (before after : Touched) where
+  mint_caused : (end : MintEnd) → MintCauses before.output.faults after.output.faults end → IsCaused before after (minted_status end)
+  mint_caused made.Done h = not_caused before after 0 (λ e. omega (arith, e)) (λ e. omega (arith, e)) (λ e. omega (arith, e))
+  mint_caused (made.Refused w) h = not_caused before after 12 (λ e. omega (arith, e)) (λ e. omega (arith, e)) (λ e. omega (arith, e))
+  mint_caused made.WriteFault h = record { read = λ e. absurd (omega (arith, e)); write = λ e. h.1; clock = λ e. absurd (omega (arith, e)) }
+  mint_caused made.NoMemory h = not_caused before after 6 (λ e. omega (arith, e)) (λ e. omega (arith, e)) (λ e. omega (arith, e))
+
+  mint_told : (end : MintEnd) → after.file.faults ≡ before.file.faults → after.input.faults ≡ before.input.faults → after.clock.faults ≡ before.clock.faults →
+      MintCauses before.output.faults after.output.faults end → TellsFaults before after (minted_status end)
+  mint_told made.Done same input clock h = all_still before after 0 same input h clock
+  mint_told (made.Refused w) same input clock h = all_still before after 12 same input h clock
+  mint_told made.WriteFault same input clock h = record {
+    file = stayed before.file.faults after.file.faults same;
+    input = stayed before.input.faults after.input.faults input;
+    output = λ _. refl;
+    clock = stayed before.clock.faults after.clock.faults clock;
+  }
+  mint_told made.NoMemory same input clock h = all_still before after 6 same input h clock
+
+  mint_well : (end : MintEnd) → MintCauses before.output.faults after.output.faults end → MintsWell before after (minted_status end)
+  mint_well made.Done h bytes r told is sf so = inl refl
+  mint_well (made.Refused w) h bytes r told is sf so = inr (inl refl)
+  mint_well made.WriteFault h bytes r told is sf so = absurd (still before.output.faults after.output.faults so h.1)
+  mint_well made.NoMemory h bytes r told is sf so = inr (inr refl)
+
+not_one_mint : (end : MintEnd) → minted_status end ≢ 1
+not_one_mint made.Done = λ e. omega (arith, e)
+not_one_mint (made.Refused w) = λ e. omega (arith, e)
+not_one_mint made.WriteFault = λ e. omega (arith, e)
+not_one_mint made.NoMemory = λ e. omega (arith, e)
+
+not_two_mint : (end : MintEnd) → minted_status end ≢ 2
+not_two_mint made.Done = λ e. omega (arith, e)
+not_two_mint (made.Refused w) = λ e. omega (arith, e)
+not_two_mint made.WriteFault = λ e. omega (arith, e)
+not_two_mint made.NoMemory = λ e. omega (arith, e)
+
+pub minted : (words : List (String Global)) (m : MintWords) (before after : Touched) (r : RelayFile) (end : MintEnd) → Mean words (Mint m) → OpensRelay before.file after.file r →
+    after.file.faults ≡ before.file.faults → after.input.faults ≡ before.input.faults → after.clock.faults ≡ before.clock.faults → MintCauses before.output.faults after.output.faults end →
+    IsStatus words before after (minted_status end)
+minted words m before after r end mint opens same input clock h = record {
+  usage = record { usage = λ e. absurd (not_one_mint end e); no_command = λ none. absurd (none (Mint m, mint)) };
+  file = λ other is. of_command (λ w. FileDecidesFor w before.file after.file (minted_status end)) words (Mint m) other mint is
+      (decided_opened IsRelayFile relay_means relay_files before.file after.file r (minted_status end) opens (not_two_mint end));
+  complete = λ frames run. two_commands words (Mint m) (Run frames) mint run (λ e. cc e);
+  checks_well = λ check. two_commands words (Mint m) Check mint check (λ e. cc e);
+  relays_well = λ frames relay. two_commands words (Mint m) (Relay frames) mint relay (λ e. cc e);
+  mints_well = λ other is. mint_well before after end h;
+  causes = mint_caused before after end h;
+  told = mint_told before after end same input clock h;
 }

@@ -9,9 +9,9 @@ use Rattle.frame_link.specs.Streams.{Stream, stream}
 use Rattle.taos_node.specs.declared.ending.FileFault.{FileFault}
 use Rattle.taos_node.specs.declared.ending.Ending.{Ending}
 use Rattle.taos_node.specs.declared.ending.Ending.TheVariants as ending
-use Rattle.taos_node.specs.declared.ending.Ending.TheVariants.{Usage, File, Served, Checked, Relayed}
+use Rattle.taos_node.specs.declared.ending.Ending.TheVariants.{Usage, File, Served, Checked, Relayed, Minted}
 use Rattle.taos_node.specs.Files.{IsNodeFile, IsRelayFile, OpensNode, OpensRelay, FileFails, FileDecides, HasFailed, IsSteady, node_means, relay_means}
-use Rattle.taos_node.specs.Words.{Mean, Task, Run, Check, Relay}
+use Rattle.taos_node.specs.Words.{Mean, MintWords, Task, Run, Check, Relay, Mint}
 use Rattle.taos_node.specs.declared.check.CheckEnd.{CheckEnd}
 use Rattle.taos_node.specs.Ending.{status_of}
 use Rattle.taos_node.specs.Notes.{note_of, IsNoted}
@@ -19,10 +19,13 @@ use Rattle.taos_node.specs.declared.command.Lane.{Lane}
 use Rattle.node_file.specs.Opening.{Opening}
 use Rattle.node_file.specs.Held.{HoldsKeys}
 use Rattle.node_file.specs.RelayFile.{RelayFile}
+use Rattle.taos_node.specs.declared.minting.MintEnd.{MintEnd}
+use Rattle.taos_node.specs.Minting.{Mints}
+use Rattle.prin_text.specs.Labels.{Labels}
 use Rattle.relay_core.specs.declared.resealing.RelayTable.{RelayTable}
 use Rattle.relay_core.specs.Serving.{Answers, GivesUp}
 use Rattle.frame_link.specs.Relay.{Said}
-use Rattle.taos_monitor.specs.Cells.{Node, Seen}
+use Rattle.taos_monitor.specs.Cells.{Node, Seen, alone_of}
 use Rattle.taos_monitor.specs.declared.connection.TheConstants.{MAX_REQUEST}
 use Rattle.taos_monitor.specs.Connection.{IsConnection}
 use Rattle.taos_monitor.specs.World.{World, setting_of}
@@ -99,7 +102,7 @@ pub record ServesConnection (o : Opening) (frames : ℕ) (before after : Touched
   pub is_node : IsNodeOf o node
   -- the journals at the end, whose entries are all its own
   pub seen : Seen
-  pub connection : IsConnection (setting_of node true before.relay.says) frames
+  pub connection : IsConnection (setting_of node (alone_of true true) before.relay.says) frames
       (with_seen before nothing_seen) (with_seen after seen) outcome
 
 -- a request and its reply were looked over, by the node that the file opens
@@ -125,16 +128,29 @@ pub record ServesRelay (r : RelayFile) (frames : ℕ) (before after : Touched)
       (line after.input.told after.output.told table) outcome
   pub lane : UsesNoLane before after
 
+-- the texts of names and of roles that the file has
+abbrev pub labels_of : RelayFile → Labels
+labels_of r = record { names = r.names; roles = r.roles }
+
+-- by what the file says a certificate is made of the words, or the first of them is refused
+pub record MintsBy (r : RelayFile) (m : MintWords) (before after : Touched) (end : MintEnd) :
+    Type 0 where
+  pub mints : Mints r.issuers (labels_of r) m before.output.told after.output.told end
+  pub input : Keeps before.input.told after.input.told
+  pub lane : UsesNoLane before after
+
 -- the file that the command wants is refused by the fault
 abbrev pub FileFailsFor : Task → Stream → Stream → FileFault → Type 0
 FileFailsFor (Run frames) = FileFails node_means
 FileFailsFor Check = FileFails node_means
 FileFailsFor (Relay frames) = FileFails relay_means
+FileFailsFor (Mint m) = FileFails relay_means
 
 -- What is done, by how it ends. Other words do nothing, nor is anything done where memory is refused
 -- before the words are read. A file that is refused, or fails, and one for which memory is refused,
 -- leaves the rest untouched; every other opens a node that serves the connection, or by which a
--- request and its reply are looked over, or a relay that serves it.
+-- request and its reply are looked over, or a relay that serves it, or by which a certificate is
+-- made.
 abbrev pub Runs : List (String Global) → Touched → Touched → Ending → Type 0
 Runs words before after Usage =
     (IsCommand words → ⊥) × Keeps before.file.told after.file.told × LeavesRest before after
@@ -150,6 +166,9 @@ Runs words before after (Checked end) = Mean words Check × LooksOver before aft
 Runs words before after (Relayed outcome) =
     (frames : ℕ) × Mean words (Relay frames) ×
     ((r : RelayFile) × OpensRelay before.file after.file r × ServesRelay r frames before after outcome)
+Runs words before after (Minted end) =
+    (m : MintWords) × Mean words (Mint m) ×
+    ((r : RelayFile) × OpensRelay before.file after.file r × MintsBy r m before after end)
 
 -- How it ended, with what was done: the status and the note tell that ending.
 pub record Ends (words : List (String Global)) (before after : Touched) (notes0 notes1 : Stream)
@@ -166,6 +185,7 @@ abbrev pub FileDecidesFor : Task → Stream → Stream → ℕ → Type 0
 FileDecidesFor (Run frames) = FileDecides IsNodeFile
 FileDecidesFor Check = FileDecides IsNodeFile
 FileDecidesFor (Relay frames) = FileDecides IsRelayFile
+FileDecidesFor (Mint m) = FileDecides IsRelayFile
 
 -- An input of whole frames is answered to its end: where the file means something, the frames are
 -- not more than may be answered, and nothing fails, the status is 0, or 6 where memory was refused.
@@ -184,6 +204,14 @@ ChecksWell before after status =
     (bytes : List ℕ) (o : Opening) → before.file.told ≡ Some bytes → IsNodeFile o bytes →
     IsSteady before.file after.file → IsSteady before.input after.input →
     IsSteady before.output after.output → (status ≡ 0) ⊎ ((status ≡ 11) ⊎ (status ≡ 6))
+
+-- A certificate is made, or a word refused, or memory, where the file means something and nothing
+-- fails.
+abbrev pub MintsWell : Touched → Touched → ℕ → Type 0
+MintsWell before after status =
+    (bytes : List ℕ) (r : RelayFile) → before.file.told ≡ Some bytes → IsRelayFile r bytes →
+    IsSteady before.file after.file → IsSteady before.output after.output →
+    (status ≡ 0) ⊎ ((status ≡ 12) ⊎ (status ≡ 6))
 
 -- a fault is answered only where something failed
 pub record IsCaused (before after : Touched) (status : ℕ) : Type 0 where
@@ -215,5 +243,6 @@ pub record IsStatus (words : List (String Global)) (before after : Touched)
   pub checks_well : Mean words Check → ChecksWell before after status
   pub relays_well : (frames : ℕ) → Mean words (Relay frames) →
       EndsWell IsRelayFile frames before after status
+  pub mints_well : (m : MintWords) → Mean words (Mint m) → MintsWell before after status
   pub causes : IsCaused before after status
   pub told : TellsFaults before after status

@@ -7,10 +7,11 @@ use Rattle.taos_node.specs.declared.ending.FileFault.TheVariants as fault
 use Rattle.taos_node.specs.declared.ending.FileFault.TheVariants.{Malformed, Refused}
 use Rattle.taos_node.specs.declared.ending.Ending.{Ending}
 use Rattle.taos_node.specs.declared.ending.Ending.TheVariants as ending
-use Rattle.taos_node.specs.declared.ending.Ending.TheVariants.{Usage, File, Served, Checked, Relayed}
+use Rattle.taos_node.specs.declared.ending.Ending.TheVariants.{Usage, File, Served, Checked, Relayed, Minted}
 use Rattle.taos_node.specs.declared.check.CheckEnd.{CheckEnd}
 use Rattle.taos_node.specs.declared.check.CheckEnd.TheVariants as ends
 use Rattle.taos_node.specs.Findings.{finding_status}
+use Rattle.taos_node.specs.Minting.{minted_status}
 
 -- the exit status where the file is not served
 abbrev pub file_status : FileFault → ℕ
@@ -45,3 +46,4 @@ status_of (File fault) = file_status fault
 status_of (Served outcome) = served_status outcome
 status_of (Checked end) = checked_status end
 status_of (Relayed outcome) = served_status outcome
+status_of (Minted end) = minted_status end

@@ -1,10 +1,10 @@
-pub mod Objects
 pub mod Opened
 pub mod Ending
 pub mod Notes
 pub mod Words
 pub mod Table
 pub mod Files
+pub mod Minting
 pub mod Command
 pub mod Checking
 pub mod Findings

@@ -1,14 +1,17 @@
 -- The node that an opening opens.
-use Rattle.std.specs.Prelude.{◌≡◌, ℕ, List, [], length, map}
+use Rattle.std.specs.Prelude.{◌≡◌, ℕ, List, [], length, map, None, Some}
 use Rattle.std.specs.List.Sorted.{IsStrictlyIncreasing}
 use Rattle.keyed_seal.specs.Keys.{Entries, key_of}
-use Rattle.object_core.specs.Objects.{object_of}
-use Rattle.node_file.specs.Opening.{Opening}
+use Rattle.object_core.specs.Objects.{ObjectPlan, ObjectSeen, object_of}
+use Rattle.object_core.specs.OneOwner.{fixed_on, seen_on, own_on, taken_from}
+use Rattle.object_core.specs.Shelving.{ObjectFixed, fixed_at}
+use Rattle.std.specs.Option.{option_map}
+use Rattle.node_file.specs.Opening.{Opening, FitsObject}
 use Rattle.agent_core.specs.Alone.{plans_in, seen_in, own_in}
 use Rattle.agent_core.specs.Opened.{plans_for}
 use Rattle.agent_core.specs.State.{Plan}
 use Rattle.taos_monitor.specs.Arriving.{node_of}
-use Rattle.taos_monitor.specs.Cells.{Node, Seen, seen_of}
+use Rattle.taos_monitor.specs.Cells.{Node, Seen, seen_of, viewed}
 use Rattle.taos_node.specs.declared.opened.OpenNode.{OpenNode}
 
 -- the numbers of channels
@@ -19,6 +22,19 @@ numbers_of channels = map (λ (c : ℕ × List ℕ). c.0) channels
 abbrev pub its_plans : Opening → Entries → List Plan
 its_plans o channels = plans_for (numbers_of channels) o.shards o.anchors o.commons o.keep o.limit
 
+-- each object that a look-up finds is within the limits
+abbrev pub AllFit : List ObjectPlan → Type 0
+AllFit objects =
+    (number : ℕ) (p : ObjectPlan) → object_of objects number ≡ Some p → FitsObject p
+
+-- what never changes of an object, whose journal has at most so many entries
+abbrev pub fixed_with : ℕ → ObjectPlan → ObjectFixed
+fixed_with limit plan = record { plan = plan; limit = limit }
+
+-- the object with an empty journal
+abbrev pub new_object : ℕ → ObjectPlan → ObjectSeen
+new_object limit plan = record { plan = plan; limit = limit; journal = [] }
+
 -- the node has what the opening says, its channels by ascending number
 pub record IsNodeOf (o : Opening) (n : Node) : Type 0 where
   pub number : n.number ≡ o.node
@@ -26,15 +42,21 @@ pub record IsNodeOf (o : Opening) (n : Node) : Type 0 where
   pub channels : (number : ℕ) → key_of n.channels number ≡ key_of o.channels number
   pub count : length n.channels ≡ length o.channels
   pub ascending : IsStrictlyIncreasing (numbers_of n.channels)
-  pub objects : (number : ℕ) → object_of n.objects number ≡ object_of o.objects number
+  pub objects : (number : ℕ) →
+      fixed_at n.objects number ≡ option_map (fixed_with o.limit) (object_of o.objects number)
   pub plans : n.plans ≡ its_plans o n.channels
 
 -- journals without entries
 abbrev pub nothing_seen : Seen
-nothing_seen = seen_of (λ shard. []) (λ shard. [])
+nothing_seen =
+    seen_of (viewed (λ shard. []) (λ shard. [])) (viewed (λ object. []) (λ object. []))
 
 -- the program's node is one of the opening, and its journals are empty
 pub record IsOpenedBy (o : Opening) (node : OpenNode) : Type 0 where
-  pub is_node : IsNodeOf o (node_of node.keys (plans_in node.shards.shards) node.shelf)
-  pub unseen : seen_of (λ shard. seen_in node.shards.shards shard)
-      (λ shard. own_in node.shards shard) ≡ nothing_seen
+  pub is_node : IsNodeOf o
+      (node_of node.keys (plans_in node.shards.shards) (fixed_on node.shelf))
+  pub unseen : seen_of (viewed (λ shard. seen_in node.shards.shards shard)
+      (λ shard. own_in node.shards shard))
+      (viewed (λ object. seen_on node.shelf object) (λ object. own_on node.shelf object))
+      ≡ nothing_seen
+  pub none_taken : taken_from node.shelf ≡ None

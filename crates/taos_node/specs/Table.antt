@@ -1,7 +1,7 @@
 -- The commands and their options, as `clap` sees them.
 use Rattle.std.specs.Prelude.{◌≡◌, ◌≢◌, ℕ, List, [], ◌∷◌, ◌++◌, map, fold, Contains, codes, true, false, Option, Some, None}
 use Rattle.taos_node.specs.declared.wanted.Wanted.{Wanted}
-use Rattle.taos_node.specs.Words.{AreFrames, Task, serving_options, task_of}
+use Rattle.taos_node.specs.Words.{AreFrames, GivesMint, HasNumber, IsValue, MintWords, Mint, Task, mint_options, serving_options, task_of}
 use Rattle.clap.specs.Words.{App, Rule, Text, app_of, new_app, new_rule, with_subcommand}
 use Rattle.clap.specs.declared.builder.command.Command.TheViews.{out-Command}
 use Rattle.clap.specs.Simple.{on_top}
@@ -30,7 +30,9 @@ base_app =
 
 -- the commands of the table, each with its options
 abbrev pub commands : List (Text × List Text)
-commands = (codes "run", serving_options) ∷ (codes "check", []) ∷ (codes "relay", serving_options) ∷ []
+commands =
+    (codes "run", serving_options) ∷ (codes "check", []) ∷ (codes "relay", serving_options)
+    ∷ (codes "mint", mint_options) ∷ []
 
 -- all commands
 abbrev pub taos_app : App
@@ -49,12 +51,16 @@ IsPlainWord (x ∷ xs) = x ≢ 45
 
 -- all options of the table
 abbrev pub all_options : List Text
-all_options = serving_options
+all_options = codes "frames" ∷ mint_options
 
 -- the word is the option of this name, in either way: `--name`, or `--name=value`
 pub data IsOption (word name : Text) : Type 0 where
   alone : word ≡ codes "--" ++ name → IsOption word name
   joined : (value : Text) → word ≡ codes "--" ++ name ++ codes "=" ++ value → IsOption word name
+
+-- the word is one of these options
+abbrev pub IsOptionOf : List Text → Text → Type 0
+IsOptionOf options word = (name : Text) × Contains options name × IsOption word name
 
 -- the word is no option, or one of the table
 pub data IsOfTable (word : Text) : Type 0 where
@@ -71,3 +77,29 @@ abbrev pub IsServingOf : (ℕ → Task) → Option Text → Option Wanted → Ty
 IsServingOf serves text (Some wanted) =
     (frames : ℕ) × (task_of wanted ≡ serves frames) × AreFrames text frames
 IsServingOf serves text None = IsFramesOf text None
+
+-- what is read of a text that has to be there: itself, where it may be a value
+abbrev pub IsNeeded : Option Text → Option Text → Type 0
+IsNeeded text (Some v) = (text ≡ Some v) × IsValue v
+IsNeeded text None = (v : Text) → text ≡ Some v → IsValue v → ⊥
+
+-- the same of one that need not be there
+abbrev pub IsAllowed : Option Text → Option (Option Text) → Type 0
+IsAllowed text (Some o) = (text ≡ o) × ((v : Text) → text ≡ Some v → IsValue v)
+IsAllowed text None = (v : Text) × (text ≡ Some v) × (IsValue v → ⊥)
+
+-- what is read of a number that has to be there, below the bound
+abbrev pub IsNumberOf : ℕ → Option Text → Option ℕ → Type 0
+IsNumberOf bound text (Some n) = HasNumber bound text n
+IsNumberOf bound text None = (n : ℕ) → HasNumber bound text n → ⊥
+
+-- each text of an option of `mint` may be a value
+abbrev pub AreValues : (Text → Option Text) → Type 0
+AreValues text_of =
+    (name v : Text) → Contains mint_options name → text_of name ≡ Some v → IsValue v
+
+-- what `mint` is asked for, by the texts of its options
+abbrev pub IsMintOf : (Text → Option Text) → Option Wanted → Type 0
+IsMintOf text_of (Some wanted) =
+    (m : MintWords) × (task_of wanted ≡ Mint m) × GivesMint text_of m × AreValues text_of
+IsMintOf text_of None = (m : MintWords) → GivesMint text_of m → AreValues text_of → ⊥

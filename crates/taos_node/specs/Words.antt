@@ -1,12 +1,33 @@
 -- What a list of words means: a command, and its options.
 use Rattle.std.specs.Prelude.{◌≡◌, ◌≢◌, ℕ, ◌^◌, ◌<◌, ◌≤◌, Bool, if◌then◌else◌, List, [], ◌∷◌, ◌++◌, map, flat_map, All, Contains, Option, Some, None, option_map, find, codes, decimal, string_bytes, String, bytes_eq}
 use Rattle.std.specs.declared.alloc.Global.{Global}
+use Rattle.taos_node.specs.declared.wanted.Mint.{Mint as MintAsked}
 use Rattle.taos_node.specs.declared.wanted.Wanted.{Wanted}
 use Rattle.taos_node.specs.declared.wanted.Wanted.TheVariants as wanted
 use Rattle.taos_node.specs.declared.wanted.TheConstants.{MAX_FRAMES}
 
 abbrev pub Text : Type 0
 Text = List ℕ
+
+-- what `mint` is asked for
+pub record MintWords : Type 0 where
+  pub issuer : ℕ
+  pub serial : ℕ
+  pub until : Text
+  pub quoted : Option Text
+  pub left : Text
+  pub right : Text
+
+-- what the program has of it
+abbrev pub mint_words : MintAsked → MintWords
+mint_words m = record {
+  issuer = m.issuer;
+  serial = m.serial;
+  until = m.until.now;
+  quoted = option_map (λ s. s.now) m.quoted;
+  left = m.left.now;
+  right = m.right.now;
+}
 
 -- what a command line asks for
 pub data Task : Type 0 where
@@ -16,12 +37,15 @@ pub data Task : Type 0 where
   Check : Task
   -- to serve a connection as a relay, of at most so many frames
   Relay : ℕ → Task
+  -- to print a certificate
+  Mint : MintWords → Task
 
 -- the task that the program has
 abbrev pub task_of : Wanted → Task
 task_of (wanted.Run frames) = Run frames
 task_of wanted.Check = Check
 task_of (wanted.Relay frames) = Relay frames
+task_of (wanted.Mint m) = Mint (mint_words m)
 
 -- an option that is given with its value, both in one word or in two
 pub record Given : Type 0 where
@@ -69,6 +93,30 @@ AreFrames (Some text) n = IsCount text n
 abbrev pub serving_options : List Text
 serving_options = codes "frames" ∷ []
 
+-- the options of `mint`
+abbrev pub mint_options : List Text
+mint_options =
+    codes "issuer" ∷ codes "serial" ∷ codes "until" ∷ codes "quoted" ∷ codes "left"
+    ∷ codes "right" ∷ []
+
+-- the text is the number as it is written, with neither sign nor leading zero, below the bound
+abbrev pub IsNumber : ℕ → Text → ℕ → Type 0
+IsNumber bound text n = (text ≡ decimal n) × (n < bound)
+
+-- there is a text, and it is such a number
+abbrev pub HasNumber : ℕ → Option Text → ℕ → Type 0
+HasNumber bound None n = ⊥
+HasNumber bound (Some text) n = IsNumber bound text n
+
+-- the texts that options have give what `mint` is asked for
+pub record GivesMint (text_of : Text → Option Text) (m : MintWords) : Type 0 where
+  pub issuer : HasNumber (2 ^ 32) (text_of (codes "issuer")) m.issuer
+  pub serial : HasNumber (2 ^ 64) (text_of (codes "serial")) m.serial
+  pub until : text_of (codes "until") ≡ Some m.until
+  pub quoted : text_of (codes "quoted") ≡ m.quoted
+  pub left : text_of (codes "left") ≡ Some m.left
+  pub right : text_of (codes "right") ≡ Some m.right
+
 -- the words are this command, which serves at most so many frames
 abbrev pub ServeFrames : List Text → Text → ℕ → Type 0
 ServeFrames words command frames =
@@ -80,6 +128,9 @@ abbrev pub TextsMean : List Text → Task → Type 0
 TextsMean words (Run frames) = ServeFrames words (codes "run") frames
 TextsMean words (Relay frames) = ServeFrames words (codes "relay") frames
 TextsMean words Check = (given : List Given) × IsLine words (codes "check") [] given
+TextsMean words (Mint m) =
+    (given : List Given) × IsLine words (codes "mint") mint_options given
+    × GivesMint (λ name. value_of name given) m
 
 -- the words mean the task
 abbrev pub Mean : List (String Global) → Task → Type 0

@@ -1,10 +1,11 @@
 //! The top call: the words, the file, and then the work.
 
-ghost use Rattle.std.specs.Prelude.{◌≡◌, ◌⊎◌, ◌<◌, ◌≤◌, List, String, drop, length, IfOk};
+ghost use Rattle.std.specs.Prelude.{◌≡◌, ◌⊎◌, ◌<◌, ◌≤◌, List, String, drop, length, IfOk, None};
 ghost use Rattle.std.specs.declared.alloc.Global.{Global};
 ghost use Rattle.agent_core.specs.Alone.{plans_in};
 ghost use Rattle.frame_link.specs.Served.{counts, HasCauses, IsComplete};
 ghost use Rattle.node_file.specs.Opening.{Opening as Meaning};
+ghost use Rattle.object_core.specs.OneOwner.{taken_from};
 ghost use Rattle.taos_monitor.specs.Planned.{ArePlanned};
 ghost use Rattle.taos_node.specs.Ending.{status_of};
 ghost use Rattle.frame_link.specs.Streams.{Stream, stream};
@@ -18,7 +19,7 @@ use crate::ending::{Ending, FileFault, status_of};
 use crate::file::file_opening;
 use crate::note::tell;
 use crate::opened::{OpenNode, open_node};
-use crate::relay::relay_by_file;
+use crate::relay::{mint_by_file, relay_by_file};
 use crate::wanted::Wanted;
 use crate::words::wanted_of;
 use frame_link::{Clock, Door, Outcome, RelayLink, Sink, Source};
@@ -64,6 +65,7 @@ fn node_file_of<F: Source>(alloc: Global, file: &mut F) -> Result<(OpenNode, Sat
         (stream (F.left file.new) (F.faults file.new)) result }
     ensures planned { IfOk result (λ x. ArePlanned x.0.keys.channels.entries
         (plans_in x.0.shards.shards)) }
+    ensures none_taken { IfOk result (λ x. taken_from x.0.shelf ≡ None) }
     ensures cause { FileHasCause (stream (F.left file.old) (F.faults file.old))
         (stream (F.left file.new) (F.faults file.new)) result }
 {
@@ -85,6 +87,7 @@ fn serve<W: Wait + Sync, I: Source, O: Sink, C: Clock, R: RelayLink, D: Door>(
     requires some { 0 < length lanes.old }
     requires planned { ArePlanned opened.old.0.keys.channels.entries
         (plans_in opened.old.0.shards.shards) }
+    requires none_taken { taken_from opened.old.0.shelf ≡ None }
     ensures connection { (o : Meaning) (file0 file1 : Stream) → IsOpenedBy o opened.old.0
         → ServesConnection o frames
         (touched file0 (stream (I.left input.old) (I.faults input.old))
@@ -111,7 +114,7 @@ fn serve<W: Wait + Sync, I: Source, O: Sink, C: Clock, R: RelayLink, D: Door>(
         rt,
         alloc,
         &node.keys,
-        &node.shelf,
+        &mut node.shelf,
         &mut node.shards,
         &mut lane.relay,
         &mut lane.clock,
@@ -177,6 +180,7 @@ fn run<W: Wait + Sync, F: Source, I: Source, O: Sink, C: Clock, R: RelayLink, D:
     match wanted {
         Wanted::Check => check_file(alloc, file, input, output),
         Wanted::Relay { frames } => relay_by_file(alloc, file, input, output, frames),
+        Wanted::Mint(asked) => mint_by_file(alloc, file, output, &asked),
         Wanted::Run { frames } => match node_file_of(alloc, file) {
             Ok(mut opened) => Ending::Served(serve(
                 rt,
@@ -193,13 +197,14 @@ fn run<W: Wait + Sync, F: Source, I: Source, O: Sink, C: Clock, R: RelayLink, D:
 }
 
 /// Does all that the program does, and answers its exit status. The command lines are `run` with
-/// `--frames N` or without, `check`, and `relay` with `--frames N` or without. `run` and `check` read
-/// the file to a node's opening, `relay` to what a relay knows. By `run` each request frame of the
+/// `--frames N` or without, `check`, `relay` with `--frames N` or without, and `mint` with what a
+/// certificate is to say. `run` and `check` read the file to a node's opening, `relay` and `mint` to
+/// what a relay knows. By `run` each request frame of the
 /// input, of at most N or a million, is answered by one reply frame of the output, by a node of that
 /// opening whose journals are empty at first, with the first lane's clock and its link to the relay.
 /// By `check` the frames of a request and its reply are looked over, and one line of the output says
-/// what is found. By `relay` each frame of the input is answered by the relay's answer to a node. A
-/// note tells how it ended.
+/// what is found. By `relay` each frame of the input is answered by the relay's answer to a node. By
+/// `mint` one line of the output is the certificate. A note tells how it ended.
 pub fn taos<
     W: Threads + Wait + Sync,
     F: Source,
@@ -224,7 +229,8 @@ pub fn taos<
 
     // Every whole frame has its course in the journals of this connection alone, and the bytes that
     // are written are the replies; or the line is written of what a request and its reply show; or a
-    // relay answers each frame. The note and the status tell how it ended.
+    // relay answers each frame; or the line of a certificate is written. The note and the status tell
+    // how it ended.
     ensures run { let before = touched (stream (F.left file.old) (F.faults file.old))
         (stream (I.left input.old) (I.faults input.old))
         (stream (O.written output.old) (O.faults output.old))

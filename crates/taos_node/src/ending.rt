@@ -2,10 +2,12 @@
 
 ghost use Rattle.std.specs.Prelude.{◌≡◌};
 ghost use Rattle.taos_node.specs.declared.ending.FileFault.TheVariants as fault;
+ghost use Rattle.taos_node.specs.Minting.{minted_status};
 ghost use Rattle.taos_node.specs.Ending.{checked_status, file_status, served_status, status_of};
 
 use crate::check::CheckEnd;
 use crate::finding::finding_status;
+use crate::minting::MintEnd;
 use frame_link::Outcome;
 use node_file::FileCause;
 use std::alloc::AllocError;
@@ -47,6 +49,8 @@ pub enum Ending {
     Checked(CheckEnd),
     /// A connection to a relay was served.
     Relayed(Outcome),
+    /// A certificate was made, or refused.
+    Minted(MintEnd),
 }
 
 const USAGE: u8 = 1;
@@ -66,6 +70,8 @@ const TRUNCATED: u8 = 7;
 const TOO_LONG: u8 = 8;
 
 const SPENT: u8 = 10;
+
+const MINT_REFUSED: u8 = 12;
 
 fn file_status(fault: FileFault) -> u8
     ensures { result ≡ file_status fault }
@@ -103,6 +109,17 @@ fn checked_status(end: CheckEnd) -> u8
     }
 }
 
+fn minted_status(end: MintEnd) -> u8
+    ensures { result ≡ minted_status end }
+{
+    match end {
+        MintEnd::Done => 0,
+        MintEnd::Refused(_) => MINT_REFUSED,
+        MintEnd::WriteFault => WRITE_FAULT,
+        MintEnd::NoMemory => MEMORY,
+    }
+}
+
 /// The exit status of an ending.
 pub fn status_of(ending: Ending) -> u8
     ensures { result ≡ status_of ending }
@@ -114,5 +131,6 @@ pub fn status_of(ending: Ending) -> u8
         Ending::Served(outcome) => served_status(outcome),
         Ending::Checked(end) => checked_status(end),
         Ending::Relayed(outcome) => served_status(outcome),
+        Ending::Minted(end) => minted_status(end),
     }
 }

@@ -2,10 +2,12 @@
 
 ghost use Rattle.std.specs.Prelude.{◌≡◌, ◌⊎◌, ◌≤◌, ◌++◌, length, decimal};
 ghost use Rattle.taos_node.specs.Ending.{status_of};
+ghost use Rattle.taos_node.specs.Minting.{minted_note, word_text};
 ghost use Rattle.taos_node.specs.Notes.{cause_text, checked_note, file_note, served_note, note_of, IsNoted};
 
 use crate::check::CheckEnd;
 use crate::ending::{Ending, FileFault};
+use crate::minting::{MintEnd, MintWord};
 use arrayvec::ArrayVec;
 use frame_link::{Outcome, Sink, pour};
 use itoa::Buffer;
@@ -113,6 +115,41 @@ fn of_checked(end: CheckEnd) -> ArrayVec<u8, ROOM>
     }
 }
 
+fn word_text(word: MintWord) -> &'static [u8]
+    ensures text { result.now ≡ word_text word }
+    ensures short { length result.now ≤ 16 }
+{
+    match word {
+        MintWord::Issuer => b"issuer",
+        MintWord::Time => b"time",
+        MintWord::Quoted => b"quoted",
+        MintWord::Left => b"left",
+        MintWord::Right => b"right",
+        MintWord::Large => b"large",
+    }
+}
+
+// The note of a word of `mint` that is refused.
+fn of_word(word: MintWord) -> ArrayVec<u8, ROOM>
+    ensures { result.items ≡ minted_note (MintEnd.Refused word) }
+{
+    let mut line = plain(b"taos: mint refused: ");
+    line.try_extend_from_slice(word_text(word)).unwrap();
+    line.try_extend_from_slice(b"\n").unwrap();
+    line
+}
+
+fn of_minted(end: MintEnd) -> ArrayVec<u8, ROOM>
+    ensures { result.items ≡ minted_note end }
+{
+    match end {
+        MintEnd::Done => plain(b""),
+        MintEnd::Refused(word) => of_word(word),
+        MintEnd::WriteFault => plain(b"taos: write fault\n"),
+        MintEnd::NoMemory => plain(b"taos: no memory\n"),
+    }
+}
+
 fn note_of(ending: Ending) -> ArrayVec<u8, ROOM>
     ensures { result.items ≡ note_of ending }
 {
@@ -123,6 +160,7 @@ fn note_of(ending: Ending) -> ArrayVec<u8, ROOM>
         Ending::Served(outcome) => of_served(outcome),
         Ending::Checked(end) => of_checked(end),
         Ending::Relayed(outcome) => of_served(outcome),
+        Ending::Minted(end) => of_minted(end),
     }
 }
 

@@ -1,7 +1,9 @@
 //! A node that is opened.
 
-ghost use Rattle.std.specs.Prelude.{◌≡◌, map, IfOk};
+ghost use Rattle.std.specs.Prelude.{◌≡◌, map, IfOk, None};
 ghost use Rattle.keyed_seal.specs.Keys.{IsKeyTable};
+ghost use Rattle.object_core.specs.OneOwner.{taken_from};
+ghost use Rattle.object_core.specs.Shelving.{HaveOwnNumbers, fixed_of};
 ghost use Rattle.agent_core.specs.Alone.{plans_in};
 ghost use Rattle.agent_core.specs.Opened.{new_shard};
 ghost use Rattle.agent_core.specs.Plans.{AreShards};
@@ -9,16 +11,17 @@ ghost use Rattle.node_file.specs.Meaning.{opening, FitsByNumber};
 ghost use Rattle.node_file.specs.Opening.{Opening as Meaning};
 ghost use Rattle.node_file.specs.OpeningView.{Represents};
 ghost use Rattle.taos_monitor.specs.Planned.{ArePlanned};
-ghost use Rattle.taos_node.specs.Opened.{IsOpenedBy, its_plans, numbers_of};
+ghost use Rattle.taos_node.specs.Opened.{AllFit, IsOpenedBy, its_plans, new_object, numbers_of};
 
-use crate::lone_shelf::LoneShelf;
 use agent_core::{Lone, Shard, open_shards};
 use keyed_seal::{KeyTable, Sealer};
-use node_file::Opening;
+use node_file::{ObjectPlans, Opening};
+use object_core::{LoneShelf, Object};
 use std::alloc::{AllocError, Global};
+use std::sync::Arc;
 use taos_monitor::NodeKeys;
 
-/// A node's keys, its objects, and its shards, which nobody else steps.
+/// A node's keys, its objects and its shards, which nobody else steps.
 #[derive(Drop)]
 pub(crate) struct OpenNode {
     pub(crate) keys: NodeKeys,
@@ -62,21 +65,43 @@ fn shards_of(alloc: Global, node: &Opening) -> Result<Vec<Shard>, AllocError>
     )
 }
 
-/// The node of an opening, with empty journals. All memory that its shards want is taken here.
+// The objects, each with an empty journal of at most so many entries.
+fn objects_of(alloc: Global, plans: &ObjectPlans, limit: u64) -> Result<Vec<Object>, AllocError>
+    requires { AllFit plans.now }
+    ensures opened { IfOk result (λ v. v.items ≡ map (new_object limit) plans.now) }
+    ensures apart { IfOk result (λ v. HaveOwnNumbers (map fixed_of v.items)) }
+{
+    // It says that no number comes twice.
+    let _first = plans.at(0);
+    let count = plans.count();
+    let mut objects = Vec::with_capacity(alloc, count)?;
+    for place in 0..count {
+        if let Some(plan) = plans.at(place) {
+            let list = Arc::try_clone(&plan.list)?;
+            objects.push(Object::new(alloc, plan.number, &plan.content, list, limit)?)?;
+        }
+    }
+    Ok(objects)
+}
+
+/// The node of an opening, with empty journals. All memory that its shards and objects want is taken
+/// here.
 pub(crate) fn open_node(alloc: Global, node: Opening) -> Result<OpenNode, AllocError>
     requires { FitsByNumber (opening node) }
     ensures opened { IfOk result (λ n. (o : Meaning) → Represents node o → IsOpenedBy o n) }
     ensures planned { IfOk result (λ n. ArePlanned n.keys.channels.entries
         (plans_in n.shards.shards)) }
+    ensures none_taken { IfOk result (λ n. taken_from n.shelf ≡ None) }
 {
     let shards = shards_of(alloc, &node)?;
+    let objects = objects_of(alloc, &node.objects, node.limit)?;
     Ok(OpenNode {
         keys: NodeKeys {
             node: node.node,
             relay_key: Sealer::of(&node.relay_key),
             channels: node.channels,
         },
-        shelf: LoneShelf::new(node.objects),
+        shelf: LoneShelf::new(alloc, objects)?,
         shards: Lone::new(shards, node.anchors),
     })
 }

@@ -1,14 +1,16 @@
-//! The command that serves a connection as a relay.
+//! The commands that want a relay file: a relay that serves, and making a certificate.
 
 ghost use Rattle.std.specs.Prelude.{List, String};
 ghost use Rattle.std.specs.declared.alloc.Global.{Global};
 ghost use Rattle.frame_link.specs.Streams.{Stream, stream};
 ghost use Rattle.taos_node.specs.Ending.{status_of};
 ghost use Rattle.taos_node.specs.Command.{Link, touched, Runs, IsStatus};
-ghost use Rattle.taos_node.specs.Words.{Mean, Relay};
+ghost use Rattle.taos_node.specs.Words.{Mean, Mint, Relay, mint_words};
 
 use crate::ending::Ending;
 use crate::file::file_relay;
+use crate::minting::mint;
+use crate::wanted::Mint as MintAsked;
 use frame_link::{Sink, Source};
 use relay_core::serve_relay;
 use std::alloc::Global;
@@ -34,6 +36,28 @@ pub(crate) fn relay_by_file<F: Source, I: Source, O: Sink>(
 {
     match file_relay(alloc, file) {
         Ok(relay) => Ending::Relayed(serve_relay(alloc, &relay.table, input, output, frames)),
+        Err(fault) => Ending::File(fault),
+    }
+}
+
+/// Prints the certificate that the words ask for, by what a file says.
+pub(crate) fn mint_by_file<F: Source, O: Sink>(
+    alloc: Global,
+    file: &mut F,
+    output: &mut O,
+    asked: &MintAsked<'_>,
+) -> Ending
+    // Whatever input, clock and link there are.
+    ensures mints { (words : List (String Global)) (input : Stream) (clock : Stream) (relay : Link)
+        → Mean words (Mint (mint_words asked.now))
+        → let before = touched (stream (F.left file.old) (F.faults file.old)) input
+        (stream (O.written output.old) (O.faults output.old)) clock relay in
+        let after = touched (stream (F.left file.new) (F.faults file.new)) input
+        (stream (O.written output.new) (O.faults output.new)) clock relay in
+        Runs words before after result × IsStatus words before after (status_of result) }
+{
+    match file_relay(alloc, file) {
+        Ok(relay) => Ending::Minted(mint(alloc, &relay, asked, output)),
         Err(fault) => Ending::File(fault),
     }
 }

@@ -1,10 +1,10 @@
 //! The commands and their options, as `clap` reads them.
 
-ghost use Rattle.std.specs.Prelude.{◌≡◌, [], IfOk, map, string_bytes, false};
+ghost use Rattle.std.specs.Prelude.{◌≡◌, codes, [], IfOk, map, string_bytes, false};
 ghost use Rattle.clap.specs.Words.{rule_of, HasMatchesOf, FailsBy, fault_of};
 ghost use Rattle.clap.specs.Words.{App, with_rule};
 ghost use Rattle.taos_node.specs.Table.{option_rule, command_app, base_app, taos_app, IsMade};
-ghost use Rattle.taos_node.specs.Words.{serving_options};
+ghost use Rattle.taos_node.specs.Words.{mint_options, serving_options};
 
 use clap::{Arg, ArgAction, ArgMatches, Command, Error};
 use std::alloc::{AllocError, Global};
@@ -40,15 +40,42 @@ fn serving<'a>(alloc: Global, name: &'a str) -> Result<Command<'a>, AllocError>
     Ok(command)
 }
 
+// A command with one option more.
+fn with_option<'a>(
+    command: Command<'a>,
+    alloc: Global,
+    name: &'a str,
+) -> Result<Command<'a>, AllocError>
+    ensures { IfOk result (λ more. (app : App) → IsMade app command.entry
+        → IsMade (with_rule app (option_rule name.entry.now)) more) }
+{
+    let more = command.arg(option(alloc, name))?;
+    Ok(more)
+}
+
+fn minting<'a>(alloc: Global) -> Result<Command<'a>, AllocError>
+    ensures { IfOk result (IsMade (command_app (codes "mint") mint_options)) }
+{
+    let issuer = with_option(plain(alloc, "mint"), alloc, "issuer")?;
+    let serial = with_option(issuer, alloc, "serial")?;
+    let until = with_option(serial, alloc, "until")?;
+    let quoted = with_option(until, alloc, "quoted")?;
+    let left = with_option(quoted, alloc, "left")?;
+    let right = with_option(left, alloc, "right")?;
+    Ok(right)
+}
+
 #[tactic(auto, using(crate::proofs::Made::adds_subcommand))]
 fn commands<'a>(alloc: Global) -> Result<Command<'a>, AllocError>
     ensures { IfOk result (IsMade taos_app) }
 {
     let run = serving(alloc, "run")?;
     let relay = serving(alloc, "relay")?;
+    let mint = minting(alloc)?;
     let first = base(alloc).subcommand(run)?;
     let second = first.subcommand(plain(alloc, "check"))?;
-    let whole = second.subcommand(relay)?;
+    let third = second.subcommand(relay)?;
+    let whole = third.subcommand(mint)?;
     Ok(whole)
 }
 

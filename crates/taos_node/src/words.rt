@@ -1,17 +1,20 @@
 //! The words of a command line, read.
 
-ghost use Rattle.std.specs.Prelude.{◌≡◌, ◌↔◌, ℕ, List, String, Some, codes, decimal, option_map, string_bytes, All, IsTrue, IfOk, MatchOption};
+ghost use Rattle.std.specs.Prelude.{◌≡◌, ◌↔◌, ◌^◌, ℕ, List, String, Some, codes, map, decimal, option_map, string_bytes, All, IsTrue, IfOk, MatchOption};
 ghost use Rattle.std.specs.declared.alloc.Global.{Global};
 ghost use Rattle.clap.specs.Words.{Row, first_of, found_of, rows_of, subcommand_rows_of};
-ghost use Rattle.taos_node.specs.Words.{Check, IsCount, IsMeaning, Mean, Relay, Run, Task, task_of};
-ghost use Rattle.taos_node.specs.Table.{IsFramesOf, IsOfTable, IsOption, IsPlainWord, IsServingOf};
+ghost use Rattle.taos_node.specs.Words.{Check, IsCount, IsMeaning, IsNumber, IsValue, Mean, Relay, Run, Task, mint_options, task_of};
+ghost use Rattle.taos_node.specs.Table.{IsAllowed, IsFramesOf, IsMintOf, IsNeeded, IsNumberOf, IsOfTable, IsOption, IsOptionOf, IsPlainWord, IsServingOf};
 
 use crate::table::matches_of;
-use crate::wanted::{MAX_FRAMES, Wanted};
+use crate::wanted::{MAX_FRAMES, Mint, Wanted};
 use clap::ArgMatches;
 use clap::error::ErrorKind;
 use itoa::Buffer;
 use std::alloc::{AllocError, Global};
+
+// The options of `mint`.
+const MINT_OPTIONS: [&str; 6] = ["issuer", "serial", "until", "quoted", "left", "right"];
 
 /// Words mean one task.
 pub fn one_meaning()
@@ -41,11 +44,35 @@ fn is_option(word: &[u8], name: &[u8]) -> bool
     }
 }
 
+// Whether a word is one of these options.
+fn is_among(word: &[u8], names: &[&str]) -> bool
+    ensures { IsTrue result ↔ IsOptionOf (map (λ s. s.now) names.now) word.now }
+{
+    for name in names {
+        if is_option(word, name.as_bytes()) {
+            return true;
+        }
+    }
+    false
+}
+
+fn is_mint_option(word: &[u8]) -> bool
+    ensures { IsTrue result ↔ IsOptionOf mint_options word.now }
+{
+    is_among(word, &MINT_OPTIONS)
+}
+
 // Whether a word is no option, or one of the table.
 fn is_of_table(word: &[u8]) -> bool
     ensures { IsTrue result ↔ IsOfTable word.now }
 {
-    is_plain(word) || is_option(word, b"frames".as_slice())
+    if is_plain(word) {
+        return true;
+    }
+    if is_option(word, b"frames".as_slice()) {
+        return true;
+    }
+    is_mint_option(word)
 }
 
 fn are_of_table(words: &[String]) -> bool
@@ -66,17 +93,28 @@ fn is_written(number: u64, text: &str) -> bool
     digits.format(number) == text
 }
 
-// The number that a text is, where it is written as numbers are, and is not 0.
-fn count_of(text: &str) -> Option<u64>
-    ensures { MatchOption result ((n : ℕ) → IsCount text.now n → ⊥) (IsCount text.now) }
+// The number that a text is, where it is written as numbers are.
+fn number_of(text: &str) -> Option<u64>
+    ensures { MatchOption result ((n : ℕ) → IsNumber (2 ^ 64) text.now n → ⊥)
+        (IsNumber (2 ^ 64) text.now) }
 {
     let Ok(number) = text.parse::<u64>() else {
         return None;
     };
-    if number == 0 {
+    if !is_written(number, text) {
         return None;
     }
-    if !is_written(number, text) {
+    Some(number)
+}
+
+// The same, where it is not 0.
+fn count_of(text: &str) -> Option<u64>
+    ensures { MatchOption result ((n : ℕ) → IsCount text.now n → ⊥) (IsCount text.now) }
+{
+    let Some(number) = number_of(text) else {
+        return None;
+    };
+    if number == 0 {
         return None;
     }
     Some(number)
@@ -101,7 +139,7 @@ fn frames_of(text: Option<&str>) -> Option<u64>
     }
 }
 
-fn run_of(text: Option<&str>) -> Option<Wanted>
+fn run_of<'a>(text: Option<&'a str>) -> Option<Wanted<'a>>
     ensures { IsServingOf (λ frames. Run frames) (option_map (λ s. s.now) text.entry)
         result }
 {
@@ -111,7 +149,7 @@ fn run_of(text: Option<&str>) -> Option<Wanted>
     }
 }
 
-fn relay_of(text: Option<&str>) -> Option<Wanted>
+fn relay_of<'a>(text: Option<&'a str>) -> Option<Wanted<'a>>
     ensures { IsServingOf (λ frames. Relay frames) (option_map (λ s. s.now) text.entry)
         result }
 {
@@ -121,26 +159,100 @@ fn relay_of(text: Option<&str>) -> Option<Wanted>
     }
 }
 
+fn is_value(text: &[u8]) -> bool
+    ensures { IsTrue result ↔ IsValue text.now }
+{
+    match text {
+        [first, ..] => *first != b'-',
+        [] => false,
+    }
+}
+
+// A text that has to be there, where it may be a value.
+fn needed<'a>(text: Option<&'a str>) -> Option<&'a str>
+    ensures { IsNeeded (option_map (λ s. s.now) text.entry) (option_map (λ s. s.now) result) }
+{
+    match text {
+        Some(text) if is_value(text.as_bytes()) => Some(text),
+        _ => None,
+    }
+}
+
+// A text that may be there, where it may be a value.
+fn allowed<'a>(text: Option<&'a str>) -> Option<Option<&'a str>>
+    ensures { IsAllowed (option_map (λ s. s.now) text.entry)
+        (option_map (λ o. option_map (λ s. s.now) o) result) }
+{
+    match text {
+        Some(text) if is_value(text.as_bytes()) => Some(Some(text)),
+        Some(_) => None,
+        None => Some(None),
+    }
+}
+
+// A number that has to be there.
+fn needed_number(text: Option<&str>) -> Option<u64>
+    ensures { IsNumberOf (2 ^ 64) (option_map (λ s. s.now) text.entry) result }
+{
+    match text {
+        Some(text) => number_of(text),
+        None => None,
+    }
+}
+
+// The same of 32 bits.
+fn needed_u32(text: Option<&str>) -> Option<u32>
+    ensures { IsNumberOf (2 ^ 32) (option_map (λ s. s.now) text.entry) result }
+{
+    let number = needed_number(text)?;
+    match u32::try_from(number) {
+        Ok(number) => Some(number),
+        Err(_) => None,
+    }
+}
+
+fn mint_of<'a>(options: &ArgMatches<'a>) -> Option<Wanted<'a>>
+    ensures { IsMintOf (λ name. first_of name (rows_of (found_of options.now))) result }
+{
+    let issuer = needed_u32(text_of(options, "issuer"))?;
+    let serial = needed_number(text_of(options, "serial"))?;
+    let until = needed(text_of(options, "until"))?;
+    let quoted = allowed(text_of(options, "quoted"))?;
+    let left = needed(text_of(options, "left"))?;
+    let right = needed(text_of(options, "right"))?;
+    Some(Wanted::Mint(Mint {
+        issuer,
+        serial,
+        until,
+        quoted,
+        left,
+        right,
+    }))
+}
+
 // What is asked for by what `clap` found.
-fn found_in<'a>(matches: &ArgMatches<'a>) -> Option<Wanted>
+fn found_in<'a>(matches: &ArgMatches<'a>) -> Option<Wanted<'a>>
     ensures run { (rows : List Row) → subcommand_rows_of matches.now ≡ Some (codes "run", rows)
         → IsServingOf (λ frames. Run frames) (first_of (codes "frames") rows) result }
     ensures check { (rows : List Row) → subcommand_rows_of matches.now ≡ Some (codes "check", rows)
         → option_map task_of result ≡ Some Check }
     ensures relay { (rows : List Row) → subcommand_rows_of matches.now ≡ Some (codes "relay", rows)
         → IsServingOf (λ frames. Relay frames) (first_of (codes "frames") rows) result }
+    ensures mint { (rows : List Row) → subcommand_rows_of matches.now ≡ Some (codes "mint", rows)
+        → IsMintOf (λ name. first_of name rows) result }
 {
     let (name, options) = matches.subcommand()?;
     match name {
         "run" => run_of(text_of(options, "frames")),
         "check" => Some(Wanted::Check),
         "relay" => relay_of(text_of(options, "frames")),
+        "mint" => mint_of(options),
         _ => None,
     }
 }
 
 /// What words ask for, and `None` where they are no command line.
-pub fn wanted_of(alloc: Global, words: &[String]) -> Result<Option<Wanted>, AllocError>
+pub fn wanted_of<'a>(alloc: Global, words: &'a [String]) -> Result<Option<Wanted<'a>>, AllocError>
     ensures { IfOk result (IsMeaning words.now) }
 {
     if !are_of_table(words) {

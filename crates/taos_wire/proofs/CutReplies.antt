@@ -8,7 +8,7 @@ use Rattle.taos_calculus.proofs.CutProofs as proofs
 use Rattle.prin_term.specs.declared.fault.FormatFault.TheVariants as faults
 use Rattle.prin_term.specs.Formats.{ended, seen_as, u8_in, u32_in, u64_in}
 use Rattle.prin_term.specs.Steps.{IsByte}
-use Rattle.taos_wire.specs.Reply.{Reply, Malformed, UnknownChannel, BadSeal, Replayed, ChannelFull, RelayFailed, UnknownObject, NoMemory, NotHeld, Unbuilt, NoEntry, SpellsReply}
+use Rattle.taos_wire.specs.Reply.{Reply, Malformed, UnknownChannel, BadSeal, Replayed, ChannelFull, RelayFailed, UnknownObject, NoMemory, NotHeld, NoEntry, SpellsReply}
 use Rattle.taos_wire.specs.ReplyReading.{answered_at, place_at, proof_at, cert_at, cited_at, granted_at, named_at, link_at, denied_at, fields_at, status_at, reply_at, reply_of}
 use Rattle.taos_wire.proofs.CutRequests.{tag_cut}
 use Rattle.taos_wire.proofs.Fillings.{filling_cut}
@@ -81,8 +81,7 @@ module _ (front more : List ℕ) (ok : IsBytes (front ++ more)) where
       (cuts_if (eqb s 10) _ _ _ _ (cuts_made _ (cuts_followed (cuts_passing _ faults.Malformed byte_cut) (λ _. place_cut)))
       (cuts_if (eqb s 11) _ _ _ _ (cuts_given front (ended front) NoMemory)
       (cuts_if (eqb s 12) _ _ _ _ (cuts_made _ (cuts_followed byte_cut (λ _. word_cut)))
-      (cuts_if (eqb s 13) _ _ _ _ (cuts_made NotHeld (cuts_bytes (ended front) (ended (front ++ more)) front more 32))
-      (cuts_given front (ended front) Unbuilt))))))))))))))
+      (cuts_made NotHeld (cuts_bytes (ended front) (ended (front ++ more)) front more 32))))))))))))))
 
   status_cut : Cuts front (ended front) (status_at front) (status_at (front ++ more))
   unfolding status_at

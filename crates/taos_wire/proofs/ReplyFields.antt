@@ -27,7 +27,7 @@ use Rattle.prin_term.specs.declared.fault.FormatFault.TheVariants as faults
 use Rattle.taos_wire.specs.declared.reply.TheConstants.{MAX_CITED}
 use Rattle.prin_term.specs.Formats.{FormatReader, ended, seen_as, u8_in, u32_in, u64_in, within, term_in}
 use Rattle.taos_wire.specs.Reply.{Reply, Granted, Denied, Malformed, UnknownChannel, BadSeal, Replayed, CertRefused, ChannelFull, RelayFailed, UnknownObject, JournalFull, NoMemory, CommonsFull}
-use Rattle.taos_wire.specs.Reply.{NotHeld, Unbuilt, LinkSent, Expired, Missing, NoEntry, flag, link_bytes, cert_bytes, cited_bytes, proof_bytes, status_of, fields_of, answered_bytes, IsProof}
+use Rattle.taos_wire.specs.Reply.{NotHeld, LinkSent, Expired, Missing, NoEntry, flag, link_bytes, cert_bytes, cited_bytes, proof_bytes, status_of, fields_of, answered_bytes, IsProof}
 use Rattle.taos_wire.specs.Reply.{FitsCited, FitsLink, FitsReply, FitsGranted}
 use Rattle.taos_wire.specs.ReplyReading.{answered_at, place_at, proof_at, cert_at, cited_at, granted_at, named_at, link_at, denied_at, is_status, fields_at, status_at}
 use Rattle.taos_wire.proofs.Fillings.{reads_filling}
@@ -147,7 +147,6 @@ status_stands (JournalFull which number len) = (omega arith, refl)
 status_stands NoMemory = (omega arith, refl)
 status_stands (CommonsFull held shard) = (omega arith, refl)
 status_stands (NotHeld digest) = (omega arith, refl)
-status_stands Unbuilt = (omega arith, refl)
 
 module _ (bytes : List ℕ) where
   pub reads_answered : Reads bytes (answered_at bytes) (λ p. answered_bytes p.0 p.1) (λ p. (p.0 < 2 ^ 32) × (p.1 < 2 ^ 64))
@@ -306,13 +305,12 @@ module _ (bytes : List ℕ) where
   fields_again NoMemory at rest fits e = again_given NoMemory at
   fields_again (CommonsFull held shard) at rest fits e = again_made (λ (x : ℕ × ℕ). CommonsFull x.0 x.1) reads_commons at (held, shard) rest fits e
   fields_again (NotHeld digest) at rest fits e = again_made NotHeld (reads_bytes (ended bytes) 32 bytes) at digest rest fits e
-  fields_again Unbuilt at rest fits e = again_given Unbuilt at
 
   -- the last status is what is left of those that stand
   last_status : (s : ℕ) → is_status s ≡ true → eqb s 0 ≡ false → eqb s 1 ≡ false → eqb s 2 ≡ false → eqb s 3 ≡ false → eqb s 4 ≡ false → eqb s 5 ≡ false → eqb s 6 ≡ false → eqb s 7 ≡ false
-      → eqb s 8 ≡ false → eqb s 9 ≡ false → eqb s 10 ≡ false → eqb s 11 ≡ false → eqb s 12 ≡ false → eqb s 13 ≡ false → 255 ≡ s
-  last_status s is a b c d e f g h i j k l m n =
-      let past : 13 < s = omega (arith, eqb-false _ _ a, eqb-false _ _ b, eqb-false _ _ c, eqb-false _ _ d, eqb-false _ _ e, eqb-false _ _ f, eqb-false _ _ g, eqb-false _ _ h, eqb-false _ _ i, eqb-false _ _ j, eqb-false _ _ k, eqb-false _ _ l, eqb-false _ _ m, eqb-false _ _ n) in
+      → eqb s 8 ≡ false → eqb s 9 ≡ false → eqb s 10 ≡ false → eqb s 11 ≡ false → eqb s 12 ≡ false → 13 ≡ s
+  last_status s is a b c d e f g h i j k l m =
+      let past : 12 < s = omega (arith, eqb-false _ _ a, eqb-false _ _ b, eqb-false _ _ c, eqb-false _ _ d, eqb-false _ _ e, eqb-false _ _ f, eqb-false _ _ g, eqb-false _ _ h, eqb-false _ _ i, eqb-false _ _ j, eqb-false _ _ k, eqb-false _ _ l, eqb-false _ _ m) in
       grind (arith, nat_tests, is, past)
 
   fields_takes : (s : ℕ) → is_status s ≡ true → Takes bytes (fields_at bytes s) fields_of (IsOf s)
@@ -332,8 +330,7 @@ module _ (bytes : List ℕ) where
       (λ t. takes_made (λ (x : ℕ × (ℕ × ℕ)). JournalFull x.0 x.1.0 x.1.1) fields_of (IsOf s) reads_journal (λ x is. (((is.0.1, is.1.0, is.1.1), sym (eqb-true s 10 t)), refl))) (λ n10.
       takes_if bytes (eqb s 11) (given NoMemory) _ fields_of (IsOf s) (λ t. takes_given bytes NoMemory fields_of (IsOf s) refl (tt, sym (eqb-true s 11 t))) (λ n11.
       takes_if bytes (eqb s 12) (made (λ (x : ℕ × ℕ). CommonsFull x.0 x.1) (followed (u8_in bytes) (λ _. u32_in bytes))) _ fields_of (IsOf s) (λ t. takes_made (λ (x : ℕ × ℕ). CommonsFull x.0 x.1) fields_of (IsOf s) reads_commons (λ x is. ((is, sym (eqb-true s 12 t)), refl))) (λ n12.
-      takes_if bytes (eqb s 13) (made NotHeld (bytes_at (ended bytes) 32 bytes)) (given Unbuilt) fields_of (IsOf s) (λ t. takes_made NotHeld fields_of (IsOf s) (reads_bytes (ended bytes) 32 bytes) (λ x is. ((is, sym (eqb-true s 13 t)), refl))) (λ n13.
-      takes_given bytes Unbuilt fields_of (IsOf s) refl (tt, last_status s is n0 n1 n2 n3 n4 n5 n6 n7 n8 n9 n10 n11 n12 n13)))))))))))))))
+      takes_made NotHeld fields_of (IsOf s) (reads_bytes (ended bytes) 32 bytes) (λ x fits. ((fits, last_status s is n0 n1 n2 n3 n4 n5 n6 n7 n8 n9 n10 n11 n12), refl)))))))))))))))
 
   pub reads_status : Reads bytes (status_at bytes) (λ r. status_of r ∷ fields_of r) FitsReply
   unfolding status_at

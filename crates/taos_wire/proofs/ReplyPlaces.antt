@@ -13,7 +13,7 @@ use Rattle.stmt_codec.specs.Reading.{body_at}
 use Rattle.stmt_codec.proofs.Offsets.{body_stays}
 use Rattle.taos_calculus.specs.ProofReading.{proof_from, proof_filling}
 use Rattle.taos_calculus.specs.Tables.{Parts}
-use Rattle.taos_wire.specs.Reply.{Malformed, UnknownChannel, BadSeal, Replayed, ChannelFull, RelayFailed, UnknownObject, NoMemory, NotHeld, Unbuilt, NoEntry}
+use Rattle.taos_wire.specs.Reply.{Malformed, UnknownChannel, BadSeal, Replayed, ChannelFull, RelayFailed, UnknownObject, NoMemory, NotHeld, NoEntry}
 use Rattle.taos_wire.specs.ReplyReading.{answered_at, place_at, proof_at, body_filling, cert_at, cited_at, granted_at, named_at, link_at, denied_at, fields_at, status_at, reply_at, reply_of}
 use Rattle.taos_wire.proofs.Fillings.{begins_within_front, in_front}
 use Rattle.taos_wire.proofs.Places.{tag_stays}
@@ -125,8 +125,7 @@ module _ (bytes : List ℕ) (ok : IsBytes bytes) where
       (stays_if (eqb s 10) _ _ (stays_made _ (stays_followed (within_stays bytes 0 1) (λ _. place_stays)))
       (stays_if (eqb s 11) _ _ (stays_given bytes NoMemory)
       (stays_if (eqb s 12) _ _ (stays_made _ (stays_followed (u8_stays bytes) (λ _. u32_stays bytes)))
-      (stays_if (eqb s 13) _ _ (stays_made NotHeld (text_stays bytes 32))
-      (stays_given bytes Unbuilt))))))))))))))
+      (stays_made NotHeld (text_stays bytes 32))))))))))))))
 
   status_stays : Stays bytes (IsFaultIn bytes) (status_at bytes)
   unfolding status_at

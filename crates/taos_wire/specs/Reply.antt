@@ -57,8 +57,6 @@ pub data Reply : Type 0 where
   CommonsFull : (held shard : ℕ) → Reply
   -- no shard held the certificate with this digest
   NotHeld : (digest : List ℕ) → Reply
-  -- in place of all that is not built yet
-  Unbuilt : Reply
 
 -- ---- bytes
 
@@ -101,7 +99,6 @@ status_of (JournalFull which number len) = 10
 status_of NoMemory = 11
 status_of (CommonsFull held shard) = 12
 status_of (NotHeld digest) = 13
-status_of Unbuilt = 255
 
 -- what it says besides its status
 abbrev pub fields_of : Reply → List ℕ
@@ -122,7 +119,6 @@ fields_of (JournalFull which number len) = which ∷ to_be_bytes w32 number ++ t
 fields_of NoMemory = []
 fields_of (CommonsFull held shard) = held ∷ to_be_bytes w32 shard
 fields_of (NotHeld digest) = digest
-fields_of Unbuilt = []
 
 -- the version, then the channel and the number that are answered
 abbrev pub answered_bytes : ℕ → ℕ → List ℕ
@@ -179,7 +175,6 @@ FitsReply (JournalFull which number len) = (which ≤ 1) × (number < 2 ^ 32) ×
 FitsReply NoMemory = Unit {0}
 FitsReply (CommonsFull held shard) = IsByte held × (shard < 2 ^ 32)
 FitsReply (NotHeld digest) = IsDigest digest
-FitsReply Unbuilt = Unit {0}
 
 -- the bytes are those of the reply to this number of the channel, under some tag
 pub record SpellsReply (channel seq : ℕ) (r : Reply) (bytes : List ℕ) : Type 0 where

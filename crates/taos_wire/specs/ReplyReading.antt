@@ -17,7 +17,7 @@ use Rattle.prin_term.specs.Formats.{FormatReader, ended, u8_in, u16_in}
 use Rattle.prin_term.specs.Formats.{u32_in, u64_in, within, term_in}
 use Rattle.taos_wire.specs.Reply.{Reply, Granted, Denied, Malformed, UnknownChannel, BadSeal}
 use Rattle.taos_wire.specs.Reply.{Replayed, CertRefused, ChannelFull, RelayFailed, UnknownObject}
-use Rattle.taos_wire.specs.Reply.{JournalFull, NoMemory, CommonsFull, NotHeld, Unbuilt, LinkSent}
+use Rattle.taos_wire.specs.Reply.{JournalFull, NoMemory, CommonsFull, NotHeld, LinkSent}
 use Rattle.taos_wire.specs.Reply.{Expired, Missing, NoEntry}
 use Rattle.taos_wire.specs.RequestReading.{tag_at}
 
@@ -90,7 +90,7 @@ denied_at bytes =
 
 -- the byte names a kind of reply
 abbrev pub is_status : ℕ → Bool
-is_status s = nat_le s 13 || s == 255
+is_status s = nat_le s 13
 
 -- the fields that a status has
 unfoldable pub fields_at : List ℕ → ℕ → FormatReader Reply
@@ -111,8 +111,7 @@ fields_at bytes status at =
     else (if status == 11 then given NoMemory at
     else (if status == 12 then made (λ x. CommonsFull x.0 x.1)
     (followed (u8_in bytes) (λ _. u32_in bytes)) at
-    else (if status == 13 then made NotHeld (bytes_at (ended bytes) 32 bytes) at
-    else given Unbuilt at)))))))))))))
+    else made NotHeld (bytes_at (ended bytes) 32 bytes) at))))))))))))
 
 -- the status, and the fields that it has
 unfoldable pub status_at : List ℕ → FormatReader Reply

@@ -83,8 +83,6 @@ pub enum Reply {
     NotHeld {
         digest: [u8; 32],
     },
-    /// What was asked is not built yet.
-    Unbuilt,
 }
 
 /// What the reply of a grant carries, of which nothing is copied: the right of an entry, told at a

@@ -156,11 +156,10 @@ fn fields_of(
             let (shard, next) = u32_at(bytes, next, ended(bytes))?;
             Ok((Reply::CommonsFull { held, shard }, next))
         }
-        13 => {
+        _ => {
             let (digest, next) = array_at::<32, _>(bytes, at, ended(bytes))?;
             Ok((Reply::NotHeld { digest }, next))
         }
-        _ => Ok((Reply::Unbuilt, at)),
     }
 }
 
@@ -171,7 +170,7 @@ fn status_of(alloc: Global, bytes: &[u8], at: usize) -> Result<(Reply, usize), W
     ensures within { IfOk result (λ x. x.1 ≤ length bytes.now) }
 {
     let (status, next) = u8_at(bytes, at, ended(bytes))?;
-    if status <= 13 || status == 255 {
+    if status <= 13 {
         fields_of(alloc, bytes, next, status)
     } else {
         Err(WireFault::Malformed { offset: at })

@@ -162,7 +162,6 @@ fn status_of(answer: &Reply) -> u8
         Reply::NoMemory => 11,
         Reply::CommonsFull { .. } => 12,
         Reply::NotHeld { .. } => 13,
-        Reply::Unbuilt => 255,
     }
 }
 
@@ -208,7 +207,7 @@ fn push_fields(out: &mut Vec<u8>, answer: &Reply) -> Result<(), AllocError>
         } => { out.extend_from_slice(&journal_of(*which, *number, *length)) }
         Reply::CommonsFull { held, shard } => out.extend_from_slice(&commons_of(*held, *shard)),
         Reply::NotHeld { digest } => out.extend_from_slice(digest),
-        Reply::BadSeal | Reply::NoMemory | Reply::Unbuilt => Ok(()),
+        Reply::BadSeal | Reply::NoMemory => Ok(()),
     }
 }
 

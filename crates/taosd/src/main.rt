@@ -6,6 +6,7 @@ ghost use Rattle.std.specs.Prelude.{◌<◌, ◌≤◌, length};
 mod clock;
 mod exchange;
 mod keys;
+mod outbox;
 mod relay;
 mod streams;
 mod term;
@@ -15,6 +16,7 @@ mod warnings;
 use clock::SystemSeconds;
 use frame_link::{Clock, ClosedDoor, Door, NoRelay, RelayLink, Sink, pour};
 use keys::fresh_key;
+use outbox::{Deferred, Outbox, Prompt};
 use relay::{LIMIT, TcpRelay};
 use std::alloc::Global;
 use std::env;
@@ -29,7 +31,7 @@ use taos_node::{Ending, FileFault, Lane, Outcome, status_of, taos, tell};
 use usage::{USAGE, VERSION};
 use warnings::{Watched, tell_readers};
 
-// The input is read in pieces of this many bytes.
+// The input is read, and the output leaves, in pieces of at most this many bytes.
 const PIECE: usize = 65_536;
 
 // Where fresh keys come from.
@@ -84,7 +86,11 @@ fn work<W: Threads + Wait + Sync, N: Sink, C: Clock + Send, R: RelayLink + Send,
     requires some { 0 < length lanes.old }
     requires few { length lanes.old ≤ 16 }
 {
-    let Ok(standard_input) = BufReader::with_capacity(alloc, PIECE, rt.stdin()) else {
+    let Ok(outbox) = Outbox::with_capacity(alloc, PIECE, rt.stdout()) else {
+        return ended(notes, Ending::NoMemory);
+    };
+    let prompt = Prompt::new(rt.stdin(), &outbox);
+    let Ok(standard_input) = BufReader::with_capacity(alloc, PIECE, prompt) else {
         return ended(notes, Ending::NoMemory);
     };
     let file = file_of(rt, path);
@@ -93,8 +99,8 @@ fn work<W: Threads + Wait + Sync, N: Sink, C: Clock + Send, R: RelayLink + Send,
     }
     let mut file = Watched::new(alloc, file, path, rt.stderr());
     let mut input = Reading::new(standard_input);
-    let mut output = Writing::new(rt.stdout());
-    taos(
+    let mut output = Writing::new(Deferred::new(&outbox));
+    let status = taos(
         workers,
         alloc,
         command,
@@ -103,7 +109,11 @@ fn work<W: Threads + Wait + Sync, N: Sink, C: Clock + Send, R: RelayLink + Send,
         &mut output,
         notes,
         lanes,
-    )
+    );
+    match outbox.leave() {
+        false if status == 0 => ended(notes, Ending::Served(Outcome::WriteFault)),
+        _ => status,
+    }
 }
 
 // The first three words are the file, where to listen and the relay; the others are the command.

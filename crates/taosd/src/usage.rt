@@ -5,7 +5,8 @@ pub const USAGE: &[u8] = b"\
 taosd FILE LISTEN RELAY COMMAND
 taosd --help | --version | --key
 
-FILE    the path of a node file, or for relay of a relay file, or - for none
+FILE    the path of a node file, or for relay and mint of a relay file, or -
+        for none
 LISTEN  -
 RELAY   the address HOST:PORT of the node's relay, or - for none
 
@@ -17,6 +18,13 @@ COMMAND is one of
   relay [--frames N]
                     answers the frames of a node on standard input as a relay,
                     N of them at most (1 or more; 1000000 without)
+  mint --issuer N --serial N --until TIME [--quoted P] --left P --right P
+                    prints a certificate under the issuer's key, in hex: the
+                    issuer, quoting P if so, says until TIME that the left P
+                    speaks for the right P
+
+P is a principal such as key:2, alice or '(ws1 as taos) and key:14', by the
+texts of FILE; TIME an instant such as 2030-01-31T12:00:00Z.
 
 --help     prints this text
 --version  prints the program's version
@@ -28,7 +36,7 @@ Exit status, told on standard error but for 0 and 11:
   2  the file is refused           8  a frame is too long
   3  a read failed                10  N frames were answered, and more came
   4  a write failed               11  check refused the reply
-  5  the clock failed
+  5  the clock failed             12  mint refused a word
 ";
 
 /// Its name and version.

@@ -74,6 +74,8 @@ fn rights_are_the_sum_of_their_letters(rt: HostRuntime) -> Result<(), Fail> {
     for (entry, right) in list.iter().zip(&rights) {
         assert_eq!(rt; entry.rights, *right);
     }
+    assert_eq!(rt; rights_of(b"rwcm"), Some(15));
+    assert_eq!(rt; rights_of(b"wr"), None);
     Ok(())
 }
 

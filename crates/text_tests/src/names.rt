@@ -56,6 +56,8 @@ fn places_go_by_ascending_number(rt: HostRuntime) -> Result<(), Fail> {
     assert_eq!(rt; role.0, 2);
     assert_eq!(rt; role.1, "reader");
     assert!(rt; names.role_at(2).is_none());
+    assert_eq!(rt; names.name_of(b"ws2"), Some(21));
+    assert_eq!(rt; names.name_of(b"taos"), None);
     Ok(())
 }
 

@@ -3,7 +3,6 @@
 ghost use Rattle.std.specs.Prelude.{◌≡◌, ◌≤◌, IsTrue, length};
 ghost use Rattle.node_file.specs.LineView.{TakesLine};
 ghost use Rattle.node_file.specs.NodeLines.{anchor_said, anchors_and, anchors_with, name_said};
-ghost use Rattle.prin_text.specs.Labels.{number_of};
 ghost use Rattle.prin_text.specs.Words.{begins};
 
 use crate::fault::FileCause;
@@ -21,20 +20,6 @@ fn begins(word: &[u8], front: &str) -> bool
     word.starts_with(front.as_bytes())
 }
 
-// The name that has the text.
-fn name_of(names: &Names, text: &[u8]) -> Option<u32>
-    ensures { result ≡ number_of names.now.names text.now }
-{
-    let mut place = 0;
-    while let Some((number, found)) = names.name_at(place) {
-        if found.as_bytes() == text {
-            return Some(number);
-        }
-        place += 1;
-    }
-    None
-}
-
 // The name that the word is.
 #[tactic(auto, unfolding(crate::specs::NodeLines::name_said))]
 fn name_said(names: &Names, word: &[u8]) -> Result<u32, FileCause>
@@ -44,7 +29,7 @@ fn name_said(names: &Names, word: &[u8]) -> Result<u32, FileCause>
         let number = number_up_to(&word[5..], u32::MAX as u64)?;
         return Ok(number as u32);
     }
-    match name_of(names, word) {
+    match names.name_of(word) {
         Some(name) => Ok(name),
         None => Err(FileCause::UnknownName),
     }

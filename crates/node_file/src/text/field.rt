@@ -10,8 +10,8 @@ ghost use Rattle.prin_term.specs.Steps.{with_value};
 use crate::fault::FileCause;
 use crate::line_fault::LineFault;
 use crate::text::number::{bytes_of_digits, key_of_digits, number_up_to};
-use crate::text::rights::rights_of;
 use crate::text::word::{is_plain, unblanked, word_off};
+use prin_text::rights_of;
 use std::alloc::Global;
 use std::str::from_utf8;
 

@@ -21,10 +21,10 @@ NODES_17 = both(both(KEYS_4, KEYS_4), key(1))
 SMALL = opening(NODE, key_of(NODE), 1, 3600, 16_384, [], [], [], [])
 
 
-def node(entries=FOR_ALICE, shards=1, keep=3600, limit=16_384, commons=(), content=HELLO, machines=False):
-    """The node with this access list of object 5."""
+def node(entries=FOR_ALICE, shards=1, keep=3600, limit=16_384, commons=(), content=HELLO, machines=False, more=()):
+    """The node with this access list of object 5, and with more objects of that content and list."""
     channels, anchors = (MORE_CHANNELS, MORE_ANCHORS) if machines else (CHANNELS, ANCHORS)
-    objects = [(OBJECT, content, entries)]
+    objects = [(number, content, entries) for number in (OBJECT, *more)]
     return opening(NODE, key_of(NODE), shards, keep, limit, channels, anchors, list(commons), objects)
 
 

@@ -1,9 +1,9 @@
 """First paths, and what is refused before a request comes to its object."""
 from conversation import Case, Grant, talk
-from formats import DISCARD, FORGET, HOLD, READ, SET_LIST, SWEEP, WRITE, Fields, anchor_proof, bad_seal
-from formats import frame, granted, key, key_of, malformed, missing, no_right, not_built, quoting, refused
+from formats import DISCARD, FORGET, READ, SET_LIST, WRITE, Fields, anchor_proof, bad_seal
+from formats import frame, granted, key, key_of, malformed, missing, no_right, quoting, refused
 from formats import request, tagged, turned, u8, u16, u32, unknown_channel, unknown_object
-from .nodes import ALICE, BOB, CHAIN_16, NODES_16, NODES_17, SMALL, ask, by_anchor, by_itself, handed
+from .nodes import ALICE, BOB, NODES_17, SMALL, ask, by_anchor, by_itself, handed
 from .nodes import no_alice, node, three
 
 LARGE = bytes(range(256)) * 16
@@ -61,12 +61,12 @@ REFUSALS = [
     ("a turned tag", "The channel's key has another tag.", turned(ask(1, 1)), bad_seal()),
     ("the tag of another channel's key", "The request is of channel 1, the key that of channel 2.",
      frame(tagged(key_of(2), Fields(*request(1, 1).parts[:-1]))), bad_seal()),
-    ("a turned tag of a request that is not built", "The seal comes first.", turned(writing()), bad_seal()),
+    ("a turned tag of a Write", "The seal comes first.", turned(writing()), bad_seal()),
     ("a turned tag of an object that is not there", "The seal comes first.", turned(ask(1, 1, target=6)),
      bad_seal()),
     ("object 6", "It is not in the opening.", ask(1, 1, target=6), unknown_object(1, 1, 6)),
-    ("a Write with a turned certificate", "That it is not built comes first.",
-     writing(certificates=[turned(handed())]), not_built(1, 1)),
+    ("a Write with a turned certificate", "Nothing is written.",
+     writing(certificates=[turned(handed())]), refused(1, 1, 0, 3)),
     ("a turned certificate and object 6", "The certificate comes first.", ask(2, 1, turned(handed()), target=6),
      refused(2, 1, 0, 3)),
 ]
@@ -141,35 +141,8 @@ def requests():
     return cases + [talk("all of them, and a request", about, node(), all_of_them + [(ask(1, 1), by_anchor(1))])]
 
 
-# The name of an operation, its byte and fields.
-OPERATIONS = [
-    ("a Write of `new`", WRITE, [u16(3), b"new"]),
-    ("a Write of no bytes", WRITE, [u16(0)]),
-    ("a Write of 4,096 bytes", WRITE, [u16(4096), LARGE]),
-    ("a SetList of no entry", SET_LIST, [u8(0)]),
-    ("a SetList of eight entries", SET_LIST, [u8(8)] + [u8(15), ALICE] * 8),
-    ("a SetList of 16 levels", SET_LIST, [u8(1), u8(1), CHAIN_16]),
-    ("a SetList of 16 nodes", SET_LIST, [u8(1), u8(1), NODES_16]),
-    ("a Hold", HOLD, []),
-    ("a Discard", DISCARD, [bytes(32)]),
-    ("a Forget of channel 2", FORGET, [u32(2)]),
-    ("a Sweep", SWEEP, []),
-]
-
-
-def operations():
-    about = "It is a request, and no operation but Read is built."
-    cases = [talk(title, about, node(), [(frame(request(1, 1, operation, 5, fields)), not_built(1, 1))])
-             for title, operation, fields in OPERATIONS]
-    cases += [talk("a Hold of object 6", "The object is not looked at.", node(),
-                   [(frame(request(1, 1, HOLD, 6)), not_built(1, 1))])]
-    told = [(frame(request(1, 1, HOLD, 5)), not_built(1, 1)), (ask(1, 1), by_anchor(1))]
-    return cases + [talk("a Hold, and a Read of its number", "What is not built takes no number.", node(), told)]
-
-
 THEMES = [
     ("first", "First paths: what is granted and what is denied.", first),
     ("refusals", "What is refused before a request comes to its object, the first that applies.", refusals),
     ("requests", "What is no request, and at which byte.", requests),
-    ("operations", "Requests of operations that are not built.", operations),
 ]

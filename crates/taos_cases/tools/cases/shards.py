@@ -1,6 +1,6 @@
 """What a shard remembers: its clock, numbers, certificates and journal."""
 from conversation import Grant, talk
-from formats import LAST, bad_seal, body, channel_full, expired, journal_full, refused, replayed
+from formats import LAST, bad_seal, body, channel_full, expired, journal_full, object_full, refused, replayed
 from formats import turned, unknown_object
 from .nodes import ALICE, BOB, ask, by_anchor, handed, handing, no_alice, node, relayed
 
@@ -55,9 +55,13 @@ def clocks():
          [(ask(2, 1, SHOWN), granted(2, 1)), (ask(2, 2, turned(SHOWN)), refused(2, 2, 0, 3)),
           (ask(2, 2), ended(2, 2))]),
         ("the reading for a journal that is full", "It is taken, and no moment: the third frame has the next.",
-         node(limit=1, shards=2), [1000, 2000, 1999],
-         [(ask(1, 1), by_anchor(1, shard=1)), (ask(1, 2), journal_full(1, 2, 1, 1)),
-          (ask(2, 1, SHOWN), granted(2, 1))]),
+         node(limit=1, shards=2, more=[6, 7]), [1000, 2000, 1999],
+         [(ask(1, 1), by_anchor(1, shard=1)), (ask(1, 2, target=6), journal_full(1, 2, 1, 1)),
+          (ask(2, 1, SHOWN, target=7), granted(2, 1))]),
+        ("the reading for an object whose journal is full", "It is taken, and no moment.",
+         node(limit=1, shards=2, more=[6]), [1000, 2000, 1999],
+         [(ask(1, 1), by_anchor(1, shard=1)), (ask(2, 1), object_full(2, 1, 5, 1)),
+          (ask(2, 1, SHOWN, target=6), granted(2, 1))]),
     ]) + ends_of_time()
 
 
@@ -114,8 +118,10 @@ def held():
          [(ask(2, 1, SHOWN, target=9), unknown_object(2, 1, 9)), (ask(2, 1), no_alice(2, 1))]),
         ("presented before one that is refused", "It is not held.", plain, at,
          [(ask(2, 1, SHOWN, turned(SHOWN)), refused(2, 1, 1, 3)), (ask(2, 1), no_alice(2, 1))]),
-        ("presented where the journal is full", "Nothing is done.", node(limit=1), at,
-         [(ask(2, 1), no_alice(2, 1)), (ask(2, 2, SHOWN), journal_full(2, 2, 0, 1))]),
+        ("presented where the journal is full", "Nothing is done.", node(limit=1, more=[6]), at,
+         [(ask(2, 1), no_alice(2, 1)), (ask(2, 2, SHOWN, target=6), journal_full(2, 2, 0, 1))]),
+        ("presented where the object's journal is full", "It is not held.", node(limit=2, more=[6]), at,
+         [(ask(2, 1), no_alice(2, 1)), (ask(2, 1), replayed(2, 1, 1)), (ask(2, 2), journal_full(2, 2, 0, 2))]),
         ("presented twice in one request", "It is held, and cited once.", plain, at,
          [(ask(2, 1, SHOWN, SHOWN), granted(2, 1)), (ask(2, 2), again(2, 2, 2))]),
     ])
@@ -148,16 +154,22 @@ def limits():
     at = [1000]
     return told([
         ("a journal of one entry", "It is full, whatever comes; but what has no object comes first.",
-         node(limit=1), at,
-         [(ask(1, 1), by_anchor(1)), (ask(1, 2), journal_full(1, 2, 0, 1)), (ask(1, 1), journal_full(1, 1, 0, 1)),
-          (ask(2, 1), journal_full(2, 1, 0, 1)), (ask(1, 1, target=9), unknown_object(1, 1, 9))]),
+         node(limit=1, more=[6]), at,
+         [(ask(1, 1), by_anchor(1)), (ask(1, 2), object_full(1, 2, 5, 1)), (ask(1, 2, target=6), journal_full(1, 2, 0, 1)),
+          (ask(1, 1, target=6), journal_full(1, 1, 0, 1)), (ask(2, 1), object_full(2, 1, 5, 1)),
+          (ask(2, 1, target=6), journal_full(2, 1, 0, 1)), (ask(1, 1, target=9), unknown_object(1, 1, 9))]),
+        ("an object's journal of three entries", "Denials take them too; what has no ruling takes none.",
+         node(limit=3, shards=2), at,
+         [(ask(2, 1), no_alice(2, 1)), (ask(2, 1), replayed(2, 1, 1)), (ask(1, 1), by_anchor(1, shard=1)),
+          (ask(2, 2), no_alice(2, 2, 2)), (ask(1, 2), object_full(1, 2, 5, 3))]),
         ("a journal of two entries", "One of them is of the proof that is kept.", node(limit=2), at,
          [(ask(1, 1), by_anchor(1)), (ask(1, 1), journal_full(1, 1, 0, 2)), (ask(1, 2), journal_full(1, 2, 0, 2))]),
         ("a journal of three entries", "The last of them is of a number that was there.", node(limit=3), at,
          [(ask(1, 1), by_anchor(1)), (ask(1, 1), replayed(1, 1, 1)), (ask(1, 2), journal_full(1, 2, 0, 3))]),
-        ("each shard's own journal", "Each has its own length.", node(shards=2, limit=1), at,
-         [(ask(1, 1), by_anchor(1, shard=1)), (ask(1, 2), journal_full(1, 2, 1, 1)), (ask(2, 1), no_alice(2, 1)),
-          (ask(2, 2), journal_full(2, 2, 0, 1)), (ask(1, 2), journal_full(1, 2, 1, 1))]),
+        ("each shard's own journal", "Each has its own length.", node(shards=2, limit=1, more=[6, 7]), at,
+         [(ask(1, 1), by_anchor(1, shard=1)), (ask(1, 2, target=6), journal_full(1, 2, 1, 1)),
+          (ask(2, 1, target=6), no_alice(2, 1)), (ask(2, 2, target=7), journal_full(2, 2, 0, 1)),
+          (ask(1, 2, target=7), journal_full(1, 2, 1, 1)), (ask(1, 2, target=6), object_full(1, 2, 6, 1))]),
     ])
 
 

@@ -2,6 +2,7 @@
 use Rattle.std.proofs.Common.{refl, sym, subst}
 use Rattle.std.specs.Prelude.{IsSome}
 use Rattle.taos_wire.specs.View.{request as request_of}
+use Rattle.taos_monitor.specs.Cells.{alone_of, viewed}
 use Rattle.taos_monitor.proofs.Payloads.{texts_short}
 use Rattle.taos_monitor.proofs.Courses.{unasked_to, answers_as}
 use Rattle.taos_monitor.proofs.answering.answer.Goals as goal
@@ -25,6 +26,6 @@ returns-in-Ok-clause-answered g c =
 
 pub returns-in-Err-clause-answered : goal.returns-in-Err-clause-answered
 returns-in-Err-clause-answered g c =
-    unasked_to c.args.keys.now (g.S.Shards.plans c.args.shards.now) (g.H.Shelf.objects c.args.shelf.now) (g.S.Shards.alone c.args.shards.now) (g.R.RelayLink.says c.args.relay.now) (g.R.RelayLink.faults c.args.relay.now)
-    (g.S.Shards.seen c.args.shards.now) (g.S.Shards.own c.args.shards.now) (g.C.Clock.readings c.args.clock.now) c.args.payload.now c.in-Err.why c.leave_unsealed.new.self
-    c.count-count.ensures.legal c.in-Err.ensures.refused c.leave_unsealed.ensures.reply c.leave_unsealed.ensures.short
+    unasked_to c.args.keys.now (g.S.Shards.plans c.args.shards.now) (g.H.Shelf.objects c.args.shelf.now) (alone_of (g.S.Shards.alone c.args.shards.now) (g.H.Shelf.alone c.args.shelf.now)) (g.R.RelayLink.says c.args.relay.now) (g.R.RelayLink.faults c.args.relay.now)
+    (viewed (g.S.Shards.seen c.args.shards.now) (g.S.Shards.own c.args.shards.now)) (viewed (g.H.Shelf.seen c.args.shelf.now) (g.H.Shelf.own c.args.shelf.now)) (g.C.Clock.readings c.args.clock.now) c.args.payload.now c.in-Err.why c.leave_unsealed.new.self
+    c.are_legal.ensures.legal c.in-Err.ensures.refused c.leave_unsealed.ensures.reply c.leave_unsealed.ensures.short

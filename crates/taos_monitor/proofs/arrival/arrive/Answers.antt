@@ -1,28 +1,20 @@
 -- What a sealed request comes to.
-use Rattle.std.proofs.Common.{List, ℕ, [], arith, map, ap, subst, ◌∙◌, Global}
+use Rattle.std.proofs.Common.{List, ℕ, arith, map, refl, ap, subst, ◌∙◌, Global}
+use Rattle.std.proofs.lemmas.Bool.{false≢true}
 use Rattle.std.specs.Prelude.{Vec}
 use Rattle.std.proofs.lemmas.List.{length-map}
 use Rattle.std.proofs.lemmas.Result.{err_from_is_err_and}
 use Rattle.object_core.specs.Operation.{right_of}
 use Rattle.object_core.specs.View.{operation}
+use Rattle.object_core.specs.Shelving.{fixed_at}
 use Rattle.taos_wire.specs.View.{request, text_of, cited as shared}
 use Rattle.taos_monitor.specs.Arriving.{node_of}
 use Rattle.taos_monitor.specs.Credentials.{at_end, link_use}
-use Rattle.taos_monitor.specs.Course.{unbuilt, unknown_object, unopened}
+use Rattle.taos_monitor.specs.Course.{unknown_object, unopened}
 use Rattle.taos_monitor.specs.Presenting.{AllCome, AllStop}
-use Rattle.taos_monitor.proofs.Presenting.{none_called, quiet_linked}
-use Rattle.taos_monitor.proofs.Arriving.{is_built, not_opened, opened_count}
+use Rattle.taos_monitor.proofs.Presenting.{quiet_linked}
+use Rattle.taos_monitor.proofs.Arriving.{not_opened, opened_count, none_of, some_of}
 use Rattle.taos_monitor.proofs.arrival.arrive.Goals as goal
-
-pub returns-then-is_unbuilt-clause-refused : goal.returns-then-is_unbuilt-clause-refused
-returns-then-is_unbuilt-clause-refused g c =
-    let says = g.R.RelayLink.says c.args.relay.now in
-    let faults = g.R.RelayLink.faults c.args.relay.now in
-    record {
-      calls = [];
-      linked = quiet_linked says c.args.keys.now.node faults faults [] (none_called says c.args.keys.now.node faults);
-      course = λ plans J payload key asked. unbuilt asked (c.is_unbuilt.ensures.0 c.if-is_unbuilt.true);
-    }
 
 pub returns-in_err-certs-clause-refused : goal.returns-in_err-certs-clause-refused
 returns-in_err-certs-clause-refused g c =
@@ -34,11 +26,11 @@ returns-in_err-certs-clause-refused g c =
     rw (p.1, p.2) (record {
       calls = stops.calls;
       linked = stops.linked;
-      course = λ plans J payload key asked. not_opened (node_of c.args.keys.now plans (g.H.Shelf.objects c.args.shelf.now)) J r stops.calls f (is_built r c.is_unbuilt.result c.is_unbuilt.ensures.1 c.if-is_unbuilt.false) stops.stops payload key asked;
+      course = λ plans J payload key asked. not_opened (node_of c.args.keys.now plans (g.H.Shelf.objects c.args.shelf.now)) J r stops.calls f stops.stops payload key asked;
     })
 
-pub returns-in_default-clause-refused : goal.returns-in_default-clause-refused
-returns-in_default-clause-refused g c =
+pub returns-then-not-has-clause-refused : goal.returns-then-not-has-clause-refused
+returns-then-not-has-clause-refused g c =
     let says = g.R.RelayLink.says c.args.relay.now in
     let r = request c.args.asked.now in
     let came = subst (λ (l : List (Vec ℕ Global)). AllCome c.args.keys.now.relay_key
@@ -49,7 +41,7 @@ returns-in_default-clause-refused g c =
       calls = came.calls;
       linked = quiet_linked says c.args.keys.now.node (g.R.RelayLink.faults c.args.relay.now) (g.R.RelayLink.faults c.open_all.new.relay) came.calls came.quiet;
       course = λ plans J payload key asked.
-          unknown_object (record { taken = record { asked = asked; built = is_built r c.is_unbuilt.result c.is_unbuilt.ensures.1 c.if-is_unbuilt.false }; opened = came.opened }) c.in_default.ensures.found;
+          unknown_object (record { asked = asked; opened = came.opened }) (none_of (fixed_at (g.H.Shelf.objects c.args.shelf.now) r.object) (λ is. false≢true (c.if-not-has.ensures.there.1 is)));
     }
 
 pub returns-in_err-speaker_of-clause-refused : goal.returns-in_err-speaker_of-clause-refused
@@ -64,7 +56,7 @@ returns-in_err-speaker_of-clause-refused g c =
     rw (p.1, p.2) (record {
       calls = came.calls;
       linked = quiet_linked says c.args.keys.now.node (g.R.RelayLink.faults c.args.relay.now) (g.R.RelayLink.faults c.open_all.new.relay) came.calls came.quiet;
-      course = λ plans J payload key asked. unopened (record { asked = asked; built = is_built r c.is_unbuilt.result c.is_unbuilt.ensures.1 c.if-is_unbuilt.false }) (at_end came.opened);
+      course = λ plans J payload key asked. unopened asked (at_end came.opened);
     })
 
 pub returns-clause-arrived : goal.returns-clause-arrived
@@ -75,18 +67,19 @@ returns-clause-arrived g c =
     (link_use says c.args.keys.now.node (g.R.RelayLink.faults c.args.relay.now)
     (g.R.RelayLink.faults c.open_all.new.relay)) (map text_of l)
     (map shared c.in_ok-certs.certs.items)) c.deref.ensures.value c.in_ok-certs.ensures.came in
+    let object = some_of (fixed_at (g.H.Shelf.objects c.args.shelf.now) r.object) (c.if-not-has.ensures.there.0 refl) in
     record {
       calls = came.calls;
       linked = quiet_linked says c.args.keys.now.node (g.R.RelayLink.faults c.args.relay.now) (g.R.RelayLink.faults c.open_all.new.relay) came.calls came.quiet;
+      object = object.0;
+      there = object.1;
       arrived = λ plans payload key asked. record {
-        presented = record { taken = record { asked = asked; built = is_built r c.is_unbuilt.result c.is_unbuilt.ensures.1 c.if-is_unbuilt.false }; opened = came.opened };
-        there = c.in-Some.ensures.found;
+        presented = record { asked = asked; opened = came.opened };
+        there = object.1;
       };
       stands = record {
         subject = c.in_ok-speaker_of.ensures;
         right = c.right_of.ensures ∙ ap (λ x. right_of (operation x)) c.deref-2.ensures;
         few_certs = omega (arith, c.requires.limits.few_certs, opened_count c.args.keys.now.relay_key r.certs came.calls (map shared c.in_ok-certs.certs.items) came.opened, length-map c.in_ok-certs.certs.items shared);
-        content = c.in-Some.ensures.fits.0;
-        list = c.in-Some.ensures.fits.1;
       };
     }

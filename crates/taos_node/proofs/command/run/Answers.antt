@@ -35,6 +35,12 @@ returns-in-Check-clause-runs g c =
     let is = subst (λ w. Mean c.args.words.now (task_of w)) c.in-Check.is (meant c.args.words.now c.in-Ok.found c.in-Some.wanted c.in-Ok.ensures c.in-Some.is) in
     c.check_file.ensures.checks c.args.words.now (first_clock g.C.Clock.readings g.C.Clock.faults c.args.lanes.now) (first_link g.R.RelayLink.says g.R.RelayLink.faults c.args.lanes.now) is
 
+pub returns-in-Mint-clause-runs : goal.returns-in-Mint-clause-runs
+returns-in-Mint-clause-runs g c =
+    let is = subst (λ w. Mean c.args.words.now (task_of w)) c.in-Mint.is (meant c.args.words.now c.in-Ok.found c.in-Some.wanted c.in-Ok.ensures c.in-Some.is) in
+    let input = stream (g.I.Source.left c.args.input.now) (g.I.Source.faults c.args.input.now) in
+    c.mint_by_file.ensures.mints c.args.words.now input (first_clock g.C.Clock.readings g.C.Clock.faults c.args.lanes.now) (first_link g.R.RelayLink.says g.R.RelayLink.faults c.args.lanes.now) is
+
 pub returns-in-Relay-clause-runs : goal.returns-in-Relay-clause-runs
 returns-in-Relay-clause-runs g c =
     let is = subst (λ w. Mean c.args.words.now (task_of w)) c.in-Relay.is (meant c.args.words.now c.in-Ok.found c.in-Some.wanted c.in-Ok.ensures c.in-Some.is) in

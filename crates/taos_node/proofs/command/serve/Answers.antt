@@ -3,15 +3,16 @@ use Rattle.std.proofs.Common.{slice_index_or, sym, arith}
 use Rattle.std.proofs.lemmas.List.{drop-set-lt}
 use Rattle.agent_core.specs.Alone.{LoneSeen, plans_in, seen_in, own_in}
 use Rattle.taos_monitor.specs.Arriving.{node_of}
-use Rattle.taos_monitor.specs.Cells.{Seen, seen_of}
+use Rattle.taos_monitor.specs.Cells.{Seen, viewed, seen_of}
+use Rattle.object_core.specs.OneOwner.{LoneShelfSeen, fixed_on, seen_on, own_on}
 use Rattle.frame_link.specs.Streams.{stream}
 use Rattle.taos_node.specs.Command.{link, first_clock, first_link}
 use Rattle.taos_node.specs.Opened.{nothing_seen}
 use Rattle.taos_node.proofs.Commands.{touches, first_clock_is, first_link_is, clock_after, link_after}
 use Rattle.taos_node.proofs.command.serve.Goals as goal
 
-abbrev seen_by : LoneSeen → Seen
-seen_by shards = seen_of (λ s. seen_in shards.shards s) (λ s. own_in shards s)
+abbrev seen_by : LoneSeen → LoneShelfSeen → Seen
+seen_by shards shelf = seen_of (viewed (λ s. seen_in shards.shards s) (λ s. own_in shards s)) (viewed (λ o. seen_on shelf o) (λ o. own_on shelf o))
 
 pub returns-clause-connection : goal.returns-clause-connection
 returns-clause-connection g c = λ o file0 file1 opened.
@@ -19,7 +20,7 @@ returns-clause-connection g c = λ o file0 file1 opened.
     let lanes = c.args.lanes.now in
     let other = c.index-lanes-0.result in
     let lane = slice_index_or lanes 0 other in
-    let n = node_of node.keys (plans_in node.shards.shards) node.shelf in
+    let n = node_of node.keys (plans_in node.shards.shards) (fixed_on node.shelf) in
     let some = c.requires.some in
     let readings = g.C.Clock.readings in
     let faults = g.C.Clock.faults in
@@ -28,14 +29,14 @@ returns-clause-connection g c = λ o file0 file1 opened.
     record {
       node = n;
       is_node = opened.is_node;
-      seen = seen_by c.serve_connection.new.shards;
+      seen = seen_by c.serve_connection.new.shards c.serve_connection.new.shelf;
       connection =
           touches n c.args.frames file0 file1
           (stream (g.I.Source.left c.args.input.now) (g.I.Source.faults c.args.input.now)) (stream (g.I.Source.left c.serve_connection.new.input) (g.I.Source.faults c.serve_connection.new.input))
           (stream (g.O.Sink.written c.args.output.now) (g.O.Sink.faults c.args.output.now)) (stream (g.O.Sink.written c.serve_connection.new.output) (g.O.Sink.faults c.serve_connection.new.output))
           (stream (readings lane.clock) (faults lane.clock)) (first_clock readings faults lanes) (stream (readings c.serve_connection.new.clock) (faults c.serve_connection.new.clock)) _
           (link (says lane.relay) (failed lane.relay)) (first_link says failed lanes) (link (says c.serve_connection.new.relay) (failed c.serve_connection.new.relay)) _
-          (seen_by node.shards) nothing_seen (seen_by c.serve_connection.new.shards) c.serve_connection.result
+          (seen_by node.shards node.shelf) nothing_seen (seen_by c.serve_connection.new.shards c.serve_connection.new.shelf) c.serve_connection.result
           (first_clock_is readings faults lanes other some) (clock_after readings faults lanes _ some)
           (first_link_is says failed lanes other some) (link_after says failed lanes _ some) (sym opened.unseen)
           c.serve_connection.ensures.connection;

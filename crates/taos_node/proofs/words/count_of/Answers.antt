@@ -1,18 +1,12 @@
--- a number that is written so is read
-use Rattle.std.proofs.Common.{sym, ap, ◌∙◌, arith, decimal}
-use Rattle.std.proofs.lemmas.Bool.{false≢true}
-use Rattle.taos_node.proofs.Found.{is_read, not_read}
+-- a number that is not 0
+use Rattle.std.proofs.Common.{◌∙◌, arith, sym}
+use Rattle.std.proofs.lemmas.Fmt.{decimal_injective}
 use Rattle.taos_node.proofs.words.count_of.Goals as goal
 
 pub returns-in_default : goal.returns-in_default
-returns-in_default c = λ n is. not_read c.args.text.now c.parse.result c.in_default.field-0 n c.parse.ensures.value.0 c.in_default.is is
+returns-in_default c = λ n is. c.in_default.ensures n (is.0, is.2)
 
 pub returns-then-number-eq0 : goal.returns-then-number-eq0
 returns-then-number-eq0 c = λ n is.
-    let same = is_read c.args.text.now c.parse.result c.in-Ok.number n c.parse.ensures.value.0 c.in-Ok.is is in
+    let same = decimal_injective c.in-Some.number n c.in-Some.ensures.1 is.2 (sym c.in-Some.ensures.0 ∙ is.0) in
     omega (arith, same, is.1, c.if-number-eq0.true)
-
-pub returns-then-not-is_written : goal.returns-then-not-is_written
-returns-then-not-is_written c = λ n is.
-    let same = is_read c.args.text.now c.parse.result c.in-Ok.number n c.parse.ensures.value.0 c.in-Ok.is is in
-    false≢true (c.if-not-is_written.ensures.1 (is.0 ∙ ap decimal (sym same)))

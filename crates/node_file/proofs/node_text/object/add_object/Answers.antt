@@ -18,7 +18,7 @@ pub returns-then-count : goal.returns-then-count
 returns-then-count c = record {
   takes = λ above held.
       let absent : is_some (object_of c.args.objects.now c.args.number) ≡ false = ap is_some (sym c.get.ensures) ∙ some_map (λ p. plan p.now) c.get.result ∙ sym c.is_some.ensures ∙ c.if-is_some.false in
-      object_full above c.args.number (ap is_some (sym (held.each c.args.number)) ∙ absent) (omega (arith, held.count, c.count.ensures));
+      object_full above c.args.number (ap is_some (sym (held.each c.args.number)) ∙ absent) (omega (arith, held.count, c.count.ensures.count));
 }
 
 pub returns : goal.returns
@@ -30,7 +30,7 @@ returns c = record {
       let number = ap (λ (p : ObjectPlan). p.number) c.in_ok-object.ensures in
       let held_more = adds_plan c.args.objects.now c.add.new.self above (plan object) held (ap (object_of c.args.objects.now) number ∙ none) c.in_ok-add.ensures.added in (
         _,
-        object_fits above c.args.number (ap is_some (sym (held.each c.args.number)) ∙ absent) (omega (arith, held.count, c.count.ensures)),
+        object_fits above c.args.number (ap is_some (sym (held.each c.args.number)) ∙ absent) (omega (arith, held.count, c.count.ensures.count)),
         subst (λ (p : ObjectPlan). HoldsPlans c.add.new.self (above ++ p ∷ [])) c.in_ok-object.ensures held_more,
       );
 }

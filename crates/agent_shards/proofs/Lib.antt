@@ -1,0 +1,5 @@
+pub mod Rows
+pub mod Seats
+pub mod Shelves
+pub mod Among
+pub mod Crossing

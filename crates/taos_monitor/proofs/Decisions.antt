@@ -1,0 +1,84 @@
+-- What was ruled on a request at its object, by how its ask ended and what the reply tells.
+use Rattle.std.proofs.Common.{◌≡◌, ℕ, ◌<◌, ◌≤◌, Bool, List, [], length, map, Option, None, sym, ap, ap₂, subst, ◌∙◌}
+use Rattle.prin_term.specs.Principal.{Principal}
+use Rattle.prin_term.specs.View.{Grant}
+use Rattle.object_core.specs.Objects.{ObjectSeen}
+use Rattle.object_core.specs.Shelving.{fixed_of}
+use Rattle.taos_calculus.proofs.Induction.{All-at}
+use Rattle.std.specs.Prelude.{All}
+use Rattle.taos_wire.specs.Reply as replies
+use Rattle.taos_wire.specs.Reply.{Reply}
+use Rattle.taos_wire.specs.View.{request, cited as shared}
+use Rattle.agent_core.specs.declared.asked.Asked.{Asked}
+use Rattle.agent_core.specs.State.{Plan, Ask}
+use Rattle.agent_core.specs.Plans.{IsPlan}
+use Rattle.agent_core.specs.Journals.{Entry}
+use Rattle.agent_core.specs.Asked.{AskEnds, Unanswered}
+use Rattle.agent_core.proofs.Asks.{standing}
+use Rattle.taos_monitor.specs.declared.deciding.Came.{Came}
+use Rattle.taos_monitor.specs.declared.deciding.Ruled.{Ruled}
+use Rattle.taos_monitor.specs.Arriving.{StandsFor}
+use Rattle.taos_monitor.specs.Asking.{unanswered}
+use Rattle.taos_monitor.specs.AtObject.{asks_for, object_full}
+use Rattle.taos_monitor.specs.Cells.{Viewed, AreLegalShards}
+use Rattle.taos_monitor.specs.Ruling.{AskedAt, DecidedTo, IsRuled, at_limit, unruled, shard_of, IsToldBy, MayTell, ask_came, list_of, seeking_of, telling}
+use Rattle.taos_monitor.proofs.Going.{shards_stood}
+use Rattle.taos_monitor.proofs.Parts.{may_tell}
+use Rattle.taos_monitor.proofs.Telling.{ruled_by}
+
+-- what holds of how it ended may be told otherwise
+pub ended_as : (plans : List Plan) (alone : Bool) (old new : Viewed Entry) (h : ℕ) (Ends Others : Plan → List Entry → List ℕ → Type 0) →
+    (x : AskedAt plans alone old new h Ends) → Others x.plan (new.seen h) x.own → AskedAt plans alone old new h Others
+ended_as plans alone old new h Ends Others x ends = record { plan = x.plan; planned = x.planned; own = x.own; goes_on = x.goes_on; legal = x.legal; ends = ends }
+
+module _ (c : Came) (o : ObjectSeen) where
+  -- what is asked of the object
+  abbrev pub its_ask : Ask
+  its_ask = asks_for (seeking_of c (fixed_of o)) o.journal
+
+  pub same_ask : (list : List Grant) → StandsFor (request c.asked.now) c.arrived → list ≡ list_of o → ask_came c list ≡ asks_for (seeking_of c (fixed_of o)) o.journal
+  same_ask list stands same =
+      ap₂ (λ (who : Principal) (right : ℕ). record { channel = (request c.asked.now).channel; seq = (request c.asked.now).seq; reading = c.reading; subject = who; list = list; right = right; presented = map shared c.arrived.certs.items }) stands.subject stands.right
+      ∙ ap (λ (l : List Grant). record { channel = (request c.asked.now).channel; seq = (request c.asked.now).seq; reading = c.reading; subject = its_ask.subject; list = l; right = its_ask.right; presented = map shared c.arrived.certs.items }) same
+
+  module _ (plans : List Plan) (alone : Bool) (old new : Viewed Entry) where
+    abbrev pub Decided : Option Ruled → Reply → Type 0
+    Decided ruled reply = DecidedTo plans alone old new (c, o) ruled reply
+
+    -- the object is full
+    pub decided_full : (n : ℕ) → AreLegalShards plans old.seen → c.shard < length plans → length o.journal ≡ o.limit → n ≡ o.limit → DecidedTo plans alone old old (c, o) None (object_full (request c.asked.now).object n)
+    decided_full n legal there full is =
+        let (plan, planned) = standing plans c.shard there in
+        record {
+          plan = plan;
+          planned = planned;
+          own = [];
+          goes_on = shards_stood alone old;
+          legal = legal;
+          ends = subst (λ (k : ℕ). IsRuled (shard_of plan (old.seen c.shard)) (seeking_of c (fixed_of o)) o.journal None [] (object_full (request c.asked.now).object k)) (sym is) (at_limit full);
+        }
+
+    module _ (list : List Grant) (stands : StandsFor (request c.asked.now) c.arrived) (same : list ≡ list_of o) (h : ℕ) (shard : c.shard ≡ h) where
+      at_shard : (Others : Plan → List Entry → List ℕ → Type 0) → AskedAt plans alone old new h Others → AskedAt plans alone old new c.shard Others
+      at_shard Others x = subst (λ (s : ℕ). AskedAt plans alone old new s Others) (sym shard) x
+
+      pub decided_ended : (ended : Asked) → (x : AskedAt plans alone old new h (λ plan journal own. AskEnds plan journal (ask_came c list) ended own)) → (ruled : Option Ruled) (reply : Reply) →
+          IsToldBy (telling (request c.asked.now) o c.shard ended.place ended.kept) ended.verdict ruled reply → Decided ruled reply
+      decided_ended ended x ruled reply told =
+          at_shard (λ plan journal own. IsRuled (shard_of plan journal) (seeking_of c (fixed_of o)) o.journal ruled own reply)
+          (ended_as plans alone old new h (λ plan journal own. AskEnds plan journal (ask_came c list) ended own)
+          (λ plan journal own. IsRuled (shard_of plan journal) (seeking_of c (fixed_of o)) o.journal ruled own reply) x
+          (ruled_by x.plan (new.seen h) (seeking_of c (fixed_of o)) o.journal ended.place ended.verdict ended.kept ended.settled x.own ruled reply
+          (subst (λ (a : Ask). AskEnds x.plan (new.seen h) a ended x.own) (same_ask list stands same) x.ends) told))
+
+      pub decided_lacked : AskedAt plans alone old new h (λ plan journal own. Unanswered plan journal (ask_came c list) own) → Decided None replies.NoMemory
+      decided_lacked x =
+          at_shard (λ plan journal own. IsRuled (shard_of plan journal) (seeking_of c (fixed_of o)) o.journal None own replies.NoMemory)
+          (ended_as plans alone old new h (λ plan journal own. Unanswered plan journal (ask_came c list) own)
+          (λ plan journal own. IsRuled (shard_of plan journal) (seeking_of c (fixed_of o)) o.journal None own replies.NoMemory) x
+          (unruled (unanswered (subst (λ (a : Ask). Unanswered x.plan (new.seen h) a x.own) (same_ask list stands same) x.ends))))
+
+      pub may_be_told : (ended : Asked) → (x : AskedAt plans alone old new h (λ plan journal own. AskEnds plan journal (ask_came c list) ended own)) → All IsPlan plans → length list ≤ 8 → MayTell (list_of o) ended.verdict
+      may_be_told ended x sound few =
+          subst (λ (l : List Grant). MayTell l ended.verdict) same
+          (may_tell x.plan (new.seen h) (ask_came c list) ended.place ended.verdict ended.kept ended.settled x.own (All-at IsPlan plans h x.plan sound x.planned) (x.legal h x.plan x.planned) few x.ends)

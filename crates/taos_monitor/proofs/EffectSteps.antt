@@ -1,0 +1,350 @@
+-- The steps of an effect: what one is told, and how they go on from shard to shard.
+use Rattle.std.proofs.Common.{◌≡◌, ◌≢◌, ℕ, zero, suc, ◌+◌, ◌<◌, Bool, false, nat_lt, List, [], ◌∷◌, ◌++◌, length, map, get_or, Option, Some, slice_get, refl, sym, ap, subst, ◌∙◌, arith, inl, inr, append-nil, length-append}
+use Rattle.std.specs.Prelude.{All, IsTrue, ◌↔◌, ◌⊎◌}
+use Rattle.std.specs.List.{range_with_len, sum_by}
+use Rattle.std.proofs.lemmas.Bool.{cases_eq, cond_both}
+use Rattle.std.proofs.lemmas.List.{get_or_append_left, map-append}
+use Rattle.std.proofs.Math.Seq.{get_or-append_seam}
+use Rattle.std.specs.Option.{option_to_list}
+use Rattle.std.proofs.lemmas.List.Elements.{All-append, All-cons, All-nil}
+use Rattle.std.proofs.lemmas.List.Sums.{sum_by_push}
+use Rattle.std.proofs.lemmas.Option.{same_Some}
+use Rattle.stmt_codec.specs.Certificates.{Certificate}
+use Rattle.proof_cache.specs.Cached.{Cached}
+use Rattle.agent_core.specs.declared.told.Told.{Told}
+use Rattle.agent_core.specs.declared.limits.TheConstants.{MAX_COMMONS}
+use Rattle.agent_core.specs.Held.{newly}
+use Rattle.agent_core.specs.State.{Plan, State, Event, Asks, Keeps, Holds, Discards, Forgets, Expires, Answer, Plain, holding, next}
+use Rattle.agent_core.specs.Journals.{Entry, entry, Begins, Stands, state_after, cache_after, told_of, told_at, IsMeant, IsLegalJournal}
+use Rattle.agent_core.specs.Answers.{TakesMemory, SteppedTo}
+use Rattle.agent_core.specs.declared.told.Answer.{Answer as ValueOfAnswer}
+use Rattle.agent_core.specs.declared.told.Answer.TheVariants as answer
+use Rattle.agent_core.specs.declared.told.DropCause.{DropCause}
+use Rattle.agent_core.specs.declared.told.Snapshot.{Snapshot}
+use Rattle.std.specs.Arc.{arc_value}
+use Rattle.std.specs.declared.alloc.Global.{Global}
+use Rattle.std.specs.declared.sync.Arc.{Arc}
+use Rattle.stmt_codec.specs.View.{certificates}
+use Rattle.proof_cache.specs.Cached.{cached}
+use Rattle.proof_cache.specs.declared.cached.Cached.{Cached as CachedValue}
+use Rattle.agent_core.specs.Steps.{StepAnswer, Hit, Miss, Other, IsAnswer, hit, miss, other, JournalSeen, StepsTo, StepRefused, seen_at}
+use Rattle.agent_core.proofs.Onward.{stands_on}
+use Rattle.agent_core.specs.declared.event.Event.{Event as EventValue}
+use Rattle.agent_core.specs.Views.{event_of}
+use Rattle.agent_core.proofs.Asks.{standing}
+use Rattle.taos_monitor.specs.declared.stepping.Went.{Went}
+use Rattle.taos_monitor.specs.declared.stepping.Went.TheVariants as how
+use Rattle.taos_monitor.specs.Cells.{in_shard, Viewed, viewed, ShardsGoOn, AreLegalShards}
+use Rattle.taos_monitor.specs.Operations.{IsEffect}
+use Rattle.taos_monitor.specs.Effects.{IsDone, removed_by, WentAs, ShardStep, step_at, its_place, LetsGo, IsStep, AreDone, WentThrough, FoundNoRoom, FoundNoPlace, SteppedBy, CanStep}
+use Rattle.taos_monitor.proofs.Going.{OneGoesOn, one_place, no_places, shard_went_on, shards_twice, shards_stood, shards_begin}
+
+-- ---- what is told of an effect
+
+abbrev pub IsToldOfEffect : Told → Type 0
+IsToldOfEffect (Told.Held added) = Unit {0}
+IsToldOfEffect (Told.CommonsFull held) = Unit {0}
+IsToldOfEffect (Told.Removed count) = Unit {0}
+IsToldOfEffect _ = ⊥
+
+plain_told : (a b : Told) → Plain a ≡ Plain b → a ≡ b
+plain_told a b e = cc
+
+holding_tells : (s : State) (new : List Certificate) (told : Told) → (holding s new).1 ≡ Plain told → IsToldOfEffect told
+holding_tells s new told =
+    cond_both (nat_lt MAX_COMMONS (length s.commons + length new)) _ _ (λ (r : State × Answer). r.1 ≡ Plain told → IsToldOfEffect told)
+    (λ _ e. subst IsToldOfEffect (plain_told (Told.CommonsFull (length s.commons)) told e) tt)
+    (λ _ e. subst IsToldOfEffect (plain_told (Told.Held (length new)) told e) tt)
+
+effect_tells : (plan : Plan) (s : State) (event : Event) (told : Told) → IsEffect event → (next plan s event).1 ≡ Plain told → IsToldOfEffect told
+effect_tells plan s (Asks a) told is e = absurd is
+effect_tells plan s (Keeps ask entry c) told is e = absurd is
+effect_tells plan s (Holds certs) told is e = holding_tells s (newly s.commons certs) told e
+effect_tells plan s (Discards digest) told is e = subst IsToldOfEffect (plain_told _ told e) tt
+effect_tells plan s (Forgets channel) told is e = subst IsToldOfEffect (plain_told _ told e) tt
+effect_tells plan s (Expires reading) told is e = subst IsToldOfEffect (plain_told _ told e) tt
+
+abbrev pub IsAnswerToEffect : StepAnswer → Type 0
+IsAnswerToEffect (Other told) = IsToldOfEffect told
+IsAnswerToEffect _ = ⊥
+
+answer_to_effect : (plan : Plan) (before : List Entry) (event : Event) (told : Told) (x : StepAnswer) → IsAnswer plan before event told x → IsEffect event → IsAnswerToEffect x
+answer_to_effect plan before event told x (hit j at found) is = absurd is
+answer_to_effect plan before event told x (miss j) is = absurd is
+answer_to_effect plan before event told x (other p) is = effect_tells plan (state_after plan before) event told is p
+
+-- what a step of an effect hands out is told
+pub told_effect : {plan : Plan} {earlier later : JournalSeen} {event : Event} (place : ℕ) (x : StepAnswer) → IsEffect event → StepsTo plan earlier later event place x → IsAnswerToEffect x
+told_effect {plan = plan} {event = event} place x is s = answer_to_effect plan s.before event s.steps.told x s.steps.answers is
+
+told_other : {plan : Plan} {before : List Entry} {event : Event} (told told' : Told) → IsAnswer plan before event told (Other told') → told ≡ told'
+told_other told told' (other e) = refl
+
+-- what only an Ask is told, or a Keep
+module _ (plan : Plan) (earlier later : JournalSeen) (event : Event) (place : ℕ) (r : ValueOfAnswer) (is_effect : IsEffect event) (s : SteppedTo plan earlier later event place r) where
+  no_effect_step : (x : ValueOfAnswer) (y : StepAnswer) → r ≡ x → (SteppedTo plan earlier later event place x → StepsTo plan earlier later event place y) → IsAnswerToEffect y
+  no_effect_step x y is go = told_effect place y is_effect (go (subst (SteppedTo plan earlier later event place) is s))
+
+  pub never_asked : ((n : ℕ) × (r ≡ answer.Replayed n)) ⊎ (((n : ℕ) × (r ≡ answer.Full n)) ⊎ (((n : ℕ) × (x : Arc CachedValue Global) × (r ≡ answer.Hit n x)) ⊎
+      (((x : Snapshot) × (r ≡ answer.Miss x)) ⊎ ((r ≡ answer.Kept) ⊎ ((x : DropCause) × (r ≡ answer.Dropped x)))))) → ⊥
+  never_asked (inl h) = no_effect_step (answer.Replayed h.0) (Other (Told.Replayed h.0)) h.1 (λ t. t)
+  never_asked (inr (inl h)) = no_effect_step (answer.Full h.0) (Other (Told.Full h.0)) h.1 (λ t. t)
+  never_asked (inr (inr (inl h))) = no_effect_step (answer.Hit h.0 h.1) (Hit h.0 (cached (arc_value {X = CachedValue} h.1))) h.2 (λ t. t)
+  never_asked (inr (inr (inr (inl h)))) = no_effect_step (answer.Miss h.0) (Miss h.0.moment (certificates h.0.certs.items)) h.1 (λ t. t)
+  never_asked (inr (inr (inr (inr (inl h))))) = no_effect_step answer.Kept (Other Told.Kept) h (λ t. t)
+  never_asked (inr (inr (inr (inr (inr h))))) = no_effect_step (answer.Dropped h.0) (Other (Told.Dropped h.0)) h.1 (λ t. t)
+
+holding_takes_none : (s : State) (new : List Certificate) (cache : List Cached) (event : Event) → TakesMemory (told_of cache event (holding s new).1) → ⊥
+holding_takes_none s new cache event =
+    cond_both (nat_lt MAX_COMMONS (length s.commons + length new)) _ _ (λ (r : State × Answer). TakesMemory (told_of cache event r.1) → ⊥)
+    (λ _ none. none)
+    (λ _ none. none)
+
+-- no effect takes memory
+pub takes_none : (plan : Plan) (before : List Entry) (event : Event) → IsEffect event → TakesMemory (told_at plan before event) → ⊥
+takes_none plan before (Asks a) is takes = is
+takes_none plan before (Keeps ask entry c) is takes = is
+takes_none plan before (Holds certs) is takes = holding_takes_none (state_after plan before) (newly (state_after plan before).commons certs) (cache_after plan before) (Holds certs) takes
+takes_none plan before (Discards digest) is takes = takes
+takes_none plan before (Forgets channel) is takes = takes
+takes_none plan before (Expires reading) is takes = takes
+
+-- an effect is meant, whatever stands before it
+pub is_meant_effect : (plan : Plan) (before : List Entry) (event : Event) → IsEffect event → IsMeant plan before event
+is_meant_effect plan before (Asks a) is = absurd is
+is_meant_effect plan before (Keeps ask entry c) is = absurd is
+is_meant_effect plan before (Holds certs) is = tt
+is_meant_effect plan before (Discards digest) is = tt
+is_meant_effect plan before (Forgets channel) is = tt
+is_meant_effect plan before (Expires reading) is = tt
+
+-- ---- one step, in what was seen
+
+goes_refused : {plan : Plan} {earlier later : JournalSeen} → StepRefused plan earlier later → OneGoesOn earlier.alone earlier.journal later.journal earlier.own later.own []
+goes_refused {earlier = earlier} {later} s = no_places earlier.alone earlier.journal later.journal earlier.own later.own s.goes_on s.undisturbed s.owned
+
+module _ {plan : Plan} {earlier later : JournalSeen} {event : Event} where
+  goes_stepped : (place : ℕ) (x : StepAnswer) → StepsTo plan earlier later event place x → OneGoesOn earlier.alone earlier.journal later.journal earlier.own later.own (place ∷ [])
+  goes_stepped place x s =
+      one_place earlier.alone earlier.journal s.before later.journal earlier.own later.own (entry event s.steps.told) place s.goes_on s.undisturbed s.steps.adds s.steps.placed s.owned
+
+  stands_here : (place : ℕ) (told : Told) (s : StepsTo plan earlier later event place (Other told)) → Stands later.journal place s.before (entry event told)
+  stands_here place told s = record {
+    rest = [];
+    is = s.steps.adds ∙ ap (λ t. s.before ++ entry event t ∷ []) (told_other s.steps.told told s.steps.answers);
+    placed = s.steps.placed;
+  }
+
+-- ---- and so on
+
+-- so far each of these shards was stepped
+pub record AreStepped (plans : List Plan) (alone : Bool) (old now : Viewed Entry) (effect : Option Event) (shards : List ℕ) (removed : Bool) : Type 0 where
+  pub steps : List ShardStep
+  pub goes_on : ShardsGoOn alone old now (map its_place steps)
+  pub legal : AreLegalShards plans now.seen
+  pub through : WentThrough now.seen effect shards steps
+  pub removed_is : IsTrue removed ↔ LetsGo steps
+
+pub steps_stay : (J K : ℕ → List Entry) (effect : Option Event) (steps : List ShardStep) → ((s : ℕ) → Begins (J s) (K s)) → AreDone J effect steps → AreDone K effect steps
+steps_stay J K effect steps goes are = record {
+  stand = λ k d lt.
+      let s = are.stand k d lt in
+      record { event = s.event; effect_is = s.effect_is; before = s.before; stands = stands_on s.stands (goes (get_or steps k d).shard) };
+  done = are.done;
+}
+
+module _ (plans : List Plan) (alone : Bool) (old : Viewed Entry) (seen0 seen1 : ℕ → List Entry) (own0 own1 : ℕ → List ℕ) (effect : Option Event) (shards : List ℕ) (removed : Bool)
+    (so_far : AreStepped plans alone old (viewed seen0 own0) effect shards removed)
+    (h : ℕ) (plan : Plan) (planned : slice_get plans h ≡ Some plan) (event : Event) (effect_is : effect ≡ Some event)
+    (others : (s : ℕ) → s ≢ h → (seen1 s ≡ seen0 s) × (own1 s ≡ own0 s)) where
+  abbrev earlier : JournalSeen
+  earlier = seen_at alone seen0 own0 h
+
+  abbrev later : JournalSeen
+  later = seen_at alone seen1 own1 h
+
+  legal_now : IsLegalJournal plan (seen1 h) → AreLegalShards plans seen1
+  legal_now legal s p at = elim (cases_eq s h) [
+    | inl e ↦
+        let is : p ≡ plan = same_Some p plan (sym at ∙ ap (slice_get plans) e ∙ planned) in
+        subst (λ (q : Plan). IsLegalJournal q (seen1 s)) (sym is) (subst (λ (t : ℕ). IsLegalJournal plan (seen1 t)) (sym e) legal)
+    | inr ne ↦ subst (IsLegalJournal p) (sym (others s ne).0) (so_far.legal s p at)
+  ]
+
+  -- a step more
+  module _ (place : ℕ) (told : Told) (s : StepsTo plan earlier later event place (Other told)) where
+    went : ShardsGoOn alone (viewed seen0 own0) (viewed seen1 own1) (in_shard h place ∷ [])
+    went = shard_went_on h seen0 seen1 own0 own1 others alone (place ∷ []) (goes_stepped place (Other told) s)
+
+    this : ShardStep
+    this = step_at h place told
+
+    both_went : ShardsGoOn alone old (viewed seen1 own1) (map its_place (so_far.steps ++ step_at h place told ∷ []))
+    both_went =
+        subst (ShardsGoOn alone old (viewed seen1 own1)) (sym (map-append its_place so_far.steps (step_at h place told ∷ [])))
+        (shards_twice alone old (viewed seen0 own0) (viewed seen1 own1) (map its_place so_far.steps) (in_shard h place ∷ []) so_far.goes_on went)
+
+    is_step : IsStep seen1 effect (step_at h place told)
+    is_step = record { event = event; effect_is = effect_is; before = s.before; stands = stands_here place told s }
+
+    before_done : AreDone seen1 effect so_far.steps
+    before_done = steps_stay seen0 seen1 effect so_far.steps (shards_begin alone (viewed seen0 own0) (viewed seen1 own1) (in_shard h place ∷ []) went) so_far.through.are_done
+
+    pub one_more : IsDone told → (n : ℕ) → n ≡ removed_by told → (any : Bool) → (IsTrue any ↔ (IsTrue removed ⊎ (0 < n))) → AreStepped plans alone old (viewed seen1 own1) effect (shards ++ h ∷ []) any
+    one_more is_done n count any tells = record {
+      steps = so_far.steps ++ step_at h place told ∷ [];
+      goes_on = both_went;
+      legal = legal_now s.steps.legal;
+      through = record {
+        order = map-append (λ (x : ShardStep). x.shard) so_far.steps (step_at h place told ∷ []) ∙ ap (λ (l : List ℕ). l ++ h ∷ []) so_far.through.order;
+        are_done = record {
+          stand = All-append (IsStep seen1 effect) so_far.steps (step_at h place told ∷ []) before_done.stand (All-cons (IsStep seen1 effect) (step_at h place told) [] is_step (All-nil (IsStep seen1 effect)));
+          done = All-append (λ (x : ShardStep). IsDone x.told) so_far.steps (step_at h place told ∷ []) before_done.done
+              (All-cons (λ (x : ShardStep). IsDone x.told) (step_at h place told) [] is_done (All-nil (λ (x : ShardStep). IsDone x.told)));
+        };
+      };
+      removed_is = (
+        λ t. elim (tells.0 t) [
+          | inl was ↦ (let before : LetsGo so_far.steps = so_far.removed_is.0 was in omega (arith, before, more))
+          | inr now ↦ omega (arith, now, count, more)
+        ],
+        λ lets. elim (cases_eq n 0) [
+          | inl none ↦ tells.1 (inl (so_far.removed_is.1 (omega (arith, lets, none, count, more))))
+          | inr any_now ↦ tells.1 (inr (omega (arith, any_now)))
+        ],
+      );
+    }
+      where
+        more : sum_by (λ (x : ShardStep). removed_by x.told) (so_far.steps ++ step_at h place told ∷ []) ≡ sum_by (λ (x : ShardStep). removed_by x.told) so_far.steps + removed_by told
+        more = sum_by_push (λ (x : ShardStep). removed_by x.told) so_far.steps (step_at h place told)
+
+  -- a shard that holds too many in common
+  pub stopped_no_room : (rest : List ℕ) (place held : ℕ) → StepsTo plan earlier later event place (Other (Told.CommonsFull held)) →
+      SteppedBy plans alone old (viewed seen1 own1) (λ steps. FoundNoRoom seen1 effect (shards ++ h ∷ rest) steps h held)
+  stopped_no_room rest place held s = record {
+    steps = so_far.steps ++ step_at h place (Told.CommonsFull held) ∷ [];
+    goes_on = both_went place (Told.CommonsFull held) s;
+    legal = legal_now s.steps.legal;
+    ends = record {
+      done = so_far.steps;
+      place = place;
+      rest = rest;
+      order = ap (λ (l : List ℕ). l ++ h ∷ rest) (sym so_far.through.order);
+      are_done = before_done place (Told.CommonsFull held) s;
+      steps_are = refl;
+      refused = is_step place (Told.CommonsFull held) s;
+    };
+  }
+
+  -- a journal that is full
+  pub stopped_full : (rest : List ℕ) (n : ℕ) → StepRefused plan earlier later → length (seen1 h) ≡ plan.limit → n ≡ plan.limit →
+      SteppedBy plans alone old (viewed seen1 own1) (λ steps. FoundNoPlace seen1 effect plans (shards ++ h ∷ rest) steps h n)
+  stopped_full rest n s full limit =
+      let stayed : ShardsGoOn alone (viewed seen0 own0) (viewed seen1 own1) [] = shard_went_on h seen0 seen1 own0 own1 others alone [] (goes_refused s) in
+      record {
+        steps = so_far.steps;
+        goes_on = subst (ShardsGoOn alone old (viewed seen1 own1)) (append-nil (map its_place so_far.steps))
+            (shards_twice alone old (viewed seen0 own0) (viewed seen1 own1) (map its_place so_far.steps) [] so_far.goes_on stayed);
+        legal = legal_now s.legal;
+        ends = record {
+          rest = rest;
+          order = ap (λ (l : List ℕ). l ++ h ∷ rest) (sym so_far.through.order);
+          are_done = steps_stay seen0 seen1 effect so_far.steps (shards_begin alone (viewed seen0 own0) (viewed seen1 own1) [] stayed) so_far.through.are_done;
+          plan = plan;
+          planned = planned;
+          limit_is = limit;
+          full = full;
+        };
+      }
+
+-- no shard was stepped yet
+pub none_stepped : (plans : List Plan) (alone : Bool) (seen : ℕ → List Entry) (own : ℕ → List ℕ) (effect : Option Event) → AreLegalShards plans seen → AreStepped plans alone (viewed seen own) (viewed seen own) effect [] false
+none_stepped plans alone seen own effect legal = record {
+  steps = [];
+  goes_on = shards_stood alone (viewed seen own);
+  legal = legal;
+  through = record {
+    order = refl;
+    are_done = record { stand = All-nil (IsStep seen effect); done = All-nil (λ (x : ShardStep). IsDone x.told) };
+  };
+  removed_is = (λ t. absurd cc, λ lets. absurd (omega (arith, lets)));
+}
+
+-- ---- which shards come next
+
+pub range_split : (a n k : ℕ) → k < n → (rest : List ℕ) × (range_with_len a n ≡ range_with_len a k ++ (a + k) ∷ rest)
+range_split a zero k lt = absurd (omega (arith, lt))
+range_split a (suc n) zero lt = let same : a ≡ a + 0 = omega arith in (range_with_len (a + 1) n, ap (λ p. p ∷ range_with_len (a + 1) n) same)
+range_split a (suc n) (suc k) lt =
+    let (rest, is) = range_split (a + 1) n k (omega (arith, lt)) in
+    let same : a + 1 + k ≡ a + suc k = omega arith in
+    (rest, ap (λ l. a ∷ l) (is ∙ ap (λ p. range_with_len (a + 1) k ++ p ∷ rest) same))
+
+next_range : (a n place : ℕ) → a + n ≡ place → range_with_len a (suc n) ≡ range_with_len a n ++ place ∷ []
+next_range a zero place e = let same : a ≡ place = omega arith in ap (λ p. p ∷ []) same
+next_range a (suc n) place e = ap (λ l. a ∷ l) (next_range (a + 1) n place (omega arith))
+
+pub range_more : (a n : ℕ) → range_with_len a (n + 1) ≡ range_with_len a n ++ (a + n) ∷ []
+range_more a n = let more : n + 1 ≡ suc n = omega arith in ap (range_with_len a) more ∙ next_range a n (a + n) refl
+
+-- ---- the walk
+
+-- the last element was taken off
+pub popped : {X : Type 0} (P : X → Type 0) (old new : List X) (r : Option X) (x : X) → All P old → old ≡ new ++ option_to_list r → r ≡ Some x → All P new × P x
+popped {X = X} P old new r x all is some =
+    let more : old ≡ new ++ x ∷ [] = is ∙ ap (λ (o : Option X). new ++ option_to_list o) some in
+    let both = subst (All P) more all in (
+      λ k d lt. subst P (get_or_append_left new (x ∷ []) d k lt) (both k d (omega (arith, lt, length-append new (x ∷ [])))),
+      subst P (get_or-append_seam new x [] x) (both (length new) x (omega (arith, length-append new (x ∷ [])))),
+    )
+
+pub popped_length : {X : Type 0} (old new : List X) (r : Option X) (x : X) → old ≡ new ++ option_to_list r → r ≡ Some x → length old ≡ length new + 1
+popped_length {X = X} old new r x is some = ap (λ l. length l) (is ∙ ap (λ (o : Option X). new ++ option_to_list o) some) ∙ length-append new (x ∷ [])
+
+module _ (plans plans' : List Plan) (alone alone' : Bool) (same_plans : plans' ≡ plans) (same_alone : alone' ≡ alone) (old : Viewed Entry) (seen0 seen1 : ℕ → List Entry) (own0 own1 : ℕ → List ℕ)
+    (effect : Option Event) (first place : ℕ) (removed : Bool) (so_far : AreStepped plans alone old (viewed seen0 own0) effect (range_with_len first place) removed)
+    (h : ℕ) (h_is : h ≡ first + place) (within : h < length plans) (e : EventValue) (can : CanStep effect e)
+    (others : (s : ℕ) → s ≢ h → (seen1 s ≡ seen0 s) × (own1 s ≡ own0 s)) where
+  abbrev WentHere : Went → Type 0
+  WentHere w = (plan : Plan) → slice_get plans' h ≡ Some plan → WentAs plan (seen_at alone' seen0 own0 h) (seen_at alone' seen1 own1 h) (event_of e) w
+
+  went_here : (w : Went) → WentHere w → (plan : Plan) × (slice_get plans h ≡ Some plan) × WentAs plan (seen_at alone seen0 own0 h) (seen_at alone seen1 own1 h) (event_of e) w
+  went_here w went =
+      let (plan, planned) = standing plans h within in
+      (plan, planned, subst (λ b. WentAs plan (seen_at b seen0 own0 h) (seen_at b seen1 own1 h) (event_of e) w) same_alone (went plan (ap (λ ps. slice_get ps h) same_plans ∙ planned)))
+
+  pub done_more : (n : ℕ) → WentHere (how.Done n) → (any : Bool) → (IsTrue any ↔ (IsTrue removed ⊎ (0 < n))) → AreStepped plans alone old (viewed seen1 own1) effect (range_with_len first (place + 1)) any
+  done_more n went any tells =
+      let (plan, planned, here) = went_here (how.Done n) went in
+      let (at, told, s, done, count) = here in
+      let next : range_with_len first place ++ h ∷ [] ≡ range_with_len first (place + 1) = ap (λ k. range_with_len first place ++ k ∷ []) h_is ∙ sym (range_more first place) in
+      subst (λ ss. AreStepped plans alone old (viewed seen1 own1) effect ss any) next
+      (one_more plans alone old seen0 seen1 own0 own1 effect (range_with_len first place) removed so_far h plan planned (event_of e) can.same others at told s done n count any tells)
+
+  pub no_room : (held count : ℕ) → place < count → WentHere (how.NoRoom held) → SteppedBy plans alone old (viewed seen1 own1) (λ steps. FoundNoRoom seen1 effect (range_with_len first count) steps h held)
+  no_room held count lt went =
+      let (plan, planned, here) = went_here (how.NoRoom held) went in
+      let (at, s) = here in
+      let (rest, split) = range_split first count place lt in
+      let all : range_with_len first place ++ h ∷ rest ≡ range_with_len first count = ap (λ k. range_with_len first place ++ k ∷ rest) h_is ∙ sym split in
+      subst (λ ss. SteppedBy plans alone old (viewed seen1 own1) (λ steps. FoundNoRoom seen1 effect ss steps h held)) all
+      (stopped_no_room plans alone old seen0 seen1 own0 own1 effect (range_with_len first place) removed so_far h plan planned (event_of e) can.same others rest at held s)
+
+  pub no_place : (n count : ℕ) → place < count → WentHere (how.Full n) → SteppedBy plans alone old (viewed seen1 own1) (λ steps. FoundNoPlace seen1 effect plans (range_with_len first count) steps h n)
+  no_place n count lt went =
+      let (plan, planned, here) = went_here (how.Full n) went in
+      let (s, full, limit) = here in
+      let (rest, split) = range_split first count place lt in
+      let all : range_with_len first place ++ h ∷ rest ≡ range_with_len first count = ap (λ k. range_with_len first place ++ k ∷ rest) h_is ∙ sym split in
+      subst (λ ss. SteppedBy plans alone old (viewed seen1 own1) (λ steps. FoundNoPlace seen1 effect plans ss steps h n)) all
+      (stopped_full plans alone old seen0 seen1 own0 own1 effect (range_with_len first place) removed so_far h plan planned (event_of e) can.same others rest n s full limit)
+
+-- all were stepped
+pub all_stepped : (plans : List Plan) (alone : Bool) (old now : Viewed Entry) (effect : Option Event) (first place count : ℕ) (removed : Bool) → AreStepped plans alone old now effect (range_with_len first place) removed → place ≡ count →
+    SteppedBy plans alone old now (λ steps. WentThrough now.seen effect (range_with_len first count) steps × (IsTrue removed ↔ LetsGo steps))
+all_stepped plans alone old now effect first place count removed so_far same = record {
+  steps = so_far.steps;
+  goes_on = so_far.goes_on;
+  legal = so_far.legal;
+  ends = (subst (λ k. WentThrough now.seen effect (range_with_len first k) so_far.steps) same so_far.through, so_far.removed_is);
+}

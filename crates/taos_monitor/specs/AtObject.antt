@@ -1,0 +1,102 @@
+-- What comes of a request at its object: it is taken, asked for, ruled on and given back; what was
+-- granted is performed.
+use Rattle.std.specs.Prelude.{◌≡◌, ℕ, Bool, List, [], ◌∷◌, ◌++◌, length, map, Option, None, Some}
+use Rattle.object_core.specs.Objects.{ObjectEntry, content_after, list_after}
+use Rattle.object_core.specs.Operation.{Op}
+use Rattle.object_core.specs.Shelving.{ObjectFixed}
+use Rattle.object_core.specs.declared.ruling.Ruling.{Ruling}
+use Rattle.object_core.specs.declared.ruling.Ruling.TheVariants as rulings
+use Rattle.proof_cache.specs.Cached.{Cached}
+use Rattle.stmt_codec.specs.Certificates.{Certificate}
+use Rattle.taos_wire.specs.Request.{Request}
+use Rattle.taos_wire.specs.Reply as replies
+use Rattle.taos_wire.specs.Reply.{Reply, LinkSent}
+use Rattle.agent_core.specs.declared.asked.Denial.{Denial}
+use Rattle.agent_core.specs.declared.asked.Settled.{Settled}
+use Rattle.agent_core.specs.State.{Plan, Ask}
+use Rattle.agent_core.specs.Journals.{Begins, Stands}
+use Rattle.agent_core.specs.Asked.{IsGrant, IsDeniedAt}
+use Rattle.taos_monitor.specs.Cells.{Journals, Place, in_shard, in_object}
+use Rattle.taos_monitor.specs.Asking.{TellsDenial, ask_of, IsUnruled}
+use Rattle.taos_monitor.specs.Operations.{result_of}
+use Rattle.taos_monitor.specs.Effects.{ShardStep, its_place, IsPerformed}
+
+-- a journal of an object that stands at its limit
+abbrev pub object_full : ℕ → ℕ → Reply
+object_full number limit = replies.JournalFull 0 number limit
+
+-- the entry of an operation with its ruling, by the Ask at this shard and place
+abbrev pub ruled_as : ℕ → ℕ → Op → Ruling → ObjectEntry
+ruled_as shard place op ruling =
+    record { shard = shard; place = place; op = op; ruling = ruling }
+
+-- what is sought of an object: by which request and certificates, at which reading of the clock, by
+-- asking at which shard, and what never changes of the object
+pub record Seeking : Type 0 where
+  pub request : Request
+  pub certs : List Certificate
+  pub reading : ℕ
+  pub shard : ℕ
+  pub fixed : ObjectFixed
+
+-- the ask that is made, where the object has these entries: by its access list after them
+abbrev pub asks_for : Seeking → List ObjectEntry → Ask
+asks_for x before = ask_of x.request x.certs (list_after x.fixed.plan before) x.reading
+
+-- what it gives, where the object has these entries
+abbrev pub gives_for : Seeking → List ObjectEntry → List ℕ
+gives_for x before = result_of x.request.op (content_after x.fixed.plan before)
+
+-- ---- own places
+
+-- the own places of a request: those of its ask, that of its ruling, and its steps in the shards
+pub record Own : Type 0 where
+  pub asks : List ℕ
+  pub ruling : List ℕ
+  pub steps : List ShardStep
+
+-- these places
+abbrev pub own_at : List ℕ → List ℕ → List ShardStep → Own
+own_at asks ruling steps = record { asks = asks; ruling = ruling; steps = steps }
+
+-- all of them in their order: at the shard that is asked, at the object, and in the shards
+abbrev pub places_at : Seeking → Own → List Place
+places_at x own =
+    map (in_shard x.shard) own.asks ++ map (in_object x.request.object) own.ruling
+    ++ map its_place own.steps
+
+-- ---- the whole
+
+-- the reply of what was performed, else this
+abbrev pub told_or : Option Reply → Reply → Reply
+told_or None reply = reply
+told_or (Some refused) reply = refused
+
+-- What comes of it: the own places and the reply. The object's entry stands in its journal right
+-- after those by which the object was asked for; where there is no ruling, these are a beginning of
+-- its journal. What is performed in the shards comes after the entry that grants it.
+pub data IsGuarded (plans : List Plan) (plan : Plan) (J : Journals) (x : Seeking) :
+    Own → Reply → Type 0 where
+  object_is_full : length (J.objects x.request.object) ≡ x.fixed.limit →
+      IsGuarded plans plan J x (own_at [] [] []) (object_full x.request.object x.fixed.limit)
+  no_ruling : {own : List ℕ} {reply : Reply} (before : List ObjectEntry) →
+      Begins before (J.objects x.request.object) →
+      IsUnruled plan (J.shards x.shard) x.shard (asks_for x before) own reply →
+      IsGuarded plans plan J x (own_at own [] []) reply
+  denied : {place at : ℕ} {denial : Denial} {told : LinkSent} (before : List ObjectEntry) →
+      Stands (J.objects x.request.object) at before
+      (ruled_as x.shard place x.request.op rulings.Denied) →
+      IsDeniedAt plan (J.shards x.shard) (asks_for x before) place denial →
+      TellsDenial (list_after x.fixed.plan before) denial told →
+      IsGuarded plans plan J x (own_at (place ∷ []) (at ∷ []) [])
+      (replies.Denied x.shard place told)
+  granted : {place at entry : ℕ} {c : Cached} {kept : Bool} {settled : Settled}
+      {asks : List ℕ} {steps : List ShardStep} {refused : Option Reply}
+      (before : List ObjectEntry) →
+      Stands (J.objects x.request.object) at before
+      (ruled_as x.shard place x.request.op (rulings.Granted entry)) →
+      IsGrant plan (J.shards x.shard) (asks_for x before) place entry c kept settled asks →
+      IsPerformed plans J.shards x.request.op x.certs x.reading steps refused →
+      IsGuarded plans plan J x (own_at asks (at ∷ []) steps)
+      (told_or refused (replies.Granted kept entry x.shard place c.proof c.cites
+      (gives_for x before)))

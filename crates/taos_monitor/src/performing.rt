@@ -1,0 +1,150 @@
+//! The steps of a granted operation, in one shard after another.
+
+ghost use Rattle.std.specs.Prelude.{◌≡◌, ◌↔◌, ◌⊎◌, ◌<◌, ℕ, List, IfSome, IsTrue};
+ghost use Rattle.std.specs.Option.{option_map};
+ghost use Rattle.object_core.specs.Operation.{FitsOperation};
+ghost use Rattle.object_core.specs.View.{operation};
+ghost use Rattle.stmt_codec.specs.Certificates.{Certificate};
+ghost use Rattle.taos_wire.specs.Reply.{FitsReply, status_of};
+ghost use Rattle.taos_wire.specs.View.{reply};
+ghost use Rattle.taos_monitor.specs.Cells.{AreLegalShards, viewed};
+ghost use Rattle.taos_monitor.specs.Effects.{EndAs, IsDueOf, IsPerformed, IsReady, PerformedAs, SteppedBy, TellsHeld, effect_due, shards_due};
+
+use crate::due::Due;
+use crate::stepping::{Went, step_one};
+use agent_core::Shards;
+use object_core::{Op, Ruling};
+use std::alloc::Global;
+use std::sync::Wait;
+use taos_wire::Reply;
+
+/// How the steps of an operation ended.
+#[derive(Clone, Copy, Debug, PartialEq, Eq)]
+pub(crate) enum Effected {
+    /// Each was done; whether any certificate was let go.
+    Through { removed: bool },
+    /// This shard would hold too many certificates in common; it holds so many.
+    NoRoom { shard: u32, held: u8 },
+    /// The journal of this shard has as many entries as its plan allows.
+    Full { shard: u32, length: u64 },
+}
+
+// The mark of a shard's journal.
+const SHARD: u8 = 1;
+
+// Whether any was let go before, or now.
+fn is_any(before: bool, count: u32) -> bool
+    ensures { IsTrue result ↔ (IsTrue before ⊎ (0 < count)) }
+{
+    before || count > 0
+}
+
+// Steps the shards that are due, up to one that does not do it.
+fn step_due<W: Wait + Sync, S: Shards>(rt: &W, alloc: Global, shards: &mut S, due: Due) -> Effected
+    requires ready { IsReady (S.plans shards.old) due }
+    requires legal { AreLegalShards (S.plans shards.old) (S.seen shards.old) }
+    ensures ends { SteppedBy (S.plans shards.old) (S.alone shards.old)
+        (viewed (S.seen shards.old) (S.own shards.old))
+        (viewed (S.seen shards.new) (S.own shards.new))
+        (λ steps. EndAs (S.seen shards.new) (effect_due due) (S.plans shards.old)
+        (shards_due due) steps result) }
+    ensures plans { S.plans shards.new ≡ S.plans shards.old }
+    ensures alone { S.alone shards.new ≡ S.alone shards.old }
+{
+    let first = due.first;
+    let mut events = due.events;
+    let count = events.len() as u32;
+    let mut removed = false;
+    for place in 0..count {
+        let event = events.pop().unwrap();
+        let shard = first + place;
+        match step_one(rt, alloc, shards, shard, event) {
+            Went::Done { removed: count } => removed = is_any(removed, count),
+            Went::NoRoom { held } => return Effected::NoRoom { shard, held },
+            Went::Full { length } => return Effected::Full { shard, length },
+        }
+    }
+    Effected::Through { removed }
+}
+
+// The reply where an operation was to let certificates go, and none was.
+fn not_held(op: &Op, removed: bool) -> Option<Reply>
+    requires { FitsOperation (operation op.now) }
+    ensures told { TellsHeld (operation op.now) removed (option_map reply result) }
+    ensures fits { IfSome result (λ r. FitsReply (reply r) × (0 < status_of (reply r))) }
+{
+    match op {
+        Op::Discard(digest) => {
+            if removed {
+                None
+            } else {
+                Some(Reply::NotHeld { digest: *digest })
+            }
+        }
+        Op::Read | Op::Write(_) | Op::SetList(_) | Op::Hold | Op::Forget(_) | Op::Sweep => None,
+    }
+}
+
+// Does in the shards what is due for a granted operation. The reply comes where it is not that of
+// the grant.
+fn perform<W: Wait + Sync, S: Shards>(
+    rt: &W,
+    alloc: Global,
+    shards: &mut S,
+    op: &Op,
+    due: Due,
+) -> Option<Reply>
+    requires ready { IsReady (S.plans shards.old) due }
+    requires legal { AreLegalShards (S.plans shards.old) (S.seen shards.old) }
+    requires limits { FitsOperation (operation op.now) }
+    ensures performed { (certs : List Certificate) (reading : ℕ)
+        → IsDueOf (S.plans shards.old) (operation op.now) certs reading due
+        → SteppedBy (S.plans shards.old) (S.alone shards.old)
+        (viewed (S.seen shards.old) (S.own shards.old))
+        (viewed (S.seen shards.new) (S.own shards.new))
+        (λ steps. IsPerformed (S.plans shards.old) (S.seen shards.new) (operation op.now) certs
+        reading steps (option_map reply result)) }
+    ensures fits { IfSome result (λ r. FitsReply (reply r) × (0 < status_of (reply r))) }
+    ensures plans { S.plans shards.new ≡ S.plans shards.old }
+    ensures alone { S.alone shards.new ≡ S.alone shards.old }
+{
+    match step_due(rt, alloc, shards, due) {
+        Effected::Through { removed } => not_held(op, removed),
+        Effected::NoRoom { shard, held } => Some(Reply::CommonsFull { held, shard }),
+        Effected::Full { shard, length } => Some(Reply::JournalFull {
+            which: SHARD,
+            number: shard,
+            length,
+        }),
+    }
+}
+
+/// Does in the shards what is due for an operation, if it is granted. The reply comes where it is
+/// not that of the ruling.
+pub(crate) fn perform_ruled<W: Wait + Sync, S: Shards>(
+    rt: &W,
+    alloc: Global,
+    shards: &mut S,
+    op: &Op,
+    due: Due,
+    ruling: Ruling,
+) -> Option<Reply>
+    requires ready { IsReady (S.plans shards.old) due }
+    requires legal { AreLegalShards (S.plans shards.old) (S.seen shards.old) }
+    requires limits { FitsOperation (operation op.now) }
+    ensures performed { (certs : List Certificate) (reading : ℕ)
+        → IsDueOf (S.plans shards.old) (operation op.now) certs reading due
+        → SteppedBy (S.plans shards.old) (S.alone shards.old)
+        (viewed (S.seen shards.old) (S.own shards.old))
+        (viewed (S.seen shards.new) (S.own shards.new))
+        (λ steps. PerformedAs ruling (IsPerformed (S.plans shards.old) (S.seen shards.new)
+        (operation op.now) certs reading) steps (option_map reply result)) }
+    ensures fits { IfSome result (λ r. FitsReply (reply r) × (0 < status_of (reply r))) }
+    ensures plans { S.plans shards.new ≡ S.plans shards.old }
+    ensures alone { S.alone shards.new ≡ S.alone shards.old }
+{
+    match ruling {
+        Ruling::Granted { .. } => perform(rt, alloc, shards, op, due),
+        Ruling::Denied => None,
+    }
+}

@@ -1,0 +1,11 @@
+-- the rows of the command's options are those that are read
+use Rattle.std.proofs.Common.{ℕ, List, Option, ap, option_map, subst, ◌∙◌}
+use Rattle.std.proofs.lemmas.Option.{same_Some}
+use Rattle.clap.specs.Words.{Row, first_of, found_of, rows_of}
+use Rattle.taos_node.specs.Table.{IsMintOf}
+use Rattle.taos_node.proofs.words.found_in.Goals as goal
+
+pub returns-in-mint-clause-mint : goal.returns-in-mint-clause-mint
+returns-in-mint-clause-mint c = λ rows is.
+    let same = c.in_ok-name.ensures.rows ∙ ap (λ (o : Option (List ℕ × List Row)). option_map (λ p. p.1) o) is in
+    subst (λ (l : List Row). IsMintOf (λ name. first_of name l) c.mint_of.result) (same_Some (rows_of (found_of c.in_ok-name.options.now)) rows same) c.mint_of.ensures
