@@ -90,20 +90,49 @@ def certificate(fields):
     return statement(Bytes(sealed[1:-TAG])) + own
 
 
+RIGHTS = {1: "r", 2: "w", 4: "c", 8: "m"}
+
+
+def entry(fields):
+    """An entry of an access list: the letters of its rights, and who has them."""
+    rights = fields.number(1)
+    return "".join(letter for right, letter in RIGHTS.items() if rights & right) + " " + term(fields)
+
+
+def operation(code, number, fields):
+    """What is asked of the object of this number."""
+    if code == 1:
+        return f"read object {number}"
+    if code == 2:
+        content = fields.take(fields.number(2)).decode("utf-8", "backslashreplace")
+        return f'write "{content}" to object {number}'
+    if code == 3:
+        entries = [entry(fields) for _ in range(fields.number(1))]
+        return f"set the list of object {number} to {'; '.join(entries)}"
+    if code == 5:
+        return f"by object {number} discard the certificate of digest {fields.take(32).hex()[:16]}.."
+    if code == 6:
+        return f"by object {number} forget what channel {fields.number(4)} holds"
+    if code in (4, 7):
+        return f"by object {number} {'hold what is presented' if code == 4 else 'let ended certificates go'}"
+    raise ValueError(f"an operation of code {code}")
+
+
 def request(payload):
-    """A Read in words, or how long another payload is."""
+    """A request in words, or how long another payload is."""
     try:
         fields = Bytes(payload[:-TAG])
         version, channel, seq = fields.number(1), fields.number(4), fields.number(8)
         quoted = f" quoting {term(fields)}" if fields.number(1) else ""
-        operation, number = fields.number(1), fields.number(4)
-        if (version, operation) != (3, 1):
-            return "a request of another form"
+        code, number = fields.number(1), fields.number(4)
+        if version != 3:
+            return "a request of another version"
+        what = operation(code, number, fields)
         shown = [certificate(fields) for _ in range(fields.number(1))]
     except ValueError:
         return f"a payload of {len(payload)} bytes"
     by = "".join(f"\n    presents: {each}" for each in shown)
-    return f"channel {channel}{quoted}, number {seq}: read object {number}{by}"
+    return f"channel {channel}{quoted}, number {seq}: {what}{by}"
 
 
 def node(fields, nodes):
