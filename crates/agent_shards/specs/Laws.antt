@@ -7,6 +7,8 @@ use Rattle.agent_core.specs.declared.asked.Denial.{Denial}
 use Rattle.agent_core.specs.declared.told.Told.{Told}
 use Rattle.agent_core.specs.Journals.{Entry, entry, Begins, Stands, Verdict, IsVerdict, Granted, Denied}
 use Rattle.denial_link.specs.declared.link.Link.{Link}
+use Rattle.turn_cell.specs.Known.{Cell, Known}
+use Rattle.agent_shards.specs.Cells.{AreJoined, AreSplit, HaveAll, shares_of}
 use Rattle.agent_core.specs.State.{Plan, Ask, Asks, Event}
 use Rattle.agent_core.specs.Steps.{JournalSeen, StepAnswer, StepsTo}
 
@@ -51,3 +53,12 @@ DenialsAreVerdicts = (plan : Plan) (earlier later : JournalSeen) (a : Ask) (plac
     AskedTo plan earlier later a
     (λ own. IsDeniedAt plan later.journal a place denial × (own ≡ place ∷ [])) →
     (link : Link) × IsVerdictThere plan earlier later a place (Denied link)
+
+-- passes that had all shares have them again, after they were divided, each seat kept its shares,
+-- and they were joined
+abbrev pub SharesAddUp : {F E : Type 0} → (F → List E → E → Type 0) → Type 0
+SharesAddUp {F} {E} allows = (shares : ℕ) (cells : List (Cell F E))
+    (before kept given kept_later given_later both : List (Known F E)) →
+    HaveAll before → AreSplit shares cells before kept given →
+    shares_of kept_later ≡ shares_of kept → shares_of given_later ≡ shares_of given →
+    AreJoined allows cells kept_later both given_later → HaveAll both

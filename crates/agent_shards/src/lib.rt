@@ -21,7 +21,7 @@ mod taking;
 mod whose;
 
 pub use agent::Agent;
-pub use laws::{asks_among_others, steps_among_others};
+pub use laws::{asks_among_others, shares_add_up, steps_among_others};
 pub use passes::Passes;
 pub use rack::Rack;
 pub use rack_passes::RackPasses;

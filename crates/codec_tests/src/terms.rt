@@ -1,4 +1,4 @@
-use prin_term::fields::*;
+use byte_fields::*;
 use prin_term::*;
 use std::alloc::Global;
 use std::test::*;

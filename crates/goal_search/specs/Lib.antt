@@ -6,3 +6,12 @@ pub mod Decided
 pub mod NumberedRows
 pub mod NumberedAdding
 pub mod DecidedNumbers
+pub mod Cells
+pub mod Reasons
+pub mod Searching
+pub mod Edges
+pub mod Gaps
+pub mod Taking
+pub mod Asked
+pub mod Telling
+pub mod Replaying

@@ -2,18 +2,18 @@
 use Rattle.std.proofs.Common.{◌≡◌, ℕ, zero, suc, ◌<◌, List, [], ◌∷◌, length, Some, None, refl, arith}
 use Rattle.std.proofs.lemmas.Bool.Decides.{nat_tests}
 use Rattle.keyed_seal.specs.Keys.{Entries, key_of, number_at, IsAscending}
-use Rattle.keyed_seal.proofs.Finding.{key_of-absent}
+use Rattle.number_rows.proofs.Finding.{value_of-absent}
 
 ascending-tail : (x : ℕ × List ℕ) (l : Entries) → IsAscending (x ∷ l) → IsAscending l
 ascending-tail x l ascending i j lt in_range = omega (arith, ascending (suc i) (suc j) (omega arith) (omega arith))
 
 -- the first number does not come again
 key_of-tail : (x : ℕ × List ℕ) (l : Entries) → IsAscending (x ∷ l) → key_of l x.0 ≡ None
-key_of-tail x l ascending = key_of-absent l x.0 (λ j lt same. omega (arith, ascending 0 (suc j) (omega arith) (omega arith)))
+key_of-tail x l ascending = value_of-absent (λ e. e.0) (λ e. e.1) (0, []) l x.0 (λ j lt same. omega (arith, ascending 0 (suc j) (omega arith) (omega arith)))
 
 -- a number below the first is not there
 key_of-below : (x : ℕ × List ℕ) (l : Entries) (n : ℕ) → IsAscending (x ∷ l) → n < x.0 → key_of (x ∷ l) n ≡ None
-key_of-below x l n ascending below = key_of-absent (x ∷ l) n none_before
+key_of-below x l n ascending below = value_of-absent (λ e. e.0) (λ e. e.1) (0, []) (x ∷ l) n none_before
   where
     none_before : (j : ℕ) → j < length (x ∷ l) → number_at (x ∷ l) j ≡ n → ⊥
     none_before zero lt same = omega arith

@@ -1,4 +1,3 @@
-pub mod Finding
 pub mod Place
 pub mod Masking
 pub mod Tags

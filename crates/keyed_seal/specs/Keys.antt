@@ -1,6 +1,7 @@
 -- Key tables: pairs of a number and a key, ascending by number, and room for so many.
-use Rattle.std.specs.Prelude.{◌≡◌, ◌≢◌, ℕ, ◌+◌, ◌^◌, ◌<◌, ◌≤◌, All, List, [], ◌∷◌, length, ◌==◌}
-use Rattle.std.specs.Prelude.{if◌then◌else◌, slice_index_or, Option, Some, None}
+use Rattle.std.specs.Prelude.{◌≡◌, ◌≢◌, ℕ, ◌+◌, ◌^◌, ◌<◌, ◌≤◌, All, List, [], length}
+use Rattle.std.specs.Prelude.{Option, Some, None}
+use Rattle.number_rows.specs.Rows as rows
 
 -- numbers, each with its key
 abbrev pub Entries : Type 0
@@ -13,17 +14,15 @@ pub record Keys : Type 0 where
 
 -- the key of the first entry that has the number
 abbrev pub key_of : Entries → ℕ → Option (List ℕ)
-key_of [] number = None
-key_of ((n, key) ∷ rest) number = if n == number then Some key else key_of rest number
+key_of entries number = rows.value_of (λ e. e.0) (λ e. e.1) entries number
 
 -- the number of the entry at place i
 abbrev pub number_at : Entries → ℕ → ℕ
-number_at entries i = let entry = slice_index_or entries i (0, []) in entry.0
+number_at entries i = rows.number_at (λ e. e.0) (0, []) entries i
 
 -- the numbers rise, so no number comes twice
 abbrev pub IsAscending : Entries → Type 0
-IsAscending entries =
-    (i j : ℕ) → i < j → j < length entries → number_at entries i < number_at entries j
+IsAscending entries = rows.IsAscending (λ e. e.0) (0, []) entries
 
 -- a key has 32 bytes
 abbrev pub IsKey : List ℕ → Type 0
@@ -62,12 +61,9 @@ pub record AddsKey (old new : Keys) (number : ℕ) (key : List ℕ) : Type 0 whe
   pub room : new.room ≡ old.room
 
 -- the entry at place i has the number
-pub record IsAt (entries : Entries) (number i : ℕ) : Type 0 where
-  pub in_range : i < length entries
-  pub has_number : number_at entries i ≡ number
+abbrev pub IsAt : Entries → ℕ → ℕ → Type 0
+IsAt entries number i = rows.IsAt (λ e. e.0) (0, []) entries number i
 
 -- the number would go at place i: smaller numbers before it, and greater ones from it on
-pub record IsGapFor (entries : Entries) (number i : ℕ) : Type 0 where
-  pub in_range : i ≤ length entries
-  pub smaller_before : (j : ℕ) → j < i → number_at entries j < number
-  pub greater_after : (j : ℕ) → i ≤ j → j < length entries → number < number_at entries j
+abbrev pub IsGapFor : Entries → ℕ → ℕ → Type 0
+IsGapFor entries number i = rows.IsGapFor (λ e. e.0) (0, []) entries number i

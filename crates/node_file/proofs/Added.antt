@@ -34,3 +34,7 @@ module _ (old : Keys) (keys : Entries) (number : ℕ) (key : List ℕ) (held : H
       let same : is_some (key_of keys number) ≡ false = ap is_some (sym (held.each number)) ∙ absent in
       let within : leb old.room (length keys) ≡ false = grind (arith, nat_tests, room, held.count) in
       rw (same, within) refl
+
+-- what holds the keys of a table holds what this holds
+pub holds_what : (table from : Keys) (keys : Entries) → HoldsKeys table from.entries → HoldsKeys from keys → HoldsKeys table keys
+holds_what table from keys all held = record { each = λ n. all.each n ∙ held.each n; count = all.count ∙ held.count }

@@ -1,7 +1,7 @@
 -- The first line of a file, and those behind it.
 use Rattle.std.proofs.Common.{◌≡◌, ℕ, ◌+◌, Bool, true, false, cond, List, ◌∷◌, Option, None, Some, Result, Ok, Err, refl, sym, ap, subst, ◌∙◌}
 use Rattle.std.proofs.lemmas.Bool.{false≢true}
-use Rattle.prin_term.specs.Steps.{◌>>=◌, with_value}
+use Rattle.byte_fields.specs.Steps.{◌>>=◌, with_value}
 use Rattle.node_file.specs.declared.fault.FileCause.{FileCause}
 use Rattle.node_file.specs.declared.fault.FileCause.TheVariants.{FirstLine}
 use Rattle.node_file.specs.declared.fault.FileFault.TheVariants.{Line}

@@ -5,10 +5,10 @@ use Rattle.std.specs.Option.{is_some}
 use Rattle.std.proofs.lemmas.List.Elements.{All-nil, All-push}
 use Rattle.std.proofs.lemmas.Option.{none-some, same_Some}
 use Rattle.keyed_seal.specs.Keys.{Entries, key_of}
-use Rattle.prin_term.specs.Readers.{is_new}
-use Rattle.prin_term.specs.Steps.{◌>>=◌, with_fault}
+use Rattle.byte_fields.specs.Readers.{is_new}
+use Rattle.byte_fields.specs.Steps.{◌>>=◌, with_fault}
 use Rattle.prin_term.specs.declared.term.Anchor.{Anchor}
-use Rattle.prin_term.proofs.Results.{bind_ok, chosen_ok, ok_is, with_fault_ok}
+use Rattle.byte_fields.proofs.Results.{bind_ok, chosen_ok, ok_is, with_fault_ok}
 use Rattle.prin_text.specs.Labels.{Rows}
 use Rattle.stmt_codec.specs.Certificates.{Certificate}
 use Rattle.stmt_codec.specs.Equality.{same_certificate}

@@ -11,13 +11,13 @@ use Rattle.hex.specs.Hex.{decode_of, decode_sized}
 use Rattle.hex.proofs.HexLemmas.{decode_of-ok, decode_sized-ok, decode_sized-twice}
 use Rattle.object_core.specs.Objects.{ObjectPlan, object_of}
 use Rattle.prin_term.specs.Principal.{Principal}
-use Rattle.prin_term.specs.Readers.{is_new}
-use Rattle.prin_term.specs.Steps.{◌>>=◌, IsByte}
+use Rattle.byte_fields.specs.Readers.{is_new}
+use Rattle.byte_fields.specs.Steps.{◌>>=◌, IsByte}
 use Rattle.prin_term.specs.View.{Grant}
 use Rattle.prin_term.specs.declared.term.Anchor.{Anchor}
-use Rattle.prin_term.proofs.FieldLaws.{bytes_are}
-use Rattle.prin_term.proofs.ReaderLaws.{is_new-All}
-use Rattle.prin_term.proofs.Results.{bind_ok, ok_is, with_fault_ok}
+use Rattle.byte_fields.proofs.FieldLaws.{bytes_are}
+use Rattle.byte_fields.proofs.ReaderLaws.{is_new-All}
+use Rattle.byte_fields.proofs.Results.{bind_ok, ok_is, with_fault_ok}
 use Rattle.prin_text.specs.Labels.{Labels, Rows, number_of}
 use Rattle.prin_text.specs.Words.{begins}
 use Rattle.sealed_cert.specs.Refusals.{opened}

@@ -4,21 +4,23 @@ use Rattle.std.specs.Int.{w16, w32, w64}
 use Rattle.prin_term.specs.declared.fault.TermFault.{TermFault}
 use Rattle.prin_term.specs.declared.fault.TermFault.TheVariants as terms
 use Rattle.prin_term.specs.declared.term.Anchor.{Anchor}
-use Rattle.prin_term.specs.Steps.{◌>>=◌, bytes_at, with_fault}
-use Rattle.prin_term.proofs.FieldLaws.{IsBytes}
-use Rattle.prin_term.proofs.Results.{bind_err, bind_ok, ok_is, err_is, chosen, chosen_err, with_fault_err}
-use Rattle.prin_term.specs.Formats.{ended, seen_as, u8_in, u16_in, u32_in, u64_in}
+use Rattle.byte_fields.specs.Steps.{◌>>=◌, bytes_at, with_fault}
+use Rattle.byte_fields.proofs.FieldLaws.{IsBytes}
+use Rattle.byte_fields.proofs.Results.{bind_err, bind_ok, ok_is, err_is, chosen, chosen_err, with_fault_err}
+use Rattle.byte_fields.specs.Formats.{ended, u8_in, u16_in, u32_in, u64_in}
+use Rattle.prin_term.specs.TermFields.{seen_as}
 use Rattle.object_core.specs.Reading.{content_at, entry_at, list_at}
 use Rattle.sealed_cert.specs.Refusals.{opened}
 use Rattle.stmt_codec.specs.Certificates.{Certificate}
-use Rattle.prin_term.specs.declared.fault.FormatFault.{FormatFault}
-use Rattle.prin_term.specs.declared.fault.FormatFault.TheVariants.{Malformed}
+use Rattle.byte_fields.specs.declared.fault.FormatFault.{FormatFault}
+use Rattle.byte_fields.specs.declared.fault.FormatFault.TheVariants.{Malformed}
 use Rattle.node_file.specs.declared.limits.TheConstants.{MAX_KEEP, MAX_LIMIT, MAX_ROOM}
 use Rattle.object_core.specs.Objects.{ObjectPlan}
 use Rattle.node_file.specs.Opening.{Opening, journal_room}
 use Rattle.node_file.specs.OpeningReading.{IsFaultIn, mark_at, number_in, shards_at, head_at, new_channel_at, channel_at, channels_at, anchor_at}
 use Rattle.node_file.specs.OpeningReading.{anchors_at, opened_in, common_at, commons_at, new_object_at, object_at, objects_at, fields_at, opening_of}
-use Rattle.prin_term.proofs.Staying.{Stays, IsTermFaultIn, stays_followed, stays_passing, stays_made, stays_seen, stays_counted, byte_stays, bytes_stay, number_stays, term_stays}
+use Rattle.byte_fields.proofs.Staying.{Stays, stays_followed, stays_passing, stays_made, stays_seen, stays_counted, byte_stays, bytes_stay, number_stays}
+use Rattle.prin_term.proofs.TermPlaces.{IsTermFaultIn, term_stays}
 
 module _ (bytes : List ℕ) (ok : IsBytes bytes) where
   abbrev Within : FormatFault → Type 0

@@ -1,7 +1,7 @@
 -- What a whole file makes, from its lines.
 use Rattle.std.proofs.Common.{◌≡◌, ◌⊎◌, ℕ, ◌+◌, ◌≤◌, Bool, false, List, [], ◌∷◌, length, Option, None, Some, Result, Ok, Err, refl, sym, ap, ◌∙◌, arith, inl, inr}
 use Rattle.std.proofs.lemmas.List.{at_drop_all}
-use Rattle.prin_term.specs.Steps.{◌>>=◌}
+use Rattle.byte_fields.specs.Steps.{◌>>=◌}
 use Rattle.node_file.specs.declared.fault.FileCause.{FileCause}
 use Rattle.node_file.specs.declared.fault.FileCause.TheVariants.{FirstLine}
 use Rattle.node_file.specs.declared.fault.FileFault.{FileFault}

@@ -1,8 +1,8 @@
 -- What each line of a node file keeps holds of all of them.
 use Rattle.std.proofs.Common.{◌≡◌, ℕ, ◌+◌, Bool, true, false, cond, List, [], ◌∷◌, length, Option, None, Some, Ok, subst}
 use Rattle.std.specs.Prelude.{codes}
-use Rattle.prin_term.specs.Steps.{◌>>=◌, with_fault}
-use Rattle.prin_term.proofs.Results.{bind_ok, chosen_ok, ok_is, with_fault_ok}
+use Rattle.byte_fields.specs.Steps.{◌>>=◌, with_fault}
+use Rattle.byte_fields.proofs.Results.{bind_ok, chosen_ok, ok_is, with_fault_ok}
 use Rattle.node_file.specs.declared.fault.FileCause.{FileCause}
 use Rattle.node_file.specs.declared.fault.FileCause.TheVariants.{FirstLine}
 use Rattle.node_file.specs.declared.fault.FileFault.{FileFault}

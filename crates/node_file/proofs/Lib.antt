@@ -10,6 +10,8 @@ pub mod ByNumber
 pub mod LineLaws
 pub mod WordLaws
 pub mod Added
+pub mod Gathered
+pub mod GatheredObjects
 pub mod Rows
 pub mod RelayLines
 pub mod RelayTaken

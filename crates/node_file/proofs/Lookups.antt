@@ -7,9 +7,9 @@ use Rattle.std.specs.Int.{w32}
 use Rattle.std.proofs.lemmas.Bool.{cases_eq}
 use Rattle.std.proofs.lemmas.Bool.Decides.{nat_tests}
 use Rattle.keyed_seal.specs.Keys.{Keys, AddsKey}
-use Rattle.prin_term.specs.Steps.{number_at}
-use Rattle.prin_term.specs.declared.fault.FormatFault.TheVariants.{Malformed}
-use Rattle.prin_term.specs.Formats.{ended}
+use Rattle.byte_fields.specs.Steps.{number_at}
+use Rattle.byte_fields.specs.declared.fault.FormatFault.TheVariants.{Malformed}
+use Rattle.byte_fields.specs.Formats.{ended}
 use Rattle.object_core.specs.Objects.{ObjectPlan, object_of}
 use Rattle.node_file.specs.Opening.{key_of}
 use Rattle.node_file.specs.OpeningReading.{new_channel_at, new_object_at}

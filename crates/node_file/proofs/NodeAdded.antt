@@ -1,6 +1,6 @@
 -- What a line adds to the objects of a node file, from what is found of the object.
 use Rattle.std.proofs.Common.{◌≡◌, ℕ, ◌<◌, ◌≤◌, true, false, leb, ltb, List, ◌∷◌, ◌++◌, [], length, Option, Some, None, Ok, Err, refl, sym, ◌∙◌, arith}
-use Rattle.std.specs.Option.{is_some, option_map}
+use Rattle.std.specs.Option.{is_some}
 use Rattle.std.proofs.lemmas.Bool.Decides.{nat_tests}
 use Rattle.object_core.specs.Objects.{ObjectPlan, object_of}
 use Rattle.prin_term.specs.Principal.{Principal}
@@ -8,7 +8,7 @@ use Rattle.prin_term.specs.View.{Grant, principal}
 use Rattle.prin_text.specs.Labels.{Labels}
 use Rattle.node_file.specs.declared.fault.FileCause.{FileCause}
 use Rattle.node_file.specs.declared.fault.FileCause.TheVariants.{UnknownObject, Twice, Limit}
-use Rattle.node_file.specs.NodeLines.{changed_at, contents_and, empty_object, grants_and, objects_and, who_said, with_content, with_grant, with_list}
+use Rattle.node_file.specs.NodeLines.{changed_at, contents_and, empty_object, grants_and, objects_and, who_said, with_content, with_grant}
 use Rattle.node_file.specs.declared.line_fault.LineFault.{LineFault}
 use Rattle.node_file.specs.declared.line_fault.LineFault.TheVariants as lines
 use Rattle.node_file.specs.Held.{HoldsRows}
@@ -69,10 +69,6 @@ module _ (above : List ObjectPlan) (n : ℕ) where
         → grants_and labels above (n, rights, text) ≡ Ok (changed_at n (with_grant g) above)
     unfolding grants_and
     grant_fits p who g there said room same = let over : leb 8 (length p.list) ≡ false = grind (arith, nat_tests, room) in rw (there, said, over, same) refl
-
--- the list with one more entry is given to the object that is there
-pub entry_added : (list : List Grant) (g : Grant) (p : ObjectPlan) (o : Option ObjectPlan) → o ≡ Some p → list ≡ p.list ++ g ∷ [] → option_map (with_list list) o ≡ option_map (with_grant g) o
-entry_added list g p o there same = rw (there, same) refl
 
 module _ (above : List ObjectPlan) (n : ℕ) (a b : Labels) (names : HoldsRows a.names b.names) (roles : HoldsRows a.roles b.roles) (rights : ℕ) (text : List ℕ) (p : ObjectPlan) (there : object_of above n ≡ Some p) where
   pub who_refused : (new : List ObjectPlan) (fault : LineFault) → GivesLine principal (Err fault) (who_said a text) → TakesLine HoldsPlans (Err fault) new (grants_and b above (n, rights, text))

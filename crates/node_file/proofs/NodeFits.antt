@@ -12,10 +12,10 @@ use Rattle.prin_term.specs.Kind as kinds
 use Rattle.prin_term.specs.Kind.{Kind, pair}
 use Rattle.prin_term.specs.Principal.{Principal, Key, Name, And, Quoting, InRole, For, HasSpelling, node_count}
 use Rattle.prin_term.specs.Refusal.{FitsLimits}
-use Rattle.prin_term.specs.Steps.{◌>>=◌, IsByte, with_fault}
+use Rattle.byte_fields.specs.Steps.{◌>>=◌, IsByte, with_fault}
 use Rattle.prin_term.specs.View.{Grant}
 use Rattle.prin_term.specs.declared.limits.TheConstants.{ENTRY_NODES}
-use Rattle.prin_term.proofs.Results.{bind_ok, chosen_ok, ok_is, with_fault_ok}
+use Rattle.byte_fields.proofs.Results.{bind_ok, chosen_ok, ok_is, with_fault_ok}
 use Rattle.prin_text.specs.Labels.{Labels, Rows, number_of}
 use Rattle.prin_text.specs.Meaning.{Written, Atom, Group, Pair, RoleOf, IsAtom, IsProper, IsNamed, meaning}
 use Rattle.prin_text.specs.Reading.{principal_in}

@@ -1,21 +1,29 @@
--- Anchors and certificates of a line, in the draft that the program holds and in what it stands for.
-use Rattle.std.proofs.Common.{◌≡◌, ℕ, List, Result, Ok, Err, map, refl, ap, subst}
+-- What a line adds, in the draft that the program holds and in what it stands for.
+use Rattle.std.proofs.Common.{◌≡◌, ℕ, List, Result, Ok, Err, map, refl, sym, ap, subst, ◌∙◌}
 use Rattle.std.specs.declared.alloc.Global.{Global}
 use Rattle.std.specs.declared.sync.Arc.{Arc}
 use Rattle.std.specs.declared.vec.Vec.{Vec}
 use Rattle.prin_term.specs.declared.term.Anchor.{Anchor}
-use Rattle.prin_term.specs.Steps.{◌>>=◌}
-use Rattle.prin_text.specs.Labels.{Rows}
+use Rattle.byte_fields.specs.Steps.{◌>>=◌, with_value}
+use Rattle.keyed_seal.specs.Keys.{Entries, Keys}
+use Rattle.object_core.specs.Objects.{ObjectPlan}
+use Rattle.prin_text.specs.Labels.{Labels, Rows}
 use Rattle.stmt_codec.specs.declared.cert.Cert.{Cert}
 use Rattle.stmt_codec.specs.Certificates.{Certificate}
 use Rattle.node_file.specs.declared.fault.FileCause.{FileCause}
 use Rattle.node_file.specs.declared.line_fault.LineFault.{LineFault}
+use Rattle.node_file.specs.declared.node_text.draft.Draft as code
+use Rattle.node_file.specs.declared.node_text.kind.LineKind.{LineKind}
 use Rattle.node_file.specs.declared.node_text.settings.Settings.{Settings}
 use Rattle.node_file.specs.Fields.{numbered}
-use Rattle.node_file.specs.Held.{HoldsRows}
+use Rattle.node_file.specs.Held.{HoldsKeys, HoldsRows}
 use Rattle.node_file.specs.LineView.{TakesLine}
 use Rattle.node_file.specs.NodeLines.{anchor_said, anchors_and, anchors_with, commons_with}
+use Rattle.node_file.specs.NodeFile.{Draft, adds, anchors_in, channels_in, commons_in, names_in, objects_in, roles_in, settings_in}
+use Rattle.node_file.specs.NodeView.{IsDraftOf}
 use Rattle.node_file.specs.OpeningView.{common}
+use Rattle.node_file.specs.Plans.{HoldsPlans}
+use Rattle.node_file.proofs.RelayLines.{lifted}
 use Rattle.node_file.proofs.SamePrincipals.{same_name}
 
 after_numbered : (r : Result (ℕ × List ℕ) FileCause) (f g : ℕ × List ℕ → Result Anchor FileCause) → ((x : ℕ × List ℕ) → f x ≡ g x) → (r >>= f) ≡ (r >>= g)
@@ -38,3 +46,62 @@ module _ (old above : Settings) (held_commons commons : List Certificate) (line 
   commons_said settings same takes =
       subst (λ (l : List Certificate). TakesLine (λ v l. map common v.items ≡ l) r new (commons_with above.node l line rest)) same
       (subst (λ (s : Settings). TakesLine (λ v l. map common v.items ≡ l) r new (commons_with s.node held_commons line rest)) settings takes)
+
+-- ---- the draft, of which one part is another
+
+-- a line of a kind is taken
+abbrev pub Takes : code.Draft → Result Unit LineFault → Draft → LineKind → List ℕ → List ℕ → Type 0
+Takes new r above kind line rest = TakesLine IsDraftOf r new (adds above kind line rest)
+
+pub of_kind : (new : code.Draft) (r : Result Unit LineFault) (above : Draft) (kind said : LineKind) (line rest : List ℕ) → kind ≡ said → Takes new r above said line rest → Takes new r above kind line rest
+of_kind new r above kind said line rest is takes = subst (λ k. Takes new r above k line rest) (sym is) takes
+
+module _ (draft : code.Draft) (d : Draft) (s : IsDraftOf draft d) where
+  pub settings_set : (t u : Settings) → t ≡ u → IsDraftOf (record draft { settings = t }) (settings_in d u)
+  settings_set t u same =
+      record { settings = same; names = s.names; roles = s.roles; channels = s.channels; channels_room = s.channels_room; anchors = s.anchors; commons = s.commons; objects = s.objects }
+
+  pub names_set : (labels : Labels) (rows : Rows) → HoldsRows labels.names rows → labels.roles ≡ draft.names.roles → IsDraftOf (record draft { names = labels }) (names_in d rows)
+  names_set labels rows held roles = record {
+    settings = s.settings;
+    names = held;
+    roles = subst (λ (l : Rows). HoldsRows l d.labels.roles) (sym roles) s.roles;
+    channels = s.channels;
+    channels_room = s.channels_room;
+    anchors = s.anchors;
+    commons = s.commons;
+    objects = s.objects;
+  }
+
+  pub roles_set : (labels : Labels) (rows : Rows) → HoldsRows labels.roles rows → labels.names ≡ draft.names.names → IsDraftOf (record draft { names = labels }) (roles_in d rows)
+  roles_set labels rows held names = record {
+    settings = s.settings;
+    names = subst (λ (l : Rows). HoldsRows l d.labels.names) (sym names) s.names;
+    roles = held;
+    channels = s.channels;
+    channels_room = s.channels_room;
+    anchors = s.anchors;
+    commons = s.commons;
+    objects = s.objects;
+  }
+
+  pub channels_set : (keys : Keys) (entries : Entries) → HoldsKeys keys entries → keys.room ≡ draft.channels.room → IsDraftOf (record draft { channels = keys }) (channels_in d entries)
+  channels_set keys entries held room =
+      record { settings = s.settings; names = s.names; roles = s.roles; channels = held; channels_room = room ∙ s.channels_room; anchors = s.anchors; commons = s.commons; objects = s.objects }
+
+  pub anchors_set : (v : Vec Anchor Global) (l : List Anchor) → v.items ≡ l → IsDraftOf (record draft { anchors = v }) (anchors_in d l)
+  anchors_set v l held =
+      record { settings = s.settings; names = s.names; roles = s.roles; channels = s.channels; channels_room = s.channels_room; anchors = held; commons = s.commons; objects = s.objects }
+
+  pub commons_set : (v : Vec (Arc Cert Global) Global) (l : List Certificate) → map common v.items ≡ l → IsDraftOf (record draft { commons = v }) (commons_in d l)
+  commons_set v l held =
+      record { settings = s.settings; names = s.names; roles = s.roles; channels = s.channels; channels_room = s.channels_room; anchors = s.anchors; commons = held; objects = s.objects }
+
+  pub objects_set : (plans l : List ObjectPlan) → HoldsPlans plans l → IsDraftOf (record draft { objects = plans }) (objects_in d l)
+  objects_set plans l held =
+      record { settings = s.settings; names = s.names; roles = s.roles; channels = s.channels; channels_room = s.channels_room; anchors = s.anchors; commons = s.commons; objects = held }
+
+  -- a line that adds to the objects alone
+  pub objects_taken : (new : List ObjectPlan) (r : Result Unit LineFault) (want : Result (List ObjectPlan) FileCause) → TakesLine HoldsPlans r new want
+      → TakesLine IsDraftOf r (record draft { objects = new }) (with_value (objects_in d) want)
+  objects_taken new r want takes = lifted HoldsPlans IsDraftOf (objects_in d) r new (record draft { objects = new }) want takes (objects_set new)

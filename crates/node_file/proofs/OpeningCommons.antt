@@ -4,11 +4,11 @@ use Rattle.std.specs.Prelude.{All, AllPairs}
 use Rattle.std.specs.List.{flat_map}
 use Rattle.std.specs.Int.{w16, to_be_bytes}
 use Rattle.std.proofs.lemmas.List.Elements.{All-weaker}
-use Rattle.prin_term.specs.Readers.{Reader, followed, is_new}
-use Rattle.prin_term.specs.Steps.{◌>>=◌, with_fault, bytes_at}
-use Rattle.prin_term.proofs.FieldLaws.{bytes_are, TakesAt, TakesAt-then, TakesAt-within, behind, bytes_again}
-use Rattle.prin_term.proofs.ReaderLaws.{Reads, reads_bytes, reads_followed, reads_passing, reads_made, reads_counted, is_new-All, is_new-from_All}
-use Rattle.prin_term.proofs.Results.{bind_ok, ok_is, with_fault_ok}
+use Rattle.byte_fields.specs.Readers.{Reader, followed, is_new}
+use Rattle.byte_fields.specs.Steps.{◌>>=◌, with_fault, bytes_at}
+use Rattle.byte_fields.proofs.FieldLaws.{bytes_are, TakesAt, TakesAt-then, TakesAt-within, behind, bytes_again}
+use Rattle.byte_fields.proofs.ReaderLaws.{Reads, reads_bytes, reads_followed, reads_passing, reads_made, reads_counted, is_new-All, is_new-from_All}
+use Rattle.byte_fields.proofs.Results.{bind_ok, ok_is, with_fault_ok}
 use Rattle.sealed_cert.specs.Refusals.{opened}
 use Rattle.sealed_cert.specs.Seals.{sealed, IsSealed}
 use Rattle.sealed_cert.proofs.Opened.{opened_takes, opened_again}
@@ -16,12 +16,12 @@ use Rattle.sealed_cert.proofs.Sizes.{short_sealed}
 use Rattle.stmt_codec.specs.Certificates.{Certificate, IsWithinLimits}
 use Rattle.stmt_codec.specs.Equality.{same_certificate}
 use Rattle.stmt_codec.proofs.Equal.{same_certificate-false, same_certificate-apart}
-use Rattle.prin_term.specs.declared.fault.FormatFault.{FormatFault}
-use Rattle.prin_term.specs.declared.fault.FormatFault.TheVariants.{Malformed}
+use Rattle.byte_fields.specs.declared.fault.FormatFault.{FormatFault}
+use Rattle.byte_fields.specs.declared.fault.FormatFault.TheVariants.{Malformed}
 use Rattle.node_file.specs.Opening.{common_bytes, IsCommon}
-use Rattle.prin_term.specs.Formats.{ended}
+use Rattle.byte_fields.specs.Formats.{ended}
 use Rattle.node_file.specs.OpeningReading.{opened_in, common_at, commons_at}
-use Rattle.prin_term.proofs.FormatFields.{reads_u8, reads_u16}
+use Rattle.byte_fields.proofs.FormatFields.{reads_u8, reads_u16}
 
 -- one behind another, whose bytes depend on the first
 pub reads_followed_by : {A B E : Type 0} {bytes : List ℕ} {first : Reader A E} {second : A → Reader B E} {sa : A → List ℕ} {Fa : A → Type 0} {Fb : A → B → Type 0} (sb : A → B → List ℕ)

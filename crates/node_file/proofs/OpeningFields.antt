@@ -7,15 +7,15 @@ use Rattle.std.proofs.lemmas.Bool.{eqb-true, eqb-false}
 use Rattle.std.proofs.lemmas.Bool.Decides.{nat_tests}
 use Rattle.std.proofs.lemmas.List.Elements.{All-weaker}
 use Rattle.prin_term.specs.declared.term.Anchor.{Anchor}
-use Rattle.prin_term.specs.Formats.{ended, is_within}
-use Rattle.prin_term.specs.Steps.{bytes_at}
-use Rattle.prin_term.proofs.FormatFields.{reads_u8, reads_u16, reads_u32, reads_u64, within_is, is_within-true}
-use Rattle.prin_term.specs.declared.fault.FormatFault.TheVariants.{Malformed}
+use Rattle.byte_fields.specs.Formats.{ended, is_within}
+use Rattle.byte_fields.specs.Steps.{bytes_at}
+use Rattle.byte_fields.proofs.FormatFields.{reads_u8, reads_u16, reads_u32, reads_u64, within_is, is_within-true}
+use Rattle.byte_fields.specs.declared.fault.FormatFault.TheVariants.{Malformed}
 use Rattle.node_file.specs.declared.opening.head.Head.{Head}
 use Rattle.node_file.specs.Opening.{channel_bytes, anchor_bytes, IsKey, IsChannel, IsAnchor}
-use Rattle.prin_term.specs.Readers.{is_new}
+use Rattle.byte_fields.specs.Readers.{is_new}
 use Rattle.node_file.specs.OpeningReading.{same_anchor, mark_at, number_in, shards_at, head_at, new_channel_at, channel_at, channels_at, anchor_at, anchors_at}
-use Rattle.prin_term.proofs.ReaderLaws.{Reads, reads_bytes, reads_followed, reads_passing, reads_made, reads_as, reads_counted, is_new-All, is_new-from_All}
+use Rattle.byte_fields.proofs.ReaderLaws.{Reads, reads_bytes, reads_followed, reads_passing, reads_made, reads_as, reads_counted, is_new-All, is_new-from_All}
 
 -- the bytes of the fields before the lists
 abbrev pub head_bytes : Head → List ℕ

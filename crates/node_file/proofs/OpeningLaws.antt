@@ -5,23 +5,23 @@ use Rattle.std.specs.List.{flat_map}
 use Rattle.std.specs.Int.{w16, w32, w64, to_be_bytes}
 use Rattle.std.proofs.lemmas.Bool.{le-leb, leb-true, ltb-false, le-ltb}
 use Rattle.std.proofs.lemmas.List.{drop_all}
-use Rattle.prin_term.proofs.Results.{bind_ok, ok_is, chosen}
-use Rattle.prin_term.proofs.FieldLaws.{IsBytes}
-use Rattle.prin_term.specs.declared.fault.FormatFault.{FormatFault}
-use Rattle.prin_term.specs.declared.fault.FormatFault.TheVariants.{Malformed}
+use Rattle.byte_fields.proofs.Results.{bind_ok, ok_is, chosen}
+use Rattle.byte_fields.proofs.FieldLaws.{IsBytes}
+use Rattle.byte_fields.specs.declared.fault.FormatFault.{FormatFault}
+use Rattle.byte_fields.specs.declared.fault.FormatFault.TheVariants.{Malformed}
 use Rattle.node_file.specs.declared.opening.head.Head.{Head}
 use Rattle.prin_term.specs.declared.term.Anchor.{Anchor}
 use Rattle.stmt_codec.specs.Certificates.{Certificate}
 use Rattle.object_core.specs.Objects.{ObjectPlan}
 use Rattle.node_file.specs.Opening.{Opening, opening_bytes, channel_bytes, anchor_bytes, common_bytes, object_bytes, IsKey, IsChannel, IsAnchor, IsCommon, FitsObject, journal_room, FitsOpening, Spells, no_texts}
-use Rattle.prin_term.specs.Formats.{ended}
+use Rattle.byte_fields.specs.Formats.{ended}
 use Rattle.node_file.proofs.ByNumber.{no_texts_fit}
 use Rattle.prin_text.specs.Labels.{AreLabels, Labels}
 use Rattle.node_file.specs.OpeningReading.{fields_at, opening_of}
 use Rattle.node_file.proofs.OpeningFields.{head_bytes, reads_head, reads_channels, reads_anchors}
 use Rattle.node_file.proofs.OpeningCommons.{reads_followed_by, reads_commons}
 use Rattle.node_file.proofs.OpeningObjects.{reads_objects}
-use Rattle.prin_term.proofs.ReaderLaws.{Reads, reads_followed, reads_made}
+use Rattle.byte_fields.proofs.ReaderLaws.{Reads, reads_followed, reads_made}
 
 -- an opening within the limits, but for the room of its journals
 record HasFields (o : Opening) : Type 0 where

@@ -8,13 +8,13 @@ use Rattle.std.proofs.lemmas.Bool.Decides.{nat_tests}
 use Rattle.std.proofs.lemmas.List.Elements.{All-weaker}
 use Rattle.object_core.specs.Spelling.{content_bytes, list_bytes}
 use Rattle.object_core.proofs.ListReaders.{reads_content, reads_list}
-use Rattle.prin_term.specs.declared.fault.FormatFault.TheVariants.{Malformed}
+use Rattle.byte_fields.specs.declared.fault.FormatFault.TheVariants.{Malformed}
 use Rattle.object_core.specs.Objects.{ObjectPlan}
 use Rattle.node_file.specs.Opening.{object_bytes, FitsObject}
-use Rattle.prin_term.specs.Readers.{is_new}
+use Rattle.byte_fields.specs.Readers.{is_new}
 use Rattle.node_file.specs.OpeningReading.{new_object_at, object_at, objects_at}
-use Rattle.prin_term.proofs.FormatFields.{reads_u16, reads_u32}
-use Rattle.prin_term.proofs.ReaderLaws.{Reads, reads_followed, reads_passing, reads_made, reads_counted, is_new-All, is_new-from_All}
+use Rattle.byte_fields.proofs.FormatFields.{reads_u16, reads_u32}
+use Rattle.byte_fields.proofs.ReaderLaws.{Reads, reads_followed, reads_passing, reads_made, reads_counted, is_new-All, is_new-from_All}
 
 module _ (bytes : List ℕ) where
   pub reads_object : (before : List ObjectPlan) → Reads bytes (object_at bytes before) object_bytes (λ p. FitsObject p × All (λ q. q.number ≢ p.number) before)

@@ -7,10 +7,10 @@ use Rattle.std.proofs.lemmas.List.Elements.{All-from_get_or}
 use Rattle.std.proofs.lemmas.Option.{none-some, same_Some}
 use Rattle.hex.proofs.HexLemmas.{decode_of-ok}
 use Rattle.hex.specs.Hex.{decode_of}
-use Rattle.prin_term.specs.Formats.{is_within}
-use Rattle.prin_term.proofs.FormatFields.{within_is}
-use Rattle.prin_term.proofs.Results.{bind_ok, chosen_ok, ok_is}
-use Rattle.prin_term.specs.Steps.{◌>>=◌, IsByte, with_value}
+use Rattle.byte_fields.specs.Formats.{is_within}
+use Rattle.byte_fields.proofs.FormatFields.{within_is}
+use Rattle.byte_fields.proofs.Results.{bind_ok, chosen_ok, ok_is}
+use Rattle.byte_fields.specs.Steps.{◌>>=◌, IsByte, with_value}
 use Rattle.node_file.specs.declared.fault.FileCause.{FileCause}
 use Rattle.node_file.specs.declared.fault.FileCause.TheVariants.{Twice, Limit, Number}
 use Rattle.node_file.specs.Fields.{bytes_of_digits, decoded, number_up_to, numbered, one_number, one_word, two_words}

@@ -6,7 +6,7 @@ use Rattle.std.proofs.lemmas.List.Elements.{All-append, All-cons, All-nil}
 use Rattle.keyed_seal.specs.Tag.{tag_of}
 use Rattle.keyed_seal.proofs.Tags.{bytes-tag_of}
 use Rattle.prin_term.specs.Principal.{Principal, Key, Name, And, Quoting, InRole, For, spelling}
-use Rattle.prin_term.specs.Steps.{IsByte, optional}
+use Rattle.byte_fields.specs.Steps.{IsByte, optional}
 use Rattle.sealed_cert.specs.Seals.{sealed, sealed_text}
 use Rattle.stmt_codec.specs.Certificates.{Certificate, body_spelling}
 

@@ -10,8 +10,8 @@ use Rattle.std.proofs.lemmas.List.Folds.{list_all-append}
 use Rattle.std.proofs.lemmas.List.Sums.{list_all-from_AllPass}
 use Rattle.hex.specs.Hex.{encode_lower, is_hex_digit}
 use Rattle.hex.proofs.HexLemmas.{decode_of-encode_lower, decode_of-ok, decode_sized-encode_lower}
-use Rattle.prin_term.specs.Steps.{◌>>=◌, IsByte}
-use Rattle.prin_term.proofs.FieldLaws.{bytes_are}
+use Rattle.byte_fields.specs.Steps.{◌>>=◌, IsByte}
+use Rattle.byte_fields.proofs.FieldLaws.{bytes_are}
 use Rattle.prin_text.specs.declared.limits.TheConstants.{MAX_TEXT}
 use Rattle.prin_text.specs.Labels.{begins_with_letter, is_digit, is_label, is_label_byte, is_reserved}
 use Rattle.prin_text.specs.Tokens.{is_blank}

@@ -10,9 +10,9 @@ use Rattle.hex.specs.Hex.{encode_lower}
 use Rattle.object_core.specs.Objects.{ObjectPlan, object_of}
 use Rattle.object_core.specs.Operation.{FitsGrant, IsAccessList, IsContent}
 use Rattle.object_core.specs.declared.limits.TheConstants.{MAX_CONTENT, MAX_ENTRIES}
-use Rattle.prin_term.specs.Steps.{◌>>=◌, with_value}
+use Rattle.byte_fields.specs.Steps.{◌>>=◌, with_value}
 use Rattle.prin_term.specs.View.{Grant}
-use Rattle.prin_term.proofs.ReaderLaws.{AllPairs-before}
+use Rattle.byte_fields.proofs.ReaderLaws.{AllPairs-before}
 use Rattle.prin_text.specs.Labels.{AreLabels}
 use Rattle.prin_text.specs.Printing.{principal_text, rights_text}
 use Rattle.prin_text.specs.Words.{rights_of}
@@ -29,7 +29,7 @@ use Rattle.node_file.specs.NodeLines.{changed_at, contents_and, grants_and, obje
 use Rattle.node_file.specs.Opening.{FitsObject}
 use Rattle.node_file.proofs.PrintedFields.{decimal_word, hex_word, number_again, numbered_digits_again, one_number_again, tail_plain}
 use Rattle.node_file.proofs.PrintedParts.{each_goes, each_taken, fewer, this_one}
-use Rattle.node_file.proofs.PrintedSteps.{Goes, Takes, allow_kind, allow_word, content_kind, content_word, goes_append, object_kind, object_word, takes_line}
+use Rattle.node_file.proofs.PrintedSteps.{Goes, goes_append, Takes, takes_line, word_is}
 use Rattle.node_file.proofs.PrintedTables.{AreFew}
 use Rattle.node_file.proofs.PrintedTexts.{rights_word, text_shown, who_again}
 use Rattle.node_file.proofs.PrintedWords.{IsWord, plain_append, word_first, word_next}
@@ -78,8 +78,8 @@ module _ (above : List ObjectPlan) (n : ℕ) (new : HaveNot n above) (room : len
 
   object_taken : Takes (objects_in d above) (number_line (codes "object") n) (objects_in d (above ++ object n [] [] ∷ []))
   object_taken =
-      takes_line (objects_in d above) (objects_in d (above ++ object n [] [] ∷ [])) (codes "object") (decimal n) kinds.Object object_word object_kind refl (decimal_word n (omega (arith, small))).plain
-      (ap (with_value (objects_in d)) (ap (λ r. r >>= λ n. objects_and above n) (one_number_again (codes "object") 4294967295 n object_word small (omega (arith, small))) ∙ object_free))
+      takes_line (objects_in d above) (objects_in d (above ++ object n [] [] ∷ [])) kinds.Object (decimal n) (decimal_word n (omega (arith, small))).plain
+      (ap (with_value (objects_in d)) (ap (λ r. r >>= λ n. objects_and above n) (one_number_again (codes "object") 4294967295 n (word_is kinds.Object) small (omega (arith, small))) ∙ object_free))
 
   -- ---- the line of its content
 
@@ -91,9 +91,9 @@ module _ (above : List ObjectPlan) (n : ℕ) (new : HaveNot n above) (room : len
 
   content_taken : (content : List ℕ) → IsContent content → 0 < length content → Takes (objects_in d (above ++ object n [] [] ∷ [])) (bytes_line (codes "content") (n, content)) (objects_in d (above ++ object n content [] ∷ []))
   content_taken content is some =
-      takes_line (objects_in d (above ++ object n [] [] ∷ [])) (objects_in d (above ++ object n content [] ∷ [])) (codes "content") (decimal n ++ 32 ∷ encode_lower content) kinds.Content content_word content_kind refl
-      (tail_plain (codes "content") (encode_lower content) n content_word (hex_word content is.1 some) small)
-      (ap (with_value (objects_in d)) (ap (λ r. r >>= λ x. contents_and (above ++ object n [] [] ∷ []) x) (numbered_digits_again (codes "content") content n content_word is.1 some small) ∙ content_free content is.0))
+      takes_line (objects_in d (above ++ object n [] [] ∷ [])) (objects_in d (above ++ object n content [] ∷ [])) kinds.Content (decimal n ++ 32 ∷ encode_lower content)
+      (tail_plain (codes "content") (encode_lower content) n (word_is kinds.Content) (hex_word content is.1 some) small)
+      (ap (with_value (objects_in d)) (ap (λ r. r >>= λ x. contents_and (above ++ object n [] [] ∷ []) x) (numbered_digits_again (codes "content") content n (word_is kinds.Content) is.1 some small) ∙ content_free content is.0))
 
   content_goes : (content : List ℕ) → IsContent content → Goes (objects_in d (above ++ object n [] [] ∷ [])) (content_lines n content) (objects_in d (above ++ object n content [] ∷ []))
   content_goes [] is = refl
@@ -127,7 +127,7 @@ module _ (above : List ObjectPlan) (n : ℕ) (new : HaveNot n above) (room : len
       parted =
           let some : ltb 0 (length (unblanked who)) ≡ true = lt-ltb 0 (length (unblanked who)) (text_shown d.labels are false g.who fits.who.numbers).some in
           let given : List ℕ × List ℕ → List ℕ × List ℕ → Result (List ℕ × List ℕ × List ℕ) FileCause = λ a b. cond (is_plain line && ltb 0 (length (unblanked b.1))) (Ok (a.0, b.0, b.1)) (Err Words) in
-          ap (λ (w : List ℕ × List ℕ). given (word_off w.1) (word_off (word_off w.1).1)) (word_first (codes "allow") (decimal n ++ 32 ∷ (rights ++ 32 ∷ who)) allow_word)
+          ap (λ (w : List ℕ × List ℕ). given (word_off w.1) (word_off (word_off w.1).1)) (word_first (codes "allow") (decimal n ++ 32 ∷ (rights ++ 32 ∷ who)) (word_is kinds.Allow))
           ∙ ap (λ (a : List ℕ × List ℕ). given a (word_off a.1)) (word_next (decimal n) (rights ++ 32 ∷ who) (decimal_word n (omega (arith, small))))
           ∙ ap (λ (b : List ℕ × List ℕ). given (decimal n, 32 ∷ (rights ++ 32 ∷ who)) b) (word_next rights who is_rights)
           ∙ (rw (line_plain, some) refl)
@@ -147,7 +147,7 @@ module _ (above : List ObjectPlan) (n : ℕ) (new : HaveNot n above) (room : len
 
       entry_taken : Takes (objects_in d (above ++ object n content done ∷ [])) line (objects_in d (above ++ object n content (done ++ g ∷ []) ∷ []))
       entry_taken =
-          takes_line (objects_in d (above ++ object n content done ∷ [])) (objects_in d (above ++ object n content (done ++ g ∷ []) ∷ [])) (codes "allow") (decimal n ++ 32 ∷ (rights ++ 32 ∷ who)) kinds.Allow allow_word allow_kind refl entry_plain
+          takes_line (objects_in d (above ++ object n content done ∷ [])) (objects_in d (above ++ object n content (done ++ g ∷ []) ∷ [])) kinds.Allow (decimal n ++ 32 ∷ (rights ++ 32 ∷ who)) entry_plain
           (ap (with_value (objects_in d)) (ap (λ r. r >>= λ x. grants_and d.labels (above ++ object n content done ∷ []) x) granted_again ∙ entry_free))
 
     entries_go : (done rest : List Grant) → IsAccessList (done ++ rest) → Goes (objects_in d (above ++ object n content done ∷ [])) (map (allow_line d.labels n) rest) (objects_in d (above ++ object n content (done ++ rest) ∷ []))

@@ -3,7 +3,7 @@ use Rattle.std.proofs.Common.{◌≡◌, ℕ, false, true, cond, ltb, List, [], 
 use Rattle.std.specs.Prelude.{codes}
 use Rattle.std.specs.List.{flat_map}
 use Rattle.std.proofs.lemmas.Bool.{le-leb, le-ltb}
-use Rattle.prin_term.specs.Steps.{◌>>=◌, with_fault}
+use Rattle.byte_fields.specs.Steps.{◌>>=◌, with_fault}
 use Rattle.node_file.specs.declared.fault.FileCause.TheVariants.{Limit}
 use Rattle.node_file.specs.declared.fault.FileFault.TheVariants.{Line}
 use Rattle.node_file.specs.declared.limits.TheConstants.{MAX_FILE, MAX_ROOM}

@@ -8,7 +8,7 @@ use Rattle.std.proofs.lemmas.List.{get_or_append_left}
 use Rattle.std.proofs.lemmas.List.Elements.{All-head, All-tail}
 use Rattle.keyed_seal.specs.Keys.{Entries, key_of}
 use Rattle.prin_text.specs.Labels.{IsAscending, Rows, TextsDiffer, number_at, number_of, text_of}
-use Rattle.prin_text.proofs.Finding.{text_of-absent}
+use Rattle.number_rows.proofs.Finding.{value_of-absent}
 use Rattle.prin_text.proofs.Texts.{absent_below, same_text, texts_tell}
 use Rattle.node_file.specs.NodeFile.{Draft}
 use Rattle.node_file.proofs.PrintedSteps.{Goes, Takes, goes_append}
@@ -48,7 +48,7 @@ fewer above x rest most few = omega (arith, few, length-append above (x ∷ rest
 
 module _ (above rest : Rows) (row : ℕ × List ℕ) where
   pub number_is_new : IsAscending (above ++ row ∷ rest) → text_of above row.0 ≡ None
-  number_is_new ascending = text_of-absent above row.0 (λ j lt same.
+  number_is_new ascending = value_of-absent (λ r. r.0) (λ r. r.1) (0, []) above row.0 (λ j lt same.
       let whole : Rows = above ++ row ∷ rest in
       let before : number_at whole j ≡ number_at above j = ap (λ (r : ℕ × List ℕ). r.0) (get_or_append_left above (row ∷ rest) (0, []) j lt) in
       let here : number_at whole (length above) ≡ row.0 = ap (λ (r : ℕ × List ℕ). r.0) (get_or-append_seam above row rest (0, [])) in

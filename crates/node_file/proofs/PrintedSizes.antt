@@ -160,10 +160,20 @@ module _ (labels : Labels) (are : AreLabels labels) where
 parts_size : (u v : List (List ℕ)) (m n : ℕ) → length (text_of_lines u) ≤ m → length (text_of_lines v) ≤ n → length (text_of_lines (u ++ v)) ≤ m + n
 parts_size u v m n first second = omega (arith, first, second, ap length (flat_map-append ended u v), length-append (text_of_lines u) (text_of_lines v))
 
+-- a line adds its bytes and its end
+line_more : (l : List ℕ) (rest : List (List ℕ)) → length (text_of_lines (l ∷ rest)) ≡ length l + 1 + length (text_of_lines rest)
+line_more l rest = omega (arith, length-append (ended l) (text_of_lines rest), length-append l (10 ∷ []))
+
 module _ (o : Opening) (fits : FitsOpening o) where
   four_lines_size : (w x y z : List ℕ) → length (text_of_lines (w ∷ x ∷ y ∷ z ∷ [])) ≤ length w + length x + length y + length z + 4
   four_lines_size w x y z =
-      omega (arith, length-append (ended w) (text_of_lines (x ∷ y ∷ z ∷ [])), length-append (ended x) (text_of_lines (y ∷ z ∷ [])), length-append (ended y) (text_of_lines (z ∷ [])), length-append (ended z) [], length-append w (10 ∷ []), length-append x (10 ∷ []), length-append y (10 ∷ []), length-append z (10 ∷ []))
+      omega (
+        arith,
+        line_more w (x ∷ y ∷ z ∷ []),
+        line_more x (y ∷ z ∷ []),
+        line_more y (z ∷ []),
+        line_more z [],
+      )
 
   settings_size : length (text_of_lines (codes "taos 1" ∷ settings_lines o)) ≤ 200
   settings_size =

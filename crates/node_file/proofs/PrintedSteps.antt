@@ -2,7 +2,7 @@
 use Rattle.std.proofs.Common.{◌≡◌, ℕ, ◌+◌, ◌<◌, false, true, not, List, [], ◌∷◌, ◌++◌, length, Option, Some, Ok, refl, sym, ap, subst, ◌∙◌, arith}
 use Rattle.std.specs.Prelude.{codes}
 use Rattle.std.specs.List.{list_all}
-use Rattle.prin_term.specs.Steps.{◌>>=◌}
+use Rattle.byte_fields.specs.Steps.{◌>>=◌}
 use Rattle.prin_text.specs.Tokens.{is_blank}
 use Rattle.node_file.specs.declared.fault.FileCause.TheVariants.{UnknownWord}
 use Rattle.node_file.specs.declared.node_text.kind.LineKind.{LineKind}
@@ -39,104 +39,60 @@ pub goes_made : (xs : List (List ℕ)) (number : ℕ) (d e : Draft) → Goes d x
 goes_made [] number d e goes = ap (λ (x : Draft). Ok (Some x)) goes
 goes_made (x ∷ xs) number d e goes = rw (goes.1.read, goes.1.said) (goes_made xs (number + 1) goes.0 e goes.2)
 
+-- ---- the word in front of a line
+
+abbrev pub word_of : LineKind → List ℕ
+word_of (kinds.Setting settings.Node) = codes "node"
+word_of (kinds.Setting settings.Shards) = codes "shards"
+word_of (kinds.Setting settings.Keep) = codes "keep"
+word_of (kinds.Setting settings.Journal) = codes "journal"
+word_of kinds.Name = codes "name"
+word_of kinds.Role = codes "role"
+word_of kinds.Channel = codes "channel"
+word_of kinds.Anchor = codes "anchor"
+word_of kinds.Common = codes "common"
+word_of kinds.Object = codes "object"
+word_of kinds.Content = codes "content"
+word_of kinds.Allow = codes "allow"
+
+-- it is one, tells what the line is about, and is no comment
+record Begins (kind : LineKind) : Type 0 where
+  pub is_word : IsWord (word_of kind)
+  pub known : kind_of (word_of kind) ≡ Some kind
+  pub reads : (tail : List ℕ) → is_skipped (word_of kind ++ 32 ∷ tail) ≡ false
+
+begun_by : (kind : LineKind) → 0 < length (word_of kind) → list_all (λ b. not (is_blank b)) (word_of kind) ≡ true → is_plain (word_of kind) ≡ true → kind_of (word_of kind) ≡ Some kind
+    → ((tail : List ℕ) → is_skipped (word_of kind ++ 32 ∷ tail) ≡ false) → Begins kind
+begun_by kind some inner plain known reads = record { is_word = record { some = some; inner = inner; plain = plain }; known = known; reads = reads }
+
+begins : (kind : LineKind) → Begins kind
+unfolding kind_of
+begins (kinds.Setting settings.Node) = begun_by (kinds.Setting settings.Node) (omega arith) refl refl refl (λ tail. refl)
+begins (kinds.Setting settings.Shards) = begun_by (kinds.Setting settings.Shards) (omega arith) refl refl refl (λ tail. refl)
+begins (kinds.Setting settings.Keep) = begun_by (kinds.Setting settings.Keep) (omega arith) refl refl refl (λ tail. refl)
+begins (kinds.Setting settings.Journal) = begun_by (kinds.Setting settings.Journal) (omega arith) refl refl refl (λ tail. refl)
+begins kinds.Name = begun_by kinds.Name (omega arith) refl refl refl (λ tail. refl)
+begins kinds.Role = begun_by kinds.Role (omega arith) refl refl refl (λ tail. refl)
+begins kinds.Channel = begun_by kinds.Channel (omega arith) refl refl refl (λ tail. refl)
+begins kinds.Anchor = begun_by kinds.Anchor (omega arith) refl refl refl (λ tail. refl)
+begins kinds.Common = begun_by kinds.Common (omega arith) refl refl refl (λ tail. refl)
+begins kinds.Object = begun_by kinds.Object (omega arith) refl refl refl (λ tail. refl)
+begins kinds.Content = begun_by kinds.Content (omega arith) refl refl refl (λ tail. refl)
+begins kinds.Allow = begun_by kinds.Allow (omega arith) refl refl refl (λ tail. refl)
+
+pub word_is : (kind : LineKind) → IsWord (word_of kind)
+word_is kind = (begins kind).is_word
+
 -- ---- one line
 
-step_is : (d : Draft) (word tail : List ℕ) (kind : LineKind) → IsWord word → kind_of word ≡ Some kind → node_step d (word ++ 32 ∷ tail) ≡ adds d kind (word ++ 32 ∷ tail) (32 ∷ tail)
+step_is : (d : Draft) (kind : LineKind) (tail : List ℕ) → node_step d (word_of kind ++ 32 ∷ tail) ≡ adds d kind (word_of kind ++ 32 ∷ tail) (32 ∷ tail)
 unfolding node_step
-step_is d word tail kind is known =
+step_is d kind tail =
+    let word = word_of kind in
     let line = word ++ 32 ∷ tail in
-    ap (λ (w : List ℕ × List ℕ). some_or UnknownWord (kind_of w.0) >>= λ kind. adds d kind line w.1) (word_first word tail is) ∙ ap (λ (k : Option LineKind). some_or UnknownWord k >>= λ kind. adds d kind line (32 ∷ tail)) known
+    ap (λ (w : List ℕ × List ℕ). some_or UnknownWord (kind_of w.0) >>= λ kind. adds d kind line w.1) (word_first word tail (word_is kind))
+    ∙ ap (λ (k : Option LineKind). some_or UnknownWord k >>= λ kind. adds d kind line (32 ∷ tail)) (begins kind).known
 
-pub takes_line : (d more : Draft) (word tail : List ℕ) (kind : LineKind) → IsWord word → kind_of word ≡ Some kind → is_skipped (word ++ 32 ∷ tail) ≡ false → is_plain tail ≡ true
-    → adds d kind (word ++ 32 ∷ tail) (32 ∷ tail) ≡ Ok more → Takes d (word ++ 32 ∷ tail) more
-takes_line d more word tail kind is known read plain added =
-    record { read = read; plain = plain_append word (32 ∷ tail) is.plain plain; said = step_is d word tail kind is known ∙ added }
-
--- ---- the words in front
-
-closed_word : (w : List ℕ) → 0 < length w → list_all (λ b. not (is_blank b)) w ≡ true → is_plain w ≡ true → IsWord w
-closed_word w some inner plain = record { some = some; inner = inner; plain = plain }
-
-pub node_word : IsWord (codes "node")
-node_word = closed_word (codes "node") (omega arith) refl refl
-
-pub shards_word : IsWord (codes "shards")
-shards_word = closed_word (codes "shards") (omega arith) refl refl
-
-pub keep_word : IsWord (codes "keep")
-keep_word = closed_word (codes "keep") (omega arith) refl refl
-
-pub journal_word : IsWord (codes "journal")
-journal_word = closed_word (codes "journal") (omega arith) refl refl
-
-pub name_word : IsWord (codes "name")
-name_word = closed_word (codes "name") (omega arith) refl refl
-
-pub role_word : IsWord (codes "role")
-role_word = closed_word (codes "role") (omega arith) refl refl
-
-pub channel_word : IsWord (codes "channel")
-channel_word = closed_word (codes "channel") (omega arith) refl refl
-
-pub anchor_word : IsWord (codes "anchor")
-anchor_word = closed_word (codes "anchor") (omega arith) refl refl
-
-pub common_word : IsWord (codes "common")
-common_word = closed_word (codes "common") (omega arith) refl refl
-
-pub object_word : IsWord (codes "object")
-object_word = closed_word (codes "object") (omega arith) refl refl
-
-pub content_word : IsWord (codes "content")
-content_word = closed_word (codes "content") (omega arith) refl refl
-
-pub allow_word : IsWord (codes "allow")
-allow_word = closed_word (codes "allow") (omega arith) refl refl
-
-pub node_kind : kind_of (codes "node") ≡ Some (kinds.Setting settings.Node)
-unfolding kind_of
-node_kind = refl
-
-pub shards_kind : kind_of (codes "shards") ≡ Some (kinds.Setting settings.Shards)
-unfolding kind_of
-shards_kind = refl
-
-pub keep_kind : kind_of (codes "keep") ≡ Some (kinds.Setting settings.Keep)
-unfolding kind_of
-keep_kind = refl
-
-pub journal_kind : kind_of (codes "journal") ≡ Some (kinds.Setting settings.Journal)
-unfolding kind_of
-journal_kind = refl
-
-pub name_kind : kind_of (codes "name") ≡ Some kinds.Name
-unfolding kind_of
-name_kind = refl
-
-pub role_kind : kind_of (codes "role") ≡ Some kinds.Role
-unfolding kind_of
-role_kind = refl
-
-pub channel_kind : kind_of (codes "channel") ≡ Some kinds.Channel
-unfolding kind_of
-channel_kind = refl
-
-pub anchor_kind : kind_of (codes "anchor") ≡ Some kinds.Anchor
-unfolding kind_of
-anchor_kind = refl
-
-pub common_kind : kind_of (codes "common") ≡ Some kinds.Common
-unfolding kind_of
-common_kind = refl
-
-pub object_kind : kind_of (codes "object") ≡ Some kinds.Object
-unfolding kind_of
-object_kind = refl
-
-pub content_kind : kind_of (codes "content") ≡ Some kinds.Content
-unfolding kind_of
-content_kind = refl
-
-pub allow_kind : kind_of (codes "allow") ≡ Some kinds.Allow
-unfolding kind_of
-allow_kind = refl
+pub takes_line : (d more : Draft) (kind : LineKind) (tail : List ℕ) → is_plain tail ≡ true → adds d kind (word_of kind ++ 32 ∷ tail) (32 ∷ tail) ≡ Ok more → Takes d (word_of kind ++ 32 ∷ tail) more
+takes_line d more kind tail plain added =
+    record { read = (begins kind).reads tail; plain = plain_append (word_of kind) (32 ∷ tail) (word_is kind).plain plain; said = step_is d kind tail ∙ added }

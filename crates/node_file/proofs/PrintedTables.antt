@@ -8,10 +8,10 @@ use Rattle.std.proofs.lemmas.List.Elements.{All-weaker}
 use Rattle.hex.specs.Hex.{encode_lower}
 use Rattle.keyed_seal.specs.Keys.{Entries, key_of}
 use Rattle.prin_term.specs.Principal.{Name}
-use Rattle.prin_term.specs.Readers.{is_new}
-use Rattle.prin_term.specs.Steps.{◌>>=◌, with_fault, with_value}
+use Rattle.byte_fields.specs.Readers.{is_new}
+use Rattle.byte_fields.specs.Steps.{◌>>=◌, with_fault, with_value}
 use Rattle.prin_term.specs.declared.term.Anchor.{Anchor}
-use Rattle.prin_term.proofs.ReaderLaws.{AllPairs-before, is_new-from_All}
+use Rattle.byte_fields.proofs.ReaderLaws.{AllPairs-before, is_new-from_All}
 use Rattle.prin_text.specs.Labels.{AreLabels, IsRow, IsTable, Labels, Rows, is_label, number_of, text_of}
 use Rattle.prin_text.specs.Meaning.{IsNamed}
 use Rattle.prin_text.specs.Printing.{named}
@@ -41,7 +41,7 @@ use Rattle.node_file.proofs.OpeningFields.{same_anchor-false}
 use Rattle.node_file.proofs.PrintedBytes.{sealed_bytes}
 use Rattle.node_file.proofs.PrintedFields.{decimal_word, digits_again, hex_word, key_word, keyed_again, label_word, number_again, numbered_again, tail_plain, word_append}
 use Rattle.node_file.proofs.PrintedParts.{each_taken, fewer, key_is_new, number_is_new, text_is_new, this_one}
-use Rattle.node_file.proofs.PrintedSteps.{Goes, Takes, anchor_kind, anchor_word, channel_kind, channel_word, common_kind, common_word, name_kind, name_word, role_kind, role_word, takes_line}
+use Rattle.node_file.proofs.PrintedSteps.{Goes, Takes, takes_line, word_is}
 use Rattle.node_file.proofs.PrintedWords.{IsWord}
 
 full : (n most : ℕ) → n < most → leb most n ≡ false
@@ -75,15 +75,15 @@ pub names_go : (d : Draft) (above rest : Rows) → IsTable MAX_NAMES (above ++ r
 names_go d =
     each_taken (names_in d) (IsTable MAX_NAMES) (text_line (codes "name"))
     (λ above row rest table.
-    takes_line (names_in d above) (names_in d (above ++ row ∷ [])) (codes "name") (decimal row.0 ++ 32 ∷ row.1) kinds.Name name_word name_kind refl
-    (text_plain (codes "name") name_word MAX_NAMES above rest row table) (ap (with_value (names_in d)) (texts_again (codes "name") name_word MAX_NAMES above rest row table)))
+    takes_line (names_in d above) (names_in d (above ++ row ∷ [])) kinds.Name (decimal row.0 ++ 32 ∷ row.1)
+    (text_plain (codes "name") (word_is kinds.Name) MAX_NAMES above rest row table) (ap (with_value (names_in d)) (texts_again (codes "name") (word_is kinds.Name) MAX_NAMES above rest row table)))
 
 pub roles_go : (d : Draft) (above rest : Rows) → IsTable MAX_ROLES (above ++ rest) → Goes (roles_in d above) (map (text_line (codes "role")) rest) (roles_in d (above ++ rest))
 roles_go d =
     each_taken (roles_in d) (IsTable MAX_ROLES) (text_line (codes "role"))
     (λ above row rest table.
-    takes_line (roles_in d above) (roles_in d (above ++ row ∷ [])) (codes "role") (decimal row.0 ++ 32 ∷ row.1) kinds.Role role_word role_kind refl
-    (text_plain (codes "role") role_word MAX_ROLES above rest row table) (ap (with_value (roles_in d)) (texts_again (codes "role") role_word MAX_ROLES above rest row table)))
+    takes_line (roles_in d above) (roles_in d (above ++ row ∷ [])) kinds.Role (decimal row.0 ++ 32 ∷ row.1)
+    (text_plain (codes "role") (word_is kinds.Role) MAX_ROLES above rest row table) (ap (with_value (roles_in d)) (texts_again (codes "role") (word_is kinds.Role) MAX_ROLES above rest row table)))
 
 -- ---- lists with a limit
 
@@ -111,13 +111,13 @@ module _ (above rest : Entries) (x : ℕ × List ℕ) (are : AreFew MAX_CHANNELS
 
   keys_again : keys_with MAX_CHANNELS above (bytes_line (codes "channel") x) (32 ∷ (decimal x.0 ++ 32 ∷ encode_lower x.1)) ≡ Ok (above ++ x ∷ [])
   keys_again =
-      ap (λ r. r >>= λ x. unless (key_cause MAX_CHANNELS above x.0) (above ++ (x.0, x.1) ∷ [])) (keyed_again (codes "channel") x.1 x.0 channel_word is_channel.1 channel_small)
+      ap (λ r. r >>= λ x. unless (key_cause MAX_CHANNELS above x.0) (above ++ (x.0, x.1) ∷ [])) (keyed_again (codes "channel") x.1 x.0 (word_is kinds.Channel) is_channel.1 channel_small)
       ∙ ap (λ o. unless o (above ++ x ∷ [])) key_free
 
   pub channel_taken : (d : Draft) → Takes (channels_in d above) (bytes_line (codes "channel") x) (channels_in d (above ++ x ∷ []))
   channel_taken d =
-      takes_line (channels_in d above) (channels_in d (above ++ x ∷ [])) (codes "channel") (decimal x.0 ++ 32 ∷ encode_lower x.1) kinds.Channel channel_word channel_kind refl
-      (tail_plain (codes "channel") (encode_lower x.1) x.0 channel_word (key_word x.1 is_channel.1) channel_small) (ap (with_value (channels_in d)) keys_again)
+      takes_line (channels_in d above) (channels_in d (above ++ x ∷ [])) kinds.Channel (decimal x.0 ++ 32 ∷ encode_lower x.1)
+      (tail_plain (codes "channel") (encode_lower x.1) x.0 (word_is kinds.Channel) (key_word x.1 is_channel.1) channel_small) (ap (with_value (channels_in d)) keys_again)
 
 pub channels_go : (d : Draft) (above rest : Entries) → AreFew MAX_CHANNELS IsChannel (λ c d. c.0 ≢ d.0) (above ++ rest) → Goes (channels_in d above) (map (bytes_line (codes "channel")) rest) (channels_in d (above ++ rest))
 channels_go d =
@@ -164,7 +164,7 @@ module _ (labels : Labels) (are_labels : AreLabels labels) (above rest : List An
   anchor_again : anchor_said labels.names (anchor_line labels.names a) (32 ∷ (decimal a.key ++ 32 ∷ text)) ≡ Ok a
   unfolding anchor_said
   anchor_again =
-      ap (λ r. r >>= λ x. name_said labels.names x.1 >>= λ n. Ok (anchor_of x.0 n)) (numbered_again (codes "anchor") text a.key anchor_word text_word anchor_small)
+      ap (λ r. r >>= λ x. name_said labels.names x.1 >>= λ n. Ok (anchor_of x.0 n)) (numbered_again (codes "anchor") text a.key (word_is kinds.Anchor) text_word anchor_small)
       ∙ ap (λ r. r >>= λ n. Ok (anchor_of a.key n)) (name_again labels.names a.name text is_named)
 
   anchor_free : anchors_and above a ≡ Ok (above ++ a ∷ [])
@@ -177,8 +177,8 @@ module _ (labels : Labels) (are_labels : AreLabels labels) (above rest : List An
 
   pub anchor_taken : (d : Draft) → d.labels ≡ labels → Takes (anchors_in d above) (anchor_line labels.names a) (anchors_in d (above ++ a ∷ []))
   anchor_taken d same =
-      takes_line (anchors_in d above) (anchors_in d (above ++ a ∷ [])) (codes "anchor") (decimal a.key ++ 32 ∷ text) kinds.Anchor anchor_word anchor_kind refl
-      (tail_plain (codes "anchor") text a.key anchor_word text_word anchor_small)
+      takes_line (anchors_in d above) (anchors_in d (above ++ a ∷ [])) kinds.Anchor (decimal a.key ++ 32 ∷ text)
+      (tail_plain (codes "anchor") text a.key (word_is kinds.Anchor) text_word anchor_small)
       (subst (λ (l : Labels). with_value (anchors_in d) (anchors_with l.names above (anchor_line labels.names a) (32 ∷ (decimal a.key ++ 32 ∷ text))) ≡ Ok (anchors_in d (above ++ a ∷ []))) (sym same)
       (ap (with_value (anchors_in d)) (ap (λ r. r >>= λ a. anchors_and above a) anchor_again ∙ anchor_free)))
 
@@ -212,12 +212,12 @@ module _ (node : ℕ) (key : List ℕ) (above rest : List Certificate) (c : Cert
 
   commons_again : commons_with (Some (node, key)) above (common_line key c) (32 ∷ encode_lower bytes) ≡ Ok (above ++ c ∷ [])
   commons_again =
-      ap (λ r. r >>= λ bytes. commons_of (Some (node, key)) above bytes) (digits_again (codes "common") bytes common_word (sealed_bytes key c) some_bytes)
+      ap (λ r. r >>= λ bytes. commons_of (Some (node, key)) above bytes) (digits_again (codes "common") bytes (word_is kinds.Common) (sealed_bytes key c) some_bytes)
       ∙ ap (λ r. with_fault (λ _. causes.Certificate) r >>= λ c. commons_and above c) common_opens ∙ common_free
 
   pub common_taken : (d : Draft) → d.settings.node ≡ Some (node, key) → Takes (commons_in d above) (common_line key c) (commons_in d (above ++ c ∷ []))
   common_taken d said =
-      takes_line (commons_in d above) (commons_in d (above ++ c ∷ [])) (codes "common") (encode_lower bytes) kinds.Common common_word common_kind refl (hex_word bytes (sealed_bytes key c) some_bytes).plain
+      takes_line (commons_in d above) (commons_in d (above ++ c ∷ [])) kinds.Common (encode_lower bytes) (hex_word bytes (sealed_bytes key c) some_bytes).plain
       (subst (λ (o : Option (ℕ × List ℕ)). with_value (commons_in d) (commons_with o above (common_line key c) (32 ∷ encode_lower bytes)) ≡ Ok (commons_in d (above ++ c ∷ []))) (sym said)
       (ap (with_value (commons_in d)) commons_again))
 

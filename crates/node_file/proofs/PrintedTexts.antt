@@ -8,7 +8,7 @@ use Rattle.std.proofs.lemmas.Option.{none-some}
 use Rattle.std.proofs.lemmas.Bool.Decides.{nat_tests}
 use Rattle.prin_term.specs.Principal.{Principal, Key, Name, And, Quoting, InRole, For, HasSpelling, node_count}
 use Rattle.prin_term.specs.Refusal.{FitsLimits}
-use Rattle.prin_term.specs.Steps.{◌>>=◌, with_fault}
+use Rattle.byte_fields.specs.Steps.{◌>>=◌, with_fault}
 use Rattle.prin_term.specs.declared.limits.TheConstants.{ENTRY_NODES}
 use Rattle.prin_text.specs.Labels.{AreLabels, Labels, text_of}
 use Rattle.prin_text.specs.Meaning.{IsSpaced, tokens_of}

@@ -6,9 +6,9 @@ use Rattle.std.proofs.lemmas.List.{get_or_default}
 use Rattle.keyed_seal.specs.Keys.{Entries, IsKeyTable}
 use Rattle.keyed_seal.specs.Keys as keys
 use Rattle.object_core.specs.Objects.{ObjectPlan}
-use Rattle.prin_term.specs.Steps.{with_fault}
+use Rattle.byte_fields.specs.Steps.{with_fault}
 use Rattle.prin_term.specs.declared.term.Anchor.{Anchor}
-use Rattle.prin_term.proofs.Results.{bind_ok, chosen_ok, ok_is, with_fault_ok}
+use Rattle.byte_fields.proofs.Results.{bind_ok, chosen_ok, ok_is, with_fault_ok}
 use Rattle.prin_text.specs.Labels.{AreLabels}
 use Rattle.stmt_codec.specs.Certificates.{Certificate}
 use Rattle.node_file.specs.declared.fault.FileCause.{FileCause}

@@ -1,7 +1,7 @@
 -- What a line of a relay file does, by its first word.
 use Rattle.std.proofs.Common.{◌≡◌, ℕ, true, false, List, Option, None, Some, Result, Ok, Err, refl, ap, sym, ◌∙◌, ◌++◌, ◌∷◌, []}
 use Rattle.std.specs.Prelude.{bytes_eq, codes}
-use Rattle.prin_term.specs.Steps.{◌>>=◌, with_value}
+use Rattle.byte_fields.specs.Steps.{◌>>=◌, with_value}
 use Rattle.node_file.specs.declared.fault.FileCause.{FileCause}
 use Rattle.node_file.specs.declared.fault.FileCause.TheVariants.{UnknownWord}
 use Rattle.node_file.specs.declared.line_fault.LineFault.{LineFault}

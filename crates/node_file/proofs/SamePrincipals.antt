@@ -6,7 +6,7 @@ use Rattle.std.proofs.lemmas.Bool.Decides.{leb_tells}
 use Rattle.prin_term.specs.Principal.{Principal, depth, node_count}
 use Rattle.prin_text.proofs.Pieced.{depth-le-node_count}
 use Rattle.node_file.specs.declared.fault.FileCause.TheVariants as causes
-use Rattle.prin_term.specs.Steps.{◌>>=◌}
+use Rattle.byte_fields.specs.Steps.{◌>>=◌}
 use Rattle.prin_text.specs.Labels.{Labels, Rows, is_label}
 use Rattle.prin_text.specs.Pieces.{Piece}
 use Rattle.prin_text.specs.Reading.{Pending, Stage, Operand, One, Role, Whole, State, at_operand, at_role, finished, piece_at, principal_in, step}

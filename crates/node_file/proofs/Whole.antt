@@ -2,12 +2,12 @@
 use Rattle.std.proofs.Common.{◌≡◌, ◌⊎◌, ℕ, ◌<◌, ◌≤◌, Bool, true, false, List, length, Result, Ok, Err, refl, sym, ap, subst, ◌∙◌, arith, inl, inr}
 use Rattle.std.specs.Prelude.{IfOk, MatchResult}
 use Rattle.prin_term.specs.declared.term.Anchor.{Anchor}
-use Rattle.prin_term.proofs.Results.{ok_is, with_fault_ok}
-use Rattle.prin_term.proofs.FieldLaws.{IsBytes}
+use Rattle.byte_fields.proofs.Results.{ok_is, with_fault_ok}
+use Rattle.byte_fields.proofs.FieldLaws.{IsBytes}
 use Rattle.stmt_codec.specs.Certificates.{Certificate}
 use Rattle.node_file.specs.declared.opening.Opening as code
-use Rattle.prin_term.specs.declared.fault.FormatFault.{FormatFault}
-use Rattle.prin_term.specs.declared.fault.FormatFault.TheVariants as formats
+use Rattle.byte_fields.specs.declared.fault.FormatFault.{FormatFault}
+use Rattle.byte_fields.specs.declared.fault.FormatFault.TheVariants as formats
 use Rattle.node_file.specs.declared.fault.FileFault.{FileFault}
 use Rattle.node_file.specs.declared.fault.FileFault.TheVariants.{NoMemory}
 use Rattle.node_file.specs.declared.limits.TheConstants.{MAX_FILE}
@@ -21,7 +21,7 @@ use Rattle.node_file.specs.OpeningView.{IsReadAs, Represents}
 use Rattle.node_file.specs.declared.fault.FileCause.TheVariants.{Limit}
 use Rattle.node_file.specs.declared.fault.FileFault.TheVariants.{Line}
 use Rattle.node_file.proofs.Faults.{opening_refused}
-use Rattle.prin_term.specs.Steps.{with_fault}
+use Rattle.byte_fields.specs.Steps.{with_fault}
 use Rattle.std.proofs.lemmas.Bool.{cases_lt, le-ltb, lt-ltb}
 use Rattle.node_file.proofs.OpeningLaws.{opening_takes, opening_again}
 

@@ -3,7 +3,7 @@ use Rattle.std.specs.Prelude.{ℕ, ◌&&◌, not, nat_le, nat_lt, if◌then◌el
 use Rattle.std.specs.Prelude.{List, length, Option, Some, None, Result, Ok, Err}
 use Rattle.hex.specs.Hex.{decode_of, decode_sized}
 use Rattle.hex.specs.declared.error.FromHexError.{FromHexError}
-use Rattle.prin_term.specs.Steps.{◌>>=◌}
+use Rattle.byte_fields.specs.Steps.{◌>>=◌}
 use Rattle.prin_text.specs.Words.{are_digits, has_leading_zero, rights_of, value_after}
 use Rattle.node_file.specs.declared.fault.FileCause.{FileCause}
 use Rattle.node_file.specs.declared.fault.FileCause.TheVariants.{Words, Number, Hex, Rights}

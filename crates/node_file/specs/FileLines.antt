@@ -3,7 +3,7 @@ use Rattle.std.specs.Prelude.{ℕ, ◌+◌, Bool, ◌&&◌, ◌||◌, ◌==◌, 
 use Rattle.std.specs.Prelude.{if◌then◌else◌, is_some}
 use Rattle.std.specs.Prelude.{List, [], ◌∷◌, ◌++◌, length, Option, Some, None, Result, Ok, Err}
 use Rattle.keyed_seal.specs.Keys.{Entries, key_of}
-use Rattle.prin_term.specs.Steps.{◌>>=◌, with_fault}
+use Rattle.byte_fields.specs.Steps.{◌>>=◌, with_fault}
 use Rattle.prin_text.specs.Labels.{Rows, is_label, number_of, text_of}
 use Rattle.node_file.specs.declared.fault.FileCause.{FileCause}
 use Rattle.node_file.specs.declared.fault.FileCause.TheVariants.{FirstLine, Text, Twice, Limit}

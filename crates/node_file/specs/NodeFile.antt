@@ -5,7 +5,7 @@ use Rattle.std.specs.Option.{unwrap_or}
 use Rattle.keyed_seal.specs.Keys.{Entries}
 use Rattle.object_core.specs.Objects.{ObjectPlan}
 use Rattle.prin_term.specs.declared.term.Anchor.{Anchor}
-use Rattle.prin_term.specs.Steps.{◌>>=◌, with_fault, with_value}
+use Rattle.byte_fields.specs.Steps.{◌>>=◌, with_fault, with_value}
 use Rattle.prin_text.specs.Labels.{Labels, Rows}
 use Rattle.prin_text.specs.declared.limits.TheConstants.{MAX_NAMES, MAX_ROLES}
 use Rattle.stmt_codec.specs.Certificates.{Certificate}

@@ -6,11 +6,11 @@ use Rattle.object_core.specs.Objects.{ObjectPlan, object_of}
 use Rattle.object_core.specs.declared.limits.TheConstants.{MAX_CONTENT, MAX_ENTRIES}
 use Rattle.prin_term.specs.declared.limits.TheConstants.{ENTRY_NODES}
 use Rattle.prin_term.specs.declared.term.Anchor.{Anchor}
-use Rattle.prin_term.specs.Formats.{is_within}
+use Rattle.byte_fields.specs.Formats.{is_within}
 use Rattle.prin_term.specs.Principal as terms
 use Rattle.prin_term.specs.Principal.{node_count}
-use Rattle.prin_term.specs.Readers.{is_new}
-use Rattle.prin_term.specs.Steps.{◌>>=◌, with_fault}
+use Rattle.byte_fields.specs.Readers.{is_new}
+use Rattle.byte_fields.specs.Steps.{◌>>=◌, with_fault}
 use Rattle.prin_term.specs.View.{Grant}
 use Rattle.prin_text.specs.Labels.{Labels, Rows, number_of}
 use Rattle.prin_text.specs.Reading.{principal_in}

@@ -8,7 +8,7 @@ use Rattle.object_core.specs.Objects.{ObjectPlan}
 use Rattle.object_core.specs.Operation.{IsContent, IsAccessList}
 use Rattle.prin_term.specs.declared.term.Anchor.{Anchor}
 use Rattle.object_core.specs.Spelling.{content_bytes, list_bytes}
-use Rattle.prin_term.specs.Steps.{IsByte, counted}
+use Rattle.byte_fields.specs.Steps.{IsByte, counted}
 use Rattle.prin_text.specs.Labels.{Labels, AreLabels}
 use Rattle.sealed_cert.specs.declared.kind.TheConstants.{RELAYED}
 use Rattle.sealed_cert.specs.Seals.{sealed}

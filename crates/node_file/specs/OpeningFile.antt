@@ -1,7 +1,7 @@
 -- What a node file means, in either form.
 use Rattle.std.specs.Prelude.{◌≡◌, ◌⊎◌, ℕ, Bool, false, ◌==◌, nat_lt, if◌then◌else◌}
 use Rattle.std.specs.Prelude.{List, [], ◌∷◌, length, Result, Ok, Err}
-use Rattle.prin_term.specs.Steps.{with_fault}
+use Rattle.byte_fields.specs.Steps.{with_fault}
 use Rattle.node_file.specs.declared.fault.FileCause.TheVariants.{Limit}
 use Rattle.node_file.specs.declared.fault.FileFault.{FileFault}
 use Rattle.node_file.specs.declared.fault.FileFault.TheVariants.{Line}

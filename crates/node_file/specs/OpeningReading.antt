@@ -4,11 +4,11 @@ use Rattle.std.specs.Prelude.{◌==◌, if◌then◌else◌}
 use Rattle.keyed_seal.specs.Keys.{Entries}
 use Rattle.object_core.specs.Reading.{content_at, list_at}
 use Rattle.prin_term.specs.declared.term.Anchor.{Anchor}
-use Rattle.prin_term.specs.declared.fault.FormatFault.{FormatFault}
-use Rattle.prin_term.specs.declared.fault.FormatFault.TheVariants.{Malformed, NoMemory}
-use Rattle.prin_term.specs.Formats.{FormatReader, ended, u8_in, u16_in, u32_in, u64_in, within}
-use Rattle.prin_term.specs.Readers.{followed, passing, made, counted, is_new}
-use Rattle.prin_term.specs.Steps.{◌>>=◌, with_fault, bytes_at}
+use Rattle.byte_fields.specs.declared.fault.FormatFault.{FormatFault}
+use Rattle.byte_fields.specs.declared.fault.FormatFault.TheVariants.{Malformed, NoMemory}
+use Rattle.byte_fields.specs.Formats.{FormatReader, ended, u8_in, u16_in, u32_in, u64_in, within}
+use Rattle.byte_fields.specs.Readers.{followed, passing, made, counted, is_new}
+use Rattle.byte_fields.specs.Steps.{◌>>=◌, with_fault, bytes_at}
 use Rattle.sealed_cert.specs.Refusals.{opened}
 use Rattle.stmt_codec.specs.Certificates.{Certificate}
 use Rattle.stmt_codec.specs.Equality.{same_certificate}

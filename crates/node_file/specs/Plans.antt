@@ -1,8 +1,10 @@
 -- Objects by ascending number, and one more of them.
-use Rattle.std.specs.Prelude.{◌≡◌, ◌≢◌, ℕ, ◌+◌, ◌<◌, ◌≤◌, List, [], length, map, slice_index_or, Some}
+use Rattle.std.specs.Prelude.{◌≡◌, ◌≢◌, ℕ, ◌+◌, List, [], length, map, Some}
 use Rattle.std.specs.Option.{option_map}
 use Rattle.std.specs.Arc.{arc_value}
 use Rattle.prin_term.specs.View.{grant}
+use Rattle.number_rows.specs.Rows as rows
+use Rattle.node_file.specs.declared.object_drafts.ObjectDraft.{ObjectDraft}
 use Rattle.node_file.specs.declared.object_plan.ObjectPlan as code
 use Rattle.object_core.specs.Objects.{ObjectPlan, object_of}
 
@@ -14,26 +16,33 @@ plan p = record {
   list = map grant (arc_value p.list).items;
 }
 
+-- the object that a gathered one stands for, which is kept under its number
+abbrev pub drafted : ℕ × ObjectDraft → ObjectPlan
+drafted e = record {
+  number = e.0;
+  content = e.1.content.items;
+  list = map grant e.1.list.items;
+}
+
+-- what stands where there is no object
+abbrev pub nothing : ObjectPlan
+nothing = record { number = 0; content = []; list = [] }
+
 -- the number of the object at place i
 abbrev pub number_at : List ObjectPlan → ℕ → ℕ
-number_at plans i =
-    let p = slice_index_or plans i (record { number = 0; content = []; list = [] }) in p.number
+number_at plans i = rows.number_at (λ p. p.number) nothing plans i
 
 -- the numbers rise, so no number comes twice
 abbrev pub AreByNumber : List ObjectPlan → Type 0
-AreByNumber plans =
-    (i j : ℕ) → i < j → j < length plans → number_at plans i < number_at plans j
+AreByNumber plans = rows.IsAscending (λ p. p.number) nothing plans
 
 -- the object at place i has the number
-pub record IsAt (plans : List ObjectPlan) (number i : ℕ) : Type 0 where
-  pub in_range : i < length plans
-  pub has_number : number_at plans i ≡ number
+abbrev pub IsAt : List ObjectPlan → ℕ → ℕ → Type 0
+IsAt plans number i = rows.IsAt (λ p. p.number) nothing plans number i
 
 -- the number would go at place i: smaller numbers before it, and greater ones from it on
-pub record IsGapFor (plans : List ObjectPlan) (number i : ℕ) : Type 0 where
-  pub in_range : i ≤ length plans
-  pub smaller_before : (j : ℕ) → j < i → number_at plans j < number
-  pub greater_after : (j : ℕ) → i ≤ j → j < length plans → number < number_at plans j
+abbrev pub IsGapFor : List ObjectPlan → ℕ → ℕ → Type 0
+IsGapFor plans number i = rows.IsGapFor (λ p. p.number) nothing plans number i
 
 -- the new objects are the old ones and this one, found by its number
 pub record AddsPlan (old new : List ObjectPlan) (p : ObjectPlan) : Type 0 where

@@ -9,26 +9,27 @@ ghost use Rattle.node_file.specs.Held.{HoldsKeys, HoldsRows};
 ghost use Rattle.node_file.specs.LineView.{TakesLine, fault_of};
 
 use crate::fault::FileCause;
+use crate::key_draft::KeyDraft;
 use crate::line_fault::LineFault;
-use keyed_seal::KeyTable;
 use prin_text::{Names, NamesFault};
 use std::alloc::Global;
 use std::str::from_utf8;
 
-// Gives a number a key, where the table has room for so many.
-pub(crate) fn add_key(table: &mut KeyTable, number: u32, key: [u8; 32]) -> Result<(), LineFault>
+// Gives a number a key, where there is room for one more.
+pub(crate) fn add_key(table: &mut KeyDraft, number: u32, key: [u8; 32]) -> Result<(), LineFault>
     ensures takes { (keys : Entries) → HoldsKeys table.old keys
         → TakesLine HoldsKeys result table.new
         (unless (key_cause table.old.room keys number) (keys ++ (number, key) ∷ [])) }
     ensures room { table.new.room ≡ table.old.room }
 {
-    if table.get(number).is_some() {
+    if table.has(number) {
         return Err(LineFault::Refused(FileCause::Twice));
     }
-    match table.add(number, key) {
-        Ok(()) => Ok(()),
-        Err(_) => Err(LineFault::Refused(FileCause::Limit)),
+    if table.is_full() {
+        return Err(LineFault::Refused(FileCause::Limit));
     }
+    table.add(number, key)?;
+    Ok(())
 }
 
 // Why the line of a text is refused.

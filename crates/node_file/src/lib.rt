@@ -3,10 +3,12 @@
 
 mod adding;
 mod fault;
+mod key_draft;
 mod laws;
 mod limits;
 mod line_fault;
 mod node_text;
+mod object_drafts;
 mod object_plan;
 mod object_plans;
 mod opening;

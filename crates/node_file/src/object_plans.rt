@@ -1,19 +1,12 @@
 //! The objects that a node is opened with.
 
-ghost use Rattle.std.specs.Prelude.{◌≡◌, ◌↔◌, [], length, IsOk, IfOk, IfErr, OnOk, OnErr, IsSome};
-ghost use Rattle.std.specs.Prelude.{None, map, slice_get};
+ghost use Rattle.std.specs.Prelude.{◌≡◌, length, map, slice_get, IfOk, IfErr};
 ghost use Rattle.std.specs.Option.{option_map};
 ghost use Rattle.object_core.specs.Objects.{object_of};
-ghost use Rattle.prin_term.specs.View.{grant};
-ghost use Rattle.std.specs.Arc.{arc_value};
-ghost use Rattle.node_file.specs.NodeLines.{with_content, with_list};
-ghost use Rattle.node_file.specs.Plans.{AddsPlan, AreByNumber, ChangesPlan, IsAt, IsGapFor, plan};
+ghost use Rattle.node_file.specs.Plans.{AreByNumber, IsAt, IsGapFor, plan};
 
 use crate::object_plan::ObjectPlan;
-use prin_term::Entry;
-use std::alloc::{AllocError, Global};
 use std::marker::Model;
-use std::sync::Arc;
 
 /// Objects with numbers of their own. A contract sees their list, ascending by number.
 #[derive(Debug, Drop)]
@@ -38,24 +31,12 @@ impl Model for ObjectPlans {
 }
 
 impl ObjectPlans {
-    /// No objects.
-    pub fn new(alloc: Global) -> ObjectPlans
-        ensures { result ≡ [] }
+    /// These objects, whose numbers rise.
+    pub fn of(plans: Vec<ObjectPlan>) -> ObjectPlans
+        requires { AreByNumber (map plan plans.items) }
+        ensures { result ≡ map plan plans.items }
     {
-        ObjectPlans {
-            plans: Vec::new(alloc),
-        }
-    }
-
-    /// Adds an object of a number that `get` does not find. An `Err` changes nothing.
-    pub fn add(&mut self, object: ObjectPlan) -> Result<(), AllocError>
-        requires { object_of self.old object.number ≡ None }
-        ensures added { OnOk result (AddsPlan self.old self.new (plan object)) }
-        ensures unchanged { OnErr result (self.new ≡ self.old) }
-    {
-        let place = self.gap_for(object.number);
-        self.plans.insert(place, object)?;
-        Ok(())
+        ObjectPlans { plans }
     }
 
     /// The object of a number.
@@ -82,36 +63,6 @@ impl ObjectPlans {
         ensures sound { AreByNumber self.now }
     {
         self.plans.get(place)
-    }
-
-    // Gives the object of a number, where there is one, this content.
-    pub(crate) fn set_content(&mut self, number: u32, content: Vec<u8>)
-        ensures { ChangesPlan self.old self.new number (with_content content.items) }
-    {
-        if let Ok(place) = self.place_of(number) {
-            self.plans[place].content = content;
-        }
-    }
-
-    // Gives the object of a number, where there is one, this access list.
-    pub(crate) fn set_list(&mut self, number: u32, list: Arc<Vec<Entry>>)
-        ensures { ChangesPlan self.old self.new number
-            (with_list (map grant (arc_value list).items)) }
-    {
-        if let Ok(place) = self.place_of(number) {
-            self.plans[place].list = list;
-        }
-    }
-
-    // Where a number that is not there would go.
-    fn gap_for(&self, number: u32) -> usize
-        requires { object_of self.now number ≡ None }
-        ensures { IsGapFor self.now number result }
-    {
-        match self.place_of(number) {
-            Ok(place) => place,
-            Err(place) => place,
-        }
     }
 
     // Where the number is, or where it would go.

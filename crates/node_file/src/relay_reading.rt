@@ -1,41 +1,60 @@
 //! Reading a relay file.
 
-ghost use Rattle.std.specs.Prelude.{◌≡◌, IfOk, Option, codes, true};
+ghost use Rattle.std.specs.Prelude.{◌≡◌, IfOk, Ok, Option, codes, true};
 ghost use Rattle.node_file.specs.FileLines.{first_or, is_first_line};
 ghost use Rattle.node_file.specs.RelayFile as meant;
 ghost use Rattle.node_file.specs.RelayFile.{no_relay, relay_in, relay_step};
 ghost use Rattle.node_file.specs.LineView.{IsReadFor, TakesLine};
-ghost use Rattle.node_file.specs.RelayView.{StandsFor, StandsSoFar};
+ghost use Rattle.node_file.specs.RelayView.{IsRelayDraft, StandsFor, StandsSoFar};
 
 use crate::fault::{FileCause, FileFault};
+use crate::key_draft::KeyDraft;
 use crate::limits::{MAX_FILE, MAX_ISSUERS, MAX_NODES};
 use crate::line_fault::LineFault;
 use crate::relay_file::RelayFile;
 use crate::taking::{take_key, take_name, take_role};
 use crate::text::line::line_at;
 use crate::text::word::{is_first_line, is_skipped, is_word, word_off};
-use keyed_seal::KeyTable;
 use prin_text::Names;
 use relay_core::RelayTable;
 use std::alloc::{AllocError, Global};
 
+// What the lines say so far.
+#[derive(Drop)]
+struct RelayDraft {
+    issuers: KeyDraft,
+    nodes: KeyDraft,
+    names: Names,
+}
+
 // Nothing is known.
-fn empty(alloc: Global) -> Result<RelayFile, AllocError>
-    ensures { IfOk result (λ file. StandsFor file no_relay) }
+fn empty(alloc: Global) -> Result<RelayDraft, AllocError>
+    ensures { IfOk result (λ file. IsRelayDraft file no_relay) }
 {
-    Ok(RelayFile {
-        table: RelayTable {
-            issuers: KeyTable::new(alloc, MAX_ISSUERS)?,
-            nodes: KeyTable::new(alloc, MAX_NODES)?,
-        },
+    Ok(RelayDraft {
+        issuers: KeyDraft::new(alloc, MAX_ISSUERS),
+        nodes: KeyDraft::new(alloc, MAX_NODES),
         names: Names::new(alloc)?,
     })
 }
 
+// The relay file that the lines say.
+fn file_of(alloc: Global, draft: RelayDraft) -> Result<RelayFile, FileFault>
+    ensures { (r : meant.RelayFile) → IsRelayDraft draft r → IsReadFor StandsFor result (Ok r) }
+{
+    Ok(RelayFile {
+        table: RelayTable {
+            issuers: draft.issuers.table(alloc)?,
+            nodes: draft.nodes.table(alloc)?,
+        },
+        names: draft.names,
+    })
+}
+
 // What a line says is added, or nothing.
-fn take_line(alloc: Global, file: &mut RelayFile, line: &[u8]) -> Result<(), LineFault>
-    ensures takes { (above : meant.RelayFile) → StandsFor file.old above
-        → TakesLine StandsFor result file.new (relay_step above line.now) }
+fn take_line(alloc: Global, file: &mut RelayDraft, line: &[u8]) -> Result<(), LineFault>
+    ensures takes { (above : meant.RelayFile) → IsRelayDraft file.old above
+        → TakesLine IsRelayDraft result file.new (relay_step above line.now) }
 {
     let (word, rest) = word_off(line);
     if is_word(word, "name") {
@@ -45,16 +64,16 @@ fn take_line(alloc: Global, file: &mut RelayFile, line: &[u8]) -> Result<(), Lin
         return take_role(alloc, &mut file.names, line, rest);
     }
     if is_word(word, "issuer") {
-        return take_key(&mut file.table.issuers, line, rest);
+        return take_key(&mut file.issuers, line, rest);
     }
     if is_word(word, "node") {
-        return take_key(&mut file.table.nodes, line, rest);
+        return take_key(&mut file.nodes, line, rest);
     }
     Err(LineFault::Refused(FileCause::UnknownWord))
 }
 
 // The first line says what file it is, and each behind it adds to it.
-fn take_any(alloc: Global, file: &mut RelayFile, begun: bool, line: &[u8]) -> Result<(), LineFault>
+fn take_any(alloc: Global, file: &mut RelayDraft, begun: bool, line: &[u8]) -> Result<(), LineFault>
     ensures takes { (so_far : Option meant.RelayFile) → StandsSoFar begun file.old so_far
         → TakesLine (StandsSoFar true) result file.new
         (first_or (is_first_line (codes "taos-relay")) no_relay relay_step so_far line.now) }
@@ -92,7 +111,7 @@ pub fn read_relay_file(alloc: Global, bytes: &[u8]) -> Result<RelayFile, FileFau
         at = next;
     }
     if begun {
-        Ok(file)
+        file_of(alloc, file)
     } else {
         Err(LineFault::Refused(FileCause::FirstLine).at(number + 1))
     }

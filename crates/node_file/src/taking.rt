@@ -9,9 +9,9 @@ ghost use Rattle.node_file.specs.Held.{HoldsKeys, HoldsRows};
 ghost use Rattle.node_file.specs.LineView.{TakesLine};
 
 use crate::adding::{add_key, add_name, add_role};
+use crate::key_draft::KeyDraft;
 use crate::line_fault::LineFault;
 use crate::text::field::{keyed, numbered};
-use keyed_seal::KeyTable;
 use prin_text::Names;
 use std::alloc::Global;
 
@@ -52,7 +52,7 @@ pub(crate) fn take_role(
 }
 
 // Gives a number the key that the line says.
-pub(crate) fn take_key(table: &mut KeyTable, line: &[u8], rest: &[u8]) -> Result<(), LineFault>
+pub(crate) fn take_key(table: &mut KeyDraft, line: &[u8], rest: &[u8]) -> Result<(), LineFault>
     ensures takes { (keys : Entries) → HoldsKeys table.old keys
         → TakesLine HoldsKeys result table.new
         (keys_with table.old.room keys line.now rest.now) }

@@ -2,17 +2,17 @@
 use Rattle.std.proofs.Common.{◌≡◌, ◌≢◌, ℕ, zero, suc, ◌+◌, ◌<◌, ◌≤◌, false, not, cond, List, [], ◌∷◌, ◌++◌, length, map, take, get_or, Some, Result, Ok, Err, slice_get, refl, sym, ap, ap₂, subst, ◌∙◌, arith, inl, inr, ◌⊎◌}
 use Rattle.std.specs.Prelude.{AllPairs, Contains, MatchResult, ◌==◌}
 use Rattle.std.specs.List.{position_or_len}
-use Rattle.std.specs.List.Sorted.{IsSearchInRange, IsBinarySearchResult, IsNonDecreasingBy, IsPermutation}
-use Rattle.std.specs.Ordering.{nat_cmp, ordering_index}
+use Rattle.std.specs.List.Sorted.{IsSearchInRange, IsBinarySearchResult, IsPermutation}
+use Rattle.std.specs.Ordering.{nat_cmp}
 use Rattle.std.proofs.lemmas.Bool.{cases_lt, eq-eqb}
-use Rattle.std.proofs.lemmas.Bool.Decides.{nat_tests, eqb_tells}
-use Rattle.std.proofs.lemmas.Cmp.{ranked}
-use Rattle.std.proofs.lemmas.List.{length-map, length-take-le, map-append, map_more}
+use Rattle.std.proofs.lemmas.Bool.Decides.{eqb_tells}
+use Rattle.std.proofs.lemmas.List.{get_or_default, length-map, length-take-le, map-append, map_more}
 use Rattle.std.proofs.lemmas.List.Elements.{All-append, All-cons, All-nil, All-contains, Contains-append_left, Contains-append_right}
 use Rattle.std.proofs.lemmas.List.Folds.{find_at}
 use Rattle.std.proofs.lemmas.List.Sorted.{All-permutation, Contains-permutation}
 use Rattle.std.proofs.lemmas.List.Sums.{position_or_len_is}
 use Rattle.std.proofs.lemmas.Option.{slice_get_within, slice_get-get_or, get_or_from_slice_get}
+use Rattle.number_rows.proofs.Places.{search_ends}
 use Rattle.object_core.specs.declared.rows.Row.{Row}
 use Rattle.object_core.specs.Numbered.{row, AreRowsOf, AreAscending, HasNumberAt, LacksNumber}
 use Rattle.object_core.specs.Objects.{ObjectSeen}
@@ -70,27 +70,25 @@ rows_moved ns rows later moved are = record {
 
 -- ---- which row is found
 
-module _ (rows : List Row) (ascending : AreAscending rows) (n : ℕ) where
-  -- the comparisons with n rise along the rows, as a binary search asks
-  comparisons_rise : IsNonDecreasingBy (λ (r : Row). ordering_index (nat_cmp r.number n)) rows
-  comparisons_rise i j d le in_range =
-      let up : (get_or rows i d).number ≤ (get_or rows j d).number = ascending i j d le in_range in
-      grind (arith, nat_tests)
+-- a row that stands nowhere
+nowhere : Row
+nowhere = row 0 0
 
-  pub searched : (r : Result ℕ ℕ) → IsSearchInRange r (length rows) → IsBinarySearchResult (λ (x : Row). nat_cmp x.number n) rows r →
-      MatchResult r (HasNumberAt rows n) (λ _. LacksNumber rows n)
-  searched (Ok at) in_range equal = (in_range, λ d. ranked _ n _ (sym (equal d)))
-  searched (Err at) in_range parted = λ place there.
-      let k : ℕ = there.0 in
-      let d : Row = row n place in
-      let lt : k < length rows = there.1 in
-      let number : (get_or rows k d).number ≡ n = ap (λ (r : Row). r.number) there.2 in
-      let below : k < at → (get_or rows k d).number < n = λ before. ranked _ n _ (sym ((parted comparisons_rise).0 k d (omega arith) before)) in
-      let above : at ≤ k → n < (get_or rows k d).number = λ after. ranked _ n _ (sym ((parted comparisons_rise).1 k d after lt)) in
-      elim (cases_lt k at) [
-        | inl before ↦ (let lower = below before in omega (arith, number, lower))
-        | inr after ↦ (let higher = above after in omega (arith, number, higher))
-      ]
+-- a binary search by number ends at the number, or where no row has it
+pub searched : (rows : List Row) → AreAscending rows → (n : ℕ) (r : Result ℕ ℕ) → IsSearchInRange r (length rows) → IsBinarySearchResult (λ (x : Row). nat_cmp x.number n) rows r →
+    MatchResult r (HasNumberAt rows n) (λ _. LacksNumber rows n)
+searched rows ascending n (Ok at) in_range equal =
+    let ends = search_ends (λ (x : Row). x.number) nowhere rows ascending n (Ok at) in_range equal in
+    (in_range, λ d. ap (λ (x : Row). x.number) (get_or_default rows at d nowhere in_range) ∙ ends.0.has_number)
+searched rows ascending n (Err at) in_range parted = λ place there.
+    let gap = (search_ends (λ (x : Row). x.number) nowhere rows ascending n (Err at) in_range parted).1 in
+    let k : ℕ = there.0 in
+    let lt : k < length rows = there.1 in
+    let number : (get_or rows k nowhere).number ≡ n = ap (λ (x : Row). x.number) (get_or_default rows k nowhere (row n place) lt ∙ there.2) in
+    elim (cases_lt k at) [
+      | inl before ↦ (let lower = gap.smaller_before k before in omega (arith, number, lower))
+      | inr after ↦ (let higher = gap.greater_after k after lt in omega (arith, number, higher))
+    ]
 
 -- the row at the place that was found
 pub found_row : (rows : List Row) (n at : ℕ) (x : Row) → HasNumberAt rows n at → x ≡ get_or rows at x → Contains rows (row n x.place)

@@ -2,10 +2,12 @@
 use Rattle.std.proofs.Common.{ℕ, List, ◌++◌}
 use Rattle.std.specs.Int.{w16}
 use Rattle.object_core.specs.Reading.{content_at, entry_at, list_at}
-use Rattle.prin_term.specs.declared.fault.FormatFault.TheVariants.{Malformed}
-use Rattle.prin_term.specs.Formats.{ended, seen_as, u8_in}
-use Rattle.prin_term.proofs.Cuts.{Cuts, cuts_followed, cuts_passing, cuts_made, cuts_counted, cuts_byte, cuts_bytes, cuts_number, cuts_term}
-use Rattle.prin_term.proofs.FieldLaws.{IsBytes}
+use Rattle.byte_fields.specs.declared.fault.FormatFault.TheVariants.{Malformed}
+use Rattle.byte_fields.specs.Formats.{ended, u8_in}
+use Rattle.prin_term.specs.TermFields.{seen_as}
+use Rattle.byte_fields.proofs.Cuts.{Cuts, cuts_followed, cuts_passing, cuts_made, cuts_counted, cuts_byte, cuts_bytes, cuts_number}
+use Rattle.prin_term.proofs.TermCuts.{cuts_term}
+use Rattle.byte_fields.proofs.FieldLaws.{IsBytes}
 
 module _ (front more : List ℕ) (ok : IsBytes (front ++ more)) where
   byte_cut : Cuts front (ended front) (u8_in front) (u8_in (front ++ more))

@@ -1,10 +1,11 @@
 -- A content and an access list that are refused are refused at one of the bytes or right after the last.
 use Rattle.std.proofs.Common.{List, ℕ}
-use Rattle.prin_term.specs.declared.fault.FormatFault.TheVariants.{Malformed}
-use Rattle.prin_term.specs.Formats.{IsFaultIn}
-use Rattle.prin_term.proofs.FieldLaws.{IsBytes}
-use Rattle.prin_term.proofs.FormatPlaces.{here, u8_stays, u16_stays, within_stays, text_stays, term_in_stays}
-use Rattle.prin_term.proofs.Staying.{Stays, stays_followed, stays_passing, stays_made, stays_counted}
+use Rattle.byte_fields.specs.declared.fault.FormatFault.TheVariants.{Malformed}
+use Rattle.byte_fields.specs.Formats.{IsFaultIn}
+use Rattle.byte_fields.proofs.FieldLaws.{IsBytes}
+use Rattle.byte_fields.proofs.FormatPlaces.{here, u8_stays, u16_stays, within_stays, text_stays}
+use Rattle.prin_term.proofs.TermPlaces.{term_in_stays}
+use Rattle.byte_fields.proofs.Staying.{Stays, stays_followed, stays_passing, stays_made, stays_counted}
 use Rattle.object_core.specs.Reading.{content_at, entry_at, list_at}
 
 module _ (bytes : List ℕ) where

@@ -6,14 +6,15 @@ use Rattle.object_core.specs.declared.limits.TheConstants.{MAX_CONTENT, MAX_ENTR
 use Rattle.object_core.specs.Operation.{FitsGrant, IsContent, IsAccessList}
 use Rattle.object_core.specs.Reading.{content_at, entry_at, list_at}
 use Rattle.object_core.specs.Spelling.{content_bytes, grant_bytes, list_bytes, IsContentAt, IsListAt}
-use Rattle.prin_term.specs.declared.fault.FormatFault.TheVariants.{Malformed}
+use Rattle.byte_fields.specs.declared.fault.FormatFault.TheVariants.{Malformed}
 use Rattle.prin_term.specs.declared.limits.TheConstants.{ENTRY_NODES}
-use Rattle.prin_term.specs.Formats.{ended, seen_as}
+use Rattle.byte_fields.specs.Formats.{ended}
+use Rattle.prin_term.specs.TermFields.{seen_as}
 use Rattle.prin_term.specs.View.{Grant}
-use Rattle.prin_term.proofs.FieldLaws.{IsBytes}
-use Rattle.prin_term.proofs.FieldReaders.{reads_term}
-use Rattle.prin_term.proofs.FormatFields.{reads_u8, reads_u16, reads_u8_in}
-use Rattle.prin_term.proofs.ReaderLaws.{Reads, reads_bytes, reads_followed, reads_passing, reads_made, reads_each}
+use Rattle.byte_fields.proofs.FieldLaws.{IsBytes}
+use Rattle.prin_term.proofs.TermReaders.{reads_term}
+use Rattle.byte_fields.proofs.FormatFields.{reads_u8, reads_u16, reads_u8_in}
+use Rattle.byte_fields.proofs.ReaderLaws.{Reads, reads_bytes, reads_followed, reads_passing, reads_made, reads_each}
 
 module _ (bytes : List ℕ) where
   pub reads_content : Reads bytes (content_at bytes) content_bytes IsContent

@@ -2,7 +2,7 @@
 use Rattle.std.specs.Prelude.{ℕ, ◌≤◌, ◌<◌, ◌^◌, List, length, All}
 use Rattle.prin_term.specs.declared.limits.TheConstants.{ENTRY_NODES}
 use Rattle.prin_term.specs.Refusal.{FitsLimits}
-use Rattle.prin_term.specs.Steps.{IsByte, AreBytes}
+use Rattle.byte_fields.specs.Steps.{IsByte, AreBytes}
 use Rattle.prin_term.specs.View.{Grant}
 use Rattle.object_core.specs.declared.limits.TheConstants.{MAX_CONTENT, MAX_ENTRIES, MAX_RIGHTS}
 

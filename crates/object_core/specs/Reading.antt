@@ -1,11 +1,12 @@
 -- Reading a content and an access list from left to right, with the first fault that is met.
 use Rattle.std.specs.Prelude.{ℕ, List}
 use Rattle.object_core.specs.declared.limits.TheConstants.{MAX_CONTENT, MAX_ENTRIES, MAX_RIGHTS}
-use Rattle.prin_term.specs.declared.fault.FormatFault.TheVariants.{Malformed}
+use Rattle.byte_fields.specs.declared.fault.FormatFault.TheVariants.{Malformed}
 use Rattle.prin_term.specs.declared.limits.TheConstants.{ENTRY_NODES}
-use Rattle.prin_term.specs.Formats.{FormatReader, ended, u8_in, u16_in, within, at_most, term_in}
-use Rattle.prin_term.specs.Readers.{followed, made, counted}
-use Rattle.prin_term.specs.Steps.{bytes_at}
+use Rattle.byte_fields.specs.Formats.{FormatReader, ended, u8_in, u16_in, within, at_most}
+use Rattle.prin_term.specs.TermFields.{term_in}
+use Rattle.byte_fields.specs.Readers.{followed, made, counted}
+use Rattle.byte_fields.specs.Steps.{bytes_at}
 use Rattle.prin_term.specs.View.{Grant}
 
 -- a content, after its length

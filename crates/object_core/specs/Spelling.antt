@@ -3,7 +3,7 @@ use Rattle.std.specs.Prelude.{◌≡◌, ℕ, List, ◌∷◌, ◌++◌, length,
 use Rattle.std.specs.Int.{w16}
 use Rattle.std.specs.List.{flat_map}
 use Rattle.prin_term.specs.Principal.{spelling}
-use Rattle.prin_term.specs.Steps.{counted}
+use Rattle.byte_fields.specs.Steps.{counted}
 use Rattle.prin_term.specs.View.{Grant}
 use Rattle.object_core.specs.Operation.{IsContent, IsAccessList}
 

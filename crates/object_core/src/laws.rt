@@ -4,9 +4,9 @@ ghost use Rattle.std.specs.Prelude.{◌≡◌, ◌↔◌, ◌+◌, ◌≤◌, �
 ghost use Rattle.object_core.specs.Objects.{ChangesByGrants, StaysWhenDenied};
 ghost use Rattle.object_core.specs.Reading.{content_at, list_at};
 ghost use Rattle.object_core.specs.Spelling.{content_bytes, list_bytes, IsContentAt, IsListAt};
-ghost use Rattle.prin_term.specs.declared.fault.FormatFault.{FormatFault};
-ghost use Rattle.prin_term.specs.Formats.{IsFaultIn};
-ghost use Rattle.prin_term.specs.Steps.{IsByte};
+ghost use Rattle.byte_fields.specs.declared.fault.FormatFault.{FormatFault};
+ghost use Rattle.byte_fields.specs.Formats.{IsFaultIn};
+ghost use Rattle.byte_fields.specs.Steps.{IsByte};
 ghost use Rattle.prin_term.specs.View.{Grant};
 
 /// Reading as a function gives exactly the content that is spelled at the offset within the limit,

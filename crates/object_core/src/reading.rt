@@ -2,14 +2,14 @@
 
 ghost use Rattle.std.specs.Prelude.{◌≡◌, ◌≤◌, [], length, map, IfOk};
 ghost use Rattle.object_core.specs.Reading.{content_at, entry_at, list_at};
-ghost use Rattle.prin_term.specs.declared.fault.FormatFault.TheVariants.{NoMemory};
-ghost use Rattle.prin_term.specs.Readers.{items_behind};
-ghost use Rattle.prin_term.specs.Steps.{Gives};
+ghost use Rattle.byte_fields.specs.declared.fault.FormatFault.TheVariants.{NoMemory};
+ghost use Rattle.byte_fields.specs.Readers.{items_behind};
+ghost use Rattle.byte_fields.specs.Steps.{Gives};
 ghost use Rattle.prin_term.specs.View.{grant};
 
 use crate::limits::{MAX_CONTENT, MAX_ENTRIES, MAX_RIGHTS};
-use prin_term::fields::{byte_within, count_up_to, ended, length_up_to, slice_at};
-use prin_term::{ENTRY_NODES, Entry, FormatFault, read_term};
+use byte_fields::{FormatFault, byte_within, count_up_to, ended, length_up_to, slice_at};
+use prin_term::{ENTRY_NODES, Entry, read_term};
 use std::alloc::Global;
 
 /// The content that is spelled at `at`, after its length, and the offset after it.

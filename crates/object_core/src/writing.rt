@@ -3,7 +3,7 @@
 ghost use Rattle.std.specs.Prelude.{◌<◌, length, map};
 ghost use Rattle.std.specs.List.{flat_map};
 ghost use Rattle.object_core.specs.Spelling.{grant_bytes, list_bytes};
-ghost use Rattle.prin_term.specs.Appends.{Appends, Pushes};
+ghost use Rattle.byte_fields.specs.Appends.{Appends, Pushes};
 ghost use Rattle.prin_term.specs.View.{grant};
 
 use prin_term::{Entry, write_term};

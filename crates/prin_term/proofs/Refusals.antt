@@ -4,12 +4,12 @@ use Rattle.prin_term.specs.declared.fault.TermFault.{TermFault}
 use Rattle.prin_term.specs.declared.fault.TermFault.TheVariants.{Tag, TooDeep, TooLarge, Short, NoMemory}
 use Rattle.prin_term.specs.Principal.{Principal, Key, Name, InRole, node_count, depth, spelling, HasSpelling, is_tag}
 use Rattle.prin_term.specs.Kind.{Kind, And, Quoting, For, pair, tag_of}
-use Rattle.prin_term.specs.Steps.{◌>>=◌, front_number}
+use Rattle.byte_fields.specs.Steps.{◌>>=◌, front_number}
 use Rattle.std.specs.Int.{w32}
 use Rattle.prin_term.specs.Reading.{Operand, front_pair, front_tagged, front_term}
 use Rattle.prin_term.specs.Refusal.{Beginning, Here, InFirst, InSecond, InBase, before, count_of, height_of, level_of, NumbersFit, EndsInTerm, at_tag, in_atom, in_role, IsWrongAt, IsRefused}
-use Rattle.prin_term.proofs.Results.{bind_err, err_is}
-use Rattle.prin_term.proofs.FieldLaws.{IsBytes, IsBytes-rest, front_number_refused, front_number_short}
+use Rattle.byte_fields.proofs.Results.{bind_err, err_is}
+use Rattle.byte_fields.proofs.FieldLaws.{IsBytes, IsBytes-rest, front_number_refused, front_number_short}
 use Rattle.prin_term.proofs.Heads.{IsHead, is_key, is_name, is_pair, is_role, heads, tag_is_tag}
 use Rattle.prin_term.proofs.Levels.{front_term-is}
 use Rattle.prin_term.proofs.Terms.{AtTag, no_tag, no_level, no_node, goes_on, at_tag as tests_at, OperandTakes, term_takes, term_again, behind_tag, tagged-pair, nothing_read}

@@ -7,10 +7,10 @@ use Rattle.prin_term.specs.declared.fault.TermFault.TheVariants.{Tag, TooDeep, T
 use Rattle.prin_term.specs.Principal.{Principal, Key, Name, And, Quoting, InRole, For, node_count, depth, spelling, HasSpelling, is_tag}
 use Rattle.prin_term.specs.Kind.{Kind, pair, tag_of}
 use Rattle.prin_term.specs.Kind as kinds
-use Rattle.prin_term.specs.Steps.{◌>>=◌, front_number}
+use Rattle.byte_fields.specs.Steps.{◌>>=◌, front_number}
 use Rattle.prin_term.specs.Reading.{Operand, front_pair, front_tagged, front_with, front_term}
-use Rattle.prin_term.proofs.Results.{bind_ok, ok_is}
-use Rattle.prin_term.proofs.FieldLaws.{IsBytes, IsBytes-rest, IsBytes-cons, IsBytes-append, IsBytes-number, Takes, Takes-then, Takes-cons, wide32, front_number_takes, front_number_again}
+use Rattle.byte_fields.proofs.Results.{bind_ok, ok_is}
+use Rattle.byte_fields.proofs.FieldLaws.{IsBytes, IsBytes-rest, IsBytes-cons, IsBytes-append, IsBytes-number, Takes, Takes-then, Takes-cons, wide32, front_number_takes, front_number_again}
 use Rattle.prin_term.proofs.Levels.{front_term-is}
 use Rattle.prin_term.proofs.Heads.{IsHead, is_key, is_name, is_pair, is_role, heads, tag_is_tag, spelling-pair, node_count-pair, depth-pair, pair_has}
 

@@ -6,12 +6,12 @@ use Rattle.prin_term.specs.declared.fault.TermFault.TheVariants.{Tag, TooDeep, T
 use Rattle.prin_term.specs.declared.term.Term.{Term}
 use Rattle.prin_term.specs.Principal.{Principal, spelling, node_count, depth, HasSpelling}
 use Rattle.prin_term.specs.View.{principal}
-use Rattle.prin_term.specs.Steps.{◌>>=◌, Gives, with_fault}
+use Rattle.byte_fields.specs.Steps.{◌>>=◌, Gives, with_fault}
 use Rattle.prin_term.specs.Reading.{Operand, front_term, term_at}
 use Rattle.prin_term.specs.Refusal.{FitsLimits, IsTermAt, before, IsWrongAt, IsRefused}
 use Rattle.prin_term.specs.declared.limits.TheConstants.{MAX_DEPTH}
-use Rattle.prin_term.proofs.Results.{bind_ok, bind_err, ok_is, with_fault_ok, gives_found, gives_only, gives_refused, gives_refused_only}
-use Rattle.prin_term.proofs.FieldLaws.{IsBytes, IsBytes-drop, IsBytes-front, ItemTakes, ItemAgain, took}
+use Rattle.byte_fields.proofs.Results.{bind_ok, bind_err, ok_is, with_fault_ok, gives_found, gives_only, gives_refused, gives_refused_only}
+use Rattle.byte_fields.proofs.FieldLaws.{IsBytes, IsBytes-drop, IsBytes-front, ItemTakes, ItemAgain, took}
 use Rattle.prin_term.proofs.Terms.{spelling_bytes, term_takes, term_again}
 use Rattle.prin_term.proofs.Refusals.{refused, refused_again}
 

@@ -2,9 +2,6 @@ pub mod Principal
 pub mod View
 pub mod Codes
 pub mod Kind
-pub mod Steps
-pub mod Appends
 pub mod Refusal
 pub mod Reading
-pub mod Readers
-pub mod Formats
+pub mod TermFields

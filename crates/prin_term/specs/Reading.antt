@@ -7,7 +7,7 @@ use Rattle.prin_term.specs.declared.fault.TermFault.TheVariants.{Tag, Short, Too
 use Rattle.prin_term.specs.declared.limits.TheConstants.{MAX_DEPTH}
 use Rattle.prin_term.specs.Principal.{Principal, Key, Name, InRole, is_tag}
 use Rattle.prin_term.specs.Kind.{Kind, And, Quoting, For, pair}
-use Rattle.prin_term.specs.Steps.{◌>>=◌, front_number}
+use Rattle.byte_fields.specs.Steps.{◌>>=◌, front_number}
 
 -- an operand: the term, the nodes that are left, and the bytes after it
 abbrev pub Operand : Type 0

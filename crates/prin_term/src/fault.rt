@@ -1,10 +1,10 @@
-//! Why bytes are no term, and why they are nothing of another format.
+//! Why bytes are no term.
 
 ghost use Rattle.std.specs.Prelude.{◌≡◌};
-ghost use Rattle.prin_term.specs.declared.fault.FormatFault.TheVariants as formats;
 ghost use Rattle.prin_term.specs.declared.fault.TermFault.TheVariants.{NoMemory};
-ghost use Rattle.prin_term.specs.Formats.{seen_as};
+ghost use Rattle.prin_term.specs.TermFields.{seen_as};
 
+use byte_fields::FormatFault;
 use std::alloc::{AllocError, AllocFailed};
 use std::error::Error;
 use std::fmt;
@@ -54,26 +54,6 @@ impl<T: Drop> From<AllocFailed<T>> for TermFault {
     }
 }
 
-/// Why bytes are nothing of a format: the first fault in the order of reading.
-#[derive(Clone, Copy, Debug, PartialEq, Eq, Hash)]
-pub enum FormatFault {
-    /// The first byte that can't stand where it does, or the length where bytes are lacking.
-    Malformed { offset: usize },
-    /// Memory was refused.
-    NoMemory,
-}
-
-impl fmt::Display for FormatFault {
-    fn fmt<W: fmt::Write>(&self, f: &mut fmt::Formatter<W>) -> fmt::Result {
-        match self {
-            FormatFault::Malformed { offset } => write!(f, "byte {offset}: malformed"),
-            FormatFault::NoMemory => write!(f, "out of memory"),
-        }
-    }
-}
-
-impl Error for FormatFault {}
-
 impl From<TermFault> for FormatFault {
     ghost from_gives = { λ fault e. e ≡ seen_as fault };
 
@@ -85,21 +65,5 @@ impl From<TermFault> for FormatFault {
             | TermFault::TooLarge { offset } => FormatFault::Malformed { offset },
             TermFault::NoMemory => FormatFault::NoMemory,
         }
-    }
-}
-
-impl From<AllocError> for FormatFault {
-    ghost from_gives = { λ _ e. e ≡ formats.NoMemory };
-
-    fn from(_e: AllocError) -> FormatFault {
-        FormatFault::NoMemory
-    }
-}
-
-impl<T: Drop> From<AllocFailed<T>> for FormatFault {
-    ghost from_gives = { λ _ e. e ≡ formats.NoMemory };
-
-    fn from(_e: AllocFailed<T>) -> FormatFault {
-        FormatFault::NoMemory
     }
 }

@@ -8,7 +8,7 @@ ghost use Rattle.prin_term.specs.declared.limits.TheConstants.{MAX_DEPTH};
 ghost use Rattle.prin_term.specs.Principal.{Principal, spelling, HasSpelling};
 ghost use Rattle.prin_term.specs.Reading.{term_at};
 ghost use Rattle.prin_term.specs.Refusal.{FitsLimits, IsTermAt, IsRefused};
-ghost use Rattle.prin_term.specs.Steps.{IsByte};
+ghost use Rattle.byte_fields.specs.Steps.{IsByte};
 
 /// No spelling begins another, and each term has one.
 pub fn one_spelling()

@@ -2,7 +2,6 @@
 #![tactic(auto)]
 
 mod fault;
-pub mod fields;
 mod laws;
 mod limits;
 mod optional;
@@ -11,7 +10,7 @@ mod shape;
 mod term;
 mod writing;
 
-pub use fault::{FormatFault, TermFault};
+pub use fault::TermFault;
 pub use laws::{one_spelling, prefixes_are_short, terms_are_read};
 pub use limits::{CERT_NODES, ENTRY_NODES, MAX_DEPTH, QUOTED_NODES};
 pub use optional::{read_optional_term, write_optional_term};

@@ -2,22 +2,21 @@
 
 ghost use Rattle.std.specs.Prelude.{◌≤◌, length, IfOk, IfSome, OnOk};
 ghost use Rattle.std.specs.Option.{option_map};
-ghost use Rattle.prin_term.specs.declared.fault.FormatFault.TheVariants.{NoMemory};
-ghost use Rattle.prin_term.specs.Appends.{Appends, Pushes};
-ghost use Rattle.prin_term.specs.Formats.{optional_term_in};
+ghost use Rattle.byte_fields.specs.declared.fault.FormatFault.TheVariants.{NoMemory};
+ghost use Rattle.byte_fields.specs.Appends.{Appends, Pushes};
+ghost use Rattle.prin_term.specs.TermFields.{optional_term_in};
 ghost use Rattle.prin_term.specs.Principal.{spelling, HasSpelling};
-ghost use Rattle.prin_term.specs.Steps.{Gives, optional};
+ghost use Rattle.byte_fields.specs.Steps.{Gives, optional};
 ghost use Rattle.prin_term.specs.View.{principal};
 
-use crate::fault::FormatFault;
-use crate::fields::{ended, u8_at};
 use crate::reading::read_term;
 use crate::term::Term;
 use crate::writing::write_term;
+use byte_fields::{FormatFault, ended, u8_at};
 use std::alloc::{AllocError, Global};
 
 /// The term of at most so many nodes that is spelled at `at`, or nothing, and the offset after it.
-#[tactic(auto, unfolding(crate::specs::Steps::optional_at))]
+#[tactic(auto, unfolding(byte_fields::specs::Steps::optional_at))]
 pub fn read_optional_term(
     alloc: Global,
     bytes: &[u8],

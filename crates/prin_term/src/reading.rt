@@ -1,13 +1,13 @@
 //! Reading a term from its spelling.
 
-ghost use Rattle.std.specs.Prelude.{◌≡◌, ◌≢◌, ◌⊎◌, ◌+◌, ◌≤◌, ◌<◌, ◌-◌, List, length, drop, IfOk};
+ghost use Rattle.std.specs.Prelude.{◌≡◌, ◌≢◌, ◌⊎◌, ◌+◌, ◌≤◌, ◌<◌, ◌-◌, length, drop, IfOk};
 ghost use Rattle.std.specs.Prelude.{IfErr, MatchResult, Ok};
 ghost use Rattle.prin_term.specs.declared.fault.TermFault.{TermFault};
 ghost use Rattle.prin_term.specs.declared.fault.TermFault.TheVariants.{Short, NoMemory};
 ghost use Rattle.prin_term.specs.Principal.{Principal, spelling};
 ghost use Rattle.prin_term.specs.Refusal.{IsTermAt, IsRefused};
 ghost use Rattle.prin_term.specs.View.{principal};
-ghost use Rattle.prin_term.specs.Steps.{Gives, front_number};
+ghost use Rattle.byte_fields.specs.Steps.{Gives, front_number};
 ghost use Rattle.prin_term.specs.Reading.{front_tagged, front_with, front_term, term_at};
 ghost use Rattle.std.specs.Int.{w32};
 
@@ -16,7 +16,7 @@ use crate::limits::MAX_DEPTH;
 use crate::term::Term;
 use std::alloc::Global;
 
-#[tactic(auto, unfolding(crate::specs::Steps::front_number))]
+#[tactic(auto, unfolding(byte_fields::specs::Steps::front_number))]
 fn number_of(end: usize, bytes: &[u8]) -> Result<(u32, &[u8]), TermFault>
     ensures value { Gives NoMemory (λ x. (x.0, x.1.now)) result
         (front_number (Short end) w32 bytes.now) }

@@ -1,10 +1,9 @@
 //! Sizes, equality, parts and copies of terms.
 
-ghost use Rattle.std.specs.Prelude.{◌≡◌, ◌↔◌, ◌+◌, ◌-◌, ◌≤◌, ◌++◌, List, ℕ, IsTrue, IfOk, IfErr};
+ghost use Rattle.std.specs.Prelude.{◌≡◌, ◌↔◌, ◌+◌, ◌-◌, ◌≤◌, IsTrue, IfOk, IfErr};
 ghost use Rattle.std.specs.Prelude.{Some, slice_get};
 ghost use Rattle.std.specs.Option.{SomeIff, option_map};
-ghost use Rattle.prin_term.specs.Principal.{Principal, node_count, depth, subterms, spelling};
-ghost use Rattle.prin_term.specs.Principal.{HasSpelling};
+ghost use Rattle.prin_term.specs.Principal.{node_count, depth, subterms};
 ghost use Rattle.prin_term.specs.View.{principal};
 
 use crate::term::Term;

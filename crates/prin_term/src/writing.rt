@@ -2,7 +2,7 @@
 
 ghost use Rattle.std.specs.Prelude.{◌∷◌, OnOk};
 ghost use Rattle.std.specs.Int.{w32, to_be_bytes};
-ghost use Rattle.prin_term.specs.Appends.{Appends, Pushes};
+ghost use Rattle.byte_fields.specs.Appends.{Appends, Pushes};
 ghost use Rattle.prin_term.specs.Principal.{spelling, HasSpelling};
 ghost use Rattle.prin_term.specs.View.{principal};
 

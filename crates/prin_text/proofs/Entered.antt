@@ -6,9 +6,9 @@ use Rattle.std.proofs.lemmas.Bool.Decides.{nat_tests, eqb_tells}
 use Rattle.std.proofs.lemmas.List.{append-nil}
 use Rattle.prin_term.specs.declared.limits.TheConstants.{ENTRY_NODES, MAX_DEPTH}
 use Rattle.prin_term.specs.Principal.{Principal, node_count, depth}
-use Rattle.prin_term.specs.Steps.{◌>>=◌}
+use Rattle.byte_fields.specs.Steps.{◌>>=◌}
 use Rattle.prin_term.specs.View.{Grant}
-use Rattle.prin_term.proofs.Results.{bind_ok, ok_is}
+use Rattle.byte_fields.proofs.Results.{bind_ok, ok_is}
 use Rattle.prin_text.specs.declared.fault.TextFault.{TextFault}
 use Rattle.prin_text.specs.declared.limits.TheConstants.{MAX_ENTRIES}
 use Rattle.prin_text.specs.Labels.{Labels}

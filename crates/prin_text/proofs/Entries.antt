@@ -1,6 +1,6 @@
 -- What reading the entries of a list gives, one after another.
 use Rattle.std.proofs.Common.{◌≡◌, ◌≢◌, ℕ, suc, ◌+◌, ◌-◌, ◌<◌, ◌≤◌, List, [], ◌∷◌, ◌++◌, length, Result, Ok, Err, refl, sym, ◌∙◌, ap, inl, inr, arith}
-use Rattle.prin_term.specs.Steps.{◌>>=◌, Gives, with_value}
+use Rattle.byte_fields.specs.Steps.{◌>>=◌, Gives, with_value}
 use Rattle.prin_term.specs.View.{Grant}
 use Rattle.prin_text.specs.declared.fault.TextCause.TheVariants.{Rights, TooMany}
 use Rattle.prin_text.specs.declared.fault.TextFault.{TextFault}

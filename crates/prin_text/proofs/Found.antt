@@ -4,7 +4,7 @@ use Rattle.std.specs.Prelude.{codes}
 use Rattle.std.proofs.lemmas.List.{append-nil}
 use Rattle.prin_term.specs.Kind.{Kind, pair}
 use Rattle.prin_term.specs.Kind as kinds
-use Rattle.prin_term.proofs.Results.{bind_ok, ok_is, with_fault_ok}
+use Rattle.byte_fields.proofs.Results.{bind_ok, ok_is, with_fault_ok}
 use Rattle.prin_text.specs.declared.fault.TextFault.{TextFault}
 use Rattle.prin_text.specs.declared.fault.TextFault.TheVariants.{Bad}
 use Rattle.prin_text.specs.Labels.{Labels}

@@ -1,5 +1,4 @@
 pub mod Texts
-pub mod Finding
 pub mod Gaps
 pub mod Indexed
 pub mod Decimals

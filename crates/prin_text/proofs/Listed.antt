@@ -6,7 +6,7 @@ use Rattle.std.proofs.lemmas.List.{append-nil}
 use Rattle.prin_term.specs.declared.limits.TheConstants.{ENTRY_NODES}
 use Rattle.prin_term.specs.Principal.{Principal}
 use Rattle.prin_term.specs.Refusal.{FitsLimits}
-use Rattle.prin_term.specs.Steps.{◌>>=◌}
+use Rattle.byte_fields.specs.Steps.{◌>>=◌}
 use Rattle.prin_term.specs.View.{Grant}
 use Rattle.prin_text.specs.declared.limits.TheConstants.{MAX_ENTRIES}
 use Rattle.prin_text.specs.Labels.{Labels, AreLabels}

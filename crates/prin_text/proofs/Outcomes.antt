@@ -5,8 +5,8 @@ use Rattle.std.proofs.lemmas.Bool.Decides.{nat_tests, leb_tells}
 use Rattle.std.proofs.lemmas.List.{append-nil}
 use Rattle.prin_term.specs.declared.limits.TheConstants.{CERT_NODES, MAX_DEPTH}
 use Rattle.prin_term.specs.Principal.{Principal, node_count, depth}
-use Rattle.prin_term.specs.Steps.{◌>>=◌}
-use Rattle.prin_term.proofs.Results.{bind_err}
+use Rattle.byte_fields.specs.Steps.{◌>>=◌}
+use Rattle.byte_fields.proofs.Results.{bind_err}
 use Rattle.prin_text.specs.declared.fault.TextCause.{TextCause}
 use Rattle.prin_text.specs.declared.fault.TextCause.TheVariants.{Syntax, Number, UnknownName, TooDeep, TooLarge, Rights, TooMany}
 use Rattle.prin_text.specs.declared.fault.TextFault.{TextFault}

@@ -6,7 +6,7 @@ use Rattle.std.proofs.lemmas.List.{append-nil, map-append}
 use Rattle.prin_term.specs.Principal.{Key}
 use Rattle.prin_term.specs.Kind.{Kind}
 use Rattle.prin_term.specs.Kind as kinds
-use Rattle.prin_term.specs.Steps.{◌>>=◌}
+use Rattle.byte_fields.specs.Steps.{◌>>=◌}
 use Rattle.prin_text.specs.declared.fault.TextCause.{TextCause}
 use Rattle.prin_text.specs.declared.fault.TextCause.TheVariants.{Syntax, Number, UnknownName}
 use Rattle.prin_text.specs.declared.fault.TextFault.{TextFault}

@@ -4,7 +4,7 @@ use Rattle.std.specs.Prelude.{codes, nat_lt, IsTrue}
 use Rattle.std.specs.Fmt.{decimal}
 use Rattle.std.proofs.lemmas.Bool.{false≢true}
 use Rattle.prin_term.specs.Principal.{Principal, Key, Name, And, Quoting, InRole, For}
-use Rattle.prin_term.specs.Steps.{◌>>=◌}
+use Rattle.byte_fields.specs.Steps.{◌>>=◌}
 use Rattle.prin_text.specs.declared.fault.TextCause.{TextCause}
 use Rattle.prin_text.specs.declared.fault.TextCause.TheVariants.{Syntax, Number, UnknownName}
 use Rattle.prin_text.specs.Labels.{Labels, Rows, is_label, number_of}

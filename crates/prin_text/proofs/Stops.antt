@@ -5,7 +5,7 @@ use Rattle.std.proofs.lemmas.Bool.{false≢true}
 use Rattle.std.proofs.lemmas.Bool.Decides.{leb_tells}
 use Rattle.prin_term.specs.declared.limits.TheConstants.{CERT_NODES}
 use Rattle.prin_term.specs.Principal.{Principal, node_count, depth}
-use Rattle.prin_term.specs.Steps.{◌>>=◌}
+use Rattle.byte_fields.specs.Steps.{◌>>=◌}
 use Rattle.prin_text.specs.declared.fault.TextCause.TheVariants.{Syntax, TooLarge}
 use Rattle.prin_text.specs.declared.fault.TextFault.{TextFault}
 use Rattle.prin_text.specs.declared.fault.TextFault.TheVariants.{Bad}

@@ -5,8 +5,8 @@ use Rattle.std.proofs.lemmas.List.{append-nil}
 use Rattle.prin_term.specs.declared.limits.TheConstants.{CERT_NODES, MAX_DEPTH}
 use Rattle.prin_term.specs.Principal.{Principal, node_count, depth}
 use Rattle.prin_term.specs.Refusal.{FitsLimits}
-use Rattle.prin_term.specs.Steps.{◌>>=◌}
-use Rattle.prin_term.proofs.Results.{bind_ok, ok_is}
+use Rattle.byte_fields.specs.Steps.{◌>>=◌}
+use Rattle.byte_fields.proofs.Results.{bind_ok, ok_is}
 use Rattle.prin_text.specs.declared.fault.TextCause.TheVariants.{TooLarge}
 use Rattle.prin_text.specs.declared.fault.TextFault.{TextFault}
 use Rattle.prin_text.specs.declared.fault.TextFault.TheVariants.{Bad}

@@ -5,8 +5,8 @@ use Rattle.std.specs.Fmt.{decimal}
 use Rattle.std.proofs.lemmas.Bool.{false≢true}
 use Rattle.std.proofs.lemmas.List.{take-append-drop}
 use Rattle.prin_term.specs.Principal.{Principal, Key, Name, And, Quoting, InRole, For}
-use Rattle.prin_term.specs.Steps.{◌>>=◌}
-use Rattle.prin_term.proofs.Results.{bind_ok, ok_is}
+use Rattle.byte_fields.specs.Steps.{◌>>=◌}
+use Rattle.byte_fields.proofs.Results.{bind_ok, ok_is}
 use Rattle.prin_text.specs.declared.fault.TextCause.{TextCause}
 use Rattle.prin_text.specs.declared.fault.TextCause.TheVariants.{Syntax}
 use Rattle.prin_text.specs.Labels.{Labels, Rows, is_label, number_of}

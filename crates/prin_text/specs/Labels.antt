@@ -1,9 +1,10 @@
 -- Texts of names and of roles, and tables of them by number.
 use Rattle.std.specs.Prelude.{◌≡◌, ◌≢◌, ℕ, ◌+◌, ◌^◌, ◌<◌, ◌≤◌, Bool, false, ◌&&◌, ◌||◌, not}
 use Rattle.std.specs.Prelude.{nat_le, ◌==◌, if◌then◌else◌, codes, bytes_eq, IsTrue}
-use Rattle.std.specs.Prelude.{All, List, [], ◌∷◌, length, slice_index_or}
+use Rattle.std.specs.Prelude.{All, List, [], ◌∷◌, length}
 use Rattle.std.specs.Prelude.{Option, Some, None, is_some}
 use Rattle.std.specs.List.{list_all}
+use Rattle.number_rows.specs.Rows as by_number
 use Rattle.prin_text.specs.declared.limits.TheConstants.{MAX_TEXT, MAX_NAMES, MAX_ROLES}
 use Rattle.prin_text.specs.declared.fault.NamesFault.{NamesFault}
 use Rattle.prin_text.specs.declared.fault.NamesFault.TheVariants.{BadText, Twice, Full}
@@ -48,8 +49,7 @@ pub record Labels : Type 0 where
 
 -- the text of the first row that has the number
 abbrev pub text_of : Rows → ℕ → Option (List ℕ)
-text_of [] number = None
-text_of ((n, text) ∷ rest) number = if n == number then Some text else text_of rest number
+text_of rows number = by_number.value_of (λ r. r.0) (λ r. r.1) rows number
 
 -- the number of the first row that has the text
 abbrev pub number_of : Rows → List ℕ → Option ℕ
@@ -58,12 +58,11 @@ number_of ((n, t) ∷ rest) text = if bytes_eq t text then Some n else number_of
 
 -- the number of the row at place i
 abbrev pub number_at : Rows → ℕ → ℕ
-number_at rows i = let row = slice_index_or rows i (0, []) in row.0
+number_at rows i = by_number.number_at (λ r. r.0) (0, []) rows i
 
 -- the numbers rise, so no number comes twice
 abbrev pub IsAscending : Rows → Type 0
-IsAscending rows =
-    (i j : ℕ) → i < j → j < length rows → number_at rows i < number_at rows j
+IsAscending rows = by_number.IsAscending (λ r. r.0) (0, []) rows
 
 -- no text comes twice
 abbrev pub TextsDiffer : Rows → Type 0
@@ -102,12 +101,9 @@ pub record AddsRow (old new : Rows) (number : ℕ) (text : List ℕ) : Type 0 wh
   pub count : length new ≡ length old + 1
 
 -- the row at place i has the number
-pub record IsAt (rows : Rows) (number i : ℕ) : Type 0 where
-  pub in_range : i < length rows
-  pub has_number : number_at rows i ≡ number
+abbrev pub IsAt : Rows → ℕ → ℕ → Type 0
+IsAt rows number i = by_number.IsAt (λ r. r.0) (0, []) rows number i
 
 -- the number would go at place i: smaller numbers before it, and greater ones from it on
-pub record IsGapFor (rows : Rows) (number i : ℕ) : Type 0 where
-  pub in_range : i ≤ length rows
-  pub smaller_before : (j : ℕ) → j < i → number_at rows j < number
-  pub greater_after : (j : ℕ) → i ≤ j → j < length rows → number < number_at rows j
+abbrev pub IsGapFor : Rows → ℕ → ℕ → Type 0
+IsGapFor rows number i = by_number.IsGapFor (λ r. r.0) (0, []) rows number i

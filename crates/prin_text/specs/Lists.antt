@@ -3,7 +3,7 @@ use Rattle.std.specs.Prelude.{◌<◌, ℕ, zero, suc, ◌+◌, ◌==◌, if◌t
 use Rattle.std.specs.Prelude.{List, [], ◌∷◌, ◌++◌, length, Option, Some, None, Result, Ok, Err}
 use Rattle.prin_term.specs.declared.limits.TheConstants.{ENTRY_NODES}
 use Rattle.prin_term.specs.Refusal.{FitsLimits}
-use Rattle.prin_term.specs.Steps.{◌>>=◌}
+use Rattle.byte_fields.specs.Steps.{◌>>=◌}
 use Rattle.prin_term.specs.View.{Grant}
 use Rattle.prin_text.specs.Labels.{Labels}
 use Rattle.prin_text.specs.Reading.{Operand, First, piece_at, measured}

@@ -4,7 +4,7 @@ use Rattle.std.specs.Prelude.{List, [], ◌∷◌, length, Result, Ok, Err}
 use Rattle.prin_term.specs.declared.limits.TheConstants.{CERT_NODES}
 use Rattle.prin_term.specs.Principal.{Principal, node_count}
 use Rattle.prin_term.specs.Kind.{Kind, And, Quoting, For}
-use Rattle.prin_term.specs.Steps.{◌>>=◌, with_fault}
+use Rattle.byte_fields.specs.Steps.{◌>>=◌, with_fault}
 use Rattle.prin_text.specs.Labels.{Labels}
 use Rattle.prin_text.specs.Pieces.{Piece, Built, Deep, joined, in_role}
 use Rattle.prin_text.specs.Tokens.{Placed, first_place, tokens_from}

@@ -2,7 +2,7 @@
 
 ghost use Rattle.std.specs.Prelude.{◌≡◌, ◌++◌, ◌≤◌, ◌-◌, length, map, IfOk, OnOk, OnErr};
 ghost use Rattle.std.specs.Prelude.{string_bytes};
-ghost use Rattle.prin_term.specs.Steps.{Gives};
+ghost use Rattle.byte_fields.specs.Steps.{Gives};
 ghost use Rattle.prin_term.specs.View.{grant};
 ghost use Rattle.prin_text.specs.declared.fault.TextFault.TheVariants.{NoMemory};
 ghost use Rattle.prin_text.specs.Lists as lists;

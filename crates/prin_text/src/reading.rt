@@ -2,7 +2,7 @@
 
 ghost use Rattle.std.specs.Prelude.{◌≡◌, ◌≤◌, List, length, IfOk, []};
 ghost use Rattle.prin_term.specs.View.{principal};
-ghost use Rattle.prin_term.specs.Steps.{Gives, with_value};
+ghost use Rattle.byte_fields.specs.Steps.{Gives, with_value};
 ghost use Rattle.prin_text.specs.declared.fault.TextFault.TheVariants.{NoMemory};
 ghost use Rattle.prin_text.specs.Reading as reading;
 ghost use Rattle.prin_text.specs.Tokens.{StopsAt, tokens_from};

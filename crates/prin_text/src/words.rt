@@ -3,7 +3,7 @@
 ghost use Rattle.std.specs.Prelude.{◌≡◌, ◌+◌, ◌*◌, ◌<◌, ◌≤◌, length, IsTrue, IfOk, Ok};
 ghost use Rattle.std.specs.Prelude.{bytes_eq, if◌then◌else◌, nat_lt, Some, None};
 ghost use Rattle.std.specs.List.{list_all};
-ghost use Rattle.prin_term.specs.Steps.{with_value};
+ghost use Rattle.byte_fields.specs.Steps.{with_value};
 ghost use Rattle.prin_term.specs.View.{principal};
 ghost use Rattle.prin_text.specs.Labels.{is_digit};
 ghost use Rattle.prin_text.specs.Words.{

@@ -9,7 +9,7 @@ use Rattle.std.proofs.lemmas.List.Kept.{AllPairs-cons, AllPairs-filter}
 use Rattle.std.proofs.lemmas.Option.{get_or_from_slice_get, slice_get_within}
 use Rattle.std.proofs.Math.Seq.{get_or-append_seam}
 use Rattle.prin_term.specs.Principal.{Principal}
-use Rattle.prin_term.proofs.ReaderLaws.{AllPairs-before}
+use Rattle.byte_fields.proofs.ReaderLaws.{AllPairs-before}
 use Rattle.stmt_codec.specs.Distinct.{same_principal}
 use Rattle.stmt_codec.proofs.Same.{same_principal-itself}
 use Rattle.proof_cache.specs.Cached.{Cached}

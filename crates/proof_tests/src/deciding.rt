@@ -1,4 +1,4 @@
-ghost use Rattle.std.specs.Prelude.{◌≤◌, IfOk};
+ghost use Rattle.std.specs.Prelude.{◌≡◌, ◌≤◌, IfOk, length};
 ghost use Rattle.prin_term.specs.Principal.{node_count};
 ghost use Rattle.prin_term.specs.View.{principal};
 
@@ -10,6 +10,7 @@ use building::{certs, chain, some_term, term};
 use cases::Word::{And, For, Key, Name, Quote, Role};
 use cases::{CASES, Case, DELEGATED, Word};
 use changing::changed;
+use goal_search::Workbench;
 use prin_term::{Anchor, ENTRY_NODES, Entry, MAX_DEPTH, QUOTED_NODES, Term};
 use std::alloc::Global;
 use std::sync::Arc;
@@ -86,10 +87,59 @@ fn is_firm(
     Ok(refused)
 }
 
-// The proof that is answered, where one is. It is checked, and so is each change of it.
+// The plain decider and the one that searches on demand.
+#[derive(Drop)]
+struct Deciders {
+    plain: Saturator,
+    bench: Workbench,
+}
+
+fn both_deciders(alloc: Global) -> Result<Deciders, Fail> {
+    Ok(Deciders {
+        plain: Saturator::reserve(alloc)?,
+        bench: Workbench::reserve(alloc)?,
+    })
+}
+
+// The proof that a decider answers, where it does. It is checked, and so is each change of it.
+fn ask_one<D: Decide>(
+    rt: &HostRuntime,
+    decider: &mut D,
+    certs: &[Arc<Cert>],
+    chosen: &[bool],
+    subject: &Term,
+    who: &Term,
+) -> Result<Option<Taken>, Fail>
+    requires few_certs { length certs.now ≤ MAX_CERTS }
+    requires chosen_fit { length chosen.now ≡ length certs.now }
+    requires subject_fits { node_count (principal subject.now) ≤ ENTRY_NODES }
+    requires who_fits { node_count (principal who.now) ≤ ENTRY_NODES }
+{
+    let alloc = rt.alloc();
+    let copied = who.copy(alloc)?;
+    let list = [Entry {
+        rights: 1,
+        who: copied,
+    }];
+    decider.begin(&ANCHORS, certs, chosen, subject, &list);
+    if !decider.derives(subject, who) {
+        return Ok(None);
+    }
+    let taken = decider.take_proof(alloc, subject, who)?;
+    let cites = cited(alloc, certs, &taken)?;
+    if !proves(&cites, &taken.proof, subject, who) {
+        return Err("the proof does not hold".into());
+    }
+    if !is_firm(alloc, &cites, &taken.proof, subject, who)? {
+        return Err("the proof holds when it is changed".into());
+    }
+    Ok(Some(taken))
+}
+
+// The proof that both deciders answer, where one is.
 fn ask(
     rt: &HostRuntime,
-    decider: &mut Saturator,
+    deciders: &mut Deciders,
     certs: &[Arc<Cert>],
     chosen: &[bool],
     subject: &Term,
@@ -100,43 +150,34 @@ fn ask(
     if certs.len() > MAX_CERTS || chosen.len() != certs.len() || !who.fits(ENTRY_NODES, MAX_DEPTH) {
         return Err("too large".into());
     }
-    let list = [Entry { rights: 1, who }];
-    decider.begin(&ANCHORS, certs, chosen, subject, &list);
-    if decider.missed() != 0 {
+    let plain = ask_one(rt, &mut deciders.plain, certs, chosen, subject, &who)?;
+    if deciders.plain.missed() != 0 {
         return Err("no hint led to a line".into());
     }
-    let who = &list[0].who;
-    if !decider.derives(subject, who) {
-        return Ok(None);
+    let taken = ask_one(rt, &mut deciders.bench, certs, chosen, subject, &who)?;
+    if plain.is_some() != taken.is_some() {
+        return Err("the deciders differ".into());
     }
-    let taken = decider.take_proof(rt.alloc(), subject, who)?;
-    let cites = cited(rt.alloc(), certs, &taken)?;
-    if !proves(&cites, &taken.proof, subject, who) {
-        return Err("the proof does not hold".into());
-    }
-    if !is_firm(rt.alloc(), &cites, &taken.proof, subject, who)? {
-        return Err("the proof holds when it is changed".into());
-    }
-    Ok(Some(taken))
+    Ok(taken)
 }
 
 // How many certificates the proof of a case cites.
-fn ask_case(rt: &HostRuntime, decider: &mut Saturator, case: Case) -> Result<Option<usize>, Fail> {
+fn ask_case(rt: &HostRuntime, deciders: &mut Deciders, case: Case) -> Result<Option<usize>, Fail> {
     let alloc = rt.alloc();
     let (_, rows, key, quoted, who, _) = case;
     let certs = certs(alloc, rows)?;
     let chosen = vec![in alloc; true; certs.len()]?;
     let subject = channel(alloc, key, quoted)?;
-    let taken = ask(rt, decider, &certs, &chosen, &subject, term(alloc, who)?)?;
+    let taken = ask(rt, deciders, &certs, &chosen, &subject, term(alloc, who)?)?;
     Ok(taken.map(|taken| taken.cites.len()))
 }
 
 #[test]
 fn each_rule_is_used_and_no_more(rt: HostRuntime) -> Result<(), Fail> {
-    let mut decider = Saturator::reserve(rt.alloc())?;
+    let mut deciders = both_deciders(rt.alloc())?;
     for i in 0..CASES.len() {
         let case = CASES[i];
-        let found = ask_case(&rt, &mut decider, case)?;
+        let found = ask_case(&rt, &mut deciders, case)?;
         assert_eq!(rt; found, case.5, "{}", case.0);
     }
     Ok(())
@@ -145,7 +186,7 @@ fn each_rule_is_used_and_no_more(rt: HostRuntime) -> Result<(), Fail> {
 #[test]
 fn a_hand_off_is_proved_by_four_lines(rt: HostRuntime) -> Result<(), Fail> {
     let alloc = rt.alloc();
-    let mut decider = Saturator::reserve(alloc)?;
+    let mut deciders = both_deciders(alloc)?;
     let certs = certs(
         alloc,
         &[
@@ -156,7 +197,7 @@ fn a_hand_off_is_proved_by_four_lines(rt: HostRuntime) -> Result<(), Fail> {
     let subject = channel(alloc, 2, &[])?;
     let taken = ask(
         &rt,
-        &mut decider,
+        &mut deciders,
         &certs,
         &[true, true],
         &subject,
@@ -167,7 +208,7 @@ fn a_hand_off_is_proved_by_four_lines(rt: HostRuntime) -> Result<(), Fail> {
     assert_eq!(rt; taken.proof.lines().len(), 4);
     let taken = ask(
         &rt,
-        &mut decider,
+        &mut deciders,
         &certs,
         &[true, false],
         &subject,
@@ -180,13 +221,13 @@ fn a_hand_off_is_proved_by_four_lines(rt: HostRuntime) -> Result<(), Fail> {
 #[test]
 fn who_asks_may_be_any_small_principal(rt: HostRuntime) -> Result<(), Fail> {
     let alloc = rt.alloc();
-    let mut decider = Saturator::reserve(alloc)?;
+    let mut deciders = both_deciders(alloc)?;
     let subject = term(alloc, &[Key(1), Key(3), And])?;
     if !subject.fits(ENTRY_NODES, MAX_DEPTH) {
         return Err("too large".into());
     }
     let who = term(alloc, &[Name(10), Name(30), And])?;
-    let taken = ask(&rt, &mut decider, &[], &[], &subject, who)?.ok_or("denied")?;
+    let taken = ask(&rt, &mut deciders, &[], &[], &subject, who)?.ok_or("denied")?;
     assert_eq!(rt; taken.cites.len(), 0);
     Ok(())
 }
@@ -194,27 +235,27 @@ fn who_asks_may_be_any_small_principal(rt: HostRuntime) -> Result<(), Fail> {
 // Key 15, which quotes bob, asks about the machine for bob.
 fn log_in(
     rt: &HostRuntime,
-    decider: &mut Saturator,
+    deciders: &mut Deciders,
     certs: &[Arc<Cert>],
     chosen: &[bool],
 ) -> Result<Option<Taken>, Fail> {
     let alloc = rt.alloc();
     let subject = channel(alloc, 15, &[Name(30)])?;
     let who = term(alloc, &[Name(20), Role(1), Name(30), For])?;
-    ask(rt, decider, certs, chosen, &subject, who)
+    ask(rt, deciders, certs, chosen, &subject, who)
 }
 
 #[test]
 fn a_login_needs_each_of_its_certificates(rt: HostRuntime) -> Result<(), Fail> {
     let alloc = rt.alloc();
-    let mut decider = Saturator::reserve(alloc)?;
+    let mut deciders = both_deciders(alloc)?;
     let certs = certs(alloc, &DELEGATED[..4])?;
-    let taken = log_in(&rt, &mut decider, &certs, &[true; 4])?.ok_or("denied")?;
+    let taken = log_in(&rt, &mut deciders, &certs, &[true; 4])?.ok_or("denied")?;
     assert_eq!(rt; taken.cites.as_slice(), [0u16, 1, 2, 3].as_slice());
     for missing in 0..4 {
         let mut chosen = [true; 4];
         chosen[missing] = false;
-        let taken = log_in(&rt, &mut decider, &certs, &chosen)?;
+        let taken = log_in(&rt, &mut deciders, &certs, &chosen)?;
         assert!(rt; taken.is_none(), "without {missing}");
     }
     Ok(())
@@ -223,12 +264,40 @@ fn a_login_needs_each_of_its_certificates(rt: HostRuntime) -> Result<(), Fail> {
 #[test]
 fn a_large_question_is_decided_by_hints_alone(rt: HostRuntime) -> Result<(), Fail> {
     let alloc = rt.alloc();
-    let mut decider = Saturator::reserve(alloc)?;
+    let mut deciders = both_deciders(alloc)?;
     let certs = chain(alloc, 64)?;
     let chosen = vec![in alloc; true; certs.len()]?;
     let subject = channel(alloc, 164, &[Name(30)])?;
     let who = term(alloc, &[Key(100), Key(101), And, Name(30), Quote])?;
-    let taken = ask(&rt, &mut decider, &certs, &chosen, &subject, who)?.ok_or("denied")?;
+    let taken = ask(&rt, &mut deciders, &certs, &chosen, &subject, who)?.ok_or("denied")?;
     assert_eq!(rt; taken.cites.len(), 64);
+    Ok(())
+}
+
+#[test]
+fn certificates_about_others_change_nothing(rt: HostRuntime) -> Result<(), Fail> {
+    let alloc = rt.alloc();
+    let mut deciders = both_deciders(alloc)?;
+    let certs = chain(alloc, 64)?;
+    let chosen = vec![in alloc; true; certs.len()]?;
+    let subject = channel(alloc, 1, &[])?;
+    let taken = ask(
+        &rt,
+        &mut deciders,
+        &certs,
+        &chosen,
+        &subject,
+        Term::Name(10),
+    )?;
+    assert_eq!(rt; taken.ok_or("denied")?.cites.len(), 0);
+    let taken = ask(
+        &rt,
+        &mut deciders,
+        &certs,
+        &chosen,
+        &subject,
+        Term::Name(30),
+    )?;
+    assert!(rt; taken.is_none(), "for bob");
     Ok(())
 }

@@ -3,9 +3,9 @@ use Rattle.std.proofs.Common.{◌≡◌, ◌⊎◌, ℕ, ◌<◌, ◌^◌, List,
 use Rattle.std.specs.Prelude.{◌==◌, if◌then◌else◌}
 use Rattle.std.specs.Int.{w32, to_be_bytes}
 use Rattle.keyed_seal.specs.Keys.{Entries}
-use Rattle.prin_term.specs.Steps.{byte_at, mark_at, number_at}
-use Rattle.prin_term.proofs.Results.{bind_ok, bind_err, chosen_err}
-use Rattle.prin_term.proofs.FieldLaws.{IsBytes, byte_refused, mark_takes, mark_again, number_takes, number_again, number_refused, wide32}
+use Rattle.byte_fields.specs.Steps.{byte_at, mark_at, number_at}
+use Rattle.byte_fields.proofs.Results.{bind_ok, bind_err, chosen_err}
+use Rattle.byte_fields.proofs.FieldLaws.{IsBytes, byte_refused, mark_takes, mark_again, number_takes, number_again, number_refused, wide32}
 use Rattle.frame_link.specs.declared.outside.RelayAnswer.{RelayAnswer}
 use Rattle.frame_link.specs.declared.outside.RelayAnswer.TheVariants.{Resealed, Refused, NoMemory}
 use Rattle.frame_link.specs.Relay.{Said, Gave, Refuses, IsSaid}

@@ -7,13 +7,13 @@ use Rattle.std.proofs.lemmas.Slice.Eq.{bytes_eq-Decides}
 use Rattle.keyed_seal.specs.Keys.{Entries, key_of}
 use Rattle.keyed_seal.specs.Tag.{tag_of}
 use Rattle.keyed_seal.proofs.Tags.{length-tag_of}
-use Rattle.prin_term.specs.Steps.{◌>>=◌, byte_at, with_fault}
-use Rattle.prin_term.proofs.Results.{bind_err, err_is, chosen, chosen_err, refused_err, with_fault_err}
-use Rattle.prin_term.proofs.FieldLaws.{IsBytes, byte_takes}
+use Rattle.byte_fields.specs.Steps.{◌>>=◌, byte_at, with_fault}
+use Rattle.byte_fields.proofs.Results.{bind_err, err_is, chosen, chosen_err, refused_err, with_fault_err}
+use Rattle.byte_fields.proofs.FieldLaws.{IsBytes, byte_takes}
 use Rattle.stmt_codec.specs.Certificates.{Certificate}
 use Rattle.stmt_codec.specs.Reading.{body_at}
-use Rattle.prin_term.specs.declared.fault.FormatFault.{FormatFault}
-use Rattle.prin_term.specs.declared.fault.FormatFault.TheVariants as bodies
+use Rattle.byte_fields.specs.declared.fault.FormatFault.{FormatFault}
+use Rattle.byte_fields.specs.declared.fault.FormatFault.TheVariants as bodies
 use Rattle.sealed_cert.specs.declared.fault.SealFault.{SealFault}
 use Rattle.sealed_cert.specs.declared.fault.SealFault.TheVariants.{Malformed, UnknownIssuer, BadSeal, WrongKind, NoMemory}
 use Rattle.sealed_cert.specs.Seals.{sealed_text, Spells, OpensIssued}

@@ -2,7 +2,7 @@
 use Rattle.std.specs.Prelude.{◌≡◌, ℕ, List, [], drop, Result, Ok, Err}
 use Rattle.std.specs.Int.{w32}
 use Rattle.keyed_seal.specs.Keys.{Entries}
-use Rattle.prin_term.specs.Steps.{◌>>=◌, mark_at, number_at}
+use Rattle.byte_fields.specs.Steps.{◌>>=◌, mark_at, number_at}
 use Rattle.frame_link.specs.declared.outside.RelayAnswer.{RelayAnswer}
 use Rattle.frame_link.specs.declared.outside.RelayAnswer.TheVariants.{Resealed, Refused, NoMemory}
 use Rattle.frame_link.specs.Relay.{IsSaid}

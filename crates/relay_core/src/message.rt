@@ -7,8 +7,8 @@ ghost use Rattle.relay_core.specs.Asked.{asked_at};
 
 use crate::code::{MALFORMED, UNKNOWN_NODE};
 use arrayvec::ArrayVec;
+use byte_fields::{mark_at, u32_at};
 use frame_link::{MAX_PAYLOAD, RelayAnswer};
-use prin_term::fields::{mark_at, u32_at};
 
 /// The first byte of a payload that asks.
 pub const ASK: u8 = 5;

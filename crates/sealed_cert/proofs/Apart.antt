@@ -4,8 +4,8 @@ use Rattle.std.specs.Prelude.{◌==◌}
 use Rattle.std.proofs.lemmas.Bool.{eq-eqb}
 use Rattle.keyed_seal.specs.Keys.{Entries, key_of}
 use Rattle.keyed_seal.specs.Tag.{tag_of}
-use Rattle.prin_term.specs.Steps.{◌>>=◌}
-use Rattle.prin_term.proofs.FieldLaws.{byte_again}
+use Rattle.byte_fields.specs.Steps.{◌>>=◌}
+use Rattle.byte_fields.proofs.FieldLaws.{byte_again}
 use Rattle.stmt_codec.specs.Certificates.{Certificate, body_spelling, HasBodySpelling, IsWithinLimits}
 use Rattle.stmt_codec.proofs.Once.{body_once}
 use Rattle.sealed_cert.specs.declared.fault.SealFault.{SealFault}

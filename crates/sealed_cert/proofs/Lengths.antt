@@ -5,8 +5,8 @@ use Rattle.std.proofs.lemmas.Bool.{lt-ltb, le-ltb}
 use Rattle.keyed_seal.specs.Keys.{Entries}
 use Rattle.keyed_seal.specs.Tag.{tag_of}
 use Rattle.keyed_seal.proofs.Tags.{length-tag_of}
-use Rattle.prin_term.specs.Steps.{byte_at}
-use Rattle.prin_term.proofs.FieldLaws.{behind}
+use Rattle.byte_fields.specs.Steps.{byte_at}
+use Rattle.byte_fields.proofs.FieldLaws.{behind}
 use Rattle.stmt_codec.specs.Certificates.{Certificate, body_spelling, HasBodySpelling, IsWithinLimits}
 use Rattle.stmt_codec.proofs.Bodies.{body_again}
 use Rattle.stmt_codec.proofs.Prefixes.{body_cut}

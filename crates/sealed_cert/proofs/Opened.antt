@@ -7,9 +7,9 @@ use Rattle.std.proofs.lemmas.List.{take_at, drop_at}
 use Rattle.keyed_seal.specs.Keys.{Entries, key_of}
 use Rattle.keyed_seal.specs.Tag.{tag_of}
 use Rattle.keyed_seal.proofs.Tags.{length-tag_of}
-use Rattle.prin_term.specs.Steps.{◌>>=◌}
-use Rattle.prin_term.proofs.Results.{bind_ok, ok_is, chosen, chosen_ok, refused_ok, with_fault_ok}
-use Rattle.prin_term.proofs.FieldLaws.{IsBytes, byte_takes, byte_again, behind}
+use Rattle.byte_fields.specs.Steps.{◌>>=◌}
+use Rattle.byte_fields.proofs.Results.{bind_ok, ok_is, chosen, chosen_ok, refused_ok, with_fault_ok}
+use Rattle.byte_fields.proofs.FieldLaws.{IsBytes, byte_takes, byte_again, behind}
 use Rattle.stmt_codec.specs.Certificates.{Certificate, body_spelling, HasBodySpelling, IsWithinLimits, IsBodyAt}
 use Rattle.stmt_codec.specs.Reading.{body_at}
 use Rattle.stmt_codec.proofs.Bodies.{found_at, body_again}

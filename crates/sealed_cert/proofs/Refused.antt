@@ -6,11 +6,11 @@ use Rattle.std.proofs.lemmas.Bool.Decides.{nat_tests}
 use Rattle.std.proofs.lemmas.Slice.Eq.{bytes_eq-Decides}
 use Rattle.keyed_seal.specs.Keys.{Entries, key_of}
 use Rattle.keyed_seal.specs.Tag.{tag_of}
-use Rattle.prin_term.specs.declared.fault.FormatFault.{FormatFault}
-use Rattle.prin_term.specs.declared.fault.FormatFault.TheVariants as formats
-use Rattle.prin_term.specs.Steps.{◌>>=◌, with_fault, byte_at}
-use Rattle.prin_term.proofs.FieldLaws.{IsBytes, behind, byte_takes, byte_again, byte_refused}
-use Rattle.prin_term.proofs.Results.{bind_err, err_is, chosen, chosen_err, refused_err, with_fault_ok, with_fault_err}
+use Rattle.byte_fields.specs.declared.fault.FormatFault.{FormatFault}
+use Rattle.byte_fields.specs.declared.fault.FormatFault.TheVariants as formats
+use Rattle.byte_fields.specs.Steps.{◌>>=◌, with_fault, byte_at}
+use Rattle.byte_fields.proofs.FieldLaws.{IsBytes, behind, byte_takes, byte_again, byte_refused}
+use Rattle.byte_fields.proofs.Results.{bind_err, err_is, chosen, chosen_err, refused_err, with_fault_ok, with_fault_err}
 use Rattle.stmt_codec.specs.Certificates.{Certificate, body_spelling}
 use Rattle.stmt_codec.specs.Reading.{body_at}
 use Rattle.stmt_codec.proofs.Bodies.{found_at}

@@ -2,7 +2,7 @@
 use Rattle.std.specs.Prelude.{◌≡◌, ◌≢◌, ℕ, ◌+◌, ◌<◌, List, [], ◌∷◌, ◌++◌, length, None, Some, Err}
 use Rattle.keyed_seal.specs.Keys.{Entries, key_of}
 use Rattle.keyed_seal.specs.Tag.{tag_of}
-use Rattle.prin_term.specs.declared.fault.FormatFault.TheVariants as formats
+use Rattle.byte_fields.specs.declared.fault.FormatFault.TheVariants as formats
 use Rattle.stmt_codec.specs.Certificates.{Certificate, HasBodySpelling, IsWithinLimits}
 use Rattle.stmt_codec.specs.Reading.{body_at}
 use Rattle.sealed_cert.specs.declared.fault.SealFault.{SealFault}

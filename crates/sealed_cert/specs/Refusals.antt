@@ -4,9 +4,9 @@ use Rattle.std.specs.Prelude.{drop, Option, Some, None, Result, Ok, Err}
 use Rattle.std.specs.Str.{bytes_eq}
 use Rattle.keyed_seal.specs.Keys.{Entries, key_of}
 use Rattle.keyed_seal.specs.Tag.{tag_of}
-use Rattle.prin_term.specs.Steps.{◌>>=◌, with_fault, byte_at}
-use Rattle.prin_term.specs.declared.fault.FormatFault.{FormatFault}
-use Rattle.prin_term.specs.declared.fault.FormatFault.TheVariants as bodies
+use Rattle.byte_fields.specs.Steps.{◌>>=◌, with_fault, byte_at}
+use Rattle.byte_fields.specs.declared.fault.FormatFault.{FormatFault}
+use Rattle.byte_fields.specs.declared.fault.FormatFault.TheVariants as bodies
 use Rattle.stmt_codec.specs.Certificates.{Certificate}
 use Rattle.stmt_codec.specs.Reading.{body_at}
 use Rattle.sealed_cert.specs.declared.fault.SealFault.{SealFault}

@@ -4,7 +4,7 @@ ghost use Rattle.std.specs.Prelude.{◌≡◌};
 ghost use Rattle.sealed_cert.specs.declared.fault.SealFault.TheVariants.{NoMemory};
 ghost use Rattle.sealed_cert.specs.Refusals.{seen_as};
 
-use prin_term::FormatFault;
+use byte_fields::FormatFault;
 use std::alloc::AllocError;
 use std::error::Error;
 use std::fmt;

@@ -1,7 +1,7 @@
 //! Opening sealed certificates.
 
 ghost use Rattle.std.specs.Prelude.{◌≡◌, ◌+◌, ◌≤◌, length, IfOk, IfErr, MatchResult};
-ghost use Rattle.prin_term.specs.Steps.{Gives};
+ghost use Rattle.byte_fields.specs.Steps.{Gives};
 ghost use Rattle.stmt_codec.specs.Certificates.{Certificate, certificate, body_spelling, IsBodyAt};
 ghost use Rattle.sealed_cert.specs.declared.fault.SealFault.TheVariants.{NoMemory};
 ghost use Rattle.sealed_cert.specs.Seals.{Opens, OpensIssued};
@@ -10,8 +10,8 @@ ghost use Rattle.sealed_cert.specs.Refusals.{opened, opened_issued};
 
 use crate::fault::SealFault;
 use crate::kind::{ISSUED, RELAYED};
+use byte_fields::u8_at;
 use keyed_seal::{KeyTable, Sealer, TAG_LEN};
-use prin_term::fields::u8_at;
 use std::alloc::Global;
 use stmt_codec::{Cert, CertBody, read_bare_body};
 

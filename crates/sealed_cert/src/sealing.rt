@@ -1,7 +1,7 @@
 //! Sealing certificates.
 
 ghost use Rattle.std.specs.Prelude.{length, drop, OnOk};
-ghost use Rattle.prin_term.specs.Appends.{Appends, Pushes};
+ghost use Rattle.byte_fields.specs.Appends.{Appends, Pushes};
 ghost use Rattle.stmt_codec.specs.Certificates.{certificate, HasBodySpelling, IsWithinLimits};
 ghost use Rattle.sealed_cert.specs.Seals.{sealed, IsSealed, Opens};
 

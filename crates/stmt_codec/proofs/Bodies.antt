@@ -6,13 +6,13 @@ use Rattle.std.proofs.lemmas.Bool.{leb-true, le-leb}
 use Rattle.std.proofs.lemmas.List.{take_at}
 use Rattle.prin_term.specs.Principal.{Principal, spelling, HasSpelling}
 use Rattle.prin_term.specs.Refusal.{FitsLimits}
-use Rattle.prin_term.specs.Steps.{optional}
-use Rattle.prin_term.proofs.Results.{bind_ok, ok_is, chosen_ok}
-use Rattle.prin_term.proofs.FieldLaws.{IsBytes, TakesAt, TakesAt-then, TakesAt-within, OptionFits, behind, took, mark_takes, mark_again, number_takes, number_again, optional_takes, optional_again, wide32, wide64}
+use Rattle.byte_fields.specs.Steps.{optional}
+use Rattle.byte_fields.proofs.Results.{bind_ok, ok_is, chosen_ok}
+use Rattle.byte_fields.proofs.FieldLaws.{IsBytes, TakesAt, TakesAt-then, TakesAt-within, OptionFits, behind, took, mark_takes, mark_again, number_takes, number_again, optional_takes, optional_again, wide32, wide64}
 use Rattle.prin_term.proofs.Whole.{term_takes_at, term_again_at}
-use Rattle.prin_term.specs.declared.fault.FormatFault.{FormatFault}
-use Rattle.prin_term.specs.declared.fault.FormatFault.TheVariants.{Malformed}
-use Rattle.prin_term.specs.Formats.{seen_as, term_in}
+use Rattle.byte_fields.specs.declared.fault.FormatFault.{FormatFault}
+use Rattle.byte_fields.specs.declared.fault.FormatFault.TheVariants.{Malformed}
+use Rattle.prin_term.specs.TermFields.{seen_as, term_in}
 use Rattle.stmt_codec.specs.Certificates.{Certificate, body_spelling, key_quoting, distinct_parts, IsSmall, IsWithinLimits, HasBodySpelling, IsBodyAt}
 use Rattle.stmt_codec.specs.Reading.{right_at, body_at}
 

@@ -3,7 +3,7 @@ use Rattle.std.proofs.Common.{◌≡◌, ℕ, ◌≤◌, List, ◌∷◌, ◌++�
 use Rattle.std.specs.Prelude.{Option, IfSome}
 use Rattle.std.specs.Int.{w32, w64, to_be_bytes}
 use Rattle.prin_term.specs.Principal.{Principal, spelling}
-use Rattle.prin_term.specs.Steps.{optional}
+use Rattle.byte_fields.specs.Steps.{optional}
 use Rattle.prin_term.proofs.Sizes.{spelling_short}
 use Rattle.stmt_codec.specs.Certificates.{Certificate, body_spelling, IsSmall, IsWithinLimits}
 

@@ -1,11 +1,11 @@
 -- What reading a certificate answers, from what it gives as a function.
 use Rattle.std.proofs.Common.{◌≡◌, ℕ, ◌+◌, ◌≤◌, List, length, Result, Ok, Err, ap}
 use Rattle.std.specs.Prelude.{IfOk, MatchResult}
-use Rattle.prin_term.specs.Steps.{Gives}
-use Rattle.prin_term.proofs.Results.{gives_found, gives_only}
-use Rattle.prin_term.proofs.FieldLaws.{IsBytes}
-use Rattle.prin_term.specs.declared.fault.FormatFault.{FormatFault}
-use Rattle.prin_term.specs.declared.fault.FormatFault.TheVariants.{NoMemory}
+use Rattle.byte_fields.specs.Steps.{Gives}
+use Rattle.byte_fields.proofs.Results.{gives_found, gives_only}
+use Rattle.byte_fields.proofs.FieldLaws.{IsBytes}
+use Rattle.byte_fields.specs.declared.fault.FormatFault.{FormatFault}
+use Rattle.byte_fields.specs.declared.fault.FormatFault.TheVariants.{NoMemory}
 use Rattle.stmt_codec.specs.Certificates.{Certificate, body_spelling, IsBodyAt}
 use Rattle.stmt_codec.specs.Reading.{body_at}
 use Rattle.stmt_codec.proofs.Bodies.{found_at, again_at}

@@ -7,8 +7,8 @@ use Rattle.prin_term.specs.declared.fault.TermFault.TheVariants.{Short}
 use Rattle.prin_term.specs.Principal.{spelling}
 use Rattle.prin_term.specs.Refusal.{FitsLimits}
 use Rattle.prin_term.specs.Reading.{term_at}
-use Rattle.prin_term.specs.Steps.{◌>>=◌, with_fault, byte_at, mark_at, number_at, optional, optional_at}
-use Rattle.prin_term.proofs.FieldLaws.{ItemAgain, IsWide, OptionFits, TakesAt-within, behind, took, byte_again, mark_again}
+use Rattle.byte_fields.specs.Steps.{◌>>=◌, with_fault, byte_at, mark_at, number_at, optional, optional_at}
+use Rattle.byte_fields.proofs.FieldLaws.{ItemAgain, IsWide, OptionFits, TakesAt-within, behind, took, byte_again, mark_again}
 use Rattle.prin_term.proofs.Whole.{prefix_refused, refused_again_at}
 
 -- where bytes and more are a text and a rest, the text stands in the bytes, or ends behind them

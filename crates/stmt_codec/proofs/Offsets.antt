@@ -1,15 +1,17 @@
 -- A body that is refused is refused at one of its bytes or right after the last.
 use Rattle.std.proofs.Common.{◌≡◌, ◌≢◌, ℕ, ◌≤◌, eqb, List, length, Ok, Err, sym, subst, arith, inl, inr}
 use Rattle.std.specs.Prelude.{nat_le, ◌==◌, if◌then◌else◌}
-use Rattle.prin_term.specs.declared.fault.FormatFault.{FormatFault}
-use Rattle.prin_term.specs.declared.fault.FormatFault.TheVariants.{Malformed, NoMemory}
-use Rattle.prin_term.specs.Formats.{ended, IsFaultIn, term_in}
+use Rattle.byte_fields.specs.declared.fault.FormatFault.{FormatFault}
+use Rattle.byte_fields.specs.declared.fault.FormatFault.TheVariants.{Malformed, NoMemory}
+use Rattle.byte_fields.specs.Formats.{ended, IsFaultIn}
+use Rattle.prin_term.specs.TermFields.{term_in}
 use Rattle.prin_term.specs.Principal.{Principal}
-use Rattle.prin_term.specs.Steps.{byte_at, mark_at}
-use Rattle.prin_term.proofs.FieldLaws.{IsBytes, TakesAt-within, byte_refused, mark_takes}
-use Rattle.prin_term.proofs.FormatPlaces.{lacking, u32_stays, u64_stays, term_in_stays, optional_term_stays}
-use Rattle.prin_term.proofs.Results.{bind_ok, bind_err, chosen_ok, chosen_err}
-use Rattle.prin_term.proofs.Staying.{Stays}
+use Rattle.byte_fields.specs.Steps.{byte_at, mark_at}
+use Rattle.byte_fields.proofs.FieldLaws.{IsBytes, TakesAt-within, byte_refused, mark_takes}
+use Rattle.byte_fields.proofs.FormatPlaces.{lacking, u32_stays, u64_stays}
+use Rattle.prin_term.proofs.TermPlaces.{term_in_stays, optional_term_stays}
+use Rattle.byte_fields.proofs.Results.{bind_ok, bind_err, chosen_ok, chosen_err}
+use Rattle.byte_fields.proofs.Staying.{Stays}
 use Rattle.stmt_codec.specs.Certificates.{Certificate, key_quoting, distinct_parts}
 use Rattle.stmt_codec.specs.Reading.{right_at, body_at}
 use Rattle.stmt_codec.proofs.Bodies.{body_takes}

@@ -5,9 +5,9 @@ use Rattle.std.specs.Int.{Width, w32, w64, to_be_bytes}
 use Rattle.prin_term.specs.declared.fault.TermFault.{TermFault}
 use Rattle.prin_term.specs.declared.fault.TermFault.TheVariants.{NoMemory}
 use Rattle.prin_term.specs.Principal.{Principal, spelling, HasSpelling}
-use Rattle.prin_term.specs.Steps.{front_number, optional}
-use Rattle.prin_term.proofs.Results.{ok_is}
-use Rattle.prin_term.proofs.FieldLaws.{IsWide, wide32, wide64, front_number_again}
+use Rattle.byte_fields.specs.Steps.{front_number, optional}
+use Rattle.byte_fields.proofs.Results.{ok_is}
+use Rattle.byte_fields.proofs.FieldLaws.{IsWide, wide32, wide64, front_number_again}
 use Rattle.prin_term.proofs.Whole.{spelled_once}
 use Rattle.stmt_codec.specs.Certificates.{Certificate, body_spelling, HasBodySpelling}
 

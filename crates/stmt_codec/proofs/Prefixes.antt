@@ -3,12 +3,12 @@ use Rattle.std.proofs.Common.{◌≡◌, ℕ, ◌+◌, ◌^◌, ◌<◌, ◌≤�
 use Rattle.std.specs.Int.{w32, w64, to_be_bytes}
 use Rattle.prin_term.specs.Principal.{Principal, spelling}
 use Rattle.prin_term.specs.Refusal.{FitsLimits}
-use Rattle.prin_term.specs.Steps.{number_at, optional}
-use Rattle.prin_term.proofs.FieldLaws.{ItemAgain, OptionFits, wide32, wide64, number_again, optional_again}
+use Rattle.byte_fields.specs.Steps.{number_at, optional}
+use Rattle.byte_fields.proofs.FieldLaws.{ItemAgain, OptionFits, wide32, wide64, number_again, optional_again}
 use Rattle.prin_term.proofs.Whole.{term_again_at}
-use Rattle.prin_term.specs.declared.fault.FormatFault.{FormatFault}
-use Rattle.prin_term.specs.declared.fault.FormatFault.TheVariants.{Malformed}
-use Rattle.prin_term.specs.Formats.{seen_as, term_in, optional_term_in}
+use Rattle.byte_fields.specs.declared.fault.FormatFault.{FormatFault}
+use Rattle.byte_fields.specs.declared.fault.FormatFault.TheVariants.{Malformed}
+use Rattle.prin_term.specs.TermFields.{seen_as, term_in, optional_term_in}
 use Rattle.stmt_codec.specs.Certificates.{Certificate, body_spelling, key_quoting, distinct_parts, IsWithinLimits, HasBodySpelling}
 use Rattle.stmt_codec.specs.Reading.{right_at, body_at}
 use Rattle.stmt_codec.proofs.Bodies.{fitting, quoted_fitting, right_again}

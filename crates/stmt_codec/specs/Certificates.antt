@@ -7,7 +7,7 @@ use Rattle.sha2.specs.Sha256.{sha256}
 use Rattle.prin_term.specs.declared.limits.TheConstants.{CERT_NODES, MAX_DEPTH}
 use Rattle.prin_term.specs.Principal.{Principal, Key, Quoting, subterms, node_count, depth}
 use Rattle.prin_term.specs.Principal.{spelling, HasSpelling}
-use Rattle.prin_term.specs.Steps.{optional}
+use Rattle.byte_fields.specs.Steps.{optional}
 use Rattle.prin_term.specs.View.{principal}
 use Rattle.stmt_codec.specs.declared.body.CertBody.{CertBody}
 use Rattle.stmt_codec.specs.declared.limits.TheConstants.{MAX_DISTINCT}

@@ -3,11 +3,12 @@ use Rattle.std.specs.Prelude.{ℕ, List, length, nat_le, if◌then◌else◌, Re
 use Rattle.std.specs.Int.{w32, w64}
 use Rattle.prin_term.specs.declared.limits.TheConstants.{CERT_NODES}
 use Rattle.prin_term.specs.Principal.{Principal}
-use Rattle.prin_term.specs.Steps.{◌>>=◌, mark_at, number_at}
-use Rattle.prin_term.specs.declared.fault.FormatFault.TheVariants.{Malformed}
+use Rattle.byte_fields.specs.Steps.{◌>>=◌, mark_at, number_at}
+use Rattle.byte_fields.specs.declared.fault.FormatFault.TheVariants.{Malformed}
 use Rattle.stmt_codec.specs.declared.limits.TheConstants.{MAX_DISTINCT}
 use Rattle.stmt_codec.specs.Certificates.{Certificate, distinct_parts, key_quoting}
-use Rattle.prin_term.specs.Formats.{FormatReader, ended, term_in, optional_term_in}
+use Rattle.byte_fields.specs.Formats.{FormatReader, ended}
+use Rattle.prin_term.specs.TermFields.{term_in, optional_term_in}
 
 -- the right term, after which there are not too many distinct subterms
 unfoldable pub right_at : Principal → Principal → List ℕ → FormatReader Principal

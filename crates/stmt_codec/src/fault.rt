@@ -4,7 +4,7 @@ ghost use Rattle.std.specs.Prelude.{◌≡◌};
 ghost use Rattle.stmt_codec.specs.declared.fault.CertFault.TheVariants.{NoMemory};
 
 /// Why bytes are no body.
-pub use prin_term::FormatFault as BodyFault;
+pub use byte_fields::FormatFault as BodyFault;
 use std::alloc::{AllocError, AllocFailed};
 use std::error::Error;
 use std::fmt;

@@ -3,10 +3,10 @@
 ghost use Rattle.std.specs.Prelude.{◌≡◌, ◌≢◌, ◌↔◌, ◌+◌, ◌<◌, ◌≤◌, ◌++◌};
 ghost use Rattle.std.specs.Prelude.{ℕ, List, length, drop, Ok, Err, All, AllPairs, Contains};
 ghost use Rattle.prin_term.specs.Principal.{Principal};
-ghost use Rattle.prin_term.specs.declared.fault.FormatFault.{FormatFault};
-ghost use Rattle.prin_term.specs.declared.fault.FormatFault.TheVariants.{Malformed};
-ghost use Rattle.prin_term.specs.Formats.{IsFaultIn};
-ghost use Rattle.prin_term.specs.Steps.{IsByte};
+ghost use Rattle.byte_fields.specs.declared.fault.FormatFault.{FormatFault};
+ghost use Rattle.byte_fields.specs.declared.fault.FormatFault.TheVariants.{Malformed};
+ghost use Rattle.byte_fields.specs.Formats.{IsFaultIn};
+ghost use Rattle.byte_fields.specs.Steps.{IsByte};
 ghost use Rattle.stmt_codec.specs.declared.limits.TheConstants.{MAX_BODY_LEN};
 ghost use Rattle.stmt_codec.specs.Certificates.{Certificate, body_spelling};
 ghost use Rattle.stmt_codec.specs.Certificates.{HasBodySpelling, IsBodyAt, IsWithinLimits};

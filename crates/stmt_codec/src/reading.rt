@@ -3,10 +3,10 @@
 ghost use Rattle.std.specs.Prelude.{◌≡◌, ◌+◌, ◌≤◌, length, IfOk, MatchResult};
 ghost use Rattle.std.specs.Option.{option_map};
 ghost use Rattle.prin_term.specs.declared.limits.TheConstants.{CERT_NODES};
-ghost use Rattle.prin_term.specs.Formats.{term_in};
-ghost use Rattle.prin_term.specs.Steps.{Gives};
+ghost use Rattle.prin_term.specs.TermFields.{term_in};
+ghost use Rattle.byte_fields.specs.Steps.{Gives};
 ghost use Rattle.prin_term.specs.View.{principal};
-ghost use Rattle.prin_term.specs.declared.fault.FormatFault.TheVariants.{NoMemory};
+ghost use Rattle.byte_fields.specs.declared.fault.FormatFault.TheVariants.{NoMemory};
 ghost use Rattle.stmt_codec.specs.Certificates.{Certificate, certificate, key_quoting};
 ghost use Rattle.stmt_codec.specs.Certificates.{body_spelling, IsBodyAt};
 ghost use Rattle.stmt_codec.specs.Reading.{right_at, body_at};
@@ -15,7 +15,7 @@ use crate::body::CertBody;
 use crate::cert::Cert;
 use crate::distinct::has_few_subterms;
 use crate::fault::BodyFault;
-use prin_term::fields::{ended, mark_at, u32_at, u64_at};
+use byte_fields::{ended, mark_at, u32_at, u64_at};
 use prin_term::{CERT_NODES, Statement, Term, read_optional_term, read_term};
 use std::alloc::Global;
 

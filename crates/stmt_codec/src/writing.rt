@@ -2,7 +2,7 @@
 
 ghost use Rattle.std.specs.Prelude.{OnOk};
 ghost use Rattle.stmt_codec.specs.Certificates.{certificate, body_spelling, HasBodySpelling};
-ghost use Rattle.prin_term.specs.Appends.{Appends, Pushes};
+ghost use Rattle.byte_fields.specs.Appends.{Appends, Pushes};
 
 use crate::body::CertBody;
 use prin_term::{write_optional_term, write_term};

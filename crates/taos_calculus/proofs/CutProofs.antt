@@ -2,12 +2,12 @@
 use Rattle.std.proofs.Common.{◌≡◌, ℕ, ◌+◌, ◌<◌, ◌≤◌, List, [], ◌++◌, length, take, Ok, Err, refl, subst, sym, ap, ◌∙◌, append-nil, arith, inl, inr, length-append}
 use Rattle.std.specs.Int.{w16, w32}
 use Rattle.std.proofs.lemmas.List.{take-append-le}
-use Rattle.prin_term.specs.Steps.{◌>>=◌, bytes_at}
-use Rattle.prin_term.proofs.FieldLaws.{bytes_takes}
-use Rattle.prin_term.proofs.Results.{bind_ok, ok_is}
-use Rattle.prin_term.proofs.Cuts.{Cuts, cuts_followed, cuts_passing, cuts_made, cuts_given, cuts_if, cuts_counted, cuts_byte, cuts_bytes, cuts_number}
-use Rattle.prin_term.specs.declared.fault.FormatFault.{FormatFault as ProofFault}
-use Rattle.prin_term.specs.declared.fault.FormatFault.TheVariants.{Malformed}
+use Rattle.byte_fields.specs.Steps.{◌>>=◌, bytes_at}
+use Rattle.byte_fields.proofs.FieldLaws.{bytes_takes}
+use Rattle.byte_fields.proofs.Results.{bind_ok, ok_is}
+use Rattle.byte_fields.proofs.Cuts.{Cuts, cuts_followed, cuts_passing, cuts_made, cuts_given, cuts_if, cuts_counted, cuts_byte, cuts_bytes, cuts_number}
+use Rattle.byte_fields.specs.declared.fault.FormatFault.{FormatFault as ProofFault}
+use Rattle.byte_fields.specs.declared.fault.FormatFault.TheVariants.{Malformed}
 use Rattle.taos_calculus.specs.declared.reading_nodes.NodeShape.{NodeShape}
 use Rattle.taos_calculus.specs.declared.reading_nodes.NodeShape.TheVariants.{Atom, Role, Pair}
 use Rattle.taos_calculus.specs.declared.reading_lines.StepShape.{StepShape}
@@ -15,7 +15,8 @@ use Rattle.taos_calculus.specs.declared.reading_lines.StepShape.TheVariants.{Bar
 use Rattle.taos_calculus.specs.Tables.{Parts, lines_of}
 use Rattle.taos_calculus.specs.Spelling.{proof_spelling}
 use Rattle.taos_calculus.specs.Spells.{Spells}
-use Rattle.taos_calculus.specs.ProofReading.{ended, u16_in, u32_in, byte_up_to, number_in, pair_in, node_shape, node_fields_at, node_at, nodes_at, gives_says, fact_at, step_shape, premises_at, step_at, line_at, lines_at, parts_at, proof_from, proof_of, proof_filling}
+use Rattle.byte_fields.specs.Formats.{ended, u16_in, u32_in}
+use Rattle.taos_calculus.specs.ProofReading.{byte_up_to, number_in, pair_in, node_shape, node_fields_at, node_at, nodes_at, gives_says, fact_at, step_shape, premises_at, step_at, line_at, lines_at, parts_at, proof_from, proof_of, proof_filling}
 use Rattle.taos_calculus.proofs.ProofLaws.{parts_in, parts_refused}
 
 module _ (front more : List ℕ) where

@@ -22,5 +22,4 @@ pub mod Checks
 pub mod Numbers
 pub mod NumberedMoving
 pub mod Asking
-pub mod Refusing
 pub mod Offsets

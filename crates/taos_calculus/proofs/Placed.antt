@@ -2,10 +2,10 @@
 use Rattle.std.proofs.Common.{◌≡◌, ℕ, zero, suc, ◌+◌, ◌<◌, ◌≤◌, List, [], ◌∷◌, ◌++◌, length, drop, Ok, leb, refl, sym, ap, subst, ◌∙◌, append_assoc, append-nil, arith, length-append}
 use Rattle.std.specs.List.{flat_map}
 use Rattle.std.proofs.lemmas.Bool.{le-leb, leb-true}
-use Rattle.prin_term.specs.Readers.{Reader, items_behind, counted}
-use Rattle.prin_term.proofs.FieldLaws.{IsBytes, TakesAt, TakesAt-then, TakesAt-none, TakesAt-within, behind}
-use Rattle.prin_term.proofs.ReaderLaws.{Reads, reads_followed, reads_passing, reads_made}
-use Rattle.prin_term.proofs.Results.{bind_ok, ok_is}
+use Rattle.byte_fields.specs.Readers.{Reader, items_behind, counted}
+use Rattle.byte_fields.proofs.FieldLaws.{IsBytes, TakesAt, TakesAt-then, TakesAt-none, TakesAt-within, behind}
+use Rattle.byte_fields.proofs.ReaderLaws.{Reads, reads_followed, reads_passing, reads_made}
+use Rattle.byte_fields.proofs.Results.{bind_ok, ok_is}
 
 -- each fits at its place, the first of them at the place n
 abbrev pub FitFrom : {A : Type 0} → (ℕ → A → Type 0) → ℕ → List A → Type 0

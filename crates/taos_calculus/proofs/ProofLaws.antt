@@ -8,14 +8,14 @@ use Rattle.std.proofs.lemmas.List.{drop_all, drop-take, take_at, length-take-le}
 use Rattle.std.proofs.lemmas.List.Elements.{All-weaker}
 use Rattle.std.proofs.lemmas.Option.{none-some, same_Some, slice_get_within, get_or_from_slice_get, slice_get-get_or}
 use Rattle.prin_term.specs.Principal.{Principal}
-use Rattle.prin_term.specs.Steps.{◌>>=◌, Gives, bytes_at}
-use Rattle.prin_term.proofs.FieldLaws.{IsBytes, IsBytes-take, TakesAt, TakesAt-within, bytes_takes, bytes_again}
-use Rattle.prin_term.proofs.ReaderLaws.{Reads, reads_followed, reads_made, reads_as, reads_counted}
-use Rattle.prin_term.proofs.Results.{bind_ok, ok_is, gives_found, gives_only}
+use Rattle.byte_fields.specs.Steps.{◌>>=◌, Gives, bytes_at}
+use Rattle.byte_fields.proofs.FieldLaws.{IsBytes, IsBytes-take, TakesAt, TakesAt-within, bytes_takes, bytes_again}
+use Rattle.byte_fields.proofs.ReaderLaws.{Reads, reads_followed, reads_made, reads_as, reads_counted}
+use Rattle.byte_fields.proofs.Results.{bind_ok, ok_is, gives_found, gives_only}
 use Rattle.stmt_codec.specs.Distinct.{same_principal}
 use Rattle.stmt_codec.proofs.Same.{same_principal-true, same_principal-itself}
-use Rattle.prin_term.specs.declared.fault.FormatFault.{FormatFault as ProofFault}
-use Rattle.prin_term.specs.declared.fault.FormatFault.TheVariants.{Malformed, NoMemory}
+use Rattle.byte_fields.specs.declared.fault.FormatFault.{FormatFault as ProofFault}
+use Rattle.byte_fields.specs.declared.fault.FormatFault.TheVariants.{Malformed, NoMemory}
 use Rattle.taos_calculus.specs.declared.line.Node.{Node}
 use Rattle.taos_calculus.specs.declared.line.Fact.{Fact}
 use Rattle.taos_calculus.specs.declared.line.Line.{Line}
@@ -26,7 +26,8 @@ use Rattle.taos_calculus.specs.Limits.{IsProofParts}
 use Rattle.taos_calculus.specs.Rules.{Line as Meaning}
 use Rattle.taos_calculus.specs.Spelling.{numbered, node_bytes, line_bytes, parts_spelling, proof_spelling}
 use Rattle.taos_calculus.specs.Spells.{NodeFits, LineFits, FitsProof, Spells}
-use Rattle.taos_calculus.specs.ProofReading.{ended, nodes_at, lines_at, parts_at, same_principals, is_canonical, proof_from, proof_of, proof_filling}
+use Rattle.byte_fields.specs.Formats.{ended}
+use Rattle.taos_calculus.specs.ProofReading.{nodes_at, lines_at, parts_at, same_principals, is_canonical, proof_from, proof_of, proof_filling}
 use Rattle.taos_calculus.proofs.Placed.{FitFrom, reads_counted_placed}
 use Rattle.taos_calculus.proofs.ProofReaders.{FitsNode, FitsFact, reads_u16, reads_u32, reads_node, reads_line}
 use Rattle.taos_calculus.proofs.Numbering.{lines_have_parts}

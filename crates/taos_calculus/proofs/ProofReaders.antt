@@ -3,10 +3,10 @@ use Rattle.std.proofs.Common.{◌≡◌, ℕ, zero, suc, ◌^◌, ◌<◌, ◌�
 use Rattle.std.specs.Int.{w16, w32, to_be_bytes}
 use Rattle.std.proofs.lemmas.Bool.{ltb-true, lt-ltb}
 use Rattle.std.proofs.lemmas.Bool.Decides.{nat_tests}
-use Rattle.prin_term.proofs.FieldLaws.{wide16, wide32}
-use Rattle.prin_term.proofs.FieldReaders.{reads_given, reads_if}
-use Rattle.prin_term.proofs.ReaderLaws.{Reads, reads_byte, reads_number, reads_followed, reads_passing, reads_made, reads_as}
-use Rattle.prin_term.specs.declared.fault.FormatFault.TheVariants.{Malformed}
+use Rattle.byte_fields.proofs.FieldLaws.{wide16, wide32}
+use Rattle.byte_fields.proofs.FieldReaders.{reads_given, reads_if}
+use Rattle.byte_fields.proofs.ReaderLaws.{Reads, reads_byte, reads_number, reads_followed, reads_passing, reads_made, reads_as}
+use Rattle.byte_fields.specs.declared.fault.FormatFault.TheVariants.{Malformed}
 use Rattle.taos_calculus.specs.declared.line.Node.{Node}
 use Rattle.taos_calculus.specs.declared.line.Fact.{Fact}
 use Rattle.taos_calculus.specs.declared.line.Step.{Step}
@@ -17,7 +17,8 @@ use Rattle.taos_calculus.specs.declared.reading_lines.StepShape.{StepShape}
 use Rattle.taos_calculus.specs.declared.reading_lines.StepShape.TheVariants.{Bare, Place, OneLine, TwoLines}
 use Rattle.taos_calculus.specs.Spelling.{pair16, pair32, node_bytes, fact_bytes, rule_byte, premise_bytes, line_bytes}
 use Rattle.taos_calculus.specs.Spells.{StepFits, LineFits, is_says, is_saying}
-use Rattle.taos_calculus.specs.ProofReading.{ended, u16_in, u32_in, byte_up_to, number_in, pair_in, NodeFields, node_shape, node_fields_at, node_tagged, node_at, gives_says, fact_at, Premises, step_shape, premises_at, step_ruled, step_at, line_at}
+use Rattle.byte_fields.specs.Formats.{ended, u16_in, u32_in}
+use Rattle.taos_calculus.specs.ProofReading.{byte_up_to, number_in, pair_in, NodeFields, node_shape, node_fields_at, node_tagged, node_at, gives_says, fact_at, Premises, step_shape, premises_at, step_ruled, step_at, line_at}
 
 -- one of so many bytes
 pub one_of_six : (P : ℕ → Type 0) → P 1 → P 2 → P 3 → P 4 → P 5 → P 6 → (k : ℕ) → 1 ≤ k → k ≤ 6 → P k

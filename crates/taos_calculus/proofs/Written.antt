@@ -4,7 +4,7 @@ use Rattle.std.specs.Prelude.{Vec, vec_capacity, Err}
 use Rattle.std.specs.List.{flat_map}
 use Rattle.std.proofs.lemmas.List.{take-append-drop, drop_more, length-append}
 use Rattle.std.proofs.lemmas.List.Concat.{flat_map-append}
-use Rattle.prin_term.specs.Appends.{Pushes}
+use Rattle.byte_fields.specs.Appends.{Pushes}
 
 -- the bytes of a front and of the next one are no more than all
 pub length_next : {X : Type 0} (f : X → List ℕ) (xs : List X) (i : ℕ) (d : X) → i < length xs →

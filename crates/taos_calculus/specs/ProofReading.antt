@@ -1,13 +1,13 @@
 -- Reading a proof from left to right, with the first fault that is met.
 use Rattle.std.specs.Prelude.{ℕ, ◌+◌, Bool, true, false, ◌&&◌, ◌||◌, List, [], ◌∷◌, length}
 use Rattle.std.specs.Prelude.{take, Result, Ok, Err, nat_lt, nat_le, ◌==◌, if◌then◌else◌}
-use Rattle.std.specs.Int.{w16, w32}
 use Rattle.prin_term.specs.Principal.{Principal}
-use Rattle.prin_term.specs.Readers.{Reader, followed, passing, made, given, counted}
-use Rattle.prin_term.specs.Steps.{◌>>=◌, byte_at, bytes_at, number_at}
+use Rattle.byte_fields.specs.Formats.{FormatReader, ended, u8_in, u16_in, u32_in}
+use Rattle.byte_fields.specs.Readers.{followed, passing, made, given, counted}
+use Rattle.byte_fields.specs.Steps.{◌>>=◌, bytes_at}
 use Rattle.stmt_codec.specs.Distinct.{same_principal}
-use Rattle.prin_term.specs.declared.fault.FormatFault.{FormatFault as ProofFault}
-use Rattle.prin_term.specs.declared.fault.FormatFault.TheVariants.{Malformed}
+use Rattle.byte_fields.specs.declared.fault.FormatFault.{FormatFault as ProofFault}
+use Rattle.byte_fields.specs.declared.fault.FormatFault.TheVariants.{Malformed}
 use Rattle.taos_calculus.specs.declared.line.Node.{Node}
 use Rattle.taos_calculus.specs.declared.line.Fact.{Fact}
 use Rattle.taos_calculus.specs.declared.line.Step.{Step}
@@ -21,25 +21,9 @@ use Rattle.taos_calculus.specs.declared.proof.TheConstants.{MAX_NODES, MAX_LINES
 use Rattle.taos_calculus.specs.Tables.{Parts, parts_of, principals_of, lines_of}
 use Rattle.taos_calculus.specs.Canonical.{canonical_table}
 
--- a reader of some bytes, with the faults of proofs
+-- a reader of some bytes, with the faults of proofs, which are those of all formats
 abbrev pub ProofReader : Type 0 → Type 0
-ProofReader A = Reader A ProofFault
-
--- the fault of bytes that are lacking, whose place is the end of the bytes
-abbrev pub ended : List ℕ → ProofFault
-ended bytes = Malformed (length bytes)
-
--- a number of one byte
-abbrev pub u8_in : List ℕ → ProofReader ℕ
-u8_in bytes = byte_at (ended bytes) bytes
-
--- a number of two bytes
-abbrev pub u16_in : List ℕ → ProofReader ℕ
-u16_in bytes = number_at (ended bytes) w16 bytes
-
--- a number of four bytes
-abbrev pub u32_in : List ℕ → ProofReader ℕ
-u32_in bytes = number_at (ended bytes) w32 bytes
+ProofReader A = FormatReader A
 
 -- a byte from 1 to the last; another is refused
 abbrev pub byte_up_to : ℕ → List ℕ → ProofReader ℕ

@@ -1,3 +1,3 @@
 //! Why bytes are no proof.
 
-pub use prin_term::FormatFault as ProofFault;
+pub use byte_fields::FormatFault as ProofFault;

@@ -3,7 +3,7 @@
 ghost use Rattle.std.specs.Prelude.{◌≡◌, ◌≢◌, ◌↔◌, ◌<◌, ◌++◌, [], List, ℕ, Ok, Err, length, All};
 ghost use Rattle.prin_term.specs.declared.term.Anchor.{Anchor};
 ghost use Rattle.prin_term.specs.Principal.{Principal};
-ghost use Rattle.prin_term.specs.declared.fault.FormatFault.TheVariants.{Malformed, NoMemory};
+ghost use Rattle.byte_fields.specs.declared.fault.FormatFault.TheVariants.{Malformed, NoMemory};
 ghost use Rattle.taos_calculus.specs.Rules.{Judgement, Claim, Line};
 ghost use Rattle.taos_calculus.specs.Tables.{Parts, lines_of};
 ghost use Rattle.taos_calculus.specs.Spelling.{numbered, proof_spelling};

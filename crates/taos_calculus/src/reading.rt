@@ -1,8 +1,8 @@
 //! Reading a proof from its bytes.
 
 ghost use Rattle.std.specs.Prelude.{◌≡◌, ◌≤◌, length, IfOk, MatchResult};
-ghost use Rattle.prin_term.specs.Steps.{Gives};
-ghost use Rattle.prin_term.specs.declared.fault.FormatFault.TheVariants.{NoMemory};
+ghost use Rattle.byte_fields.specs.Steps.{Gives};
+ghost use Rattle.byte_fields.specs.declared.fault.FormatFault.TheVariants.{NoMemory};
 ghost use Rattle.taos_calculus.specs.Tables.{Parts, parts_of};
 ghost use Rattle.taos_calculus.specs.Spells.{Spells};
 ghost use Rattle.taos_calculus.specs.ProofReading.{parts_at, proof_from, proof_of, proof_filling};
@@ -13,7 +13,7 @@ use crate::proof::Proof;
 use crate::reading_fields::ended;
 use crate::reading_lines::lines_of;
 use crate::reading_nodes::nodes_of;
-use prin_term::fields::slice_at;
+use byte_fields::slice_at;
 use std::alloc::Global;
 
 // The nodes, the lines, and the offset behind them.

@@ -1,10 +1,11 @@
 //! Fields of a proof, read at an offset.
 
 ghost use Rattle.std.specs.Prelude.{◌≡◌, ◌≤◌, ◌-◌, ◌/◌, min, length, IfOk};
-ghost use Rattle.taos_calculus.specs.ProofReading.{ended, byte_up_to, number_in, pair_in};
+ghost use Rattle.byte_fields.specs.Formats.{ended};
+ghost use Rattle.taos_calculus.specs.ProofReading.{byte_up_to, number_in, pair_in};
 
 use crate::fault::ProofFault;
-use prin_term::fields::{u8_at, u16_at};
+use byte_fields::{u8_at, u16_at};
 
 // The fewest bytes of a node, and of a line.
 const LEAST: usize = 5;

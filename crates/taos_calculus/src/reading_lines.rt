@@ -1,9 +1,9 @@
 //! Reading the lines of a proof.
 
 ghost use Rattle.std.specs.Prelude.{◌≡◌, ◌≤◌, [], length, IfOk};
-ghost use Rattle.prin_term.specs.Readers.{items_behind};
-ghost use Rattle.prin_term.specs.Steps.{Gives};
-ghost use Rattle.prin_term.specs.declared.fault.FormatFault.TheVariants.{NoMemory};
+ghost use Rattle.byte_fields.specs.Readers.{items_behind};
+ghost use Rattle.byte_fields.specs.Steps.{Gives};
+ghost use Rattle.byte_fields.specs.declared.fault.FormatFault.TheVariants.{NoMemory};
 ghost use Rattle.taos_calculus.specs.ProofReading.{gives_says, fact_at, step_shape, premises_at};
 ghost use Rattle.taos_calculus.specs.ProofReading.{step_ruled, step_at, line_at, lines_at};
 
@@ -11,7 +11,7 @@ use crate::fault::ProofFault;
 use crate::line::{Fact, Line, Step};
 use crate::proof::MAX_LINES;
 use crate::reading_fields::{byte_up_to, ended, number_of, pair_of, room_for};
-use prin_term::fields::{u16_at, u32_at};
+use byte_fields::{u16_at, u32_at};
 use std::alloc::Global;
 
 fn gives_says(rule: u8) -> bool

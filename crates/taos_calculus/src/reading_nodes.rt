@@ -1,9 +1,9 @@
 //! Reading the nodes of a proof.
 
 ghost use Rattle.std.specs.Prelude.{◌≡◌, ◌≤◌, [], length, IfOk};
-ghost use Rattle.prin_term.specs.Readers.{items_behind};
-ghost use Rattle.prin_term.specs.Steps.{Gives};
-ghost use Rattle.prin_term.specs.declared.fault.FormatFault.TheVariants.{NoMemory};
+ghost use Rattle.byte_fields.specs.Readers.{items_behind};
+ghost use Rattle.byte_fields.specs.Steps.{Gives};
+ghost use Rattle.byte_fields.specs.declared.fault.FormatFault.TheVariants.{NoMemory};
 ghost use Rattle.taos_calculus.specs.ProofReading.{node_shape, node_fields_at};
 ghost use Rattle.taos_calculus.specs.ProofReading.{node_tagged, node_at, nodes_at};
 
@@ -11,7 +11,7 @@ use crate::fault::ProofFault;
 use crate::line::Node;
 use crate::proof::MAX_NODES;
 use crate::reading_fields::{byte_up_to, ended, number_of, pair_of, room_for};
-use prin_term::fields::{u16_at, u32_at};
+use byte_fields::{u16_at, u32_at};
 use std::alloc::Global;
 
 // What stands behind the tag of a node.

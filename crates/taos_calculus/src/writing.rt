@@ -3,7 +3,7 @@
 ghost use Rattle.std.specs.Prelude.{◌≡◌, ◌++◌, ◌∷◌, ◌<◌, ◌≤◌, ◌^◌, length};
 ghost use Rattle.std.specs.Int.{w16, w32, to_be_bytes};
 ghost use Rattle.std.specs.List.{flat_map};
-ghost use Rattle.prin_term.specs.Appends.{Appends, Pushes};
+ghost use Rattle.byte_fields.specs.Appends.{Appends, Pushes};
 ghost use Rattle.taos_calculus.specs.Tables.{lines_of, parts_of};
 ghost use Rattle.taos_calculus.specs.Spelling.{proof_spelling, parts_spelling, node_bytes};
 ghost use Rattle.taos_calculus.specs.Spelling.{fact_bytes, premise_bytes, line_bytes, rule_byte};

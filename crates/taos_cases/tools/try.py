@@ -35,7 +35,7 @@ SECONDS, MOST_TURNS = 20, 1000
 # So many frames wait behind a signal, each so long that the program waits for it.
 SIGNALS, WAIT = 20, 0.02
 # So many bytes are too few for the room that is taken before the first frame is read.
-LITTLE_MEMORY = 32 * 1024 * 1024
+LITTLE_MEMORY = 8 * 1024 * 1024
 
 
 class Program:

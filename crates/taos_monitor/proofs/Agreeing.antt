@@ -246,7 +246,7 @@ guarded_ways plans plan J x own reply (object_is_full at) known = inl (record { 
 guarded_ways plans plan J x own reply (no_ruling {own = asks} before b u) known = inl (record { own = asks; placed = refl; ways = unruled_ways plan (J.shards x.shard) x.shard _ asks reply u known })
 guarded_ways plans plan J x own reply (denied {place} {at} before s d tells) known =
     inr (record { asks = place ∷ []; at = at; steps = []; placed = refl; before = before; e = ruled_as x.shard place x.request.op rulings.Denied; stands = s; entries = All-nil (IsEntry J.shards); ways = refl })
-guarded_ways plans plan J x own reply (granted {place} {at} {entry} {c} {kept} {asks} {steps} {refused} before s g p) known =
+guarded_ways plans plan J x own reply (granted {place} {at} {entry} {c} {kept} {asks} {steps} {refused} before s g p out) known =
     inr (record {
       asks = asks;
       at = at;

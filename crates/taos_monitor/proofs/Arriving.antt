@@ -15,7 +15,7 @@ use Rattle.taos_monitor.specs.Refusals.{refusal}
 use Rattle.taos_monitor.specs.Cells.{Node, Journals}
 use Rattle.taos_monitor.specs.Credentials.{LinkCall, AreOpened, none_more, one_more}
 use Rattle.taos_monitor.specs.Presenting.{AreStopped}
-use Rattle.taos_monitor.specs.Course.{Course, only_calls, cert_refused, relay_failed, unopened}
+use Rattle.taos_monitor.specs.Course.{CourseAfter, only_calls, cert_refused, relay_failed, unopened}
 
 -- an option that is none, and one that is some
 pub none_of : {X : Type 0} (o : Option X) → (IsSome o → ⊥) → o ≡ None
@@ -31,15 +31,15 @@ opened_count key texts calls certs none_more = refl
 opened_count key texts calls certs (one_more {calls = rest} {texts = others} {certs = ds} comes more) = ap suc (opened_count key others rest ds more)
 
 -- the first certificate that comes to none, or no memory for those that do
-pub not_opened : (n : Node) (J : Journals) (r : Request) (calls : List LinkCall) (f : Refusal) → AreStopped n.relay_key r.certs calls f →
-    (payload key : List ℕ) → IsAsked n.channels payload r key → Course n J payload (only_calls calls) (sealed key r (refusal f))
-not_opened n J r calls (refusals.CertRefused index code) stops payload key asked = cert_refused asked stops
-not_opened n J r calls (refusals.RelayFailed index) stops payload key asked = relay_failed asked stops
-not_opened n J r calls refusals.NoMemory stops payload key asked = unopened asked stops
-not_opened n J r calls (refusals.Malformed offset) stops payload key asked = absurd stops
-not_opened n J r calls (refusals.UnknownChannel number) stops payload key asked = absurd stops
-not_opened n J r calls refusals.BadSeal stops payload key asked = absurd stops
-not_opened n J r calls (refusals.UnknownObject number) stops payload key asked = absurd stops
+pub not_opened : (n : Node) (past J : Journals) (r : Request) (calls : List LinkCall) (f : Refusal) → AreStopped n.relay_key r.certs calls f →
+    (payload key : List ℕ) → IsAsked n.channels payload r key → CourseAfter n past J payload (only_calls calls) (sealed key r (refusal f))
+not_opened n past J r calls (refusals.CertRefused index code) stops payload key asked = cert_refused asked stops
+not_opened n past J r calls (refusals.RelayFailed index) stops payload key asked = relay_failed asked stops
+not_opened n past J r calls refusals.NoMemory stops payload key asked = unopened asked stops
+not_opened n past J r calls (refusals.Malformed offset) stops payload key asked = absurd stops
+not_opened n past J r calls (refusals.UnknownChannel number) stops payload key asked = absurd stops
+not_opened n past J r calls refusals.BadSeal stops payload key asked = absurd stops
+not_opened n past J r calls (refusals.UnknownObject number) stops payload key asked = absurd stops
 
 -- who asks is a key, or a key that quotes a small term, and speaks on the key's channel
 pub subject_fits : (channel : ℕ) (quoted : Option Principal) →

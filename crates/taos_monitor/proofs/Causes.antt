@@ -45,7 +45,7 @@ guarded_code : (plans : List Plan) (plan : Plan) (J : Journals) (x : Seeking) (o
 guarded_code plans plan J x own reply (object_is_full at) index code e = absurd cc
 guarded_code plans plan J x own reply (no_ruling {own = asks} before b u) index code e = unruled_code plan (J.shards x.shard) x.shard _ asks reply u index code e
 guarded_code plans plan J x own reply (denied before s d tells) index code e = absurd cc
-guarded_code plans plan J x own reply (granted {place} {entry} {c} {kept} {steps} {refused = after} before s g p) index code e =
+guarded_code plans plan J x own reply (granted {place} {entry} {c} {kept} {steps} {refused = after} before s g p out) index code e =
     performed_code plans J.shards x.request.op x.certs x.reading (Granted kept entry x.shard place c.proof c.cites (gives_for x before)) steps after p index code (λ same. cc) e
 
 pub codes_are_known : (n : Node) → CodesAreKnown n

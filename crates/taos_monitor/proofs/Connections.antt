@@ -110,7 +110,7 @@ module _ (s : Setting) where
             read = append-nil (readings_of told.turns);
             owned = refl;
             ascending = told.made.goes_on.ascending;
-            filled = told.made.filled;
+            filled = rw u.unchanged told.made.filled;
             replies_are = sym told.replies_are;
           };
           gave = gave_on before.service.clock a.middle.clock after.service.clock (readings_of told.turns) [] told.made.gave u.keeps;

@@ -25,7 +25,7 @@ use Rattle.taos_monitor.specs.Cells.{Node, Cell, Journals, Viewed, seen_of, AreL
 use Rattle.taos_monitor.specs.World.{Setting, World, setting_of, world_of}
 use Rattle.taos_monitor.specs.Credentials.{link_use}
 use Rattle.taos_monitor.specs.AtObject.{Seeking, places_at}
-use Rattle.taos_monitor.specs.Course.{Arrival, Used, uses, nothing, only_calls, Course, ruled}
+use Rattle.taos_monitor.specs.Course.{Arrival, Used, uses, nothing, only_calls, CourseAfter, ruled}
 use Rattle.taos_monitor.specs.Arriving.{node_of, IsNotAsked, Arrives, NotArrives}
 use Rattle.taos_monitor.specs.Ruling.{Leaves, GuardedTo, standing_of}
 use Rattle.taos_monitor.specs.Handling.{HandledTo, StoppedAtClock, Handles, Answers}
@@ -38,11 +38,11 @@ module _ (keys : NodeKeys) (plans : List Plan) (objects : List ObjectFixed) (alo
   node = node_of keys plans objects
 
   -- the key of the payload's channel is that one
-  under_key : (J : Journals) (used : Used) (reply : Reply) →
-      ((payload k : List ℕ) → IsAsked node.channels payload r k → Course node J payload used (sealed k r reply)) →
-      (payload k : List ℕ) → IsAsked node.channels payload r k → Course node J payload used (sealed key r reply)
-  under_key J used reply f payload k asked =
-      subst (λ (other : List ℕ). Course node J payload used (sealed other r reply)) (same_Some k key (sym asked.keyed ∙ known)) (f payload k asked)
+  under_key : (past J : Journals) (used : Used) (reply : Reply) →
+      ((payload k : List ℕ) → IsAsked node.channels payload r k → CourseAfter node past J payload used (sealed k r reply)) →
+      (payload k : List ℕ) → IsAsked node.channels payload r k → CourseAfter node past J payload used (sealed key r reply)
+  under_key past J used reply f payload k asked =
+      subst (λ (other : List ℕ). CourseAfter node past J payload used (sealed other r reply)) (same_Some k key (sym asked.keyed ∙ known)) (f payload k asked)
 
   pub refused_to : (clock : Option (List ℕ)) (f : Refusal) (bytes : List ℕ) → AreLegalIn plans objects (seen_of shards0 objects0).journals → NotArrives keys objects (link_use says keys.node faults0 faults1) r f →
       bytes ≡ spelling (sealed key r (refusal f)) → length bytes < 2 ^ 32 →
@@ -52,7 +52,8 @@ module _ (keys : NodeKeys) (plans : List Plan) (objects : List ObjectFixed) (alo
     sent = sealed key r (refusal f);
     goes_on = stood alone (seen_of shards0 objects0);
     legal = legal;
-    course = under_key (seen_of shards0 objects0).journals (only_calls stops.calls) (refusal f) (λ payload k asked. stops.course plans (seen_of shards0 objects0).journals payload k asked);
+    course = under_key (seen_of shards0 objects0).journals (seen_of shards0 objects0).journals (only_calls stops.calls) (refusal f)
+        (λ payload k asked. stops.course plans (seen_of shards0 objects0).journals (seen_of shards0 objects0).journals payload k asked);
     gave = Keeps-refl clock;
     linked = stops.linked;
     spelled = spelled;
@@ -87,7 +88,7 @@ module _ (keys : NodeKeys) (plans : List Plan) (objects : List ObjectFixed) (alo
           sent = sealed key r left.reply;
           goes_on = x.goes_on;
           legal = x.legal;
-          course = under_key (seen_of shards1 objects1).journals used left.reply (λ payload k asked. ruled (arrival payload k asked) reading x.plan x.planned x.guarded);
+          course = under_key (seen_of shards0 objects0).journals (seen_of shards1 objects1).journals used left.reply (λ payload k asked. ruled (arrival payload k asked) reading x.plan x.planned x.guarded);
           gave = (clock1, shows, Keeps-refl clock1);
           linked = came.linked;
           spelled = left.spelled;
@@ -105,7 +106,7 @@ unasked_to keys plans objects alone says faults shards0 objects0 clock payload f
   sent = unsealed (refusal f);
   goes_on = stood alone (seen_of shards0 objects0);
   legal = legal;
-  course = stops plans objects (seen_of shards0 objects0).journals;
+  course = stops plans objects (seen_of shards0 objects0).journals (seen_of shards0 objects0).journals;
   gave = Keeps-refl clock;
   linked = quiet_linked says keys.node faults faults [] (none_called says keys.node faults);
   spelled = spelled;

@@ -62,21 +62,21 @@ module _ (c : Came) (o : ObjectSeen) where
       at_shard : (Others : Plan → List Entry → List ℕ → Type 0) → AskedAt plans alone old new h Others → AskedAt plans alone old new c.shard Others
       at_shard Others x = subst (λ (s : ℕ). AskedAt plans alone old new s Others) (sym shard) x
 
-      pub decided_ended : (ended : Asked) → (x : AskedAt plans alone old new h (λ plan journal own. AskEnds plan journal (ask_came c list) ended own)) → (ruled : Option Ruled) (reply : Reply) →
+      pub decided_ended : length o.journal < o.limit → (ended : Asked) → (x : AskedAt plans alone old new h (λ plan journal own. AskEnds plan journal (ask_came c list) ended own)) → (ruled : Option Ruled) (reply : Reply) →
           IsToldBy (telling (request c.asked.now) o c.shard ended.place ended.kept) ended.verdict ruled reply → Decided ruled reply
-      decided_ended ended x ruled reply told =
+      decided_ended room ended x ruled reply told =
           at_shard (λ plan journal own. IsRuled (shard_of plan journal) (seeking_of c (fixed_of o)) o.journal ruled own reply)
           (ended_as plans alone old new h (λ plan journal own. AskEnds plan journal (ask_came c list) ended own)
           (λ plan journal own. IsRuled (shard_of plan journal) (seeking_of c (fixed_of o)) o.journal ruled own reply) x
-          (ruled_by x.plan (new.seen h) (seeking_of c (fixed_of o)) o.journal ended.place ended.verdict ended.kept ended.settled x.own ruled reply
+          (ruled_by x.plan (new.seen h) (seeking_of c (fixed_of o)) o.journal room ended.place ended.verdict ended.kept ended.settled x.own ruled reply
           (subst (λ (a : Ask). AskEnds x.plan (new.seen h) a ended x.own) (same_ask list stands same) x.ends) told))
 
-      pub decided_lacked : AskedAt plans alone old new h (λ plan journal own. Unanswered plan journal (ask_came c list) own) → Decided None replies.NoMemory
-      decided_lacked x =
+      pub decided_lacked : length o.journal < o.limit → AskedAt plans alone old new h (λ plan journal own. Unanswered plan journal (ask_came c list) own) → Decided None replies.NoMemory
+      decided_lacked room x =
           at_shard (λ plan journal own. IsRuled (shard_of plan journal) (seeking_of c (fixed_of o)) o.journal None own replies.NoMemory)
           (ended_as plans alone old new h (λ plan journal own. Unanswered plan journal (ask_came c list) own)
           (λ plan journal own. IsRuled (shard_of plan journal) (seeking_of c (fixed_of o)) o.journal None own replies.NoMemory) x
-          (unruled (unanswered (subst (λ (a : Ask). Unanswered x.plan (new.seen h) a x.own) (same_ask list stands same) x.ends))))
+          (unruled room (unanswered (subst (λ (a : Ask). Unanswered x.plan (new.seen h) a x.own) (same_ask list stands same) x.ends))))
 
       pub may_be_told : (ended : Asked) → (x : AskedAt plans alone old new h (λ plan journal own. AskEnds plan journal (ask_came c list) ended own)) → All IsPlan plans → length list ≤ 8 → MayTell (list_of o) ended.verdict
       may_be_told ended x sound few =

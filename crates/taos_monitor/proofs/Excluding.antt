@@ -42,7 +42,7 @@ guarded_late : (plans : List Plan) (plan : Plan) (J : Journals) (x : Seeking) (o
 guarded_late plans plan J x own reply (object_is_full at) = late 10 (inr (inr (inr (inr (inl refl)))))
 guarded_late plans plan J x own reply (no_ruling {own = asks} before b u) = unruled_late plan (J.shards x.shard) x.shard _ asks reply u
 guarded_late plans plan J x own reply (denied before s d tells) = late 1 (inr (inl refl))
-guarded_late plans plan J x own reply (granted {steps} {refused} before s g p) = performed_late plans J.shards x.request.op x.certs x.reading _ steps refused (late 0 (inl refl)) p
+guarded_late plans plan J x own reply (granted {steps} {refused} before s g p out) = performed_late plans J.shards x.request.op x.certs x.reading _ steps refused (late 0 (inl refl)) p
 
 -- a refusal of what was presented, or of the object's number
 abbrev IsPresented : ℕ → Type 0

@@ -1,26 +1,30 @@
 -- A journal that a turn found full has no place of a later one.
-use Rattle.std.proofs.Common.{◌≡◌, ◌≢◌, ℕ, ◌<◌, ◌≤◌, Bool, true, false, List, [], ◌∷◌, ◌++◌, length, map, All, AllPairs, Option, Some, sym, ap, subst, ◌∙◌, arith, inl, inr, append_assoc, length-append}
+use Rattle.std.proofs.Common.{◌≡◌, ◌≢◌, ℕ, ◌<◌, ◌≤◌, Bool, true, false, List, [], ◌∷◌, ◌++◌, length, map, get_or, slice_get, All, AllPairs, Contains, Option, Some, sym, ap, subst, subst₂, ◌∙◌, arith, inl, inr, append_assoc, length-append}
 use Rattle.std.proofs.lemmas.List.Elements.{All-nil, All-cons, All-head, All-tail, All-append, All-contains, filter_map-append}
 use Rattle.std.proofs.lemmas.List.Quantifiers.{all_pairs_push}
+use Rattle.std.proofs.lemmas.Option.{same_Some}
 use Rattle.taos_wire.specs.Reply as replies
 use Rattle.taos_wire.specs.Reply.{Reply, Granted, Sent}
+use Rattle.object_core.specs.Objects.{ObjectEntry}
 use Rattle.object_core.specs.Operation.{Op}
+use Rattle.object_core.specs.declared.ruling.Ruling.TheVariants as rulings
 use Rattle.object_core.specs.Shelving.{ObjectFixed, fixed_at}
 use Rattle.stmt_codec.specs.Certificates.{Certificate}
 use Rattle.proof_cache.specs.Cached.{Cached}
 use Rattle.agent_core.specs.declared.asked.Settled.{Settled}
 use Rattle.agent_core.specs.declared.told.Told.{Told}
-use Rattle.agent_core.specs.State.{Plan, Ask, Event}
-use Rattle.agent_core.specs.Journals.{Entry, Stands}
+use Rattle.agent_core.specs.State.{Plan, Ask, Event, Asks}
+use Rattle.agent_core.specs.Journals.{Entry, Stands, entry}
 use Rattle.agent_core.specs.Asked.{IsGrant, by_kept, was_kept, was_dropped, had_no_room}
 use Rattle.taos_monitor.specs.Asking.{IsUnruled, full, replayed, channel_full, untold, unanswered, shard_full}
-use Rattle.taos_monitor.specs.AtObject.{Seeking, Own, own_at, places_at, told_or, object_full, gives_for, IsGuarded, object_is_full, no_ruling, denied, granted}
-use Rattle.taos_monitor.specs.Cells.{Node, HasPlan, Journals, Cell, OfShard, OfObject, Place, in_shard, in_object, number_in, numbers_in, entries_in, AreLegal}
+use Rattle.taos_monitor.specs.AtObject.{Seeking, Own, own_at, places_at, ruled_as, told_or, object_full, gives_for, IsGuarded, object_is_full, no_ruling, denied, granted}
+use Rattle.taos_monitor.specs.Cells.{Node, HasPlan, Journals, Cell, OfShard, OfObject, Place, in_shard, in_object, number_in, numbers_in, entries_in, AreLegal, Extends}
 use Rattle.taos_monitor.specs.Course.{Used, Course, malformed, unknown_channel, bad_seal, cert_refused, relay_failed, unknown_object, ruled, unread, unopened}
 use Rattle.taos_monitor.specs.Effects.{ShardStep, its_place, step_at, IsStep, IsPerformed, through, not_held, no_room, no_place}
-use Rattle.taos_monitor.specs.Run.{Turn, IsCourse, IsMade, FoundFull, IsFilledBefore}
+use Rattle.taos_monitor.specs.Run.{Turn, IsCourse, IsMade, WasMade, FoundFull, IsFilledBefore}
 use Rattle.taos_monitor.specs.Laws.{NoEntryAfterFull}
 use Rattle.taos_monitor.proofs.Going.{numbers_here}
+use Rattle.taos_monitor.proofs.Places.{stands_at, was_there, numbers_all, ruling_place, the_only}
 use Rattle.taos_monitor.proofs.Short.{short}
 
 -- ---- what status 10, and a grant without a place for its proof, say of the journal
@@ -36,6 +40,15 @@ which a b h s l m e = cc
 
 two_sorts : (h s l m : ℕ) → object_full h l ≡ shard_full s m → ⊥
 two_sorts h s l m e = let same = which 0 1 h s l m e in absurd (omega (arith, same))
+
+no_number : (q : ℕ) → [] ≡ q ∷ [] → ⊥
+no_number q e = cc
+
+head_is : (a b : ℕ) (xs ys : List ℕ) → a ∷ xs ≡ b ∷ ys → a ≡ b
+head_is a b xs ys e = cc
+
+none_in : (k : ℕ) → Contains [] k → ⊥
+none_in k (i, lt, is) = absurd (omega (arith, lt))
 
 -- the journal of the cell stands at its limit
 abbrev IsFull : Node → Journals → Cell → Type 0
@@ -75,6 +88,28 @@ module _ (n : Node) (J : Journals) (h : ℕ) (plan : Plan) (planned : HasPlan n 
   unkept_full place entry c kept settled own (was_dropped {keep} g t) s content made q rest one = absurd (two_first place keep q rest one)
   unkept_full place entry c kept settled own (had_no_room g at) s content made q rest one = subst (λ (k : ℕ). IsFull n J (OfShard k)) made (plan, planned, at)
 
+  not_miss : (b : Ask) (e : ℕ) → entry (Asks a) (Told.Hit e) ≡ entry (Asks b) Told.Miss → ⊥
+  not_miss b e same = two_tales e (ap (λ (x : Entry). x.told) same)
+    where
+      two_tales : (e : ℕ) → Told.Hit e ≡ Told.Miss → ⊥
+      two_tales e same = cc
+
+  -- one that was made is not one that was kept before
+  missed_full : (place e : ℕ) (c : Cached) (kept : Bool) (settled : Settled) (own : List ℕ) → IsGrant plan (J.shards h) a place e c kept settled own →
+      (b : Ask) → slice_get (J.shards h) place ≡ Some (entry (Asks b) Told.Miss) → (q : ℕ) (rest : List ℕ) → own ++ rest ≡ q ∷ [] → IsFull n J (OfShard h)
+  missed_full place e c kept settled own (by_kept hit) b missed q rest one =
+      absurd (not_miss b e (same_Some (entry (Asks a) (Told.Hit e)) (entry (Asks b) Told.Miss) (sym (stands_at hit.stands) ∙ missed)))
+  missed_full place e c kept settled own (was_kept {keep} g t) b missed q rest one = absurd (two_first place keep q rest one)
+  missed_full place e c kept settled own (was_dropped {keep} g t) b missed q rest one = absurd (two_first place keep q rest one)
+  missed_full place e c kept settled own (had_no_room g at) b missed q rest one = (plan, planned, at)
+
+  -- it is the first of its places
+  grant_first : (place e : ℕ) (c : Cached) (kept : Bool) (settled : Settled) (own : List ℕ) → IsGrant plan (J.shards h) a place e c kept settled own → (q : ℕ) (rest : List ℕ) → own ++ rest ≡ q ∷ [] → place ≡ q
+  grant_first place e c kept settled own (by_kept hit) q rest one = head_is place q rest [] one
+  grant_first place e c kept settled own (was_kept {keep} g t) q rest one = head_is place q (keep ∷ rest) [] one
+  grant_first place e c kept settled own (was_dropped {keep} g t) q rest one = head_is place q (keep ∷ rest) [] one
+  grant_first place e c kept settled own (had_no_room g at) q rest one = head_is place q rest [] one
+
 module _ (n : Node) (J : Journals) (op : Op) (certs : List Certificate) (reading : ℕ) (told : Reply) where
   performed_full : (steps : List ShardStep) (refused : Option Reply) → IsPerformed n.plans J.shards op certs reading steps refused → (s limit : ℕ) → (told ≡ shard_full s limit → ⊥) → told_or refused told ≡ shard_full s limit → IsFull n J (OfShard s)
   performed_full steps refused (through w lets) s limit not e = absurd (not e)
@@ -111,21 +146,21 @@ module _ (n : Node) (J : Journals) (plan : Plan) (x : Seeking) (planned : HasPla
   guarded_full own reply (object_is_full at) s limit e = absurd (two_sorts x.request.object s x.fixed.limit limit e)
   guarded_full own reply (no_ruling {own = asks} before b u) s limit e = unruled_full n J x.shard plan planned _ asks reply u s limit e
   guarded_full own reply (denied before st d tells) s limit e = absurd cc
-  guarded_full own reply (granted {place} {entry} {c} {kept} {steps = ss} {refused} before st g p) s limit e =
+  guarded_full own reply (granted {place} {entry} {c} {kept} {steps = ss} {refused} before st g p out) s limit e =
       performed_full n J x.request.op x.certs x.reading (Granted kept entry x.shard place c.proof c.cites (gives_for x before)) ss refused p s limit (λ same. cc) e
 
   guarded_object : (own : Own) (reply : Reply) → IsGuarded n.plans plan J x own reply → (o limit : ℕ) → reply ≡ object_full o limit → IsFull n J (OfObject o)
   guarded_object own reply (object_is_full at) o limit e = subst (λ (k : ℕ). IsFull n J (OfObject k)) (same_object x.request.object o x.fixed.limit limit e) (x.fixed, there, at)
   guarded_object own reply (no_ruling {own = asks} before b u) o limit e = absurd (no_object_full n J x.shard plan planned _ asks reply u o limit e)
   guarded_object own reply (denied before st d tells) o limit e = absurd cc
-  guarded_object own reply (granted {place} {entry} {c} {kept} {steps = ss} {refused} before st g p) o limit e =
+  guarded_object own reply (granted {place} {entry} {c} {kept} {steps = ss} {refused} before st g p out) o limit e =
       absurd (performed_object n J x.request.op x.certs x.reading (Granted kept entry x.shard place c.proof c.cites (gives_for x before)) ss refused p o limit (λ same. cc) e)
 
   guarded_unkept : (own : Own) (reply : Reply) → IsGuarded n.plans plan J x own reply → (s : ℕ) → IsMade s reply → (q : ℕ) → numbers_in (OfShard s) (places_at x own) ≡ q ∷ [] → IsFull n J (OfShard s)
   guarded_unkept own reply (object_is_full at) s made q one = absurd made
   guarded_unkept own reply (no_ruling {own = asks} before b u) s made q one = absurd (not_made n J x.shard plan planned _ asks reply u s made)
   guarded_unkept own reply (denied before st d tells) s made q one = absurd made
-  guarded_unkept own reply (granted {place} {at} {entry} {c} {kept} {settled} {asks} {steps} {refused} before st g p) s made q one =
+  guarded_unkept own reply (granted {place} {at} {entry} {c} {kept} {settled} {asks} {steps} {refused} before st g p out) s made q one =
       let was = performed_made n J x.request.op x.certs x.reading (Granted kept entry x.shard place c.proof c.cites (gives_for x before)) steps refused p s made in
       let here = made_here kept entry x.shard place c (gives_for x before) s was in
       let (rest, first) = numbers_first x (own_at asks (at ∷ []) steps) in
@@ -136,33 +171,60 @@ module _ (n : Node) (J : Journals) (plan : Plan) (x : Seeking) (planned : HasPla
       made_here true entry shard place c content s made = absurd made
       made_here false entry shard place c content s made = made
 
-found_full : (n : Node) (J : Journals) (payload : List ℕ) (used : Used) (sent : Sent) (cell : Cell) → Course n J payload used sent → FoundFull cell (record { frame = payload; used = used; sent = sent }) → IsFull n J cell
+  -- the entry of the ruling is the one that was made at the place
+  is_ruled : (s q o n at : ℕ) (op : Op) (chosen : ℕ) (e : ObjectEntry) → o ≡ x.request.object → n ≡ at → slice_get (J.objects o) n ≡ Some (ruled_as s q op (rulings.Granted chosen)) →
+      slice_get (J.objects x.request.object) at ≡ Some e → e ≡ ruled_as s q op (rulings.Granted chosen)
+  is_ruled s q o n at op chosen e same here one two =
+      same_Some e (ruled_as s q op (rulings.Granted chosen)) (sym two ∙ subst₂ (λ (t k : ℕ). slice_get (J.objects t) k ≡ Some (ruled_as s q op (rulings.Granted chosen))) same here one)
+
+  guarded_missed : (own : Own) (reply : Reply) → IsGuarded n.plans plan J x own reply → (s q : ℕ) → WasMade J s q (places_at x own) → numbers_in (OfShard s) (places_at x own) ≡ q ∷ [] → IsFull n J (OfShard s)
+  guarded_missed own reply (object_is_full at) s q was one = absurd (no_number q one)
+  guarded_missed own reply (no_ruling {own = asks} before b u) s q was one =
+      absurd (none_in was.at (ruling_place x (own_at asks [] []) was.object was.at was.owned).1)
+  guarded_missed own reply (denied {place} {at} before st d tells) s q was one =
+      let (same, there) = ruling_place x (own_at (place ∷ []) (at ∷ []) []) was.object was.at was.owned in
+      absurd (not_granted was.chosen (ap (λ (e : ObjectEntry). e.ruling) (is_ruled s q was.object was.at at was.op was.chosen _ same (the_only at was.at there) was.granted (stands_at st))))
+    where
+      not_granted : (chosen : ℕ) → rulings.Denied ≡ rulings.Granted chosen → ⊥
+      not_granted chosen e = cc
+  guarded_missed own reply (granted {place} {at} {entry = e} {c} {kept} {settled} {asks} {steps} {refused} before st g p out) s q was one =
+      let (same, there) = ruling_place x (own_at asks (at ∷ []) steps) was.object was.at was.owned in
+      let is = is_ruled s q was.object was.at at was.op was.chosen _ same (the_only at was.at there) was.granted (stands_at st) in
+      let here : x.shard ≡ s = ap (λ (e : ObjectEntry). e.shard) is in
+      let at_q : place ≡ q = ap (λ (e : ObjectEntry). e.place) is in
+      let (rest, first) = numbers_first x (own_at asks (at ∷ []) steps) in
+      let own_one = sym first ∙ subst (λ (k : ℕ). numbers_in (OfShard k) (places_at x (own_at asks (at ∷ []) steps)) ≡ q ∷ []) (sym here) one in
+      let missed = subst₂ (λ (t k : ℕ). slice_get (J.shards t) k ≡ Some (entry (Asks was.ask) Told.Miss)) (sym here) (sym at_q) was.missed in
+      subst (λ (k : ℕ). IsFull n J (OfShard k)) here (missed_full n J x.shard plan planned _ place e c kept settled asks g was.ask missed q rest own_one)
+
+found_full : (n : Node) (J : Journals) (payload : List ℕ) (used : Used) (sent : Sent) (cell : Cell) → Course n J payload used sent → FoundFull J cell (record { frame = payload; used = used; sent = sent }) → IsFull n J cell
 found_full n J payload used sent (OfShard s) (malformed none reads) (inl (limit, e)) = absurd cc
-found_full n J payload used sent (OfShard s) (malformed none reads) (inr (made, one)) = absurd made
+found_full n J payload used sent (OfShard s) (malformed none reads) (inr (q, one, how)) = absurd (no_number q one)
 found_full n J payload used sent (OfObject o) (malformed none reads) (limit, e) = absurd cc
 found_full n J payload used sent (OfShard s) (unknown_channel r spelled none) (inl (limit, e)) = absurd cc
-found_full n J payload used sent (OfShard s) (unknown_channel r spelled none) (inr (made, one)) = absurd made
+found_full n J payload used sent (OfShard s) (unknown_channel r spelled none) (inr (q, one, how)) = absurd (no_number q one)
 found_full n J payload used sent (OfObject o) (unknown_channel r spelled none) (limit, e) = absurd cc
 found_full n J payload used sent (OfShard s) (bad_seal r key spelled keyed other) (inl (limit, e)) = absurd cc
-found_full n J payload used sent (OfShard s) (bad_seal r key spelled keyed other) (inr (made, one)) = absurd made
+found_full n J payload used sent (OfShard s) (bad_seal r key spelled keyed other) (inr (q, one, how)) = absurd (no_number q one)
 found_full n J payload used sent (OfObject o) (bad_seal r key spelled keyed other) (limit, e) = absurd cc
 found_full n J payload used sent (OfShard s) (cert_refused asked first) (inl (limit, e)) = absurd cc
-found_full n J payload used sent (OfShard s) (cert_refused asked first) (inr (made, one)) = absurd made
+found_full n J payload used sent (OfShard s) (cert_refused asked first) (inr (q, one, how)) = absurd (no_number q one)
 found_full n J payload used sent (OfObject o) (cert_refused asked first) (limit, e) = absurd cc
 found_full n J payload used sent (OfShard s) (relay_failed asked first) (inl (limit, e)) = absurd cc
-found_full n J payload used sent (OfShard s) (relay_failed asked first) (inr (made, one)) = absurd made
+found_full n J payload used sent (OfShard s) (relay_failed asked first) (inr (q, one, how)) = absurd (no_number q one)
 found_full n J payload used sent (OfObject o) (relay_failed asked first) (limit, e) = absurd cc
 found_full n J payload used sent (OfShard s) (unknown_object opened none) (inl (limit, e)) = absurd cc
-found_full n J payload used sent (OfShard s) (unknown_object opened none) (inr (made, one)) = absurd made
+found_full n J payload used sent (OfShard s) (unknown_object opened none) (inr (q, one, how)) = absurd (no_number q one)
 found_full n J payload used sent (OfObject o) (unknown_object opened none) (limit, e) = absurd cc
 found_full n J payload used sent (OfShard s) (ruled {own} {reply} t reading plan planned r) (inl (limit, e)) = guarded_full n J plan _ planned t.arrived.there own reply r s limit e
-found_full n J payload used sent (OfShard s) (ruled {own} {reply} t reading plan planned r) (inr (made, (q, one))) = guarded_unkept n J plan _ planned t.arrived.there own reply r s made q one
+found_full n J payload used sent (OfShard s) (ruled {own} {reply} t reading plan planned r) (inr (q, one, inl made)) = guarded_unkept n J plan _ planned t.arrived.there own reply r s made q one
+found_full n J payload used sent (OfShard s) (ruled {own} {reply} t reading plan planned r) (inr (q, one, inr was)) = guarded_missed n J plan _ planned t.arrived.there own reply r s q was one
 found_full n J payload used sent (OfObject o) (ruled {own} {reply} t reading plan planned r) (limit, e) = guarded_object n J plan _ planned t.arrived.there own reply r o limit e
 found_full n J payload used sent (OfShard s) unread (inl (limit, e)) = absurd cc
-found_full n J payload used sent (OfShard s) unread (inr (made, one)) = absurd made
+found_full n J payload used sent (OfShard s) unread (inr (q, one, how)) = absurd (no_number q one)
 found_full n J payload used sent (OfObject o) unread (limit, e) = absurd cc
 found_full n J payload used sent (OfShard s) (unopened asked interrupted) (inl (limit, e)) = absurd cc
-found_full n J payload used sent (OfShard s) (unopened asked interrupted) (inr (made, one)) = absurd made
+found_full n J payload used sent (OfShard s) (unopened asked interrupted) (inr (q, one, how)) = absurd (no_number q one)
 found_full n J payload used sent (OfObject o) (unopened asked interrupted) (limit, e) = absurd cc
 
 -- ---- the places of a course are there
@@ -228,7 +290,7 @@ guarded_there : (plans : List Plan) (plan : Plan) (J : Journals) (x : Seeking) (
 guarded_there plans plan J x own reply (object_is_full stopped) = All-nil (IsThere J)
 guarded_there plans plan J x own reply (no_ruling {own = asks} before b u) = places_there J x asks [] [] (unruled_there plan (J.shards x.shard) x.shard _ asks reply u) (All-nil (IsThere J)) (All-nil (IsThere J))
 guarded_there plans plan J x own reply (denied {place} {at} before s d tells) = places_there J x (place ∷ []) (at ∷ []) [] (one_in (J.shards x.shard) place (stands_within d.stands)) (one_there J x.request.object at (stands_within s)) (All-nil (IsThere J))
-guarded_there plans plan J x own reply (granted {place} {at} {entry} {c} {kept} {settled} {asks} {steps} {refused} before s g p) =
+guarded_there plans plan J x own reply (granted {place} {at} {entry} {c} {kept} {settled} {asks} {steps} {refused} before s g p out) =
     places_there J x asks (at ∷ []) steps (grant_there plan (J.shards x.shard) _ place entry c kept settled asks g) (one_there J x.request.object at (stands_within s)) (performed_there plans J x.request.op x.certs x.reading steps refused p)
 
 course_there : (n : Node) (J : Journals) (payload : List ℕ) (used : Used) (sent : Sent) → Course n J payload used sent → AreThere J used.places
@@ -244,27 +306,56 @@ course_there n J payload used sent (unopened asked interrupted) = All-nil (IsThe
 
 -- ---- one turn more
 
-module _ (n : Node) (J K : Journals) (legal : AreLegal n K) (t : Turn) (course : IsCourse n K t) (new : All (λ (p : Place). entries_in J p.cell ≤ p.number) t.used.places) where
+-- what a turn found full, it found full when its entries had come
+found_before : (n : Node) (J K : Journals) → Extends J K → (t : Turn) → IsCourse n J t → (cell : Cell) → FoundFull K cell t → FoundFull J cell t
+found_before n J K goes t course (OfObject o) found = found
+found_before n J K goes t course (OfShard s) (inl told) = inl told
+found_before n J K goes t course (OfShard s) (inr (q, one, inl made)) = inr (q, one, inl made)
+found_before n J K goes t course (OfShard s) (inr (q, one, inr was)) =
+    let there = course_there n J t.frame t.used t.sent course in
+    let In : ℕ → Type 0 = λ (k : ℕ). k < length (J.shards s) in
+    let within = All-head In q [] (subst (All In) one (numbers_all In (OfShard s) t.used.places (λ k d lt same. omega (arith, there k d lt, ap (entries_in J) same)))) in
+    inr (
+      q,
+      one,
+      inr (record {
+        ask = was.ask;
+        missed = was_there (J.shards s) (K.shards s) q _ (goes.shards s) within was.missed;
+        object = was.object;
+        at = was.at;
+        owned = was.owned;
+        op = was.op;
+        chosen = was.chosen;
+        granted = was_there (J.objects was.object) (K.objects was.object) was.at _ (goes.objects was.object)
+            (All-contains (IsThere J) t.used.places (in_object was.object was.at) there was.owned) was.granted;
+      }),
+    )
+
+pub filled_stays : (n : Node) (J K : Journals) → Extends J K → (turns : List Turn) → All (IsCourse n J) turns → AllPairs (IsFilledBefore J) turns → AllPairs (IsFilledBefore K) turns
+filled_stays n J K goes turns courses filled i j d lt within cell found =
+    filled i j d lt within cell (found_before n J K goes (get_or turns i d) (courses i d (omega (arith, lt, within))) cell found)
+
+module _ (n : Node) (J K : Journals) (goes : Extends J K) (legal : AreLegal n K) (t : Turn) (course : IsCourse n K t) (new : All (λ (p : Place). entries_in J p.cell ≤ p.number) t.used.places) where
   -- a full journal does not go on
   limits : (cell : Cell) → IsFull n J cell → entries_in K cell ≤ entries_in J cell
   limits (OfShard s) (plan, planned, at) = omega (arith, at, short plan (K.shards s) (legal.shards s plan planned))
   limits (OfObject o) (f, there, at) = omega (arith, at, legal.objects o f there)
 
   -- a new place would stand past the limit
-  comes_after : (u : Turn) → IsCourse n J u → IsFilledBefore u t
+  comes_after : (u : Turn) → IsCourse n J u → IsFilledBefore K u t
   comes_after u done cell found =
-      let less = limits cell (found_full n J u.frame u.used u.sent cell done found) in
+      let less = limits cell (found_full n J u.frame u.used u.sent cell done (found_before n J K goes u done cell found)) in
       λ k d lt same. omega (arith, new k d lt, course_there n K t.frame t.used t.sent course k d lt, ap (entries_in J) same, ap (entries_in K) same, less)
 
-pub none_filled : AllPairs IsFilledBefore []
-none_filled = λ i j d lt within. absurd (omega (arith, within))
+pub none_filled : (J : Journals) → AllPairs (IsFilledBefore J) []
+none_filled J = λ i j d lt within. absurd (omega (arith, within))
 
-pub filled_more : (n : Node) (J K : Journals) → AreLegal n K → (turns : List Turn) → All (IsCourse n J) turns → AllPairs IsFilledBefore turns →
-    (t : Turn) → IsCourse n K t → All (λ (p : Place). entries_in J p.cell ≤ p.number) t.used.places → AllPairs IsFilledBefore (turns ++ t ∷ [])
-filled_more n J K legal turns courses filled t course new =
-    all_pairs_push IsFilledBefore turns t filled (λ k d lt. comes_after n J K legal t course new _ (courses k d lt))
+pub filled_more : (n : Node) (J K : Journals) → Extends J K → AreLegal n K → (turns : List Turn) → All (IsCourse n J) turns → AllPairs (IsFilledBefore J) turns →
+    (t : Turn) → IsCourse n K t → All (λ (p : Place). entries_in J p.cell ≤ p.number) t.used.places → AllPairs (IsFilledBefore K) (turns ++ t ∷ [])
+filled_more n J K goes legal turns courses filled t course new =
+    all_pairs_push (IsFilledBefore K) turns t (filled_stays n J K goes turns courses filled) (λ k d lt. comes_after n J K goes legal t course new _ (courses k d lt))
 
 pub no_entry_after_full : (n : Node) → NoEntryAfterFull n
 no_entry_after_full n J used frames replies outcome a first second is cell p found has same =
-    let pairs = subst (AllPairs IsFilledBefore) is a.filled in
+    let pairs = subst (AllPairs (IsFilledBefore J)) is a.filled in
     All-contains (λ (q : Place). q.cell ≢ cell) second.used.places p (pairs 0 1 first (omega arith) (omega arith) cell found) has same

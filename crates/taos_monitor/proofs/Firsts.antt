@@ -9,26 +9,26 @@ use Rattle.taos_monitor.specs.Credentials.{Resealed, Refused, Failed, LinkCall, 
 
 -- ---- the bytes of one
 
-kinds_apart : (text x y : List ℕ) → text ≡ 2 ∷ x → text ≡ 1 ∷ y → ⊥
+pub kinds_apart : (text x y : List ℕ) → text ≡ 2 ∷ x → text ≡ 1 ∷ y → ⊥
 kinds_apart text x y relayed issued = absurd cc
 
-abbrev body_and_tag : List ℕ → Certificate → List ℕ
+abbrev pub body_and_tag : List ℕ → Certificate → List ℕ
 body_and_tag key c = body_spelling c ++ tag_of key (sealed_text 2 c)
 
-not_issued : (key text : List ℕ) (c : Certificate) → Opens key text c → IsIssued text → ⊥
+pub not_issued : (key text : List ℕ) (c : Certificate) → Opens key text c → IsIssued text → ⊥
 not_issued key text c opens issued = kinds_apart text (body_and_tag key c) issued.0 opens.text issued.1
 
-is_issued : (key text new : List ℕ) (c : Certificate) → IsResealed key text new c → IsIssued text
+pub is_issued : (key text new : List ℕ) (c : Certificate) → IsResealed key text new c → IsIssued text
 is_issued key text new c is = (body_spelling c ++ is.tag, is.presented.text)
 
-spelled_so : (key text : List ℕ) (c : Certificate) → Opens key text c → Spells 2 text c (tag_of key (sealed_text 2 c))
+pub spelled_so : (key text : List ℕ) (c : Certificate) → Opens key text c → Spells 2 text c (tag_of key (sealed_text 2 c))
 spelled_so key text c opens = record { text = opens.text; whole_tag = length-tag_of key (sealed_text 2 c); numbers = opens.numbers; limits = opens.limits }
 
-rests : (x y : List ℕ) → 2 ∷ x ≡ 2 ∷ y → x ≡ y
+pub rests : (x y : List ℕ) → 2 ∷ x ≡ 2 ∷ y → x ≡ y
 rests x y e = cc
 
 -- bytes that open have the right tag
-right_tag : (key text : List ℕ) (c d : Certificate) (tag : List ℕ) → Opens key text c → Spells 2 text d tag → tag ≡ tag_of key (sealed_text 2 d)
+pub right_tag : (key text : List ℕ) (c d : Certificate) (tag : List ℕ) → Opens key text c → Spells 2 text d tag → tag ≡ tag_of key (sealed_text 2 d)
 right_tag key text c d tag opens spelled =
     let once = body_once c d (tag_of key (sealed_text 2 c)) tag opens.numbers spelled.numbers (rests (body_and_tag key c) (body_spelling d ++ tag) (sym opens.text ∙ spelled.text)) in
     subst (λ (x : Certificate). tag ≡ tag_of key (sealed_text 2 x)) once.0 (sym once.1)

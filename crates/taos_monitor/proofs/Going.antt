@@ -86,11 +86,11 @@ here_object o number = ap (λ (b : Bool). cond b (Some number) None) (eq-eqb o o
 there_object : (o t number : ℕ) → (o == t) ≡ false → number_in (OfObject o) (in_object t number) ≡ None
 there_object o t number e = ap (λ (b : Bool). cond b (Some number) None) e
 
-numbers_object : (o : ℕ) (own : List ℕ) → numbers_in (OfObject o) (map (in_object o) own) ≡ own
+pub numbers_object : (o : ℕ) (own : List ℕ) → numbers_in (OfObject o) (map (in_object o) own) ≡ own
 numbers_object o [] = refl
 numbers_object o (n ∷ own) = rw (here_object o n) (ap (λ (l : List ℕ). n ∷ l) (numbers_object o own))
 
-numbers_others : (o t : ℕ) (own : List ℕ) → (o == t) ≡ false → numbers_in (OfObject o) (map (in_object t) own) ≡ []
+pub numbers_others : (o t : ℕ) (own : List ℕ) → (o == t) ≡ false → numbers_in (OfObject o) (map (in_object t) own) ≡ []
 numbers_others o t [] e = refl
 numbers_others o t (n ∷ own) e = rw (there_object o t n e) (numbers_others o t own e)
 

@@ -1,7 +1,8 @@
 -- What came of a request at its object: it was ruled on or not, the object given back, and what was granted performed.
-use Rattle.std.proofs.Common.{◌≡◌, ◌≢◌, ℕ, ◌<◌, ◌≤◌, Bool, true, false, cond, List, [], ◌∷◌, ◌++◌, length, map, Option, None, Some, refl, sym, ap, subst, subst₂, ◌∙◌, inl, inr, arith, length-append}
+use Rattle.std.proofs.Common.{◌≡◌, ◌≢◌, ℕ, ◌<◌, ◌≤◌, Bool, true, false, cond, List, [], ◌∷◌, ◌++◌, length, map, All, Option, None, Some, refl, sym, ap, subst, subst₂, ◌∙◌, inl, inr, arith, length-append}
 use Rattle.std.specs.Prelude.{◌==◌}
 use Rattle.std.proofs.lemmas.Bool.{cases_eq, eqb-true}
+use Rattle.std.proofs.lemmas.List.{get_or-map, length-map}
 use Rattle.std.proofs.lemmas.Option.{none-some, same_Some}
 use Rattle.object_core.specs.Objects.{ObjectEntry, ObjectSeen}
 use Rattle.object_core.specs.Operation.{Op}
@@ -13,16 +14,19 @@ use Rattle.stmt_codec.specs.Certificates.{Certificate}
 use Rattle.taos_wire.specs.Reply as replies
 use Rattle.taos_wire.specs.Reply.{Reply}
 use Rattle.taos_wire.specs.View.{request}
-use Rattle.agent_core.specs.State.{Plan}
+use Rattle.proof_cache.specs.Cached.{Cached}
+use Rattle.agent_core.specs.declared.asked.Settled.{Settled}
+use Rattle.agent_core.specs.State.{Plan, Ask}
 use Rattle.agent_core.specs.Journals.{Entry, Begins, Stands}
+use Rattle.agent_core.specs.Asked.{IsGrant, by_kept, was_kept, was_dropped, had_no_room}
 use Rattle.agent_core.proofs.Asks.{standing}
 use Rattle.agent_core.proofs.Onward.{begins_itself, denied_stays, grant_stays}
 use Rattle.taos_monitor.specs.declared.deciding.Came.{Came}
 use Rattle.taos_monitor.specs.declared.deciding.Ruled.{Ruled}
 use Rattle.taos_monitor.specs.Asking.{unanswered}
-use Rattle.taos_monitor.specs.AtObject.{Seeking, Own, own_at, places_at, ruled_as, told_or, IsGuarded, object_is_full, no_ruling, asks_for}
+use Rattle.taos_monitor.specs.AtObject.{Seeking, Own, own_at, places_at, ruled_as, told_or, LeavesOut, IsGuardedAfter, object_is_full, no_ruling, asks_for}
 use Rattle.taos_monitor.specs.AtObject as guarded
-use Rattle.taos_monitor.specs.Cells.{in_shard, in_object, Viewed, viewed, seen_of, alone_of, AreLegalShards}
+use Rattle.taos_monitor.specs.Cells.{Journals, Place, entries_in, in_shard, in_object, Viewed, viewed, seen_of, alone_of, AreLegalShards}
 use Rattle.taos_monitor.specs.Effects.{ShardStep, its_place, IsPerformed, PerformedAs, SteppedBy}
 use Rattle.taos_monitor.specs.Ruling.{AskedAt, DecidedTo, GuardedTo, IsRuled, at_limit, unruled, shard_of, standing_of, ruled_at, seeking_of}
 use Rattle.taos_monitor.specs.Ruling as ruling
@@ -66,11 +70,11 @@ module _ (number : ℕ) (o : ObjectSeen) (lone : Bool) (seen0 seen1 : ℕ → Li
 
 -- ---- what came of the ask, by what is ruled
 
-module _ (plans : List Plan) (plan : Plan) (shards : ℕ → List Entry) (objects : ℕ → List ObjectEntry) (x : Seeking) (before : List ObjectEntry) where
+module _ (plans : List Plan) (plan : Plan) (past : Journals) (shards : ℕ → List Entry) (objects : ℕ → List ObjectEntry) (x : Seeking) (before : List ObjectEntry) (after : Begins (past.objects x.request.object) before) where
   unruled_as : (ruled : Option Ruled) (own : List ℕ) (reply : Reply) → IsRuled (shard_of plan (shards x.shard)) x before ruled own reply → ruled ≡ None → objects x.request.object ≡ before →
-      IsGuarded plans plan (record { shards = shards; objects = objects }) x (own_at own [] []) reply
+      IsGuardedAfter plans plan past (record { shards = shards; objects = objects }) x (own_at own [] []) reply
   unruled_as ruled own reply (at_limit full) none there = object_is_full (ap (λ (l : List ObjectEntry). length l) there ∙ full)
-  unruled_as ruled own reply (unruled u) none there = no_ruling before (subst (Begins before) (sym there) (begins_itself before)) u
+  unruled_as ruled own reply (unruled room u) none there = no_ruling before (record { begins = subst (Begins before) (sym there) (begins_itself before); after = λ told. after; room = λ told. room }) u
   unruled_as ruled own reply (ruling.denied d tells) none there = absurd cc
   unruled_as ruled own reply (ruling.granted g) none there = absurd cc
 
@@ -78,9 +82,25 @@ same_ruled : (a b : Ruled) → Some a ≡ Some b → a ≡ b
 same_ruled a b e = cc
 
 -- the journals of the shards go on while what was granted is performed
-module _ (plans : List Plan) (plan : Plan) (shards later : ℕ → List Entry) (objects : ℕ → List ObjectEntry) (x : Seeking) (before : List ObjectEntry) (goes : Begins (shards x.shard) (later x.shard)) (within : length (later x.shard) ≤ plan.limit)
+module _ (plans : List Plan) (plan : Plan) (past : Journals) (shards later : ℕ → List Entry) (objects : ℕ → List ObjectEntry) (x : Seeking) (before : List ObjectEntry) (goes : Begins (shards x.shard) (later x.shard)) (within : length (later x.shard) ≤ plan.limit)
     (r : Ruled) (rest : List ObjectEntry) (stands : objects x.request.object ≡ before ++ ruled_as r.shard r.place x.request.op r.ruling ∷ rest) (steps : List ShardStep) (refused : Option Reply)
-    (performed : PerformedAs r.ruling (IsPerformed plans later x.request.op x.certs x.reading) steps refused) where
+    (performed : PerformedAs r.ruling (IsPerformed plans later x.request.op x.certs x.reading) steps refused)
+    (new : All (λ (p : Place). entries_in (record { shards = shards; objects = objects }) p.cell ≤ p.number) (map its_place steps)) (there : All (λ (p : Place). p.number < entries_in (record { shards = later; objects = objects }) p.cell) (map its_place steps)) where
+  -- a journal at its limit has no step
+  none_there : length (shards x.shard) ≡ plan.limit → All (λ (s : ShardStep). s.shard ≢ x.shard) steps
+  none_there full = λ k d lt.
+      let inside : k < length (map its_place steps) = omega (arith, lt, length-map steps its_place) in
+      let at = get_or-map its_place steps k d (its_place d) lt in
+      let below = subst (λ (p : Place). entries_in (record { shards = shards; objects = objects }) p.cell ≤ p.number) at (new k (its_place d) inside) in
+      let above = subst (λ (p : Place). p.number < entries_in (record { shards = later; objects = objects }) p.cell) at (there k (its_place d) inside) in
+      λ same. omega (arith, full, within, below, above, ap (λ (s : ℕ). length (shards s)) same, ap (λ (s : ℕ). length (later s)) same)
+
+  left_out : (a : Ask) (place e : ℕ) (c : Cached) (kept : Bool) (settled : Settled) (own : List ℕ) → IsGrant plan (shards x.shard) a place e c kept settled own → LeavesOut settled x.shard steps
+  left_out a place e c kept settled own (by_kept h) = tt
+  left_out a place e c kept settled own (was_kept g t) = tt
+  left_out a place e c kept settled own (was_dropped g t) = tt
+  left_out a place e c kept settled own (had_no_room g full) = none_there full
+
   entry_stands : (s : Ruled) → r ≡ s → Stands (objects x.request.object) (length before) before (ruled_as s.shard s.place x.request.op s.ruling)
   entry_stands s is = record { rest = rest; is = stands ∙ ap (λ (t : Ruled). before ++ ruled_as t.shard t.place x.request.op t.ruling ∷ rest) is; placed = refl }
 
@@ -88,21 +108,22 @@ module _ (plans : List Plan) (plan : Plan) (shards later : ℕ → List Entry) (
   performed_as s is = subst (λ (t : Ruled). PerformedAs t.ruling (IsPerformed plans later x.request.op x.certs x.reading) steps refused) is performed
 
   abbrev Guarded : List ℕ → Reply → Type 0
-  Guarded own reply = IsGuarded plans plan (record { shards = later; objects = objects }) x (own_at own (length before ∷ []) steps) (told_or refused reply)
+  Guarded own reply = IsGuardedAfter plans plan past (record { shards = later; objects = objects }) x (own_at own (length before ∷ []) steps) (told_or refused reply)
 
   pub ruled_on : (ruled : Option Ruled) (own : List ℕ) (reply : Reply) → IsRuled (shard_of plan (shards x.shard)) x before ruled own reply → ruled ≡ Some r → Guarded own reply
   ruled_on ruled own reply (at_limit full) some = absurd cc
-  ruled_on ruled own reply (unruled u) some = absurd cc
+  ruled_on ruled own reply (unruled room u) some = absurd cc
   ruled_on ruled own reply (ruling.denied {place} {denial} {told} d tells) some =
       let is : r ≡ ruled_at x.shard place rulings.Denied = same_ruled r (ruled_at x.shard place rulings.Denied) (sym some) in
       let (none, nothing) = performed_as (ruled_at x.shard place rulings.Denied) is in
-      subst₂ (λ (ss : List ShardStep) (o : Option Reply). IsGuarded plans plan (record { shards = later; objects = objects }) x (own_at (place ∷ []) (length before ∷ []) ss) (told_or o (replies.Denied x.shard place told))) (sym none) (sym nothing)
+      subst₂ (λ (ss : List ShardStep) (o : Option Reply). IsGuardedAfter plans plan past (record { shards = later; objects = objects }) x (own_at (place ∷ []) (length before ∷ []) ss) (told_or o (replies.Denied x.shard place told))) (sym none) (sym nothing)
       (guarded.denied before (entry_stands (ruled_at x.shard place rulings.Denied) is) (denied_stays plan (shards x.shard) (later x.shard) (asks_for x before) goes place denial d) tells)
   ruled_on ruled own reply (ruling.granted {place} {entry} {c} {kept} {settled} {own = asks} g) some =
       let is : r ≡ ruled_at x.shard place (rulings.Granted entry) = same_ruled r (ruled_at x.shard place (rulings.Granted entry)) (sym some) in
       guarded.granted before (entry_stands (ruled_at x.shard place (rulings.Granted entry)) is)
       (grant_stays plan (shards x.shard) (later x.shard) (asks_for x before) goes place entry c kept settled asks within g)
       (performed_as (ruled_at x.shard place (rulings.Granted entry)) is)
+      (left_out (asks_for x before) place entry c kept settled asks g)
 
 -- the steps of what was performed, by the plans that stayed
 pub stepped_over : (plans other : List Plan) (alone lone : Bool) → other ≡ plans → lone ≡ alone → (old new : Viewed Entry) (r : Ruling) (op same_op : Op) → same_op ≡ op → (certs : List Certificate) (reading : ℕ) (answer refused : Option Reply) → answer ≡ refused →
@@ -129,7 +150,7 @@ module _ (plans : List Plan) (objects : List ObjectFixed) (alone lone : Bool) (s
         own = own_at [] [] [];
         goes_on = stood (alone_of alone lone) (seen_of shards0 (viewed seen0 own0));
         legal = record { shards = legal; objects = within };
-        guarded = no_ruling [] (record { rest = seen0 number; is = refl }) (unanswered (inl refl));
+        guarded = no_ruling [] (record { begins = record { rest = seen0 number; is = refl }; after = λ told. absurd (told refl); room = λ told. absurd (told refl) }) (unanswered (inl refl));
       }
 
   module _ (o : ObjectSeen) (at : fixed_at objects number ≡ Some (fixed_of o)) (taken : TakenOn lone (seen0 number) o)
@@ -150,7 +171,7 @@ module _ (plans : List Plan) (objects : List ObjectFixed) (alone lone : Bool) (s
         shards = d.legal;
         objects = within_after objects seen0 seen1 number o at within (λ n not. (others n not).0) (omega (arith, ap (λ (l : List ObjectEntry). length l) seen, fits));
       };
-      guarded = unruled_as plans d.plan shards1.seen seen1 (seeking_of c (fixed_of o)) o.journal ruled d.own reply d.ends none seen;
+      guarded = unruled_as plans d.plan (seen_of shards0 (viewed seen0 own0)).journals shards1.seen seen1 (seeking_of c (fixed_of o)) o.journal (as_taken number o lone seen0 seen1 own0 own1 taken) ruled d.own reply d.ends none seen;
     }
 
     module _ (r : Ruled) (seen : seen1 number ≡ o.journal ++ ruled_as r.shard r.place (request c.asked.now).op r.ruling ∷ []) (own : own1 number ≡ own0 number ++ length o.journal ∷ []) (room : length o.journal < o.limit) (shards2 : Viewed Entry) where
@@ -175,6 +196,7 @@ module _ (plans : List Plan) (objects : List ObjectFixed) (alone lone : Bool) (s
           objects = within_after objects seen0 seen1 number o at within (λ n not. (others n not).0)
               (omega (arith, ap (λ (l : List ObjectEntry). length l) seen, length-append o.journal (ruled_as r.shard r.place (request c.asked.now).op r.ruling ∷ []), room));
         };
-        guarded = ruled_on plans d.plan shards1.seen shards2.seen seen1 (seeking_of c (fixed_of o)) o.journal (shards_begin alone shards1 shards2 (map its_place s.steps) s.goes_on c.shard)
-            (short d.plan (shards2.seen c.shard) (s.legal c.shard d.plan d.planned)) r [] seen s.steps refused s.ends ruled d.own reply d.ends some;
+        guarded = ruled_on plans d.plan (seen_of shards0 (viewed seen0 own0)).journals shards1.seen shards2.seen seen1 (seeking_of c (fixed_of o)) o.journal (shards_begin alone shards1 shards2 (map its_place s.steps) s.goes_on c.shard)
+            (short d.plan (shards2.seen c.shard) (s.legal c.shard d.plan d.planned)) r [] seen s.steps refused s.ends
+            (s.goes_on lone (viewed seen1 own1)).new_places (s.goes_on lone (viewed seen1 own1)).there ruled d.own reply d.ends some;
       }

@@ -16,6 +16,7 @@ mod Short
 mod Guards
 mod Courses
 mod Staying
+mod Places
 mod Filling
 mod Running
 mod Steps
@@ -27,3 +28,13 @@ mod Agreeing
 mod Excluding
 mod Causes
 mod Verdicts
+mod Effecting
+mod Ascending
+mod Unchanged
+mod Growing
+mod Walks
+mod CertWalks
+mod OneRuling
+mod LoneRuling
+mod OneCourse
+mod Twins

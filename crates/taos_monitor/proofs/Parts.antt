@@ -5,7 +5,7 @@ use Rattle.std.specs.Int.{bytes_high_first, byte_at, to_be_bytes, w32}
 use Rattle.sha2.specs.Sha256.{digest_bytes, sha256}
 use Rattle.sha2.proofs.Facts256.{length-sha256}
 use Rattle.object_core.specs.Operation.{IsDigest}
-use Rattle.prin_term.specs.Steps.{IsByte}
+use Rattle.byte_fields.specs.Steps.{IsByte}
 use Rattle.std.proofs.lemmas.Option.{none-some, slice_get_within}
 use Rattle.std.specs.List.{flat_map}
 use Rattle.std.proofs.Math.Nat.{le-max_left, le-max_right}

@@ -4,15 +4,15 @@ use Rattle.std.specs.List.{flat_map}
 use Rattle.std.specs.Int.{w16, to_be_bytes}
 use Rattle.std.proofs.lemmas.List.Concat.{flat_map-cons}
 use Rattle.keyed_seal.specs.Keys.{key_of}
-use Rattle.prin_term.specs.Steps.{counted}
-use Rattle.prin_term.specs.declared.fault.FormatFault.{FormatFault as WireFault}
-use Rattle.prin_term.specs.declared.fault.FormatFault.TheVariants as wire
+use Rattle.byte_fields.specs.Steps.{counted}
+use Rattle.byte_fields.specs.declared.fault.FormatFault.{FormatFault as WireFault}
+use Rattle.byte_fields.specs.declared.fault.FormatFault.TheVariants as wire
 use Rattle.taos_wire.specs.Request.{Request, Spells, IsSealed, origin_bytes, asked_bytes, certs_bytes}
 use Rattle.taos_wire.specs.RequestReading.{request_of}
 use Rattle.taos_wire.specs.Reply as replies
 use Rattle.taos_wire.specs.Reply.{unsealed}
 use Rattle.taos_monitor.specs.Cells.{Node, Journals}
-use Rattle.taos_monitor.specs.Course.{Course, nothing, malformed, bad_seal}
+use Rattle.taos_monitor.specs.Course.{CourseAfter, nothing, malformed, bad_seal}
 
 -- ---- how long what it presents is
 
@@ -39,12 +39,12 @@ texts_short r payload is short = λ k d lt.
 
 -- ---- what is answered without a seal
 
-pub is_malformed : (n : Node) (J : Journals) (payload : List ℕ) (offset : ℕ) (f : WireFault) → f ≡ wire.Malformed offset → ((r : Request) → Spells r payload → f ≡ wire.NoMemory) → (f ≡ wire.NoMemory) ⊎ (request_of payload ≡ Err f) →
-    Course n J payload nothing (unsealed (replies.Malformed offset))
-is_malformed n J payload offset f is only (inl want) = let bad : wire.Malformed offset ≡ wire.NoMemory = sym is ∙ want in absurd cc
-is_malformed n J payload offset f is only (inr at) =
+pub is_malformed : (n : Node) (past J : Journals) (payload : List ℕ) (offset : ℕ) (f : WireFault) → f ≡ wire.Malformed offset → ((r : Request) → Spells r payload → f ≡ wire.NoMemory) → (f ≡ wire.NoMemory) ⊎ (request_of payload ≡ Err f) →
+    CourseAfter n past J payload nothing (unsealed (replies.Malformed offset))
+is_malformed n past J payload offset f is only (inl want) = let bad : wire.Malformed offset ≡ wire.NoMemory = sym is ∙ want in absurd cc
+is_malformed n past J payload offset f is only (inr at) =
     malformed (λ r spelled. let bad : wire.Malformed offset ≡ wire.NoMemory = sym is ∙ only r spelled in absurd cc) (at ∙ ap (λ (g : WireFault). Err g) is)
 
-pub has_bad_seal : (n : Node) (J : Journals) (payload : List ℕ) (r : Request) (key : List ℕ) (right : Bool) → Spells r payload → Some key ≡ key_of n.channels r.channel → (IsSealed key payload → right ≡ true) → right ≡ false →
-    Course n J payload nothing (unsealed replies.BadSeal)
-has_bad_seal n J payload r key right spelled keyed sealed wrong = bad_seal r key spelled (sym keyed) (λ is. let bad : true ≡ false = sym (sealed is) ∙ wrong in absurd cc)
+pub has_bad_seal : (n : Node) (past J : Journals) (payload : List ℕ) (r : Request) (key : List ℕ) (right : Bool) → Spells r payload → Some key ≡ key_of n.channels r.channel → (IsSealed key payload → right ≡ true) → right ≡ false →
+    CourseAfter n past J payload nothing (unsealed replies.BadSeal)
+has_bad_seal n past J payload r key right spelled keyed sealed wrong = bad_seal r key spelled (sym keyed) (λ is. let bad : true ≡ false = sym (sealed is) ∙ wrong in absurd cc)

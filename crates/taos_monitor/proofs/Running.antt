@@ -10,7 +10,7 @@ use Rattle.taos_monitor.specs.Cells.{Node, Journals, Place, AreLegal, Extends}
 use Rattle.taos_monitor.specs.Credentials.{LinkCall}
 use Rattle.taos_monitor.specs.Run.{Turn, IsCourse}
 use Rattle.taos_monitor.specs.Laws.{AnsweredStays, AnswersMore}
-use Rattle.taos_monitor.proofs.Filling.{filled_more}
+use Rattle.taos_monitor.proofs.Filling.{filled_stays, filled_more}
 use Rattle.taos_monitor.proofs.Staying.{course_stays}
 
 pub all_stay : (n : Node) (J K : Journals) → Extends J K → AreLegal n K → (turns : List Turn) → All (IsCourse n J) turns → All (IsCourse n K) turns
@@ -24,7 +24,7 @@ answered_stays n J K goes legal used frames replies outcome a = record {
   read = a.read;
   owned = a.owned;
   ascending = a.ascending;
-  filled = a.filled;
+  filled = filled_stays n J K goes a.turns a.courses a.filled;
   replies_are = a.replies_are;
 }
 
@@ -42,6 +42,6 @@ answers_more n J K goes legal used frames replies count a t course ascending new
   read = ap (λ (l : List ℕ). l ++ t.used.readings) a.read ∙ sym (flat_push (λ (u : Turn). u.used.readings) a.turns t);
   owned = ap (λ (l : List Place). l ++ t.used.places) a.owned ∙ sym (flat_push (λ (u : Turn). u.used.places) a.turns t);
   ascending = ascending;
-  filled = filled_more n J K legal a.turns a.courses a.filled t course new;
+  filled = filled_more n J K goes legal a.turns a.courses a.filled t course new;
   replies_are = ap (λ (l : List (List ℕ)). l ++ spelling t.sent ∷ []) a.replies_are ∙ sym (map_push (λ (u : Turn). spelling u.sent) a.turns t);
 }

@@ -1,16 +1,16 @@
 -- A course stays where the journals go on.
-use Rattle.std.proofs.Common.{◌≡◌, ℕ, ◌≤◌, List, length, Option, Some, slice_get, inl, inr, arith}
+use Rattle.std.proofs.Common.{◌≡◌, ℕ, ◌≤◌, List, length, Option, Some, slice_get, refl, inl, inr, arith}
 use Rattle.object_core.specs.Operation.{Op}
 use Rattle.stmt_codec.specs.Certificates.{Certificate}
-use Rattle.taos_wire.specs.Reply.{Reply}
+use Rattle.taos_wire.specs.Reply.{Reply, Sent}
 use Rattle.agent_core.specs.State.{Plan, Ask, Event}
 use Rattle.agent_core.specs.Journals.{Entry, Begins, IsLegalJournal}
 use Rattle.agent_core.specs.Asked.{Unanswered}
 use Rattle.agent_core.proofs.Onward.{stands_on, begins_on, grant_stays, denied_stays, told_stays}
 use Rattle.taos_monitor.specs.Asking.{IsUnruled, full, replayed, channel_full, untold, unanswered}
-use Rattle.taos_monitor.specs.AtObject.{Seeking, Own, IsGuarded, object_is_full, no_ruling, denied, granted, asks_for}
+use Rattle.taos_monitor.specs.AtObject.{Seeking, Own, IsGuarded, IsGuardedAfter, object_is_full, no_ruling, denied, granted, asks_for}
 use Rattle.taos_monitor.specs.Cells.{Node, Journals, Extends, AreLegalShards}
-use Rattle.taos_monitor.specs.Course.{malformed, unknown_channel, bad_seal, cert_refused, relay_failed, unknown_object, ruled, unread, unopened}
+use Rattle.taos_monitor.specs.Course.{Used, Course, CourseAfter, malformed, unknown_channel, bad_seal, cert_refused, relay_failed, unknown_object, ruled, unread, unopened}
 use Rattle.taos_monitor.specs.Effects.{ShardStep, WentThrough, FoundNoRoom, FoundNoPlace, IsPerformed, through, not_held, no_room, no_place}
 use Rattle.taos_monitor.specs.Laws.{CourseStays}
 use Rattle.taos_monitor.proofs.EffectSteps.{steps_stay}
@@ -74,13 +74,13 @@ module _ (plans : List Plan) (plan : Plan) (J K : Journals) (goes : Extends J K)
   guarded_stays : (own : Own) (reply : Reply) → IsGuarded plans plan J x own reply → IsGuarded plans plan K x own reply
   guarded_stays own reply (object_is_full at) = object_is_full (omega (arith, at, within, longer_by (goes.objects x.request.object)))
   guarded_stays own reply (no_ruling {own = asks} before b u) =
-      no_ruling before (begins_on b (goes.objects x.request.object)) (unruled_stays plan (J.shards x.shard) (K.shards x.shard) x.shard (asks_for x before) (goes.shards x.shard) (legal x.shard plan planned) asks reply u)
+      no_ruling before (record { begins = begins_on b.begins (goes.objects x.request.object); after = b.after; room = b.room }) (unruled_stays plan (J.shards x.shard) (K.shards x.shard) x.shard (asks_for x before) (goes.shards x.shard) (legal x.shard plan planned) asks reply u)
   guarded_stays own reply (denied {place} {denial} before s d tells) =
       denied before (stands_on s (goes.objects x.request.object)) (denied_stays plan (J.shards x.shard) (K.shards x.shard) (asks_for x before) (goes.shards x.shard) place denial d) tells
-  guarded_stays own reply (granted {place} {entry} {c} {kept} {settled} {asks} {steps} {refused} before s g p) =
+  guarded_stays own reply (granted {place} {entry} {c} {kept} {settled} {asks} {steps} {refused} before s g p out) =
       granted before (stands_on s (goes.objects x.request.object))
       (grant_stays plan (J.shards x.shard) (K.shards x.shard) (asks_for x before) (goes.shards x.shard) place entry c kept settled asks (short plan (K.shards x.shard) (legal x.shard plan planned)) g)
-      (performed_stays plans J.shards K.shards goes.shards legal x.request.op x.certs x.reading steps refused p)
+      (performed_stays plans J.shards K.shards goes.shards legal x.request.op x.certs x.reading steps refused p) out
 
 pub course_stays : (n : Node) → CourseStays n
 course_stays n J K goes legal payload used sent (malformed none reads) = malformed none reads
@@ -93,3 +93,23 @@ course_stays n J K goes legal payload used sent (ruled {own} {reply} t reading p
     ruled t reading plan planned (guarded_stays n.plans plan J K goes legal.shards _ planned (legal.objects t.request.object t.object t.arrived.there) own reply r)
 course_stays n J K goes legal payload used sent unread = unread
 course_stays n J K goes legal payload used sent (unopened asked interrupted) = unopened asked interrupted
+
+-- ---- after what was seen
+
+guarded_at_all : (plans : List Plan) (plan : Plan) (past J : Journals) (x : Seeking) (own : Own) (reply : Reply) → IsGuardedAfter plans plan past J x own reply → IsGuarded plans plan J x own reply
+guarded_at_all plans plan past J x own reply (object_is_full at) = object_is_full at
+guarded_at_all plans plan past J x own reply (no_ruling before b u) = no_ruling before (record { begins = b.begins; after = λ told. record { rest = before; is = refl }; room = b.room }) u
+guarded_at_all plans plan past J x own reply (denied before s d tells) = denied before s d tells
+guarded_at_all plans plan past J x own reply (granted before s g p out) = granted before s g p out
+
+-- a course after what was seen is a course
+pub course_at_all : (n : Node) (past J : Journals) (payload : List ℕ) (used : Used) (sent : Sent) → CourseAfter n past J payload used sent → Course n J payload used sent
+course_at_all n past J payload used sent (malformed none reads) = malformed none reads
+course_at_all n past J payload used sent (unknown_channel r spelled none) = unknown_channel r spelled none
+course_at_all n past J payload used sent (bad_seal r key spelled keyed other) = bad_seal r key spelled keyed other
+course_at_all n past J payload used sent (cert_refused asked first) = cert_refused asked first
+course_at_all n past J payload used sent (relay_failed asked first) = relay_failed asked first
+course_at_all n past J payload used sent (unknown_object opened none) = unknown_object opened none
+course_at_all n past J payload used sent (ruled {own} {reply} t reading plan planned is) = ruled t reading plan planned (guarded_at_all n.plans plan past J _ own reply is)
+course_at_all n past J payload used sent unread = unread
+course_at_all n past J payload used sent (unopened asked interrupted) = unopened asked interrupted

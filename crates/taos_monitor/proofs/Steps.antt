@@ -16,6 +16,7 @@ use Rattle.taos_monitor.proofs.Going.{goes_on_twice, stood}
 use Rattle.taos_monitor.proofs.Presenting.{failed_both, none_called, quiet_linked}
 use Rattle.taos_monitor.proofs.Filling.{none_filled, filled_more}
 use Rattle.taos_monitor.proofs.Running.{all_stay, flat_push}
+use Rattle.taos_monitor.proofs.Staying.{course_at_all}
 
 -- ---- readings, one list after the other
 
@@ -51,7 +52,7 @@ module _ (s : Setting) where
   -- the turns had their courses one after the other
   pub record Made (w0 w1 : World) (turns : List Turn) : Type 0 where
     pub courses : All (IsCourse s.node w1.seen.journals) turns
-    pub filled : AllPairs IsFilledBefore turns
+    pub filled : AllPairs (IsFilledBefore w1.seen.journals) turns
     pub goes_on : GoesOn s.alone w0.seen w1.seen (places_of turns)
     pub legal : AreLegal s.node w1.seen.journals
     pub gave : Gave w0.clock w1.clock (readings_of turns)
@@ -60,7 +61,7 @@ module _ (s : Setting) where
   pub none_made : (w : World) → AreLegal s.node w.seen.journals → Made w w []
   none_made w legal = record {
     courses = All-nil (IsCourse s.node w.seen.journals);
-    filled = none_filled;
+    filled = none_filled w.seen.journals;
     goes_on = stood s.alone w.seen;
     legal = legal;
     gave = Keeps-refl w.clock;
@@ -71,13 +72,16 @@ module _ (s : Setting) where
   abbrev pub turn_of : (w1 : World) (payload reply : List ℕ) (w2 : World) → AnswersFrame s w1 payload reply w2 → Turn
   turn_of w1 payload reply w2 x = record { frame = payload; used = x.used; sent = x.sent }
 
+  its_course : (w1 : World) (payload reply : List ℕ) (w2 : World) (x : AnswersFrame s w1 payload reply w2) → IsCourse s.node w2.seen.journals (turn_of w1 payload reply w2 x)
+  its_course w1 payload reply w2 x = course_at_all s.node w1.seen.journals w2.seen.journals payload x.used x.sent x.course
+
   pub one_more : (w0 w1 w2 : World) (turns : List Turn) (payload reply : List ℕ) → Made w0 w1 turns → (x : AnswersFrame s w1 payload reply w2) →
       Made w0 w2 (turns ++ turn_of w1 payload reply w2 x ∷ [])
   one_more w0 w1 w2 turns payload reply m x =
       let t = turn_of w1 payload reply w2 x in
       record {
-        courses = All-push (IsCourse s.node w2.seen.journals) turns t (all_stay s.node w1.seen.journals w2.seen.journals x.goes_on.goes_on x.legal turns m.courses) x.course;
-        filled = filled_more s.node w1.seen.journals w2.seen.journals x.legal turns m.courses m.filled t x.course x.goes_on.new_places;
+        courses = All-push (IsCourse s.node w2.seen.journals) turns t (all_stay s.node w1.seen.journals w2.seen.journals x.goes_on.goes_on x.legal turns m.courses) (its_course w1 payload reply w2 x);
+        filled = filled_more s.node w1.seen.journals w2.seen.journals x.goes_on.goes_on x.legal turns m.courses m.filled t (its_course w1 payload reply w2 x) x.goes_on.new_places;
         goes_on = subst (GoesOn s.alone w0.seen w2.seen) (sym (flat_push (λ (u : Turn). u.used.places) turns t)) (goes_on_twice s.alone w0.seen w1.seen w2.seen (places_of turns) x.used.places m.goes_on x.goes_on);
         legal = x.legal;
         gave = subst (Gave w0.clock w2.clock) (sym (flat_push (λ (u : Turn). u.used.readings) turns t)) (gave_on w0.clock w1.clock w2.clock (readings_of turns) x.used.readings m.gave x.gave);

@@ -1,5 +1,5 @@
 -- What comes of an ask, by the reply that tells it.
-use Rattle.std.proofs.Common.{◌≡◌, ℕ, Bool, List, [], ◌∷◌, Option, None, refl, sym, ap, subst, ◌∙◌, inl, inr}
+use Rattle.std.proofs.Common.{◌≡◌, ℕ, ◌<◌, Bool, List, [], ◌∷◌, length, Option, None, refl, sym, ap, subst, ◌∙◌, inl, inr}
 use Rattle.object_core.specs.Objects.{ObjectEntry, list_after}
 use Rattle.taos_wire.specs.Reply as replies
 use Rattle.taos_wire.specs.Reply.{Reply}
@@ -14,7 +14,7 @@ use Rattle.taos_monitor.specs.Asking.{full, replayed, channel_full, untold, shar
 use Rattle.taos_monitor.specs.AtObject.{Seeking, asks_for, gives_for}
 use Rattle.taos_monitor.specs.Ruling.{Telling, IsToldBy, IsRuled, unruled, denied, granted, shard_of}
 
-module _ (plan : Plan) (journal : List Entry) (x : Seeking) (before : List ObjectEntry) where
+module _ (plan : Plan) (journal : List Entry) (x : Seeking) (before : List ObjectEntry) (room : length before < x.fixed.limit) where
   by_own : (ruled other : Option Ruled) (own wanted : List ℕ) (reply said : Reply) → ruled ≡ other → own ≡ wanted → reply ≡ said → IsRuled (shard_of plan journal) x before other wanted said →
       IsRuled (shard_of plan journal) x before ruled own reply
   by_own ruled other own wanted reply said one same alike r =
@@ -29,9 +29,9 @@ module _ (plan : Plan) (journal : List Entry) (x : Seeking) (before : List Objec
   pub ruled_by : (place : ℕ) (v : Verdict) (kept : Bool) (settled : Settled) (own : List ℕ) (ruled : Option Ruled) (reply : Reply) → Ends plan journal (asks_for x before) place v kept settled own → IsToldBy (telling_of place kept) v ruled reply →
       IsRuled (shard_of plan journal) x before ruled own reply
   ruled_by place (verdict.Granted e c) kept settled own ruled reply g (inl (some, told)) = by_own ruled _ own own reply _ some refl told (granted g)
-  ruled_by place (verdict.Granted e c) kept settled own ruled reply g (inr (none, lacked)) = by_own ruled None own own reply replies.NoMemory none refl lacked (unruled (untold g))
+  ruled_by place (verdict.Granted e c) kept settled own ruled reply g (inr (none, lacked)) = by_own ruled None own own reply replies.NoMemory none refl lacked (unruled room (untold g))
   ruled_by place (verdict.Denied denial) kept settled own ruled reply ((d, is), plain, never) (some, (told, tells, said)) = by_own ruled _ own (place ∷ []) reply _ some is said (denied d tells)
-  ruled_by place (verdict.Replayed last) kept settled own ruled reply ((t, is), plain, never) (none, said) = by_own ruled None own (place ∷ []) reply _ none is said (unruled (replayed t))
-  ruled_by place (verdict.Full held) kept settled own ruled reply ((t, is), plain, never) (none, said) = by_own ruled None own (place ∷ []) reply _ none is said (unruled (channel_full t))
+  ruled_by place (verdict.Replayed last) kept settled own ruled reply ((t, is), plain, never) (none, said) = by_own ruled None own (place ∷ []) reply _ none is said (unruled room (replayed t))
+  ruled_by place (verdict.Full held) kept settled own ruled reply ((t, is), plain, never) (none, said) = by_own ruled None own (place ∷ []) reply _ none is said (unruled room (channel_full t))
   ruled_by place (verdict.JournalFull n) kept settled own ruled reply ((at_limit, n_is, place_is, is), plain, never) (none, said) =
-      by_own ruled None own [] reply _ none is (said ∙ ap (λ (k : ℕ). shard_full x.shard k) n_is) (unruled (full at_limit))
+      by_own ruled None own [] reply _ none is (said ∙ ap (λ (k : ℕ). shard_full x.shard k) n_is) (unruled room (full at_limit))

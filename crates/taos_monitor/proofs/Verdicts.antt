@@ -72,7 +72,7 @@ module _ (n : Node) (J : Journals) (plan : Plan) (x : Seeking) (planned : HasPla
   ruled_granted own reply (object_is_full at) kept entry proof cites content e = absurd cc
   ruled_granted own reply (no_ruling {own = asks} before b u) kept entry proof cites content e = absurd (unruled_not_granted n J x.shard plan planned _ asks reply u kept entry shard place proof cites content e)
   ruled_granted own reply (denied before s d tells) kept entry proof cites content e = absurd cc
-  ruled_granted own reply (granted {place = p} {entry = d} {c} {kept = k} {settled} {asks} {steps} {refused} before s g performed) kept entry proof cites content e =
+  ruled_granted own reply (granted {place = p} {entry = d} {c} {kept = k} {settled} {asks} {steps} {refused} before s g performed out) kept entry proof cites content e =
       let told = performed_granted n.plans J.shards x.request.op x.certs x.reading (replies.Granted k d x.shard p c.proof c.cites (gives_for x before)) steps refused performed kept entry shard place proof cites content e in
       let (there, at) = same_granted k kept d entry x.shard shard p place c.proof proof c.cites cites (gives_for x before) content told in
       subst₂ (λ (s q : ℕ). HasVerdict n J s q Granted) there at (grant_verdict n J x.shard plan planned _ p d c k settled asks g)
@@ -84,7 +84,7 @@ module _ (n : Node) (J : Journals) (plan : Plan) (x : Seeking) (planned : HasPla
       let (there, at) = same_denied x.shard shard p place told link e in
       subst₂ (λ (s q : ℕ). (why : Link) × HasVerdict n J s q (Denied why)) there at
       (d.link, record { plan = plan; planned = planned; before = d.before; ask = asks_for x before; told = Told.Miss; stands = d.stands; is = denied_verdict plan (J.shards x.shard) (asks_for x before) p denial d })
-  ruled_denied own reply (granted {place = p} {entry} {c} {kept} {steps} {refused} before s g performed) link e =
+  ruled_denied own reply (granted {place = p} {entry} {c} {kept} {steps} {refused} before s g performed out) link e =
       absurd (performed_not_denied n.plans J.shards x.request.op x.certs x.reading (replies.Granted kept entry x.shard p c.proof c.cites (gives_for x before)) steps refused performed shard place link (λ same. cc) e)
 
 module _ (n : Node) (J : Journals) (payload : List ℕ) (shard place : ℕ) where

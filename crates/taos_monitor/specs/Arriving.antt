@@ -12,7 +12,7 @@ use Rattle.taos_monitor.specs.declared.node_keys.NodeKeys.{NodeKeys}
 use Rattle.taos_monitor.specs.declared.refusal.Refusal.{Refusal}
 use Rattle.taos_monitor.specs.Cells.{Journals, Node}
 use Rattle.taos_monitor.specs.Credentials.{LinkCall, LinkUse, IsLinked}
-use Rattle.taos_monitor.specs.Course.{brought, HasArrived, Course, nothing, only_calls}
+use Rattle.taos_monitor.specs.Course.{brought, HasArrived, CourseAfter, nothing, only_calls}
 use Rattle.taos_monitor.specs.Refusals.{refusal}
 
 -- the node of these keys, plans and objects
@@ -39,8 +39,8 @@ pub record IsAskedBy (keys : NodeKeys) (payload : List ℕ) (r : Request) : Type
 -- a course ends at the payload, without a seal, as the refusal says
 abbrev pub IsNotAsked : NodeKeys → List ℕ → Refusal → Type 0
 IsNotAsked keys payload f =
-    (plans : List Plan) (objects : List ObjectFixed) (J : Journals) →
-    Course (node_of keys plans objects) J payload nothing (unsealed (refusal f))
+    (plans : List Plan) (objects : List ObjectFixed) (past J : Journals) →
+    CourseAfter (node_of keys plans objects) past J payload nothing (unsealed (refusal f))
 
 module _ (keys : NodeKeys) (objects : List ObjectFixed) (u : LinkUse) (r : Request) where
   -- the request came to its object, whichever payload under its channel's seal it was, and however
@@ -60,7 +60,7 @@ module _ (keys : NodeKeys) (objects : List ObjectFixed) (u : LinkUse) (r : Reque
   pub record NotArrives (f : Refusal) : Type 0 where
     pub calls : List LinkCall
     pub linked : IsLinked u.says u.node u.before u.after calls
-    pub course : (plans : List Plan) (J : Journals) (payload key : List ℕ) →
+    pub course : (plans : List Plan) (past J : Journals) (payload key : List ℕ) →
         IsAsked keys.channels.entries payload r key →
-        Course (node_of keys plans objects) J payload (only_calls calls)
+        CourseAfter (node_of keys plans objects) past J payload (only_calls calls)
         (sealed key r (refusal f))

@@ -1,6 +1,6 @@
 -- What comes of a request at its object: it is taken, asked for, ruled on and given back; what was
 -- granted is performed.
-use Rattle.std.specs.Prelude.{◌≡◌, ℕ, Bool, List, [], ◌∷◌, ◌++◌, length, map, Option, None, Some}
+use Rattle.std.specs.Prelude.{◌≡◌, ◌≢◌, ℕ, ◌<◌, Bool, List, [], ◌∷◌, ◌++◌, length, map, Option, None, Some, All}
 use Rattle.object_core.specs.Objects.{ObjectEntry, content_after, list_after}
 use Rattle.object_core.specs.Operation.{Op}
 use Rattle.object_core.specs.Shelving.{ObjectFixed}
@@ -13,10 +13,11 @@ use Rattle.taos_wire.specs.Reply as replies
 use Rattle.taos_wire.specs.Reply.{Reply, LinkSent}
 use Rattle.agent_core.specs.declared.asked.Denial.{Denial}
 use Rattle.agent_core.specs.declared.asked.Settled.{Settled}
+use Rattle.agent_core.specs.declared.asked.Settled.TheVariants as settled
 use Rattle.agent_core.specs.State.{Plan, Ask}
 use Rattle.agent_core.specs.Journals.{Begins, Stands}
 use Rattle.agent_core.specs.Asked.{IsGrant, IsDeniedAt}
-use Rattle.taos_monitor.specs.Cells.{Journals, Place, in_shard, in_object}
+use Rattle.taos_monitor.specs.Cells.{Journals, no_entries, Place, in_shard, in_object}
 use Rattle.taos_monitor.specs.Asking.{TellsDenial, ask_of, IsUnruled}
 use Rattle.taos_monitor.specs.Operations.{result_of}
 use Rattle.taos_monitor.specs.Effects.{ShardStep, its_place, IsPerformed}
@@ -72,23 +73,38 @@ abbrev pub told_or : Option Reply → Reply → Reply
 told_or None reply = reply
 told_or (Some refused) reply = refused
 
--- What comes of it: the own places and the reply. The object's entry stands in its journal right
--- after those by which the object was asked for; where there is no ruling, these are a beginning of
--- its journal. What is performed in the shards comes after the entry that grants it.
-pub data IsGuarded (plans : List Plan) (plan : Plan) (J : Journals) (x : Seeking) :
+-- The object was asked for with these entries, and there is no ruling. They begin with those that
+-- were seen before, and there is room for one more; but a node that is out of memory may say so before
+-- it looks at the object.
+pub record IsAskedWith (past journal before : List ObjectEntry) (limit : ℕ) (reply : Reply) :
+    Type 0 where
+  pub begins : Begins before journal
+  pub after : reply ≢ replies.NoMemory → Begins past before
+  pub room : reply ≢ replies.NoMemory → length before < limit
+
+-- a shard that had no room for the proof of a grant has none for a step
+abbrev pub LeavesOut : Settled → ℕ → List ShardStep → Type 0
+LeavesOut (settled.NoRoom limit) shard steps = All (λ (s : ShardStep). s.shard ≢ shard) steps
+LeavesOut _ shard steps = Unit {0}
+
+-- What comes of it, after what was seen before: the own places and the reply. The object's entry
+-- stands in its journal right after those by which the object was asked for. What is performed in the
+-- shards comes after the entry that grants it.
+pub data IsGuardedAfter (plans : List Plan) (plan : Plan) (past J : Journals) (x : Seeking) :
     Own → Reply → Type 0 where
   object_is_full : length (J.objects x.request.object) ≡ x.fixed.limit →
-      IsGuarded plans plan J x (own_at [] [] []) (object_full x.request.object x.fixed.limit)
+      IsGuardedAfter plans plan past J x (own_at [] [] []) (object_full x.request.object x.fixed.limit)
   no_ruling : {own : List ℕ} {reply : Reply} (before : List ObjectEntry) →
-      Begins before (J.objects x.request.object) →
+      IsAskedWith (past.objects x.request.object) (J.objects x.request.object) before x.fixed.limit
+      reply →
       IsUnruled plan (J.shards x.shard) x.shard (asks_for x before) own reply →
-      IsGuarded plans plan J x (own_at own [] []) reply
+      IsGuardedAfter plans plan past J x (own_at own [] []) reply
   denied : {place at : ℕ} {denial : Denial} {told : LinkSent} (before : List ObjectEntry) →
       Stands (J.objects x.request.object) at before
       (ruled_as x.shard place x.request.op rulings.Denied) →
       IsDeniedAt plan (J.shards x.shard) (asks_for x before) place denial →
       TellsDenial (list_after x.fixed.plan before) denial told →
-      IsGuarded plans plan J x (own_at (place ∷ []) (at ∷ []) [])
+      IsGuardedAfter plans plan past J x (own_at (place ∷ []) (at ∷ []) [])
       (replies.Denied x.shard place told)
   granted : {place at entry : ℕ} {c : Cached} {kept : Bool} {settled : Settled}
       {asks : List ℕ} {steps : List ShardStep} {refused : Option Reply}
@@ -97,6 +113,11 @@ pub data IsGuarded (plans : List Plan) (plan : Plan) (J : Journals) (x : Seeking
       (ruled_as x.shard place x.request.op (rulings.Granted entry)) →
       IsGrant plan (J.shards x.shard) (asks_for x before) place entry c kept settled asks →
       IsPerformed plans J.shards x.request.op x.certs x.reading steps refused →
-      IsGuarded plans plan J x (own_at asks (at ∷ []) steps)
+      LeavesOut settled x.shard steps →
+      IsGuardedAfter plans plan past J x (own_at asks (at ∷ []) steps)
       (told_or refused (replies.Granted kept entry x.shard place c.proof c.cites
       (gives_for x before)))
+
+-- the same, whatever was seen before
+abbrev pub IsGuarded : List Plan → Plan → Journals → Seeking → Own → Reply → Type 0
+IsGuarded plans plan J x own reply = IsGuardedAfter plans plan no_entries J x own reply

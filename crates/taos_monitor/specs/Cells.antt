@@ -1,6 +1,6 @@
 -- A node and its cells: what it is opened with, what stands in the journals of its shards and of its
 -- objects, and the places of entries there.
-use Rattle.std.specs.Prelude.{◌≡◌, ℕ, ◌+◌, ◌<◌, ◌≤◌, ◌==◌, if◌then◌else◌, Bool, true, false, List, ◌++◌, length, filter_map, Option, Some, None, slice_get, All, AllPairs}
+use Rattle.std.specs.Prelude.{◌≡◌, ℕ, ◌+◌, ◌<◌, ◌≤◌, ◌==◌, if◌then◌else◌, Bool, true, false, List, [], ◌++◌, length, filter_map, Option, Some, None, slice_get, All, AllPairs}
 use Rattle.keyed_seal.specs.Keys.{Entries}
 use Rattle.object_core.specs.Objects.{ObjectEntry}
 use Rattle.object_core.specs.Shelving.{ObjectFixed, AreWithin}
@@ -37,6 +37,10 @@ pub record Journals : Type 0 where
   pub shards : ℕ → List Entry
   -- the journal of the object of each number
   pub objects : ℕ → List ObjectEntry
+
+-- nothing stands in a cell
+abbrev pub no_entries : Journals
+no_entries = record { shards = λ s. []; objects = λ o. [] }
 
 -- what holds a journal: a shard or an object, by its number
 pub data Cell : Type 0 where

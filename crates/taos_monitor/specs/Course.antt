@@ -3,15 +3,15 @@ use Rattle.std.specs.Prelude.{◌≡◌, ℕ, List, [], ◌∷◌, Err, None, So
 use Rattle.keyed_seal.specs.Keys.{key_of}
 use Rattle.object_core.specs.Shelving.{ObjectFixed, fixed_at}
 use Rattle.stmt_codec.specs.Certificates.{Certificate}
-use Rattle.prin_term.specs.declared.fault.FormatFault.TheVariants as wire
+use Rattle.byte_fields.specs.declared.fault.FormatFault.TheVariants as wire
 use Rattle.taos_wire.specs.Request.{Request, Spells, IsAsked, IsSealed}
 use Rattle.taos_wire.specs.RequestReading.{request_of}
 use Rattle.taos_wire.specs.Reply as replies
 use Rattle.taos_wire.specs.Reply.{Reply, Sent, sealed, unsealed}
 use Rattle.agent_core.specs.State.{Plan}
-use Rattle.taos_monitor.specs.Cells.{Node, home, HasPlan, Journals, Place}
+use Rattle.taos_monitor.specs.Cells.{Node, home, HasPlan, Journals, no_entries, Place}
 use Rattle.taos_monitor.specs.Credentials.{LinkCall, AreOpened, IsFirstRefused, IsFirstFailed, IsInterrupted}
-use Rattle.taos_monitor.specs.AtObject.{Seeking, Own, places_at, IsGuarded}
+use Rattle.taos_monitor.specs.AtObject.{Seeking, Own, places_at, IsGuardedAfter}
 
 -- what a course used: readings of the clock, answers of the link, and own places
 pub record Used : Type 0 where
@@ -84,36 +84,40 @@ module _ (n : Node) where
     fixed = t.object;
   }
 
-  -- The whole, with what it used. What is held, what the object is, and where the entries stand, is
-  -- read off the journals. A node that is out of memory may say so to any request, under a seal
-  -- only where the request's own was right.
-  pub data Course (J : Journals) (payload : List ℕ) : Used → Sent → Type 0 where
+  -- The whole, with what it used, after what was seen before. What is held, what the object is, and
+  -- where the entries stand, is read off the journals. A node that is out of memory may say so to any
+  -- request, under a seal only where the request's own was right.
+  pub data CourseAfter (past J : Journals) (payload : List ℕ) : Used → Sent → Type 0 where
     malformed : {offset : ℕ} →
         ((r : Request) → Spells r payload → ⊥) →
         request_of payload ≡ Err (wire.Malformed offset) →
-        Course J payload nothing (unsealed (replies.Malformed offset))
+        CourseAfter past J payload nothing (unsealed (replies.Malformed offset))
     unknown_channel : (r : Request) →
         Spells r payload → key_of n.channels r.channel ≡ None →
-        Course J payload nothing (unsealed (replies.UnknownChannel r.channel))
+        CourseAfter past J payload nothing (unsealed (replies.UnknownChannel r.channel))
     bad_seal : (r : Request) (key : List ℕ) →
         Spells r payload → key_of n.channels r.channel ≡ Some key → (IsSealed key payload → ⊥) →
-        Course J payload nothing (unsealed replies.BadSeal)
+        CourseAfter past J payload nothing (unsealed replies.BadSeal)
     cert_refused : {r : Request} {key : List ℕ} {calls : List LinkCall} {index code : ℕ} →
         IsAsked n.channels payload r key → IsFirstRefused n.relay_key r.certs calls index code →
-        Course J payload (only_calls calls) (sealed key r (replies.CertRefused index code))
+        CourseAfter past J payload (only_calls calls) (sealed key r (replies.CertRefused index code))
     relay_failed : {r : Request} {key : List ℕ} {calls : List LinkCall} {index : ℕ} →
         IsAsked n.channels payload r key → IsFirstFailed n.relay_key r.certs calls index →
-        Course J payload (only_calls calls) (sealed key r (replies.RelayFailed index))
+        CourseAfter past J payload (only_calls calls) (sealed key r (replies.RelayFailed index))
     unknown_object : {r : Request} {key : List ℕ} {calls : List LinkCall}
         {certs : List Certificate} →
         IsOpened payload r key calls certs → fixed_at n.objects r.object ≡ None →
-        Course J payload (only_calls calls) (sealed key r (replies.UnknownObject r.object))
+        CourseAfter past J payload (only_calls calls) (sealed key r (replies.UnknownObject r.object))
     ruled : {own : Own} {reply : Reply} (t : Arrival payload) (reading : ℕ) (plan : Plan) →
         HasPlan n (its_home t) plan →
-        IsGuarded n.plans plan J (its_seeking t reading) own reply →
-        Course J payload (uses (reading ∷ []) t.calls (places_at (its_seeking t reading) own))
+        IsGuardedAfter n.plans plan past J (its_seeking t reading) own reply →
+        CourseAfter past J payload (uses (reading ∷ []) t.calls (places_at (its_seeking t reading) own))
         (answering t reply)
-    unread : Course J payload nothing (unsealed replies.NoMemory)
+    unread : CourseAfter past J payload nothing (unsealed replies.NoMemory)
     unopened : {r : Request} {key : List ℕ} {calls : List LinkCall} →
         IsAsked n.channels payload r key → IsInterrupted n.relay_key r.certs calls →
-        Course J payload (only_calls calls) (sealed key r replies.NoMemory)
+        CourseAfter past J payload (only_calls calls) (sealed key r replies.NoMemory)
+
+  -- the same, whatever was seen before
+  abbrev pub Course : Journals → List ℕ → Used → Sent → Type 0
+  Course J payload used sent = CourseAfter no_entries J payload used sent

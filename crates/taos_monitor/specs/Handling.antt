@@ -12,7 +12,7 @@ use Rattle.object_core.specs.Shelving.{ObjectFixed}
 use Rattle.taos_monitor.specs.Cells.{AreLegal, GoesOn}
 use Rattle.taos_monitor.specs.World.{Setting, World}
 use Rattle.taos_monitor.specs.Credentials.{LinkCall, IsLinked}
-use Rattle.taos_monitor.specs.Course.{brought, HasArrived, Arrival, Used, Course}
+use Rattle.taos_monitor.specs.Course.{brought, HasArrived, Arrival, Used, CourseAfter}
 
 -- the clock gave these readings, one after the other
 abbrev pub Gave : Option (List ℕ) → Option (List ℕ) → List ℕ → Type 0
@@ -48,7 +48,7 @@ module _ (s : Setting) (before after : World) where
   abbrev pub HandledTo : Request → List ℕ → Type 0
   HandledTo r bytes =
       HasCourse (λ used sent. (payload key : List ℕ) → IsAsked s.node.channels payload r key →
-      Course s.node after.seen.journals payload used sent) bytes
+      CourseAfter s.node before.seen.journals after.seen.journals payload used sent) bytes
 
   -- the request came to the clock, which failed
   abbrev pub StoppedAtClock : Request → Type 0
@@ -65,7 +65,8 @@ module _ (s : Setting) (before after : World) where
   -- a course of the payload was taken to a reply
   abbrev pub AnsweredTo : List ℕ → List ℕ → Type 0
   AnsweredTo payload bytes =
-      HasCourse (λ used sent. Course s.node after.seen.journals payload used sent) bytes
+      HasCourse (λ used sent. CourseAfter s.node before.seen.journals after.seen.journals payload used
+      sent) bytes
 
   -- the payload came to the clock, which failed
   abbrev pub UnansweredAtClock : List ℕ → Type 0

@@ -100,4 +100,4 @@ NoEntryAfterFull n =
     (J : Journals) (used : Used) (frames replies : List (List ℕ)) (outcome : Outcome) →
     (a : Answered n J used frames replies outcome) →
     (first second : Turn) → a.turns ≡ first ∷ second ∷ [] → (cell : Cell) (p : Place) →
-    FoundFull cell first → Contains second.used.places p → p.cell ≡ cell → ⊥
+    FoundFull J cell first → Contains second.used.places p → p.cell ≡ cell → ⊥

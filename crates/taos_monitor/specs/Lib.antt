@@ -17,3 +17,6 @@ pub mod Connection
 pub mod Serving
 pub mod Laws
 pub mod Verdicts
+pub mod Projected
+pub mod Changes
+pub mod Choices

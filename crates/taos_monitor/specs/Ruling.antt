@@ -7,7 +7,7 @@ use Rattle.object_core.specs.Operation.{IsDigest}
 use Rattle.object_core.specs.Shelving.{ObjectFixed, fixed_of}
 use Rattle.object_core.specs.declared.ruling.Ruling.{Ruling}
 use Rattle.object_core.specs.declared.ruling.Ruling.TheVariants as rulings
-use Rattle.prin_term.specs.Steps.{IsByte}
+use Rattle.byte_fields.specs.Steps.{IsByte}
 use Rattle.prin_term.specs.Principal.{Principal, subterms}
 use Rattle.prin_term.specs.View.{Grant, principal}
 use Rattle.proof_cache.specs.Cached.{Cached, cached}
@@ -31,7 +31,7 @@ use Rattle.taos_monitor.specs.declared.deciding.Ruled.{Ruled}
 use Rattle.taos_monitor.specs.Cells.{Cell, Seen, GoesOn, Viewed, ShardsGoOn, AreLegalIn, AreLegalShards, in_shard}
 use Rattle.taos_monitor.specs.Asking.{TellsDenial, IsUnruled, shard_full}
 use Rattle.taos_monitor.specs.Operations.{result_of}
-use Rattle.taos_monitor.specs.AtObject.{Seeking, Own, places_at, asks_for, gives_for, object_full, IsGuarded}
+use Rattle.taos_monitor.specs.AtObject.{Seeking, Own, places_at, asks_for, gives_for, object_full, IsGuardedAfter}
 
 -- ---- the ask
 
@@ -162,7 +162,7 @@ pub data IsRuled (s : ShardSeen) (x : Seeking) (before : List ObjectEntry) :
     Option Ruled → List ℕ → Reply → Type 0 where
   at_limit : length before ≡ x.fixed.limit →
       IsRuled s x before None [] (object_full x.request.object x.fixed.limit)
-  unruled : {own : List ℕ} {reply : Reply} →
+  unruled : {own : List ℕ} {reply : Reply} → length before < x.fixed.limit →
       IsUnruled s.plan s.journal x.shard (asks_for x before) own reply →
       IsRuled s x before None own reply
   denied : {place : ℕ} {denial : Denial} {told : LinkSent} →
@@ -208,4 +208,4 @@ pub record GuardedTo (s : Standing) (old new : Seen) (x : Seeking) (reply : Repl
   pub own : Own
   pub goes_on : GoesOn s.alone old new (places_at x own)
   pub legal : AreLegalIn s.plans s.objects new.journals
-  pub guarded : IsGuarded s.plans plan new.journals x own reply
+  pub guarded : IsGuardedAfter s.plans plan old.journals new.journals x own reply

@@ -1,14 +1,19 @@
 -- Connections in the journals of a node: the whole frames of an input, each with its course, and
 -- the replies.
-use Rattle.std.specs.Prelude.{◌≡◌, ◌≢◌, ◌⊎◌, ℕ, false, List, [], ◌∷◌, ◌++◌, map, All, AllPairs}
+use Rattle.std.specs.Prelude.{◌≡◌, ◌≢◌, ◌⊎◌, ℕ, false, List, [], ◌∷◌, ◌++◌, map, Some, slice_get, All, AllPairs, Contains}
 use Rattle.std.specs.List.{flat_map}
 use Rattle.frame_link.specs.declared.outcome.Outcome.{Outcome}
 use Rattle.frame_link.specs.declared.outcome.Outcome.TheVariants.{ClockFault}
+use Rattle.object_core.specs.Operation.{Op}
+use Rattle.object_core.specs.declared.ruling.Ruling.TheVariants as rulings
 use Rattle.taos_wire.specs.Reply.{Reply, Granted, Sent, spelling}
-use Rattle.taos_monitor.specs.Cells.{Node, Journals, Cell, OfShard, OfObject, Place, numbers_in, IsAfter}
+use Rattle.agent_core.specs.declared.told.Told.{Told}
+use Rattle.agent_core.specs.State.{Ask, Asks}
+use Rattle.agent_core.specs.Journals.{entry}
+use Rattle.taos_monitor.specs.Cells.{Node, Journals, Cell, OfShard, OfObject, Place, in_object, numbers_in, IsAfter}
 use Rattle.taos_monitor.specs.Credentials.{LinkCall}
 use Rattle.taos_monitor.specs.Asking.{shard_full}
-use Rattle.taos_monitor.specs.AtObject.{object_full}
+use Rattle.taos_monitor.specs.AtObject.{object_full, ruled_as}
 use Rattle.taos_monitor.specs.Course.{Arrival, Used, Course}
 
 -- a frame with what its course used, and its reply
@@ -53,19 +58,33 @@ abbrev pub IsMade : ℕ → Reply → Type 0
 IsMade s (Granted false entry shard place proof cites content) = shard ≡ s
 IsMade s _ = ⊥
 
+-- The Ask at the place of the shard was a miss, and one of these own places is that of the entry by
+-- which it was granted: by a proof that was made for it.
+pub record WasMade (J : Journals) (s place : ℕ) (own : List Place) : Type 0 where
+  pub ask : Ask
+  pub missed : slice_get (J.shards s) place ≡ Some (entry (Asks ask) Told.Miss)
+  pub object : ℕ
+  pub at : ℕ
+  pub owned : Contains own (in_object object at)
+  pub op : Op
+  pub chosen : ℕ
+  pub granted : slice_get (J.objects object) at
+      ≡ Some (ruled_as s place op (rulings.Granted chosen))
+
 -- the turn's reply says that the journal of the cell is full; or that of a shard had no room for the
--- proof of a grant, whose Ask stands there alone
-abbrev pub FoundFull : Cell → Turn → Type 0
-FoundFull (OfShard s) t =
+-- proof of a grant, whose Ask stands there alone, whatever the reply says of its steps
+abbrev pub FoundFull : Journals → Cell → Turn → Type 0
+FoundFull J (OfShard s) t =
     ((limit : ℕ) × (t.sent.reply ≡ shard_full s limit))
-    ⊎ (IsMade s t.sent.reply
-    × ((place : ℕ) × (numbers_in (OfShard s) t.used.places ≡ place ∷ [])))
-FoundFull (OfObject o) t = (limit : ℕ) × (t.sent.reply ≡ object_full o limit)
+    ⊎ ((place : ℕ) × (numbers_in (OfShard s) t.used.places ≡ place ∷ [])
+    × (IsMade s t.sent.reply ⊎ WasMade J s place t.used.places))
+FoundFull J (OfObject o) t = (limit : ℕ) × (t.sent.reply ≡ object_full o limit)
 
 -- a journal that the earlier turn found full has no place of the later one
-abbrev pub IsFilledBefore : Turn → Turn → Type 0
-IsFilledBefore earlier later =
-    (cell : Cell) → FoundFull cell earlier → All (λ (p : Place). p.cell ≢ cell) later.used.places
+abbrev pub IsFilledBefore : Journals → Turn → Turn → Type 0
+IsFilledBefore J earlier later =
+    (cell : Cell) → FoundFull J cell earlier →
+    All (λ (p : Place). p.cell ≢ cell) later.used.places
 
 -- The frames have one course each, in order. Together these used the readings, the answers of the
 -- link and the own places that are given, and no others.
@@ -77,5 +96,5 @@ pub record Answered (n : Node) (J : Journals) (used : Used) (frames replies : Li
   pub read : used.readings ≡ readings_of turns
   pub owned : used.places ≡ places_of turns
   pub ascending : AllPairs IsAfter used.places
-  pub filled : AllPairs IsFilledBefore turns
+  pub filled : AllPairs (IsFilledBefore J) turns
   pub replies_are : replies ≡ replies_of turns

@@ -1,8 +1,12 @@
 //! Laws of courses, each the contract of a function that does nothing.
 
 ghost use Rattle.taos_monitor.specs.Cells.{Node};
+ghost use Rattle.taos_monitor.specs.Changes.{NothingChanges, ObjectsAreMade, RepliesTellUngranted};
+ghost use Rattle.taos_monitor.specs.Choices.{AnswersAgree, ConnectionsAgree, FramesAreRead};
 ghost use Rattle.taos_monitor.specs.Laws.{AnsweredStays, AnswersMore, ArrivalExcludes, CodesAreKnown, CourseStays, CoursesAgree, FaultsAreCounted, GoesOnTwice, NoEntryAfterFull};
+ghost use Rattle.taos_monitor.specs.Projected.{EffectsAreProjected};
 ghost use Rattle.taos_monitor.specs.Verdicts.{RepliesAreVerdicts};
+ghost use Rattle.taos_monitor.specs.World.{Setting};
 
 /// A course in journals is one in all legal journals that go on from these.
 pub fn courses_stay()
@@ -50,4 +54,29 @@ pub fn courses_exclude_each_other()
 pub fn refusals_have_causes()
     ensures codes { (n : Node) → CodesAreKnown n }
     ensures faults { FaultsAreCounted }
+{}
+
+/// A request that was denied, or refused before it had an entry at an object, has no effect there or
+/// in a shard: no byte of an object changes, and no list, where nobody else takes the object.
+pub fn no_grant_changes_nothing()
+    ensures unchanged { (n : Node) → NothingChanges n }
+    ensures told { (n : Node) → RepliesTellUngranted n }
+{}
+
+/// The effects of a connection's entries, which are contents that are written, lists that are set and
+/// steps of shards, are those due to its granted entries, in order; and they make its objects what
+/// they are.
+pub fn effects_are_granted()
+    ensures projected { (n : Node) → EffectsAreProjected n }
+    ensures objects { ObjectsAreMade }
+{}
+
+/// Where nobody else steps a cell, what a node answers is a function of the frames, the readings of
+/// the clock and the answers of the link, up to the proofs that it makes: two connections that have
+/// these in common, and for which memory was never lacking, have the same replies, and leave the
+/// same entries after the same entries. The frames are a function of the bytes that were taken.
+pub fn a_connection_alone_is_a_function()
+    ensures frame { (s : Setting) → AnswersAgree s }
+    ensures connection { (s : Setting) → ConnectionsAgree s }
+    ensures read { (s : Setting) → FramesAreRead s }
 {}

@@ -22,8 +22,9 @@ pub use answering::answer;
 pub use connection::{MAX_REQUEST, serve_connection};
 pub use handling::{Handled, request};
 pub use laws::{
-    courses_exclude_each_other, courses_stay, going_on_goes_on, nothing_follows_a_full_journal,
-    one_more_is_answered, refusals_have_causes, replies_are_verdicts, what_is_answered_stays,
+    courses_exclude_each_other, courses_stay, effects_are_granted, going_on_goes_on,
+    no_grant_changes_nothing, nothing_follows_a_full_journal, one_more_is_answered,
+    refusals_have_causes, replies_are_verdicts, what_is_answered_stays,
 };
 pub use node_keys::NodeKeys;
 pub use presented::BAD_RESEAL;

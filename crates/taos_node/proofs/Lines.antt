@@ -16,7 +16,8 @@ use Rattle.taos_node.specs.Table.{IsOfTable, IsOption, IsPlainWord, all_options,
 use Rattle.taos_node.specs.Words.{Given, words_of}
 use Rattle.taos_node.proofs.Options.{Knows, yes, no, knows, keeps_rows, no_defaults, none_required, rule_for, rules_for}
 use Rattle.taos_node.proofs.Rows.{AreNew, row_for, rows_for}
-use Rattle.taos_node.proofs.Walks.{IsRest, Reads, Settles, alone_next, alone_turn, at, awaiting, blocked_alone, blocked_joined, early_alone, early_joined, held, is_rest, joined_again, joined_next, joined_turn, leaf_of, no_value, pending, rows_settle, stray, unknown, unknown_early, value_again, value_next, value_settles, value_turn, with_value}
+use Rattle.taos_node.proofs.Walks.{IsRest, Reads, Settles, alone_next, alone_turn, at, awaiting, blocked_alone, blocked_joined, early_alone, early_joined, held, is_rest, joined_again}
+use Rattle.taos_node.proofs.Walks.{joined_next, joined_turn, leaf_of, no_value, pending, rows_settle, stray, unknown, unknown_early, value_again, value_next, value_settles, value_turn, with_value}
 
 -- ---- the names of options
 

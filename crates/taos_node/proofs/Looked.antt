@@ -12,8 +12,8 @@ use Rattle.stmt_codec.specs.Certificates.{Certificate, certificate}
 use Rattle.taos_calculus.specs.Question.{claim_of}
 use Rattle.prin_term.specs.declared.term.Anchor.{Anchor}
 use Rattle.taos_calculus.specs.Rules.{Claim, Judgement, Line, Proves}
-use Rattle.prin_term.specs.declared.fault.FormatFault.{FormatFault as WireFault}
-use Rattle.prin_term.specs.declared.fault.FormatFault.TheVariants as wire
+use Rattle.byte_fields.specs.declared.fault.FormatFault.{FormatFault as WireFault}
+use Rattle.byte_fields.specs.declared.fault.FormatFault.TheVariants as wire
 use Rattle.taos_wire.specs.declared.reply.Reply as code
 use Rattle.taos_wire.specs.declared.reply.Reply.TheVariants as replies
 use Rattle.taos_wire.specs.Request.{Request, Spells, IsSealed}

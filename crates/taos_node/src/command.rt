@@ -23,11 +23,11 @@ use crate::relay::{mint_by_file, relay_by_file};
 use crate::wanted::Wanted;
 use crate::words::wanted_of;
 use frame_link::{Clock, Door, Outcome, RelayLink, Sink, Source};
+use goal_search::Workbench;
 use std::alloc::Global;
 use std::sync::Wait;
 use std::thread::Threads;
 use taos_monitor::serve_connection;
-use taos_saturate::Saturator;
 
 // What a lane holds while its worker runs. Nothing yet.
 #[derive(Drop)]
@@ -59,7 +59,7 @@ impl<C: Clock, R: RelayLink, D: Door> Lane<C, R, D> {
 }
 
 // The node that it opens, with the room that decisions take.
-fn node_file_of<F: Source>(alloc: Global, file: &mut F) -> Result<(OpenNode, Saturator), FileFault>
+fn node_file_of<F: Source>(alloc: Global, file: &mut F) -> Result<(OpenNode, Workbench), FileFault>
     ensures gives { NodeFileGives (λ o x. IsOpenedBy o x.0)
         (stream (F.left file.old) (F.faults file.old))
         (stream (F.left file.new) (F.faults file.new)) result }
@@ -71,14 +71,14 @@ fn node_file_of<F: Source>(alloc: Global, file: &mut F) -> Result<(OpenNode, Sat
 {
     let opening = file_opening(alloc, file)?;
     let node = open_node(alloc, opening)?;
-    Ok((node, Saturator::reserve(alloc)?))
+    Ok((node, Workbench::reserve(alloc)?))
 }
 
 // Serves the connection of the first lane, of at most so many frames.
 fn serve<W: Wait + Sync, I: Source, O: Sink, C: Clock, R: RelayLink, D: Door>(
     rt: &W,
     alloc: Global,
-    opened: &mut (OpenNode, Saturator),
+    opened: &mut (OpenNode, Workbench),
     input: &mut I,
     output: &mut O,
     lanes: &mut [Lane<C, R, D>],

@@ -11,7 +11,7 @@ use Rattle.taos_calculus.specs.Tables.{IsBelow, judgement, named, principals_of}
 use Rattle.taos_calculus.specs.Tidy.{DerivableWithin}
 use Rattle.taos_calculus.specs.Numbered.{Gives, EachGives, IsClosed, facts_at, chain, lift}
 use Rattle.taos_saturate.specs.declared.saturation.Saturation.{Saturation}
-use Rattle.taos_saturate.specs.Finding.{pair}
+use Rattle.term_pool.specs.Finding.{pair}
 use Rattle.taos_saturate.specs.Saturating.{IsReady, IsSound, IsFull, IsGood, IsNumber, IsKnown, GivesIn, facts_of, claims_in}
 use Rattle.taos_calculus.proofs.Induction.{All-at}
 use Rattle.taos_calculus.proofs.Building.{within_saturated}

@@ -1,12 +1,10 @@
 -- What stays where a table of nodes widens, and what comes in.
-use Rattle.std.proofs.Common.{◌≡◌, ℕ, zero, suc, ◌+◌, ◌<◌, ◌≤◌, Bool, true, false, List, [], ◌∷◌, ◌++◌, Some, slice_get, get_or, length, map, take, refl, sym, ap, ap₂, subst, ◌∙◌, arith, All, Contains, append_assoc, add-one}
+use Rattle.std.proofs.Common.{◌≡◌, ℕ, ◌+◌, ◌<◌, ◌≤◌, Bool, true, false, List, [], ◌∷◌, ◌++◌, Some, slice_get, length, map, take, refl, sym, ap, ap₂, subst, ◌∙◌, arith, All, Contains, append_assoc, add-one}
 use Rattle.std.proofs.lemmas.List.{get_or_default, append-nil, map-append}
-use Rattle.std.proofs.lemmas.List.Elements.{All-nil, All-head, All-tail, All-push, All-weaker, Contains-append_left}
-use Rattle.std.proofs.lemmas.Option.{none-some, same_Some, slice_get-map, slice_get-get_or}
-use Rattle.std.specs.Prelude.{option_map}
+use Rattle.std.proofs.lemmas.List.Elements.{All-nil, All-push, All-weaker, Contains-append_left}
 use Rattle.prin_term.specs.Principal.{Principal, Key}
 use Rattle.taos_calculus.specs.declared.line.Node.{Node}
-use Rattle.taos_calculus.specs.Question.{picked, claim_of}
+use Rattle.taos_calculus.specs.Question.{picked}
 use Rattle.taos_calculus.specs.Rules.{Claim}
 use Rattle.taos_calculus.specs.Canonical.{post_order}
 use Rattle.stmt_codec.specs.Distinct.{met}
@@ -21,10 +19,7 @@ use Rattle.term_pool.specs.Claims.{claim_by}
 use Rattle.stmt_codec.specs.Certificates.{Certificate, speaker_of, IsWithinLimits}
 use Rattle.term_pool.proofs.Interned.{length_grown, longer_length, longer_named, named_stays, fits_next}
 use Rattle.term_pool.proofs.Few.{cert_few}
-
-map_same : {X Y : Type 0} (f g : X → Y) (xs : List X) → All (λ x. f x ≡ g x) xs → map f xs ≡ map g xs
-map_same f g [] all = refl
-map_same {X} {Y} f g (x ∷ xs) all = ap₂ (λ (y : Y) (ys : List Y). y ∷ ys) (All-head (λ x. f x ≡ g x) x xs all) (map_same f g xs (All-tail (λ x. f x ≡ g x) x xs all))
+use Rattle.term_pool.proofs.Picking.{map_same, picked-true, picked-false}
 
 pub widens_none : (nodes : List Node) → IsNodeTable nodes → Widens nodes nodes 0
 widens_none nodes table = record { table = table; more = []; longer = sym (append-nil (principals_of nodes)); few = omega arith }
@@ -131,32 +126,6 @@ second_fits n0 n1 sp l r x h f = fits_next n0 n1 (post_order sp) sp x h (post_or
 pub cert_fits : (nodes : List Node) (c : Certificate) → IsWithinLimits c → length nodes + 16 ≤ 1296 → Fits nodes (post_order (speaker_of c) ++ post_order c.left ++ post_order c.right)
 cert_fits nodes c limits room = omega (arith, room, cert_few (principals_of nodes) c limits, length-principals_of nodes)
 
--- one element more is looked at
-pub picked-true : {X : Type 0} (at : ℕ) (xs : List X) (marks : List Bool) (i : ℕ) (x : X) → slice_get xs i ≡ Some x → slice_get marks i ≡ Some true →
-    picked at (take (suc i) xs) (take (suc i) marks) ≡ picked at (take i xs) (take i marks) ++ (at + i, x) ∷ []
-picked-true at [] marks i x e f = absurd (none-some x e)
-picked-true at (y ∷ xs) [] i x e f = absurd (none-some true f)
-picked-true {X} at (y ∷ xs) (true ∷ marks) zero x e f =
-    let n : at ≡ at + 0 = omega arith in
-    let q : y ≡ x = same_Some y x e in λ k. (n k, q k) ∷ []
-picked-true at (y ∷ xs) (false ∷ marks) zero x e f = absurd (let q : false ≡ true = same_Some false true f in cc)
-picked-true {X} at (y ∷ xs) (true ∷ marks) (suc i) x e f =
-    let n : (at + 1) + i ≡ at + suc i = omega arith in
-    ap (λ (l : List (ℕ × X)). (at, y) ∷ l) (picked-true (at + 1) xs marks i x e f ∙ (λ k. picked (at + 1) (take i xs) (take i marks) ++ (n k, x) ∷ []))
-picked-true {X} at (y ∷ xs) (false ∷ marks) (suc i) x e f =
-    let n : (at + 1) + i ≡ at + suc i = omega arith in
-    picked-true (at + 1) xs marks i x e f ∙ (λ k. picked (at + 1) (take i xs) (take i marks) ++ (n k, x) ∷ [])
-
-pub picked-false : {X : Type 0} (at : ℕ) (xs : List X) (marks : List Bool) (i : ℕ) → slice_get marks i ≡ Some false →
-    picked at (take (suc i) xs) (take (suc i) marks) ≡ picked at (take i xs) (take i marks)
-picked-false at [] marks zero f = refl
-picked-false at [] marks (suc i) f = refl
-picked-false at (y ∷ xs) [] i f = absurd (none-some false f)
-picked-false at (y ∷ xs) (true ∷ marks) zero f = absurd (let q : true ≡ false = same_Some true false f in cc)
-picked-false at (y ∷ xs) (false ∷ marks) zero f = refl
-picked-false {X} at (y ∷ xs) (true ∷ marks) (suc i) f = ap (λ (l : List (ℕ × X)). (at, y) ∷ l) (picked-false (at + 1) xs marks i f)
-picked-false at (y ∷ xs) (false ∷ marks) (suc i) f = picked-false (at + 1) xs marks i f
-
 pub gathers_skip : (nodes : List Node) (cited : List Cited) (xs : List Claim) (marks : List Bool) (i : ℕ) → slice_get marks i ≡ Some false →
     Gathers nodes cited (picked 0 (take i xs) (take i marks)) → Gathers nodes cited (picked 0 (take (i + 1) xs) (take (i + 1) marks))
 gathers_skip nodes cited xs marks i e g =
@@ -171,7 +140,3 @@ gathers_step old new n cited xs marks i c claim w e f h at is g =
     = gathers_more new cited (picked 0 (take i xs) (take i marks)) c (0 + i) claim (widens_gathers old new n w cited (picked 0 (take i xs) (take i marks)) g) h (omega (arith, at)) is in
     subst (λ k. Gathers new (cited ++ c ∷ []) (picked 0 (take k xs) (take k marks))) (sym (add-one i))
     (subst (λ (ch : List (ℕ × Claim)). Gathers new (cited ++ c ∷ []) ch) (sym (picked-true 0 xs marks i claim e f)) more)
-
-pub mapped_at : {X : Type 0} (f : X → Certificate) (xs : List X) (i : ℕ) (d : X) → i < length xs → slice_get (map claim_of (map f xs)) i ≡ Some (claim_of (f (get_or xs i d)))
-mapped_at f xs i d h =
-    slice_get-map claim_of (map f xs) i ∙ ap (option_map claim_of) (slice_get-map f xs i ∙ ap (option_map f) (slice_get-get_or xs i d h))

@@ -2,13 +2,13 @@
 use Rattle.std.proofs.Common.{◌≡◌, ◌+◌, ◌<◌, ◌≤◌, [], ◌∷◌, ◌++◌, refl, ◌∙◌, arith, le_refl, le_trans}
 use Rattle.std.specs.Prelude.{vec_capacity}
 use Rattle.taos_calculus.specs.declared.line.Line.{Line}
-use Rattle.taos_saturate.specs.declared.found.Found.{Found}
+use Rattle.term_pool.specs.declared.found.Found.{Found}
 use Rattle.taos_saturate.specs.declared.marks.Marks.{Marks}
-use Rattle.taos_saturate.specs.declared.parents.Parents.{Parents}
+use Rattle.term_pool.specs.declared.parents.Parents.{Parents}
 use Rattle.taos_saturate.specs.declared.saturation.Saturation.{Saturation}
 use Rattle.taos_calculus.specs.Numbered.{Gives, facts_at}
 use Rattle.term_pool.proofs.Keeping.{each_gives-more}
-use Rattle.taos_saturate.specs.Finding.{IsFound, room}
+use Rattle.term_pool.specs.Finding.{IsFound, room}
 use Rattle.taos_saturate.specs.Saturating.{IsReady, IsSound, claims_in, IsNew, IsGrown}
 
 abbrev pub with_found : Saturation → Found → Saturation

@@ -1,5 +1,3 @@
-pub mod Adding
-pub mod Cells
 pub mod Steps
 pub mod Growing
 pub mod Deciding

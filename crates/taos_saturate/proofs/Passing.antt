@@ -4,11 +4,11 @@ use Rattle.std.proofs.lemmas.Option.{same_Some}
 use Rattle.taos_calculus.specs.declared.line.Step.{Step}
 use Rattle.taos_calculus.specs.declared.line.Fact.{Fact}
 use Rattle.taos_calculus.specs.Numbered.{chain, lift}
-use Rattle.taos_saturate.specs.declared.found.Pair.{Pair}
+use Rattle.term_pool.specs.declared.found.Pair.{Pair}
 use Rattle.taos_saturate.specs.declared.saturation.Saturation.{Saturation}
-use Rattle.taos_saturate.specs.Finding.{of_speaks, of_says, IsFirstOf, Covers, IsGap}
+use Rattle.term_pool.specs.Finding.{of_speaks, of_says, IsFirstOf, Covers, IsGap}
 use Rattle.taos_saturate.specs.Saturating.{facts_of, IsNumber, IsReady, IsKnown, IsNew, ChainFull, LiftFull}
-use Rattle.taos_saturate.proofs.Adding.{empty_cell, set_cell, cell_known}
+use Rattle.term_pool.proofs.Adding.{empty_cell, set_cell, cell_known}
 use Rattle.taos_saturate.proofs.Steps.{speaks_in, new_speaks, new_says}
 
 module _ (s : Saturation) (ready : IsReady s) where

@@ -1,30 +1,17 @@
 -- What a held decider knows of the terms of its question.
-use Rattle.std.proofs.Common.{◌≡◌, ◌↔◌, inl, inr, ℕ, ◌<◌, List, [], ◌∷◌, Option, Some, None, length, map, refl, ap, subst, All}
-use Rattle.std.specs.Prelude.{MatchOption, IsSome}
+use Rattle.std.proofs.Common.{◌≡◌, ◌↔◌, inl, inr, ℕ, ◌<◌, length, refl, subst, All}
 use Rattle.std.proofs.lemmas.List.Elements.{All-weaker, All-map, All-contains}
 use Rattle.prin_term.specs.Principal.{Principal, subterms}
 use Rattle.taos_calculus.specs.declared.line.Fact.{Fact}
 use Rattle.taos_calculus.specs.Question.{Question, claims_of, IsTermOf, MayAnswer}
-use Rattle.taos_calculus.specs.Rules.{Claim}
 use Rattle.taos_calculus.specs.Tables.{named}
 use Rattle.taos_calculus.proofs.Numbers.{Numbered}
 use Rattle.taos_saturate.specs.declared.held.Held.{Held}
-use Rattle.term_pool.specs.declared.cited.Cited.{Cited}
-use Rattle.term_pool.specs.Claims.{chosen_by}
 use Rattle.taos_saturate.specs.Held.{IsHeld, seen}
 use Rattle.taos_saturate.specs.Saturating.{IsNumber, IsKnown, claims_in}
-use Rattle.term_pool.specs.Claims.{claim_by}
 use Rattle.taos_saturate.proofs.Deciding.{good_decides}
 use Rattle.term_pool.proofs.Fitting.{parts_have}
-
--- what is not none is some
-pub some_if : {X : Type 0} (o : Option X) (N : Type 0) (S : X → Type 0) → MatchOption o N S → (N → ⊥) → IsSome o
-some_if None N S m h = absurd (h m)
-some_if (Some x) N S m h = refl
-
-claims-map : (p : ℕ → Principal) (cited : List Cited) → map (λ (x : ℕ × Claim). x.1) (map (chosen_by p) cited) ≡ map (claim_by p) cited
-claims-map p [] = refl
-claims-map p (c ∷ cited) = ap (λ (xs : List Claim). claim_by p c ∷ xs) (claims-map p cited)
+use Rattle.term_pool.proofs.Picking.{claims-map}
 
 pub claims_seen : (h : Held) → claims_of (seen h) ≡ claims_in h.table
 claims_seen h = claims-map (named h.table.nodes.items) h.table.cited.items

@@ -5,7 +5,7 @@ use Rattle.term_pool.proofs.Orders.{same_or_not}
 use Rattle.taos_calculus.specs.declared.line.Step.{Step}
 use Rattle.taos_calculus.specs.declared.line.Node.{Node}
 use Rattle.taos_calculus.specs.declared.line.Fact.{Fact}
-use Rattle.taos_saturate.specs.declared.found.Pair.{Pair}
+use Rattle.term_pool.specs.declared.found.Pair.{Pair}
 use Rattle.taos_saturate.specs.declared.saturation.Saturation.{Saturation}
 use Rattle.term_pool.specs.declared.cited.Cited.{Cited}
 use Rattle.taos_calculus.specs.Rules.{Claim}
@@ -13,7 +13,7 @@ use Rattle.taos_calculus.specs.Tables.{named}
 use Rattle.taos_calculus.proofs.Naming.{named_apart}
 use Rattle.std.specs.Prelude.{option_map}
 use Rattle.taos_calculus.specs.Numbered.{same, chain, left, right, both, quoting, for_both, role, role_under, anchored, said, lift, join, hand_off, delegate}
-use Rattle.taos_saturate.specs.Finding.{IsCell, of_speaks, of_says, IsFirstOf, pair, CellOf}
+use Rattle.term_pool.specs.Finding.{IsCell, of_speaks, of_says, IsFirstOf, pair, CellOf}
 use Rattle.taos_saturate.specs.Saturating.{facts_of, claims_in, GivesIn, Lacks, IsNoChain, IsNoLift, HasSaying, LacksSaying, IsNumber, IsReady, IsNew}
 use Rattle.term_pool.specs.Claims.{claim_by}
 

@@ -4,10 +4,8 @@ use Rattle.prin_term.specs.Principal.{Principal}
 use Rattle.taos_calculus.specs.declared.line.Node.{Node}
 use Rattle.taos_calculus.specs.Rules.{Claim}
 use Rattle.taos_calculus.specs.Tables.{IsNodeTable, named, principals_of}
-use Rattle.taos_saturate.specs.declared.found.Pair.{Pair}
 use Rattle.term_pool.specs.declared.cited.Cited.{Cited}
 use Rattle.term_pool.specs.Claims.{CitedIn, chosen_by}
-use Rattle.taos_saturate.specs.Finding.{pair}
 
 -- the new table has the old one's principals in front, and at most n nodes more
 pub record Widens (old new : List Node) (n : ℕ) : Type 0 where
@@ -15,10 +13,6 @@ pub record Widens (old new : List Node) (n : ℕ) : Type 0 where
   pub more : List Principal
   pub longer : principals_of new ≡ principals_of old ++ more
   pub few : length new ≤ length old + n
-
--- what a certificate says, by its numbers
-abbrev pub statement_of : Cited → Pair
-statement_of c = pair c.left c.right
 
 -- the certificates by their numbers are these
 pub record Gathers (nodes : List Node) (cited : List Cited)

@@ -7,7 +7,7 @@ use Rattle.taos_calculus.specs.Question.{Question}
 use Rattle.taos_calculus.specs.Tables.{IsNodeTable, named}
 use Rattle.taos_saturate.specs.declared.held.Held.{Held}
 use Rattle.term_pool.specs.Claims.{ArePlacesApart, CitedIn, chosen_by}
-use Rattle.taos_saturate.specs.Gathering.{statement_of}
+use Rattle.term_pool.specs.Finding.{statement_of}
 use Rattle.taos_saturate.specs.Saturating.{IsGood}
 
 -- there is room for the largest question

@@ -1,4 +1,3 @@
-pub mod Finding
 pub mod Saturating
 pub mod Gathering
 pub mod Held

@@ -7,11 +7,11 @@ use Rattle.taos_calculus.specs.declared.line.Line.{Line}
 use Rattle.taos_calculus.specs.Rules.{Claim}
 use Rattle.taos_calculus.specs.Tables.{named, IsBelow, IsNodeTable}
 use Rattle.taos_calculus.specs.Numbered.{Gives, EachGives}
-use Rattle.taos_saturate.specs.declared.found.Pair.{Pair}
+use Rattle.term_pool.specs.declared.found.Pair.{Pair}
 use Rattle.term_pool.specs.declared.cited.Cited.{Cited}
 use Rattle.term_pool.specs.Claims.{claim_by, IsSaying}
 use Rattle.taos_saturate.specs.declared.saturation.Saturation.{Saturation}
-use Rattle.taos_saturate.specs.Finding.{IsFound, facts_in, pair, CellOf, room}
+use Rattle.term_pool.specs.Finding.{IsFound, facts_in, pair, CellOf, room}
 
 -- no certificate is this statement by this speaker
 abbrev pub LacksSaying : List Cited → ℕ → ℕ → ℕ → Type 0

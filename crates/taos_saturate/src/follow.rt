@@ -3,9 +3,9 @@
 ghost use Rattle.std.specs.Prelude.{◌↔◌, ◌<◌, IsTrue, length};
 ghost use Rattle.taos_saturate.specs.Saturating.{IsReady, IsNumber, IsSound, IsGrown};
 
-use crate::parents::compound;
 use crate::saturation::Saturation;
 use taos_calculus::{Fact, Node};
+use term_pool::compound;
 
 impl Saturation {
     // Whether it is a number of the table.

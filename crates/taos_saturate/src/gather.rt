@@ -9,17 +9,17 @@ ghost use Rattle.stmt_codec.specs.View.{certificates};
 ghost use Rattle.taos_calculus.specs.declared.proof.TheConstants.{MAX_NODES};
 ghost use Rattle.taos_calculus.specs.Question.{claim_of, picked};
 ghost use Rattle.taos_calculus.specs.Tables.{named};
-ghost use Rattle.taos_saturate.specs.Gathering.{Widens, Gathers, statement_of};
+ghost use Rattle.taos_saturate.specs.Gathering.{Widens, Gathers};
+ghost use Rattle.term_pool.specs.Finding.{statement_of};
 ghost use Rattle.term_pool.specs.Claims.{CitedIn};
 ghost use Rattle.term_pool.specs.Interning.{IsRoomy};
 ghost use Rattle.term_pool.specs.Claims.{claim_by};
 
-use crate::found::Pair;
 use prin_term::{Anchor, Entry, Term};
 use std::sync::Arc;
 use stmt_codec::Cert;
 use taos_calculus::Node;
-use term_pool::{Cited, intern};
+use term_pool::{Cited, Pair, intern};
 
 /// The number of a term.
 pub fn take_term(nodes: &mut Vec<Node>, term: &Term) -> u16

@@ -10,17 +10,15 @@ ghost use Rattle.taos_saturate.specs.Saturating.{facts_of};
 ghost use Rattle.taos_saturate.specs.Held.{IsReserved, IsGathered, IsHeld, seen};
 ghost use Rattle.term_pool.specs.Claims.{ArePlacesApart};
 
-use crate::found::Found;
 use crate::gather::{keep_anchors, state_all, take_certs, take_list, take_term};
 use crate::marks::Marks;
-use crate::parents::Parents;
 use crate::saturation::Saturation;
 use prin_term::{Anchor, Entry, Term};
 use std::alloc::{AllocError, Global};
 use std::sync::Arc;
 use stmt_codec::Cert;
 use taos_calculus::{MAX_ANCHORS, MAX_CERTS, MAX_ENTRIES, MAX_LINES, MAX_NODES, Taken};
-use term_pool::take_proof;
+use term_pool::{Found, Parents, take_proof};
 
 /// The saturated table, with the numbers of who asks and of who is on the list.
 #[derive(Drop)]

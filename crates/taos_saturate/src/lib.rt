@@ -2,13 +2,10 @@
 #![tactic(auto)]
 
 mod follow;
-mod found;
-mod gaps;
 mod gather;
 mod held;
 mod look;
 mod marks;
-mod parents;
 mod pass;
 mod saturate;
 mod saturation;

@@ -2,7 +2,7 @@
 
 ghost use Rattle.std.specs.Prelude.{◌≡◌, ℕ, ◌<◌, Some, MatchOption, slice_get, length};
 ghost use Rattle.taos_calculus.specs.declared.line.Fact.{Fact};
-ghost use Rattle.taos_saturate.specs.declared.found.Pair.{Pair};
+ghost use Rattle.term_pool.specs.declared.found.Pair.{Pair};
 ghost use Rattle.taos_saturate.specs.Saturating.{IsReady, IsSound, IsNumber, IsNew, SpeaksFull};
 ghost use Rattle.taos_saturate.specs.Saturating.{SaysFull, ChainFull, LineFull, LiftFull, IsFull};
 

@@ -4,7 +4,7 @@ ghost use Rattle.std.specs.Prelude.{◌<◌, ◌≤◌, IfSome, length};
 ghost use Rattle.taos_calculus.specs.declared.decide.TheConstants.{MAX_CERTS};
 ghost use Rattle.taos_calculus.specs.declared.proof.TheConstants.{MAX_NODES};
 ghost use Rattle.taos_saturate.specs.declared.saturation.Saturation.{Saturation};
-ghost use Rattle.taos_saturate.specs.Finding.{room};
+ghost use Rattle.term_pool.specs.Finding.{room};
 ghost use Rattle.taos_saturate.specs.Saturating.{IsReady, IsNew, IsFull, IsSound, IsGrown};
 
 use crate::saturation::Saturation;

@@ -5,12 +5,10 @@ ghost use Rattle.taos_calculus.specs.declared.line.Fact.{Fact};
 ghost use Rattle.taos_calculus.specs.Tables.{OperandsBelow};
 ghost use Rattle.taos_saturate.specs.Saturating.{facts_of, IsReady, IsNumber};
 
-use crate::found::Found;
 use crate::marks::Marks;
-use crate::parents::Parents;
 use prin_term::Anchor;
 use taos_calculus::{Fact, Node};
-use term_pool::Cited;
+use term_pool::{Cited, Found, Parents};
 
 /// The table, and the facts that were found. The marks and the parents tell where to look for more.
 #[derive(Drop)]

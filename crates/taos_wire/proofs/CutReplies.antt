@@ -2,12 +2,14 @@
 use Rattle.std.proofs.Common.{◌≡◌, ℕ, ◌+◌, ◌<◌, eqb, List, [], ◌++◌, length, Result, Err, refl, sym, ap, append-nil, arith, inl, inr, length-append}
 use Rattle.std.specs.Prelude.{All}
 use Rattle.std.specs.Int.{w16, w32, w64}
-use Rattle.prin_term.proofs.Cuts.{Cuts, cuts_followed, cuts_passing, cuts_made, cuts_given, cuts_if, cuts_counted, cuts_byte, cuts_bytes, cuts_number, cuts_counted_bytes, cuts_term}
-use Rattle.prin_term.proofs.FieldLaws.{IsBytes, bytes_are}
+use Rattle.byte_fields.proofs.Cuts.{Cuts, cuts_followed, cuts_passing, cuts_made, cuts_given, cuts_if, cuts_counted, cuts_byte, cuts_bytes, cuts_number, cuts_counted_bytes}
+use Rattle.prin_term.proofs.TermCuts.{cuts_term}
+use Rattle.byte_fields.proofs.FieldLaws.{IsBytes, bytes_are}
 use Rattle.taos_calculus.proofs.CutProofs as proofs
-use Rattle.prin_term.specs.declared.fault.FormatFault.TheVariants as faults
-use Rattle.prin_term.specs.Formats.{ended, seen_as, u8_in, u32_in, u64_in}
-use Rattle.prin_term.specs.Steps.{IsByte}
+use Rattle.byte_fields.specs.declared.fault.FormatFault.TheVariants as faults
+use Rattle.byte_fields.specs.Formats.{ended, u8_in, u32_in, u64_in}
+use Rattle.prin_term.specs.TermFields.{seen_as}
+use Rattle.byte_fields.specs.Steps.{IsByte}
 use Rattle.taos_wire.specs.Reply.{Reply, Malformed, UnknownChannel, BadSeal, Replayed, ChannelFull, RelayFailed, UnknownObject, NoMemory, NotHeld, NoEntry, SpellsReply}
 use Rattle.taos_wire.specs.ReplyReading.{answered_at, place_at, proof_at, cert_at, cited_at, granted_at, named_at, link_at, denied_at, fields_at, status_at, reply_at, reply_of}
 use Rattle.taos_wire.proofs.CutRequests.{tag_cut}

@@ -5,12 +5,14 @@ use Rattle.std.specs.Int.{w16, w32, w64}
 use Rattle.keyed_seal.specs.declared.tag.TheConstants.{TAG_LEN}
 use Rattle.object_core.specs.Operation.{Read, Write, SetList, Hold, Discard, Forget, Sweep}
 use Rattle.object_core.proofs.ListCuts.{cuts_content, cuts_list}
-use Rattle.prin_term.specs.declared.fault.FormatFault.TheVariants.{Malformed}
+use Rattle.byte_fields.specs.declared.fault.FormatFault.TheVariants.{Malformed}
 use Rattle.prin_term.specs.declared.limits.TheConstants.{QUOTED_NODES}
-use Rattle.prin_term.specs.Formats.{ended, seen_as, u8_in, optional_term_in}
-use Rattle.prin_term.specs.Steps.{IsByte}
-use Rattle.prin_term.proofs.Cuts.{Cuts, cuts_followed, cuts_passing, cuts_made, cuts_given, cuts_if, cuts_counted, cuts_byte, cuts_bytes, cuts_number, cuts_counted_bytes, cuts_optional, cuts_term}
-use Rattle.prin_term.proofs.FieldLaws.{IsBytes, bytes_are}
+use Rattle.byte_fields.specs.Formats.{ended, u8_in}
+use Rattle.prin_term.specs.TermFields.{seen_as, optional_term_in}
+use Rattle.byte_fields.specs.Steps.{IsByte}
+use Rattle.byte_fields.proofs.Cuts.{Cuts, cuts_followed, cuts_passing, cuts_made, cuts_given, cuts_if, cuts_counted, cuts_byte, cuts_bytes, cuts_number, cuts_counted_bytes, cuts_optional}
+use Rattle.prin_term.proofs.TermCuts.{cuts_term}
+use Rattle.byte_fields.proofs.FieldLaws.{IsBytes, bytes_are}
 use Rattle.taos_wire.specs.Request.{Request, request_text, Spells}
 use Rattle.taos_wire.specs.RequestReading.{origin_at, fields_at, asked_at, cert_at, certs_at, tag_at, request_at, request_of}
 use Rattle.taos_wire.proofs.RequestLaws.{Tagged, request_in}

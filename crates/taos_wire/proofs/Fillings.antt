@@ -2,17 +2,17 @@
 use Rattle.std.proofs.Common.{◌≡◌, ℕ, ◌+◌, ◌-◌, ◌<◌, ◌≤◌, true, false, cond, ltb, List, [], ◌++◌, length, take, drop, Ok, Err, refl, sym, ap, subst, ◌∙◌, append-nil, arith, inl, inr, length-append, length-drop}
 use Rattle.std.proofs.lemmas.Bool.{ltb-false, le-ltb, lt-ltb}
 use Rattle.std.proofs.lemmas.List.{take_at, drop-take, drop_all, length-take-le, take-append-le}
-use Rattle.prin_term.specs.Steps.{◌>>=◌, bytes_at}
-use Rattle.prin_term.proofs.Cuts.{Cuts, cuts_bytes}
-use Rattle.prin_term.proofs.FieldLaws.{IsBytes-take, TakesAt, TakesAt-within, bytes_takes, bytes_again}
-use Rattle.prin_term.proofs.ReaderLaws.{Reads}
-use Rattle.prin_term.proofs.Results.{bind_ok, refused_ok}
-use Rattle.prin_term.specs.declared.fault.FormatFault.{FormatFault}
+use Rattle.byte_fields.specs.Steps.{◌>>=◌, bytes_at}
+use Rattle.byte_fields.proofs.Cuts.{Cuts, cuts_bytes}
+use Rattle.byte_fields.proofs.FieldLaws.{IsBytes-take, TakesAt, TakesAt-within, bytes_takes, bytes_again}
+use Rattle.byte_fields.proofs.ReaderLaws.{Reads}
+use Rattle.byte_fields.proofs.Results.{bind_ok, refused_ok}
+use Rattle.byte_fields.specs.declared.fault.FormatFault.{FormatFault}
 use Rattle.stmt_codec.specs.Certificates.{Certificate, body_spelling}
 use Rattle.stmt_codec.specs.Reading.{body_at}
 use Rattle.stmt_codec.proofs.Bodies.{body_takes, body_again}
-use Rattle.prin_term.specs.declared.fault.FormatFault.TheVariants.{Malformed, NoMemory}
-use Rattle.prin_term.specs.Formats.{ended, IsFaultIn}
+use Rattle.byte_fields.specs.declared.fault.FormatFault.TheVariants.{Malformed, NoMemory}
+use Rattle.byte_fields.specs.Formats.{ended, IsFaultIn}
 use Rattle.taos_wire.specs.Reply.{FitsCited}
 use Rattle.taos_wire.specs.ReplyReading.{body_filling}
 

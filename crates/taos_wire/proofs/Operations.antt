@@ -8,16 +8,16 @@ use Rattle.object_core.specs.Operation.{Op, Read, Write, SetList, Hold, Discard,
 use Rattle.object_core.specs.Reading.{content_at, list_at}
 use Rattle.object_core.specs.Spelling.{content_bytes, list_bytes}
 use Rattle.object_core.proofs.ListReaders.{reads_content, reads_list}
-use Rattle.prin_term.specs.declared.fault.FormatFault.{FormatFault}
-use Rattle.prin_term.specs.declared.fault.FormatFault.TheVariants.{Malformed}
-use Rattle.prin_term.specs.Formats.{FormatReader, ended, u32_in}
-use Rattle.prin_term.specs.Readers.{given, made}
-use Rattle.prin_term.specs.Steps.{bytes_at, counted}
+use Rattle.byte_fields.specs.declared.fault.FormatFault.{FormatFault}
+use Rattle.byte_fields.specs.declared.fault.FormatFault.TheVariants.{Malformed}
+use Rattle.byte_fields.specs.Formats.{FormatReader, ended, u32_in}
+use Rattle.byte_fields.specs.Readers.{given, made}
+use Rattle.byte_fields.specs.Steps.{bytes_at, counted}
 use Rattle.prin_term.specs.View.{Grant}
-use Rattle.prin_term.proofs.FieldLaws.{wide16}
-use Rattle.prin_term.proofs.FieldReaders.{reads_given, reads_if, reads_counted_bytes}
-use Rattle.prin_term.proofs.FormatFields.{reads_u8, reads_u32, reads_u64, reads_u8_in}
-use Rattle.prin_term.proofs.ReaderLaws.{Reads, reads_bytes, reads_followed, reads_made, reads_as, reads_each}
+use Rattle.byte_fields.proofs.FieldLaws.{wide16}
+use Rattle.byte_fields.proofs.FieldReaders.{reads_given, reads_if, reads_counted_bytes}
+use Rattle.byte_fields.proofs.FormatFields.{reads_u8, reads_u32, reads_u64, reads_u8_in}
+use Rattle.byte_fields.proofs.ReaderLaws.{Reads, reads_bytes, reads_followed, reads_made, reads_as, reads_each}
 use Rattle.taos_wire.specs.declared.request.TheConstants.{MAX_CERTS}
 use Rattle.taos_wire.specs.Request.{kind_of, op_fields, certs_bytes, IsCertText, IsTag}
 use Rattle.taos_wire.specs.RequestReading.{origin_at, fields_at, asked_at, cert_at, certs_at, tag_at}

@@ -3,13 +3,14 @@ use Rattle.std.proofs.Common.{◌≡◌, ℕ, ◌≤◌, cond, eqb, ltb, List, l
 use Rattle.object_core.specs.Operation.{Read, Write, SetList, Hold, Discard, Forget, Sweep}
 use Rattle.object_core.proofs.ListPlaces.{content_stays, list_stays}
 use Rattle.keyed_seal.specs.declared.tag.TheConstants.{TAG_LEN}
-use Rattle.prin_term.specs.declared.fault.FormatFault.{FormatFault as WireFault}
-use Rattle.prin_term.specs.declared.fault.FormatFault.TheVariants.{Malformed}
-use Rattle.prin_term.specs.Formats.{IsFaultIn}
-use Rattle.prin_term.proofs.FieldLaws.{IsBytes}
-use Rattle.prin_term.proofs.FormatPlaces.{here, u8_stays, u32_stays, u64_stays, within_stays, text_stays, counted16_stays, optional_term_stays}
-use Rattle.prin_term.proofs.Results.{bind_err, refused_err}
-use Rattle.prin_term.proofs.Staying.{Stays, stays_followed, stays_made, stays_given, stays_if, stays_counted}
+use Rattle.byte_fields.specs.declared.fault.FormatFault.{FormatFault as WireFault}
+use Rattle.byte_fields.specs.declared.fault.FormatFault.TheVariants.{Malformed}
+use Rattle.byte_fields.specs.Formats.{IsFaultIn}
+use Rattle.byte_fields.proofs.FieldLaws.{IsBytes}
+use Rattle.byte_fields.proofs.FormatPlaces.{here, u8_stays, u32_stays, u64_stays, within_stays, text_stays, counted16_stays}
+use Rattle.prin_term.proofs.TermPlaces.{optional_term_stays}
+use Rattle.byte_fields.proofs.Results.{bind_err, refused_err}
+use Rattle.byte_fields.proofs.Staying.{Stays, stays_followed, stays_made, stays_given, stays_if, stays_counted}
 use Rattle.taos_wire.specs.RequestReading.{origin_at, fields_at, asked_at, cert_at, certs_at, tag_at, request_at, request_of}
 
 module _ (bytes : List ℕ) where

@@ -1,12 +1,12 @@
 -- Where a proof is refused: at one of the bytes or right after the last, and never for memory.
 use Rattle.std.proofs.Common.{◌≡◌, ℕ, ◌≤◌, Bool, true, false, cond, eqb, ltb, ◌||◌, List, length, Err, sym, subst, inl, inr}
-use Rattle.prin_term.specs.declared.fault.FormatFault.{FormatFault}
-use Rattle.prin_term.specs.declared.fault.FormatFault.TheVariants.{Malformed}
-use Rattle.prin_term.specs.Formats.{IsFaultIn}
-use Rattle.prin_term.specs.Readers.{Reader}
-use Rattle.prin_term.proofs.FormatPlaces.{here, u8_stays, u16_stays, u32_stays}
-use Rattle.prin_term.proofs.Results.{bind_err, chosen, refused_err}
-use Rattle.prin_term.proofs.Staying.{Stays, stays_followed, stays_passing, stays_made, stays_given, stays_if, stays_counted}
+use Rattle.byte_fields.specs.declared.fault.FormatFault.{FormatFault}
+use Rattle.byte_fields.specs.declared.fault.FormatFault.TheVariants.{Malformed}
+use Rattle.byte_fields.specs.Formats.{IsFaultIn}
+use Rattle.byte_fields.specs.Readers.{Reader}
+use Rattle.byte_fields.proofs.FormatPlaces.{here, u8_stays, u16_stays, u32_stays}
+use Rattle.byte_fields.proofs.Results.{bind_err, chosen, refused_err}
+use Rattle.byte_fields.proofs.Staying.{Stays, stays_followed, stays_passing, stays_made, stays_given, stays_if, stays_counted}
 use Rattle.taos_calculus.specs.ProofReading.{byte_up_to, number_in, pair_in, node_shape, node_fields_at, node_at, nodes_at, gives_says, fact_at, step_shape, premises_at, step_at, line_at, lines_at, parts_at, is_canonical, proof_from}
 
 -- one of two shapes, by a test

@@ -7,13 +7,14 @@ use Rattle.std.proofs.lemmas.Bool.Decides.{nat_tests}
 use Rattle.object_core.specs.Operation.{IsDigest}
 use Rattle.prin_term.specs.declared.limits.TheConstants.{ENTRY_NODES}
 use Rattle.prin_term.specs.Principal.{Principal, spelling as term_spelling}
-use Rattle.prin_term.specs.Readers.{given, made, followed}
+use Rattle.byte_fields.specs.Readers.{given, made, followed}
 use Rattle.prin_term.specs.Refusal.{FitsLimits}
-use Rattle.prin_term.specs.Steps.{bytes_at, counted, counted_at}
-use Rattle.prin_term.proofs.FieldLaws.{IsBytes, TakesAt, wide16}
-use Rattle.prin_term.proofs.FieldReaders.{reads_given, reads_term, reads_counted_bytes}
-use Rattle.prin_term.proofs.ReaderLaws.{Reads, reads_bytes, reads_followed, reads_passing, reads_made, reads_as, reads_each}
-use Rattle.prin_term.proofs.Results.{bind_ok, ok_is}
+use Rattle.byte_fields.specs.Steps.{bytes_at, counted, counted_at}
+use Rattle.byte_fields.proofs.FieldLaws.{IsBytes, TakesAt, wide16}
+use Rattle.byte_fields.proofs.FieldReaders.{reads_given, reads_counted_bytes}
+use Rattle.prin_term.proofs.TermReaders.{reads_term}
+use Rattle.byte_fields.proofs.ReaderLaws.{Reads, reads_bytes, reads_followed, reads_passing, reads_made, reads_as, reads_each}
+use Rattle.byte_fields.proofs.Results.{bind_ok, ok_is}
 use Rattle.stmt_codec.specs.Certificates.{Certificate, body_spelling}
 use Rattle.taos_calculus.specs.Rules.{Line}
 use Rattle.taos_calculus.specs.Spelling.{numbered, proof_spelling}
@@ -22,16 +23,17 @@ use Rattle.taos_calculus.specs.Tables.{Parts, lines_of}
 use Rattle.taos_calculus.proofs.ProofLaws as proofs
 use Rattle.taos_calculus.proofs.Short.{parts_short}
 use Rattle.taos_calculus.proofs.Spelled.{numbered-lines_of, spelling_is}
-use Rattle.prin_term.specs.declared.fault.FormatFault.{FormatFault as WireFault}
-use Rattle.prin_term.specs.declared.fault.FormatFault.TheVariants as faults
+use Rattle.byte_fields.specs.declared.fault.FormatFault.{FormatFault as WireFault}
+use Rattle.byte_fields.specs.declared.fault.FormatFault.TheVariants as faults
 use Rattle.taos_wire.specs.declared.reply.TheConstants.{MAX_CITED}
-use Rattle.prin_term.specs.Formats.{FormatReader, ended, seen_as, u8_in, u32_in, u64_in, within, term_in}
+use Rattle.byte_fields.specs.Formats.{FormatReader, ended, u8_in, u32_in, u64_in, within}
+use Rattle.prin_term.specs.TermFields.{seen_as, term_in}
 use Rattle.taos_wire.specs.Reply.{Reply, Granted, Denied, Malformed, UnknownChannel, BadSeal, Replayed, CertRefused, ChannelFull, RelayFailed, UnknownObject, JournalFull, NoMemory, CommonsFull}
 use Rattle.taos_wire.specs.Reply.{NotHeld, LinkSent, Expired, Missing, NoEntry, flag, link_bytes, cert_bytes, cited_bytes, proof_bytes, status_of, fields_of, answered_bytes, IsProof}
 use Rattle.taos_wire.specs.Reply.{FitsCited, FitsLink, FitsReply, FitsGranted}
 use Rattle.taos_wire.specs.ReplyReading.{answered_at, place_at, proof_at, cert_at, cited_at, granted_at, named_at, link_at, denied_at, is_status, fields_at, status_at}
 use Rattle.taos_wire.proofs.Fillings.{reads_filling}
-use Rattle.prin_term.proofs.FormatFields.{reads_u8, reads_u16, reads_u32, reads_u64, reads_u8_in}
+use Rattle.byte_fields.proofs.FormatFields.{reads_u8, reads_u16, reads_u32, reads_u64, reads_u8_in}
 use Rattle.stmt_codec.proofs.BodyLengths.{short_body}
 
 -- ---- readers, by halves

@@ -5,12 +5,12 @@ use Rattle.std.proofs.lemmas.Bool.{ltb-false, le-ltb, lt-ltb}
 use Rattle.std.proofs.lemmas.List.{drop_all}
 use Rattle.std.proofs.lemmas.List.Elements.{All-nil, All-cons}
 use Rattle.keyed_seal.proofs.Tags.{length-tag_of, bytes-tag_of}
-use Rattle.prin_term.specs.Steps.{IsByte, Gives}
-use Rattle.prin_term.proofs.FieldLaws.{IsBytes}
-use Rattle.prin_term.proofs.ReaderLaws.{Reads, reads_followed, reads_made}
-use Rattle.prin_term.proofs.Results.{bind_ok, ok_is, refused_ok, gives_found, gives_only}
-use Rattle.prin_term.specs.declared.fault.FormatFault.{FormatFault as WireFault}
-use Rattle.prin_term.specs.declared.fault.FormatFault.TheVariants as faults
+use Rattle.byte_fields.specs.Steps.{IsByte, Gives}
+use Rattle.byte_fields.proofs.FieldLaws.{IsBytes}
+use Rattle.byte_fields.proofs.ReaderLaws.{Reads, reads_followed, reads_made}
+use Rattle.byte_fields.proofs.Results.{bind_ok, ok_is, refused_ok, gives_found, gives_only}
+use Rattle.byte_fields.specs.declared.fault.FormatFault.{FormatFault as WireFault}
+use Rattle.byte_fields.specs.declared.fault.FormatFault.TheVariants as faults
 use Rattle.taos_wire.specs.declared.reply.Reply as code
 use Rattle.taos_wire.specs.Request.{IsTag}
 use Rattle.taos_wire.specs.Reply.{Reply, answered_bytes, status_of, fields_of, reply_text, FitsReply, SpellsReply, seal_of, sent, spelling}

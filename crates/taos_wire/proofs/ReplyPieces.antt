@@ -1,8 +1,8 @@
 -- The bytes of a reply, piece by piece.
 use Rattle.std.proofs.Common.{◌≡◌, ℕ, Bool, List, [], ◌∷◌, ◌++◌, Result, Ok, sym, ap, ◌∙◌, subst, append_assoc}
 use Rattle.std.specs.Prelude.{Vec}
-use Rattle.prin_term.specs.Appends.{Pushes}
-use Rattle.prin_term.proofs.Pieces.{pushes_then}
+use Rattle.byte_fields.specs.Appends.{Pushes}
+use Rattle.byte_fields.proofs.Pieces.{pushes_then}
 use Rattle.stmt_codec.specs.Certificates.{Certificate}
 use Rattle.taos_calculus.specs.Rules.{Line}
 use Rattle.taos_wire.specs.Reply.{Reply, Granted, answered_bytes, status_of, fields_of, reply_text}

@@ -1,13 +1,14 @@
 -- Where a reply is refused: at one of its bytes or right after the last, and never for memory.
 use Rattle.std.proofs.Common.{◌≡◌, ℕ, ◌+◌, ◌≤◌, cond, eqb, ltb, List, length, take, Ok, Err, sym, subst, arith, inl, inr}
-use Rattle.prin_term.specs.declared.fault.FormatFault.{FormatFault as WireFault}
-use Rattle.prin_term.specs.declared.fault.FormatFault.TheVariants as faults
-use Rattle.prin_term.specs.Formats.{ended, IsFaultIn}
-use Rattle.prin_term.specs.Steps.{◌>>=◌, bytes_at}
-use Rattle.prin_term.proofs.FieldLaws.{IsBytes, IsBytes-take}
-use Rattle.prin_term.proofs.FormatPlaces.{here, u8_stays, u16_stays, u32_stays, u64_stays, within_stays, text_stays, counted16_stays, term_in_stays}
-use Rattle.prin_term.proofs.Results.{bind_ok, bind_err, ok_is, refused_ok, refused_err}
-use Rattle.prin_term.proofs.Staying.{Stays, stays_followed, stays_passing, stays_made, stays_given, stays_if, stays_counted}
+use Rattle.byte_fields.specs.declared.fault.FormatFault.{FormatFault as WireFault}
+use Rattle.byte_fields.specs.declared.fault.FormatFault.TheVariants as faults
+use Rattle.byte_fields.specs.Formats.{ended, IsFaultIn}
+use Rattle.byte_fields.specs.Steps.{◌>>=◌, bytes_at}
+use Rattle.byte_fields.proofs.FieldLaws.{IsBytes, IsBytes-take}
+use Rattle.byte_fields.proofs.FormatPlaces.{here, u8_stays, u16_stays, u32_stays, u64_stays, within_stays, text_stays, counted16_stays}
+use Rattle.prin_term.proofs.TermPlaces.{term_in_stays}
+use Rattle.byte_fields.proofs.Results.{bind_ok, bind_err, ok_is, refused_ok, refused_err}
+use Rattle.byte_fields.proofs.Staying.{Stays, stays_followed, stays_passing, stays_made, stays_given, stays_if, stays_counted}
 use Rattle.stmt_codec.specs.Certificates.{Certificate}
 use Rattle.stmt_codec.specs.Reading.{body_at}
 use Rattle.stmt_codec.proofs.Offsets.{body_stays}

@@ -8,13 +8,13 @@ use Rattle.keyed_seal.specs.Tag.{tag_of}
 use Rattle.keyed_seal.proofs.Tags.{length-tag_of, bytes-tag_of}
 use Rattle.prin_term.specs.declared.limits.TheConstants.{QUOTED_NODES}
 use Rattle.prin_term.specs.Principal.{spelling}
-use Rattle.prin_term.specs.Steps.{Gives, optional}
-use Rattle.prin_term.proofs.FieldLaws.{IsBytes}
-use Rattle.prin_term.proofs.FormatFields.{reads_optional_term}
-use Rattle.prin_term.proofs.ReaderLaws.{Reads, reads_followed, reads_made}
-use Rattle.prin_term.proofs.Results.{bind_ok, ok_is, refused_ok, gives_found, gives_only}
-use Rattle.prin_term.specs.declared.fault.FormatFault.{FormatFault as WireFault}
-use Rattle.prin_term.specs.declared.fault.FormatFault.TheVariants.{Malformed, NoMemory}
+use Rattle.byte_fields.specs.Steps.{Gives, optional}
+use Rattle.byte_fields.proofs.FieldLaws.{IsBytes}
+use Rattle.prin_term.proofs.TermReaders.{reads_optional_term}
+use Rattle.byte_fields.proofs.ReaderLaws.{Reads, reads_followed, reads_made}
+use Rattle.byte_fields.proofs.Results.{bind_ok, ok_is, refused_ok, gives_found, gives_only}
+use Rattle.byte_fields.specs.declared.fault.FormatFault.{FormatFault as WireFault}
+use Rattle.byte_fields.specs.declared.fault.FormatFault.TheVariants.{Malformed, NoMemory}
 use Rattle.taos_wire.specs.declared.request.Request as code
 use Rattle.taos_wire.specs.Request.{Request, request_text, FitsRequest, kind_of, op_fields, certs_bytes, IsTag, Spells, sealed}
 use Rattle.taos_wire.specs.RequestReading.{request_at, request_of}

@@ -4,8 +4,8 @@ use Rattle.std.specs.Prelude.{Vec}
 use Rattle.std.proofs.lemmas.List.{take_at, drop_at, take-append-drop}
 use Rattle.keyed_seal.specs.Tag.{tag_of}
 use Rattle.keyed_seal.proofs.Tags.{length-tag_of}
-use Rattle.prin_term.specs.Appends.{Appends, Pushes}
-use Rattle.prin_term.proofs.Pieces.{appended, pushes_then}
+use Rattle.byte_fields.specs.Appends.{Appends, Pushes}
+use Rattle.byte_fields.proofs.Pieces.{appended, pushes_then}
 use Rattle.taos_wire.specs.Request.{IsSealed}
 use Rattle.taos_wire.specs.Reply.{seal_of}
 

@@ -8,7 +8,7 @@ use Rattle.std.specs.Arc.{arc_value}
 use Rattle.std.proofs.lemmas.List.Concat.{flat_map-cons}
 use Rattle.stmt_codec.specs.declared.cert.Cert.{Cert}
 use Rattle.prin_term.specs.Principal.{Principal, Key, Name, And, Quoting, InRole, For, node_count, spelling as term_spelling}
-use Rattle.prin_term.specs.Steps.{counted, optional}
+use Rattle.byte_fields.specs.Steps.{counted, optional}
 use Rattle.prin_term.specs.View.{principal}
 use Rattle.taos_calculus.specs.Tables.{lines_of}
 use Rattle.taos_wire.specs.declared.reply.LentGrant.{LentGrant}

@@ -8,7 +8,7 @@ use Rattle.object_core.specs.Operation.{IsDigest}
 use Rattle.prin_term.specs.declared.limits.TheConstants.{ENTRY_NODES}
 use Rattle.prin_term.specs.Principal.{Principal, spelling as term_spelling}
 use Rattle.prin_term.specs.Refusal.{FitsLimits}
-use Rattle.prin_term.specs.Steps.{IsByte, counted}
+use Rattle.byte_fields.specs.Steps.{IsByte, counted}
 use Rattle.stmt_codec.specs.Certificates.{Certificate, body_spelling, HasBodySpelling}
 use Rattle.stmt_codec.specs.Certificates.{IsWithinLimits}
 use Rattle.taos_calculus.specs.Rules.{Line}

@@ -3,18 +3,19 @@ use Rattle.std.specs.Prelude.{ℕ, ◌+◌, Bool, ◌||◌, List, length, take, 
 use Rattle.std.specs.Prelude.{nat_lt, ◌==◌, if◌then◌else◌}
 use Rattle.std.specs.Int.{w16}
 use Rattle.prin_term.specs.declared.limits.TheConstants.{ENTRY_NODES}
-use Rattle.prin_term.specs.Readers.{followed, passing, made, given, counted}
-use Rattle.prin_term.specs.Steps.{◌>>=◌, bytes_at, counted_at}
+use Rattle.byte_fields.specs.Readers.{followed, passing, made, given, counted}
+use Rattle.byte_fields.specs.Steps.{◌>>=◌, bytes_at, counted_at}
 use Rattle.stmt_codec.specs.Certificates.{Certificate}
 use Rattle.stmt_codec.specs.Reading.{body_at}
 use Rattle.taos_calculus.specs.ProofReading.{proof_filling}
 use Rattle.taos_calculus.specs.Rules.{Line}
 use Rattle.taos_calculus.specs.Tables.{lines_of}
-use Rattle.prin_term.specs.declared.fault.FormatFault.{FormatFault as WireFault}
-use Rattle.prin_term.specs.declared.fault.FormatFault.TheVariants as faults
+use Rattle.byte_fields.specs.declared.fault.FormatFault.{FormatFault as WireFault}
+use Rattle.byte_fields.specs.declared.fault.FormatFault.TheVariants as faults
 use Rattle.taos_wire.specs.declared.reply.TheConstants.{MAX_CITED}
-use Rattle.prin_term.specs.Formats.{FormatReader, ended, u8_in, u16_in}
-use Rattle.prin_term.specs.Formats.{u32_in, u64_in, within, term_in}
+use Rattle.byte_fields.specs.Formats.{FormatReader, ended, u8_in, u16_in}
+use Rattle.byte_fields.specs.Formats.{u32_in, u64_in, within}
+use Rattle.prin_term.specs.TermFields.{term_in}
 use Rattle.taos_wire.specs.Reply.{Reply, Granted, Denied, Malformed, UnknownChannel, BadSeal}
 use Rattle.taos_wire.specs.Reply.{Replayed, CertRefused, ChannelFull, RelayFailed, UnknownObject}
 use Rattle.taos_wire.specs.Reply.{JournalFull, NoMemory, CommonsFull, NotHeld, LinkSent}

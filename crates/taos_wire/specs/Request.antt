@@ -12,7 +12,7 @@ use Rattle.object_core.specs.Spelling.{content_bytes, list_bytes}
 use Rattle.prin_term.specs.declared.limits.TheConstants.{QUOTED_NODES}
 use Rattle.prin_term.specs.Principal.{Principal, spelling}
 use Rattle.prin_term.specs.Refusal.{FitsLimits}
-use Rattle.prin_term.specs.Steps.{IsByte, AreBytes, counted, optional}
+use Rattle.byte_fields.specs.Steps.{IsByte, AreBytes, counted, optional}
 use Rattle.stmt_codec.specs.Certificates.{key_quoting}
 use Rattle.taos_wire.specs.declared.request.TheConstants.{MAX_CERTS}
 

@@ -5,13 +5,13 @@ use Rattle.keyed_seal.specs.declared.tag.TheConstants.{TAG_LEN}
 use Rattle.object_core.specs.Operation.{Op, Read, Write, SetList, Hold, Discard, Forget, Sweep}
 use Rattle.object_core.specs.Reading.{content_at, list_at}
 use Rattle.prin_term.specs.declared.limits.TheConstants.{QUOTED_NODES}
-use Rattle.prin_term.specs.Readers.{followed, made, given, counted}
-use Rattle.prin_term.specs.Steps.{◌>>=◌, bytes_at, counted_at}
-use Rattle.prin_term.specs.declared.fault.FormatFault.{FormatFault as WireFault}
-use Rattle.prin_term.specs.declared.fault.FormatFault.TheVariants.{Malformed}
+use Rattle.byte_fields.specs.Readers.{followed, made, given, counted}
+use Rattle.byte_fields.specs.Steps.{◌>>=◌, bytes_at, counted_at}
+use Rattle.byte_fields.specs.declared.fault.FormatFault.{FormatFault as WireFault}
+use Rattle.byte_fields.specs.declared.fault.FormatFault.TheVariants.{Malformed}
 use Rattle.taos_wire.specs.declared.request.TheConstants.{MAX_CERTS}
-use Rattle.prin_term.specs.Formats.{FormatReader, ended, u8_in, u32_in, u64_in, within}
-use Rattle.prin_term.specs.Formats.{optional_term_in}
+use Rattle.byte_fields.specs.Formats.{FormatReader, ended, u8_in, u32_in, u64_in, within}
+use Rattle.prin_term.specs.TermFields.{optional_term_in}
 use Rattle.taos_wire.specs.Request.{Request}
 
 -- ---- who asks

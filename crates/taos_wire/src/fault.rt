@@ -1,3 +1,3 @@
 //! Why bytes are no message.
 
-pub use prin_term::FormatFault as WireFault;
+pub use byte_fields::FormatFault as WireFault;

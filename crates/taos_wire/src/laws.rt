@@ -2,11 +2,11 @@
 
 ghost use Rattle.std.specs.Prelude.{◌≡◌, ◌↔◌, ◌<◌, ◌^◌, ◌++◌, [], All, List, ℕ, Option, Ok};
 ghost use Rattle.std.specs.Prelude.{Err, length};
-ghost use Rattle.prin_term.specs.Formats.{IsFaultIn};
-ghost use Rattle.prin_term.specs.Steps.{IsByte};
+ghost use Rattle.byte_fields.specs.Formats.{IsFaultIn};
+ghost use Rattle.byte_fields.specs.Steps.{IsByte};
 ghost use Rattle.taos_wire.specs.Request.{Request, FitsRequest, IsSealed, Spells, sealed};
-ghost use Rattle.prin_term.specs.declared.fault.FormatFault.{FormatFault as WireFault};
-ghost use Rattle.prin_term.specs.declared.fault.FormatFault.TheVariants.{Malformed};
+ghost use Rattle.byte_fields.specs.declared.fault.FormatFault.{FormatFault as WireFault};
+ghost use Rattle.byte_fields.specs.declared.fault.FormatFault.TheVariants.{Malformed};
 ghost use Rattle.taos_wire.specs.RequestReading.{request_of};
 ghost use Rattle.taos_wire.specs.Reply.{Reply, FitsReply, SpellsReply, sent, spelling};
 ghost use Rattle.taos_wire.specs.ReplyReading.{reply_of};

@@ -1,11 +1,11 @@
 //! Reading a request from its bytes.
 
 ghost use Rattle.std.specs.Prelude.{◌≡◌, ◌≤◌, [], length, map, IfOk, IfErr, MatchResult};
-ghost use Rattle.prin_term.specs.Readers.{made, items_behind};
-ghost use Rattle.prin_term.specs.Steps.{Gives};
+ghost use Rattle.byte_fields.specs.Readers.{made, items_behind};
+ghost use Rattle.byte_fields.specs.Steps.{Gives};
 ghost use Rattle.object_core.specs.View.{operation};
-ghost use Rattle.prin_term.specs.declared.fault.FormatFault.TheVariants.{NoMemory};
-ghost use Rattle.prin_term.specs.Formats.{IsPlaceIn};
+ghost use Rattle.byte_fields.specs.declared.fault.FormatFault.TheVariants.{NoMemory};
+ghost use Rattle.byte_fields.specs.Formats.{IsPlaceIn};
 ghost use Rattle.taos_wire.specs.Request as math;
 ghost use Rattle.taos_wire.specs.Request.{Spells};
 ghost use Rattle.taos_wire.specs.RequestReading.{origin_at, fields_at, asked_at, cert_at};
@@ -14,11 +14,11 @@ ghost use Rattle.taos_wire.specs.View.{request, text_of};
 
 use crate::fault::WireFault;
 use crate::request::{MAX_CERTS, Request};
-use keyed_seal::TAG_LEN;
-use object_core::{Op, read_content, read_list};
-use prin_term::fields::{
+use byte_fields::{
     array_at, byte_within, count_up_to, counted16_at, ended, slice_at, u32_at, u64_at,
 };
+use keyed_seal::TAG_LEN;
+use object_core::{Op, read_content, read_list};
 use prin_term::{QUOTED_NODES, read_optional_term};
 use std::alloc::Global;
 use std::sync::Arc;

@@ -1,11 +1,11 @@
 //! Reading the fields of a grant.
 
 ghost use Rattle.std.specs.Prelude.{◌≡◌, ◌≤◌, ◌==◌, [], length, map, IfOk};
-ghost use Rattle.prin_term.specs.Readers.{items_behind};
-ghost use Rattle.prin_term.specs.Steps.{Gives};
+ghost use Rattle.byte_fields.specs.Readers.{items_behind};
+ghost use Rattle.byte_fields.specs.Steps.{Gives};
 ghost use Rattle.stmt_codec.specs.Certificates.{certificate};
 ghost use Rattle.taos_calculus.specs.Tables.{lines_of};
-ghost use Rattle.prin_term.specs.declared.fault.FormatFault.TheVariants.{NoMemory};
+ghost use Rattle.byte_fields.specs.declared.fault.FormatFault.TheVariants.{NoMemory};
 ghost use Rattle.taos_wire.specs.ReplyReading.{body_filling, cert_at, cited_at, granted_at};
 ghost use Rattle.taos_wire.specs.ReplyReading.{proof_at};
 ghost use Rattle.taos_wire.specs.View.{cited, reply};
@@ -13,9 +13,7 @@ ghost use Rattle.taos_wire.specs.View.{cited, reply};
 use crate::fault::WireFault;
 use crate::reply::{MAX_CITED, Reply};
 use crate::reply_reading::place_of;
-use prin_term::fields::{
-    byte_within, count_up_to, counted16_at, ended, slice_at, u8_at, u16_at, u32_at,
-};
+use byte_fields::{byte_within, count_up_to, counted16_at, ended, slice_at, u8_at, u16_at, u32_at};
 use std::alloc::Global;
 use std::sync::Arc;
 use stmt_codec::{Cert, read_body};

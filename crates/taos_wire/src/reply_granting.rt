@@ -4,7 +4,7 @@ ghost use Rattle.std.specs.Prelude.{◌≡◌, ◌++◌, ◌∷◌, ◌+◌, ◌
 ghost use Rattle.std.specs.Prelude.{vec_capacity, OnOk};
 ghost use Rattle.std.specs.Int.{w32, w64, to_be_bytes};
 ghost use Rattle.std.specs.List.{flat_map};
-ghost use Rattle.prin_term.specs.Appends.{Pushes};
+ghost use Rattle.byte_fields.specs.Appends.{Pushes};
 ghost use Rattle.stmt_codec.specs.Certificates.{certificate};
 ghost use Rattle.taos_calculus.specs.Tables.{lines_of};
 ghost use Rattle.taos_wire.specs.Reply.{cert_bytes, cited_bytes, fields_of, flag, proof_bytes};

@@ -1,7 +1,7 @@
 //! Writing a reply whose parts are lent.
 
 ghost use Rattle.std.specs.Prelude.{◌+◌, ◌<◌, ◌≤◌, ◌^◌, Some, length, OnOk};
-ghost use Rattle.prin_term.specs.Appends.{Appends, Pushes};
+ghost use Rattle.byte_fields.specs.Appends.{Appends, Pushes};
 ghost use Rattle.prin_term.specs.Refusal.{FitsLimits};
 ghost use Rattle.prin_term.specs.View.{principal};
 ghost use Rattle.taos_wire.specs.Reply as math;

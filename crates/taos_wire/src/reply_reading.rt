@@ -1,10 +1,10 @@
 //! Reading a reply from its bytes.
 
 ghost use Rattle.std.specs.Prelude.{◌≡◌, ◌≤◌, ℕ, length, IfOk, IfErr, MatchResult};
-ghost use Rattle.prin_term.specs.Formats.{IsPlaceIn};
-ghost use Rattle.prin_term.specs.Readers.{made};
-ghost use Rattle.prin_term.specs.Steps.{Gives};
-ghost use Rattle.prin_term.specs.declared.fault.FormatFault.TheVariants.{NoMemory};
+ghost use Rattle.byte_fields.specs.Formats.{IsPlaceIn};
+ghost use Rattle.byte_fields.specs.Readers.{made};
+ghost use Rattle.byte_fields.specs.Steps.{Gives};
+ghost use Rattle.byte_fields.specs.declared.fault.FormatFault.TheVariants.{NoMemory};
 ghost use Rattle.taos_wire.specs.Reply as math;
 ghost use Rattle.taos_wire.specs.Reply.{SpellsReply};
 ghost use Rattle.taos_wire.specs.ReplyReading.{answered_at, denied_at, fields_at, is_status};
@@ -15,8 +15,8 @@ ghost use Rattle.taos_wire.specs.View.{link, reply};
 use crate::fault::WireFault;
 use crate::reply::{LinkSent, Reply};
 use crate::reply_grant::granted_of;
+use byte_fields::{array_at, byte_within, ended, slice_at, u8_at, u32_at, u64_at};
 use keyed_seal::TAG_LEN;
-use prin_term::fields::{array_at, byte_within, ended, slice_at, u8_at, u32_at, u64_at};
 use prin_term::{ENTRY_NODES, read_term};
 use std::alloc::Global;
 

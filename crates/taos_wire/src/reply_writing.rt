@@ -3,7 +3,7 @@
 ghost use Rattle.std.specs.Prelude.{◌≡◌, ◌++◌, ◌+◌, ◌<◌, ◌≤◌, ◌^◌, ◌∷◌, [], drop, length, OnOk};
 ghost use Rattle.std.specs.Int.{w32, w64, to_be_bytes};
 ghost use Rattle.std.specs.Option.{option_copied};
-ghost use Rattle.prin_term.specs.Appends.{Appends, Pushes};
+ghost use Rattle.byte_fields.specs.Appends.{Appends, Pushes};
 ghost use Rattle.prin_term.specs.Principal.{spelling as term_spelling};
 ghost use Rattle.prin_term.specs.View.{principal};
 ghost use Rattle.taos_wire.specs.Reply.{FitsReply, answered_bytes, fields_of, link_bytes};

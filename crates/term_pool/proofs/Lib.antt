@@ -18,3 +18,6 @@ pub mod Handing
 pub mod Sought
 pub mod Pools
 pub mod Known
+pub mod Cells
+pub mod Picking
+pub mod Adding

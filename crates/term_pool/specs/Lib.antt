@@ -6,3 +6,4 @@ pub mod Carrying
 pub mod Taking
 pub mod Filing
 pub mod Pool
+pub mod Finding

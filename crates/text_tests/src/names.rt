@@ -2,20 +2,30 @@ use prin_text::*;
 use std::alloc::Global;
 use std::test::Fail;
 
+const NAMES: &[(u32, &str)] = &[(30, "bob"), (10, "alice"), (21, "ws2"), (20, "ws1")];
+
+const ROLES: &[(u32, &str)] = &[(2, "reader"), (1, "taos")];
+
+// A table of these names.
+fn named(alloc: Global, rows: &[(u32, &str)]) -> Result<Names, Fail> {
+    let mut names = Names::new(alloc)?;
+    for &(number, text) in rows {
+        names.add_name(alloc, number, text)?;
+    }
+    Ok(names)
+}
+
 // Four names and two roles.
 pub fn sample(alloc: Global) -> Result<Names, Fail> {
-    let mut names = Names::new(alloc)?;
-    names.add_name(alloc, 30, "bob")?;
-    names.add_name(alloc, 10, "alice")?;
-    names.add_name(alloc, 21, "ws2")?;
-    names.add_name(alloc, 20, "ws1")?;
-    names.add_role(alloc, 2, "reader")?;
-    names.add_role(alloc, 1, "taos")?;
+    let mut names = named(alloc, NAMES)?;
+    for &(number, text) in ROLES {
+        names.add_role(alloc, number, text)?;
+    }
     Ok(names)
 }
 
 // Texts that names and roles may not have.
-const BAD: [&str; 14] = [
+const BAD: &[&str] = &[
     "",
     "1a",
     "-a",
@@ -33,45 +43,77 @@ const BAD: [&str; 14] = [
 ];
 
 // And texts at the edges that they may have.
-const GOOD: [&str; 6] = [
-    "a",
-    "z",
-    "a23456789012345678901234567890_.",
-    "ands",
-    "keys",
-    "b-9",
+const GOOD: &[(u32, &str)] = &[
+    (100, "a"),
+    (101, "z"),
+    (102, "a23456789012345678901234567890_."),
+    (103, "ands"),
+    (104, "keys"),
+    (105, "b-9"),
 ];
 
+const NAME_ROWS: &[(usize, Option<(u32, &str)>)] = &[
+    (0, Some((10, "alice"))),
+    (1, Some((20, "ws1"))),
+    (2, Some((21, "ws2"))),
+    (3, Some((30, "bob"))),
+    (4, None),
+];
+
+const ROLE_ROWS: &[(usize, Option<(u32, &str)>)] = &[(1, Some((2, "reader"))), (2, None)];
+
 #[test]
-fn places_go_by_ascending_number(rt: HostRuntime) -> Result<(), Fail> {
+fn places_of_names_go_by_ascending_number(rt: HostRuntime) -> Result<(), Fail> {
     let names = sample(rt.alloc())?;
-    let rows = [(10, "alice"), (20, "ws1"), (21, "ws2"), (30, "bob")];
-    for place in 0..rows.len() {
-        let row = names.name_at(place).ok_or("a name")?;
-        assert_eq!(rt; row.0, rows[place].0);
-        assert_eq!(rt; row.1, rows[place].1);
+    for &(place, row) in NAME_ROWS {
+        assert!(rt; names.name_at(place) == row, "at {place}");
     }
-    assert!(rt; names.name_at(4).is_none());
-    let role = names.role_at(1).ok_or("a role")?;
-    assert_eq!(rt; role.0, 2);
-    assert_eq!(rt; role.1, "reader");
-    assert!(rt; names.role_at(2).is_none());
-    assert_eq!(rt; names.name_of(b"ws2"), Some(21));
-    assert_eq!(rt; names.name_of(b"taos"), None);
     Ok(())
 }
 
 #[test]
-fn numbers_and_texts_come_once(rt: HostRuntime) -> Result<(), Fail> {
-    let mut names = sample(rt.alloc())?;
-    let cases = [(10, "alice"), (10, "carol"), (40, "alice")];
-    for (number, text) in cases {
-        let fault = names.add_name(rt.alloc(), number, text).err();
-        assert_eq!(rt; fault, Some(NamesFault::Twice), "{number} {text}");
+fn places_of_roles_go_by_ascending_number(rt: HostRuntime) -> Result<(), Fail> {
+    let names = sample(rt.alloc())?;
+    for &(place, row) in ROLE_ROWS {
+        assert!(rt; names.role_at(place) == row, "at {place}");
     }
+    Ok(())
+}
+
+#[test]
+fn a_name_is_found_by_its_text(rt: HostRuntime) -> Result<(), Fail> {
+    let names = sample(rt.alloc())?;
+    assert!(rt; names.name_of(b"ws2") == Some(21));
+    assert!(rt; names.name_of(b"taos") == None);
+    Ok(())
+}
+
+fn name_fault(alloc: Global, names: &mut Names, number: u32, text: &str) -> Option<NamesFault> {
+    names.add_name(alloc, number, text).err()
+}
+
+fn role_fault(alloc: Global, names: &mut Names, number: u32, text: &str) -> Option<NamesFault> {
+    names.add_role(alloc, number, text).err()
+}
+
+const TAKEN: &[(u32, &str)] = &[(10, "alice"), (10, "carol"), (40, "alice")];
+
+#[test]
+fn numbers_and_texts_of_names_come_once(rt: HostRuntime) -> Result<(), Fail> {
+    let mut names = sample(rt.alloc())?;
+    for &(number, text) in TAKEN {
+        let fault = name_fault(rt.alloc(), &mut names, number, text);
+        assert!(rt; fault == Some(NamesFault::Twice), "{number} {text}");
+    }
+    Ok(())
+}
+
+#[test]
+fn a_role_may_have_a_number_and_a_text_of_a_name(rt: HostRuntime) -> Result<(), Fail> {
+    let mut names = sample(rt.alloc())?;
     names.add_role(rt.alloc(), 10, "alice")?;
-    let fault = names.add_role(rt.alloc(), 10, "carol").err();
-    assert_eq!(rt; fault, Some(NamesFault::Twice));
+    let fault = role_fault(rt.alloc(), &mut names, 10, "carol");
+    assert!(rt; fault == Some(NamesFault::Twice));
     Ok(())
 }
 
@@ -79,31 +121,58 @@ fn numbers_and_texts_come_once(rt: HostRuntime) -> Result<(), Fail> {
 fn a_bad_text_is_reported_first(rt: HostRuntime) -> Result<(), Fail> {
     let mut names = sample(rt.alloc())?;
     for text in BAD {
-        let fault = names.add_name(rt.alloc(), 10, text).err();
-        assert_eq!(rt; fault, Some(NamesFault::BadText), "{text}");
-    }
-    for i in 0..GOOD.len() {
-        names.add_role(rt.alloc(), 100 + i as u32, GOOD[i])?;
+        let fault = name_fault(rt.alloc(), &mut names, 10, text);
+        assert!(rt; fault == Some(NamesFault::BadText), "{text}");
     }
     Ok(())
 }
 
 #[test]
-fn a_full_table_holds_so_many(rt: HostRuntime) -> Result<(), Fail> {
-    let mut names = Names::new(rt.alloc())?;
+fn texts_at_the_edges_are_taken(rt: HostRuntime) -> Result<(), Fail> {
+    let mut names = sample(rt.alloc())?;
+    for &(number, text) in GOOD {
+        let fault = role_fault(rt.alloc(), &mut names, number, text);
+        assert!(rt; fault == None, "{text}");
+    }
+    Ok(())
+}
+
+fn add_numbered_name(alloc: Global, names: &mut Names, number: u32) -> Result<(), Fail> {
+    let text = format!(in alloc; "n{number}")?;
+    Ok(names.add_name(alloc, number, text.as_str())?)
+}
+
+fn add_numbered_role(alloc: Global, names: &mut Names, number: u32) -> Result<(), Fail> {
+    let text = format!(in alloc; "r{number}")?;
+    Ok(names.add_role(alloc, number, text.as_str())?)
+}
+
+// As many names as there may be, n0 and so on.
+fn full_names(alloc: Global) -> Result<Names, Fail> {
+    let mut names = Names::new(alloc)?;
     for number in 0..MAX_NAMES {
-        let text = format!(in rt.alloc(); "n{number}")?;
-        names.add_name(rt.alloc(), number, text.as_str())?;
+        add_numbered_name(alloc, &mut names, number)?;
     }
+    Ok(names)
+}
+
+// As many roles too, r0 and so on.
+fn full(alloc: Global) -> Result<Names, Fail> {
+    let mut names = full_names(alloc)?;
     for number in 0..MAX_ROLES {
-        let text = format!(in rt.alloc(); "r{number}")?;
-        names.add_role(rt.alloc(), number, text.as_str())?;
+        add_numbered_role(alloc, &mut names, number)?;
     }
-    let full = names.add_name(rt.alloc(), 5000, "more").err();
-    assert_eq!(rt; full, Some(NamesFault::Full { held: 1024 }));
-    let full = names.add_role(rt.alloc(), 5000, "more").err();
-    assert_eq!(rt; full, Some(NamesFault::Full { held: 256 }));
-    let twice = names.add_name(rt.alloc(), 5000, "n3").err();
-    assert_eq!(rt; twice, Some(NamesFault::Twice));
+    Ok(names)
+}
+
+#[test]
+fn a_full_table_holds_so_many(rt: HostRuntime) -> Result<(), Fail> {
+    let mut names = full(rt.alloc())?;
+    let fault = name_fault(rt.alloc(), &mut names, 5000, "more");
+    assert!(rt; fault == Some(NamesFault::Full { held: 1024 }));
+    let fault = role_fault(rt.alloc(), &mut names, 5000, "more");
+    assert!(rt; fault == Some(NamesFault::Full { held: 256 }));
+    let fault = name_fault(rt.alloc(), &mut names, 5000, "n3");
+    assert!(rt; fault == Some(NamesFault::Twice));
     Ok(())
 }

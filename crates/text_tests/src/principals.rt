@@ -5,7 +5,7 @@ use std::alloc::Global;
 use std::test::Fail;
 
 // Texts that are printed as they were read.
-const ALIKE: [&str; 14] = [
+const ALIKE: &[&str] = &[
     "alice",
     "key:2",
     "name:7",
@@ -23,7 +23,7 @@ const ALIKE: [&str; 14] = [
 ];
 
 // Texts that are printed otherwise.
-const OTHERWISE: [(&str, &str); 8] = [
+const OTHERWISE: &[(&str, &str)] = &[
     ("((ws1))", "ws1"),
     ("  alice ", "alice"),
     ("( ws1 \t as taos)for(bob)", "(ws1 as taos) for bob"),
@@ -35,7 +35,7 @@ const OTHERWISE: [(&str, &str); 8] = [
 ];
 
 // Texts that are refused, where and why.
-const REFUSED: [(&str, usize, TextCause); 33] = [
+const REFUSED: &[(&str, usize, TextCause)] = &[
     ("ws1 as taos for bob", 12, TextCause::Syntax),
     ("carol", 0, TextCause::UnknownName),
     ("", 0, TextCause::Syntax),
@@ -85,25 +85,25 @@ const NODES_64: &str =
 const NODES_65: &str =
     "(((((bob|bob)|(bob|bob))|((bob|bob)|(bob|bob)))|(((bob|bob)|(bob|bob))|((bob|bob)|(bob|bob))))|((((bob|bob)|(bob|bob))|((bob|bob)|(bob|bob)))|(((bob|bob)|(bob|bob))|((bob|bob)|(bob|bob)))))|bob";
 
+// What is printed of a principal behind other text.
 fn printed(alloc: Global, names: &Names, term: &Term) -> Result<String, Fail> {
     let mut text = String::from_str(alloc, "> ")?;
     print_principal(alloc, &mut text, names, term)?;
     Ok(text)
 }
 
-fn read_and_printed(alloc: Global, names: &Names, text: &str) -> Result<String, Fail> {
+// Whether a text is read, and what is read is printed so.
+fn is_printed(alloc: Global, names: &Names, text: &str, again: &str) -> Result<bool, Fail> {
     let term = read_principal(alloc, names, text)?;
-    printed(alloc, names, &term)
+    let out = printed(alloc, names, &term)?;
+    Ok(out.as_str().strip_prefix("> ") == Some(again))
 }
 
 #[test]
 fn a_printed_text_is_printed_again(rt: HostRuntime) -> Result<(), Fail> {
     let names = sample(rt.alloc())?;
     for text in ALIKE {
-        let again = read_and_printed(rt.alloc(), &names, text)?;
-        let front = String::from_str(rt.alloc(), "> ")?;
-        let wanted = format!(in rt.alloc(); "{front}{text}")?;
-        assert_eq!(rt; again.as_str(), wanted.as_str());
+        assert!(rt; is_printed(rt.alloc(), &names, text, text)?, "{text}");
     }
     Ok(())
 }
@@ -111,48 +111,77 @@ fn a_printed_text_is_printed_again(rt: HostRuntime) -> Result<(), Fail> {
 #[test]
 fn blanks_and_parentheses_more_than_needed_are_read(rt: HostRuntime) -> Result<(), Fail> {
     let names = sample(rt.alloc())?;
-    for (text, other) in OTHERWISE {
-        let again = read_and_printed(rt.alloc(), &names, text)?;
-        let wanted = format!(in rt.alloc(); "> {other}")?;
-        assert_eq!(rt; again.as_str(), wanted.as_str());
+    for &(text, again) in OTHERWISE {
+        assert!(rt; is_printed(rt.alloc(), &names, text, again)?, "{text}");
     }
     Ok(())
+}
+
+// Where a text behind two blanks and before others is refused, and why.
+fn fault_of(
+    alloc: Global,
+    names: &Names,
+    text: &str,
+    tail: &str,
+) -> Result<Option<TextFault>, Fail> {
+    let whole = format!(in alloc; "  {text}{tail}")?;
+    Ok(read_principal(alloc, names, whole.as_str()).err())
 }
 
 #[test]
 fn the_first_fault_is_answered(rt: HostRuntime) -> Result<(), Fail> {
     let names = sample(rt.alloc())?;
-    for (text, offset, cause) in REFUSED {
+    for &(text, offset, cause) in REFUSED {
         let fault = read_principal(rt.alloc(), &names, text).err();
-        assert_eq!(rt; fault, Some(TextFault::Bad { offset, cause }), "{text}");
+        assert!(rt; fault == Some(TextFault::Bad { offset, cause }), "{text}");
     }
     Ok(())
 }
 
+// The largest texts, and limits of nodes and levels that they are beyond.
+const LARGEST: &[(&str, u32, u32)] = &[(LEVELS_16, 64, 15), (NODES_64, 63, 16)];
+
+// Whether a text is read, and is within the limits, but not within these.
+fn is_largest(
+    alloc: Global,
+    names: &Names,
+    text: &str,
+    nodes: u32,
+    levels: u32,
+) -> Result<bool, Fail> {
+    let term = read_principal(alloc, names, text)?;
+    Ok(term.fits(64, MAX_DEPTH) && !term.fits(nodes, levels))
+}
+
+#[test]
+fn the_largest_texts_are_read(rt: HostRuntime) -> Result<(), Fail> {
+    let names = sample(rt.alloc())?;
+    for &(text, nodes, levels) in LARGEST {
+        assert!(rt;
+            is_largest(rt.alloc(), &names, text, nodes, levels)?,
+            "{text}"
+        );
+    }
+    Ok(())
+}
+
+// A text, what follows it, and where and why that is refused behind two blanks.
+const TOO_LARGE: &[(&str, &str, usize, TextCause)] = &[
+    (LEVELS_17, "", 2, TextCause::TooDeep),
+    (NODES_65, "", 2, TextCause::TooLarge),
+    (LEVELS_17, " for bob", 166, TextCause::Syntax),
+    (NODES_65, " )", 196, TextCause::Syntax),
+];
+
 #[test]
 fn sizes_are_tested_after_the_whole_text(rt: HostRuntime) -> Result<(), Fail> {
     let names = sample(rt.alloc())?;
-    let deep = read_principal(rt.alloc(), &names, LEVELS_16)?;
-    assert!(rt; deep.fits(64, MAX_DEPTH));
-    assert!(rt; !deep.fits(64, MAX_DEPTH - 1));
-    let large = read_principal(rt.alloc(), &names, NODES_64)?;
-    assert!(rt; large.fits(64, MAX_DEPTH));
-    assert!(rt; !large.fits(63, MAX_DEPTH));
-    let cases: [(&str, &str, usize, TextCause); 5] = [
-        (LEVELS_17, "", 2, TextCause::TooDeep),
-        (NODES_65, "", 2, TextCause::TooLarge),
-        (LEVELS_17, " for bob", 2, TextCause::Syntax),
-        (NODES_65, " )", 2, TextCause::Syntax),
-        (NODES_65, "", 2, TextCause::TooLarge),
-    ];
-    for (text, tail, offset, cause) in cases {
-        let whole = format!(in rt.alloc(); "  {text}{tail}")?;
-        let fault = read_principal(rt.alloc(), &names, whole.as_str()).err();
-        let at = match cause {
-            TextCause::Syntax => 3 + text.len(),
-            _ => offset,
-        };
-        assert_eq!(rt; fault, Some(TextFault::Bad { offset: at, cause }));
+    for &(text, tail, offset, cause) in TOO_LARGE {
+        let fault = fault_of(rt.alloc(), &names, text, tail)?;
+        assert!(rt;
+            fault == Some(TextFault::Bad { offset, cause }),
+            "{text}{tail}"
+        );
     }
     Ok(())
 }

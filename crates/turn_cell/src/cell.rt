@@ -15,8 +15,11 @@ use std::snapshot::Snapshot;
 use std::sync::Wait;
 use std::thread;
 
-// How often a thread looks again before it sleeps.
+// How often a thread looks again at once, and then how often it lets others run first, before it
+// sleeps.
 const LOOKS: u32 = 64;
+
+const YIELDS: u32 = 64;
 
 /// A value that one pass at a time takes out, in the order in which they drew their tickets.
 #[derive(Drop)]
@@ -97,7 +100,8 @@ impl<V: Journaled> TurnCell<V> {
         for _ in rt.forever() {
             match try_take(&self.table.shared, &mut seat, ticket) {
                 Ok(value) => return (value, Held { shares, seat }),
-                Err(_) if looks < LOOKS => {
+                Err(_) if looks < LOOKS => looks += 1,
+                Err(_) if looks < LOOKS + YIELDS => {
                     looks += 1;
                     thread::yield_now();
                 }

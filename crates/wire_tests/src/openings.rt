@@ -1,6 +1,6 @@
 use crate::spelled::spelled;
 use node_file::*;
-use prin_term::{Anchor, Term};
+use prin_term::{Entry, Term};
 use std::alloc::{AllocError, Global};
 use std::test::Fail;
 
@@ -23,50 +23,88 @@ fn push_channel(bytes: &mut Vec<u8>, number: u8, key: u8) -> Result<(), AllocErr
     bytes.extend_from_slice(&[key; 32])
 }
 
-#[test]
-fn the_small_opening_reads(rt: HostRuntime) -> Result<(), Fail> {
-    let opening = read_opening(rt.alloc(), &SMALL)?;
-    assert_eq!(rt; opening.node, 7);
-    assert_eq!(rt; opening.relay_key.as_slice(), [7; 32].as_slice());
-    assert_eq!(rt; opening.shards, 1);
-    assert_eq!(rt; opening.keep, 3600);
-    assert_eq!(rt; opening.limit, 16384);
-    assert_eq!(rt; opening.channels.count(), 0);
-    assert_eq!(rt; opening.anchors.len(), 0);
-    assert_eq!(rt; opening.objects.count(), 0);
-    Ok(())
+fn read(alloc: Global, bytes: &[u8]) -> Result<Box<Opening>, Fail> {
+    Ok(Box::new(alloc, read_opening(alloc, bytes)?)?)
+}
+
+fn is_small(opening: &Opening) -> bool {
+    opening.node == 7
+        && opening.relay_key == [7; 32]
+        && opening.shards == 1
+        && opening.keep == 3600
+        && opening.limit == 16384
+        && opening.channels.count() == 0
+        && opening.anchors.is_empty()
+        && opening.objects.count() == 0
 }
 
 #[test]
-fn channels_anchors_and_objects_are_found_by_number(rt: HostRuntime) -> Result<(), Fail> {
-    let mut bytes = with_tail(rt.alloc(), &SMALL[..58], &[0, 2])?;
+fn the_small_opening_reads(rt: HostRuntime) -> Result<(), Fail> {
+    let opening = read(rt.alloc(), &SMALL)?;
+    assert!(rt; is_small(&opening));
+    Ok(())
+}
+
+// Two channels, an anchor and two objects.
+fn filled(alloc: Global) -> Result<Box<Opening>, Fail> {
+    let mut bytes = with_tail(alloc, &SMALL[..58], &[0, 2])?;
     push_channel(&mut bytes, 9, 4)?;
     push_channel(&mut bytes, 3, 5)?;
     bytes.extend_from_slice(&[1, 0, 0, 0x03, 0xe8, 0, 0, 0, 1, 0, 0, 2])?;
     bytes.extend_from_slice(&[0, 0, 0, 20, 0, 2, b'h', b'i', 2])?;
     bytes.extend_from_slice(&[1, 2, 0, 0, 0, 1, 15, 1, 0, 0, 0, 8])?;
     bytes.extend_from_slice(&[0, 0, 0, 5, 0, 0, 0])?;
-    let opening = read_opening(rt.alloc(), &bytes)?;
-    let three = opening.channels.get(3).ok_or("channel 3")?;
-    assert_eq!(rt; three.as_slice(), [5; 32].as_slice());
-    let nine = opening.channels.get(9).ok_or("channel 9")?;
-    assert_eq!(rt; nine.as_slice(), [4; 32].as_slice());
-    assert!(rt; opening.channels.get(4).is_none());
-    let anchor = opening.anchors.first().ok_or("an anchor")?;
-    assert_eq!(rt; *anchor, Anchor { key: 1000, name: 1 });
-    let twenty = opening.objects.get(20).ok_or("object 20")?;
-    assert_eq!(rt; twenty.content.as_slice(), b"hi".as_slice());
-    assert_eq!(rt; twenty.list.len(), 2);
-    let first = twenty.list.first().ok_or("an entry")?;
-    assert_eq!(rt; first.rights, 1);
-    assert!(rt; matches!(first.who, Term::Name(1)));
-    let last = twenty.list.last().ok_or("an entry")?;
-    assert_eq!(rt; last.rights, 15);
-    assert!(rt; matches!(last.who, Term::Key(8)));
-    let five = opening.objects.get(5).ok_or("object 5")?;
-    assert!(rt; five.content.is_empty());
-    assert!(rt; five.list.is_empty());
-    assert!(rt; opening.objects.get(6).is_none());
+    read(alloc, &bytes)
+}
+
+fn has_channels(opening: &Opening) -> bool {
+    opening.channels.get(3) == Some(&[5; 32])
+        && opening.channels.get(9) == Some(&[4; 32])
+        && opening.channels.get(4).is_none()
+}
+
+fn has_anchor(opening: &Opening) -> bool {
+    match opening.anchors.first() {
+        Some(anchor) => anchor.key == 1000 && anchor.name == 1,
+        None => false,
+    }
+}
+
+fn has_hi(plan: &ObjectPlan) -> bool {
+    plan.content.as_slice() == b"hi".as_slice()
+        && plan.list.len() == 2
+        && matches!(
+            plan.list.first(),
+            Some(Entry {
+                rights: 1,
+                who: Term::Name(1)
+            })
+        )
+        && matches!(
+            plan.list.last(),
+            Some(Entry {
+                rights: 15,
+                who: Term::Key(8)
+            })
+        )
+}
+
+fn has_objects(opening: &Opening) -> bool {
+    let (Some(twenty), Some(five)) = (opening.objects.get(20), opening.objects.get(5)) else {
+        return false;
+    };
+    has_hi(twenty)
+        && five.content.is_empty()
+        && five.list.is_empty()
+        && opening.objects.get(6).is_none()
+}
+
+#[test]
+fn channels_anchors_and_objects_are_found_by_number(rt: HostRuntime) -> Result<(), Fail> {
+    let opening = filled(rt.alloc())?;
+    assert!(rt; has_channels(&opening));
+    assert!(rt; has_anchor(&opening));
+    assert!(rt; has_objects(&opening));
     Ok(())
 }
 
@@ -82,81 +120,125 @@ const OTHER: &str = "0041 02 01 00000001 00 0100000002 020000000a 00000000000007
 const SIXTEEN: &str = "05 03030303030303 0100000001 0100000001 0100000001 0100000001 0100000001
     0100000001 0100000001 0100000001 00000002";
 
-#[test]
-fn commons_and_compound_entries_are_read(rt: HostRuntime) -> Result<(), Fail> {
-    let tail = spelled(rt.alloc(), &["02", COMMON, OTHER, "0000"])?;
-    let bytes = with_tail(rt.alloc(), &SMALL[..61], &tail)?;
-    let opening = read_opening(rt.alloc(), &bytes)?;
-    assert_eq!(rt; opening.commons.len(), 2);
-    let first = opening.commons.first().ok_or("a common")?;
-    assert_eq!(rt; first.body.issuer, 1);
-    assert_eq!(rt; first.body.serial, 1);
-    let last = opening.commons.last().ok_or("a common")?;
-    assert_eq!(rt; last.body.until, 2000);
-    assert_eq!(rt; last.body.serial, 2);
+// The small opening up to a place, and what digits spell.
+fn opened(alloc: Global, front: usize, tail: &[&str]) -> Result<Box<Opening>, Fail> {
+    if front > 64 {
+        return Err(Fail::new("no front"));
+    }
+    let tail = spelled(alloc, tail)?;
+    let bytes = with_tail(alloc, &SMALL[..front], &tail)?;
+    read(alloc, &bytes)
+}
 
-    let cases: [(&[&str], usize); 3] = [
-        (&["0001 00000005 0000 01 01 05 020000000a 00000002"], 1),
-        (&["0001 00000005 0000 01 0f", SIXTEEN], 1),
-        (&["0001 00000005 0000 02 01 020000000a 0f 0100000001"], 2),
-    ];
-    for (tail, count) in cases {
-        let bytes = with_tail(rt.alloc(), &SMALL[..62], &spelled(rt.alloc(), tail)?)?;
-        let opening = read_opening(rt.alloc(), &bytes)?;
-        let plan = opening.objects.get(5).ok_or("object 5")?;
-        assert_eq!(rt; plan.list.len(), count, "{tail:?}");
+fn has_commons(opening: &Opening) -> bool {
+    let [first, last] = opening.commons.as_slice() else {
+        return false;
+    };
+    first.body.issuer == 1
+        && first.body.serial == 1
+        && last.body.until == 2000
+        && last.body.serial == 2
+}
+
+#[test]
+fn commons_are_read(rt: HostRuntime) -> Result<(), Fail> {
+    let opening = opened(rt.alloc(), 61, &["02", COMMON, OTHER, "0000"])?;
+    assert!(rt; has_commons(&opening));
+    Ok(())
+}
+
+// What follows the lists before the objects, and how many entries the list of object 5 has.
+const LISTS: &[(&[&str], usize)] = &[
+    (&["0001 00000005 0000 01 01 05 020000000a 00000002"], 1),
+    (&["0001 00000005 0000 01 0f", SIXTEEN], 1),
+    (&["0001 00000005 0000 02 01 020000000a 0f 0100000001"], 2),
+];
+
+fn list_of_five(opening: &Opening) -> Option<usize> {
+    match opening.objects.get(5) {
+        Some(plan) => Some(plan.list.len()),
+        None => None,
+    }
+}
+
+#[test]
+fn compound_entries_are_read(rt: HostRuntime) -> Result<(), Fail> {
+    for &(tail, count) in LISTS {
+        let opening = opened(rt.alloc(), 62, tail)?;
+        assert!(rt; list_of_five(&opening) == Some(count), "{tail:?}");
     }
     Ok(())
 }
 
 #[test]
 fn an_opening_prints_no_key(rt: HostRuntime) -> Result<(), Fail> {
-    let opening = read_opening(rt.alloc(), &SMALL)?;
+    let opening = read(rt.alloc(), &SMALL)?;
     let text = format!(in rt.alloc(); "{opening:?}")?;
-    assert_eq!(rt; text.as_str(), "Opening { node: 7, shards: 1, .. }");
+    assert!(rt; text.as_str() == "Opening { node: 7, shards: 1, .. }");
     Ok(())
 }
 
+const PRINTED: &[(FileFault, &str)] = &[
+    (FileFault::Byte { offset: 38 }, "byte 38: malformed"),
+    (FileFault::NoMemory, "no memory"),
+    (
+        FileFault::Line {
+            line: 7,
+            cause: FileCause::UnknownObject,
+        },
+        "line 7: unknown object",
+    ),
+];
+
 #[test]
 fn a_fault_names_its_byte(rt: HostRuntime) -> Result<(), Fail> {
-    let text = format!(in rt.alloc(); "{}", FileFault::Byte { offset: 38 })?;
-    assert_eq!(rt; text.as_str(), "byte 38: malformed");
-    let text = format!(in rt.alloc(); "{}", FileFault::NoMemory)?;
-    assert_eq!(rt; text.as_str(), "no memory");
-    let fault = FileFault::Line {
-        line: 7,
-        cause: FileCause::UnknownObject,
-    };
-    let text = format!(in rt.alloc(); "{fault}")?;
-    assert_eq!(rt; text.as_str(), "line 7: unknown object");
+    for &(fault, text) in PRINTED {
+        let printed = format!(in rt.alloc(); "{fault}")?;
+        assert!(rt; printed.as_str() == text, "{text}");
+    }
     Ok(())
+}
+
+const TOO_LONG: FileFault = FileFault::Line {
+    line: 0,
+    cause: FileCause::Limit,
+};
+
+fn fault_of(alloc: Global, bytes: &[u8]) -> Option<FileFault> {
+    read_opening(alloc, bytes).err()
 }
 
 #[test]
 fn a_file_that_is_too_long_is_refused_at_no_line(rt: HostRuntime) -> Result<(), Fail> {
     let long: Vec<u8> = vec![in rt.alloc(); 0; MAX_FILE + 1]?;
-    let fault = read_opening(rt.alloc(), &long).err().ok_or("a fault")?;
-    let wanted = FileFault::Line {
-        line: 0,
-        cause: FileCause::Limit,
-    };
-    assert_eq!(rt; fault, wanted);
-    let fault = read_opening(rt.alloc(), &long[1..]).err().ok_or("a fault")?;
-    assert_eq!(rt; fault, FileFault::Byte { offset: 1 });
+    assert!(rt; fault_of(rt.alloc(), &long) == Some(TOO_LONG));
+    let malformed = Some(FileFault::Byte { offset: 1 });
+    assert!(rt; fault_of(rt.alloc(), &long[1..]) == malformed);
     Ok(())
 }
 
-#[test]
-fn objects_stand_by_number(rt: HostRuntime) -> Result<(), Fail> {
-    let mut bytes = with_tail(rt.alloc(), &SMALL[..62], &[0, 3])?;
+fn with_three_objects(alloc: Global) -> Result<Box<Opening>, Fail> {
+    let mut bytes = with_tail(alloc, &SMALL[..62], &[0, 3])?;
     for number in [20, 5, 9] {
         bytes.extend_from_slice(&[0, 0, 0, number, 0, 1, number, 0])?;
     }
-    let opening = read_opening(rt.alloc(), &bytes)?;
-    for (place, number) in [(0, 5), (1, 9), (2, 20)] {
-        let object = opening.objects.at(place).ok_or("an object")?;
-        assert_eq!(rt; object.number, number, "at {place}");
+    read(alloc, &bytes)
+}
+
+fn number_at(opening: &Opening, place: usize) -> Option<u32> {
+    match opening.objects.at(place) {
+        Some(plan) => Some(plan.number),
+        None => None,
     }
-    assert!(rt; opening.objects.at(3).is_none());
+}
+
+const NUMBERS: &[(usize, Option<u32>)] = &[(0, Some(5)), (1, Some(9)), (2, Some(20)), (3, None)];
+
+#[test]
+fn objects_stand_by_number(rt: HostRuntime) -> Result<(), Fail> {
+    let opening = with_three_objects(rt.alloc())?;
+    for &(place, number) in NUMBERS {
+        assert!(rt; number_at(&opening, place) == number, "at {place}");
+    }
     Ok(())
 }

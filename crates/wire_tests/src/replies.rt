@@ -1,10 +1,9 @@
 use keyed_seal::{Sealer, hmac};
 use prin_term::Term;
 use std::alloc::{AllocError, Global};
-use std::process::Abort;
 use std::sync::Arc;
 use std::test::Fail;
-use stmt_codec::read_body;
+use stmt_codec::{Cert, read_body};
 use taos_calculus::{Fact, Line, Node, Proof, Step};
 use taos_wire::*;
 
@@ -80,77 +79,106 @@ fn refused_at(alloc: Global, bytes: &[u8]) -> Option<usize> {
     }
 }
 
-// What is read is written back, under the key where there is one.
-fn comes_back(
-    rt: &impl Abort,
-    alloc: Global,
-    key: Option<&[u8; 32]>,
-    bytes: &[u8],
-) -> Result<(), Fail> {
+// Whether what is read is written back, under the key where there is one.
+fn comes_back(alloc: Global, key: Option<&[u8; 32]>, bytes: &[u8]) -> Result<bool, Fail> {
     let (channel, seq, reply) = read_reply(alloc, bytes)?;
     let mut out = Vec::new(alloc);
     write_reply(&mut out, key, channel, seq, &reply)?;
-    assert_eq!(rt; out.as_slice(), bytes);
-    Ok(())
+    Ok(out.as_slice() == bytes)
 }
 
-// A reply that is cut is refused at the cut, and one byte more at that byte.
-fn has_its_length(rt: &impl Abort, alloc: Global, bytes: &[u8]) -> Result<(), Fail> {
+// Whether a reply that is cut is refused at the cut.
+fn is_refused_when_cut(alloc: Global, bytes: &[u8]) -> bool {
     for len in 0..bytes.len() {
-        assert_eq!(rt; refused_at(alloc, &bytes[..len]), Some(len), "cut at {len}");
+        if refused_at(alloc, &bytes[..len]) != Some(len) {
+            return false;
+        }
     }
+    true
+}
+
+// Whether one byte more is refused there.
+fn is_refused_when_longer(alloc: Global, bytes: &[u8]) -> Result<bool, Fail> {
     let mut longer = Vec::from_slice(alloc, bytes)?;
     longer.push(0)?;
-    assert_eq!(rt; refused_at(alloc, &longer), Some(bytes.len()));
-    Ok(())
+    Ok(refused_at(alloc, &longer) == Some(bytes.len()))
 }
+
+// Whether all of these hold.
+fn is_well(alloc: Global, key: Option<&[u8; 32]>, bytes: &[u8]) -> Result<bool, Fail> {
+    let is_read = comes_back(alloc, key, bytes)? && is_refused_when_cut(alloc, bytes);
+    Ok(is_read && is_refused_when_longer(alloc, bytes)?)
+}
+
+const WORKED: &[(Option<&[u8; 32]>, &[u8])] = &[
+    (Some(&ONES), &ANCHORED),
+    (Some(&TWOS), &HANDED),
+    (Some(&ONES), &NO_ENTRY),
+    (Some(&TWOS), &UNREACHED),
+    (None, &UNREAD),
+];
 
 #[test]
 fn worked_replies_are_read_and_written(rt: HostRuntime) -> Result<(), Fail> {
-    let alloc = rt.alloc();
-    let cases: [(Option<&[u8; 32]>, &[u8]); 5] = [
-        (Some(&ONES), &ANCHORED),
-        (Some(&TWOS), &HANDED),
-        (Some(&ONES), &NO_ENTRY),
-        (Some(&TWOS), &UNREACHED),
-        (None, &UNREAD),
-    ];
-    for (key, bytes) in cases {
-        comes_back(&rt, alloc, key, bytes)?;
-        has_its_length(&rt, alloc, bytes)?;
+    for &(key, bytes) in WORKED {
+        assert!(rt; is_well(rt.alloc(), key, bytes)?, "{bytes:?}");
     }
     Ok(())
 }
 
-#[test]
-fn a_grant_is_written_from_lent_parts(rt: HostRuntime) -> Result<(), Fail> {
-    let alloc = rt.alloc();
-    let line = Line {
-        fact: Fact::Speaks { left: 0, right: 1 },
-        step: Step::Anchor { index: 0 },
-    };
-    let nodes = [Node::Key(1), Node::Name(10)].to_vec(alloc)?;
-    let proof = Proof::from_parts(nodes, [line].to_vec(alloc)?).ok_or("a proof")?;
+const NODES: &[Node] = &[Node::Key(1), Node::Name(10)];
+
+const LINES: &[Line] = &[Line {
+    fact: Fact::Speaks { left: 0, right: 1 },
+    step: Step::Anchor { index: 0 },
+}];
+
+fn anchored(alloc: Global) -> Result<Proof, Fail> {
+    let nodes = NODES.to_vec(alloc)?;
+    Ok(Proof::from_parts(nodes, LINES.to_vec(alloc)?).ok_or("a proof")?)
+}
+
+// What is written of a grant by this proof, behind another byte.
+fn granted(
+    alloc: Global,
+    key: &[u8; 32],
+    channel: u32,
+    proof: &Proof,
+    certs: &[Arc<Cert>],
+) -> Result<Vec<u8>, Fail> {
+    if certs.len() > 1 {
+        return Err(Fail::new("too many"));
+    }
     let grant = LentGrant {
         kept: false,
         entry: 0,
         shard: 0,
         place: 0,
-        proof: &proof,
-        certs: &[],
+        proof,
+        certs,
         content: b"hello",
     };
     let mut out = Vec::from_slice(alloc, &[9])?;
-    write_granted(&mut out, &Sealer::of(&ONES), 1, 1, &grant)?;
-    assert_eq!(rt; &out[1..], ANCHORED.as_slice());
-    Ok(())
+    write_granted(&mut out, &Sealer::of(key), channel, 1, &grant)?;
+    Ok(out)
 }
 
 #[test]
-fn a_grant_has_its_certificates(rt: HostRuntime) -> Result<(), Fail> {
-    let alloc = rt.alloc();
-    let (channel, seq, reply) = read_reply(alloc, &HANDED)?;
-    assert_eq!(rt; (channel, seq), (2, 1));
+fn a_grant_is_written_from_lent_parts(rt: HostRuntime) -> Result<(), Fail> {
+    let proof = anchored(rt.alloc())?;
+    let out = granted(rt.alloc(), &ONES, 1, &proof, &[])?;
+    assert!(rt; out.get(1..) == Some(ANCHORED.as_slice()));
+    Ok(())
+}
+
+// The certificate of the handed reply.
+fn handed_cert(alloc: Global) -> Result<Arc<Cert>, Fail> {
+    let (cert, _) = read_body(alloc, &HANDED, 96)?;
+    Ok(Arc::new(alloc, cert)?)
+}
+
+// Whether a reply is a grant that is as the handed one, and is written so again.
+fn is_handed(alloc: Global, reply: &Reply) -> Result<bool, Fail> {
     let Reply::Granted {
         kept,
         entry,
@@ -160,71 +188,70 @@ fn a_grant_has_its_certificates(rt: HostRuntime) -> Result<(), Fail> {
         ..
     } = reply
     else {
-        return Err(Fail::from("no grant"));
+        return Ok(false);
     };
-    assert!(rt; !kept);
-    assert_eq!(rt; entry, 0);
-    assert_eq!(rt; proof.lines().len(), 4);
-    assert_eq!(rt; certs.len(), 1);
-    assert_eq!(rt; result.as_slice(), b"hello".as_slice());
-    let (cert, _) = read_body(alloc, &HANDED, 96)?;
-    let certs = [Arc::new(alloc, cert)?];
-    let grant = LentGrant {
-        kept,
-        entry,
-        shard: 0,
-        place: 0,
-        proof: &proof,
-        certs: &certs,
-        content: &result,
-    };
-    let mut out = Vec::new(alloc);
-    write_granted(&mut out, &Sealer::of(&TWOS), 2, 1, &grant)?;
-    assert_eq!(rt; out.as_slice(), HANDED.as_slice());
+    let is_so = !*kept && *entry == 0 && proof.lines().len() == 4 && certs.len() == 1;
+    let cited = [handed_cert(alloc)?];
+    let out = granted(alloc, &TWOS, 2, proof, &cited)?;
+    Ok(is_so && result.as_slice() == b"hello".as_slice() && out.get(1..) == Some(HANDED.as_slice()))
+}
+
+#[test]
+fn a_grant_has_its_certificates(rt: HostRuntime) -> Result<(), Fail> {
+    let (channel, seq, reply) = read_reply(rt.alloc(), &HANDED)?;
+    assert!(rt; channel == 2 && seq == 1);
+    assert!(rt; is_handed(rt.alloc(), &reply)?);
     Ok(())
 }
 
 #[test]
 fn a_denial_is_written_from_a_lent_part(rt: HostRuntime) -> Result<(), Fail> {
-    let alloc = rt.alloc();
     let part = Term::Name(10);
-    let mut out = Vec::from_slice(alloc, &[9])?;
+    let mut out = Vec::from_slice(rt.alloc(), &[9])?;
     write_missing(&mut out, &TWOS, 2, 1, 0, 0, 0, &part)?;
-    assert_eq!(rt; &out[1..], UNREACHED.as_slice());
-    out.clear();
-    write_reply_with(&mut out, None, 0, 0, &Reply::Malformed { offset: 52 })?;
-    assert_eq!(rt; out.as_slice(), UNREAD.as_slice());
+    assert!(rt; out.get(1..) == Some(UNREACHED.as_slice()));
     Ok(())
 }
 
 #[test]
+fn a_malformed_one_is_answered_without_a_seal(rt: HostRuntime) -> Result<(), Fail> {
+    let mut out = Vec::new(rt.alloc());
+    write_reply_with(&mut out, None, 0, 0, &Reply::Malformed { offset: 52 })?;
+    assert!(rt; out.as_slice() == UNREAD.as_slice());
+    Ok(())
+}
+
+// A status and its fields.
+const STATUSES: &[(u8, &[u8])] = &[
+    (1, &EXPIRED),
+    (
+        1,
+        &[0, 0, 0, 63, 0, 0, 0, 0, 0, 0, 0, 2, 2, 7, 2, 0, 0, 0, 10],
+    ),
+    (1, &[0, 0, 0, 1, 255, 255, 255, 255, 255, 255, 255, 255, 3]),
+    (2, &[0, 0, 0, 52]),
+    (3, &[0, 0, 0, 9]),
+    (4, &[]),
+    (5, &[255; 8]),
+    (6, &[0, 3]),
+    (7, &[32]),
+    (8, &[255]),
+    (9, &[0, 0, 0, 6]),
+    (10, &[0, 0, 0, 0, 5, 0, 0, 0, 0, 0, 15, 66, 64]),
+    (10, &[1, 0, 0, 0, 1, 0, 0, 0, 0, 0, 15, 66, 64]),
+    (11, &[]),
+    (12, &[64, 0, 0, 0, 1]),
+    (13, &[9; 32]),
+];
+
+#[test]
 fn each_status_has_its_fields(rt: HostRuntime) -> Result<(), Fail> {
-    let alloc = rt.alloc();
-    let cases: [(u8, &[u8]); 16] = [
-        (1, &EXPIRED),
-        (
-            1,
-            &[0, 0, 0, 63, 0, 0, 0, 0, 0, 0, 0, 2, 2, 7, 2, 0, 0, 0, 10],
-        ),
-        (1, &[0, 0, 0, 1, 255, 255, 255, 255, 255, 255, 255, 255, 3]),
-        (2, &[0, 0, 0, 52]),
-        (3, &[0, 0, 0, 9]),
-        (4, &[]),
-        (5, &[255; 8]),
-        (6, &[0, 3]),
-        (7, &[32]),
-        (8, &[255]),
-        (9, &[0, 0, 0, 6]),
-        (10, &[0, 0, 0, 0, 5, 0, 0, 0, 0, 0, 15, 66, 64]),
-        (10, &[1, 0, 0, 0, 1, 0, 0, 0, 0, 0, 15, 66, 64]),
-        (11, &[]),
-        (12, &[64, 0, 0, 0, 1]),
-        (13, &[9; 32]),
-    ];
-    for (status, fields) in cases {
-        let bytes = payload(alloc, status, fields)?;
-        comes_back(&rt, alloc, Some(&ONES), &bytes)?;
-        has_its_length(&rt, alloc, &bytes)?;
+    for &(status, fields) in STATUSES {
+        let bytes = payload(rt.alloc(), status, fields)?;
+        assert!(rt;
+            is_well(rt.alloc(), Some(&ONES), &bytes)?,
+            "{status} {fields:?}"
+        );
     }
     Ok(())
 }

@@ -2,7 +2,6 @@ use keyed_seal::{Sealer, hmac};
 use object_core::Op;
 use prin_term::Term;
 use std::alloc::{AllocError, Global};
-use std::process::Abort;
 use std::test::Fail;
 use taos_wire::*;
 
@@ -32,100 +31,149 @@ fn payload(
     Ok(bytes)
 }
 
-// What is read is written back behind other bytes, but for its tag, which is now that of the key.
-fn comes_back(rt: &impl Abort, alloc: Global, bytes: &[u8]) -> Result<(), Fail> {
+// What is read, written again behind another byte.
+fn written(alloc: Global, bytes: &[u8]) -> Result<Vec<u8>, Fail> {
     let request = read_request(alloc, bytes)?;
     let mut out = Vec::from_slice(alloc, &[9])?;
     write_request(&mut out, &ONES, &request)?;
-    let written = &out[1..];
-    assert_eq!(rt; out.len(), bytes.len() + 1);
+    Ok(out)
+}
+
+// Whether these are the bytes but for their tag, which is that of the key.
+fn is_sealed_anew(written: &[u8], bytes: &[u8]) -> bool {
+    if bytes.len() < 32 || written.len() != bytes.len() {
+        return false;
+    }
     let end = bytes.len() - 32;
-    assert_eq!(rt; &written[..end], &bytes[..end]);
-    assert_eq!(rt; &written[end..], hmac(&ONES, &bytes[..end]).as_slice());
-    assert!(rt; sealed_by(&ONES, written));
-    assert!(rt; sealed_with(&Sealer::of(&ONES), written));
-    Ok(())
+    &written[..end] == &bytes[..end] && &written[end..] == hmac(&ONES, &bytes[..end]).as_slice()
+}
+
+fn comes_back(alloc: Global, bytes: &[u8]) -> Result<bool, Fail> {
+    let out = written(alloc, bytes)?;
+    let Some(again) = out.get(1..) else {
+        return Ok(false);
+    };
+    let is_sealed = sealed_by(&ONES, again) && sealed_with(&Sealer::of(&ONES), again);
+    Ok(is_sealed && is_sealed_anew(again, bytes))
+}
+
+fn is_the_read(request: &Request) -> bool {
+    request.channel == 1
+        && request.seq == 1
+        && request.quoted.is_none()
+        && request.object == 5
+        && matches!(&*request.op, Op::Read)
+        && request.certs.is_empty()
 }
 
 #[test]
 fn the_anchored_read_is_read_and_written(rt: HostRuntime) -> Result<(), Fail> {
     let request = read_request(rt.alloc(), &ANCHORED)?;
-    assert_eq!(rt; request.channel, 1);
-    assert_eq!(rt; request.seq, 1);
-    assert!(rt; request.quoted.is_none());
-    assert_eq!(rt; request.object, 5);
-    assert!(rt; matches!(&*request.op, Op::Read));
-    assert!(rt; request.certs.is_empty());
+    assert!(rt; is_the_read(&request));
     let mut out = Vec::new(rt.alloc());
     write_request(&mut out, &ONES, &request)?;
-    assert_eq!(rt; out.as_slice(), ANCHORED.as_slice());
+    assert!(rt; out.as_slice() == ANCHORED.as_slice());
     Ok(())
+}
+
+// Whether it quotes name 30, forgets channel 258 and presents three bytes and none.
+fn has_parts(request: &Request) -> bool {
+    let [first, last] = request.certs.as_slice() else {
+        return false;
+    };
+    matches!(&request.quoted, Some(Term::Name(30)))
+        && matches!(&*request.op, Op::Forget(258))
+        && first.as_slice() == [7, 8, 9].as_slice()
+        && last.is_empty()
 }
 
 #[test]
 fn a_request_has_its_parts(rt: HostRuntime) -> Result<(), Fail> {
     let quoted = [1, 2, 0, 0, 0, 30];
-    let certs = [2, 0, 3, 7, 8, 9, 0, 0];
-    let bytes = payload(rt.alloc(), &quoted, 6, &[0, 0, 1, 2], &certs)?;
+    let bytes = payload(rt.alloc(), &quoted, 6, &[0, 0, 1, 2], CERTS)?;
     let request = read_request(rt.alloc(), &bytes)?;
-    assert!(rt; matches!(&request.quoted, Some(Term::Name(30))));
-    assert!(rt; matches!(&*request.op, Op::Forget(258)));
-    assert_eq!(rt; request.certs.len(), 2);
-    let first = request.certs.first().ok_or("a certificate")?;
-    assert_eq!(rt; first.as_slice(), [7, 8, 9].as_slice());
-    let last = request.certs.last().ok_or("a certificate")?;
-    assert!(rt; last.is_empty());
+    assert!(rt; has_parts(&request));
     Ok(())
+}
+
+// Two certificates, of three bytes and of none.
+const CERTS: &[u8] = &[2, 0, 3, 7, 8, 9, 0, 0];
+
+// Key 9 for name 30 is quoted.
+const QUOTED: &[u8] = &[1, 6, 1, 0, 0, 0, 9, 2, 0, 0, 0, 30];
+
+const OPERATIONS: &[(u8, &[u8])] = &[
+    (1, &[]),
+    (2, &[0, 2, b'h', b'i']),
+    (2, &[0, 0]),
+    (3, &[1, 15, 2, 0, 0, 0, 1]),
+    (3, &[0]),
+    (4, &[]),
+    (5, &[7; 32]),
+    (6, &[0, 0, 1, 2]),
+    (7, &[]),
+];
+
+fn comes_back_with(
+    alloc: Global,
+    quoted: &[u8],
+    kind: u8,
+    fields: &[u8],
+    certs: &[u8],
+) -> Result<bool, Fail> {
+    let bytes = payload(alloc, quoted, kind, fields, certs)?;
+    comes_back(alloc, &bytes)
 }
 
 #[test]
 fn each_operation_is_read_and_written_back(rt: HostRuntime) -> Result<(), Fail> {
-    let alloc = rt.alloc();
-    let cases: [(u8, &[u8]); 9] = [
-        (1, &[]),
-        (2, &[0, 2, b'h', b'i']),
-        (2, &[0, 0]),
-        (3, &[1, 15, 2, 0, 0, 0, 1]),
-        (3, &[0]),
-        (4, &[]),
-        (5, &[7; 32]),
-        (6, &[0, 0, 1, 2]),
-        (7, &[]),
-    ];
-    for (kind, fields) in cases {
-        comes_back(&rt, alloc, &payload(alloc, &[0], kind, fields, &[0])?)?;
-        let quoted = [1, 6, 1, 0, 0, 0, 9, 2, 0, 0, 0, 30];
-        let certs = [2, 0, 3, 7, 8, 9, 0, 0];
-        comes_back(&rt, alloc, &payload(alloc, &quoted, kind, fields, &certs)?)?;
+    for &(kind, fields) in OPERATIONS {
+        assert!(rt;
+            comes_back_with(rt.alloc(), &[0], kind, fields, &[0])?,
+            "{kind}"
+        );
+        assert!(rt;
+            comes_back_with(rt.alloc(), QUOTED, kind, fields, CERTS)?,
+            "{kind}"
+        );
     }
     Ok(())
 }
 
+// Whether a bit that is turned breaks the seal.
+fn breaks(sealer: &Sealer, place: usize) -> bool {
+    let mut bytes = ANCHORED;
+    if let Some(byte) = bytes.get_mut(place) {
+        *byte = *byte ^ 1;
+    }
+    !sealed_by(&ONES, &bytes) && !sealed_with(sealer, &bytes)
+}
+
 #[test]
-fn a_seal_is_that_of_the_key_and_the_bytes(rt: HostRuntime) -> Result<(), Fail> {
+fn a_seal_is_that_of_the_key_and_the_bytes(rt: HostRuntime) {
     let sealer = Sealer::of(&ONES);
-    assert!(rt; sealed_by(&ONES, &ANCHORED));
-    assert!(rt; sealed_with(&sealer, &ANCHORED));
+    assert!(rt; sealed_by(&ONES, &ANCHORED) && sealed_with(&sealer, &ANCHORED));
     assert!(rt; !sealed_by(&[2; 32], &ANCHORED));
-    for i in 0..52 {
-        let mut bytes = ANCHORED;
-        bytes[i] = bytes[i] ^ 1;
-        assert!(rt; !sealed_by(&ONES, &bytes), "a bit of byte {i}");
-        assert!(rt; !sealed_with(&sealer, &bytes), "a bit of byte {i}");
+    for place in 0..52 {
+        assert!(rt; breaks(&sealer, place), "a bit of byte {place}");
     }
     assert!(rt; !sealed_by(&ONES, &ANCHORED[..51]));
     assert!(rt; !sealed_by(&ONES, &ANCHORED[21..]));
     assert!(rt; !sealed_by(&ONES, &[]));
     // a tag alone is that of nothing
     assert!(rt; sealed_by(&ONES, &hmac(&ONES, &[])));
-    Ok(())
 }
+
+const PRINTED: &[(WireFault, &str)] = &[
+    (WireFault::Malformed { offset: 20 }, "byte 20: malformed"),
+    (WireFault::NoMemory, "out of memory"),
+];
 
 #[test]
 fn a_fault_names_its_byte(rt: HostRuntime) -> Result<(), Fail> {
-    let text = format!(in rt.alloc(); "{}", WireFault::Malformed { offset: 20 })?;
-    assert_eq!(rt; text.as_str(), "byte 20: malformed");
-    let text = format!(in rt.alloc(); "{}", WireFault::NoMemory)?;
-    assert_eq!(rt; text.as_str(), "out of memory");
+    for &(fault, text) in PRINTED {
+        let printed = format!(in rt.alloc(); "{fault}")?;
+        assert!(rt; printed.as_str() == text, "{text}");
+    }
     Ok(())
 }

@@ -1,9 +1,8 @@
 //! The access lists of a node file.
 
-ghost use Rattle.std.specs.Prelude.{◌≡◌, ◌++◌, ◌∷◌, [], List, IfOk, map};
-ghost use Rattle.std.specs.Arc.{arc_value};
+ghost use Rattle.std.specs.Prelude.{◌≡◌, List};
 ghost use Rattle.object_core.specs.Objects.{ObjectPlan as Plan};
-ghost use Rattle.prin_term.specs.View.{grant, principal};
+ghost use Rattle.prin_term.specs.View.{principal};
 ghost use Rattle.prin_text.specs.Labels.{Labels};
 ghost use Rattle.node_file.specs.Held.{HoldsRows};
 ghost use Rattle.node_file.specs.LineView.{GivesLine, TakesLine};
@@ -12,13 +11,12 @@ ghost use Rattle.node_file.specs.Plans.{HoldsPlans};
 
 use crate::fault::FileCause;
 use crate::line_fault::LineFault;
-use crate::object_plans::ObjectPlans;
+use crate::object_drafts::ObjectDrafts;
 use crate::text::field::granted;
 use object_core::MAX_ENTRIES;
 use prin_term::{ENTRY_NODES, Entry, Term};
 use prin_text::{Names, TextCause, TextFault, read_principal};
-use std::alloc::{AllocError, Global};
-use std::sync::Arc;
+use std::alloc::Global;
 
 // The cause of a line for that of its principal.
 fn cause_of(cause: TextCause) -> FileCause
@@ -48,28 +46,11 @@ fn who_said(alloc: Global, names: &Names, text: &str) -> Result<Term, LineFault>
     }
 }
 
-// The list with one more entry. It has few.
-fn list_and(alloc: Global, list: &[Entry], entry: Entry) -> Result<Arc<Vec<Entry>>, AllocError>
-    ensures { IfOk result (λ l. map grant (arc_value l).items
-        ≡ map grant list.now ++ grant entry ∷ []) }
-{
-    let mut more = Vec::with_capacity(alloc, list.len() + 1)?;
-    for old in list {
-        let who = old.who.copy(alloc)?;
-        more.push(Entry {
-            rights: old.rights,
-            who,
-        })?;
-    }
-    more.push(entry)?;
-    Ok(Arc::new(alloc, more)?)
-}
-
 // Gives an object one more entry.
 fn add_entry(
     alloc: Global,
     names: &Names,
-    objects: &mut ObjectPlans,
+    objects: &mut ObjectDrafts,
     number: u32,
     rights: u8,
     text: &str,
@@ -89,8 +70,7 @@ fn add_entry(
     if object.list.len() >= MAX_ENTRIES as usize {
         return Err(LineFault::Refused(FileCause::Limit));
     }
-    let list = list_and(alloc, &object.list, Entry { rights, who })?;
-    objects.set_list(number, list);
+    objects.add_entry(number, Entry { rights, who })?;
     Ok(())
 }
 
@@ -98,7 +78,7 @@ fn add_entry(
 pub(super) fn take_allow(
     alloc: Global,
     names: &Names,
-    objects: &mut ObjectPlans,
+    objects: &mut ObjectDrafts,
     line: &[u8],
 ) -> Result<(), LineFault>
     ensures takes { (labels : Labels) (above : List Plan) → HoldsRows names.now.names labels.names

@@ -3,18 +3,18 @@
 ghost use Rattle.std.specs.Prelude.{IfOk};
 ghost use Rattle.node_file.specs.LineView.{IsSaidFor};
 ghost use Rattle.node_file.specs.NodeFile as meant;
-ghost use Rattle.node_file.specs.NodeFile.{no_draft, opening_said};
+ghost use Rattle.node_file.specs.NodeFile.{no_draft, opening_said, opening_with};
 ghost use Rattle.node_file.specs.NodeView.{IsDraftOf};
 ghost use Rattle.node_file.specs.OpeningView.{Represents};
 
 use crate::fault::FileCause;
+use crate::key_draft::KeyDraft;
 use crate::limits::MAX_CHANNELS;
 use crate::line_fault::LineFault;
 use crate::node_text::settings::Settings;
-use crate::object_plans::ObjectPlans;
+use crate::object_drafts::ObjectDrafts;
 use crate::opening::Opening;
 use crate::opening::reading::has_room;
-use keyed_seal::KeyTable;
 use prin_term::Anchor;
 use prin_text::Names;
 use std::alloc::{AllocError, Global};
@@ -26,10 +26,10 @@ use stmt_codec::Cert;
 pub(super) struct Draft {
     pub settings: Settings,
     pub names: Names,
-    pub channels: KeyTable,
+    pub channels: KeyDraft,
     pub anchors: Vec<Anchor>,
     pub commons: Vec<Arc<Cert>>,
-    pub objects: ObjectPlans,
+    pub objects: ObjectDrafts,
 }
 
 // No line says anything.
@@ -44,10 +44,30 @@ pub(super) fn empty(alloc: Global) -> Result<Draft, AllocError>
             limit: None,
         },
         names: Names::new(alloc)?,
-        channels: KeyTable::new(alloc, MAX_CHANNELS as usize)?,
+        channels: KeyDraft::new(alloc, MAX_CHANNELS as usize),
         anchors: Vec::new(alloc),
         commons: Vec::new(alloc),
-        objects: ObjectPlans::new(alloc),
+        objects: ObjectDrafts::new(alloc),
+    })
+}
+
+// The opening of a node of this number, with this key of its relay.
+fn opening_with(alloc: Global, node: (u32, [u8; 32]), draft: Draft) -> Result<Opening, AllocError>
+    ensures { (d : meant.Draft) → IsDraftOf draft d
+        → IfOk result (λ x. Represents x (opening_with node d)) }
+{
+    let relay_key = node.1;
+    Ok(Opening {
+        node: node.0,
+        relay_key,
+        shards: draft.settings.shards.unwrap_or(1),
+        keep: draft.settings.keep.unwrap_or(3600),
+        limit: draft.settings.limit.unwrap_or(16384),
+        names: draft.names,
+        channels: draft.channels.table(alloc)?,
+        anchors: Arc::new(alloc, draft.anchors)?,
+        commons: draft.commons,
+        objects: draft.objects.plans(alloc)?,
     })
 }
 
@@ -56,22 +76,10 @@ pub(super) fn opening_said(alloc: Global, draft: Draft) -> Result<Opening, LineF
     ensures { (d : meant.Draft) → IsDraftOf draft d
         → IsSaidFor Represents result (opening_said d) }
 {
-    let Some(said) = draft.settings.node else {
+    let Some(node) = draft.settings.node else {
         return Err(LineFault::Refused(FileCause::NoNode));
     };
-    let relay_key = said.1;
-    let opening = Opening {
-        node: said.0,
-        relay_key,
-        shards: draft.settings.shards.unwrap_or(1),
-        keep: draft.settings.keep.unwrap_or(3600),
-        limit: draft.settings.limit.unwrap_or(16384),
-        names: draft.names,
-        channels: draft.channels,
-        anchors: Arc::new(alloc, draft.anchors)?,
-        commons: draft.commons,
-        objects: draft.objects,
-    };
+    let opening = opening_with(alloc, node, draft)?;
     if has_room(&opening) {
         Ok(opening)
     } else {

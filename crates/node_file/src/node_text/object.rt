@@ -1,36 +1,31 @@
 //! The objects of a node file, and what they contain.
 
-ghost use Rattle.std.specs.Prelude.{◌≡◌, ◌≤◌, IfOk, List, [], map};
-ghost use Rattle.std.specs.Arc.{arc_value};
+ghost use Rattle.std.specs.Prelude.{◌≡◌, ℕ, List};
 ghost use Rattle.object_core.specs.Objects.{ObjectPlan as Plan};
 ghost use Rattle.node_file.specs.LineView.{TakesLine};
 ghost use Rattle.node_file.specs.NodeLines.{contents_and, contents_with, empty_object};
 ghost use Rattle.node_file.specs.NodeLines.{objects_and, objects_with};
-ghost use Rattle.node_file.specs.Plans.{HoldsPlans, plan};
+ghost use Rattle.node_file.specs.Plans.{HoldsPlans, drafted};
 
 use crate::fault::FileCause;
 use crate::limits::MAX_OBJECTS;
 use crate::line_fault::LineFault;
-use crate::object_plan::ObjectPlan;
-use crate::object_plans::ObjectPlans;
+use crate::object_drafts::{ObjectDraft, ObjectDrafts};
 use crate::text::field::{numbered_digits, one_number};
 use object_core::MAX_CONTENT;
-use std::alloc::{AllocError, Global};
-use std::sync::Arc;
+use std::alloc::Global;
 
-// An object of this number, without content and with an empty access list.
-fn empty_object(alloc: Global, number: u32) -> Result<ObjectPlan, AllocError>
-    ensures { IfOk result (λ p. plan p ≡ empty_object number) }
+// An object without content and with an empty access list.
+fn empty_object(alloc: Global) -> ObjectDraft
+    ensures { (number : ℕ) → drafted (number, result) ≡ empty_object number }
 {
-    let list = Arc::new(alloc, Vec::new(alloc))?;
-    Ok(ObjectPlan {
-        number,
+    ObjectDraft {
         content: Vec::new(alloc),
-        list,
-    })
+        list: Vec::new(alloc),
+    }
 }
 
-fn add_object(alloc: Global, objects: &mut ObjectPlans, number: u32) -> Result<(), LineFault>
+fn add_object(alloc: Global, objects: &mut ObjectDrafts, number: u32) -> Result<(), LineFault>
     ensures takes { (above : List Plan) → HoldsPlans objects.old above
         → TakesLine HoldsPlans result objects.new (objects_and above number) }
 {
@@ -40,15 +35,15 @@ fn add_object(alloc: Global, objects: &mut ObjectPlans, number: u32) -> Result<(
     if objects.count() >= MAX_OBJECTS as usize {
         return Err(LineFault::Refused(FileCause::Limit));
     }
-    let object = empty_object(alloc, number)?;
-    objects.add(object)?;
+    let object = empty_object(alloc);
+    objects.add(number, object)?;
     Ok(())
 }
 
 // Adds the object that the line says.
 pub(super) fn take_object(
     alloc: Global,
-    objects: &mut ObjectPlans,
+    objects: &mut ObjectDrafts,
     line: &[u8],
     rest: &[u8],
 ) -> Result<(), LineFault>
@@ -62,7 +57,7 @@ pub(super) fn take_object(
 }
 
 // Gives an object its content.
-fn add_content(objects: &mut ObjectPlans, number: u32, content: Vec<u8>) -> Result<(), LineFault>
+fn add_content(objects: &mut ObjectDrafts, number: u32, content: Vec<u8>) -> Result<(), LineFault>
     ensures takes { (above : List Plan) → HoldsPlans objects.old above
         → TakesLine HoldsPlans result objects.new
         (contents_and above (number, content.items)) }
@@ -83,7 +78,7 @@ fn add_content(objects: &mut ObjectPlans, number: u32, content: Vec<u8>) -> Resu
 // Gives an object the content that the line says.
 pub(super) fn take_content(
     alloc: Global,
-    objects: &mut ObjectPlans,
+    objects: &mut ObjectDrafts,
     line: &[u8],
     rest: &[u8],
 ) -> Result<(), LineFault>

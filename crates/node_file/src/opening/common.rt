@@ -2,18 +2,17 @@
 
 ghost use Rattle.std.specs.Prelude.{◌≡◌, ◌≤◌, [], map, length, IfOk};
 ghost use Rattle.std.specs.List.{list_any};
-ghost use Rattle.prin_term.specs.Readers.{passing, is_new, items_behind};
-ghost use Rattle.prin_term.specs.Steps.{Gives};
+ghost use Rattle.byte_fields.specs.Readers.{passing, is_new, items_behind};
+ghost use Rattle.byte_fields.specs.Steps.{Gives};
 ghost use Rattle.stmt_codec.specs.Certificates.{certificate};
 ghost use Rattle.stmt_codec.specs.Equality.{same_certificate};
-ghost use Rattle.prin_term.specs.declared.fault.FormatFault.TheVariants.{Malformed, NoMemory};
+ghost use Rattle.byte_fields.specs.declared.fault.FormatFault.TheVariants.{Malformed, NoMemory};
 ghost use Rattle.node_file.specs.OpeningReading.{opened_in, common_at, commons_at};
 ghost use Rattle.node_file.specs.OpeningView.{common};
 
 use crate::limits::MAX_COMMONS;
+use byte_fields::{FormatFault, count_up_to, ended, slice_at, u16_at};
 use keyed_seal::Sealer;
-use prin_term::FormatFault;
-use prin_term::fields::{count_up_to, ended, slice_at, u16_at};
 use sealed_cert::{SealFault, open_with};
 use std::alloc::Global;
 use std::sync::Arc;

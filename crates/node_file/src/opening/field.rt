@@ -1,13 +1,12 @@
 //! Fields of an opening that no other format has.
 
 ghost use Rattle.std.specs.Prelude.{◌≡◌, ◌≤◌, length, IfOk};
-ghost use Rattle.prin_term.specs.Steps.{Gives};
-ghost use Rattle.prin_term.specs.declared.fault.FormatFault.TheVariants.{NoMemory};
-ghost use Rattle.prin_term.specs.Formats.{u8_in};
+ghost use Rattle.byte_fields.specs.Steps.{Gives};
+ghost use Rattle.byte_fields.specs.declared.fault.FormatFault.TheVariants.{NoMemory};
+ghost use Rattle.byte_fields.specs.Formats.{u8_in};
 ghost use Rattle.node_file.specs.OpeningReading.{exactly, number_in};
 
-use prin_term::FormatFault;
-use prin_term::fields::{ended, u8_at, u64_at};
+use byte_fields::{FormatFault, ended, u8_at, u64_at};
 
 // A byte that has to be this one.
 pub(super) fn exactly(bytes: &[u8], at: usize, wanted: u8) -> Result<usize, FormatFault>

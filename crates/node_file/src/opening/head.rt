@@ -1,14 +1,13 @@
 //! The fields of an opening before its lists.
 
 ghost use Rattle.std.specs.Prelude.{◌≡◌, ◌≤◌, length, IfOk};
-ghost use Rattle.prin_term.specs.Steps.{Gives};
-ghost use Rattle.prin_term.specs.declared.fault.FormatFault.TheVariants.{NoMemory};
+ghost use Rattle.byte_fields.specs.Steps.{Gives};
+ghost use Rattle.byte_fields.specs.declared.fault.FormatFault.TheVariants.{NoMemory};
 ghost use Rattle.node_file.specs.OpeningReading.{mark_at, shards_at, head_at};
 
 use crate::limits::{MAX_KEEP, MAX_LIMIT, MAX_SHARDS};
 use crate::opening::field::{exactly, number_of};
-use prin_term::FormatFault;
-use prin_term::fields::{array_at, ended, u32_at};
+use byte_fields::{FormatFault, array_at, ended, u32_at};
 
 // The fields before the lists.
 #[derive(Clone, Copy)]

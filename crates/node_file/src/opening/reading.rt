@@ -8,7 +8,7 @@ ghost use Rattle.node_file.specs.Opening.{Opening as Meaning, journal_room};
 ghost use Rattle.node_file.specs.OpeningFile.{Means, is_binary, opening_in};
 ghost use Rattle.node_file.specs.OpeningReading.{at_byte, fields_at, opening_of};
 ghost use Rattle.node_file.specs.OpeningView.{Agrees, IsReadAs, Represents, WithEnd};
-ghost use Rattle.prin_term.specs.Steps.{with_fault};
+ghost use Rattle.byte_fields.specs.Steps.{with_fault};
 
 use crate::fault::{FileCause, FileFault};
 use crate::limits::{MAX_FILE, MAX_ROOM};
@@ -18,8 +18,7 @@ use crate::opening::common::commons_of;
 use crate::opening::head::head_of;
 use crate::opening::object::objects_of;
 use crate::opening::table::{anchors_of, channels_of};
-use prin_term::FormatFault;
-use prin_term::fields::ended;
+use byte_fields::{FormatFault, ended};
 use prin_text::Names;
 use std::alloc::Global;
 

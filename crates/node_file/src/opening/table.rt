@@ -2,24 +2,25 @@
 
 ghost use Rattle.std.specs.Prelude.{◌≡◌, ◌≤◌, [], length, IfOk, None};
 ghost use Rattle.keyed_seal.specs.Keys.{Entries, key_of};
-ghost use Rattle.prin_term.specs.Steps.{Gives};
-ghost use Rattle.prin_term.specs.declared.fault.FormatFault.TheVariants.{NoMemory};
+ghost use Rattle.byte_fields.specs.Steps.{Gives};
+ghost use Rattle.byte_fields.specs.declared.fault.FormatFault.TheVariants.{NoMemory};
 ghost use Rattle.node_file.specs.OpeningReading.{new_channel_at, channel_at, channels_at};
 ghost use Rattle.node_file.specs.OpeningReading.{anchor_at, anchors_at};
 ghost use Rattle.node_file.specs.OpeningView.{Agrees, WithEnd};
 ghost use Rattle.node_file.specs.Held.{HoldsKeys};
-ghost use Rattle.prin_term.specs.Readers.{items_behind};
+ghost use Rattle.byte_fields.specs.Readers.{items_behind};
 
+use crate::key_draft::KeyDraft;
 use crate::limits::{MAX_ANCHORS, MAX_CHANNELS};
+use byte_fields::{FormatFault, array_at, count_up_to, ended, length_up_to, u32_at};
 use keyed_seal::KeyTable;
-use prin_term::fields::{array_at, count_up_to, ended, length_up_to, u32_at};
-use prin_term::{Anchor, FormatFault};
+use prin_term::Anchor;
 use std::alloc::Global;
 use std::sync::Arc;
 
 // The number of a channel that is not there yet.
 #[tactic(auto, unfolding(crate::specs::OpeningReading::new_channel_at))]
-fn number_of(bytes: &[u8], at: usize, table: &KeyTable) -> Result<(u32, usize), FormatFault>
+fn number_of(bytes: &[u8], at: usize, table: &KeyDraft) -> Result<(u32, usize), FormatFault>
     requires { at ≤ length bytes.now }
     ensures value { (before : Entries) → HoldsKeys table.now before
         → result ≡ new_channel_at bytes.now before at }
@@ -27,7 +28,7 @@ fn number_of(bytes: &[u8], at: usize, table: &KeyTable) -> Result<(u32, usize), 
     ensures within { IfOk result (λ x. x.1 ≤ length bytes.now) }
 {
     let (number, next) = u32_at(bytes, at, ended(bytes))?;
-    if table.get(number).is_some() {
+    if table.has(number) {
         return Err(FormatFault::Malformed { offset: at });
     }
     Ok((number, next))
@@ -38,7 +39,7 @@ fn number_of(bytes: &[u8], at: usize, table: &KeyTable) -> Result<(u32, usize), 
 fn channel_of(
     bytes: &[u8],
     at: usize,
-    table: &KeyTable,
+    table: &KeyDraft,
 ) -> Result<(u32, [u8; 32], usize), FormatFault>
     requires { at ≤ length bytes.now }
     ensures value { (before : Entries) → HoldsKeys table.now before
@@ -57,17 +58,17 @@ fn keys_of(
     bytes: &[u8],
     at: usize,
     count: u16,
-) -> Result<(KeyTable, usize), FormatFault>
+) -> Result<(KeyDraft, usize), FormatFault>
     requires { at ≤ length bytes.now }
     ensures value { Agrees (WithEnd HoldsKeys) result
         (items_behind (channel_at bytes.now) count [] at) }
     ensures within { IfOk result (λ x. x.1 ≤ length bytes.now) }
 {
-    let mut table = KeyTable::new(alloc, count as usize)?;
+    let mut table = KeyDraft::new(alloc, count as usize);
     let mut next = at;
     for _ in 0..count {
         let (number, key, after) = channel_of(bytes, next, &table)?;
-        table.add(number, key).unwrap();
+        table.add(number, key)?;
         next = after;
     }
     Ok((table, next))
@@ -84,7 +85,8 @@ pub(super) fn channels_of(
     ensures within { IfOk result (λ x. x.1 ≤ length bytes.now) }
 {
     let (count, next) = length_up_to(bytes, at, MAX_CHANNELS)?;
-    keys_of(alloc, bytes, next, count)
+    let (draft, next) = keys_of(alloc, bytes, next, count)?;
+    Ok((draft.table(alloc)?, next))
 }
 
 // An anchor that is not among those before.

@@ -5,7 +5,7 @@ ghost use Rattle.node_file.specs.Fields.{digits, digits_of, granted, keyed, numb
 ghost use Rattle.node_file.specs.Fields.{numbered_digits};
 ghost use Rattle.node_file.specs.Fields.{one_number, one_word, two_and_rest, two_words};
 ghost use Rattle.node_file.specs.LineView.{GivesLine};
-ghost use Rattle.prin_term.specs.Steps.{with_value};
+ghost use Rattle.byte_fields.specs.Steps.{with_value};
 
 use crate::fault::FileCause;
 use crate::line_fault::LineFault;

@@ -54,7 +54,7 @@ pub const DELEGATED: [Row; 7] = [
 ];
 
 // Each rule with a near miss, and chains of certificates.
-pub const CASES: [Case; 37] = [
+pub const CASES: [Case; 41] = [
     ("same", &[], 1, &[], &[Key(1)], Some(0)),
     ("not the same", &[], 1, &[], &[Key(2)], None),
     ("anchor", &[], 1, &[], &[Name(10)], Some(0)),
@@ -313,5 +313,46 @@ pub const CASES: [Case; 37] = [
         &[Name(30)],
         &[Name(10)],
         Some(1),
+    ),
+    (
+        "a circle that is entered",
+        &[
+            (1, &[], &[Key(2)], &[Key(1)]),
+            (2, &[], &[Key(1)], &[Key(2)]),
+        ],
+        2,
+        &[],
+        &[Name(10)],
+        Some(1),
+    ),
+    (
+        "a circle that leads nowhere",
+        &[
+            (4, &[], &[Key(5)], &[Key(4)]),
+            (5, &[], &[Key(4)], &[Key(5)]),
+        ],
+        5,
+        &[],
+        &[Name(30)],
+        None,
+    ),
+    (
+        "each by the word of the other",
+        &[
+            (4, &[], &[Key(5)], &[Name(50)]),
+            (5, &[], &[Key(4)], &[Name(50)]),
+        ],
+        5,
+        &[],
+        &[Name(50)],
+        None,
+    ),
+    (
+        "on the list itself",
+        &[],
+        1,
+        &[Name(30)],
+        &[Key(1), Name(30), Quote],
+        Some(0),
     ),
 ];

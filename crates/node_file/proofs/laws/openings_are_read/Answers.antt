@@ -1,4 +1,4 @@
-use Rattle.prin_term.proofs.FieldLaws.{bytes_are}
+use Rattle.byte_fields.proofs.FieldLaws.{bytes_are}
 use Rattle.node_file.proofs.Faults.{opening_refused}
 use Rattle.node_file.proofs.OpeningLaws.{opening_again, opening_takes}
 use Rattle.node_file.proofs.laws.openings_are_read.Goals as goal

@@ -1,12 +1,13 @@
 -- What the whole relay file means.
-use Rattle.std.proofs.Common.{◌≡◌, ◌⊎◌, false, cond, Err, Some, None, sym, ap, subst, ◌∙◌, arith, inr, true}
+use Rattle.std.proofs.Common.{◌≡◌, ◌⊎◌, false, cond, Result, Err, Some, None, sym, ap, subst, ◌∙◌, arith, inr, true}
 use Rattle.std.specs.Prelude.{codes}
 use Rattle.node_file.specs.declared.fault.FileFault.{FileFault}
 use Rattle.node_file.specs.declared.fault.FileFault.TheVariants.{NoMemory}
 use Rattle.node_file.specs.FileLines.{is_first_line}
 use Rattle.node_file.specs.Lines.{is_skipped}
-use Rattle.node_file.specs.RelayFile.{no_relay, relay_in, relay_step}
-use Rattle.node_file.specs.RelayView.{StandsSoFar}
+use Rattle.node_file.specs.LineView.{IsReadFor}
+use Rattle.node_file.specs.RelayFile.{RelayFile, no_relay, relay_in, relay_step}
+use Rattle.node_file.specs.RelayView.{StandsFor, StandsSoFar}
 use Rattle.node_file.proofs.FileRead.{all_done, never_begun, stops_with}
 use Rattle.node_file.proofs.RelayRead.{relay_long, relay_short, relay_stops}
 use Rattle.node_file.proofs.relay_reading.read_relay_file.Goals as goal
@@ -32,13 +33,11 @@ returns-then-begun c =
     let bytes = c.args.bytes.now in
     let so = c.loop-at.invariant in
     record {
-      exact = (
-        so.stands.made,
-        relay_short bytes (omega (arith, c.if-bytes-gt-MAX_FILE.false))
-            ∙ all_done (is_first_line (codes "taos-relay")) no_relay relay_step bytes c.loop-at.number c.loop-at.at so.so_far so.same so.stands.made (omega (arith, c.loop-at-test.false))
-            (so.stands.is ∙ ap (λ b. cond b (Some so.stands.made) None) c.if-begun.true),
-        so.stands.stands,
-      );
+      exact = subst (λ (r : Result RelayFile FileFault). IsReadFor StandsFor c.file_of.result r)
+          (sym (relay_short bytes (omega (arith, c.if-bytes-gt-MAX_FILE.false))
+          ∙ all_done (is_first_line (codes "taos-relay")) no_relay relay_step bytes c.loop-at.number c.loop-at.at so.so_far so.same so.stands.made (omega (arith, c.loop-at-test.false))
+          (so.stands.is ∙ ap (λ b. cond b (Some so.stands.made) None) c.if-begun.true)))
+          (c.file_of.ensures so.stands.made so.stands.stands);
     }
 
 pub returns-else-begun : goal.returns-else-begun

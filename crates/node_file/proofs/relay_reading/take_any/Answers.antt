@@ -2,21 +2,21 @@ use Rattle.std.proofs.Common.{sym, ◌∙◌}
 use Rattle.std.specs.Prelude.{codes}
 use Rattle.node_file.specs.FileLines.{is_first_line}
 use Rattle.node_file.specs.RelayFile.{no_relay, relay_step}
-use Rattle.node_file.specs.RelayView.{StandsFor}
+use Rattle.node_file.specs.RelayView.{IsRelayDraft}
 use Rattle.node_file.proofs.Begun.{begun_taken, first_taken, no_first}
 use Rattle.node_file.proofs.relay_reading.take_any.Goals as goal
 
 pub returns-then-begun : goal.returns-then-begun
 returns-then-begun c = record {
-  takes = λ so_far s. begun_taken StandsFor no_relay relay_step (is_first_line (codes "taos-relay")) c.args.begun c.args.file.now c.take_line.new.file so_far c.args.line.now s c.take_line.result c.if-begun.true c.take_line.ensures.takes;
+  takes = λ so_far s. begun_taken IsRelayDraft no_relay relay_step (is_first_line (codes "taos-relay")) c.args.begun c.args.file.now c.take_line.new.file so_far c.args.line.now s c.take_line.result c.if-begun.true c.take_line.ensures.takes;
 }
 
 pub returns-then-is_first_line : goal.returns-then-is_first_line
 returns-then-is_first_line c = record {
-  takes = λ so_far s. first_taken StandsFor no_relay relay_step (is_first_line (codes "taos-relay")) c.args.begun c.args.file.now c.args.file.now so_far c.args.line.now s c.if-begun.false (sym c.is_first_line.ensures ∙ c.if-is_first_line.true);
+  takes = λ so_far s. first_taken IsRelayDraft no_relay relay_step (is_first_line (codes "taos-relay")) c.args.begun c.args.file.now c.args.file.now so_far c.args.line.now s c.if-begun.false (sym c.is_first_line.ensures ∙ c.if-is_first_line.true);
 }
 
 pub returns : goal.returns
 returns c = record {
-  takes = λ so_far s. no_first StandsFor no_relay relay_step (is_first_line (codes "taos-relay")) c.args.begun c.args.file.now c.args.file.now so_far c.args.line.now s c.if-begun.false (sym c.is_first_line.ensures ∙ c.if-is_first_line.false);
+  takes = λ so_far s. no_first IsRelayDraft no_relay relay_step (is_first_line (codes "taos-relay")) c.args.begun c.args.file.now c.args.file.now so_far c.args.line.now s c.if-begun.false (sym c.is_first_line.ensures ∙ c.if-is_first_line.false);
 }

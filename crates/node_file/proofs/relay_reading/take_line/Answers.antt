@@ -8,14 +8,14 @@ use Rattle.node_file.proofs.relay_reading.take_line.Goals as goal
 pub returns-then-is_word : goal.returns-then-is_word
 returns-then-is_word c = record {
   takes = λ above stands.
-      name_taken above c.args.line.now _ _ c.args.file.now _ c.take_name.result c.word_off.ensures stands (sym c.is_word.ensures ∙ c.if-is_word.true) (c.take_name.ensures.takes above.names stands.names) refl c.take_name.ensures.roles;
+      name_taken above c.args.line.now _ _ c.args.file.now _ c.take_name.result c.word_off.ensures stands (sym c.is_word.ensures ∙ c.if-is_word.true) (c.take_name.ensures.takes above.names stands.names) refl refl c.take_name.ensures.roles;
 }
 
 pub returns-then-is_word-2 : goal.returns-then-is_word-2
 returns-then-is_word-2 c = record {
   takes = λ above stands.
       role_taken above c.args.line.now _ _ c.args.file.now _ c.take_role.result c.word_off.ensures stands (sym c.is_word.ensures ∙ c.if-is_word.false) (sym c.is_word-2.ensures ∙ c.if-is_word-2.true)
-      (c.take_role.ensures.takes above.roles stands.roles) refl c.take_role.ensures.names;
+      (c.take_role.ensures.takes above.roles stands.roles) refl refl c.take_role.ensures.names;
 }
 
 pub returns-then-is_word-3 : goal.returns-then-is_word-3

@@ -1,5 +1,5 @@
 use Rattle.std.proofs.Common.{◌++◌, ◌∷◌, [], ℕ, List, Result, sym, ap, subst}
-use Rattle.prin_term.specs.Steps.{◌>>=◌}
+use Rattle.byte_fields.specs.Steps.{◌>>=◌}
 use Rattle.prin_text.specs.declared.limits.TheConstants.{MAX_ROLES}
 use Rattle.node_file.specs.declared.fault.FileCause.{FileCause}
 use Rattle.node_file.specs.FileLines.{text_cause, unless}

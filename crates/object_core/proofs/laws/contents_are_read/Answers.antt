@@ -1,4 +1,4 @@
-use Rattle.prin_term.proofs.FieldLaws.{bytes_are}
+use Rattle.byte_fields.proofs.FieldLaws.{bytes_are}
 use Rattle.object_core.proofs.ListPlaces.{content_stays}
 use Rattle.object_core.proofs.ListReaders.{content_takes, content_again}
 use Rattle.object_core.proofs.laws.contents_are_read.Goals as goal

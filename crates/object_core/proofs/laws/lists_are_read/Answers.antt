@@ -1,4 +1,4 @@
-use Rattle.prin_term.proofs.FieldLaws.{bytes_are}
+use Rattle.byte_fields.proofs.FieldLaws.{bytes_are}
 use Rattle.object_core.proofs.ListPlaces.{list_stays}
 use Rattle.object_core.proofs.ListReaders.{list_takes, list_again}
 use Rattle.object_core.proofs.laws.lists_are_read.Goals as goal

@@ -1,10 +1,10 @@
 use Rattle.std.proofs.Common.{◌≡◌, ◌++◌, ◌∷◌, List, [], map}
 use Rattle.std.proofs.lemmas.Result.{err_from_is_err_and}
 use Rattle.std.proofs.lemmas.List.{map_push}
-use Rattle.prin_term.specs.Readers.{items_behind}
+use Rattle.byte_fields.specs.Readers.{items_behind}
 use Rattle.prin_term.specs.View.{Grant, grant}
-use Rattle.prin_term.proofs.Loops.{goes_on, stops, is_done}
-use Rattle.prin_term.specs.declared.fault.FormatFault.TheVariants.{NoMemory}
+use Rattle.byte_fields.proofs.Loops.{goes_on, stops, is_done}
+use Rattle.byte_fields.specs.declared.fault.FormatFault.TheVariants.{NoMemory}
 use Rattle.object_core.specs.Reading.{entry_at}
 use Rattle.object_core.proofs.reading.entries_of.Goals as goal
 

@@ -1,7 +1,7 @@
 use Rattle.std.proofs.Common.{◌≤◌, [], map, length}
-use Rattle.prin_term.specs.Readers.{items_behind}
+use Rattle.byte_fields.specs.Readers.{items_behind}
 use Rattle.prin_term.specs.View.{grant}
-use Rattle.prin_term.proofs.Loops.{IsSoFar}
+use Rattle.byte_fields.proofs.Loops.{IsSoFar}
 use Rattle.object_core.specs.Reading.{entry_at}
 use Rattle.object_core.proofs.reading.entries_of.Given as goal
 

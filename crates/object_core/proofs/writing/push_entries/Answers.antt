@@ -1,7 +1,7 @@
 use Rattle.std.proofs.Common.{arith}
 use Rattle.std.proofs.lemmas.Result.{err_from_is_err_and}
 use Rattle.prin_term.specs.View.{grant}
-use Rattle.prin_term.proofs.Pieces.{one_more, not_all}
+use Rattle.byte_fields.proofs.Pieces.{one_more, not_all}
 use Rattle.object_core.specs.Spelling.{grant_bytes}
 use Rattle.object_core.proofs.writing.push_entries.Goals as goal
 

@@ -1,7 +1,7 @@
 use Rattle.std.proofs.Common.{◌≤◌, map}
 use Rattle.std.specs.Prelude.{vec_capacity}
 use Rattle.prin_term.specs.View.{grant}
-use Rattle.prin_term.proofs.Pieces.{AreWritten}
+use Rattle.byte_fields.proofs.Pieces.{AreWritten}
 use Rattle.object_core.specs.Spelling.{grant_bytes}
 use Rattle.object_core.proofs.writing.push_entries.Given as goal
 

@@ -1,4 +1,4 @@
-use Rattle.prin_term.proofs.FieldLaws.{bytes_are}
+use Rattle.byte_fields.proofs.FieldLaws.{bytes_are}
 use Rattle.prin_term.proofs.Whole.{read_is, refused_is}
 use Rattle.prin_term.proofs.laws.terms_are_read.Goals as goal
 

@@ -1,4 +1,4 @@
-use Rattle.prin_term.proofs.FieldLaws.{bytes_are}
+use Rattle.byte_fields.proofs.FieldLaws.{bytes_are}
 use Rattle.relay_core.proofs.Cases.{some_case, that_case}
 use Rattle.relay_core.proofs.laws.one_case_holds.Goals as goal
 

@@ -1,4 +1,4 @@
-use Rattle.prin_term.proofs.FieldLaws.{bytes_are}
+use Rattle.byte_fields.proofs.FieldLaws.{bytes_are}
 use Rattle.sealed_cert.proofs.Opened.{opened_takes, opened_again, issued_takes, issued_again}
 use Rattle.sealed_cert.proofs.Refused.{relayed_why, relayed_is_refused, issued_why, issued_is_refused}
 use Rattle.sealed_cert.proofs.laws.sealed_bytes_are_opened.Goals as goal

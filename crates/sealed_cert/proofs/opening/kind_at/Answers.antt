@@ -1,5 +1,5 @@
 use Rattle.std.proofs.Common.{sym}
-use Rattle.prin_term.proofs.FieldLaws.{byte_takes}
+use Rattle.byte_fields.proofs.FieldLaws.{byte_takes}
 use Rattle.sealed_cert.specs.declared.fault.SealFault.TheVariants.{Malformed}
 use Rattle.sealed_cert.proofs.opening.kind_at.Goals as goal
 

@@ -1,6 +1,6 @@
 use Rattle.std.proofs.Common.{arith}
 use Rattle.stmt_codec.specs.Certificates.{Certificate, certificate}
-use Rattle.prin_term.proofs.Results.{gives_found, gives_only}
+use Rattle.byte_fields.proofs.Results.{gives_found, gives_only}
 use Rattle.sealed_cert.specs.declared.fault.SealFault.TheVariants.{NoMemory}
 use Rattle.sealed_cert.specs.Seals.{OpensIssued}
 use Rattle.sealed_cert.specs.Refusals.{opened_issued}

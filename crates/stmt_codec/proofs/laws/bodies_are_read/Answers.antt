@@ -1,4 +1,4 @@
-use Rattle.prin_term.proofs.FieldLaws.{bytes_are}
+use Rattle.byte_fields.proofs.FieldLaws.{bytes_are}
 use Rattle.stmt_codec.proofs.Bodies.{read_is}
 use Rattle.stmt_codec.proofs.Offsets.{body_stays}
 use Rattle.stmt_codec.proofs.laws.bodies_are_read.Goals as goal

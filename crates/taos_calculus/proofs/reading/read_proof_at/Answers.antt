@@ -1,7 +1,7 @@
 use Rattle.std.proofs.Common.{sym, ap, ◌∙◌, inl, inr}
 use Rattle.std.proofs.lemmas.Result.{err_from_is_err_and}
-use Rattle.prin_term.specs.Steps.{bytes_at}
-use Rattle.prin_term.specs.declared.fault.FormatFault.{FormatFault as ProofFault}
+use Rattle.byte_fields.specs.Steps.{bytes_at}
+use Rattle.byte_fields.specs.declared.fault.FormatFault.{FormatFault as ProofFault}
 use Rattle.taos_calculus.proofs.ProofLaws.{front_within, filled_read, filled_refused}
 use Rattle.taos_calculus.proofs.reading.read_proof_at.Goals as goal
 

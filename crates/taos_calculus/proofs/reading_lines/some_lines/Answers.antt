@@ -1,8 +1,8 @@
 use Rattle.std.proofs.Common.{List, [], inr, sym}
 use Rattle.std.proofs.lemmas.Result.{err_from_is_err_and}
-use Rattle.prin_term.specs.Readers.{items_behind}
-use Rattle.prin_term.proofs.Loops.{goes_on, stops, is_done}
-use Rattle.prin_term.specs.declared.fault.FormatFault.TheVariants.{NoMemory}
+use Rattle.byte_fields.specs.Readers.{items_behind}
+use Rattle.byte_fields.proofs.Loops.{goes_on, stops, is_done}
+use Rattle.byte_fields.specs.declared.fault.FormatFault.TheVariants.{NoMemory}
 use Rattle.taos_calculus.specs.declared.line.Line.{Line}
 use Rattle.taos_calculus.specs.ProofReading.{line_at}
 use Rattle.taos_calculus.proofs.reading_lines.some_lines.Goals as goal

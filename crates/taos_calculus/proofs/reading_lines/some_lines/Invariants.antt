@@ -1,6 +1,6 @@
 use Rattle.std.proofs.Common.{◌≤◌, [], length}
-use Rattle.prin_term.specs.Readers.{items_behind}
-use Rattle.prin_term.proofs.Loops.{IsSoFar}
+use Rattle.byte_fields.specs.Readers.{items_behind}
+use Rattle.byte_fields.proofs.Loops.{IsSoFar}
 use Rattle.taos_calculus.specs.ProofReading.{line_at}
 use Rattle.taos_calculus.proofs.reading_lines.some_lines.Given as goal
 

@@ -1,8 +1,8 @@
 use Rattle.std.proofs.Common.{◌≡◌, ℕ, List, [], length, Ok, Err, inr, sym, ap, ◌∙◌, arith}
 use Rattle.std.proofs.lemmas.Result.{err_from_is_err_and}
-use Rattle.prin_term.specs.Readers.{items_behind}
-use Rattle.prin_term.proofs.Loops.{goes_on, stops, is_done}
-use Rattle.prin_term.specs.declared.fault.FormatFault.TheVariants.{NoMemory}
+use Rattle.byte_fields.specs.Readers.{items_behind}
+use Rattle.byte_fields.proofs.Loops.{goes_on, stops, is_done}
+use Rattle.byte_fields.specs.declared.fault.FormatFault.TheVariants.{NoMemory}
 use Rattle.taos_calculus.specs.declared.line.Node.{Node}
 use Rattle.taos_calculus.specs.ProofReading.{node_at}
 use Rattle.taos_calculus.proofs.reading_nodes.some_nodes.Goals as goal

@@ -1,5 +1,5 @@
 use Rattle.std.proofs.Common.{◌<◌, ◌^◌, ℕ, List, length, subst}
-use Rattle.prin_term.specs.Appends.{Appends}
+use Rattle.byte_fields.specs.Appends.{Appends}
 use Rattle.taos_calculus.proofs.Spelled.{spelling_is}
 use Rattle.taos_calculus.proofs.Short.{parts_short}
 use Rattle.taos_calculus.proofs.writing.write_proof.Goals as goal

@@ -26,7 +26,7 @@ returns-in_err-certs-clause-refused g c =
     rw (p.1, p.2) (record {
       calls = stops.calls;
       linked = stops.linked;
-      course = λ plans J payload key asked. not_opened (node_of c.args.keys.now plans (g.H.Shelf.objects c.args.shelf.now)) J r stops.calls f stops.stops payload key asked;
+      course = λ plans past J payload key asked. not_opened (node_of c.args.keys.now plans (g.H.Shelf.objects c.args.shelf.now)) past J r stops.calls f stops.stops payload key asked;
     })
 
 pub returns-then-not-has-clause-refused : goal.returns-then-not-has-clause-refused
@@ -40,7 +40,7 @@ returns-then-not-has-clause-refused g c =
     record {
       calls = came.calls;
       linked = quiet_linked says c.args.keys.now.node (g.R.RelayLink.faults c.args.relay.now) (g.R.RelayLink.faults c.open_all.new.relay) came.calls came.quiet;
-      course = λ plans J payload key asked.
+      course = λ plans past J payload key asked.
           unknown_object (record { asked = asked; opened = came.opened }) (none_of (fixed_at (g.H.Shelf.objects c.args.shelf.now) r.object) (λ is. false≢true (c.if-not-has.ensures.there.1 is)));
     }
 
@@ -56,7 +56,7 @@ returns-in_err-speaker_of-clause-refused g c =
     rw (p.1, p.2) (record {
       calls = came.calls;
       linked = quiet_linked says c.args.keys.now.node (g.R.RelayLink.faults c.args.relay.now) (g.R.RelayLink.faults c.open_all.new.relay) came.calls came.quiet;
-      course = λ plans J payload key asked. unopened asked (at_end came.opened);
+      course = λ plans past J payload key asked. unopened asked (at_end came.opened);
     })
 
 pub returns-clause-arrived : goal.returns-clause-arrived

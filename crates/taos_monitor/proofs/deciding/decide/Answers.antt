@@ -1,5 +1,5 @@
 -- what came of the ask is what the reply tells
-use Rattle.std.proofs.Common.{◌≡◌, length, map, sym, ap, ◌∙◌, inl, inr, arith}
+use Rattle.std.proofs.Common.{◌≡◌, length, map, refl, sym, ap, ◌∙◌, inl, inr, arith}
 use Rattle.std.proofs.lemmas.Bool.{cases_lt, false≢true}
 use Rattle.std.proofs.lemmas.List.{length-map}
 use Rattle.object_core.specs.ObjectView.{object_entry}
@@ -47,7 +47,7 @@ returns-in-Ok-clause-decided g c =
       reply = left.reply;
       holds = decided_ended c.args.came c.args.object.now plans (g.S.Shards.alone c.args.shards.now) (viewed (g.S.Shards.seen c.args.shards.now) (g.S.Shards.own c.args.shards.now))
           (viewed (g.S.Shards.seen c.ask_at_home.new.shards) (g.S.Shards.own c.ask_at_home.new.shards)) (map grant (arc_value c.list.result.now).items) c.requires.stands c.list.ensures.value (home plans c.args.came.asked.now.channel) c.requires.shard
-          c.in-Ok.ended c.in-Ok.ensures.ended c.leave_ended.result left.reply left.holds;
+          (c.if-not-has_room.ensures.0 refl) c.in-Ok.ended c.in-Ok.ensures.ended c.leave_ended.result left.reply left.holds;
       spelled = left.spelled;
       short = left.short;
     }
@@ -59,7 +59,7 @@ returns-in-Err-clause-decided g c =
       reply = replies.NoMemory;
       holds = decided_lacked c.args.came c.args.object.now plans (g.S.Shards.alone c.args.shards.now) (viewed (g.S.Shards.seen c.args.shards.now) (g.S.Shards.own c.args.shards.now))
           (viewed (g.S.Shards.seen c.ask_at_home.new.shards) (g.S.Shards.own c.ask_at_home.new.shards)) (map grant (arc_value c.list.result.now).items) c.requires.stands c.list.ensures.value (home plans c.args.came.asked.now.channel) c.requires.shard
-          c.in-Err.ensures.lacked;
+          (c.if-not-has_room.ensures.0 refl) c.in-Err.ensures.lacked;
       spelled = c.leave_refused.ensures.reply;
       short = c.leave_refused.ensures.short;
     }

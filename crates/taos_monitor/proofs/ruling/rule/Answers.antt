@@ -92,9 +92,11 @@ returns-in-Some-refused-clause-guarded g c = λ fixed at.
           (subst (λ (k : ℕ). own1 k ≡ g.H.Shelf.own c.take.new.self k ++ length o.journal ∷ []) here c.give_ruled.ensures.own ∙ ap (λ (l : List ℕ). l ++ length o.journal ∷ []) (c.take.ensures.stays number).1)
           (subst (λ q. IfSome q (λ _. length o.journal < o.limit)) c.in-Some.is c.decide.ensures.room)
           shards2 c.decide.result left.reply (Some (reply c.in-Some-refused.refused)) left.holds c.in-Some.is
-          (stepped_over plans (g.S.Shards.plans c.decide.new.shards) alone (g.S.Shards.alone c.decide.new.shards) c.decide.ensures.plans c.decide.ensures.alone shards1 shards2 r.ruling op (operation c.deref.result.now) (ap operation c.deref.ensures) (certificates c.args.came.arrived.certs.items) c.args.came.reading
+          (stepped_over plans (g.S.Shards.plans c.decide.new.shards) alone (g.S.Shards.alone c.decide.new.shards) c.decide.ensures.plans c.decide.ensures.alone shards1 shards2 r.ruling op (operation c.deref.result.now) (ap operation c.deref.ensures)
+          (certificates c.args.came.arrived.certs.items) c.args.came.reading
           (option_map reply c.perform_ruled-refused.result) (Some (reply c.in-Some-refused.refused)) (ap (option_map reply) c.in-Some-refused.is)
-          (c.perform_ruled-refused.ensures.performed (certificates c.args.came.arrived.certs.items) c.args.came.reading (subst (λ (o : Op). IsDueOf (g.S.Shards.plans c.decide.new.shards) o (certificates c.args.came.arrived.certs.items) c.args.came.reading c.in-Ok.ready.due) (sym (ap operation c.deref.ensures))
+          (c.perform_ruled-refused.ensures.performed (certificates c.args.came.arrived.certs.items) c.args.came.reading
+          (subst (λ (o : Op). IsDueOf (g.S.Shards.plans c.decide.new.shards) o (certificates c.args.came.arrived.certs.items) c.args.came.reading c.in-Ok.ready.due) (sym (ap operation c.deref.ensures))
           (c.in-Ok.ensures.due (g.S.Shards.plans c.decide.new.shards) (ap (λ (l : List Plan). length l) c.decide.ensures.plans ∙ sym c.count.ensures.count))))));
       spelled = c.leave_sealed.ensures.reply;
       short = c.leave_sealed.ensures.short;
@@ -131,9 +133,11 @@ returns-in_default-refused-clause-guarded g c = λ fixed at.
           (subst (λ (k : ℕ). own1 k ≡ g.H.Shelf.own c.take.new.self k ++ length o.journal ∷ []) here c.give_ruled.ensures.own ∙ ap (λ (l : List ℕ). l ++ length o.journal ∷ []) (c.take.ensures.stays number).1)
           (subst (λ q. IfSome q (λ _. length o.journal < o.limit)) c.in-Some.is c.decide.ensures.room)
           shards2 c.decide.result left.reply None left.holds c.in-Some.is
-          (stepped_over plans (g.S.Shards.plans c.decide.new.shards) alone (g.S.Shards.alone c.decide.new.shards) c.decide.ensures.plans c.decide.ensures.alone shards1 shards2 r.ruling op (operation c.deref.result.now) (ap operation c.deref.ensures) (certificates c.args.came.arrived.certs.items) c.args.came.reading
+          (stepped_over plans (g.S.Shards.plans c.decide.new.shards) alone (g.S.Shards.alone c.decide.new.shards) c.decide.ensures.plans c.decide.ensures.alone shards1 shards2 r.ruling op (operation c.deref.result.now) (ap operation c.deref.ensures)
+          (certificates c.args.came.arrived.certs.items) c.args.came.reading
           (option_map reply c.perform_ruled-refused.result) None (ap (option_map reply) c.in_default-refused.is)
-          (c.perform_ruled-refused.ensures.performed (certificates c.args.came.arrived.certs.items) c.args.came.reading (subst (λ (o : Op). IsDueOf (g.S.Shards.plans c.decide.new.shards) o (certificates c.args.came.arrived.certs.items) c.args.came.reading c.in-Ok.ready.due) (sym (ap operation c.deref.ensures))
+          (c.perform_ruled-refused.ensures.performed (certificates c.args.came.arrived.certs.items) c.args.came.reading
+          (subst (λ (o : Op). IsDueOf (g.S.Shards.plans c.decide.new.shards) o (certificates c.args.came.arrived.certs.items) c.args.came.reading c.in-Ok.ready.due) (sym (ap operation c.deref.ensures))
           (c.in-Ok.ensures.due (g.S.Shards.plans c.decide.new.shards) (ap (λ (l : List Plan). length l) c.decide.ensures.plans ∙ sym c.count.ensures.count))))));
       spelled = left.spelled;
       short = left.short;

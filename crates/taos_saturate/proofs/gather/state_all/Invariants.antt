@@ -1,6 +1,6 @@
 use Rattle.std.proofs.Common.{◌≡◌, ◌≤◌, take, map}
 use Rattle.std.specs.Prelude.{vec_capacity}
-use Rattle.taos_saturate.specs.Gathering.{statement_of}
+use Rattle.term_pool.specs.Finding.{statement_of}
 use Rattle.taos_saturate.proofs.gather.state_all.Given as goal
 
 abbrev pub invariant-loop-i : goal.invariant-loop-i

@@ -7,7 +7,8 @@ use Rattle.taos_calculus.specs.Question.{claim_of}
 use Rattle.std.specs.Prelude.{is_ok}
 use Rattle.std.proofs.lemmas.Option.{slice_get-get_or}
 use Rattle.term_pool.specs.declared.cited.Cited.{Cited}
-use Rattle.taos_saturate.proofs.Gathered.{gathers_skip, gathers_step, mapped_at}
+use Rattle.term_pool.proofs.Picking.{mapped_at}
+use Rattle.taos_saturate.proofs.Gathered.{gathers_skip, gathers_step}
 use Rattle.taos_saturate.proofs.gather.take_at.Goals as goal
 
 longer : (ok : Bool) (xs ys zs : List Cited) → ys ≡ cond ok xs zs → ok ≡ true → ys ≡ xs

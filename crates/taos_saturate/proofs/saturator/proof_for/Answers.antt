@@ -1,7 +1,8 @@
 use Rattle.std.proofs.Common.{refl}
 use Rattle.prin_term.specs.View.{principal}
 use Rattle.taos_saturate.specs.Held.{seen}
-use Rattle.taos_saturate.proofs.Seen.{has_number, seen_decides, some_if}
+use Rattle.term_pool.proofs.Picking.{some_if}
+use Rattle.taos_saturate.proofs.Seen.{has_number, seen_decides}
 use Rattle.taos_saturate.proofs.saturator.proof_for.Goals as goal
 
 pub unwrap-i-requires : goal.unwrap-i-requires

@@ -1,4 +1,4 @@
-use Rattle.prin_term.proofs.FieldLaws.{bytes_are}
+use Rattle.byte_fields.proofs.FieldLaws.{bytes_are}
 use Rattle.taos_wire.proofs.ReplyLaws.{answer, reply_again, reply_takes}
 use Rattle.taos_wire.proofs.ReplyPlaces.{reply_refused}
 use Rattle.taos_wire.proofs.laws.replies_are_read.Goals as goal

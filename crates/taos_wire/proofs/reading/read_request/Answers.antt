@@ -1,6 +1,6 @@
 use Rattle.std.proofs.Common.{arith}
 use Rattle.taos_wire.proofs.RequestLaws.{is_found, is_only}
-use Rattle.prin_term.proofs.FormatPlaces.{fault_within}
+use Rattle.byte_fields.proofs.FormatPlaces.{fault_within}
 use Rattle.taos_wire.specs.RequestReading.{request_of}
 use Rattle.taos_wire.specs.View.{request}
 use Rattle.taos_wire.proofs.Places.{request_refused}

@@ -1,10 +1,10 @@
 use Rattle.std.proofs.Common.{◌≡◌, ◌++◌, ◌∷◌, List, [], map, ℕ}
 use Rattle.std.proofs.lemmas.Result.{err_from_is_err_and}
 use Rattle.std.proofs.lemmas.List.{map_push}
-use Rattle.prin_term.specs.Readers.{items_behind}
+use Rattle.byte_fields.specs.Readers.{items_behind}
 use Rattle.taos_wire.specs.View.{text_of}
-use Rattle.prin_term.proofs.Loops.{goes_on, stops, is_done}
-use Rattle.prin_term.specs.declared.fault.FormatFault.TheVariants.{NoMemory}
+use Rattle.byte_fields.proofs.Loops.{goes_on, stops, is_done}
+use Rattle.byte_fields.specs.declared.fault.FormatFault.TheVariants.{NoMemory}
 use Rattle.taos_wire.specs.RequestReading.{cert_at}
 use Rattle.taos_wire.proofs.reading.texts_of.Goals as goal
 

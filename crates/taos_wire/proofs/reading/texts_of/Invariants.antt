@@ -1,7 +1,7 @@
 use Rattle.std.proofs.Common.{◌≤◌, [], map, length}
-use Rattle.prin_term.specs.Readers.{items_behind}
+use Rattle.byte_fields.specs.Readers.{items_behind}
 use Rattle.taos_wire.specs.View.{text_of}
-use Rattle.prin_term.proofs.Loops.{IsSoFar}
+use Rattle.byte_fields.proofs.Loops.{IsSoFar}
 use Rattle.taos_wire.specs.RequestReading.{cert_at}
 use Rattle.taos_wire.proofs.reading.texts_of.Given as goal
 

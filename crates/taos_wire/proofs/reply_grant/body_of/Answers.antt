@@ -1,9 +1,9 @@
 -- The body is read in the bytes up to its end.
 use Rattle.std.proofs.Common.{sym, ap, ◌∙◌, inl, inr, arith}
 use Rattle.std.proofs.lemmas.Result.{err_from_is_err_and}
-use Rattle.prin_term.specs.Steps.{bytes_at}
+use Rattle.byte_fields.specs.Steps.{bytes_at}
 use Rattle.stmt_codec.specs.Certificates.{certificate}
-use Rattle.prin_term.specs.declared.fault.FormatFault.{FormatFault as WireFault}
+use Rattle.byte_fields.specs.declared.fault.FormatFault.{FormatFault as WireFault}
 use Rattle.taos_wire.proofs.Fillings.{front_within, body_refused, body_left, body_read}
 use Rattle.taos_wire.proofs.reply_grant.body_of.Goals as goal
 

@@ -2,10 +2,10 @@ use Rattle.std.proofs.Common.{◌≡◌, ◌++◌, ◌∷◌, List, [], map}
 use Rattle.stmt_codec.specs.Certificates.{Certificate}
 use Rattle.std.proofs.lemmas.Result.{err_from_is_err_and}
 use Rattle.std.proofs.lemmas.List.{map_push}
-use Rattle.prin_term.specs.Readers.{items_behind}
+use Rattle.byte_fields.specs.Readers.{items_behind}
 use Rattle.taos_wire.specs.View.{cited}
-use Rattle.prin_term.proofs.Loops.{goes_on, stops, is_done}
-use Rattle.prin_term.specs.declared.fault.FormatFault.TheVariants.{NoMemory}
+use Rattle.byte_fields.proofs.Loops.{goes_on, stops, is_done}
+use Rattle.byte_fields.specs.declared.fault.FormatFault.TheVariants.{NoMemory}
 use Rattle.taos_wire.specs.ReplyReading.{cert_at}
 use Rattle.taos_wire.proofs.reply_grant.certs_of.Goals as goal
 

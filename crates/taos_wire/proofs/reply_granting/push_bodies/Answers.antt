@@ -1,7 +1,7 @@
 use Rattle.std.proofs.Common.{◌++◌, ◌∙◌, ap, arith, subst, Err}
 use Rattle.std.proofs.lemmas.Result.{err_from_is_err_and}
-use Rattle.prin_term.specs.Appends.{Pushes}
-use Rattle.prin_term.proofs.Pieces.{one_more, not_all}
+use Rattle.byte_fields.specs.Appends.{Pushes}
+use Rattle.byte_fields.proofs.Pieces.{one_more, not_all}
 use Rattle.stmt_codec.specs.declared.cert.Cert.{Cert}
 use Rattle.stmt_codec.specs.Certificates.{certificate}
 use Rattle.taos_wire.specs.Reply.{cert_bytes}

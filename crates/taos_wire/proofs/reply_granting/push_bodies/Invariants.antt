@@ -2,7 +2,7 @@ use Rattle.std.proofs.Common.{◌≤◌, map}
 use Rattle.std.specs.Prelude.{vec_capacity}
 use Rattle.taos_wire.specs.Reply.{cert_bytes}
 use Rattle.taos_wire.specs.View.{cited}
-use Rattle.prin_term.proofs.Pieces.{AreWritten}
+use Rattle.byte_fields.proofs.Pieces.{AreWritten}
 use Rattle.taos_wire.proofs.reply_granting.push_bodies.Given as goal
 
 abbrev pub invariant-loop-cert : goal.invariant-loop-cert

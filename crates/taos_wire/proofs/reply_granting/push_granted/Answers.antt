@@ -2,8 +2,8 @@
 use Rattle.std.proofs.Common.{◌∷◌, ◌++◌, map}
 use Rattle.std.specs.Int.{w16, w32, w64, to_be_bytes}
 use Rattle.std.proofs.lemmas.Result.{on_ok_weaker}
-use Rattle.prin_term.specs.Steps.{counted}
-use Rattle.prin_term.proofs.Pieces.{pushes_then}
+use Rattle.byte_fields.specs.Steps.{counted}
+use Rattle.byte_fields.proofs.Pieces.{pushes_then}
 use Rattle.taos_calculus.specs.Tables.{lines_of}
 use Rattle.taos_wire.specs.Reply.{cited_bytes, flag, proof_bytes}
 use Rattle.taos_wire.specs.View.{cited}

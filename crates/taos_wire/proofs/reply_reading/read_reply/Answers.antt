@@ -1,5 +1,5 @@
 use Rattle.std.proofs.Common.{arith}
-use Rattle.prin_term.proofs.FormatPlaces.{fault_within}
+use Rattle.byte_fields.proofs.FormatPlaces.{fault_within}
 use Rattle.taos_wire.specs.ReplyReading.{reply_of}
 use Rattle.taos_wire.proofs.ReplyLaws.{seen, is_found, is_only}
 use Rattle.taos_wire.proofs.ReplyPlaces.{reply_refused}

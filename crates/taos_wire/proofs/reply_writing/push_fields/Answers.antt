@@ -1,6 +1,6 @@
 use Rattle.std.proofs.Common.{ap, map, subst}
 use Rattle.std.proofs.lemmas.Result.{on_ok_weaker}
-use Rattle.prin_term.specs.Appends.{Pushes}
+use Rattle.byte_fields.specs.Appends.{Pushes}
 use Rattle.taos_calculus.specs.Tables.{lines_of}
 use Rattle.taos_wire.specs.Reply.{Reply, fields_of}
 use Rattle.taos_wire.specs.View.{cited, reply, link}

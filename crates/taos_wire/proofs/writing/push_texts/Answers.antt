@@ -1,9 +1,9 @@
 use Rattle.std.proofs.Common.{ℕ, List, ◌++◌, ◌∙◌, ap, length, arith, subst, Err}
 use Rattle.std.proofs.lemmas.Result.{err_from_is_err_and}
 use Rattle.std.specs.Int.{w16}
-use Rattle.prin_term.specs.Appends.{Pushes}
-use Rattle.prin_term.specs.Steps.{counted}
-use Rattle.prin_term.proofs.Pieces.{one_more, not_all, this_one}
+use Rattle.byte_fields.specs.Appends.{Pushes}
+use Rattle.byte_fields.specs.Steps.{counted}
+use Rattle.byte_fields.proofs.Pieces.{one_more, not_all, this_one}
 use Rattle.taos_wire.specs.Request.{IsCertText}
 use Rattle.taos_wire.specs.View.{text_of}
 use Rattle.taos_wire.proofs.writing.push_texts.Goals as goal

@@ -1,9 +1,9 @@
 use Rattle.std.proofs.Common.{◌≤◌, map}
 use Rattle.std.specs.Prelude.{vec_capacity}
 use Rattle.std.specs.Int.{w16}
-use Rattle.prin_term.specs.Steps.{counted}
+use Rattle.byte_fields.specs.Steps.{counted}
 use Rattle.taos_wire.specs.View.{text_of}
-use Rattle.prin_term.proofs.Pieces.{AreWritten}
+use Rattle.byte_fields.proofs.Pieces.{AreWritten}
 use Rattle.taos_wire.proofs.writing.push_texts.Given as goal
 
 abbrev pub invariant-loop-cert : goal.invariant-loop-cert

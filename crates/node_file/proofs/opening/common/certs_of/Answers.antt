@@ -4,11 +4,11 @@ use Rattle.std.specs.declared.sync.Arc.{Arc}
 use Rattle.std.proofs.lemmas.Result.{err_from_is_err_and}
 use Rattle.std.proofs.lemmas.List.{map_push}
 use Rattle.stmt_codec.specs.declared.cert.Cert.{Cert}
-use Rattle.prin_term.specs.declared.fault.FormatFault.TheVariants.{NoMemory}
+use Rattle.byte_fields.specs.declared.fault.FormatFault.TheVariants.{NoMemory}
 use Rattle.node_file.specs.OpeningReading.{common_at}
 use Rattle.node_file.specs.OpeningView.{common}
-use Rattle.prin_term.specs.Readers.{items_behind}
-use Rattle.prin_term.proofs.Loops.{goes_on, stops, is_done}
+use Rattle.byte_fields.specs.Readers.{items_behind}
+use Rattle.byte_fields.proofs.Loops.{goes_on, stops, is_done}
 use Rattle.node_file.proofs.opening.common.certs_of.Goals as goal
 
 pub returns-in_err-cert-clause-value : goal.returns-in_err-cert-clause-value

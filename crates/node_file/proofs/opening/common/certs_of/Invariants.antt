@@ -1,8 +1,8 @@
 use Rattle.std.proofs.Common.{◌≤◌, [], map, length}
 use Rattle.node_file.specs.OpeningReading.{common_at}
 use Rattle.node_file.specs.OpeningView.{common}
-use Rattle.prin_term.specs.Readers.{items_behind}
-use Rattle.prin_term.proofs.Loops.{IsSoFar}
+use Rattle.byte_fields.specs.Readers.{items_behind}
+use Rattle.byte_fields.proofs.Loops.{IsSoFar}
 use Rattle.node_file.proofs.opening.common.certs_of.Given as goal
 
 abbrev pub invariant-loop : goal.invariant-loop

@@ -1,12 +1,12 @@
 use Rattle.std.proofs.Common.{◌++◌, ◌∷◌, [], refl, ap, length}
 use Rattle.std.proofs.lemmas.Result.{err_from_is_err_and}
-use Rattle.prin_term.specs.declared.fault.FormatFault.TheVariants.{NoMemory}
+use Rattle.byte_fields.specs.declared.fault.FormatFault.TheVariants.{NoMemory}
 use Rattle.object_core.specs.Objects.{object_of}
 use Rattle.node_file.specs.OpeningReading.{object_at}
-use Rattle.node_file.specs.Plans.{plan}
-use Rattle.prin_term.specs.Readers.{items_behind}
+use Rattle.node_file.specs.Plans.{drafted}
+use Rattle.byte_fields.specs.Readers.{items_behind}
 use Rattle.node_file.proofs.Lookups.{adds_plan}
-use Rattle.prin_term.proofs.Loops.{begins, goes_on, stops, is_done}
+use Rattle.byte_fields.proofs.Loops.{begins, goes_on, stops, is_done}
 use Rattle.node_file.proofs.opening.object.plans_of.Goals as goal
 
 pub loop-init : goal.loop-init
@@ -17,23 +17,23 @@ loop-init c = record {
   within = c.requires;
 }
 
-pub returns-in_err-object-clause-value : goal.returns-in_err-object-clause-value
-returns-in_err-object-clause-value c =
+pub returns-in_err-number-clause-value : goal.returns-in_err-number-clause-value
+returns-in_err-number-clause-value c =
     let p = err_from_is_err_and c.from_residual.result c.from_residual.ensures.1 in
     let item = object_at c.args.bytes.now in
     let so = c.loop.invariant in
-    rw (p.1, p.2) (stops item c.args.count c.loop.counter so.before c.loop.next (items_behind item c.args.count [] c.args.at) NoMemory c.in_err-object.field-0.0 c.loop-test.true (c.in_err-object.ensures.value so.before so.held) so.so_far)
+    rw (p.1, p.2) (stops item c.args.count c.loop.counter so.before c.loop.next (items_behind item c.args.count [] c.args.at) NoMemory c.in_err-number.field-0.0 c.loop-test.true (c.in_err-number.ensures.value so.before so.held) so.so_far)
 
 pub loop-preserved : goal.loop-preserved
 loop-preserved c =
     let item = object_at c.args.bytes.now in
     let so = c.loop.invariant in
-    let p = plan c.in_ok-object.object in
+    let p = drafted (c.in_ok-number.number, c.in_ok-number.object) in
     record {
       before = so.before ++ p ∷ [];
-      held = adds_plan c.loop.plans c.add.new.self so.before p so.held c.in_ok-object.ensures.is_new c.in_ok-add.ensures.added;
-      so_far = goes_on item c.args.count c.loop.counter so.before c.loop.next (items_behind item c.args.count [] c.args.at) p c.in_ok-object.after c.loop-test.true (c.in_ok-object.ensures.value so.before so.held) so.so_far;
-      within = c.in_ok-object.ensures.within;
+      held = adds_plan c.loop.plans c.add.new.self so.before p so.held c.in_ok-number.ensures.is_new c.in_ok-add.ensures;
+      so_far = goes_on item c.args.count c.loop.counter so.before c.loop.next (items_behind item c.args.count [] c.args.at) p c.in_ok-number.after c.loop-test.true (c.in_ok-number.ensures.value so.before so.held) so.so_far;
+      within = c.in_ok-number.ensures.within;
     }
 
 pub returns-clause-value : goal.returns-clause-value

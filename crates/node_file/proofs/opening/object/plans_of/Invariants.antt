@@ -2,8 +2,8 @@ use Rattle.std.proofs.Common.{◌≤◌, List, [], length}
 use Rattle.object_core.specs.Objects.{ObjectPlan}
 use Rattle.node_file.specs.OpeningReading.{object_at}
 use Rattle.node_file.specs.Plans.{HoldsPlans}
-use Rattle.prin_term.specs.Readers.{items_behind}
-use Rattle.prin_term.proofs.Loops.{IsSoFar}
+use Rattle.byte_fields.specs.Readers.{items_behind}
+use Rattle.byte_fields.proofs.Loops.{IsSoFar}
 use Rattle.node_file.proofs.opening.object.plans_of.Given as goal
 
 abbrev pub invariant-loop : goal.invariant-loop

@@ -31,6 +31,22 @@ returns-clause-value c =
       os.0.1,
     ) in (
       whole,
-      fields_are bytes (head, c.in_ok-head.next) cs.0 ((arc_value c.in_ok-anchors.anchors).items, c.in_ok-anchors.next) (map common c.in_ok-commons.commons.items, c.in_ok-commons.next) os.0 c.in_ok-head.ensures.value cs.1 anchors c.in_ok-commons.ensures.value os.1,
-      (record { node = refl; relay_key = refl; shards = refl; keep = refl; limit = refl; names = no_rows _ (ap (λ (l : Labels). l.names) c.in_ok-names.ensures); roles = no_rows _ (ap (λ (l : Labels). l.roles) c.in_ok-names.ensures); channels = cs.2.0; anchors = refl; commons = refl; objects = os.2.0 }, os.2.1),
+      fields_are bytes (head, c.in_ok-head.next) cs.0 ((arc_value c.in_ok-anchors.anchors).items, c.in_ok-anchors.next) (map common c.in_ok-commons.commons.items, c.in_ok-commons.next) os.0
+          c.in_ok-head.ensures.value cs.1 anchors c.in_ok-commons.ensures.value os.1,
+      (
+        record {
+          node = refl;
+          relay_key = refl;
+          shards = refl;
+          keep = refl;
+          limit = refl;
+          names = no_rows _ (ap (λ (l : Labels). l.names) c.in_ok-names.ensures);
+          roles = no_rows _ (ap (λ (l : Labels). l.roles) c.in_ok-names.ensures);
+          channels = cs.2.0;
+          anchors = refl;
+          commons = refl;
+          objects = os.2.0;
+        },
+        os.2.1,
+      ),
     )

@@ -1,9 +1,9 @@
 use Rattle.std.proofs.Common.{◌≡◌, [], Err, Ok, sym, ap, ◌∙◌, inr}
 use Rattle.std.proofs.lemmas.Result.{err_from_is_err_and}
-use Rattle.prin_term.specs.declared.fault.FormatFault.TheVariants.{NoMemory}
+use Rattle.byte_fields.specs.declared.fault.FormatFault.TheVariants.{NoMemory}
 use Rattle.node_file.specs.OpeningReading.{anchor_at}
-use Rattle.prin_term.specs.Readers.{items_behind}
-use Rattle.prin_term.proofs.Loops.{goes_on, stops, is_done}
+use Rattle.byte_fields.specs.Readers.{items_behind}
+use Rattle.byte_fields.proofs.Loops.{goes_on, stops, is_done}
 use Rattle.node_file.proofs.opening.table.names_of.Goals as goal
 
 pub returns-in_err-anchor-clause-value : goal.returns-in_err-anchor-clause-value

@@ -1,7 +1,7 @@
 use Rattle.std.proofs.Common.{◌≤◌, [], length}
 use Rattle.node_file.specs.OpeningReading.{anchor_at}
-use Rattle.prin_term.specs.Readers.{items_behind}
-use Rattle.prin_term.proofs.Loops.{IsSoFar}
+use Rattle.byte_fields.specs.Readers.{items_behind}
+use Rattle.byte_fields.proofs.Loops.{IsSoFar}
 use Rattle.node_file.proofs.opening.table.names_of.Given as goal
 
 abbrev pub invariant-loop : goal.invariant-loop

@@ -2,7 +2,7 @@ use Rattle.std.proofs.Common.{◌≤◌, length, ap, arith, ◌∙◌, le_refl}
 use Rattle.prin_term.specs.Principal.{node_count}
 use Rattle.prin_term.specs.View.{grant, principal}
 use Rattle.taos_saturate.proofs.Gathered.{widens_then, widens_length, widens_named, widens_gathers}
-use Rattle.taos_saturate.proofs.Holding.{few_mapped, map_who, picked-apart}
+use Rattle.term_pool.proofs.Picking.{few_mapped, map_who, picked-apart}
 use Rattle.taos_saturate.proofs.held.Held.gather.Goals as goal
 
 pub returns-clause-gathered : goal.returns-clause-gathered

@@ -1,6 +1,6 @@
 use Rattle.std.proofs.Common.{◌≤◌, length, ap, arith}
 use Rattle.std.proofs.lemmas.List.{length-map}
-use Rattle.taos_saturate.specs.Gathering.{statement_of}
+use Rattle.term_pool.specs.Finding.{statement_of}
 use Rattle.taos_saturate.proofs.Holding.{ready_new, cells_few}
 use Rattle.taos_saturate.proofs.held.Held.settle.Goals as goal
 

@@ -1,5 +1,5 @@
 use Rattle.std.proofs.Common.{◌≡◌, Some, slice_get, below_more, arith}
-use Rattle.taos_saturate.specs.declared.found.Pair.{Pair}
+use Rattle.term_pool.specs.declared.found.Pair.{Pair}
 use Rattle.taos_saturate.specs.Saturating.{SaysFull, LiftFull}
 use Rattle.taos_saturate.proofs.saturation.Saturation.new_in_statement.Goals as goal
 

@@ -1,6 +1,6 @@
 use Rattle.std.proofs.Common.{◌≡◌, ℕ, ◌<◌, Some, slice_get, below_more, arith}
 use Rattle.std.proofs.lemmas.Option.{slice_get_within}
-use Rattle.taos_saturate.specs.declared.found.Pair.{Pair}
+use Rattle.term_pool.specs.declared.found.Pair.{Pair}
 use Rattle.taos_saturate.specs.Saturating.{IsNumber, SaysFull, LiftFull}
 use Rattle.taos_saturate.proofs.saturation.Saturation.new_in_statements.Goals as goal
 

@@ -1,5 +1,5 @@
 use Rattle.std.proofs.Common.{◌≡◌, ℕ, ◌<◌, Some, slice_get}
-use Rattle.taos_saturate.specs.declared.found.Pair.{Pair}
+use Rattle.term_pool.specs.declared.found.Pair.{Pair}
 use Rattle.taos_saturate.specs.Saturating.{IsNumber, SaysFull, LiftFull}
 use Rattle.taos_saturate.proofs.saturation.Saturation.new_in_statements.Given as goal
 

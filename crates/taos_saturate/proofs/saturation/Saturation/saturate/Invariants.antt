@@ -1,4 +1,4 @@
-use Rattle.taos_saturate.specs.Finding.{room}
+use Rattle.term_pool.specs.Finding.{room}
 use Rattle.taos_saturate.specs.Saturating.{IsGrown}
 use Rattle.taos_saturate.proofs.saturation.Saturation.saturate.Given as goal
 

@@ -1,0 +1,10 @@
+pub mod Results
+pub mod FieldLaws
+pub mod ReaderLaws
+pub mod Loops
+pub mod Pieces
+pub mod FieldReaders
+pub mod FormatFields
+pub mod Cuts
+pub mod Staying
+pub mod FormatPlaces

@@ -1,0 +1,4 @@
+pub mod Steps
+pub mod Appends
+pub mod Readers
+pub mod Formats

@@ -1,0 +1,6 @@
+use Rattle.goal_search.specs.Searching.{core}
+use Rattle.goal_search.proofs.Growing.{filled_then}
+use Rattle.goal_search.proofs.search.Search.open.Goals as goal
+
+pub returns-then-not-has : goal.returns-then-not-has
+returns-then-not-has c = filled_then (core c.args.self.now) (core c.begin_number.new.self) (core c.close.new.self) c.begin_number.ensures.filled c.close.ensures

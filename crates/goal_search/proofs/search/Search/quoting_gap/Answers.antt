@@ -1,0 +1,28 @@
+use Rattle.std.proofs.lemmas.Option.{slice_get_within}
+use Rattle.taos_calculus.specs.declared.line.Node.{Node}
+use Rattle.goal_search.specs.Gaps.{IsGap}
+use Rattle.goal_search.specs.Reasons.{quoting}
+use Rattle.goal_search.specs.Searching.{core}
+use Rattle.goal_search.proofs.Finishing.{quoting_refused}
+use Rattle.goal_search.proofs.GapLaws.{for_none}
+use Rattle.goal_search.proofs.Told.{node_below}
+use Rattle.goal_search.proofs.search.Search.quoting_gap.Goals as goal
+
+pub pair_gap-requires-clause-from_in : goal.pair_gap-requires-clause-from_in
+pair_gap-requires-clause-from_in c = slice_get_within c.args.self.now.nodes.items c.args.from (Node.Quote c.args.a c.args.b) c.requires.stands
+
+pub pair_gap-requires-clause-first_in : goal.pair_gap-requires-clause-first_in
+pair_gap-requires-clause-first_in c =
+    ((node_below (core c.args.self.now) c.requires.ready c.args.from (Node.Quote c.args.a c.args.b) c.requires.stands).0, c.in-Quote.ensures.operands.0)
+
+pub pair_gap-requires-clause-second_in : goal.pair_gap-requires-clause-second_in
+pair_gap-requires-clause-second_in c =
+    ((node_below (core c.args.self.now) c.requires.ready c.args.from (Node.Quote c.args.a c.args.b) c.requires.stands).1, c.in-Quote.ensures.operands.1)
+
+pub pair_gap-requires-clause-edge : goal.pair_gap-requires-clause-edge
+pair_gap-requires-clause-edge c = λ p q. quoting c.requires.stands c.in-Quote.ensures.stands p q
+
+pub returns-in-Quote : goal.returns-in-Quote
+returns-in-Quote c =
+    for_none c.pair_gap.result (IsGap (core c.args.self.now))
+    (quoting_refused (core c.args.self.now) c.args.row c.args.from c.args.to c.args.a c.args.b c.requires.stands c.in-Quote.c c.in-Quote.d c.in-Quote.ensures.stands) c.pair_gap.ensures

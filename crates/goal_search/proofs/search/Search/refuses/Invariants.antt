@@ -1,0 +1,6 @@
+use Rattle.std.proofs.Common.{ℕ, ◌<◌, slice_index}
+use Rattle.goal_search.specs.Searching.{core, Has}
+use Rattle.goal_search.proofs.search.Search.refuses.Given as goal
+
+abbrev pub invariant-loop-place : goal.invariant-loop-place
+invariant-loop-place l = (k : ℕ) → k < l.place → Has (core l.self) (slice_index l.self.wanted.items k) l.left → Has (core l.self) (slice_index l.self.wanted.items k) l.right

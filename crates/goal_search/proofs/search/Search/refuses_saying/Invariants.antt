@@ -1,0 +1,7 @@
+use Rattle.std.proofs.Common.{ℕ, ◌<◌, slice_index}
+use Rattle.goal_search.specs.Gaps.{SaysAll}
+use Rattle.goal_search.specs.Searching.{core, Has}
+use Rattle.goal_search.proofs.search.Search.refuses_saying.Given as goal
+
+abbrev pub invariant-loop-place : goal.invariant-loop-place
+invariant-loop-place l = (k : ℕ) → k < l.place → (Has (core l.self) (slice_index l.self.wanted.items k) l.who → ⊥) → SaysAll (core l.self) (slice_index l.self.wanted.items k) l.number → ⊥

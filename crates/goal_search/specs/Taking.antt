@@ -1,0 +1,35 @@
+-- Taking a question into a pool of principals.
+use Rattle.std.specs.Prelude.{◌≡◌, ℕ, ◌+◌, ◌≤◌, List, ◌++◌, length, map, All, slice_index_or}
+use Rattle.prin_term.specs.declared.term.Anchor.{Anchor}
+use Rattle.prin_term.specs.Principal.{Principal, Key}
+use Rattle.taos_calculus.specs.declared.line.Node.{Node}
+use Rattle.taos_calculus.specs.Rules.{Claim}
+use Rattle.taos_calculus.specs.Tables.{IsNodeTable, principals_of}
+use Rattle.term_pool.specs.Claims.{CitedIn, chosen_by}
+use Rattle.term_pool.specs.declared.cited.Cited.{Cited}
+use Rattle.term_pool.specs.Pool.{Pooled}
+use Rattle.goal_search.specs.declared.search.Anchored.{Anchored}
+use Rattle.goal_search.specs.Searching.{AreAnchored}
+
+-- the principal of a number
+abbrev pub principal_at : Pooled → ℕ → Principal
+principal_at pool i = slice_index_or pool.terms i (Key 0)
+
+-- the new pool has the old one's principals in front, and at most n more
+pub record Widens (old new : Pooled) (n : ℕ) : Type 0 where
+  pub more : List Principal
+  pub longer : new.terms ≡ old.terms ++ more
+  pub few : length new.terms ≤ length old.terms + n
+  pub room : new.room ≡ old.room
+
+-- the certificates by their numbers are these
+pub record Gathers (pool : Pooled) (cited : List Cited)
+    (chosen : List (ℕ × Claim)) : Type 0 where
+  pub cited_in : All (CitedIn (length pool.terms)) cited
+  pub chosen_is : map (chosen_by (principal_at pool)) cited ≡ chosen
+
+-- these are the anchors by number, in whatever table has the pool's principals
+abbrev pub LinksAnchors : Pooled → List Anchor → List Anchored → Type 0
+LinksAnchors pool anchors links =
+    (nodes : List Node) → IsNodeTable nodes → principals_of nodes ≡ pool.terms →
+    AreAnchored nodes anchors links

@@ -1,0 +1,201 @@
+//! Taking a question in.
+
+ghost use Rattle.std.specs.Prelude.{◌≡◌, ◌≢◌, ℕ, ◌+◌, ◌*◌, ◌<◌, ◌≤◌, [], ◌∷◌, ◌++◌, Some, All, List};
+ghost use Rattle.std.specs.Prelude.{MatchOption, length, map, take, slice_get, vec_capacity};
+ghost use Rattle.prin_term.specs.Principal.{Key, Name, node_count};
+ghost use Rattle.prin_term.specs.View.{grant, principal};
+ghost use Rattle.stmt_codec.specs.Certificates.{certificate};
+ghost use Rattle.stmt_codec.specs.View.{certificates};
+ghost use Rattle.taos_calculus.specs.declared.line.Node.{Node};
+ghost use Rattle.taos_calculus.specs.declared.proof.TheConstants.{MAX_NODES};
+ghost use Rattle.taos_calculus.specs.Question.{claim_of, picked};
+ghost use Rattle.taos_calculus.specs.Tables.{IsNodeTable, principals_of};
+ghost use Rattle.term_pool.specs.Claims.{CitedIn, claim_by};
+ghost use Rattle.goal_search.specs.Taking.{Gathers, LinksAnchors, Widens, principal_at};
+
+use crate::search::Anchored;
+use prin_term::{Anchor, Entry, Term};
+use std::sync::Arc;
+use stmt_codec::Cert;
+use taos_calculus::Node;
+use term_pool::{Cited, Pool};
+
+/// The number of a term.
+pub fn take_term(pool: &mut Pool, term: &Term) -> u16
+    requires room { length pool.old.terms + node_count (principal term.now) ≤ pool.old.room }
+    ensures widens { Widens pool.old pool.new (node_count (principal term.now)) }
+    ensures within { result < length pool.new.terms }
+    ensures named_is { principal_at pool.new result ≡ principal term.now }
+{
+    pool.intern(term)
+}
+
+/// Keeps the anchors. Their keys and names are taken in only as far as they are named elsewhere.
+pub fn keep_anchors(kept: &mut Vec<Anchor>, anchors: &[Anchor])
+    requires none { kept.old.items ≡ [] }
+    requires room { length anchors.now ≤ vec_capacity kept.old }
+    ensures kept { kept.new.items ≡ anchors.now }
+    ensures capacity { vec_capacity kept.old ≤ vec_capacity kept.new }
+{
+    for i in 0..anchors.len() {
+        kept.push(anchors[i]).unwrap();
+    }
+}
+
+// The speaker and the statement of a certificate, by their numbers.
+fn take_cert(pool: &mut Pool, cert: &Cert, place: u16) -> Cited
+    requires room { length pool.old.terms + 16 ≤ pool.old.room }
+    ensures widens { Widens pool.old pool.new 16 }
+    ensures within { CitedIn (length pool.new.terms) result }
+    ensures place { result.place ≡ place }
+    ensures claim { claim_by (principal_at pool.new) result ≡ claim_of (certificate cert.now.body) }
+{
+    let speaker = pool.intern(&cert.speaker);
+    let left = pool.intern(&cert.body.statement.left);
+    let right = pool.intern(&cert.body.statement.right);
+    Cited {
+        place,
+        speaker,
+        left,
+        right,
+    }
+}
+
+// Takes in the certificate at this place, where it is chosen.
+fn take_at(
+    pool: &mut Pool,
+    cited: &mut Vec<Cited>,
+    certs: &[Arc<Cert>],
+    chosen: &[bool],
+    place: usize,
+)
+    requires room { length pool.old.terms + 16 ≤ pool.old.room }
+    requires place_in { place < length certs.now }
+    requires few { length certs.now ≤ 64 }
+    requires same_length { length chosen.now ≡ length certs.now }
+    requires cited_few { length cited.old.items ≤ place }
+    requires cited_room { length certs.now ≤ vec_capacity cited.old }
+    requires gathers { Gathers pool.old cited.old.items
+        (picked 0 (take place (map claim_of (certificates certs.now))) (take place chosen.now)) }
+    ensures widens { Widens pool.old pool.new 16 }
+    ensures gathers { Gathers pool.new cited.new.items
+        (picked 0 (take (place + 1) (map claim_of (certificates certs.now)))
+        (take (place + 1) chosen.now)) }
+    ensures cited_few { length cited.new.items ≤ place + 1 }
+    ensures cited_capacity { vec_capacity cited.old ≤ vec_capacity cited.new }
+{
+    if chosen[place] {
+        let it = take_cert(pool, &certs[place], place as u16);
+        cited.push(it).unwrap();
+    }
+}
+
+/// Takes in the chosen certificates.
+pub fn take_certs(pool: &mut Pool, cited: &mut Vec<Cited>, certs: &[Arc<Cert>], chosen: &[bool])
+    requires room { length pool.old.terms + 16 * length certs.now ≤ pool.old.room }
+    requires few { length certs.now ≤ 64 }
+    requires same_length { length chosen.now ≡ length certs.now }
+    requires none { cited.old.items ≡ [] }
+    requires cited_room { length certs.now ≤ vec_capacity cited.old }
+    ensures widens { Widens pool.old pool.new (16 * length certs.now) }
+    ensures gathers { Gathers pool.new cited.new.items
+        (picked 0 (map claim_of (certificates certs.now)) chosen.now) }
+    ensures cited_few { length cited.new.items ≤ length certs.now }
+    ensures cited_capacity { vec_capacity cited.old ≤ vec_capacity cited.new }
+{
+    for i in 0..certs.len() {
+        take_at(pool, cited, certs, chosen, i);
+    }
+}
+
+/// Takes in who the entries are, and gives their numbers.
+pub fn take_list(pool: &mut Pool, numbers: &mut Vec<u16>, list: &[Entry])
+    requires room { length pool.old.terms + 16 * length list.now ≤ pool.old.room }
+    requires none { numbers.old.items ≡ [] }
+    requires numbers_room { length list.now ≤ vec_capacity numbers.old }
+    requires small { All (λ e. node_count e.who ≤ 16) (map grant list.now) }
+    ensures widens { Widens pool.old pool.new (16 * length list.now) }
+    ensures within { All (λ i. i < length pool.new.terms) numbers.new.items }
+    ensures named_are { map (principal_at pool.new) numbers.new.items
+        ≡ map (λ e. principal e.who) list.now }
+    ensures numbers_capacity { vec_capacity numbers.old ≤ vec_capacity numbers.new }
+{
+    for i in 0..list.len() {
+        let number = take_term(pool, &list[i].who);
+        numbers.push(number).unwrap();
+    }
+}
+
+/// The nodes of the pool, in a list of their own.
+pub fn keep_nodes(kept: &mut Vec<Node>, nodes: &[Node])
+    requires none { kept.old.items ≡ [] }
+    requires room { length nodes.now ≤ vec_capacity kept.old }
+    ensures kept { kept.new.items ≡ nodes.now }
+    ensures capacity { vec_capacity kept.old ≤ vec_capacity kept.new }
+{
+    for i in 0..nodes.len() {
+        kept.push(nodes[i]).unwrap();
+    }
+}
+
+// The number of a key.
+fn number_of_key(pool: &Pool, key: u32) -> Option<u16>
+    ensures { MatchOption result ((i : ℕ) → slice_get pool.now.terms i ≡ Some (Key key) → ⊥)
+        (λ i. slice_get pool.now.terms i ≡ Some (Key key)) }
+{
+    pool.find(&Term::Key(key))
+}
+
+// The number of a name.
+fn number_of_name(pool: &Pool, name: u32) -> Option<u16>
+    ensures { MatchOption result ((i : ℕ) → slice_get pool.now.terms i ≡ Some (Name name) → ⊥)
+        (λ i. slice_get pool.now.terms i ≡ Some (Name name)) }
+{
+    pool.find(&Term::Name(name))
+}
+
+// The anchor by the numbers of its key and its name, where both are there.
+fn linked(pool: &Pool, anchor: Anchor) -> Option<Anchored>
+    ensures { (nodes : List Node) → IsNodeTable nodes → principals_of nodes ≡ pool.now.terms
+        → MatchOption result
+        ((c d : ℕ) → slice_get nodes c ≡ Some (Node.Key anchor.key)
+        → slice_get nodes d ≡ Some (Node.Name anchor.name) → ⊥)
+        (λ link. (slice_get nodes link.key ≡ Some (Node.Key anchor.key))
+        × (slice_get nodes link.name ≡ Some (Node.Name anchor.name))) }
+{
+    match number_of_key(pool, anchor.key) {
+        Some(key) => match number_of_name(pool, anchor.name) {
+            Some(name) => Some(Anchored { key, name }),
+            None => None,
+        },
+        None => None,
+    }
+}
+
+// Links the anchor at this place, where its key and its name are there.
+fn link_one(links: &mut Vec<Anchored>, pool: &Pool, anchors: &[Anchor], place: usize)
+    requires place_in { place < length anchors.now }
+    requires few { length links.old.items ≤ place }
+    requires room { length anchors.now ≤ vec_capacity links.old }
+    requires linked { LinksAnchors pool.now (take place anchors.now) links.old.items }
+    ensures linked { LinksAnchors pool.now (take (place + 1) anchors.now) links.new.items }
+    ensures few { length links.new.items ≤ place + 1 }
+    ensures capacity { vec_capacity links.old ≤ vec_capacity links.new }
+{
+    if let Some(link) = linked(pool, anchors[place]) {
+        links.push(link).unwrap();
+    }
+}
+
+/// The anchors by the numbers of their keys and names, as far as both are there.
+pub fn link_anchors(links: &mut Vec<Anchored>, pool: &Pool, anchors: &[Anchor])
+    requires none { links.old.items ≡ [] }
+    requires room { length anchors.now ≤ vec_capacity links.old }
+    ensures linked { LinksAnchors pool.now anchors.now links.new.items }
+    ensures few { length links.new.items ≤ length anchors.now }
+    ensures capacity { vec_capacity links.old ≤ vec_capacity links.new }
+{
+    for i in 0..anchors.len() {
+        link_one(links, pool, anchors, i);
+    }
+}

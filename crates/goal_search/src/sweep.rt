@@ -1,0 +1,166 @@
+//! The work on the rows that are wanted: what follows from their numbers and from rows that were
+//! begun. Nothing rests on how far this goes.
+
+ghost use Rattle.std.specs.Prelude.{◌<◌, length};
+ghost use Rattle.goal_search.specs.Searching.{core, IsReady, IsNumber, IsRow, IsFilled};
+
+use crate::search::Search;
+use taos_calculus::Node;
+
+impl Search {
+    // Begins the row of a number, and closes it.
+    fn open(&mut self, number: u16)
+        requires ready { IsReady (core self.old) }
+        requires number_in { IsNumber (core self.old) number }
+        ensures { IsFilled (core self.old) (core self.new) }
+    {
+        if !self.has(number as usize, number) {
+            self.begin_number(number);
+            self.close(number as usize);
+        }
+    }
+
+    // Begins the row of a statement that several speakers make, and closes it.
+    fn open_statement(&mut self, number: usize)
+        requires ready { IsReady (core self.old) }
+        requires number_in { number < length self.old.cited.items }
+        ensures { IsFilled (core self.old) (core self.new) }
+    {
+        let it = self.cite(number);
+        self.open(it.speaker);
+        let row = self.statement_row(number);
+        if !self.says_all(it.speaker as usize, number) && !self.has(row, it.speaker) {
+            self.begin_statement(number);
+            self.close(row);
+        }
+    }
+
+    // What the certificate gives the row.
+    fn sweep_cited(&mut self, row: usize, number: usize)
+        requires ready { IsReady (core self.old) }
+        requires row_in { IsRow (core self.old) row }
+        requires number_in { number < length self.old.cited.items }
+        ensures { IsFilled (core self.old) (core self.new) }
+    {
+        let it = self.cite(number);
+        if self.has(row, it.left) && !self.has(row, it.right) {
+            self.open_statement(number);
+            self.hand_off(row, number);
+            self.close(row);
+        }
+    }
+
+    // What the certificates give the row, the first one first.
+    fn sweep_forth(&mut self, row: usize)
+        requires ready { IsReady (core self.old) }
+        requires row_in { IsRow (core self.old) row }
+        ensures { IsFilled (core self.old) (core self.new) }
+    {
+        for number in 0..self.cited.len() {
+            self.sweep_cited(row, number);
+        }
+    }
+
+    // What the certificates give the row, the last one first.
+    fn sweep_back(&mut self, row: usize)
+        requires ready { IsReady (core self.old) }
+        requires row_in { IsRow (core self.old) row }
+        ensures { IsFilled (core self.old) (core self.new) }
+    {
+        let count = self.cited.len();
+        for step in 0..count {
+            self.sweep_cited(row, count - 1 - step);
+        }
+    }
+
+    // What the form of a number gives the row.
+    fn sweep_targets(&mut self, row: usize, from: u16)
+        requires ready { IsReady (core self.old) }
+        requires row_in { IsRow (core self.old) row }
+        requires from_in { IsNumber (core self.old) from }
+        ensures { IsFilled (core self.old) (core self.new) }
+    {
+        for to in 0..self.nodes.len() {
+            self.pass_on(row, from, to as u16);
+        }
+        self.close(row);
+    }
+
+    // What a number gives a row that has it, through the rows of its operands.
+    fn sweep_number(&mut self, row: usize, number: u16)
+        requires ready { IsReady (core self.old) }
+        requires row_in { IsRow (core self.old) row }
+        requires number_in { IsNumber (core self.old) number }
+        ensures { IsFilled (core self.old) (core self.new) }
+    {
+        if !self.has(row, number) {
+            return;
+        }
+        match self.node(number) {
+            Node::Quote(a, b) | Node::For(a, b) => {
+                self.open(a);
+                self.open(b);
+                self.sweep_targets(row, number);
+            }
+            Node::AsRole(a, _) => {
+                self.open(a);
+                self.sweep_targets(row, number);
+            }
+            _ => {}
+        }
+    }
+
+    // What the numbers that the row has give it.
+    fn sweep_numbers(&mut self, row: usize)
+        requires ready { IsReady (core self.old) }
+        requires row_in { IsRow (core self.old) row }
+        ensures { IsFilled (core self.old) (core self.new) }
+    {
+        for number in 0..self.nodes.len() {
+            self.sweep_number(row, number as u16);
+        }
+    }
+
+    // Works on one row.
+    fn sweep(&mut self, row: usize)
+        requires ready { IsReady (core self.old) }
+        requires row_in { IsRow (core self.old) row }
+        ensures { IsFilled (core self.old) (core self.new) }
+    {
+        self.sweep_back(row);
+        self.sweep_forth(row);
+        self.sweep_numbers(row);
+    }
+
+    // Works on each row that is wanted, until the goal is reached.
+    fn sweep_all(&mut self, left: u16, right: u16)
+        requires ready { IsReady (core self.old) }
+        requires left_in { IsNumber (core self.old) left }
+        requires right_in { IsNumber (core self.old) right }
+        ensures { IsFilled (core self.old) (core self.new) }
+    {
+        for place in 0..self.wanted.len() {
+            if self.has(left as usize, right) {
+                return;
+            }
+            let row = self.wanted[place] as usize;
+            self.sweep(row);
+        }
+    }
+
+    /// Works on the rows that are wanted until nothing more comes, or the goal is reached.
+    pub fn work(&mut self, left: u16, right: u16)
+        requires ready { IsReady (core self.old) }
+        requires left_in { IsNumber (core self.old) left }
+        requires right_in { IsNumber (core self.old) right }
+        ensures { IsFilled (core self.old) (core self.new) }
+    {
+        for _ in 0..self.cells.cells.len() {
+            let before = self.cells.count;
+            self.sweep_all(left, right);
+            if self.cells.count == before {
+                return;
+            }
+        }
+    }
+}

@@ -1,0 +1,34 @@
+-- What goes to workers: a lane with its stock, and the node's keys and cells that they share.
+use denote.Param.Send.{IsSend, IsSync, sendable}
+use denote.Param.SendFields.{declared_send, declared_sync, as_row_send, as_row_sync}
+use Rattle.std.proofs.Crossing.{crosses}
+use Rattle.agent_shards.proofs.Crossing.{agent_sync, passes_send, rack_passes_send, rack_sync}
+use Rattle.std.proofs.alloc.Global.TheSendSync as global
+use Rattle.std.proofs.option.Option.TheSendSync as option
+use Rattle.taos_lanes.specs.contracts.lane.Lane as lane
+use Rattle.taos_lanes.specs.contracts.lane.Stock as stock
+use Rattle.taos_lanes.specs.contracts.sitting.Shared as shared
+use Rattle.taos_lanes.proofs.tally.Tally.TheSendSync as tally
+use Rattle.taos_saturate.specs.contracts.saturator.Saturator as saturator
+use Rattle.taos_saturate.proofs.held.Held.TheSendSync as held
+use Rattle.taos_monitor.specs.contracts.node_keys.NodeKeys as keys
+use Rattle.taos_monitor.proofs.node_keys.NodeKeys.TheSendSync as keys_cross
+
+saturator_inside : IsSend saturator.TheInside.the_row
+saturator_inside = declared_send saturator.TheInside.the_type (held.the_send, tt)
+
+saturator_send : IsSend saturator.the_row
+saturator_send = search (sendable, saturator_inside)
+
+pub stock_send : IsSend stock.the_row
+stock_send = declared_send stock.the_type (passes_send, (rack_passes_send, (saturator_send, (tally.the_send, tt))))
+
+pub keys_sync : IsSync keys.the_row
+keys_sync = keys_cross.the_sync
+
+pub lane_send : (C R D I O : _) → IsSend C → IsSend R → IsSend D → IsSend (lane.the_row C R D I O)
+lane_send C R D I O c r d = declared_send (lane.the_type C R D I O) (search (sendable, c), (search (sendable, r), (search (sendable, d), (search (sendable, as_row_send, option.the_send, stock_send), tt))))
+
+pub shared_sync : (κ W K L : _) → IsSync W → IsSync K → IsSync L → IsSync (shared.the_row κ W K L)
+shared_sync κ W K L w k l = declared_sync (shared.the_type κ W K L)
+    (search (sendable, w), (search (sendable, as_row_sync, global.the_sync), (search (sendable, keys_sync), (search (sendable, agent_sync), (search (sendable, rack_sync), (search (sendable, as_row_sync), (search (sendable, as_row_sync, crosses), tt)))))))

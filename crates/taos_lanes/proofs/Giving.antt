@@ -1,0 +1,51 @@
+-- One connection more of a lane's door.
+use Rattle.std.proofs.Common.{◌≡◌, ℕ, ◌+◌, List, [], ◌∷◌, ◌++◌, length, Option, None, Some, refl, sym, ap, ◌∙◌, arith, append_assoc, length-append}
+use Rattle.frame_link.specs.Relay.{Said}
+use Rattle.frame_link.specs.Doors.{OpensKnown, Counts, TakesBack}
+use Rattle.taos_monitor.specs.Cells.{Node}
+use Rattle.taos_lanes.specs.Visits.{Visit}
+use Rattle.taos_lanes.specs.Doors.{GaveKnown, TookKnown, AreFew, DoorSeen, IsTold, IsOrderly, IsVisitOf, AreVisits, ThroughGoesOn}
+
+gives_one : {X : Type 0} (before middle after : Option (List X)) (given : List X) (x : X) → GaveKnown before middle given → OpensKnown middle after (Some x) → GaveKnown before after (given ++ x ∷ [])
+gives_one None middle after given x g o = tt
+gives_one (Some xs) None after given x g o = absurd g
+gives_one (Some xs) (Some ys) None given x g o = absurd o
+gives_one (Some xs) (Some ys) (Some zs) given x g o = g ∙ (ap (λ (l : List _). given ++ l) o ∙ sym (append_assoc given (x ∷ []) zs))
+
+-- a door that is orderly and gives one and takes one back stays so, and tells that one behind the others
+takes_one : {X : Type 0} (left left_after back before after : Option (List X)) (kept : List X) (given given_after : ℕ) (g x : X) → IsTold left → IsTold before → AreFew before given →
+    TookKnown back before kept → OpensKnown left left_after (Some g) → Counts left given given_after (Some g) → TakesBack before after given_after x →
+    TookKnown back after (kept ++ x ∷ []) × IsTold left_after × IsTold after × AreFew after given_after
+takes_one None left_after back before after kept given given_after g x told held few took opens counts takes = absurd told
+takes_one (Some ls) None back before after kept given given_after g x told held few took opens counts takes = absurd opens
+takes_one (Some ls) (Some ms) back None after kept given given_after g x told held few took opens counts takes = absurd held
+takes_one (Some ls) (Some ms) back (Some ys) None kept given given_after g x told held few took opens counts takes = absurd takes
+takes_one (Some ls) (Some ms) None (Some ys) (Some zs) kept given given_after g x told held few took opens counts takes =
+    let more : zs ≡ ys ++ x ∷ [] = takes.0 (omega (arith, few, counts)) in
+    (tt, tt, tt, omega (arith, ap length more, length-append ys (x ∷ []), few, counts))
+takes_one (Some ls) (Some ms) (Some ws) (Some ys) (Some zs) kept given given_after g x told held few took opens counts takes =
+    let more : zs ≡ ys ++ x ∷ [] = takes.0 (omega (arith, few, counts)) in (
+      more ∙ (ap (λ (l : List _). l ++ x ∷ []) took ∙ append_assoc ws kept (x ∷ [])),
+      tt,
+      tt,
+      omega (arith, ap length more, length-append ys (x ∷ []), few, counts),
+    )
+
+module _ {In Out : Type 0} (left : In → Option (List ℕ)) (written : Out → Option (List ℕ)) {n : Node} {says : Option (ℕ → List ℕ → Said)} {limit : ℕ} where
+  visits_more : (given kept : List (In × Out)) (visits : List (Visit n says limit)) (g k : In × Out) (v : Visit n says limit) →
+      AreVisits left written given kept visits → IsVisitOf left written g k v → AreVisits left written (given ++ g ∷ []) (kept ++ k ∷ []) (visits ++ v ∷ [])
+  visits_more [] [] [] g k v a is = (is, tt)
+  visits_more (x ∷ given) (y ∷ kept) (w ∷ visits) g k v a is = (a.0, visits_more given kept visits g k v a.1 is)
+  visits_more _ _ _ g k v a is = absurd a
+
+pub through_goes_on : {In Out : Type 0} (left : In → Option (List ℕ)) (written : Out → Option (List ℕ)) (n : Node) (says : Option (ℕ → List ℕ → Said)) (limit : ℕ) → ThroughGoesOn left written n says limit
+through_goes_on left written n says limit before middle after visits g k v t opens counts takes is = record {
+  given = t.given ++ g ∷ [];
+  kept = t.kept ++ k ∷ [];
+  gave = gives_one before.left middle.left after.left t.given g t.gave opens;
+  took = λ orderly.
+      let was = t.took orderly in
+      let now = takes_one middle.left after.left before.back middle.back after.back t.kept middle.given after.given g k was.1.left was.1.back was.1.few was.0 opens counts takes in
+      (now.0, record { left = now.1; back = now.2; few = now.3 });
+  are = visits_more left written t.given t.kept visits g k v t.are is;
+}

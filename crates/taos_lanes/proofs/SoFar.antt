@@ -1,0 +1,211 @@
+-- A lane's worker between two of its connections.
+use Rattle.std.proofs.Common.{◌≡◌, inl, inr, ℕ, ◌+◌, ◌≤◌, ◌<◌, Bool, true, false, List, [], ◌∷◌, ◌++◌, length, Option, None, Some, refl, sym, ap, ◌∙◌, subst, arith, length-append, append-nil, cond}
+use Rattle.std.specs.Prelude.{count_by}
+use Rattle.std.proofs.lemmas.List.Sums.{sum_by_push}
+use Rattle.frame_link.specs.declared.outcome.Outcome.{Outcome}
+use Rattle.frame_link.specs.Faults.{Rose}
+use Rattle.frame_link.specs.Relay.{Said}
+use Rattle.frame_link.specs.Served.{Line}
+use Rattle.frame_link.specs.Doors.{OpensKnown, Counts, TakesBack}
+use Rattle.object_core.specs.Shelving.{ObjectFixed}
+use Rattle.agent_core.specs.State.{Plan}
+use Rattle.taos_monitor.specs.Cells.{Node, alone_of}
+use Rattle.taos_monitor.specs.World.{Setting, World, setting_of}
+use Rattle.taos_monitor.specs.Connection.{IsConnection}
+use Rattle.taos_lanes.specs.declared.tally.Tally.{Tally}
+use Rattle.taos_lanes.specs.Visits as Visits
+use Rattle.taos_lanes.specs.Visits.{Visit, among, begun, Chain, is_broken, is_lacking}
+use Rattle.taos_lanes.specs.Doors.{DoorSeen, GaveKnown, TookKnown, AreFew, IsTold, IsOrderly, IsNoneLeft, Through, IsVisitOf}
+use Rattle.taos_lanes.specs.Working.{LaneSeen, lane_of, IsTallyOf, ServesDoor, HasDoorCause}
+use Rattle.taos_lanes.proofs.Closing.{chain_goes_on}
+use Rattle.taos_lanes.proofs.Giving.{through_goes_on}
+
+-- the connections up to now
+pub record SoFar {In Out : Type 0} (left : In → Option (List ℕ)) (written : Out → Option (List ℕ)) (n : Node) (says : Option (ℕ → List ℕ → Said)) (limit most : ℕ)
+    (before now : LaneSeen (In × Out)) (tally : Tally) : Type 0 where
+  pub visits : List (Visit n says limit)
+  pub chain : Chain before.world visits now.world
+  pub through : Through left written before.door now.door visits
+  pub counted : IsTallyOf visits tally
+  pub few : length visits ≤ most
+  pub steady : now.door.faults ≡ before.door.faults
+  pub fresh : tally.door_failed ≡ false
+
+-- ---- at first
+
+gave_none : {X : Type 0} (left : Option (List X)) → GaveKnown left left []
+gave_none None = tt
+gave_none (Some xs) = refl
+
+took_none : {X : Type 0} (back : Option (List X)) → TookKnown back back []
+took_none None = tt
+took_none (Some xs) = sym (append-nil xs)
+
+module _ {In Out : Type 0} (left : In → Option (List ℕ)) (written : Out → Option (List ℕ)) (n : Node) (says : Option (ℕ → List ℕ → Said)) (limit most : ℕ) where
+  pub none_yet : (before : LaneSeen (In × Out)) (tally : Tally) → tally.served ≡ 0 → tally.broken ≡ 0 → tally.lacked ≡ 0 → tally.door_failed ≡ false →
+      SoFar left written n says limit most before before tally
+  none_yet before tally served broken lacked fresh = record {
+    visits = [];
+    chain = refl;
+    through = record {
+      given = [];
+      kept = [];
+      gave = gave_none before.door.left;
+      took = λ orderly. (took_none before.door.back, orderly);
+      are = tt;
+    };
+    counted = record { served = served; broken = broken; lacked = lacked };
+    few = omega arith;
+    steady = refl;
+    fresh = fresh;
+  }
+
+  -- ---- one connection more
+
+  counts_more : (is : Outcome → Bool) (visits : List (Visit n says limit)) (v : Visit n says limit) →
+      count_by (λ (w : Visit n says limit). is w.outcome) (visits ++ v ∷ []) ≡ count_by (λ (w : Visit n says limit). is w.outcome) visits + cond (is v.outcome) 1 0
+  counts_more is visits v =
+      sum_by_push (λ (w : Visit n says limit). cond (is w.outcome) 1 0) visits v
+
+  pub one_more : (before now after : LaneSeen (In × Out)) (tally added : Tally) (g k : In × Out) (v : Visit n says limit) →
+      SoFar left written n says limit most before now tally →
+      begun v ≡ now.world → Visits.left v ≡ after.world →
+      OpensKnown now.door.left after.door.left (Some g) → Counts now.door.left now.door.given after.door.given (Some g) → TakesBack now.door.back after.door.back after.door.given k →
+      IsVisitOf left written g k v → after.door.faults ≡ now.door.faults → tally.served < most →
+      added.served ≡ tally.served + 1 → added.broken ≡ tally.broken + cond (is_broken v.outcome) 1 0 → added.lacked ≡ tally.lacked + cond (is_lacking v.outcome) 1 0 →
+      added.door_failed ≡ tally.door_failed →
+      SoFar left written n says limit most before after added
+  one_more before now after tally added g k v s begins ends opens counts takes is steady more served broken lacked fresh = record {
+    visits = s.visits ++ v ∷ [];
+    chain = subst (λ (w : World). Chain before.world (s.visits ++ v ∷ []) w) ends (chain_goes_on n limit says before.world now.world s.visits v s.chain begins);
+    through = through_goes_on left written n says limit before.door now.door after.door s.visits g k v s.through opens counts takes is;
+    counted = record {
+      served = served ∙ (ap (λ (x : ℕ). x + 1) s.counted.served ∙ sym (length-append s.visits (v ∷ [])));
+      broken = broken ∙ (ap (λ (x : ℕ). x + cond (is_broken v.outcome) 1 0) s.counted.broken ∙ sym (counts_more is_broken s.visits v));
+      lacked = lacked ∙ (ap (λ (x : ℕ). x + cond (is_lacking v.outcome) 1 0) s.counted.lacked ∙ sym (counts_more is_lacking s.visits v));
+    };
+    few = omega (arith, length-append s.visits (v ∷ []), s.counted.served, more);
+    steady = steady ∙ s.steady;
+    fresh = fresh ∙ s.fresh;
+  }
+
+  -- the same, by what the door answered and was given back
+  pub one_served : (before now after : LaneSeen (In × Out)) (accepted : DoorSeen (In × Out)) (tally added : Tally) (opened : Option (In × Out)) (g k : In × Out) (v : Visit n says limit) →
+      SoFar left written n says limit most before now tally →
+      begun v ≡ now.world → Visits.left v ≡ after.world → opened ≡ Some g →
+      OpensKnown now.door.left accepted.left opened × Counts now.door.left now.door.given accepted.given opened → accepted.back ≡ now.door.back → accepted.faults ≡ now.door.faults →
+      TakesBack accepted.back after.door.back accepted.given k → after.door.left ≡ accepted.left → after.door.given ≡ accepted.given → after.door.faults ≡ accepted.faults →
+      IsVisitOf left written g k v → tally.served < most →
+      added.served ≡ tally.served + 1 → added.broken ≡ tally.broken + cond (is_broken v.outcome) 1 0 → added.lacked ≡ tally.lacked + cond (is_lacking v.outcome) 1 0 →
+      added.door_failed ≡ tally.door_failed →
+      SoFar left written n says limit most before after added
+  one_served before now after accepted tally added opened g k v s begins ends is gives same_back steady takes same_left same_given same_faults visit more served broken lacked fresh =
+      one_more before now after tally added g k v s begins ends
+      (subst (λ (x : Option (List (In × Out)) × Option (In × Out)). OpensKnown now.door.left x.0 x.1) (λ i. (sym same_left i, is i)) gives.0)
+      (subst (λ (x : ℕ × Option (In × Out)). Counts now.door.left now.door.given x.0 x.1) (λ i. (sym same_given i, is i)) gives.1)
+      (subst (λ (x : Option (List (In × Out)) × ℕ). TakesBack x.0 after.door.back x.1 k) (λ i. (same_back i, sym same_given i)) takes)
+      visit (same_faults ∙ steady) more served broken lacked fresh
+
+-- ---- at the end
+
+gives_none : {X : Type 0} (before middle after : Option (List X)) (given : List X) → GaveKnown before middle given → OpensKnown middle after None → GaveKnown before after given
+gives_none None middle after given g o = tt
+gives_none (Some xs) None after given g o = absurd g
+gives_none (Some xs) (Some ys) None given g o = absurd o
+gives_none (Some xs) (Some ys) (Some zs) given g o = g ∙ ap (λ (l : List _). given ++ l) (o.0 ∙ sym o.1)
+
+nothing_left : {X : Type 0} (before middle after : Option (List X)) (given : List X) → GaveKnown before middle given → OpensKnown middle after None → IsNoneLeft before after
+nothing_left None middle after given g o = tt
+nothing_left (Some xs) None after given g o = absurd g
+nothing_left (Some xs) (Some ys) None given g o = absurd o
+nothing_left (Some xs) (Some ys) (Some zs) given g o = o.1
+
+told_still : {X : Type 0} (middle after : Option (List X)) → IsTold middle → OpensKnown middle after None → IsTold after
+told_still None after told o = absurd told
+told_still (Some xs) None told o = absurd o
+told_still (Some xs) (Some ys) told o = tt
+
+module _ {In Out : Type 0} (left : In → Option (List ℕ)) (written : Out → Option (List ℕ)) (n : Node) (says : Option (ℕ → List ℕ → Said)) (limit most : ℕ)
+    (before now : LaneSeen (In × Out)) (tally : Tally) (s : SoFar left written n says limit most before now tally) where
+  -- so many were served
+  pub all_served : most ≤ tally.served → ServesDoor left written n says limit most before now tally
+  all_served enough = record {
+    visits = s.visits;
+    chain = s.chain;
+    through = record { through = s.through; few = s.few; whole = inl (omega (arith, enough, s.few, s.counted.served)) };
+    counted = s.counted;
+    cause = subst (λ (b : Bool). HasDoorCause b before.door.faults now.door.faults) (sym s.fresh) s.steady;
+  }
+
+  -- the door has none
+  pub none_left : (door : DoorSeen (In × Out)) → OpensKnown now.door.left door.left None → door.back ≡ now.door.back → door.given ≡ now.door.given → door.faults ≡ now.door.faults →
+      ServesDoor left written n says limit most before (lane_of now.world door) tally
+  none_left door opens back given faults = record {
+    visits = s.visits;
+    chain = s.chain;
+    through = record {
+      through = record {
+        given = s.through.given;
+        kept = s.through.kept;
+        gave = gives_none before.door.left now.door.left door.left s.through.given s.through.gave opens;
+        took = λ orderly.
+            let was = s.through.took orderly in (
+              subst (λ (b : Option (List (In × Out))). TookKnown before.door.back b s.through.kept) (sym back) was.0,
+              record {
+                left = told_still now.door.left door.left was.1.left opens;
+                back = subst IsTold (sym back) was.1.back;
+                few = subst (λ (k : ℕ). AreFew door.back k) (sym given) (subst (λ (b : Option (List (In × Out))). AreFew b now.door.given) (sym back) was.1.few);
+              },
+            );
+        are = s.through.are;
+      };
+      few = s.few;
+      whole = inr (inl (nothing_left before.door.left now.door.left door.left s.through.given s.through.gave opens));
+    };
+    counted = s.counted;
+    cause = subst (λ (b : Bool). HasDoorCause b before.door.faults door.faults) (sym s.fresh) (faults ∙ s.steady);
+  }
+
+  -- the door failed
+  pub door_fails : (door : DoorSeen (In × Out)) (failed : Tally) → door.left ≡ now.door.left → door.back ≡ now.door.back → door.given ≡ now.door.given →
+      now.door.faults ≤ door.faults → Rose now.door.faults door.faults →
+      failed.served ≡ tally.served → failed.broken ≡ tally.broken → failed.lacked ≡ tally.lacked → failed.door_failed ≡ true →
+      ServesDoor left written n says limit most before (lane_of now.world door) failed
+  door_fails door failed told back given later rose served broken lacked is = record {
+    visits = s.visits;
+    chain = s.chain;
+    through = record {
+      through = record {
+        given = s.through.given;
+        kept = s.through.kept;
+        gave = subst (λ (l : Option (List (In × Out))). GaveKnown before.door.left l s.through.given) (sym told) s.through.gave;
+        took = λ orderly.
+            let was = s.through.took orderly in (
+              subst (λ (b : Option (List (In × Out))). TookKnown before.door.back b s.through.kept) (sym back) was.0,
+              record {
+                left = subst IsTold (sym told) was.1.left;
+                back = subst IsTold (sym back) was.1.back;
+                few = subst (λ (k : ℕ). AreFew door.back k) (sym given) (subst (λ (b : Option (List (In × Out))). AreFew b now.door.given) (sym back) was.1.few);
+              },
+            );
+        are = s.through.are;
+      };
+      few = s.few;
+      whole = inr (inr is);
+    };
+    counted = record {
+      served = served ∙ s.counted.served;
+      broken = broken ∙ s.counted.broken;
+      lacked = lacked ∙ s.counted.lacked;
+    };
+    cause = subst (λ (b : Bool). HasDoorCause b before.door.faults door.faults) (sym is)
+        (subst (λ (k : ℕ). (k ≤ door.faults) × Rose k door.faults) s.steady (later, rose));
+  }
+
+-- ---- what a connection is served in
+
+module _ (node : List Plan → List ObjectFixed → Node) {p p0 : List Plan} {o o0 : List ObjectFixed} {a b : Bool} {s s0 : Option (ℕ → List ℕ → Said)} where
+  pub settled : p ≡ p0 → o ≡ o0 → a ≡ false → b ≡ false → s ≡ s0 → (limit : ℕ) (before after : Line World) (outcome : Outcome) →
+      IsConnection (setting_of (node p o) (alone_of a b) s) limit before after outcome → IsConnection (among (node p0 o0) s0) limit before after outcome
+  settled plans objects shards_among objects_among says limit before after outcome =
+      subst (λ (x : Setting). IsConnection x limit before after outcome) (λ i. setting_of (node (plans i) (objects i)) (alone_of (shards_among i) (objects_among i)) (says i))

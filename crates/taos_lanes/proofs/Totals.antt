@@ -1,0 +1,65 @@
+-- What lanes counted, lane after lane.
+use Rattle.std.proofs.Common.{◌≡◌, ℕ, ◌+◌, ◌*◌, ◌^◌, ◌<◌, ◌≤◌, Bool, true, false, List, [], ◌∷◌, ◌++◌, length, map, take, get_or, Option, Some, refl, sym, ap, ap₂, ◌∙◌, subst, arith, cond, add-one}
+use Rattle.std.specs.Prelude.{All, filter_map, sum_by, count_by}
+use Rattle.std.proofs.lemmas.List.{length-map, take_more}
+use Rattle.std.proofs.lemmas.List.Elements.{filter_map-append}
+use Rattle.std.proofs.lemmas.List.Sums.{sum_by_push}
+use Rattle.taos_lanes.specs.declared.lane.Stock.{Stock}
+use Rattle.taos_lanes.specs.declared.tally.Tally.{Tally}
+use Rattle.taos_lanes.specs.declared.total.Total.{Total}
+use Rattle.taos_lanes.specs.Stocked.{LaneShown}
+use Rattle.taos_lanes.specs.Joining.{IsEmptied, WorkIs, stocks_in, IsTotalOf}
+use Rattle.taos_lanes.proofs.Rows.{Upto, here_is, upto_long}
+use Rattle.taos_lanes.proofs.Runs.{given_first}
+
+-- each sum of so many lanes is less than so many times 2 to the 64th
+pub record IsSmall (count : ℕ) (total : Total) : Type 0 where
+  pub served : total.served ≤ count * 2 ^ 64
+  pub broken : total.broken ≤ count * 2 ^ 64
+  pub lacked : total.lacked ≤ count * 2 ^ 64
+  pub doors_failed : total.doors_failed ≤ count * 2 ^ 64
+
+-- one lane more
+pub total_more : (stocks : List Stock) (stock : Stock) (total more : Total) → IsTotalOf stocks total →
+    more.served ≡ total.served + stock.tally.served → more.broken ≡ total.broken + stock.tally.broken → more.lacked ≡ total.lacked + stock.tally.lacked →
+    more.doors_failed ≡ total.doors_failed + cond stock.tally.door_failed 1 0 → IsTotalOf (stocks ++ stock ∷ []) more
+total_more stocks stock total more t served broken lacked failed = record {
+  served = served ∙ (ap (λ (n : ℕ). n + stock.tally.served) t.served ∙ sym (sum_by_push (λ (s : Stock). s.tally.served) stocks stock));
+  broken = broken ∙ (ap (λ (n : ℕ). n + stock.tally.broken) t.broken ∙ sym (sum_by_push (λ (s : Stock). s.tally.broken) stocks stock));
+  lacked = lacked ∙ (ap (λ (n : ℕ). n + stock.tally.lacked) t.lacked ∙ sym (sum_by_push (λ (s : Stock). s.tally.lacked) stocks stock));
+  doors_failed = failed ∙ (ap (λ (n : ℕ). n + cond stock.tally.door_failed 1 0) t.doors_failed ∙ sym (sum_by_push (λ (s : Stock). cond s.tally.door_failed 1 0) stocks stock));
+}
+
+-- the stocks of one lane more
+stocks_at : {X : Type 0} (lanes : List (LaneShown X)) (i : ℕ) (d : LaneShown X) (stock : Stock) → i < length lanes → (get_or lanes i d).work ≡ Some stock →
+    stocks_in (take (i + 1) lanes) ≡ stocks_in (take i lanes) ++ stock ∷ []
+stocks_at {X} lanes i d stock lt has =
+    ap (stocks_in {X = X}) (take_more lanes i d lt)
+    ∙ (filter_map-append (λ (l : LaneShown X). l.work) (take i lanes) (get_or lanes i d ∷ [])
+    ∙ ap (λ (l : List Stock). stocks_in (take i lanes) ++ l) (given_first (λ (l : LaneShown X). l.work) (get_or lanes i d) [] stock has))
+
+-- the next lane still has the work that it had at first
+pub has_work : {A X : Type 0} (is : Stock → Type 0) (f : A → LaneShown X) (i : ℕ) (xs ys : List A) (d : A) → Upto IsEmptied i (map f xs) (map f ys) → i < length ys → All (WorkIs is) (map f xs) →
+    WorkIs is (f (get_or ys i d))
+has_work is f i xs ys d u lt all =
+    let same = here_is IsEmptied f i xs ys d u lt in
+    let within : i < length (map f xs) = omega (arith, lt, upto_long IsEmptied i (map f xs) (map f ys) u, length-map ys f) in
+    subst (WorkIs is) (sym same) (all i (f d) within)
+
+-- the stocks with that of the next lane, which has its work as at first
+pub stocks_gone : {A X : Type 0} (f : A → LaneShown X) (i : ℕ) (xs ys : List A) (d : A) (stock : Stock) → Upto IsEmptied i (map f xs) (map f ys) → i < length ys → (f (get_or ys i d)).work ≡ Some stock →
+    stocks_in (take (i + 1) (map f xs)) ≡ stocks_in (take i (map f xs)) ++ stock ∷ []
+stocks_gone f i xs ys d stock u lt has =
+    let same = here_is IsEmptied f i xs ys d u lt in
+    let within : i < length (map f xs) = omega (arith, lt, upto_long IsEmptied i (map f xs) (map f ys) u, length-map ys f) in
+    stocks_at (map f xs) i (f d) stock within (ap (λ (x : LaneShown _). x.work) (sym same) ∙ has)
+
+-- one lane more adds less than 2 to the 64th
+pub small_more : (i : ℕ) (total more : Total) (served broken lacked doors : ℕ) → IsSmall i total → more.served ≡ total.served + served → more.broken ≡ total.broken + broken → more.lacked ≡ total.lacked + lacked →
+    more.doors_failed ≡ total.doors_failed + doors → (served < 2 ^ 64) × (broken < 2 ^ 64) × (lacked < 2 ^ 64) × (doors ≤ 1) → IsSmall (i + 1) more
+small_more i total more served broken lacked doors s a b c d few = record {
+  served = omega (arith, s.served, a, few.0);
+  broken = omega (arith, s.broken, b, few.1);
+  lacked = omega (arith, s.lacked, c, few.2);
+  doors_failed = omega (arith, s.doors_failed, d, few.3);
+}

@@ -1,0 +1,52 @@
+use Rattle.std.proofs.Common.{refl, ◌∙◌}
+use Rattle.taos_monitor.specs.Arriving.{node_of}
+use Rattle.taos_lanes.specs.Doors.{door_of}
+use Rattle.taos_lanes.specs.Visits.{Visit}
+use Rattle.taos_lanes.proofs.SoFar.{none_yet, one_served, door_fails, settled}
+use Rattle.taos_lanes.proofs.worker.serve_door.Goals as goal
+
+pub loop-tally-init : goal.loop-tally-init
+loop-tally-init g c = record {
+  so_far = none_yet _ _ _ _ _ _ _ _ c.new-tally.ensures.served c.new-tally.ensures.broken c.new-tally.ensures.lacked c.new-tally.ensures.door;
+  work = refl;
+  taken = c.requires.none_taken;
+  plans = refl;
+  objects = refl;
+  says = refl;
+  shards_among = c.requires.shards_among;
+  objects_among = c.requires.objects_among;
+}
+
+pub returns-in_default-clause-served : goal.returns-in_default-clause-served
+returns-in_default-clause-served g c =
+    door_fails _ _ _ _ _ _ _ _ _ c.loop-tally.invariant.so_far _ _ c.in_default.ensures.gives.0 c.in_default.ensures.back c.in_default.ensures.gives.1
+    c.in_default.ensures.cause.later c.in_default.ensures.cause.failed refl refl refl refl
+
+pub loop-tally-preserved : goal.loop-tally-preserved
+loop-tally-preserved g c =
+    let was = c.loop-tally.invariant in
+    let it = c.serve_connection-outcome.ensures in
+    let v : Visit (node_of c.args.keys.now (g.S.Shards.plans c.args.desk.now.shards) (g.H.Shelf.objects c.args.desk.now.shelf)) (g.R.RelayLink.says c.args.lane.now.relay) c.args.limits.frames = record {
+      before = _;
+      after = _;
+      faults_before = _;
+      faults_after = _;
+      outcome = _;
+      connection = settled (node_of c.args.keys.now) was.plans was.objects was.shards_among was.objects_among was.says _ _ _ _ it.connection;
+      causes = it.causes;
+      complete = it.complete;
+    } in
+    record {
+      so_far = one_served _ _ _ _ _ _ _ _ _ (door_of (g.D.Door.left c.accept.new.self) (g.D.Door.back c.accept.new.self) (g.D.Door.given c.accept.new.self) (g.D.Door.faults c.accept.new.self))
+          _ _ _ _ _ v was.so_far refl refl c.in-Some.is c.in-Ok.ensures.gives c.in-Ok.ensures.back c.in-Ok.ensures.cause.steady
+          c.done.ensures.back c.done.ensures.left c.done.ensures.given c.done.ensures.faults
+          (record { input = refl; output = refl; input_after = refl; output_after = refl }) c.loop-tally-test.true
+          c.add.ensures.served c.add.ensures.broken c.add.ensures.lacked c.add.ensures.door;
+      work = was.work;
+      taken = it.taken;
+      plans = it.plans ∙ was.plans;
+      objects = it.objects ∙ was.objects;
+      says = it.says ∙ was.says;
+      shards_among = it.alone ∙ was.shards_among;
+      objects_among = it.others_take ∙ was.objects_among;
+    }

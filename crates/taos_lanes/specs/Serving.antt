@@ -1,0 +1,65 @@
+-- What the lanes of a node did, from its opening until its cells were closed.
+use Rattle.std.specs.Prelude.{◌≡◌, ℕ, ◌==◌, true, List, [], map, Option, slice_get, count_by}
+use Rattle.std.specs.List.{position_or_len}
+use Rattle.agent_core.specs.Alone.{plans_in, seen_in}
+use Rattle.agent_core.specs.Journals.{ShardSeen}
+use Rattle.agent_shards.specs.Each.{Each3}
+use Rattle.object_core.specs.Objects.{ObjectEntry, ObjectSeen}
+use Rattle.object_core.specs.OneOwner.{journal_of}
+use Rattle.object_core.specs.Shelving.{fixed_of, numbers_of}
+use Rattle.taos_lanes.specs.declared.lane.Limits.{Limits}
+use Rattle.taos_lanes.specs.declared.total.Total.{Total}
+use Rattle.taos_lanes.specs.Doors.{GoesThrough}
+use Rattle.taos_lanes.specs.Lanes.{LaneRun, ServesAll, connection_count, broken_count, lacked_count}
+use Rattle.taos_lanes.specs.Stocked.{LaneShown}
+use Rattle.taos_lanes.specs.Working.{HasDoorCause}
+use Rattle.taos_monitor.specs.Cells.{Node, Journals, Viewed, viewed}
+use Rattle.taos_monitor.specs.World.{world_of}
+
+-- the journal of the first object of the number, or no entries where there is none
+abbrev pub journal_on : List ObjectSeen → ℕ → List ObjectEntry
+journal_on objects number =
+    journal_of (slice_get objects
+    (position_or_len (λ n. n == number) (numbers_of (map fixed_of objects))))
+
+-- the journals of these shards and objects
+abbrev pub journals_of : List ShardSeen → List ObjectSeen → Journals
+journals_of shards objects = record { shards = seen_in shards; objects = journal_on objects }
+
+-- nothing is seen of any cell
+abbrev pub unseen : {E : Type 0} → Viewed E
+unseen = viewed (λ s. []) (λ s. [])
+
+-- what a lane did from before it served until after: it had seen nothing at first, and went through
+-- its door
+pub record IsRunOf {In Out : Type 0} (left : In → Option (List ℕ)) (written : Out → Option (List ℕ))
+    {n : Node} {limit : ℕ} (most : ℕ) (before after : LaneShown (In × Out)) (run : LaneRun n limit) :
+    Type 0 where
+  pub says : run.says ≡ before.says
+  pub first : run.first ≡ world_of before.clock before.faults unseen unseen
+  pub clock : run.last.clock ≡ after.clock
+  pub faults : run.last.faults ≡ after.faults
+  pub through : GoesThrough left written most before.door after.door (run.door_failed ≡ true)
+      run.visits
+  pub cause : HasDoorCause run.door_failed before.door.faults after.door.faults
+
+-- these are counted
+pub record AreCounted {n : Node} {limit : ℕ} (runs : List (LaneRun n limit)) (total : Total) :
+    Type 0 where
+  pub served : total.served ≡ connection_count runs
+  pub broken : total.broken ≡ broken_count runs
+  pub lacked : total.lacked ≡ lacked_count runs
+  pub doors_failed : total.doors_failed ≡
+      count_by (λ (run : LaneRun n limit). run.door_failed) runs
+
+-- The node's lanes served all that stands in the journals of its shards and objects.
+pub record ServesNode {In Out : Type 0} (left : In → Option (List ℕ))
+    (written : Out → Option (List ℕ)) (n : Node) (limits : Limits)
+    (before after : List (LaneShown (In × Out))) (shards : List ShardSeen)
+    (objects : List ObjectSeen) (total : Total) : Type 0 where
+  pub runs : List (LaneRun n limits.frames)
+  pub each : Each3 (IsRunOf left written limits.connections) before after runs
+  pub serves : ServesAll (journals_of shards objects) runs
+  pub plans : plans_in shards ≡ n.plans
+  pub fixed : map fixed_of objects ≡ n.objects
+  pub counted : AreCounted runs total

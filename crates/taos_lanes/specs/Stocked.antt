@@ -1,0 +1,113 @@
+-- A lane with passes of a node's cells, and what its worker does with them.
+use Rattle.std.specs.Prelude.{◌≡◌, ℕ, List, Option, None, Some}
+use Rattle.agent_core.specs.Journals.{Entry}
+use Rattle.agent_shards.specs.Cells.{shares_of}
+use Rattle.agent_shards.specs.Shards.{ShardCell, KnownShard, ArePasses, SeatSeen, journal_at, own_at, plans_of}
+use Rattle.agent_shards.specs.Objects.{ObjectCell, KnownObject, AreObjectPasses, ShelfSeen, seen_on, own_on, fixed_in}
+use Rattle.frame_link.specs.Relay.{Said}
+use Rattle.object_core.specs.Objects.{ObjectEntry}
+use Rattle.taos_lanes.specs.declared.lane.Lane.{Lane}
+use Rattle.taos_lanes.specs.declared.lane.Limits.{Limits}
+use Rattle.taos_lanes.specs.declared.lane.Stock.{Stock}
+use Rattle.taos_lanes.specs.Doors.{DoorSeen, door_of}
+use Rattle.taos_lanes.specs.Working.{ServesDoor, lane_of}
+use Rattle.taos_monitor.specs.declared.node_keys.NodeKeys.{NodeKeys}
+use Rattle.taos_monitor.specs.Arriving.{node_of}
+use Rattle.taos_monitor.specs.Cells.{Node, Viewed, viewed}
+use Rattle.taos_monitor.specs.World.{World, world_of}
+
+-- the cells of a node's shards and of its objects
+pub record NodeCells : Type 0 where
+  pub shards : List ShardCell
+  pub objects : List ObjectCell
+
+-- the cells of these
+abbrev pub cells_of : List ShardCell → List ObjectCell → NodeCells
+cells_of shards objects = record { shards = shards; objects = objects }
+
+-- the node of these keys at these cells
+abbrev pub node_at : NodeKeys → NodeCells → Node
+node_at keys cells = node_of keys (plans_of cells.shards) (fixed_in cells.objects)
+
+-- a seat at shards with these passes
+abbrev pub seat : List ShardCell → List KnownShard → SeatSeen
+seat cells passes = record { cells = cells; passes = passes }
+
+-- a seat at objects with these passes, where no object is taken
+abbrev pub shelf : List ObjectCell → List KnownObject → ShelfSeen
+shelf cells passes = record { cells = cells; passes = passes; taken = None }
+
+-- what passes have seen of the shards, and their own places
+abbrev pub shards_viewed : List ShardCell → List KnownShard → Viewed Entry
+shards_viewed cells passes = viewed (journal_at (seat cells passes)) (own_at (seat cells passes))
+
+-- what passes have seen of the objects, and their own places
+abbrev pub objects_viewed : List ObjectCell → List KnownObject → Viewed ObjectEntry
+objects_viewed cells passes = viewed (seen_on (shelf cells passes)) (own_on (shelf cells passes))
+
+-- what a lane with this stock answers in
+abbrev pub world_at : NodeCells → Option (List ℕ) → ℕ → Stock → World
+world_at cells clock faults stock =
+    world_of clock faults (shards_viewed cells.shards stock.passes)
+    (objects_viewed cells.objects stock.racked)
+
+-- the passes of the stock are of these cells
+pub record IsStockOf (cells : NodeCells) (stock : Stock) : Type 0 where
+  pub shards : ArePasses cells.shards stock.passes
+  pub objects : AreObjectPasses cells.objects stock.racked
+
+-- there is a stock of these cells, with so many shares of each shard and of each object
+pub record IsStocked (cells : NodeCells) (shards objects : List ℕ) (work : Option Stock) :
+    Type 0 where
+  pub stock : Stock
+  pub is : work ≡ Some stock
+  pub of : IsStockOf cells stock
+  pub shards_shared : shares_of stock.passes ≡ shards
+  pub objects_shared : shares_of stock.racked ≡ objects
+
+-- the two have as many shares of each cell
+pub record HaveSameShares (before after : Stock) : Type 0 where
+  pub shards : shares_of after.passes ≡ shares_of before.passes
+  pub objects : shares_of after.racked ≡ shares_of before.racked
+
+-- a lane, as contracts see it: X is what its door gives
+pub record LaneShown (X : Type 0) : Type 0 where
+  -- the readings that its clock has left, where it tells them
+  pub clock : Option (List ℕ)
+  -- how often its link has failed, and what it tells of its answers
+  pub faults : ℕ
+  pub says : Option (ℕ → List ℕ → Said)
+  pub door : DoorSeen X
+  pub work : Option Stock
+
+-- a door, by what is told of it
+abbrev pub door_by : {D X : Type 0} → (left back : D → Option (List X)) →
+    (given faults : D → ℕ) → D → DoorSeen X
+door_by left back given faults d = door_of (left d) (back d) (given d) (faults d)
+
+-- a lane, by what is told of its clock, its link and its door
+abbrev pub shown_by : {C R D I O : Type 0} → (C → Option (List ℕ)) → (R → ℕ) →
+    (R → Option (ℕ → List ℕ → Said)) → (D → DoorSeen (I × O)) → Lane C R D I O → LaneShown (I × O)
+shown_by readings faults says door lane = record {
+  clock = readings lane.clock;
+  faults = faults lane.relay;
+  says = says lane.relay;
+  door = door lane.door;
+  work = lane.work;
+}
+
+-- The lane served connections of its door at the cells, from what its passes had seen before to what
+-- they have seen now, with as many shares.
+pub record ServesLane {In Out : Type 0} (left : In → Option (List ℕ))
+    (written : Out → Option (List ℕ)) (keys : NodeKeys) (cells : NodeCells) (limits : Limits)
+    (before after : LaneShown (In × Out)) : Type 0 where
+  pub old : Stock
+  pub new : Stock
+  pub had : before.work ≡ Some old
+  pub has : after.work ≡ Some new
+  pub of : IsStockOf cells new
+  pub shares : HaveSameShares old new
+  pub says : after.says ≡ before.says
+  pub serves : ServesDoor left written (node_at keys cells) before.says limits.frames
+      limits.connections (lane_of (world_at cells before.clock before.faults old) before.door)
+      (lane_of (world_at cells after.clock after.faults new) after.door) new.tally

@@ -1,0 +1,26 @@
+//! Laws of lanes, each the contract of a function that does nothing.
+
+ghost use Rattle.std.specs.Prelude.{ℕ};
+ghost use Rattle.taos_monitor.specs.Cells.{Node};
+ghost use Rattle.taos_lanes.specs.Laws.{ChainGoesOn, ClosedServesAll, JoinedAreClosed, JoinsOneMore};
+
+use taos_monitor::what_is_answered_stays;
+
+/// Where the seats are joined and the cells closed, each connection of each lane is answered in the
+/// journals, and each entry is own of one connection, once.
+pub fn closed_lanes_serve_all()
+    ensures { (n : Node) (limit : ℕ) → ClosedServesAll n limit }
+{
+    what_is_answered_stays();
+}
+
+/// A lane goes on by one connection.
+pub fn chains_go_on()
+    ensures { (n : Node) (limit : ℕ) → ChainGoesOn n limit }
+{}
+
+/// One lane's pass more is joined; and where all are, the cells that are closed make the whole.
+pub fn joined_lanes_are_closed<E>()
+    ensures more { (n : Node) (limit : ℕ) → JoinsOneMore E n limit }
+    ensures closed { (n : Node) (limit : ℕ) → JoinedAreClosed n limit }
+{}

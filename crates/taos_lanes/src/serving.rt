@@ -1,0 +1,143 @@
+//! The lanes of a node, from its opening until its cells are closed.
+
+ghost use Rattle.std.specs.List.{AllZip};
+ghost use Rattle.std.specs.Prelude.{◌≡◌, ◌<◌, ◌≤◌, [], All, IfOk, None, OnErr, length, map};
+ghost use Rattle.agent_core.specs.Alone.{plans_in};
+ghost use Rattle.agent_core.specs.Plans.{AreShards};
+ghost use Rattle.agent_shards.specs.Shards.{plans_of};
+ghost use Rattle.object_core.specs.Shelving.{HaveOwnNumbers, fixed_of};
+ghost use Rattle.taos_lanes.specs.Joining.{AreKept, AreNew, HasOtherWork, IsEmptied, passes_of};
+ghost use Rattle.taos_lanes.specs.Serving.{ServesNode};
+ghost use Rattle.taos_lanes.specs.Stocked.{cells_of, door_by, node_at, shown_by};
+ghost use Rattle.taos_monitor.specs.Arriving.{node_of};
+ghost use Rattle.taos_monitor.specs.Planned.{ArePlanned};
+
+use crate::joining::join_lanes;
+use crate::lane::{Lane, Limits};
+use crate::laws::closed_lanes_serve_all;
+use crate::sitting::Shared;
+use crate::stocking::stock_lanes;
+use crate::together::serve_lanes;
+use crate::total::Total;
+use agent_core::Shard;
+use agent_shards::{Agent, Passes, Rack, RackPasses};
+use frame_link::{Clock, Door, RelayLink};
+use object_core::Object;
+use prin_term::Anchor;
+use std::alloc::{AllocError, Global};
+use std::marker::{Brand, PhantomData};
+use std::sync::{Arc, Wait};
+use std::thread::Threads;
+use taos_monitor::NodeKeys;
+
+/// The most lanes of a node.
+pub const MAX_LANES: usize = 16;
+
+/// What the lanes of a node leave: the shards and objects with their journals, and what was counted.
+#[derive(Drop)]
+pub struct Served {
+    /// In the order of their numbers.
+    pub shards: Vec<Shard>,
+    /// In the order in which they were given.
+    pub objects: Vec<Object>,
+    pub total: Total,
+}
+
+// The lanes keep nothing of their work.
+fn empty<C: Clock, R: RelayLink, D: Door>(lanes: &mut [Lane<C, R, D>])
+    ensures { AllZip IsEmptied
+        (map (shown_by C.readings R.faults R.says (door_by D.left D.back D.given D.faults)) lanes.old)
+        (map (shown_by C.readings R.faults R.says (door_by D.left D.back D.given D.faults)) lanes.new) }
+{
+    for lane in lanes.iter_mut() {
+        lane.work = None;
+    }
+}
+
+// Serves the doors of all lanes at new cells. Where memory is refused, no door was asked.
+fn serve_cells<W: Threads + Wait + Sync, C: Clock + Send, R: RelayLink + Send, D: Door + Send>(
+    rt: &W,
+    alloc: Global,
+    keys: &NodeKeys,
+    shards: (Agent, Passes),
+    objects: (Rack, RackPasses),
+    lanes: &mut [Lane<C, R, D>],
+    limits: Limits,
+) -> Result<Served, AllocError>
+    requires some { 0 < length lanes.old }
+    requires few { length lanes.old ≤ 16 }
+    requires kept { AreKept (cells_of shards.0 objects.0) 0 (passes_of shards.1 objects.1) }
+    requires new { AreNew (cells_of shards.0 objects.0) }
+    requires planned { ArePlanned keys.now.channels.entries (plans_of shards.0) }
+    ensures served { IfOk result (λ r. ServesNode D.In.left D.Out.written
+        (node_at keys.now (cells_of shards.0 objects.0)) limits
+        (map (shown_by C.readings R.faults R.says (door_by D.left D.back D.given D.faults)) lanes.old)
+        (map (shown_by C.readings R.faults R.says (door_by D.left D.back D.given D.faults)) lanes.new)
+        r.shards.items r.objects.items r.total) }
+    ensures idle { All (λ lane. lane.work ≡ None) lanes.new }
+    ensures unserved { OnErr result (AllZip HasOtherWork
+        (map (shown_by C.readings R.faults R.says (door_by D.left D.back D.given D.faults)) lanes.old)
+        (map (shown_by C.readings R.faults R.says (door_by D.left D.back D.given D.faults)) lanes.new)) }
+{
+    closed_lanes_serve_all();
+    let (agent, mut passes) = shards;
+    let (rack, mut racked) = objects;
+    let Ok(()) = stock_lanes(alloc, &agent, &rack, &mut passes, &mut racked, lanes) else {
+        empty(lanes);
+        return Err(AllocError);
+    };
+    let shared = Shared {
+        rt,
+        alloc,
+        keys,
+        agent: &agent,
+        rack: &rack,
+        limits,
+        whose: PhantomData,
+    };
+    serve_lanes::<W, Brand, Brand, C, R, D>(&shared, lanes);
+    let total = join_lanes(&agent, &rack, &mut passes, &mut racked, lanes);
+    Ok(Served {
+        shards: agent.close(passes),
+        objects: rack.close(racked),
+        total,
+    })
+}
+
+/// Serves the doors of all lanes at the same time, a worker a lane, until each has served as many
+/// connections as the limits say, or its door has no more or fails. All memory for the lanes is taken
+/// before the first connection; where it is refused, no door was asked. The decider of a lane takes
+/// room of its own.
+pub fn serve<W: Threads + Wait + Sync, C: Clock + Send, R: RelayLink + Send, D: Door + Send>(
+    rt: &W,
+    alloc: Global,
+    keys: &NodeKeys,
+    shards: Vec<Shard>,
+    anchors: Arc<Vec<Anchor>>,
+    objects: Vec<Object>,
+    lanes: &mut [Lane<C, R, D>],
+    limits: Limits,
+) -> Result<Served, AllocError>
+    requires some { 0 < length lanes.old }
+    requires few { length lanes.old ≤ 16 }
+    requires idle { All (λ lane. lane.work ≡ None) lanes.old }
+    requires shards { AreShards (plans_in shards.items) anchors.value.items }
+    requires shards_new { All (λ s. s.journal ≡ []) shards.items }
+    requires objects { HaveOwnNumbers (map fixed_of objects.items) }
+    requires objects_new { All (λ o. o.journal ≡ []) objects.items }
+    requires planned { ArePlanned keys.now.channels.entries (plans_in shards.items) }
+    ensures served { IfOk result (λ r. ServesNode D.In.left D.Out.written
+        (node_of keys.now (plans_in shards.items) (map fixed_of objects.items)) limits
+        (map (shown_by C.readings R.faults R.says (door_by D.left D.back D.given D.faults)) lanes.old)
+        (map (shown_by C.readings R.faults R.says (door_by D.left D.back D.given D.faults)) lanes.new)
+        r.shards.items r.objects.items r.total) }
+    ensures idle { All (λ lane. lane.work ≡ None) lanes.new }
+
+    ensures unserved { OnErr result (AllZip HasOtherWork
+        (map (shown_by C.readings R.faults R.says (door_by D.left D.back D.given D.faults)) lanes.old)
+        (map (shown_by C.readings R.faults R.says (door_by D.left D.back D.given D.faults)) lanes.new)) }
+{
+    let opened = Agent::new(alloc, shards, anchors)?;
+    let racked = Rack::new(alloc, objects)?;
+    serve_cells(rt, alloc, keys, opened, racked, lanes, limits)
+}

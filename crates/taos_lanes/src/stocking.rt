@@ -1,0 +1,67 @@
+//! What lanes are given before their workers run.
+
+ghost use Rattle.std.specs.List.{AllZip};
+ghost use Rattle.std.specs.Prelude.{◌+◌, ◌<◌, IfOk, OnErr, OnOk, length, map};
+ghost use Rattle.taos_lanes.specs.Joining.{AreKept, HasOtherWork, IsFreshStock, IsGivenStock, passes_of};
+ghost use Rattle.taos_lanes.specs.Stocked.{cells_of, door_by, shown_by};
+ghost use Rattle.turn_cell.specs.declared.shares.TheConstants.{ALL_SHARES};
+
+use crate::lane::{Lane, Stock};
+use crate::tally::Tally;
+use agent_shards::{Agent, Passes, Rack, RackPasses};
+use frame_link::{Clock, Door, RelayLink};
+use std::alloc::{AllocError, Global};
+use taos_saturate::Saturator;
+
+// One share of each cell out of the passes, with a decider.
+pub(crate) fn stock_of(
+    alloc: Global,
+    agent: &Agent,
+    rack: &Rack,
+    passes: &mut Passes,
+    racked: &mut RackPasses,
+    given: u64,
+) -> Result<Stock, AllocError>
+    requires kept { AreKept (cells_of agent.now rack.now) given
+        (passes_of passes.old racked.old) }
+    requires few { given + 1 < ALL_SHARES }
+    ensures stock { IfOk result (λ s. IsFreshStock (cells_of agent.now rack.now) s) }
+    ensures kept { IfOk result (λ _. AreKept (cells_of agent.now rack.now) (given + 1)
+        (passes_of passes.new racked.new)) }
+{
+    let bench = Saturator::reserve(alloc)?;
+    Ok(Stock {
+        passes: agent.seat(alloc, passes, 1)?,
+        racked: rack.seat(alloc, racked, 1)?,
+        bench,
+        tally: Tally::new(),
+    })
+}
+
+// Gives each lane a stock. Where memory is refused some may have one.
+pub(crate) fn stock_lanes<C: Clock, R: RelayLink, D: Door>(
+    alloc: Global,
+    agent: &Agent,
+    rack: &Rack,
+    passes: &mut Passes,
+    racked: &mut RackPasses,
+    lanes: &mut [Lane<C, R, D>],
+) -> Result<(), AllocError>
+    requires few { length lanes.old + 1 < ALL_SHARES }
+    requires kept { AreKept (cells_of agent.now rack.now) 0 (passes_of passes.old racked.old) }
+    ensures stocked { OnOk result (AllZip (IsGivenStock (cells_of agent.now rack.now))
+        (map (shown_by C.readings R.faults R.says (door_by D.left D.back D.given D.faults)) lanes.old)
+        (map (shown_by C.readings R.faults R.says (door_by D.left D.back D.given D.faults)) lanes.new)) }
+    ensures kept { OnOk result (AreKept (cells_of agent.now rack.now) (length lanes.old)
+        (passes_of passes.new racked.new)) }
+    ensures same { OnErr result (AllZip HasOtherWork
+        (map (shown_by C.readings R.faults R.says (door_by D.left D.back D.given D.faults)) lanes.old)
+        (map (shown_by C.readings R.faults R.says (door_by D.left D.back D.given D.faults)) lanes.new)) }
+{
+    let mut given = 0;
+    for lane in lanes.iter_mut() {
+        lane.work = Some(stock_of(alloc, agent, rack, passes, racked, given)?);
+        given += 1;
+    }
+    Ok(())
+}

@@ -1,0 +1,55 @@
+//! The lanes of a node, each in a worker of its own.
+
+ghost use Rattle.std.specs.List.{AllZip};
+ghost use Rattle.std.specs.Prelude.{◌≡◌, ◌<◌, All, length, map};
+ghost use Rattle.agent_shards.specs.Shards.{plans_of};
+ghost use Rattle.taos_lanes.specs.Stocked.{IsStocked, ServesLane, cells_of, door_by, shown_by};
+ghost use Rattle.taos_monitor.specs.Planned.{ArePlanned};
+
+use crate::lane::Lane;
+use crate::sitting::{Shared, serve_lane};
+use agent_shards::{OfAgent, OfRack};
+use frame_link::{Clock, Door, RelayLink};
+use std::sync::Wait;
+use std::thread;
+use std::thread::Threads;
+
+// Serves the door of each lane, all at the same time.
+pub(crate) fn serve_lanes<
+    W: Threads + Wait + Sync,
+    K: OfAgent + Send + Sync,
+    L: OfRack + Send + Sync,
+    C: Clock + Send,
+    R: RelayLink + Send,
+    D: Door + Send,
+>(shared: &Shared<'_, W, K, L>, lanes: &mut [Lane<C, R, D>])
+    requires some { 0 < length lanes.old }
+    requires planned { ArePlanned shared.now.keys.now.channels.entries (plans_of shared.now.agent.now) }
+    requires agent { shared.now.agent.now ≡ K.cells }
+    requires rack { shared.now.rack.now ≡ L.cells }
+    requires stocked { All (λ lane. IsStocked (cells_of shared.now.agent.now shared.now.rack.now) K.shares L.shares lane.work)
+        lanes.old }
+    ensures { AllZip (ServesLane D.In.left D.Out.written shared.now.keys.now (cells_of shared.now.agent.now shared.now.rack.now) shared.now.limits)
+        (map (shown_by C.readings R.faults R.says (door_by D.left D.back D.given D.faults)) lanes.old)
+        (map (shown_by C.readings R.faults R.says (door_by D.left D.back D.given D.faults)) lanes.new) }
+{
+    let count = lanes.len();
+    thread::for_each_mut(
+        shared.rt,
+        lanes,
+        count,
+        &|_, lane: &mut Lane<C, R, D>|
+            requires planned { ArePlanned shared.now.keys.now.channels.entries
+                (plans_of shared.now.agent.now) }
+            requires agent { shared.now.agent.now ≡ K.cells }
+            requires rack { shared.now.rack.now ≡ L.cells }
+            requires stocked { IsStocked (cells_of shared.now.agent.now shared.now.rack.now)
+                K.shares L.shares lane.old.work }
+            ensures { ServesLane D.In.left D.Out.written shared.entry.now.keys.now
+                (cells_of shared.entry.now.agent.now shared.entry.now.rack.now)
+                shared.entry.now.limits
+                (shown_by C.readings R.faults R.says (door_by D.left D.back D.given D.faults) lane.old)
+                (shown_by C.readings R.faults R.says (door_by D.left D.back D.given D.faults) lane.new) }
+        { serve_lane(shared, lane) },
+    );
+}

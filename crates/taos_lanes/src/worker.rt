@@ -1,0 +1,96 @@
+//! A lane's worker: the connections of its door, one after the other.
+
+ghost use Rattle.std.specs.Prelude.{◌≡◌, None, false};
+ghost use Rattle.std.specs.Thread.{IsSync};
+ghost use Rattle.taos_lanes.specs.Doors.{door_of};
+ghost use Rattle.taos_lanes.specs.Working.{ServesDoor, lane_of};
+ghost use Rattle.taos_monitor.specs.Arriving.{node_of};
+ghost use Rattle.taos_monitor.specs.Cells.{viewed};
+ghost use Rattle.taos_monitor.specs.Planned.{ArePlanned};
+ghost use Rattle.taos_monitor.specs.World.{world_of};
+
+use crate::lane::{Lane, Limits};
+use crate::tally::Tally;
+use agent_core::Shards;
+use frame_link::{Clock, Door, RelayLink};
+use object_core::Shelf;
+use std::alloc::Global;
+use std::sync::Wait;
+use taos_calculus::Decide;
+use taos_monitor::{NodeKeys, serve_connection};
+
+// What a worker sits at: shards, objects and a decider.
+pub(crate) struct Desk<S, H, B> {
+    pub(crate) shards: S,
+    pub(crate) shelf: H,
+    pub(crate) bench: B,
+}
+
+// Serves connections of the lane's door, up to as many as the limits say, or until the door has
+// none or fails. Each is given back.
+pub(crate) fn serve_door<
+    W: Wait + Sync,
+    S: Shards,
+    H: Shelf,
+    B: Decide,
+    C: Clock,
+    R: RelayLink,
+    D: Door,
+>(
+    rt: &W,
+    alloc: Global,
+    keys: &NodeKeys,
+    desk: &mut Desk<S, H, B>,
+    lane: &mut Lane<C, R, D>,
+    limits: Limits,
+) -> Tally
+    requires planned { ArePlanned keys.now.channels.entries (S.plans desk.old.shards) }
+    requires none_taken { H.taken desk.old.shelf ≡ None }
+    requires shards_among { S.alone desk.old.shards ≡ false }
+    requires objects_among { H.alone desk.old.shelf ≡ false }
+    ensures served { ServesDoor D.In.left D.Out.written
+        (node_of keys.now (S.plans desk.old.shards) (H.objects desk.old.shelf))
+        (R.says lane.old.relay) limits.frames limits.connections
+        (lane_of (world_of (C.readings lane.old.clock) (R.faults lane.old.relay)
+        (viewed (S.seen desk.old.shards) (S.own desk.old.shards))
+        (viewed (H.seen desk.old.shelf) (H.own desk.old.shelf)))
+        (door_of (D.left lane.old.door) (D.back lane.old.door) (D.given lane.old.door)
+        (D.faults lane.old.door)))
+        (lane_of (world_of (C.readings lane.new.clock) (R.faults lane.new.relay)
+        (viewed (S.seen desk.new.shards) (S.own desk.new.shards))
+        (viewed (H.seen desk.new.shelf) (H.own desk.new.shelf)))
+        (door_of (D.left lane.new.door) (D.back lane.new.door) (D.given lane.new.door)
+        (D.faults lane.new.door))) result }
+    ensures work { lane.new.work ≡ lane.old.work }
+    ensures taken { H.taken desk.new.shelf ≡ None }
+    ensures plans { S.plans desk.new.shards ≡ S.plans desk.old.shards }
+    ensures objects { H.objects desk.new.shelf ≡ H.objects desk.old.shelf }
+    ensures says { R.says lane.new.relay ≡ R.says lane.old.relay }
+{
+    let mut tally = Tally::new();
+    while tally.served < limits.connections {
+        let Ok(opened) = lane.door.accept() else {
+            tally.door_failed = true;
+            return tally;
+        };
+        let Some((mut input, mut output)) = opened else {
+            return tally;
+        };
+        let outcome = serve_connection(
+            rt,
+            alloc,
+            keys,
+            &mut desk.shelf,
+            &mut desk.shards,
+            &mut lane.relay,
+            &mut lane.clock,
+            &mut desk.bench,
+            &mut input,
+            &mut output,
+            limits.frames,
+        );
+        lane.door.done(input, output);
+        tally.add(outcome);
+    }
+    tally
+}

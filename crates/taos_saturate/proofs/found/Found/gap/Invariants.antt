@@ -1,6 +1,0 @@
-use Rattle.std.proofs.Common.{ℕ, ◌<◌}
-use Rattle.taos_saturate.specs.Finding.{IsGap}
-use Rattle.taos_saturate.proofs.found.Found.gap.Given as goal
-
-abbrev pub invariant-loop-c : goal.invariant-loop-c
-invariant-loop-c l = (m : ℕ) → m < l.c → IsGap l.self l.row l.through m → ⊥
