@@ -1,9 +1,9 @@
 #!/usr/bin/env python3
-"""Runs a command for each connection, with the connection as its standard streams.
+"""Runs a command for each connection, with the connection as its standard streams, all of them side by side.
 
     listen.py PORT COMMAND..
 
-The listener takes a free port of 127.0.0.1, and writes its number to the file PORT.
+The listener takes a free port of 127.0.0.1, and writes its number to the file PORT. A command ends once its connection has.
 """
 import os
 import socket
@@ -20,10 +20,12 @@ def main(words):
         with open(path + ".new", "w", encoding="ascii") as file:
             file.write(f"{listener.getsockname()[1]}\n")
         os.rename(path + ".new", path)
+        running = []
         while True:
             connection, _ = listener.accept()
             with connection:
-                subprocess.run(command, stdin=connection, stdout=connection, check=False)
+                running.append(subprocess.Popen(command, stdin=connection, stdout=connection))
+            running = [each for each in running if each.poll() is None]
 
 
 if __name__ == "__main__":

@@ -4,7 +4,7 @@
 #include <stdio.h>
 #include <time.h>
 
-enum { TURNS = 2000000, RUNS = 10 };
+enum { TURNS = 200000, RUNS = 10 };
 
 static pthread_mutex_t lock = PTHREAD_MUTEX_INITIALIZER;
 static volatile uint64_t count;

@@ -39,8 +39,8 @@ use Rattle.agent_core.specs.declared.asked.Denial.{Denial}
 use Rattle.agent_core.specs.State.{Plan, State, Ask, Event, Asks, Answer, Plain, swept, brought, asking, moment_of}
 use Rattle.agent_core.specs.Journals.{Entry, entry, state_after, cache_after, Stands, IsLegalJournal, IsJudged, granted}
 use Rattle.agent_core.specs.Steps.{StepAnswer, Hit, Miss, Other, IsAnswer, hit, miss, other, JournalSeen, StepsTo, StepRefused, seen_at}
-use Rattle.agent_core.specs.Asked.{FitsAsk, IsGrantedAt, IsHitAt, IsDeniedAt, IsTold, IsGrant, by_kept, EndsBy, Ends, AskEnds, Unanswered, AskedTo}
-use Rattle.agent_core.specs.Settling.{IsGrantedBy, IsDeniedBy, StepsAsk}
+use Rattle.agent_core.specs.Asked.{FitsAsk, IsGrantedBy, IsDeniedBy, IsGrantedAt, IsHitAt, IsDeniedAt, IsTold, IsGrant, by_kept, EndsBy, Ends, AskEnds, Unanswered, AskedTo}
+use Rattle.agent_core.specs.Settling.{StepsAsk}
 
 pub on_err : {T E P : Type 0} (r : Result T E) → P → OnErr r P
 on_err (Ok x) p = tt
@@ -165,11 +165,9 @@ module _ {plan : Plan} {earlier later : JournalSeen} (a : Ask) where
       before = s.before;
       moment = moment;
       certs = certs;
-      grant = g.grant;
       stands = stands_missed;
       judged = judged_by;
-      first = g.first;
-      proof = g.proof;
+      granted = g;
     }
 
     pub denied_at_last : (denial : Denial) → IsDeniedBy plan.anchors certs moment a denial → IsDeniedAt plan later.journal a place denial
@@ -177,12 +175,9 @@ module _ {plan : Plan} {earlier later : JournalSeen} (a : Ask) where
       before = s.before;
       moment = moment;
       certs = certs;
-      link = d.link;
       stands = stands_missed;
       judged = judged_by;
-      none = d.none;
-      first = d.first;
-      names = d.names;
+      denied = d;
     }
 
     -- the proof found no memory

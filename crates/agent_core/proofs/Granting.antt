@@ -22,10 +22,10 @@ use Rattle.agent_core.specs.declared.told.Answer.TheVariants as answer
 use Rattle.agent_core.specs.declared.told.DropCause.{DropCause}
 use Rattle.agent_core.specs.declared.told.Told.{Told}
 use Rattle.agent_core.specs.Answers.{SteppedTo}
-use Rattle.agent_core.specs.Asked.{IsGrantedAt, IsToldOf, IsGrant, was_kept, was_dropped, had_no_room, Unanswered, AskedTo}
+use Rattle.agent_core.specs.Asked.{IsGrantedBy, IsGrantedAt, IsToldOf, IsGrant, was_kept, was_dropped, had_no_room, Unanswered, AskedTo}
 use Rattle.agent_core.specs.Granted.{IsProofFor}
 use Rattle.agent_core.specs.Journals.{Entry, entry, Stands, Begins, state_after, IsKeepable, granted}
-use Rattle.agent_core.specs.Settling.{IsGrantedBy, KeptAs}
+use Rattle.agent_core.specs.Settling.{KeptAs}
 use Rattle.agent_core.specs.State.{Plan, Ask, Event, Asks, Keeps, Plain, first_missing, settled_by, next}
 use Rattle.agent_core.specs.Steps.{StepAnswer, Hit, Miss, Other, IsAnswer, hit, miss, other, JournalSeen, StepsTo, StepRefused}
 use Rattle.agent_core.proofs.Apart.{cites_apart}
@@ -90,13 +90,13 @@ module _ (plan : Plan) (earlier later : JournalSeen) (p e : ℕ) (c : Cached) (p
   step_as : (x : ValueOfAnswer) → r ≡ x → SteppedTo plan earlier later (Keeps p e c) place x
   step_as x is = subst (SteppedTo plan earlier later (Keeps p e c) place) is s
 
-  pub kept_step : r ≡ answer.Kept → KeptAs plan earlier later p e c settled.Kept
+  pub kept_step : r ≡ answer.Kept → KeptAs plan earlier later (Keeps p e c) settled.Kept
   kept_step is = (place, step_as answer.Kept is)
 
-  pub dropped_step : (cause : DropCause) → r ≡ answer.Dropped cause → KeptAs plan earlier later p e c (settled.Dropped cause)
+  pub dropped_step : (cause : DropCause) → r ≡ answer.Dropped cause → KeptAs plan earlier later (Keeps p e c) (settled.Dropped cause)
   dropped_step cause is = (place, step_as (answer.Dropped cause) is)
 
-  pub full_step : (n : ℕ) → r ≡ answer.JournalFull n → KeptAs plan earlier later p e c (settled.NoRoom n)
+  pub full_step : (n : ℕ) → r ≡ answer.JournalFull n → KeptAs plan earlier later (Keeps p e c) (settled.NoRoom n)
   full_step n is = let t = step_as (answer.JournalFull n) is in (t.0, t.1, t.2)
 
   pub no_other_step : (x : ValueOfAnswer) (y : StepAnswer) → r ≡ x → (SteppedTo plan earlier later (Keeps p e c) place x → StepsTo plan earlier later (Keeps p e c) place y) → IsKeepAnswer y
@@ -185,7 +185,7 @@ module _ {plan : Plan} {earlier mid : JournalSeen} (a : Ask) (place moment : ℕ
         }
 
     -- whatever became of the proof
-    pub kept_asks : (r : Settled) → KeptAs plan mid later place e c r → AskedTo plan earlier later a (IsGrant plan later.journal a place e c false r)
+    pub kept_asks : (r : Settled) → KeptAs plan mid later (Keeps place e c) r → AskedTo plan earlier later a (IsGrant plan later.journal a place e c false r)
     kept_asks settled.NoNeed h = absurd h
     kept_asks settled.Kept h =
         let t : StepsTo plan mid later (Keeps place e c) h.0 (Other Told.Kept) = h.1 in
@@ -204,4 +204,4 @@ module _ {plan : Plan} {earlier mid : JournalSeen} (a : Ask) (place moment : ℕ
     unkept_asks r =
         let t : IsGrantedAt plan later.journal a place e c = granted_later r.goes_on in
         once_asks r (Unanswered plan later.journal a)
-        (inr (place, t.before, t.stands, granted t.judged (record { place = e; entry = t.grant; stands = t.first.stands; has_right = t.first.has_right; speaks = t.first.holds }), refl))
+        (inr (place, t.before, t.stands, granted t.judged (record { place = e; entry = t.granted.grant; stands = t.granted.first.stands; has_right = t.granted.first.has_right; speaks = t.granted.first.holds }), refl))

@@ -1,5 +1,6 @@
 -- Where an Ask is told a hit, its entry is granted by a kept proof: cached equals uncached.
-use Rattle.std.proofs.Common.{◌≡◌, ℕ, ◌+◌, ◌<◌, ◌≤◌, ◌≢◌, max, Bool, true, false, not, ◌&&◌, ◌==◌, nat_le, nat_lt, List, [], ◌∷◌, ◌++◌, length, take, map, get_or, filter, find, bit_and, position, All, Contains, Option, Some, None, slice_get, zero, suc, inl, inr, refl, sym, ◌∙◌, ap, ap₂, subst, arith}
+use Rattle.std.proofs.Common.{◌≡◌, ℕ, ◌+◌, ◌<◌, ◌≤◌, ◌≢◌, max, Bool, true, false, not, ◌&&◌, ◌==◌, nat_le, nat_lt, List, [], ◌∷◌, ◌++◌, length, take, map}
+use Rattle.std.proofs.Common.{get_or, filter, find, bit_and, position, All, Contains, Option, Some, None, slice_get, zero, suc, inl, inr, refl, sym, ◌∙◌, ap, ap₂, subst, arith}
 use Rattle.std.specs.List.{list_any}
 use Rattle.std.proofs.lemmas.Bool.{cond_both, cond-true, cond-false, and_parts, lt-ltb, not-true, eqb-false, cases_Bool}
 use Rattle.std.proofs.lemmas.Option.{slice_get-get_or, same_Some, none-some}

@@ -25,11 +25,9 @@ module _ (plan : Plan) (xs ys : List Entry) (a : Ask) (goes : Begins xs ys) wher
     before = g.before;
     moment = g.moment;
     certs = g.certs;
-    grant = g.grant;
     stands = stands_on g.stands goes;
     judged = g.judged;
-    first = g.first;
-    proof = g.proof;
+    granted = g.granted;
   }
 
   pub denied_stays : (place : ℕ) (denial : Denial) → IsDeniedAt plan xs a place denial → IsDeniedAt plan ys a place denial
@@ -37,12 +35,9 @@ module _ (plan : Plan) (xs ys : List Entry) (a : Ask) (goes : Begins xs ys) wher
     before = d.before;
     moment = d.moment;
     certs = d.certs;
-    link = d.link;
     stands = stands_on d.stands goes;
     judged = d.judged;
-    none = d.none;
-    first = d.first;
-    names = d.names;
+    denied = d.denied;
   }
 
   pub hit_stays : (place e : ℕ) (c : Cached) → IsHitAt plan xs a place e c → IsHitAt plan ys a place e c
@@ -77,10 +72,10 @@ module _ (plan : Plan) (xs ys : List Entry) (a : Ask) (goes : Begins xs ys) wher
 
 module _ (plan : Plan) (journal : List Entry) (a : Ask) (place : ℕ) where
   pub granted_verdict : (e : ℕ) (c : Cached) → (g : IsGrantedAt plan journal a place e c) → IsVerdict plan g.before a Granted
-  granted_verdict e c g = granted g.judged (record { place = e; entry = g.grant; stands = g.first.stands; has_right = g.first.has_right; speaks = g.first.holds })
+  granted_verdict e c g = granted g.judged (record { place = e; entry = g.granted.grant; stands = g.granted.first.stands; has_right = g.granted.first.has_right; speaks = g.granted.first.holds })
 
-  pub denied_verdict : (denial : Denial) → (d : IsDeniedAt plan journal a place denial) → IsVerdict plan d.before a (Denied d.link)
-  denied_verdict denial d = denied d.judged d.none d.first
+  pub denied_verdict : (denial : Denial) → (d : IsDeniedAt plan journal a place denial) → IsVerdict plan d.before a (Denied d.denied.link)
+  denied_verdict denial d = denied d.judged d.denied.none d.denied.first
 
   pub hit_verdict : (e : ℕ) (c : Cached) → (h : IsHitAt plan journal a place e c) → IsVerdict plan h.before a Granted
   hit_verdict e c h = kept_grants plan h.before a e h.moment h.certs c h.judged h.proof

@@ -1,22 +1,8 @@
--- The certificates of a list of handles by place, and lists with one element changed.
+-- Lists with one element changed.
 use Rattle.std.proofs.Common.{◌≡◌, ℕ, zero, suc, ◌+◌, ◌<◌, ◌≤◌, List, [], ◌∷◌, length, get_or, set, Some, inl, inr, refl, sym, ap, ◌∙◌, subst, arith}
 use Rattle.std.specs.List.{slice_get}
-use Rattle.std.specs.Option.{option_map}
-use Rattle.std.specs.declared.alloc.Global.{Global}
-use Rattle.std.specs.declared.sync.Arc.{Arc}
 use Rattle.std.proofs.lemmas.Bool.{cases_lt}
-use Rattle.std.proofs.lemmas.List.{length-map}
-use Rattle.std.proofs.lemmas.Option.{slice_get-get_or, slice_get-map}
-use Rattle.stmt_codec.specs.declared.cert.Cert.{Cert}
-use Rattle.stmt_codec.specs.Certificates.{certificate}
-use Rattle.stmt_codec.specs.View.{certificates}
-
-pub certificate_at : (certs : List (Arc Cert Global)) (i : ℕ) (a : Arc Cert Global) → a ≡ get_or certs i a → i < length certs → slice_get (certificates certs) i ≡ Some (certificate a.value.body)
-certificate_at certs i a e lt =
-    slice_get-map (λ (c : Arc Cert Global). certificate c.value.body) certs i ∙ ap (option_map (λ (c : Arc Cert Global). certificate c.value.body)) (slice_get-get_or certs i a lt ∙ ap Some (sym e))
-
-pub certificate_count : (certs : List (Arc Cert Global)) → length (certificates certs) ≡ length certs
-certificate_count certs = length-map certs (λ (c : Arc Cert Global). certificate c.value.body)
+use Rattle.std.proofs.lemmas.Option.{slice_get-get_or}
 
 module _ {X : Type 0} where
   pub set_same : (xs : List X) (i : ℕ) (x : X) → i < length xs → slice_get (set xs i x) i ≡ Some x

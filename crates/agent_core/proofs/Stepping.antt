@@ -41,7 +41,7 @@ module _ (plan : Plan) (before : Vec ShardEntry Global) (event : Event) (after :
     answers = subst (λ e. IsAnswer plan (map entry_of before.items) e Told.Miss (Miss snapshot.moment (certificates snapshot.certs.items))) (sym m.is) (miss m.judged);
   }
 
-  hit_steps : (e : ℕ) (c : Cached) → Hits plan before event e c after store →
+  hit_steps : (e : ℕ) (c : Cached) → Hits plan before event (e, c) after store →
       Steps plan (map entry_of before.items) event (map entry_of after.items) (length before.items) (Hit e c)
   hit_steps e c h = record {
     told = Told.Hit e;

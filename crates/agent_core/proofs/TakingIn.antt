@@ -14,7 +14,7 @@ use Rattle.agent_core.specs.declared.event.Ask.{Ask as AskValue}
 use Rattle.agent_core.specs.Journals.{Begins}
 use Rattle.agent_core.specs.Presented.{memory_of}
 use Rattle.agent_core.specs.Views.{ask_of}
-use Rattle.agent_core.proofs.Places.{certificate_at}
+use Rattle.denial_link.proofs.Places.{certificate_at}
 
 abbrev said : Arc Cert Global → Certificate
 said handle = certificate handle.value.body

@@ -2,6 +2,7 @@
 use Rattle.std.specs.Prelude.{◌≡◌, ◌⊎◌, ℕ, ◌+◌, ◌<◌, ◌≤◌, Bool, true, false, List, [], ◌∷◌, ◌++◌, length, Some, find, slice_get, All, AllPairs}
 use Rattle.std.specs.Arc.{arc_value}
 use Rattle.prin_term.specs.declared.limits.TheConstants.{ENTRY_NODES}
+use Rattle.prin_term.specs.declared.term.Anchor.{Anchor}
 use Rattle.prin_term.specs.Principal.{node_count}
 use Rattle.prin_term.specs.View.{Grant}
 use Rattle.stmt_codec.specs.Certificates.{Certificate, digest_of, live}
@@ -44,20 +45,31 @@ Names certs (links.Expired entry place) denial =
 Names certs (links.Missing entry node) denial = denial ≡ Denial.Missing entry node
 Names certs links.NoEntry denial = denial ≡ Denial.NoEntry
 
+module _ (anchors : List Anchor) (certs : List Certificate) (moment : ℕ) (a : Ask) where
+  -- the first entry that the live certificates grant is e, by the proof c
+  pub record IsGrantedBy (e : ℕ) (c : Cached) : Type 0 where
+    pub grant : Grant
+    pub first : FirstEntry a.list a.right
+        (λ h. MaySpeak anchors (claims (live certs moment)) a.subject h.who) e grant
+    pub proof : IsProofFor anchors certs moment a e c
+
+  -- the live certificates grant none, and the denial names the first link
+  pub record IsDeniedBy (denial : Denial) : Type 0 where
+    pub link : Link
+    pub none : Grants anchors (claims (live certs moment)) a.subject a.list a.right → ⊥
+    pub first : IsFirstLink anchors certs moment a.subject a.list a.right link
+    pub names : Names certs link denial
+
 module _ (plan : Plan) (journal : List Entry) (a : Ask) where
-  -- the Ask stands at the place and was a miss; the first entry that the live certificates grant
-  -- is e, by the proof c
+  -- the Ask stands at the place and was a miss; it is granted by the entry e and the proof c
   pub record IsGrantedAt (place e : ℕ) (c : Cached) : Type 0 where
     -- the entries before the Ask
     pub before : List Entry
     pub moment : ℕ
     pub certs : List Certificate
-    pub grant : Grant
     pub stands : Stands journal place before (entry (Asks a) Told.Miss)
     pub judged : IsJudged plan before a moment certs
-    pub first : FirstEntry a.list a.right
-        (λ h. MaySpeak plan.anchors (claims (live certs moment)) a.subject h.who) e grant
-    pub proof : IsProofFor plan.anchors certs moment a e c
+    pub granted : IsGrantedBy plan.anchors certs moment a e c
 
   -- the Ask stands at the place and was a hit: the proof c, which was kept, grants it by the entry e
   pub record IsHitAt (place e : ℕ) (c : Cached) : Type 0 where
@@ -72,19 +84,15 @@ module _ (plan : Plan) (journal : List Entry) (a : Ask) where
     pub found : find (is_for a.subject proof.grant.who) (unlapsed moment (cache_after plan before))
         ≡ Some c
 
-  -- the Ask stands at the place and was a miss; the live certificates grant none, and the denial
-  -- names the first link
+  -- the Ask stands at the place and was a miss; it is denied so
   pub record IsDeniedAt (place : ℕ) (denial : Denial) : Type 0 where
     -- the entries before the Ask
     pub before : List Entry
     pub moment : ℕ
     pub certs : List Certificate
-    pub link : Link
     pub stands : Stands journal place before (entry (Asks a) Told.Miss)
     pub judged : IsJudged plan before a moment certs
-    pub none : Grants plan.anchors (claims (live certs moment)) a.subject a.list a.right → ⊥
-    pub first : IsFirstLink plan.anchors certs moment a.subject a.list a.right link
-    pub names : Names certs link denial
+    pub denied : IsDeniedBy plan.anchors certs moment a denial
 
   -- the event stands at the place, and this was told
   abbrev pub IsToldOf : Event → ℕ → Told → Type 0

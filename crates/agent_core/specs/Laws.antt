@@ -170,7 +170,7 @@ module _ (plan : Plan) where
       ((e : ℕ) (c : Cached) (h : IsHitAt plan journal a place e c) →
       IsVerdict plan h.before a Granted) ×
       ((denial : Denial) (d : IsDeniedAt plan journal a place denial) →
-      IsVerdict plan d.before a (Denied d.link))
+      IsVerdict plan d.before a (Denied d.denied.link))
 
   -- how an Ask ended in a journal it ended in each that begins with it; a proof for which there was
   -- no room finds none in a longer journal within the limit

@@ -78,19 +78,19 @@ pub record Misses (plan : Plan) (before : Vec ShardEntry Global) (event : Event)
   pub judged : IsJudged plan (map entry_of before.items) ask snapshot.moment
       (certificates snapshot.certs.items)
 
--- the event is an Ask that the proof serves, which is kept for the entry
-pub record Hits (plan : Plan) (before : Vec ShardEntry Global) (event : Event) (e : ℕ)
-    (c : Cached) (after : Vec ShardEntry Global) (store : Store) : Type 0 where
+-- the event is an Ask that this serves: an entry, and the proof that is kept for it
+pub record Hits (plan : Plan) (before : Vec ShardEntry Global) (event : Event)
+    (hit : ℕ × Cached) (after : Vec ShardEntry Global) (store : Store) : Type 0 where
   pub ask : Ask
   pub is : event ≡ Asks ask
-  pub takes : Takes plan before ask (Told.Hit e) after store
+  pub takes : Takes plan before ask (Told.Hit hit.0) after store
   pub moment : ℕ
   pub certs : List Certificate
   pub judged : IsJudged plan (map entry_of before.items) ask moment certs
   pub grant : Grant
-  pub there : slice_get ask.list e ≡ Some grant
+  pub there : slice_get ask.list hit.0 ≡ Some grant
   pub found : find (is_for ask.subject grant.who)
-      (unlapsed moment (cache_after plan (map entry_of before.items))) ≡ Some c
+      (unlapsed moment (cache_after plan (map entry_of before.items))) ≡ Some hit.1
 
 -- what holds after an answer to an event, at a journal that was not full
 abbrev pub Answered : Plan → Vec ShardEntry Global → Event →
@@ -100,7 +100,7 @@ Answered plan before event (answer.Replayed last) after store =
 Answered plan before event (answer.Full held) after store =
     Tells plan before event (Told.Full held) after store
 Answered plan before event (answer.Hit e c) after store =
-    Hits plan before event e (cached (arc_value {X = CachedValue} c)) after store
+    Hits plan before event (e, cached (arc_value {X = CachedValue} c)) after store
 Answered plan before event (answer.Miss snapshot) after store =
     Misses plan before event snapshot after store
 Answered plan before event answer.Kept after store = Tells plan before event Told.Kept after store

@@ -2,27 +2,21 @@
 use Rattle.std.specs.Prelude.{◌≡◌, ℕ, ◌<◌, List, length}
 use Rattle.std.specs.Arc.{arc_value}
 use Rattle.prin_term.specs.declared.term.Anchor.{Anchor}
-use Rattle.prin_term.specs.View.{Grant}
-use Rattle.stmt_codec.specs.Certificates.{Certificate, live}
-use Rattle.taos_calculus.specs.Monitor.{MaySpeak, FirstEntry, Grants}
+use Rattle.stmt_codec.specs.Certificates.{Certificate}
 use Rattle.denial_link.specs.declared.link.Link.{Link}
 use Rattle.denial_link.specs.declared.link.Link.TheVariants as links
-use Rattle.denial_link.specs.Revived.{claims}
-use Rattle.denial_link.specs.Links.{IsFirstLink}
 use Rattle.proof_cache.specs.Cached.{Cached, cached}
 use Rattle.proof_cache.specs.declared.cached.Cached.{Cached as CachedValue}
-use Rattle.agent_core.specs.declared.asked.Denial.{Denial}
 use Rattle.agent_core.specs.declared.asked.Settled.{Settled}
 use Rattle.agent_core.specs.declared.asked.Settled.TheVariants as settled
 use Rattle.agent_core.specs.declared.whole_ask.settling.Settlement.{Settlement}
 use Rattle.agent_core.specs.declared.whole_ask.settling.Settlement.TheVariants as settlement
 use Rattle.agent_core.specs.declared.told.Told.{Told}
 use Rattle.agent_core.specs.declared.told.Answer.{Answer}
-use Rattle.agent_core.specs.State.{Plan, Ask, Asks, Keeps}
+use Rattle.agent_core.specs.State.{Plan, Ask, Event, Asks}
 use Rattle.agent_core.specs.Journals.{Entry}
 use Rattle.agent_core.specs.Answers.{SteppedTo}
-use Rattle.agent_core.specs.Granted.{IsProofFor}
-use Rattle.agent_core.specs.Asked.{Names}
+use Rattle.agent_core.specs.Asked.{IsGrantedBy, IsDeniedBy}
 use Rattle.agent_core.specs.Steps.{JournalSeen, Other, StepsTo, StepRefused}
 
 -- the certificate that a link names is one of these
@@ -32,38 +26,24 @@ IsPlaceIn certs (links.Missing entry node) = Unit {0}
 IsPlaceIn certs links.NoEntry = Unit {0}
 
 module _ (anchors : List Anchor) (certs : List Certificate) (moment : ℕ) (a : Ask) where
-  -- the first entry that the live certificates grant is e, by the proof c
-  pub record IsGrantedBy (e : ℕ) (c : Cached) : Type 0 where
-    pub grant : Grant
-    pub first : FirstEntry a.list a.right
-        (λ h. MaySpeak anchors (claims (live certs moment)) a.subject h.who) e grant
-    pub proof : IsProofFor anchors certs moment a e c
-
-  -- the live certificates grant none, and the denial names the first link
-  pub record IsDeniedBy (denial : Denial) : Type 0 where
-    pub link : Link
-    pub none : Grants anchors (claims (live certs moment)) a.subject a.list a.right → ⊥
-    pub first : IsFirstLink anchors certs moment a.subject a.list a.right link
-    pub names : Names certs link denial
-
   -- the Ask comes to this: it is granted by a proof, or denied
   abbrev pub Settles : Settlement → Type 0
-  Settles (settlement.Granted e c) = IsGrantedBy e (cached (arc_value {X = CachedValue} c))
-  Settles (settlement.Denied denial) = IsDeniedBy denial
+  Settles (settlement.Granted e c) =
+      IsGrantedBy anchors certs moment a e (cached (arc_value {X = CachedValue} c))
+  Settles (settlement.Denied denial) = IsDeniedBy anchors certs moment a denial
 
 -- the Ask's step at its shard
 pub record StepsAsk (plan : Plan) (earlier later : JournalSeen) (a : Ask)
     (place : ℕ) (answer : Answer) : Type 0 where
   pub step : SteppedTo plan earlier later (Asks a) place answer
 
--- what became of a proof that was to be kept for the Ask at the place: a step tells it, or there was
--- no room for one
-abbrev pub KeptAs : Plan → JournalSeen → JournalSeen → (place entry : ℕ) → Cached →
-    Settled → Type 0
-KeptAs plan earlier later place e c settled.NoNeed = ⊥
-KeptAs plan earlier later place e c settled.Kept =
-    (keep : ℕ) × StepsTo plan earlier later (Keeps place e c) keep (Other Told.Kept)
-KeptAs plan earlier later place e c (settled.Dropped cause) =
-    (keep : ℕ) × StepsTo plan earlier later (Keeps place e c) keep (Other (Told.Dropped cause))
-KeptAs plan earlier later place e c (settled.NoRoom n) =
+-- what became of a proof that the event was to keep for an Ask: a step tells it, or there was no
+-- room for one
+abbrev pub KeptAs : Plan → JournalSeen → JournalSeen → Event → Settled → Type 0
+KeptAs plan earlier later keeps settled.NoNeed = ⊥
+KeptAs plan earlier later keeps settled.Kept =
+    (keep : ℕ) × StepsTo plan earlier later keeps keep (Other Told.Kept)
+KeptAs plan earlier later keeps (settled.Dropped cause) =
+    (keep : ℕ) × StepsTo plan earlier later keeps keep (Other (Told.Dropped cause))
+KeptAs plan earlier later keeps (settled.NoRoom n) =
     StepRefused plan earlier later × (length later.journal ≡ plan.limit) × (n ≡ plan.limit)

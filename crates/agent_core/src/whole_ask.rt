@@ -1,13 +1,13 @@
 //! An ask: its step at the shard of its channel, and the decision outside of it.
 
-ghost use Rattle.std.specs.Prelude.{◌≡◌, ◌≢◌, ◌<◌, ◌≤◌, ℕ, Some, slice_get, length, IfOk, OnErr};
+ghost use Rattle.std.specs.Prelude.{◌≡◌, ◌≢◌, ◌<◌, ℕ, Some, slice_get, length, IfOk, OnErr};
 ghost use Rattle.proof_cache.specs.Cached.{cached};
 ghost use Rattle.agent_core.specs.declared.asked.Settled.TheVariants.{NoNeed};
 ghost use Rattle.agent_core.specs.Asked.{FitsAsk, AskedTo, AskEnds, Unanswered};
 ghost use Rattle.agent_core.specs.Journals.{IsKeepable, IsLegalJournal, IsMeant};
 ghost use Rattle.agent_core.specs.Plans.{home};
 ghost use Rattle.agent_core.specs.Settling.{KeptAs, StepsAsk};
-ghost use Rattle.agent_core.specs.State.{Plan, Asks};
+ghost use Rattle.agent_core.specs.State.{Plan, Asks, Keeps};
 ghost use Rattle.agent_core.specs.Steps.{StepRefused, seen_at};
 ghost use Rattle.agent_core.specs.Views.{ask_of};
 
@@ -28,43 +28,6 @@ use std::sync::{Arc, Wait};
 use taos_calculus::Decide;
 pub use verdict::{Decision, judge};
 
-// Steps the Ask at the shard of its channel.
-fn step_at_home<W: Wait + Sync, S: Shards>(
-    rt: &W,
-    alloc: Global,
-    shards: &mut S,
-    asked: &Arc<Ask>,
-) -> Result<(u64, Answer), AllocError>
-    requires meant { (plan : Plan) →
-        slice_get (S.plans shards.old) (home (S.plans shards.old) asked.now.value.channel)
-        ≡ Some plan
-        → IsMeant plan (S.seen shards.old (home (S.plans shards.old) asked.now.value.channel))
-        (Asks (ask_of asked.now.value)) }
-    requires few { length asked.now.value.presented.items ≤ 16 }
-    requires short { length asked.now.value.list.value.items ≤ 8 }
-    ensures there { home (S.plans shards.old) asked.now.value.channel
-        < length (S.plans shards.old) }
-    ensures steps { let s = home (S.plans shards.old) asked.now.value.channel in
-        (plan : Plan) → slice_get (S.plans shards.old) s ≡ Some plan →
-        IfOk result (λ r. StepsAsk plan
-        (seen_at (S.alone shards.old) (S.seen shards.old) (S.own shards.old) s)
-        (seen_at (S.alone shards.old) (S.seen shards.new) (S.own shards.new) s)
-        (ask_of asked.now.value) r.0 r.1) }
-    ensures refused { let s = home (S.plans shards.old) asked.now.value.channel in
-        (plan : Plan) → slice_get (S.plans shards.old) s ≡ Some plan →
-        OnErr result (StepRefused plan
-        (seen_at (S.alone shards.old) (S.seen shards.old) (S.own shards.old) s)
-        (seen_at (S.alone shards.old) (S.seen shards.new) (S.own shards.new) s)) }
-    ensures others { (s : ℕ) → s ≢ home (S.plans shards.old) asked.now.value.channel →
-        (S.seen shards.new s ≡ S.seen shards.old s) × (S.own shards.new s ≡ S.own shards.old s) }
-    ensures plans { S.plans shards.new ≡ S.plans shards.old }
-    ensures alone { S.alone shards.new ≡ S.alone shards.old }
-{
-    let number = asked.channel % shards.count();
-    let event = Event::Ask(Arc::try_clone(asked)?);
-    shards.step(rt, alloc, number, event)
-}
-
 // The Ask with its certificates taken in at the shard of its channel. One that others hold too
 // stays as it is.
 fn taken_in<S: Shards>(
@@ -73,6 +36,7 @@ fn taken_in<S: Shards>(
     asked: Arc<Ask>,
 ) -> Result<Arc<Ask>, AllocError>
     ensures same { IfOk result (λ taken. ask_of taken.value ≡ ask_of asked.value) }
+    ensures there { home (S.plans shards.old) asked.value.channel < length (S.plans shards.old) }
     ensures legal { (s : ℕ) (plan : Plan) → slice_get (S.plans shards.old) s ≡ Some plan
         → IsLegalJournal plan (S.seen shards.old s) }
     ensures unchanged { shards.new ≡ shards.old }
@@ -89,6 +53,44 @@ fn taken_in<S: Shards>(
         }
         Err(shared) => Ok(shared),
     }
+}
+
+// Takes the Ask's certificates in, and steps it at the shard of its channel: its place, the answer,
+// and the Ask as it was taken in.
+fn step_at_home<W: Wait + Sync, S: Shards>(
+    rt: &W,
+    alloc: Global,
+    shards: &mut S,
+    asked: Arc<Ask>,
+) -> Result<(u64, Answer, Arc<Ask>), AllocError>
+    requires meant { (plan : Plan) →
+        slice_get (S.plans shards.old) (home (S.plans shards.old) asked.value.channel) ≡ Some plan →
+        IsMeant plan (S.seen shards.old (home (S.plans shards.old) asked.value.channel))
+        (Asks (ask_of asked.value)) }
+    requires fits { FitsAsk (ask_of asked.value) }
+    ensures same { IfOk result (λ r. ask_of r.2.value ≡ ask_of asked.value) }
+    ensures there { home (S.plans shards.old) asked.value.channel < length (S.plans shards.old) }
+    ensures steps { let s = home (S.plans shards.old) asked.value.channel in
+        (plan : Plan) → slice_get (S.plans shards.old) s ≡ Some plan →
+        IfOk result (λ r. StepsAsk plan
+        (seen_at (S.alone shards.old) (S.seen shards.old) (S.own shards.old) s)
+        (seen_at (S.alone shards.old) (S.seen shards.new) (S.own shards.new) s)
+        (ask_of asked.value) r.0 r.1) }
+    ensures refused { let s = home (S.plans shards.old) asked.value.channel in
+        (plan : Plan) → slice_get (S.plans shards.old) s ≡ Some plan →
+        OnErr result (StepRefused plan
+        (seen_at (S.alone shards.old) (S.seen shards.old) (S.own shards.old) s)
+        (seen_at (S.alone shards.old) (S.seen shards.new) (S.own shards.new) s)) }
+    ensures others { (s : ℕ) → s ≢ home (S.plans shards.old) asked.value.channel →
+        (S.seen shards.new s ≡ S.seen shards.old s) × (S.own shards.new s ≡ S.own shards.old s) }
+    ensures plans { S.plans shards.new ≡ S.plans shards.old }
+    ensures alone { S.alone shards.new ≡ S.alone shards.old }
+{
+    let asked = taken_in(alloc, shards, asked)?;
+    let number = asked.channel % shards.count();
+    let event = Event::Ask(Arc::try_clone(&asked)?);
+    let (place, answer) = shards.step(rt, alloc, number, event)?;
+    Ok((place, answer, asked))
 }
 
 // Keeps the proof of a grant at the shard of its channel, for the Ask that stands at the place.
@@ -110,7 +112,7 @@ fn keep_at_home<W: Wait + Sync, S: Shards>(
         IfOk result (λ r. KeptAs plan
         (seen_at (S.alone shards.old) (S.seen shards.old) (S.own shards.old) s)
         (seen_at (S.alone shards.old) (S.seen shards.new) (S.own shards.new) s)
-        place entry (cached proof.now.value) r) }
+        (Keeps place entry (cached proof.now.value)) r) }
     ensures refused { let s = home (S.plans shards.old) channel in
         (plan : Plan) → slice_get (S.plans shards.old) s ≡ Some plan →
         OnErr result (StepRefused plan
@@ -155,70 +157,6 @@ fn ended(place: u64, verdict: Verdict, kept: bool) -> Asked
     }
 }
 
-// Asks with certificates that were taken in.
-fn ask_taken_in<W: Wait + Sync, S: Shards, D: Decide, G: Gate>(
-    rt: &W,
-    alloc: Global,
-    shards: &mut S,
-    bench: &mut D,
-    gate: &mut G,
-    asked: Arc<Ask>,
-) -> Result<Asked, AllocError>
-    requires meant { (plan : Plan) →
-        slice_get (S.plans shards.old) (home (S.plans shards.old) asked.value.channel) ≡ Some plan →
-        IsMeant plan (S.seen shards.old (home (S.plans shards.old) asked.value.channel))
-        (Asks (ask_of asked.value)) }
-    requires fits { FitsAsk (ask_of asked.value) }
-    ensures asked { let s = home (S.plans shards.old) asked.value.channel in
-        (plan : Plan) → slice_get (S.plans shards.old) s ≡ Some plan →
-        IfOk result (λ r. AskedTo plan
-        (seen_at (S.alone shards.old) (S.seen shards.old) (S.own shards.old) s)
-        (seen_at (S.alone shards.old) (S.seen shards.new) (S.own shards.new) s)
-        (ask_of asked.value) (AskEnds plan (S.seen shards.new s) (ask_of asked.value) r)) }
-
-    // Where memory was refused: before the Ask stood, or at a grant.
-    ensures unanswered { let s = home (S.plans shards.old) asked.value.channel in
-        (plan : Plan) → slice_get (S.plans shards.old) s ≡ Some plan →
-        OnErr result (AskedTo plan
-        (seen_at (S.alone shards.old) (S.seen shards.old) (S.own shards.old) s)
-        (seen_at (S.alone shards.old) (S.seen shards.new) (S.own shards.new) s)
-        (ask_of asked.value) (Unanswered plan (S.seen shards.new s) (ask_of asked.value))) }
-
-    ensures others { (s : ℕ) → s ≢ home (S.plans shards.old) asked.value.channel →
-        (S.seen shards.new s ≡ S.seen shards.old s) × (S.own shards.new s ≡ S.own shards.old s) }
-    ensures plans { S.plans shards.new ≡ S.plans shards.old }
-    ensures alone { S.alone shards.new ≡ S.alone shards.old }
-{
-    let (place, answer) = step_at_home(rt, alloc, shards, &asked)?;
-    match answer {
-        Answer::Miss(snapshot) => {
-            match settle(alloc, shards.anchors(), bench, gate, &snapshot, &asked)? {
-                Settlement::Granted { entry, cached } => {
-                    let channel = asked.channel;
-                    let settled = keep_at_home(rt, alloc, shards, channel, place, entry, &cached)?;
-                    Ok(Asked {
-                        place,
-                        verdict: Verdict::Granted { entry, cached },
-                        kept: false,
-                        settled,
-                    })
-                }
-                Settlement::Denied(denial) => Ok(ended(place, Verdict::Denied(denial), false)),
-            }
-        }
-        Answer::Replayed { last } => Ok(ended(place, Verdict::Replayed { last }, false)),
-        Answer::Full { held } => Ok(ended(place, Verdict::Full { held }, false)),
-        Answer::JournalFull { length } => Ok(ended(place, Verdict::JournalFull { length }, false)),
-        Answer::Hit { entry, cached } => Ok(ended(place, Verdict::Granted { entry, cached }, true)),
-        // An Ask is told none of these.
-        Answer::Kept
-        | Answer::Dropped(_)
-        | Answer::Held { .. }
-        | Answer::CommonsFull { .. }
-        | Answer::Removed { .. } => unreachable!(),
-    }
-}
-
 /// Asks at the shard of the channel, and says how that ended: granted by a proof that was kept, or
 /// the verdict on what the shard handed out, or what it told at once. The proof of a grant is kept
 /// by a step of its own; the gate is passed before. The Ask's certificates are taken in first;
@@ -256,6 +194,32 @@ pub fn ask<W: Wait + Sync, S: Shards, D: Decide, G: Gate>(
     ensures plans { S.plans shards.new ≡ S.plans shards.old }
     ensures alone { S.alone shards.new ≡ S.alone shards.old }
 {
-    let asked = taken_in(alloc, shards, asked)?;
-    ask_taken_in(rt, alloc, shards, bench, gate, asked)
+    let (place, answer, asked) = step_at_home(rt, alloc, shards, asked)?;
+    match answer {
+        Answer::Miss(snapshot) => {
+            match settle(alloc, shards.anchors(), bench, gate, &snapshot, &asked)? {
+                Settlement::Granted { entry, cached } => {
+                    let channel = asked.channel;
+                    let settled = keep_at_home(rt, alloc, shards, channel, place, entry, &cached)?;
+                    Ok(Asked {
+                        place,
+                        verdict: Verdict::Granted { entry, cached },
+                        kept: false,
+                        settled,
+                    })
+                }
+                Settlement::Denied(denial) => Ok(ended(place, Verdict::Denied(denial), false)),
+            }
+        }
+        Answer::Replayed { last } => Ok(ended(place, Verdict::Replayed { last }, false)),
+        Answer::Full { held } => Ok(ended(place, Verdict::Full { held }, false)),
+        Answer::JournalFull { length } => Ok(ended(place, Verdict::JournalFull { length }, false)),
+        Answer::Hit { entry, cached } => Ok(ended(place, Verdict::Granted { entry, cached }, true)),
+        // An Ask is told none of these.
+        Answer::Kept
+        | Answer::Dropped(_)
+        | Answer::Held { .. }
+        | Answer::CommonsFull { .. }
+        | Answer::Removed { .. } => unreachable!(),
+    }
 }

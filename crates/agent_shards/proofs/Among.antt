@@ -75,7 +75,7 @@ grants_are_verdicts plan earlier later a place e c kept settled t = granted_ther
 pub denials_are_verdicts : DenialsAreVerdicts
 denials_are_verdicts plan earlier later a place denial t =
     let d = t.ends.0 in (
-      d.link,
+      d.denied.link,
       record {
         before = d.before;
         told = Told.Miss;

@@ -48,8 +48,8 @@ fn length_of(word: [u8; 4]) -> u32
 // long the payload is.
 fn next_into<S: Source>(source: &mut S, room: &mut [u8]) -> Result<usize, Next>
     ensures bound { IfOk result (λ n. n ≤ length room.new) }
-    ensures frame { IfOk result (λ n.
-        TakesFrame (length room.old) (S.left source.old) (S.left source.new) (take n room.new) Frame) }
+    ensures frame { IfOk result (λ n. TakesFrame (length room.old) (S.left source.old)
+        (S.left source.new) (take n room.new) Frame) }
     ensures other { IfErr result (λ next.
         TakesFrame (length room.old) (S.left source.old) (S.left source.new) [] next) }
     ensures is_other { IfErr result (λ next. next ≢ Frame) }

@@ -13,13 +13,13 @@ one_node : (nodes : List Node) (i : ℕ) (a b : Node) → slice_get nodes i ≡ 
 one_node nodes i a b e f = same_Some a b (sym e ∙ f)
 
 module _ (s : Core) (row : ℕ) where
-  -- no form: nothing is passed on
-  pub no_form : (i j : ℕ) (node : Node) → slice_get s.nodes i ≡ Some node →
+  -- nothing is passed on to what has no form
+  pub no_target : (i j : ℕ) (node : Node) → slice_get s.nodes j ≡ Some node →
       ((a b : ℕ) → node ≡ Node.Quote a b → ⊥) → ((a b : ℕ) → node ≡ Node.For a b → ⊥) → ((a r : ℕ) → node ≡ Node.AsRole a r → ⊥) → IsPassedOnIn s row i j
-  no_form i j node e nq nf nr = record {
-    quoting = λ a b c d f g h. absurd (nq a b (one_node s.nodes i node (Node.Quote a b) e f));
-    for_both = λ a b c d f g h. absurd (nf a b (one_node s.nodes i node (Node.For a b) e f));
-    role_under = λ a c r f g h. absurd (nr a r (one_node s.nodes i node (Node.AsRole a r) e f));
+  no_target i j node e nq nf nr = record {
+    quoting = λ a b c d f g h. absurd (nq c d (one_node s.nodes j node (Node.Quote c d) e g));
+    for_both = λ a b c d f g h. absurd (nf c d (one_node s.nodes j node (Node.For c d) e g));
+    role_under = λ a c r f g h. absurd (nr c r (one_node s.nodes j node (Node.AsRole c r) e g));
   }
 
   module _ (i j a b : ℕ) (e : slice_get s.nodes i ≡ Some (Node.Quote a b)) where

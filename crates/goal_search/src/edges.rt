@@ -40,7 +40,8 @@ impl Search {
         requires number_in { number < length self.now.cited.items }
         ensures { MatchOption result
             ((a b : ℕ) → IsDelegation (core self.now) number a b → ⊥)
-            (λ a. IsNumber (core self.now) a × ((b : ℕ) × IsDelegation (core self.now) number a b)) }
+            (λ a. IsNumber (core self.now) a
+            × ((b : ℕ) × IsDelegation (core self.now) number a b)) }
     {
         let it = self.cite(number);
         if let Node::Quote(b, a) = self.node(it.left) {

@@ -162,34 +162,34 @@ impl Search {
         }
     }
 
-    // What the form of one number, which the row has, would give it of another.
-    fn target_gap(&self, row: usize, from: u16, to: u16) -> Option<Gap>
+    // What the form of one number would give the row of another, which it lacks.
+    fn member_gap(&self, row: usize, from: u16, to: u16) -> Option<Gap>
         requires ready { IsReady (core self.now) }
         requires row_in { IsRow (core self.now) row }
         requires from_in { IsNumber (core self.now) from }
         requires to_in { IsNumber (core self.now) to }
-        requires has { Has (core self.now) row from }
+        requires lacks { Has (core self.now) row to → ⊥ }
         ensures { MatchOption result (IsPassedOnIn (core self.now) row from to)
             (IsGap (core self.now)) }
     {
-        if self.has(row, to) {
+        if !self.has(row, from) {
             return None;
         }
         self.passed_gap(row, from, to)
     }
 
-    // What the form of a number, which the row has, would give it.
-    fn passed_gaps(&self, row: usize, from: u16) -> Option<Gap>
+    // What the forms of the numbers that the row has would give it of one that it lacks.
+    fn passed_gaps(&self, row: usize, to: u16) -> Option<Gap>
         requires ready { IsReady (core self.now) }
         requires row_in { IsRow (core self.now) row }
-        requires from_in { IsNumber (core self.now) from }
-        requires has { Has (core self.now) row from }
+        requires to_in { IsNumber (core self.now) to }
+        requires lacks { Has (core self.now) row to → ⊥ }
         ensures { MatchOption result
-            ((to : ℕ) → IsNumber (core self.now) to → IsPassedOnIn (core self.now) row from to)
+            ((from : ℕ) → IsNumber (core self.now) from → IsPassedOnIn (core self.now) row from to)
             (IsGap (core self.now)) }
     {
-        for to in 0..self.nodes.len() {
-            if let Some(gap) = self.target_gap(row, from, to as u16) {
+        for from in 0..self.nodes.len() {
+            if let Some(gap) = self.member_gap(row, from as u16, to) {
                 return Some(gap);
             }
         }
@@ -200,7 +200,7 @@ impl Search {
     fn is_compound(&self, number: u16) -> bool
         requires ready { IsReady (core self.now) }
         requires number_in { IsNumber (core self.now) number }
-        ensures { IsTrue result ⊎ ((row to : ℕ) → IsPassedOnIn (core self.now) row number to) }
+        ensures { IsTrue result ⊎ ((row from : ℕ) → IsPassedOnIn (core self.now) row from number) }
     {
         match self.node(number) {
             Node::Quote(_, _) | Node::For(_, _) | Node::AsRole(_, _) => true,
@@ -208,35 +208,36 @@ impl Search {
         }
     }
 
-    // What the form of a number would give a row that has it.
-    fn member_gap(&self, row: usize, from: u16) -> Option<Gap>
+    // What the forms of the numbers that the row has would give it of one number.
+    fn target_gap(&self, row: usize, to: u16) -> Option<Gap>
         requires ready { IsReady (core self.now) }
         requires row_in { IsRow (core self.now) row }
-        requires from_in { IsNumber (core self.now) from }
+        requires to_in { IsNumber (core self.now) to }
         ensures { MatchOption result
-            ((to : ℕ) → IsNumber (core self.now) to → IsPassedOnIn (core self.now) row from to)
+            ((from : ℕ) → IsNumber (core self.now) from → IsPassedOnIn (core self.now) row from to)
             (IsGap (core self.now)) }
     {
-        if !self.has(row, from) {
+        if self.has(row, to) {
             return None;
         }
-        if !self.is_compound(from) {
+        if !self.is_compound(to) {
             return None;
         }
-        self.passed_gaps(row, from)
+        self.passed_gaps(row, to)
     }
 
-    /// What the forms of all numbers that the row has would give it.
+    /// What the forms of all numbers that the row has would give it. What it has is not looked for, so
+    /// that a row which has nearly all numbers is soon looked through.
     pub fn all_passed_gaps(&self, row: usize) -> Option<Gap>
         requires ready { IsReady (core self.now) }
         requires row_in { IsRow (core self.now) row }
         ensures { MatchOption result
-            ((from to : ℕ) → IsNumber (core self.now) from → IsNumber (core self.now) to
+            ((to from : ℕ) → IsNumber (core self.now) to → IsNumber (core self.now) from
             → IsPassedOnIn (core self.now) row from to)
             (IsGap (core self.now)) }
     {
-        for from in 0..self.nodes.len() {
-            if let Some(gap) = self.member_gap(row, from as u16) {
+        for to in 0..self.nodes.len() {
+            if let Some(gap) = self.target_gap(row, to as u16) {
                 return Some(gap);
             }
         }

@@ -73,21 +73,8 @@ impl Search {
         }
     }
 
-    // What the form of a number gives the row.
-    fn sweep_targets(&mut self, row: usize, from: u16)
-        requires ready { IsReady (core self.old) }
-        requires row_in { IsRow (core self.old) row }
-        requires from_in { IsNumber (core self.old) from }
-        ensures { IsFilled (core self.old) (core self.new) }
-    {
-        for to in 0..self.nodes.len() {
-            self.pass_on(row, from, to as u16);
-        }
-        self.close(row);
-    }
-
-    // What a number gives a row that has it, through the rows of its operands.
-    fn sweep_number(&mut self, row: usize, number: u16)
+    // Begins the rows of the operands of a number that the row has.
+    fn open_operands(&mut self, row: usize, number: u16)
         requires ready { IsReady (core self.old) }
         requires row_in { IsRow (core self.old) row }
         requires number_in { IsNumber (core self.old) number }
@@ -100,13 +87,60 @@ impl Search {
             Node::Quote(a, b) | Node::For(a, b) => {
                 self.open(a);
                 self.open(b);
-                self.sweep_targets(row, number);
             }
-            Node::AsRole(a, _) => {
-                self.open(a);
-                self.sweep_targets(row, number);
-            }
+            Node::AsRole(a, _) => self.open(a),
             _ => {}
+        }
+    }
+
+    // The same of all numbers that the row has.
+    fn open_all(&mut self, row: usize)
+        requires ready { IsReady (core self.old) }
+        requires row_in { IsRow (core self.old) row }
+        ensures { IsFilled (core self.old) (core self.new) }
+    {
+        for number in 0..self.nodes.len() {
+            self.open_operands(row, number as u16);
+        }
+    }
+
+    // Puts a number into a row by the form of one that the row has, where it can be had so.
+    fn pass_to(&mut self, row: usize, to: u16)
+        requires ready { IsReady (core self.old) }
+        requires row_in { IsRow (core self.old) row }
+        requires to_in { IsNumber (core self.old) to }
+        ensures { IsFilled (core self.old) (core self.new) }
+    {
+        for from in 0..self.nodes.len() {
+            if self.has(row, to) {
+                return;
+            }
+            self.pass_on(row, from as u16, to);
+        }
+    }
+
+    // Whether it is of a form that is passed on part by part.
+    fn is_passed_on(&self, number: u16) -> bool
+        requires ready { IsReady (core self.now) }
+        requires number_in { IsNumber (core self.now) number }
+    {
+        match self.node(number) {
+            Node::Quote(_, _) | Node::For(_, _) | Node::AsRole(_, _) => true,
+            _ => false,
+        }
+    }
+
+    // What the numbers that the row has give it of one that it lacks, through the rows of their
+    // operands.
+    fn sweep_number(&mut self, row: usize, to: u16)
+        requires ready { IsReady (core self.old) }
+        requires row_in { IsRow (core self.old) row }
+        requires to_in { IsNumber (core self.old) to }
+        ensures { IsFilled (core self.old) (core self.new) }
+    {
+        if !self.has(row, to) && self.is_passed_on(to) {
+            self.pass_to(row, to);
+            self.close(row);
         }
     }
 
@@ -129,6 +163,7 @@ impl Search {
     {
         self.sweep_back(row);
         self.sweep_forth(row);
+        self.open_all(row);
         self.sweep_numbers(row);
     }
 

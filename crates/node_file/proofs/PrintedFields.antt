@@ -16,7 +16,7 @@ use Rattle.prin_text.specs.declared.limits.TheConstants.{MAX_TEXT}
 use Rattle.prin_text.specs.Labels.{begins_with_letter, is_digit, is_label, is_label_byte, is_reserved}
 use Rattle.prin_text.specs.Tokens.{is_blank}
 use Rattle.prin_text.specs.Words.{are_digits, has_leading_zero, value_after}
-use Rattle.prin_text.proofs.Decimals.{AreDigits, own}
+use Rattle.prin_text.proofs.Decimals.{AreDigits, are_digits-from, has_leading_zero-decimal, own}
 use Rattle.node_file.specs.declared.fault.FileCause.{FileCause}
 use Rattle.node_file.specs.declared.fault.FileCause.TheVariants.{Words}
 use Rattle.node_file.specs.Fields.{bytes_of_digits, decoded, digits, key_of_digits, keyed, number_up_to, numbered, numbered_digits, one_number, one_word, two_words}
@@ -95,18 +95,6 @@ word_append v w first second = record {
     all_append v all = list_all-append (λ b. not (is_blank b)) v w ∙ (rw (all, second.inner) refl)
 
 -- ---- fields
-
--- a first digit that is greater than zero is no leading zero
-no_leading_zero : (ds : List ℕ) → 48 < get_or ds 0 0 → has_leading_zero ds ≡ false
-no_leading_zero [] greater = refl
-no_leading_zero (b ∷ ds) greater = grind (arith, nat_tests)
-
-has_leading_zero-decimal : (n : ℕ) → n < 2 ^ 64 → has_leading_zero (decimal n) ≡ false
-has_leading_zero-decimal zero lt = rw (decimal_digit 0 (omega arith)) refl
-has_leading_zero-decimal (suc n) lt = no_leading_zero (decimal (suc n)) (first_decimal (suc n) (omega arith) lt)
-
-are_digits-from : (ds : List ℕ) → 0 < length ds → AreDigits ds → are_digits ds ≡ true
-are_digits-from ds some all = grind (arith, nat_tests)
 
 pub number_again : (most n : ℕ) → n ≤ most → n < 2 ^ 64 → number_up_to most (decimal n) ≡ Ok n
 unfolding number_up_to

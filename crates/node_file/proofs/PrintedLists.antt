@@ -47,6 +47,15 @@ module _ {A : Type 0} (line : A → List ℕ) (xs : List A) (i : ℕ) (old : Lis
   all_lines now gone before =
       all_of (λ y. ended (line y)) xs i old now gone before ∙ ap (λ l. old ++ l) (sym (flat_map-map ended line xs))
 
+-- the same, of the elements that are gone over
+module _ {A : Type 0} (line : A → List ℕ) (old : List ℕ) (before : List A) where
+  pub next_line : (x : A) (now later : List ℕ) → now ≡ old ++ flat_map (λ y. ended (line y)) before → later ≡ now ++ ended (line x) → later ≡ old ++ flat_map (λ y. ended (line y)) (before ++ x ∷ [])
+  next_line x now later printed pushed = pushed ∙ ap (λ l. l ++ ended (line x)) printed ∙ flat_map_more (λ y. ended (line y)) old before x
+
+  pub last_line : (all rest : List A) (now : List ℕ) → before ++ rest ≡ all → rest ≡ [] → now ≡ old ++ flat_map (λ y. ended (line y)) before → now ≡ old ++ text_of_lines (map line all)
+  last_line all rest now split done printed =
+      printed ∙ ap (λ l. old ++ flat_map (λ y. ended (line y)) l) (sym (append-nil before) ∙ ap (λ r. before ++ r) (sym done) ∙ split) ∙ ap (λ l. old ++ l) (sym (flat_map-map ended line all))
+
 -- lines of lines
 pub lines_of_all : {A : Type 0} (lines : A → List (List ℕ)) (xs : List A) → flat_map (λ x. text_of_lines (lines x)) xs ≡ text_of_lines (flat_map lines xs)
 lines_of_all lines [] = refl

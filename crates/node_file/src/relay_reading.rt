@@ -1,6 +1,6 @@
 //! Reading a relay file.
 
-ghost use Rattle.std.specs.Prelude.{◌≡◌, IfOk, Ok, Option, codes, true};
+ghost use Rattle.std.specs.Prelude.{◌≡◌, Ok, Option, codes, true};
 ghost use Rattle.node_file.specs.FileLines.{first_or, is_first_line};
 ghost use Rattle.node_file.specs.RelayFile as meant;
 ghost use Rattle.node_file.specs.RelayFile.{no_relay, relay_in, relay_step};
@@ -17,7 +17,7 @@ use crate::text::line::line_at;
 use crate::text::word::{is_first_line, is_skipped, is_word, word_off};
 use prin_text::Names;
 use relay_core::RelayTable;
-use std::alloc::{AllocError, Global};
+use std::alloc::Global;
 
 // What the lines say so far.
 #[derive(Drop)]
@@ -28,14 +28,14 @@ struct RelayDraft {
 }
 
 // Nothing is known.
-fn empty(alloc: Global) -> Result<RelayDraft, AllocError>
-    ensures { IfOk result (λ file. IsRelayDraft file no_relay) }
+fn empty(alloc: Global) -> RelayDraft
+    ensures { IsRelayDraft result no_relay }
 {
-    Ok(RelayDraft {
+    RelayDraft {
         issuers: KeyDraft::new(alloc, MAX_ISSUERS),
         nodes: KeyDraft::new(alloc, MAX_NODES),
-        names: Names::new(alloc)?,
-    })
+        names: Names::new(alloc),
+    }
 }
 
 // The relay file that the lines say.
@@ -96,7 +96,7 @@ pub fn read_relay_file(alloc: Global, bytes: &[u8]) -> Result<RelayFile, FileFau
     if bytes.len() > MAX_FILE {
         return Err(LineFault::Refused(FileCause::Limit).at(number));
     }
-    let mut file = empty(alloc)?;
+    let mut file = empty(alloc);
     let mut begun = false;
     let mut at = 0;
     while at < bytes.len() {

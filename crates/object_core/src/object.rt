@@ -78,7 +78,8 @@ fn lists(entry: &ObjectEntry) -> bool
 // The content that stands after the entries.
 fn content_in<'a>(entries: &'a [ObjectEntry], written: Option<usize>, opened: &'a [u8]) -> &'a [u8]
     requires { IsLatest written_by opened.now (map object_entry entries.now) written }
-    ensures { result.now ≡ latest opened.now (filter_map written_by (map object_entry entries.now)) }
+    ensures { let journal = map object_entry entries.now in
+        result.now ≡ latest opened.now (filter_map written_by journal) }
 {
     let Some(place) = written else {
         return opened;

@@ -35,11 +35,11 @@ no_leading_zero : (ds : List ℕ) → 48 < get_or ds 0 0 → has_leading_zero ds
 no_leading_zero [] greater = refl
 no_leading_zero (b ∷ ds) greater = grind (arith, nat_tests)
 
-has_leading_zero-decimal : (n : ℕ) → n < 2 ^ 64 → has_leading_zero (decimal n) ≡ false
+pub has_leading_zero-decimal : (n : ℕ) → n < 2 ^ 64 → has_leading_zero (decimal n) ≡ false
 has_leading_zero-decimal zero lt = rw (decimal_digit 0 (omega arith)) refl
 has_leading_zero-decimal (suc n) lt = no_leading_zero (decimal (suc n)) (first_decimal (suc n) (omega arith) lt)
 
-are_digits-from : (ds : List ℕ) → 0 < length ds → AreDigits ds → are_digits ds ≡ true
+pub are_digits-from : (ds : List ℕ) → 0 < length ds → AreDigits ds → are_digits ds ≡ true
 are_digits-from ds some all = grind (arith, nat_tests)
 
 second_true : (a b : Bool) → (a && b) ≡ true → b ≡ true

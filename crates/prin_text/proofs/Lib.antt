@@ -1,6 +1,7 @@
 pub mod Texts
 pub mod Gaps
 pub mod Indexed
+pub mod ByMap
 pub mod Decimals
 pub mod Wording
 pub mod Pieced

@@ -16,6 +16,7 @@ mod tokens;
 mod words;
 
 pub use fault::{NamesFault, TextCause, TextFault};
+pub use label::Label;
 pub use laws::{
     faults_are_exact, lists_are_read, principals_are_read, printed_lists_are_read,
     printed_principals_are_read,

@@ -1,15 +1,17 @@
 //! The texts of names and of roles.
 
-ghost use Rattle.std.specs.Prelude.{◌≡◌, ◌⊎◌, [], IfOk, IfErr, OnOk, OnErr, Some, None};
+ghost use Rattle.std.specs.Prelude.{◌≡◌, ◌⊎◌, [], IfErr, OnOk, OnErr, Some, None};
 ghost use Rattle.std.specs.Prelude.{slice_get};
 ghost use Rattle.std.specs.Option.{option_map};
 ghost use Rattle.prin_text.specs.declared.fault.NamesFault.TheVariants.{NoMemory};
 ghost use Rattle.prin_text.specs.Labels.{AddsRow, AreLabels, number_of, refusal, text_of};
 
 use crate::fault::NamesFault;
+use crate::label::Label;
 use crate::limits::{MAX_NAMES, MAX_ROLES};
 use crate::table::Table;
-use std::alloc::{AllocError, Global};
+use std::alloc::Global;
+use std::collections::btree_map::Iter;
 use std::fmt;
 use std::marker::Model;
 
@@ -32,14 +34,14 @@ impl Model for Names {
 }
 
 impl Names {
-    /// No texts. The memory for the numbers of all is taken here.
-    pub fn new(alloc: Global) -> Result<Names, AllocError>
-        ensures { IfOk result (λ n. n ≡ record { names = []; roles = [] }) }
+    /// No texts.
+    pub fn new(alloc: Global) -> Names
+        ensures { result ≡ record { names = []; roles = [] } }
     {
-        Ok(Names {
-            names: Table::new(alloc, MAX_NAMES)?,
-            roles: Table::new(alloc, MAX_ROLES)?,
-        })
+        Names {
+            names: Table::new(alloc),
+            roles: Table::new(alloc),
+        }
     }
 
     /// Gives a name a text of its own.
@@ -72,7 +74,24 @@ impl Names {
         self.roles.add(alloc, MAX_ROLES, number, text)
     }
 
-    /// The number and the text of a name. Places go from 0 by ascending number.
+    /// The numbers and the texts of the names, by ascending number.
+    pub fn names(&self) -> Iter<'_, u32, Label>
+        ensures rows { result ≡ self.now.names }
+        ensures sound { AreLabels self.now }
+    {
+        self.names.iter()
+    }
+
+    /// The numbers and the texts of the roles, by ascending number.
+    pub fn roles(&self) -> Iter<'_, u32, Label>
+        ensures rows { result ≡ self.now.roles }
+        ensures sound { AreLabels self.now }
+    {
+        self.roles.iter()
+    }
+
+    /// The number and the text of a name. Places go from 0 by ascending number; those before
+    /// are gone over.
     pub fn name_at(&self, place: usize) -> Option<(u32, &str)>
         ensures value { option_map (λ row. (row.0, row.1.now)) result
             ≡ slice_get self.now.names place }
@@ -81,7 +100,8 @@ impl Names {
         self.names.row_at(place)
     }
 
-    /// The number and the text of a role. Places go from 0 by ascending number.
+    /// The number and the text of a role. Places go from 0 by ascending number; those before
+    /// are gone over.
     pub fn role_at(&self, place: usize) -> Option<(u32, &str)>
         ensures value { option_map (λ row. (row.0, row.1.now)) result
             ≡ slice_get self.now.roles place }

@@ -1,32 +1,25 @@
 //! The texts of one sort.
 
-ghost use Rattle.std.specs.Prelude.{◌≡◌, ◌⊎◌, ◌↔◌, ◌≤◌, [], length, IsOk, IfOk, IfErr, OnOk};
-ghost use Rattle.std.specs.Prelude.{IsSome, IsTrue, OnErr, Some, None, slice_get};
-ghost use Rattle.std.specs.List.{insert};
+ghost use Rattle.std.specs.Prelude.{◌≡◌, ◌⊎◌, [], length, IfErr, OnOk, IsTrue, OnErr};
+ghost use Rattle.std.specs.Prelude.{Some, None, slice_get};
+ghost use Rattle.std.specs.BTreeMap.{insert_entry};
 ghost use Rattle.std.specs.Option.{option_map};
+ghost use Rattle.std.specs.Ordering.{nat_cmp};
 ghost use Rattle.prin_text.specs.declared.fault.NamesFault.TheVariants.{NoMemory};
-ghost use Rattle.prin_text.specs.Labels.{
-  AddsRow,
-  IsAscending,
-  IsAt,
-  IsGapFor,
-  IsTable,
-  is_label,
-  number_of,
-  refusal,
-  text_of,
-};
+ghost use Rattle.prin_text.specs.Labels.{AddsRow, IsAscending, IsTable, is_label, number_of};
+ghost use Rattle.prin_text.specs.Labels.{refusal, text_of};
 
 use crate::fault::NamesFault;
 use crate::label::{Label, is_label};
 use std::alloc::{AllocError, Global};
 use std::collections::BTreeMap;
+use std::collections::btree_map::Iter;
 use std::marker::Model;
 
-/// Numbers, each with a text of its own. A contract sees the pairs in their order.
+/// Numbers, each with a text of its own. A contract sees the pairs, ascending by number.
 #[derive(Drop)]
 pub struct Table {
-    rows: Vec<(u32, Label)>,
+    rows: BTreeMap<u32, Label>,
     // The number of each text.
     numbers: BTreeMap<Vec<u8>, u32>,
 }
@@ -37,20 +30,20 @@ impl Model for Table {
 
     ghost Value = { Rows };
 
-    ghost view = { λ t. t.rows.items };
+    ghost view = { λ t. t.rows.entries };
 
-    ghost invariant = { λ t. IsIndexOf t.numbers t.rows.items };
+    ghost invariant = { λ t. IsIndexOf t.numbers t.rows.entries };
 }
 
 impl Table {
-    // No texts. The memory for so many numbers is taken here.
-    pub fn new(alloc: Global, room: u32) -> Result<Table, AllocError>
-        ensures { IfOk result (λ t. t ≡ []) }
+    // No texts.
+    pub fn new(alloc: Global) -> Table
+        ensures { result ≡ [] }
     {
-        Ok(Table {
-            rows: Vec::with_capacity(alloc, room as usize)?,
+        Table {
+            rows: BTreeMap::new(alloc),
             numbers: BTreeMap::new(alloc),
-        })
+        }
     }
 
     pub fn count(&self) -> usize
@@ -59,33 +52,33 @@ impl Table {
         self.rows.len()
     }
 
+    // The rows, by ascending number.
+    pub fn iter(&self) -> Iter<'_, u32, Label>
+        ensures { result ≡ self.now }
+    {
+        self.rows.iter()
+    }
+
+    // The row of a place, which is counted off.
     pub fn row_at(&self, place: usize) -> Option<(u32, &str)>
         ensures { option_map (λ row. (row.0, row.1.now)) result ≡ slice_get self.now place }
     {
-        match self.rows.get(place) {
-            Some(row) => Some((row.0, row.1.text())),
-            None => None,
+        let mut at = 0;
+        for (number, label) in &self.rows {
+            if at == place {
+                return Some((*number, label.text()));
+            }
+            at += 1;
         }
-    }
-
-    // Where the number is, or where it would go.
-    fn place_of(&self, number: u32) -> Result<usize, usize>
-        requires { IsAscending self.now }
-        ensures found { IfOk result (IsAt self.now number) }
-        ensures absent { IfErr result (IsGapFor self.now number) }
-        ensures known { IsOk result ↔ IsSome (text_of self.now number) }
-        ensures is_new { OnErr result (text_of self.now number ≡ None) }
-    {
-        self.rows.binary_search_by_key(&number, |row| row.0)
+        None
     }
 
     pub fn text_of(&self, number: u32) -> Option<&str>
-        requires { IsAscending self.now }
         ensures { option_map (λ t. t.now) result ≡ text_of self.now number }
     {
-        match self.place_of(number) {
-            Ok(place) => Some(self.rows[place].1.text()),
-            Err(_) => None,
+        match self.rows.get(&number) {
+            Some(label) => Some(label.text()),
+            None => None,
         }
     }
 
@@ -95,26 +88,25 @@ impl Table {
         self.numbers.get(text).copied()
     }
 
-    // Puts a row into its place. An `Err` changes nothing.
-    fn put(
-        &mut self,
-        alloc: Global,
-        place: usize,
-        number: u32,
-        text: &str,
-    ) -> Result<(), AllocError>
+    // Puts in a row of a new number and a new text. An `Err` changes nothing.
+    fn put(&mut self, alloc: Global, number: u32, text: &str) -> Result<(), AllocError>
         requires label { IsTrue (is_label text.now) }
-        requires within { place ≤ length self.old }
-        requires is_new { number_of self.old text.now ≡ None }
-        ensures put { OnOk result (self.new ≡ insert self.old place (number, text.now)) }
+        requires ascending { IsAscending self.old }
+        requires new_number { text_of self.old number ≡ None }
+        requires new_text { number_of self.old text.now ≡ None }
+        ensures put { OnOk result (self.new ≡ insert_entry nat_cmp self.old number text.now) }
         ensures unchanged { OnErr result (self.new ≡ self.old) }
     {
         let label = Label::of(alloc, text)?;
         let key = Vec::from_slice(alloc, text.as_bytes())?;
-        self.rows.reserve(1)?;
         self.numbers.insert(key, number)?;
-        self.rows.insert(place, (number, label)).unwrap();
-        Ok(())
+        match self.rows.insert(number, label) {
+            Ok(_) => Ok(()),
+            Err(_) => {
+                self.numbers.remove(text.as_bytes());
+                Err(AllocError)
+            }
+        }
     }
 
     // Gives a number a text, in a table that holds at most `room`.
@@ -137,16 +129,16 @@ impl Table {
         if !is_label(text.as_bytes()) {
             return Err(NamesFault::BadText);
         }
-        let Err(place) = self.place_of(number) else {
+        if self.text_of(number).is_some() {
             return Err(NamesFault::Twice);
-        };
+        }
         if self.number_of(text.as_bytes()).is_some() {
             return Err(NamesFault::Twice);
         }
         if self.rows.len() == room as usize {
             return Err(NamesFault::Full { held: room });
         }
-        self.put(alloc, place, number, text)?;
+        self.put(alloc, number, text)?;
         Ok(())
     }
 }

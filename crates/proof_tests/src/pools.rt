@@ -21,16 +21,19 @@ fn quoting(alloc: Global, left: u32, right: u32) -> Result<Term, Fail>
     Ok(Term::Quote(left, Box::new(alloc, Term::Key(right))?))
 }
 
+fn is_at(pool: &Pool, term: &Term, place: Option<u16>) -> bool {
+    pool.find(term) == place
+}
+
 #[test]
 fn a_part_that_comes_twice_takes_one_place(rt: HostRuntime) -> Result<(), Fail> {
     let mut pool = Pool::reserve(rt.alloc(), 2)?;
     let whole = quoting(rt.alloc(), 1, 1)?;
     let id = pool.intern(&whole);
-    assert_eq!(rt; id, 1);
-    assert_eq!(rt; pool.spare(), 0);
-    assert_eq!(rt; pool.find(&Term::Key(1)), Some(0));
-    assert_eq!(rt; pool.find(&whole), Some(1));
-    assert_eq!(rt; pool.find(&Term::Name(10)), None);
+    assert!(rt; id == 1 && pool.spare() == 0);
+    assert!(rt; is_at(&pool, &Term::Key(1), Some(0)));
+    assert!(rt; is_at(&pool, &whole, Some(1)));
+    assert!(rt; is_at(&pool, &Term::Name(10), None));
     Ok(())
 }
 
@@ -39,16 +42,14 @@ fn after_a_reset_all_room_is_there_and_no_term(rt: HostRuntime) -> Result<(), Fa
     let mut pool = Pool::reserve(rt.alloc(), 3)?;
     let first = both(rt.alloc(), 1, 2)?;
     let second = quoting(rt.alloc(), 3, 4)?;
-    let id = pool.intern(&first);
-    assert_eq!(rt; id, 2);
+    let before = pool.intern(&first);
     pool.reset();
-    assert_eq!(rt; pool.spare(), 3);
-    let id = pool.intern(&second);
-    assert_eq!(rt; id, 2);
-    assert_eq!(rt; pool.spare(), 0);
-    assert_eq!(rt; pool.find(&Term::Key(3)), Some(0));
-    assert_eq!(rt; pool.find(&Term::Key(4)), Some(1));
-    assert_eq!(rt; pool.find(&Term::Key(1)), None);
-    assert_eq!(rt; pool.find(&first), None);
+    let room = pool.spare();
+    let after = pool.intern(&second);
+    assert!(rt; before == 2 && room == 3 && after == 2 && pool.spare() == 0);
+    assert!(rt; is_at(&pool, &Term::Key(3), Some(0)));
+    assert!(rt; is_at(&pool, &Term::Key(4), Some(1)));
+    assert!(rt; is_at(&pool, &Term::Key(1), None));
+    assert!(rt; is_at(&pool, &first, None));
     Ok(())
 }

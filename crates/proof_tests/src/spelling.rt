@@ -1,15 +1,16 @@
 use prin_term::Term;
+use std::alloc::Global;
 use std::test::Fail;
 use taos_calculus::*;
 
 // Key 1 speaks for name 10 by the first anchor.
-const ANCHORED: [Line; 1] = [Line {
+const ANCHORED: &[Line] = &[Line {
     fact: Fact::Speaks { left: 0, right: 1 },
     step: Step::Anchor { index: 0 },
 }];
 
 // Key 1 hands name 10 to key 2.
-const HANDED: [Line; 4] = [
+const HANDED: &[Line] = &[
     Line {
         fact: Fact::Speaks { left: 0, right: 1 },
         step: Step::Anchor { index: 0 },
@@ -36,94 +37,106 @@ const HANDED: [Line; 4] = [
     },
 ];
 
-fn speaks(left: u16, right: u16) -> Line {
-    Line {
-        fact: Fact::Speaks { left, right },
-        step: Step::Same,
-    }
+macro_rules! same {
+    ($left:expr, $right:expr) => {
+        Line { fact: Fact::Speaks { left: $left, right: $right }, step: Step::Same }
+    };
 }
 
-fn proof_of(rt: &HostRuntime, nodes: &[Node], lines: &[Line]) -> Result<Option<Proof>, Fail> {
-    let alloc = rt.alloc();
-    Ok(Proof::from_parts(nodes.to_vec(alloc)?, lines.to_vec(alloc)?))
+const NODES: &[Node] = &[Node::Key(1), Node::Name(10), Node::Key(2)];
+
+fn proof_of(alloc: Global, nodes: &[Node], lines: &[Line]) -> Result<Option<Proof>, Fail> {
+    let nodes = nodes.to_vec(alloc)?;
+    Ok(Proof::from_parts(nodes, lines.to_vec(alloc)?))
 }
 
-fn bytes_of(rt: &HostRuntime, nodes: &[Node], lines: &[Line]) -> Result<Vec<u8>, Fail> {
-    let proof = proof_of(rt, nodes, lines)?.ok_or("no proof")?;
-    let mut out = Vec::new(rt.alloc());
-    write_proof(&mut out, &proof)?;
-    Ok(out)
+// Whether the proof is spelled so, behind another byte.
+fn is_spelled(alloc: Global, proof: &Proof, bytes: &[u8]) -> Result<bool, Fail> {
+    let mut out = vec![in alloc; 7]?;
+    write_proof(&mut out, proof)?;
+    Ok(out.get(1..) == Some(bytes) && out.first() == Some(&7))
+}
+
+// Whether a proof of these is spelled so, and has these.
+fn is_proof(alloc: Global, nodes: &[Node], lines: &[Line], bytes: &[u8]) -> Result<bool, Fail> {
+    let proof = proof_of(alloc, nodes, lines)?.ok_or("no proof")?;
+    let has_them = proof.nodes() == nodes && proof.lines() == lines;
+    Ok(has_them && is_spelled(alloc, &proof, bytes)?)
 }
 
 #[test]
 fn an_anchored_read_is_proved_by_one_line(rt: HostRuntime) -> Result<(), Fail> {
-    let bytes = bytes_of(&rt, &[Node::Key(1), Node::Name(10)], &ANCHORED)?;
     let want = [
         0, 2, 1, 0, 0, 0, 1, 2, 0, 0, 0, 10, 0, 0, 0, 1, 9, 0, 0, 0, 1, 0, 0,
     ];
-    assert_eq!(rt; bytes.as_slice(), want.as_slice());
+    assert!(rt; is_proof(rt.alloc(), &[Node::Key(1), Node::Name(10)], ANCHORED, &want)?);
     Ok(())
 }
 
 #[test]
 fn a_hand_off_is_proved_by_four_lines(rt: HostRuntime) -> Result<(), Fail> {
-    let bytes = bytes_of(&rt, &[Node::Key(1), Node::Name(10), Node::Key(2)], &HANDED)?;
-    let want = [
-        0, 3, 1, 0, 0, 0, 1, 2, 0, 0, 0, 10, 1, 0, 0, 0, 2, 0, 0, 0, 4, 9, 0, 0, 0, 1, 0, 0, 10, 0,
-        0, 0, 2, 0, 1, 0, 0, 11, 0, 1, 0, 2, 0, 1, 0, 0, 0, 1, 0, 0, 0, 0, 13, 0, 2, 0, 1, 0, 0, 0,
-        2,
-    ];
-    assert_eq!(rt; bytes.as_slice(), want.as_slice());
+    assert!(rt; is_proof(rt.alloc(), NODES, HANDED, &HAND_OFF)?);
     Ok(())
 }
 
 #[test]
-fn bytes_come_behind_what_is_there(rt: HostRuntime) -> Result<(), Fail> {
-    let proof = proof_of(&rt, &[], &[])?.ok_or("no proof")?;
-    let mut out = [7].to_vec(rt.alloc())?;
-    write_proof(&mut out, &proof)?;
-    assert_eq!(rt; out.as_slice(), [7, 0, 0, 0, 0, 0, 0].as_slice());
+fn an_empty_proof_is_spelled_too(rt: HostRuntime) -> Result<(), Fail> {
+    assert!(rt; is_proof(rt.alloc(), &[], &[], &[0; 6])?);
     Ok(())
 }
 
-#[test]
-fn the_parts_of_a_proof_are_those_that_made_it(rt: HostRuntime) -> Result<(), Fail> {
-    let nodes = [Node::Key(1), Node::Name(10), Node::Key(2)];
-    let proof = proof_of(&rt, &nodes, &HANDED)?.ok_or("no proof")?;
-    assert_eq!(rt; proof.nodes(), nodes.as_slice());
-    assert_eq!(rt; proof.lines(), HANDED.as_slice());
-    Ok(())
-}
-
-#[test]
-fn compounds_stand_behind_their_operands(rt: HostRuntime) -> Result<(), Fail> {
-    let nodes = [
-        Node::Key(1),
-        Node::Key(2),
-        Node::And(0, 1),
-        Node::AsRole(0, 5),
-    ];
-    let proof = proof_of(&rt, &nodes, &[speaks(2, 3), speaks(1, 0)])?;
-    assert!(rt; proof.is_some());
-    let nodes = [Node::Key(2), Node::Key(1), Node::And(1, 0)];
-    let proof = proof_of(&rt, &nodes, &[speaks(2, 0)])?;
-    assert!(rt; proof.is_none(), "the right operand came first");
-    Ok(())
-}
+// What is shown, the nodes and lines of a proof, and whether there is one of these.
+const TABLES: &[(&str, &[Node], &[Line], bool)] = &[
+    (
+        "compounds behind their operands",
+        &[
+            Node::Key(1),
+            Node::Key(2),
+            Node::And(0, 1),
+            Node::AsRole(0, 5),
+        ],
+        &[same!(2, 3), same!(1, 0)],
+        true,
+    ),
+    (
+        "the right operand came first",
+        &[Node::Key(2), Node::Key(1), Node::And(1, 0)],
+        &[same!(2, 0)],
+        false,
+    ),
+    (
+        "in another order",
+        &[Node::Name(10), Node::Key(1)],
+        &[same!(1, 0)],
+        false,
+    ),
+    (
+        "a node twice",
+        &[Node::Key(1), Node::Key(1)],
+        &[same!(0, 1)],
+        false,
+    ),
+    ("a node that no line names", NODES, ANCHORED, false),
+    (
+        "a number past the table",
+        &[Node::Key(1), Node::Name(10)],
+        &[same!(0, 2)],
+        false,
+    ),
+    (
+        "an operand that is not earlier",
+        &[Node::Key(1), Node::And(0, 1)],
+        &[same!(0, 1)],
+        false,
+    ),
+];
 
 #[test]
 fn only_the_canonical_table_is_taken(rt: HostRuntime) -> Result<(), Fail> {
-    let swapped = proof_of(&rt, &[Node::Name(10), Node::Key(1)], &[speaks(1, 0)])?;
-    assert!(rt; swapped.is_none(), "in another order");
-    let twice = proof_of(&rt, &[Node::Key(1), Node::Key(1)], &[speaks(0, 1)])?;
-    assert!(rt; twice.is_none(), "a node twice");
-    let nodes = [Node::Key(1), Node::Name(10), Node::Key(2)];
-    let unused = proof_of(&rt, &nodes, &ANCHORED)?;
-    assert!(rt; unused.is_none(), "a node that no line names");
-    let outside = proof_of(&rt, &[Node::Key(1), Node::Name(10)], &[speaks(0, 2)])?;
-    assert!(rt; outside.is_none(), "a number past the table");
-    let later = proof_of(&rt, &[Node::Key(1), Node::And(0, 1)], &[speaks(0, 1)])?;
-    assert!(rt; later.is_none(), "an operand that is not earlier");
+    for &(what, nodes, lines, is_one) in TABLES {
+        let proof = proof_of(rt.alloc(), nodes, lines)?;
+        assert!(rt; proof.is_some() == is_one, "{what}");
+    }
     Ok(())
 }
 
@@ -133,37 +146,43 @@ const HAND_OFF: [u8; 61] = [
     0, 2, 0, 1, 0, 0, 11, 0, 1, 0, 2, 0, 1, 0, 0, 0, 1, 0, 0, 0, 0, 13, 0, 2, 0, 1, 0, 0, 0, 2,
 ];
 
-fn fault_of(rt: &HostRuntime, bytes: &[u8]) -> Option<ProofFault> {
-    read_proof(rt.alloc(), bytes).err()
+fn names_ten(proof: &Proof) -> bool {
+    proof.node_is(1, &Term::Name(10))
+}
+
+fn names_key_ten(proof: &Proof) -> bool {
+    proof.node_is(1, &Term::Key(10))
 }
 
 #[test]
 fn a_hand_off_is_read_and_written_back(rt: HostRuntime) -> Result<(), Fail> {
     let proof = read_proof(rt.alloc(), &HAND_OFF)?;
-    assert_eq!(rt; proof.lines(), HANDED.as_slice());
-    let mut out = Vec::new(rt.alloc());
-    write_proof(&mut out, &proof)?;
-    assert_eq!(rt; out.as_slice(), HAND_OFF.as_slice());
-    assert!(rt; proof.node_is(1, &Term::Name(10)));
-    assert!(rt; !proof.node_is(1, &Term::Key(10)));
+    assert!(rt; proof.lines() == HANDED && names_ten(&proof) && !names_key_ten(&proof));
+    assert!(rt; is_spelled(rt.alloc(), &proof, &HAND_OFF)?);
     Ok(())
+}
+
+// The hand-off between other bytes.
+fn surrounded(alloc: Global) -> Result<Vec<u8>, Fail> {
+    let mut bytes = vec![in alloc; 7; 3]?;
+    bytes.extend_from_slice(&HAND_OFF)?;
+    bytes.push(7)?;
+    Ok(bytes)
 }
 
 #[test]
 fn a_proof_is_read_inside_other_bytes(rt: HostRuntime) -> Result<(), Fail> {
-    let mut bytes = [7, 7, 7].to_vec(rt.alloc())?;
-    bytes.extend_from_slice(&HAND_OFF)?;
-    bytes.push(7)?;
+    let bytes = surrounded(rt.alloc())?;
+    assert!(rt; bytes.len() == 65);
     let (proof, end) = read_proof_at(rt.alloc(), &bytes, 3, 61)?;
-    assert_eq!(rt; proof.lines(), HANDED.as_slice());
-    assert_eq!(rt; end, 64);
+    assert!(rt; proof.lines() == HANDED && end == 64);
     let longer = read_proof_at(rt.alloc(), &bytes, 3, 62).err();
-    assert_eq!(rt; longer, Some(ProofFault::Malformed { offset: 64 }));
+    assert!(rt; longer == Some(ProofFault::Malformed { offset: 64 }));
     Ok(())
 }
 
 // The place of a byte of the hand-off, another value there, and the place of the fault.
-const TURNED: [(usize, u8, usize); 10] = [
+const TURNED: &[(usize, u8, usize)] = &[
     (1, 2, 12),
     (2, 7, 2),
     (2, 3, 3),
@@ -176,19 +195,21 @@ const TURNED: [(usize, u8, usize); 10] = [
     (20, 3, 52),
 ];
 
+fn fault_with(alloc: Global, place: usize, value: u8) -> Option<ProofFault> {
+    let mut bytes = HAND_OFF;
+    if let Some(byte) = bytes.get_mut(place) {
+        *byte = value;
+    }
+    read_proof(alloc, &bytes).err()
+}
+
 #[test]
-fn a_turned_byte_is_refused_at_its_place(rt: HostRuntime) -> Result<(), Fail> {
-    for (place, value, want) in TURNED {
-        let mut bytes = HAND_OFF;
-        if let Some(byte) = bytes.get_mut(place) {
-            *byte = value;
-        }
-        let fault = fault_of(&rt, &bytes);
-        assert_eq!(rt;
-            fault,
-            Some(ProofFault::Malformed { offset: want }),
+fn a_turned_byte_is_refused_at_its_place(rt: HostRuntime) {
+    for &(place, value, offset) in TURNED {
+        let fault = fault_with(rt.alloc(), place, value);
+        assert!(rt;
+            fault == Some(ProofFault::Malformed { offset }),
             "at {place}"
         );
     }
-    Ok(())
 }

@@ -34,6 +34,8 @@ pub struct Fails {
     pub relay: Vec<u64>,
     pub says: Vec<u64>,
     pub hears: Vec<u64>,
+    /// Of the lane's door.
+    pub door: Vec<u64>,
 }
 
 /// How many bytes each object takes; with no number, enough.
@@ -53,6 +55,8 @@ pub struct Setting {
     /// The most bytes of each of the first reads of the input. None is 0.
     pub pieces: Vec<u64>,
     pub readings: Vec<u64>,
+    /// How many connections the lane's door has, each with this input. None is 0.
+    pub connections: Option<u64>,
     pub relay: RelaySide,
     pub fails: Fails,
     pub rooms: Rooms,
@@ -144,6 +148,7 @@ fn no_fails(alloc: Global) -> Fails {
         relay: Vec::new(alloc),
         says: Vec::new(alloc),
         hears: Vec::new(alloc),
+        door: Vec::new(alloc),
     }
 }
 
@@ -154,6 +159,7 @@ fn plain_setting(alloc: Global) -> Setting {
         input: Vec::new(alloc),
         pieces: Vec::new(alloc),
         readings: Vec::new(alloc),
+        connections: None,
         relay: RelaySide {
             nodes: Vec::new(alloc),
             issuers: Vec::new(alloc),

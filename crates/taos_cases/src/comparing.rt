@@ -72,7 +72,9 @@ fn output_difference<W: Threads + Wait + Sync>(
     output: &[u8],
 ) -> Result<Option<Difference>, AllocError> {
     let setting = &case.setting;
-    let exchange = Exchange::new(alloc, &setting.input, output)?;
+    let times = setting.connections.unwrap_or(1) as usize;
+    let asked = setting.input.as_slice().repeat(alloc, times)?;
+    let exchange = Exchange::new(alloc, &asked, output)?;
     let mut at = 0usize;
     let mut number = 0usize;
     for part in &case.wanted.output {
@@ -144,6 +146,6 @@ pub fn first_difference<W: Threads + Wait + Sync>(
     if is != wanted {
         return Ok(Some(Difference::Status { is, wanted }));
     }
-    let found = output_difference(rt, alloc, case, played.around.output.written())?;
+    let found = output_difference(rt, alloc, case, &played.written)?;
     Ok(found.or(other_difference(case, played)))
 }

@@ -1,7 +1,7 @@
 //! Whether a reply is the grant that is wanted.
 
 use crate::case::Grant;
-use crate::objects::{Around, readings_of, sink_of, source_of};
+use crate::objects::{Around, no_door, readings_of, sink_of, source_of};
 use crate::playing::call;
 use frame_link::{MemClock, MemSink, NoRelay};
 use std::alloc::{AllocError, Global};
@@ -62,7 +62,8 @@ fn checked<W: Threads + Wait + Sync>(
     };
     let clock = MemClock::new(readings_of(alloc, &[])?, Vec::new(alloc));
     let words = [String::from_str(alloc, "check")?];
-    let (status, _) = call(rt, alloc, &words, &mut around, clock, NoRelay::new());
+    let door = no_door(alloc)?;
+    let (status, _) = call(rt, alloc, &words, &mut around, clock, NoRelay::new(), door);
     Ok((status, around.output))
 }
 

@@ -3,7 +3,7 @@
 ghost use Rattle.std.specs.Prelude.{◌<◌, ℕ, All, IfOk, length};
 
 use crate::case::{Conversation, Setting};
-use frame_link::{Failed, MemSink, MemSource, Source};
+use frame_link::{Failed, MemDoor, MemSink, MemSource, Source};
 use std::alloc::{AllocError, Global};
 use std::fmt;
 
@@ -97,6 +97,45 @@ pub fn left_of(alloc: Global, source: &mut MemSource) -> Result<Vec<u8>, AllocEr
         }
     }
     Ok(left)
+}
+
+/// A door of a lane, over objects in memory.
+pub type LaneDoor = MemDoor<MemSource, MemSink>;
+
+/// A door that has no connection.
+pub fn no_door(alloc: Global) -> Result<LaneDoor, AllocError> {
+    MemDoor::new(alloc, Vec::new(alloc), Vec::new(alloc))
+}
+
+/// The door of a conversation's lane: each of its connections gives the input.
+pub fn door_of(alloc: Global, case: &Conversation, manner: Manner) -> Result<LaneDoor, AllocError> {
+    let setting = &case.setting;
+    let room = room_of(setting.rooms.output, case.wanted.output_most());
+    let mut connections = Vec::new(alloc);
+    for _ in 0..setting.connections.unwrap_or(0) {
+        let input = input_of(alloc, setting, manner)?;
+        connections.push((input, sink_of(alloc, room, &[])?))?;
+    }
+    MemDoor::new(alloc, connections, setting.fails.door.to_vec(alloc)?)
+}
+
+/// What the connections that a door was given back had written to them, one after the other.
+pub fn written_to(alloc: Global, door: &LaneDoor) -> Result<Vec<u8>, AllocError> {
+    let mut written = Vec::new(alloc);
+    for (_, output) in door.kept() {
+        written.extend_from_slice(output.written())?;
+    }
+    Ok(written)
+}
+
+/// How often a door and its connections failed, all together.
+pub fn faults_at(door: &LaneDoor) -> u64 {
+    let mut faults = door.faults();
+    for (input, output) in door.kept() {
+        let both = input.faults().saturating_add(output.faults());
+        faults = faults.saturating_add(both);
+    }
+    faults
 }
 
 /// What a call reads from and writes to.

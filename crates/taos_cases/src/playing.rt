@@ -2,9 +2,10 @@
 
 use crate::case::{Conversation, NumberedKey};
 use crate::objects::{
-    Around, Manner, around_of, left_of, readings_of, room_of, sink_of, source_of,
+    Around, LaneDoor, Manner, around_of, door_of, faults_at, left_of, readings_of, room_of,
+    sink_of, source_of, written_to,
 };
-use frame_link::{ClosedDoor, MemClock, MemSink, MemSource, NoRelay, RelayLink};
+use frame_link::{MemClock, MemSink, MemSource, NoRelay, RelayLink};
 use keyed_seal::KeyTable;
 use relay_core::{LinkRelay, LocalRelay, MemRelay, RelayTable};
 use std::alloc::{AllocError, Global};
@@ -18,6 +19,8 @@ use taos_node::{Lane, taos};
 pub struct Played {
     pub status: u8,
     pub around: Around,
+    /// What was written to the connections of the lane's door, in order, and then to the output.
+    pub written: Vec<u8>,
     /// How often the objects of the call failed, all together.
     pub faults: u64,
     /// What the relay at the other end of a link heard.
@@ -27,7 +30,7 @@ pub struct Played {
 }
 
 /// The lane of a call.
-pub type Lanes<R> = [Lane<MemClock, R, ClosedDoor<MemSource, MemSink>>; 1];
+pub type Lanes<R> = [Lane<MemClock, R, LaneDoor>; 1];
 
 /// Calls `taos`, and gives its status and the lane.
 pub fn call<W: Threads + Wait + Sync, R: RelayLink + Send + Drop>(
@@ -37,8 +40,9 @@ pub fn call<W: Threads + Wait + Sync, R: RelayLink + Send + Drop>(
     around: &mut Around,
     clock: MemClock,
     relay: R,
+    door: LaneDoor,
 ) -> (u8, Lanes<R>) {
-    let mut lanes = [Lane::of(clock, relay, ClosedDoor::new())];
+    let mut lanes = [Lane::of(clock, relay, door)];
     let status = taos(
         rt,
         alloc,
@@ -64,8 +68,12 @@ fn play_over<W: Threads + Wait + Sync, R: RelayLink + Send + Drop>(
     let readings = readings_of(alloc, &setting.readings)?;
     let clock = MemClock::new(readings, setting.fails.clock.to_vec(alloc)?);
     let mut around = around_of(alloc, case, manner)?;
-    let (status, lanes) = call(rt, alloc, &setting.words, &mut around, clock, relay);
+    let door = door_of(alloc, case, manner)?;
+    let (status, lanes) = call(rt, alloc, &setting.words, &mut around, clock, relay, door);
     let faults = around.faults().saturating_add(lanes[0].clock.faults());
+    let faults = faults.saturating_add(faults_at(&lanes[0].door));
+    let mut written = written_to(alloc, &lanes[0].door)?;
+    written.extend_from_slice(around.output.written())?;
     let left = match &case.wanted.left {
         Some(_) => left_of(alloc, &mut around.input)?,
         None => Vec::new(alloc),
@@ -73,6 +81,7 @@ fn play_over<W: Threads + Wait + Sync, R: RelayLink + Send + Drop>(
     let played = Played {
         status,
         around,
+        written,
         faults,
         hears: None,
         left,

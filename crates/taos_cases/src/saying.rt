@@ -136,6 +136,7 @@ fn says_setting(
         "input" => add_bytes(alloc, &mut setting.input, text)?,
         "pieces" => add_pieces(&mut setting.pieces, text)?,
         "clock" => add_numbers(&mut setting.readings, text)?,
+        "connections" => put_number(&mut setting.connections, text)?,
         "relay-node" => add_relay_key(alloc, &mut setting.relay, false, text)?,
         "relay-issuer" => add_relay_key(alloc, &mut setting.relay, true, text)?,
         "relay-says" => add_says(alloc, &mut setting.relay, text)?,
@@ -160,6 +161,7 @@ fn says_fails(case: &mut Conversation, key: &str, text: &str) -> Result<bool, Li
         "relay-fails" => add_numbers(&mut fails.relay, text)?,
         "says-fails" => add_numbers(&mut fails.says, text)?,
         "hears-fails" => add_numbers(&mut fails.hears, text)?,
+        "door-fails" => add_numbers(&mut fails.door, text)?,
         _ => return Ok(false),
     }
     Ok(true)

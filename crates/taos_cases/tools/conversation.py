@@ -6,10 +6,10 @@ from formats import LAST, Fields, grant_front
 WIDTH = 100
 NUMBERS = ["pieces", "clock"]
 FAILS = ["file-fails", "input-fails", "byte-fails", "output-fails", "notes-fails", "clock-fails"]
-FAILS += ["relay-fails", "says-fails", "hears-fails"]
+FAILS += ["relay-fails", "says-fails", "hears-fails", "door-fails"]
 ROOMS = ["output-room", "notes-room", "hears-room"]
 BYTES = ["file", "input", "relay-says", "output", "hears", "left"]
-KEYS = ["words", "file", "input", "pieces", "clock", "relay-node", "relay-issuer", "relay-says"]
+KEYS = ["words", "file", "input", "connections", "pieces", "clock", "relay-node", "relay-issuer", "relay-says"]
 KEYS += FAILS + ROOMS + ["output", "hears", "left", "status", "note", "note-front", "faults"]
 
 

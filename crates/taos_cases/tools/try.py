@@ -25,8 +25,8 @@ from reading import Granted, all_files, read
 from relay import Relay
 
 HERE = os.path.dirname(os.path.abspath(__file__))
-UNFIT = ["pieces", "relay-says", "note-front", "output-room", "notes-room", "hears-room"]
-FAILING = ["file", "input", "byte", "output", "notes", "clock", "relay", "says", "hears"]
+UNFIT = ["connections", "pieces", "relay-says", "note-front", "output-room", "notes-room", "hears-room"]
+FAILING = ["file", "input", "byte", "output", "notes", "clock", "relay", "says", "hears", "door"]
 UNFIT += [f"{each}-fails" for each in FAILING]
 MOST_SECONDS = 2**63 - 1
 WORKERS, LIMIT, TAG, FRONT = 4, 120, 32, 28

@@ -9,19 +9,19 @@ use Rattle.taos_lanes.specs.contracts.lane.Lane as lane
 use Rattle.taos_lanes.specs.contracts.lane.Stock as stock
 use Rattle.taos_lanes.specs.contracts.sitting.Shared as shared
 use Rattle.taos_lanes.proofs.tally.Tally.TheSendSync as tally
-use Rattle.taos_saturate.specs.contracts.saturator.Saturator as saturator
-use Rattle.taos_saturate.proofs.held.Held.TheSendSync as held
+use Rattle.goal_search.specs.contracts.workbench.Workbench as workbench
+use Rattle.goal_search.proofs.asked.Asked.TheSendSync as asked
 use Rattle.taos_monitor.specs.contracts.node_keys.NodeKeys as keys
 use Rattle.taos_monitor.proofs.node_keys.NodeKeys.TheSendSync as keys_cross
 
-saturator_inside : IsSend saturator.TheInside.the_row
-saturator_inside = declared_send saturator.TheInside.the_type (held.the_send, tt)
+workbench_inside : IsSend workbench.TheInside.the_row
+workbench_inside = declared_send workbench.TheInside.the_type (asked.the_send, tt)
 
-saturator_send : IsSend saturator.the_row
-saturator_send = search (sendable, saturator_inside)
+workbench_send : IsSend workbench.the_row
+workbench_send = search (sendable, workbench_inside)
 
 pub stock_send : IsSend stock.the_row
-stock_send = declared_send stock.the_type (passes_send, (rack_passes_send, (saturator_send, (tally.the_send, tt))))
+stock_send = declared_send stock.the_type (passes_send, (rack_passes_send, (workbench_send, (tally.the_send, tt))))
 
 pub keys_sync : IsSync keys.the_row
 keys_sync = keys_cross.the_sync

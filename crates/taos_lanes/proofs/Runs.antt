@@ -1,6 +1,6 @@
 -- The lanes of a node, from their stocks until its cells were closed.
 use Rattle.std.proofs.Common.{◌≡◌, ℕ, zero, suc, ◌+◌, ◌≤◌, ◌==◌, true, List, [], ◌∷◌, ◌++◌, length, map, Option, None, Some, refl, sym, ap, ap₂, ◌∙◌, subst, arith, cond}
-use Rattle.std.specs.Prelude.{All, slice_get, filter_map, sum_by, count_by}
+use Rattle.std.specs.Prelude.{All, not, slice_get, filter_map, sum_by, count_by}
 use Rattle.std.specs.List.{AllZip}
 use Rattle.std.specs.List.{cons_option, position_or_len}
 use Rattle.std.proofs.lemmas.List.Elements.{All-nil, All-cons, All-head, All-tail}
@@ -157,12 +157,31 @@ module _ {In Out : Type 0} (left : In → Option (List ℕ)) (written : Out → 
       ∙ (ap₂ (λ (a b : ℕ). a + b) (each before after z.0) (sums of_stock of_run each befores afters z.1)
       ∙ sym (sum_by-cons of_run (run_of before after z.0) (runs_of befores afters z.1))))
 
+  -- there is a stock for each run, and the first whose door failed is the same
+  as_many : (befores afters : List (LaneShown (In × Out))) (z : AllZip Serves befores afters) → length (stocks_in afters) ≡ length (runs_of befores afters z)
+  as_many [] [] z = refl
+  as_many [] (after ∷ afters) z = absurd z
+  as_many (before ∷ befores) [] z = absurd z
+  as_many (before ∷ befores) (after ∷ afters) z =
+      ap (λ (l : List Stock). length l) (given_first (λ (lane : LaneShown (In × Out)). lane.work) after afters z.0.new z.0.has) ∙ ap suc (as_many befores afters z.1)
+
+  same_first : (befores afters : List (LaneShown (In × Out))) (z : AllZip Serves befores afters) →
+      position_or_len (λ (s : Stock). s.tally.door_failed) (stocks_in afters) ≡ position_or_len (λ (run : LaneRun (node_at keys cells) limits.frames). run.door_failed) (runs_of befores afters z)
+  same_first [] [] z = refl
+  same_first [] (after ∷ afters) z = absurd z
+  same_first (before ∷ befores) [] z = absurd z
+  same_first (before ∷ befores) (after ∷ afters) z =
+      ap (position_or_len (λ (s : Stock). s.tally.door_failed)) (given_first (λ (lane : LaneShown (In × Out)). lane.work) after afters z.0.new z.0.has)
+      ∙ ap (λ (n : ℕ). cond (not z.0.new.tally.door_failed) (1 + n) 0) (same_first befores afters z.1)
+
   pub runs_counted : (befores afters : List (LaneShown (In × Out))) (z : AllZip Serves befores afters) (total : Total) → IsTotalOf (stocks_in afters) total → AreCounted (runs_of befores afters z) total
   runs_counted befores afters z total is = record {
+    lanes = is.lanes ∙ as_many befores afters z;
     served = is.served ∙ sums (λ (s : Stock). s.tally.served) (λ (run : LaneRun (node_at keys cells) limits.frames). length run.visits) (λ b a s. s.serves.counted.served) befores afters z;
     broken = is.broken ∙ sums (λ (s : Stock). s.tally.broken) (λ (run : LaneRun (node_at keys cells) limits.frames). count_by (λ (v : Visit (node_at keys cells) run.says limits.frames). is_broken v.outcome) run.visits) (λ b a s. s.serves.counted.broken) befores afters z;
     lacked = is.lacked ∙ sums (λ (s : Stock). s.tally.lacked) (λ (run : LaneRun (node_at keys cells) limits.frames). count_by (λ (v : Visit (node_at keys cells) run.says limits.frames). is_lacking v.outcome) run.visits) (λ b a s. s.serves.counted.lacked) befores afters z;
     doors_failed = is.doors_failed ∙ sums (λ (s : Stock). cond s.tally.door_failed 1 0) (λ (run : LaneRun (node_at keys cells) limits.frames). cond run.door_failed 1 0) (λ b a s. refl) befores afters z;
+    first_failed = is.first_failed ∙ same_first befores afters z;
   }
 
 -- ---- closed cells

@@ -1,8 +1,10 @@
 -- What lanes counted, lane after lane.
 use Rattle.std.proofs.Common.{◌≡◌, ℕ, ◌+◌, ◌*◌, ◌^◌, ◌<◌, ◌≤◌, Bool, true, false, List, [], ◌∷◌, ◌++◌, length, map, take, get_or, Option, Some, refl, sym, ap, ap₂, ◌∙◌, subst, arith, cond, add-one}
-use Rattle.std.specs.Prelude.{All, filter_map, sum_by, count_by}
-use Rattle.std.proofs.lemmas.List.{length-map, take_more}
+use Rattle.std.specs.Prelude.{◌==◌, All, filter_map, sum_by, count_by}
+use Rattle.std.specs.List.{position_or_len}
+use Rattle.std.proofs.lemmas.List.{length-append, length-map, take_more}
 use Rattle.std.proofs.lemmas.List.Elements.{filter_map-append}
+use Rattle.std.proofs.lemmas.List.Folds.{position_or_len_push}
 use Rattle.std.proofs.lemmas.List.Sums.{sum_by_push}
 use Rattle.taos_lanes.specs.declared.lane.Stock.{Stock}
 use Rattle.taos_lanes.specs.declared.tally.Tally.{Tally}
@@ -14,20 +16,24 @@ use Rattle.taos_lanes.proofs.Runs.{given_first}
 
 -- each sum of so many lanes is less than so many times 2 to the 64th
 pub record IsSmall (count : ℕ) (total : Total) : Type 0 where
+  pub lanes : total.lanes ≤ count
   pub served : total.served ≤ count * 2 ^ 64
   pub broken : total.broken ≤ count * 2 ^ 64
   pub lacked : total.lacked ≤ count * 2 ^ 64
   pub doors_failed : total.doors_failed ≤ count * 2 ^ 64
 
 -- one lane more
-pub total_more : (stocks : List Stock) (stock : Stock) (total more : Total) → IsTotalOf stocks total →
+pub total_more : (stocks : List Stock) (stock : Stock) (total more : Total) → IsTotalOf stocks total → more.lanes ≡ total.lanes + 1 →
     more.served ≡ total.served + stock.tally.served → more.broken ≡ total.broken + stock.tally.broken → more.lacked ≡ total.lacked + stock.tally.lacked →
-    more.doors_failed ≡ total.doors_failed + cond stock.tally.door_failed 1 0 → IsTotalOf (stocks ++ stock ∷ []) more
-total_more stocks stock total more t served broken lacked failed = record {
+    more.doors_failed ≡ total.doors_failed + cond stock.tally.door_failed 1 0 →
+    more.first_failed ≡ cond (total.first_failed == total.lanes) (total.lanes + cond stock.tally.door_failed 0 1) total.first_failed → IsTotalOf (stocks ++ stock ∷ []) more
+total_more stocks stock total more t lanes served broken lacked failed first = record {
+  lanes = omega (arith, lanes, t.lanes, length-append stocks (stock ∷ []));
   served = served ∙ (ap (λ (n : ℕ). n + stock.tally.served) t.served ∙ sym (sum_by_push (λ (s : Stock). s.tally.served) stocks stock));
   broken = broken ∙ (ap (λ (n : ℕ). n + stock.tally.broken) t.broken ∙ sym (sum_by_push (λ (s : Stock). s.tally.broken) stocks stock));
   lacked = lacked ∙ (ap (λ (n : ℕ). n + stock.tally.lacked) t.lacked ∙ sym (sum_by_push (λ (s : Stock). s.tally.lacked) stocks stock));
   doors_failed = failed ∙ (ap (λ (n : ℕ). n + cond stock.tally.door_failed 1 0) t.doors_failed ∙ sym (sum_by_push (λ (s : Stock). cond s.tally.door_failed 1 0) stocks stock));
+  first_failed = first ∙ (ap₂ (λ (f l : ℕ). cond (f == l) (l + cond stock.tally.door_failed 0 1) f) t.first_failed t.lanes ∙ sym (position_or_len_push (λ (s : Stock). s.tally.door_failed) stocks stock));
 }
 
 -- the stocks of one lane more
@@ -55,9 +61,10 @@ stocks_gone f i xs ys d stock u lt has =
     stocks_at (map f xs) i (f d) stock within (ap (λ (x : LaneShown _). x.work) (sym same) ∙ has)
 
 -- one lane more adds less than 2 to the 64th
-pub small_more : (i : ℕ) (total more : Total) (served broken lacked doors : ℕ) → IsSmall i total → more.served ≡ total.served + served → more.broken ≡ total.broken + broken → more.lacked ≡ total.lacked + lacked →
+pub small_more : (i : ℕ) (total more : Total) (served broken lacked doors : ℕ) → IsSmall i total → more.lanes ≡ total.lanes + 1 → more.served ≡ total.served + served → more.broken ≡ total.broken + broken → more.lacked ≡ total.lacked + lacked →
     more.doors_failed ≡ total.doors_failed + doors → (served < 2 ^ 64) × (broken < 2 ^ 64) × (lacked < 2 ^ 64) × (doors ≤ 1) → IsSmall (i + 1) more
-small_more i total more served broken lacked doors s a b c d few = record {
+small_more i total more served broken lacked doors s lanes a b c d few = record {
+  lanes = omega (arith, s.lanes, lanes);
   served = omega (arith, s.served, a, few.0);
   broken = omega (arith, s.broken, b, few.1);
   lacked = omega (arith, s.lacked, c, few.2);

@@ -1,5 +1,6 @@
 -- Passes of a node's cells that go to lanes and come back.
-use Rattle.std.specs.Prelude.{◌≡◌, ℕ, ◌+◌, List, [], ◌∷◌, filter_map, All, None, Some, sum_by, count_by}
+use Rattle.std.specs.Prelude.{◌≡◌, ℕ, ◌+◌, List, [], ◌∷◌, length, filter_map, All, None, Some, sum_by, count_by}
+use Rattle.std.specs.List.{position_or_len}
 use Rattle.agent_core.specs.Journals.{MayFollow}
 use Rattle.agent_shards.specs.Cells.{AreJoined}
 use Rattle.agent_shards.specs.Shards.{ShardCell, KnownShard, ArePasses}
@@ -102,7 +103,10 @@ stocks_in {X} lanes = filter_map (λ (lane : LaneShown X). lane.work) lanes
 
 -- what all lanes counted
 pub record IsTotalOf (stocks : List Stock) (total : Total) : Type 0 where
+  pub lanes : total.lanes ≡ length stocks
   pub served : total.served ≡ sum_by (λ (s : Stock). s.tally.served) stocks
   pub broken : total.broken ≡ sum_by (λ (s : Stock). s.tally.broken) stocks
   pub lacked : total.lacked ≡ sum_by (λ (s : Stock). s.tally.lacked) stocks
   pub doors_failed : total.doors_failed ≡ count_by (λ (s : Stock). s.tally.door_failed) stocks
+  pub first_failed : total.first_failed ≡
+      position_or_len (λ (s : Stock). s.tally.door_failed) stocks

@@ -1,5 +1,5 @@
 -- What the lanes of a node did, from its opening until its cells were closed.
-use Rattle.std.specs.Prelude.{◌≡◌, ℕ, ◌==◌, true, List, [], map, Option, slice_get, count_by}
+use Rattle.std.specs.Prelude.{◌≡◌, ℕ, ◌==◌, true, List, [], length, map, Option, slice_get, count_by}
 use Rattle.std.specs.List.{position_or_len}
 use Rattle.agent_core.specs.Alone.{plans_in, seen_in}
 use Rattle.agent_core.specs.Journals.{ShardSeen}
@@ -46,11 +46,15 @@ pub record IsRunOf {In Out : Type 0} (left : In → Option (List ℕ)) (written 
 -- these are counted
 pub record AreCounted {n : Node} {limit : ℕ} (runs : List (LaneRun n limit)) (total : Total) :
     Type 0 where
+  pub lanes : total.lanes ≡ length runs
   pub served : total.served ≡ connection_count runs
   pub broken : total.broken ≡ broken_count runs
   pub lacked : total.lacked ≡ lacked_count runs
   pub doors_failed : total.doors_failed ≡
       count_by (λ (run : LaneRun n limit). run.door_failed) runs
+  -- the first lane whose door failed, or how many lanes there are where none did
+  pub first_failed : total.first_failed ≡
+      position_or_len (λ (run : LaneRun n limit). run.door_failed) runs
 
 -- The node's lanes served all that stands in the journals of its shards and objects.
 pub record ServesNode {In Out : Type 0} (left : In → Option (List ℕ))

@@ -48,7 +48,8 @@ pub(crate) fn join_lanes<C: Clock, R: RelayLink, D: Door>(
     requires few { length lanes.old ≤ 2 ^ 32 }
     requires passes { ArePassesOf (cells_of agent.now rack.now) (passes_of passes.old racked.old) }
     requires stocked { All (WorkIs (IsStockOf (cells_of agent.now rack.now)))
-        (map (shown_by C.readings R.faults R.says (door_by D.left D.back D.given D.faults)) lanes.old) }
+        (map (shown_by C.readings R.faults R.says
+        (door_by D.left D.back D.given D.faults)) lanes.old) }
     ensures joined { JoinsAll (cells_of agent.now rack.now) (passes_of passes.old racked.old)
         (stocks_in (map (shown_by C.readings R.faults R.says
         (door_by D.left D.back D.given D.faults)) lanes.old)) (passes_of passes.new racked.new) }
@@ -56,8 +57,10 @@ pub(crate) fn join_lanes<C: Clock, R: RelayLink, D: Door>(
     ensures total { IsTotalOf (stocks_in (map (shown_by C.readings R.faults R.says
         (door_by D.left D.back D.given D.faults)) lanes.old)) result }
     ensures emptied { AllZip IsEmptied
-        (map (shown_by C.readings R.faults R.says (door_by D.left D.back D.given D.faults)) lanes.old)
-        (map (shown_by C.readings R.faults R.says (door_by D.left D.back D.given D.faults)) lanes.new) }
+        (map (shown_by C.readings R.faults R.says
+        (door_by D.left D.back D.given D.faults)) lanes.old)
+        (map (shown_by C.readings R.faults R.says
+        (door_by D.left D.back D.given D.faults)) lanes.new) }
 {
     let mut total = Total::new();
     for lane in lanes.iter_mut() {

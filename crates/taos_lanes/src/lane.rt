@@ -5,7 +5,7 @@ ghost use Rattle.std.specs.Prelude.{◌≡◌, None};
 use crate::tally::Tally;
 use agent_shards::{Passes, RackPasses};
 use frame_link::{Clock, Door, RelayLink};
-use taos_saturate::Saturator;
+use goal_search::Workbench;
 
 /// How much a lane serves at most.
 #[derive(Clone, Copy, Debug, PartialEq, Eq)]
@@ -22,7 +22,7 @@ pub struct Limits {
 pub struct Stock {
     pub(crate) passes: Passes,
     pub(crate) racked: RackPasses,
-    pub(crate) bench: Saturator,
+    pub(crate) bench: Workbench,
     pub(crate) tally: Tally,
 }
 

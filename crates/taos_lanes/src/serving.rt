@@ -1,7 +1,7 @@
 //! The lanes of a node, from its opening until its cells are closed.
 
 ghost use Rattle.std.specs.List.{AllZip};
-ghost use Rattle.std.specs.Prelude.{◌≡◌, ◌<◌, ◌≤◌, [], All, IfOk, None, OnErr, length, map};
+ghost use Rattle.std.specs.Prelude.{◌≡◌, ◌<◌, ◌≤◌, [], All, IfOk, None, OnErr, OnOk, length, map};
 ghost use Rattle.agent_core.specs.Alone.{plans_in};
 ghost use Rattle.agent_core.specs.Plans.{AreShards};
 ghost use Rattle.agent_shards.specs.Shards.{plans_of};
@@ -46,8 +46,10 @@ pub struct Served {
 // The lanes keep nothing of their work.
 fn empty<C: Clock, R: RelayLink, D: Door>(lanes: &mut [Lane<C, R, D>])
     ensures { AllZip IsEmptied
-        (map (shown_by C.readings R.faults R.says (door_by D.left D.back D.given D.faults)) lanes.old)
-        (map (shown_by C.readings R.faults R.says (door_by D.left D.back D.given D.faults)) lanes.new) }
+        (map (shown_by C.readings R.faults R.says
+        (door_by D.left D.back D.given D.faults)) lanes.old)
+        (map (shown_by C.readings R.faults R.says
+        (door_by D.left D.back D.given D.faults)) lanes.new) }
 {
     for lane in lanes.iter_mut() {
         lane.work = None;
@@ -71,13 +73,17 @@ fn serve_cells<W: Threads + Wait + Sync, C: Clock + Send, R: RelayLink + Send, D
     requires planned { ArePlanned keys.now.channels.entries (plans_of shards.0) }
     ensures served { IfOk result (λ r. ServesNode D.In.left D.Out.written
         (node_at keys.now (cells_of shards.0 objects.0)) limits
-        (map (shown_by C.readings R.faults R.says (door_by D.left D.back D.given D.faults)) lanes.old)
-        (map (shown_by C.readings R.faults R.says (door_by D.left D.back D.given D.faults)) lanes.new)
+        (map (shown_by C.readings R.faults R.says
+        (door_by D.left D.back D.given D.faults)) lanes.old)
+        (map (shown_by C.readings R.faults R.says
+        (door_by D.left D.back D.given D.faults)) lanes.new)
         r.shards.items r.objects.items r.total) }
     ensures idle { All (λ lane. lane.work ≡ None) lanes.new }
     ensures unserved { OnErr result (AllZip HasOtherWork
-        (map (shown_by C.readings R.faults R.says (door_by D.left D.back D.given D.faults)) lanes.old)
-        (map (shown_by C.readings R.faults R.says (door_by D.left D.back D.given D.faults)) lanes.new)) }
+        (map (shown_by C.readings R.faults R.says
+        (door_by D.left D.back D.given D.faults)) lanes.old)
+        (map (shown_by C.readings R.faults R.says
+        (door_by D.left D.back D.given D.faults)) lanes.new)) }
 {
     closed_lanes_serve_all();
     let (agent, mut passes) = shards;
@@ -104,10 +110,47 @@ fn serve_cells<W: Threads + Wait + Sync, C: Clock + Send, R: RelayLink + Send, D
     })
 }
 
+// Serves the doors of all lanes at cells of these shards and objects.
+fn serve_new<W: Threads + Wait + Sync, C: Clock + Send, R: RelayLink + Send, D: Door + Send>(
+    rt: &W,
+    alloc: Global,
+    keys: &NodeKeys,
+    shards: Vec<Shard>,
+    anchors: Arc<Vec<Anchor>>,
+    objects: Vec<Object>,
+    lanes: &mut [Lane<C, R, D>],
+    limits: Limits,
+) -> Result<Served, AllocError>
+    requires some { 0 < length lanes.old }
+    requires few { length lanes.old ≤ 16 }
+    requires shards { AreShards (plans_in shards.items) anchors.value.items }
+    requires shards_new { All (λ s. s.journal ≡ []) shards.items }
+    requires objects { HaveOwnNumbers (map fixed_of objects.items) }
+    requires objects_new { All (λ o. o.journal ≡ []) objects.items }
+    requires planned { ArePlanned keys.now.channels.entries (plans_in shards.items) }
+    ensures served { IfOk result (λ r. ServesNode D.In.left D.Out.written
+        (node_of keys.now (plans_in shards.items) (map fixed_of objects.items)) limits
+        (map (shown_by C.readings R.faults R.says
+        (door_by D.left D.back D.given D.faults)) lanes.old)
+        (map (shown_by C.readings R.faults R.says
+        (door_by D.left D.back D.given D.faults)) lanes.new)
+        r.shards.items r.objects.items r.total) }
+    ensures idle { OnOk result (All (λ lane. lane.work ≡ None) lanes.new) }
+    ensures unserved { OnErr result (AllZip HasOtherWork
+        (map (shown_by C.readings R.faults R.says
+        (door_by D.left D.back D.given D.faults)) lanes.old)
+        (map (shown_by C.readings R.faults R.says
+        (door_by D.left D.back D.given D.faults)) lanes.new)) }
+{
+    let opened = Agent::new(alloc, shards, anchors)?;
+    let racked = Rack::new(alloc, objects)?;
+    serve_cells(rt, alloc, keys, opened, racked, lanes, limits)
+}
+
 /// Serves the doors of all lanes at the same time, a worker a lane, until each has served as many
 /// connections as the limits say, or its door has no more or fails. All memory for the lanes is taken
 /// before the first connection; where it is refused, no door was asked. The decider of a lane takes
-/// room of its own.
+/// room of its own. The lanes keep nothing of their work.
 pub fn serve<W: Threads + Wait + Sync, C: Clock + Send, R: RelayLink + Send, D: Door + Send>(
     rt: &W,
     alloc: Global,
@@ -120,7 +163,6 @@ pub fn serve<W: Threads + Wait + Sync, C: Clock + Send, R: RelayLink + Send, D: 
 ) -> Result<Served, AllocError>
     requires some { 0 < length lanes.old }
     requires few { length lanes.old ≤ 16 }
-    requires idle { All (λ lane. lane.work ≡ None) lanes.old }
     requires shards { AreShards (plans_in shards.items) anchors.value.items }
     requires shards_new { All (λ s. s.journal ≡ []) shards.items }
     requires objects { HaveOwnNumbers (map fixed_of objects.items) }
@@ -128,16 +170,23 @@ pub fn serve<W: Threads + Wait + Sync, C: Clock + Send, R: RelayLink + Send, D: 
     requires planned { ArePlanned keys.now.channels.entries (plans_in shards.items) }
     ensures served { IfOk result (λ r. ServesNode D.In.left D.Out.written
         (node_of keys.now (plans_in shards.items) (map fixed_of objects.items)) limits
-        (map (shown_by C.readings R.faults R.says (door_by D.left D.back D.given D.faults)) lanes.old)
-        (map (shown_by C.readings R.faults R.says (door_by D.left D.back D.given D.faults)) lanes.new)
+        (map (shown_by C.readings R.faults R.says
+        (door_by D.left D.back D.given D.faults)) lanes.old)
+        (map (shown_by C.readings R.faults R.says
+        (door_by D.left D.back D.given D.faults)) lanes.new)
         r.shards.items r.objects.items r.total) }
     ensures idle { All (λ lane. lane.work ≡ None) lanes.new }
-
     ensures unserved { OnErr result (AllZip HasOtherWork
-        (map (shown_by C.readings R.faults R.says (door_by D.left D.back D.given D.faults)) lanes.old)
-        (map (shown_by C.readings R.faults R.says (door_by D.left D.back D.given D.faults)) lanes.new)) }
+        (map (shown_by C.readings R.faults R.says
+        (door_by D.left D.back D.given D.faults)) lanes.old)
+        (map (shown_by C.readings R.faults R.says
+        (door_by D.left D.back D.given D.faults)) lanes.new)) }
 {
-    let opened = Agent::new(alloc, shards, anchors)?;
-    let racked = Rack::new(alloc, objects)?;
-    serve_cells(rt, alloc, keys, opened, racked, lanes, limits)
+    match serve_new(rt, alloc, keys, shards, anchors, objects, lanes, limits) {
+        Ok(served) => Ok(served),
+        Err(AllocError) => {
+            empty(lanes);
+            Err(AllocError)
+        }
+    }
 }

@@ -35,7 +35,8 @@ pub(crate) fn serve_lane<W: Wait + Sync, K: OfAgent, L: OfRack, C: Clock, R: Rel
         (plans_of shared.now.agent.now) }
     requires agent { shared.now.agent.now ≡ K.cells }
     requires rack { shared.now.rack.now ≡ L.cells }
-    requires stocked { IsStocked (cells_of shared.now.agent.now shared.now.rack.now) K.shares L.shares
+    requires stocked { IsStocked
+        (cells_of shared.now.agent.now shared.now.rack.now) K.shares L.shares
         lane.old.work }
     ensures { ServesLane D.In.left D.Out.written shared.now.keys.now
         (cells_of shared.now.agent.now shared.now.rack.now) shared.now.limits

@@ -10,8 +10,8 @@ use crate::lane::{Lane, Stock};
 use crate::tally::Tally;
 use agent_shards::{Agent, Passes, Rack, RackPasses};
 use frame_link::{Clock, Door, RelayLink};
+use goal_search::Workbench;
 use std::alloc::{AllocError, Global};
-use taos_saturate::Saturator;
 
 // One share of each cell out of the passes, with a decider.
 pub(crate) fn stock_of(
@@ -29,7 +29,7 @@ pub(crate) fn stock_of(
     ensures kept { IfOk result (λ _. AreKept (cells_of agent.now rack.now) (given + 1)
         (passes_of passes.new racked.new)) }
 {
-    let bench = Saturator::reserve(alloc)?;
+    let bench = Workbench::reserve(alloc)?;
     Ok(Stock {
         passes: agent.seat(alloc, passes, 1)?,
         racked: rack.seat(alloc, racked, 1)?,
@@ -50,13 +50,17 @@ pub(crate) fn stock_lanes<C: Clock, R: RelayLink, D: Door>(
     requires few { length lanes.old + 1 < ALL_SHARES }
     requires kept { AreKept (cells_of agent.now rack.now) 0 (passes_of passes.old racked.old) }
     ensures stocked { OnOk result (AllZip (IsGivenStock (cells_of agent.now rack.now))
-        (map (shown_by C.readings R.faults R.says (door_by D.left D.back D.given D.faults)) lanes.old)
-        (map (shown_by C.readings R.faults R.says (door_by D.left D.back D.given D.faults)) lanes.new)) }
+        (map (shown_by C.readings R.faults R.says
+        (door_by D.left D.back D.given D.faults)) lanes.old)
+        (map (shown_by C.readings R.faults R.says
+        (door_by D.left D.back D.given D.faults)) lanes.new)) }
     ensures kept { OnOk result (AreKept (cells_of agent.now rack.now) (length lanes.old)
         (passes_of passes.new racked.new)) }
     ensures same { OnErr result (AllZip HasOtherWork
-        (map (shown_by C.readings R.faults R.says (door_by D.left D.back D.given D.faults)) lanes.old)
-        (map (shown_by C.readings R.faults R.says (door_by D.left D.back D.given D.faults)) lanes.new)) }
+        (map (shown_by C.readings R.faults R.says
+        (door_by D.left D.back D.given D.faults)) lanes.old)
+        (map (shown_by C.readings R.faults R.says
+        (door_by D.left D.back D.given D.faults)) lanes.new)) }
 {
     let mut given = 0;
     for lane in lanes.iter_mut() {

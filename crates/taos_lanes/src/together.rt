@@ -24,14 +24,19 @@ pub(crate) fn serve_lanes<
     D: Door + Send,
 >(shared: &Shared<'_, W, K, L>, lanes: &mut [Lane<C, R, D>])
     requires some { 0 < length lanes.old }
-    requires planned { ArePlanned shared.now.keys.now.channels.entries (plans_of shared.now.agent.now) }
+    requires planned { ArePlanned shared.now.keys.now.channels.entries
+        (plans_of shared.now.agent.now) }
     requires agent { shared.now.agent.now ≡ K.cells }
     requires rack { shared.now.rack.now ≡ L.cells }
-    requires stocked { All (λ lane. IsStocked (cells_of shared.now.agent.now shared.now.rack.now) K.shares L.shares lane.work)
+    requires stocked { All (λ lane. IsStocked
+        (cells_of shared.now.agent.now shared.now.rack.now) K.shares L.shares lane.work)
         lanes.old }
-    ensures { AllZip (ServesLane D.In.left D.Out.written shared.now.keys.now (cells_of shared.now.agent.now shared.now.rack.now) shared.now.limits)
-        (map (shown_by C.readings R.faults R.says (door_by D.left D.back D.given D.faults)) lanes.old)
-        (map (shown_by C.readings R.faults R.says (door_by D.left D.back D.given D.faults)) lanes.new) }
+    ensures { AllZip (ServesLane D.In.left D.Out.written shared.now.keys.now
+        (cells_of shared.now.agent.now shared.now.rack.now) shared.now.limits)
+        (map (shown_by C.readings R.faults R.says
+        (door_by D.left D.back D.given D.faults)) lanes.old)
+        (map (shown_by C.readings R.faults R.says
+        (door_by D.left D.back D.given D.faults)) lanes.new) }
 {
     let count = lanes.len();
     thread::for_each_mut(
@@ -48,8 +53,10 @@ pub(crate) fn serve_lanes<
             ensures { ServesLane D.In.left D.Out.written shared.entry.now.keys.now
                 (cells_of shared.entry.now.agent.now shared.entry.now.rack.now)
                 shared.entry.now.limits
-                (shown_by C.readings R.faults R.says (door_by D.left D.back D.given D.faults) lane.old)
-                (shown_by C.readings R.faults R.says (door_by D.left D.back D.given D.faults) lane.new) }
+                (shown_by C.readings R.faults R.says
+                (door_by D.left D.back D.given D.faults) lane.old)
+                (shown_by C.readings R.faults R.says
+                (door_by D.left D.back D.given D.faults) lane.new) }
         { serve_lane(shared, lane) },
     );
 }

@@ -22,7 +22,7 @@ use Rattle.taos_monitor.specs.Cells.{Node, home, Journals, Place, OfShard, OfObj
 use Rattle.taos_monitor.specs.Credentials.{LinkCall, AreOpened, IsFirstRefused, IsFirstFailed}
 use Rattle.taos_monitor.specs.Course.{Used, uses, Course, malformed, unknown_channel, bad_seal, cert_refused, relay_failed, unknown_object, ruled, unread, unopened}
 use Rattle.taos_monitor.specs.Effects.{ShardStep, step_at, its_place, shards_of, IsDone, LetsGo, IsStep, IsPerformed, through, not_held, no_room, no_place}
-use Rattle.taos_monitor.specs.Operations.{targets_of}
+use Rattle.taos_monitor.specs.Operations.{effect_of, targets_of}
 use Rattle.taos_monitor.specs.Laws.{CoursesAgree}
 use Rattle.taos_monitor.proofs.Firsts.{opened_or_refused, opened_or_failed, refused_or_link}
 
@@ -99,7 +99,7 @@ data Way (op : Op) (targets : List ℕ) (steps : List ShardStep) : ℕ → Type 
   roomless : (done : List ShardStep) (shard place held : ℕ) → steps ≡ done ++ step_at shard place (Told.CommonsFull held) ∷ [] → Way op targets steps 12
   placeless : (shard : ℕ) (rest : List ℕ) → targets ≡ shards_of steps ++ shard ∷ rest → All (λ (s : ShardStep). IsDone s.told) steps → Way op targets steps 10
 
-way_of : (plans : List Plan) (J : ℕ → List Entry) (op : Op) (certs : List Certificate) (reading : ℕ) (told : Reply) (steps : List ShardStep) (refused : Option Reply) → status_of told ≡ 0 → IsPerformed plans J op certs reading steps refused →
+way_of : (plans : List Plan) (J : ℕ → List Entry) (op : Op) (certs : List Certificate) (reading : ℕ) (told : Reply) (steps : List ShardStep) (refused : Option Reply) → status_of told ≡ 0 → IsPerformed plans J op (effect_of op certs reading) steps refused →
     Way op (targets_of plans op) steps (status_of (told_or refused told))
 way_of plans J op certs reading told steps refused zero (through w lets) = subst (Way op (targets_of plans op) steps) (sym zero) (went w.order w.are_done.done lets)
 way_of plans J op certs reading told steps refused zero (not_held digest is w none) = unheld digest is w.order w.are_done.done none
@@ -141,7 +141,7 @@ IsEntry J s = (event : Event) × (before : List Entry) × Stands (J s.shard) s.p
 as_entry : (J : ℕ → List Entry) (effect : Option Event) (steps : List ShardStep) → All (IsStep J effect) steps → All (IsEntry J) steps
 as_entry J effect steps all k d lt = let s = all k d lt in (s.event, s.before, s.stands)
 
-performed_entries : (plans : List Plan) (J : ℕ → List Entry) (op : Op) (certs : List Certificate) (reading : ℕ) (steps : List ShardStep) (refused : Option Reply) → IsPerformed plans J op certs reading steps refused → All (IsEntry J) steps
+performed_entries : (plans : List Plan) (J : ℕ → List Entry) (op : Op) (certs : List Certificate) (reading : ℕ) (steps : List ShardStep) (refused : Option Reply) → IsPerformed plans J op (effect_of op certs reading) steps refused → All (IsEntry J) steps
 performed_entries plans J op certs reading steps refused (through w lets) = as_entry J _ steps w.are_done.stand
 performed_entries plans J op certs reading steps refused (not_held digest is w none) = as_entry J _ steps w.are_done.stand
 performed_entries plans J op certs reading steps refused (no_room {shard} {held} f) =

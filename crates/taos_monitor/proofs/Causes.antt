@@ -10,6 +10,7 @@ use Rattle.taos_monitor.specs.Asking.{IsUnruled, full, replayed, channel_full, u
 use Rattle.taos_monitor.specs.AtObject.{Seeking, Own, told_or, gives_for, IsGuarded, object_is_full, no_ruling, denied, granted}
 use Rattle.taos_monitor.specs.Cells.{Node, Journals}
 use Rattle.taos_monitor.specs.Effects.{ShardStep, IsPerformed, through, not_held, no_room, no_place}
+use Rattle.taos_monitor.specs.Operations.{effect_of}
 use Rattle.taos_monitor.specs.Credentials.{LinkAnswer, Resealed, Refused, Lacked, Failed, LinkCall, IsRefused, refused, bad_reseal, CountsAs, FailedAs}
 use Rattle.taos_monitor.specs.Credentials as cert
 use Rattle.taos_monitor.specs.Course.{malformed, unknown_channel, bad_seal, cert_refused, relay_failed, unknown_object, ruled, unread, unopened}
@@ -34,7 +35,7 @@ unruled_code plan journal shard a own reply (channel_full t) index code e = absu
 unruled_code plan journal shard a own reply (untold g) index code e = absurd cc
 unruled_code plan journal shard a own reply (unanswered u) index code e = absurd cc
 
-performed_code : (plans : List Plan) (J : ℕ → List Entry) (op : Op) (certs : List Certificate) (reading : ℕ) (told : Reply) (steps : List ShardStep) (after : Option Reply) → IsPerformed plans J op certs reading steps after → (index code : ℕ) →
+performed_code : (plans : List Plan) (J : ℕ → List Entry) (op : Op) (certs : List Certificate) (reading : ℕ) (told : Reply) (steps : List ShardStep) (after : Option Reply) → IsPerformed plans J op (effect_of op certs reading) steps after → (index code : ℕ) →
     (told ≡ CertRefused index code → ⊥) → told_or after told ≡ CertRefused index code → ⊥
 performed_code plans J op certs reading told steps after (through w lets) index code not e = not e
 performed_code plans J op certs reading told steps after (not_held digest is w none) index code not e = absurd cc

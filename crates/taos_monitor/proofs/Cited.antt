@@ -40,13 +40,13 @@ places_few places n apart within =
 
 cites_few : (plan : Plan) (journal : List Entry) (a : Ask) (place e : ℕ) (c : Cached) → IsPlan plan → IsGrantedAt plan journal a place e c → length c.cites ≤ 64
 cites_few plan journal a place e c sound g =
-    let places = g.proof.places in
-    let few = places_few places (length g.certs) g.proof.tidy.apart (λ p has. let (k, at) = at-has places p has in inside k p at) in
+    let places = g.granted.proof.places in
+    let few = places_few places (length g.certs) g.granted.proof.tidy.apart (λ p has. let (k, at) = at-has places p has in inside k p at) in
     let held = judges_few plan sound.few_commons g.before a g.moment g.certs g.judged in
-    omega (arith, ap length g.proof.cites_are, picked_few g.certs places, few, held)
+    omega (arith, ap length g.granted.proof.cites_are, picked_few g.certs places, few, held)
   where
-    inside : (k p : ℕ) → slice_get g.proof.places k ≡ Some p → p < length g.certs
-    inside k p at = All-at (λ i. i < length g.certs) g.proof.places k p g.proof.inside at
+    inside : (k p : ℕ) → slice_get g.granted.proof.places k ≡ Some p → p < length g.certs
+    inside k p at = All-at (λ i. i < length g.certs) g.granted.proof.places k p g.granted.proof.inside at
 
 -- ---- by a proof that was kept
 

@@ -43,10 +43,10 @@ module _ (c : Came) (o : ObjectSeen) where
 
   module _ (plans : List Plan) (alone : Bool) (old new : Viewed Entry) where
     abbrev pub Decided : Option Ruled → Reply → Type 0
-    Decided ruled reply = DecidedTo plans alone old new (c, o) ruled reply
+    Decided ruled reply = DecidedTo plans alone old new (c, o, ruled) reply
 
     -- the object is full
-    pub decided_full : (n : ℕ) → AreLegalShards plans old.seen → c.shard < length plans → length o.journal ≡ o.limit → n ≡ o.limit → DecidedTo plans alone old old (c, o) None (object_full (request c.asked.now).object n)
+    pub decided_full : (n : ℕ) → AreLegalShards plans old.seen → c.shard < length plans → length o.journal ≡ o.limit → n ≡ o.limit → DecidedTo plans alone old old (c, o, None) (object_full (request c.asked.now).object n)
     decided_full n legal there full is =
         let (plan, planned) = standing plans c.shard there in
         record {

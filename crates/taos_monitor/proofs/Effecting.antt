@@ -191,7 +191,7 @@ module _ (plans : List Plan) (J : Journals) (op : Op) (certs : List Certificate)
   up_to_place shards steps shard limit f =
       subst₂ Taken (sym f.order) (append-nil (effects_of J (map its_place steps))) (done_first steps f.are_done (shard ∷ f.rest) [] (projected.no_place f.plan f.planned f.full))
 
-  performed_taken : (steps : List ShardStep) (refused : Option Reply) → IsPerformed plans J.shards op certs reading steps refused → Taken (targets_of plans op) (effects_of J (map its_place steps))
+  performed_taken : (steps : List ShardStep) (refused : Option Reply) → IsPerformed plans J.shards op (effect_of op certs reading) steps refused → Taken (targets_of plans op) (effects_of J (map its_place steps))
   performed_taken steps refused (through w lets) = all_done (targets_of plans op) steps w
   performed_taken steps refused (not_held digest is w lacks) = all_done (targets_of plans op) steps w
   performed_taken steps refused (no_room {shard} {held} f) = up_to_room (targets_of plans op) steps shard held f

@@ -16,6 +16,7 @@ use Rattle.taos_monitor.specs.Cells.{Node, Journals}
 use Rattle.taos_monitor.specs.Credentials.{LinkCall, AreOpened}
 use Rattle.taos_monitor.specs.Course.{Arrival, malformed, unknown_channel, bad_seal, cert_refused, relay_failed, unknown_object, ruled, unread, unopened}
 use Rattle.taos_monitor.specs.Effects.{ShardStep, IsPerformed, through, not_held, no_room, no_place}
+use Rattle.taos_monitor.specs.Operations.{effect_of}
 use Rattle.taos_monitor.specs.Laws.{ArrivalExcludes}
 use Rattle.taos_monitor.proofs.Firsts.{opened_or_refused, opened_or_failed}
 
@@ -32,7 +33,8 @@ unruled_late plan journal shard a own reply (full at) = late 10 (inr (inr (inr (
 unruled_late plan journal shard a own reply (untold g) = late 11 (inr (inr (inr (inr (inr (inl refl))))))
 unruled_late plan journal shard a own reply (unanswered u) = late 11 (inr (inr (inr (inr (inr (inl refl))))))
 
-performed_late : (plans : List Plan) (J : ℕ → List Entry) (op : Op) (certs : List Certificate) (reading : ℕ) (told : Reply) (steps : List ShardStep) (refused : Option Reply) → IsLate (status_of told) → IsPerformed plans J op certs reading steps refused → IsLate (status_of (told_or refused told))
+performed_late : (plans : List Plan) (J : ℕ → List Entry) (op : Op) (certs : List Certificate) (reading : ℕ) (told : Reply) (steps : List ShardStep) (refused : Option Reply) →
+    IsLate (status_of told) → IsPerformed plans J op (effect_of op certs reading) steps refused → IsLate (status_of (told_or refused told))
 performed_late plans J op certs reading told steps refused is (through w lets) = is
 performed_late plans J op certs reading told steps refused is (not_held digest so w none) = late 13 (inr (inr (inr (inr (inr (inr (inr refl)))))))
 performed_late plans J op certs reading told steps refused is (no_room f) = late 12 (inr (inr (inr (inr (inr (inr (inl refl)))))))

@@ -2,7 +2,7 @@
 use Rattle.std.proofs.Common.{◌≡◌, ◌≢◌, ℕ, ◌<◌, ◌≤◌, Bool, true, false, List, [], ◌∷◌, ◌++◌, length, map, get_or, slice_get, All, AllPairs, Contains, Option, Some, sym, ap, subst, subst₂, ◌∙◌, arith, inl, inr, append_assoc, length-append}
 use Rattle.std.proofs.lemmas.List.Elements.{All-nil, All-cons, All-head, All-tail, All-append, All-contains, filter_map-append}
 use Rattle.std.proofs.lemmas.List.Quantifiers.{all_pairs_push}
-use Rattle.std.proofs.lemmas.Option.{same_Some}
+use Rattle.std.proofs.lemmas.Option.{same_Some, get_or_from_slice_get, slice_get_within}
 use Rattle.taos_wire.specs.Reply as replies
 use Rattle.taos_wire.specs.Reply.{Reply, Granted, Sent}
 use Rattle.object_core.specs.Objects.{ObjectEntry}
@@ -21,6 +21,7 @@ use Rattle.taos_monitor.specs.AtObject.{Seeking, Own, own_at, places_at, ruled_a
 use Rattle.taos_monitor.specs.Cells.{Node, HasPlan, Journals, Cell, OfShard, OfObject, Place, in_shard, in_object, number_in, numbers_in, entries_in, AreLegal, Extends}
 use Rattle.taos_monitor.specs.Course.{Used, Course, malformed, unknown_channel, bad_seal, cert_refused, relay_failed, unknown_object, ruled, unread, unopened}
 use Rattle.taos_monitor.specs.Effects.{ShardStep, its_place, step_at, IsStep, IsPerformed, through, not_held, no_room, no_place}
+use Rattle.taos_monitor.specs.Operations.{effect_of}
 use Rattle.taos_monitor.specs.Run.{Turn, IsCourse, IsMade, WasMade, FoundFull, IsFilledBefore}
 use Rattle.taos_monitor.specs.Laws.{NoEntryAfterFull}
 use Rattle.taos_monitor.proofs.Going.{numbers_here}
@@ -111,19 +112,19 @@ module _ (n : Node) (J : Journals) (h : ℕ) (plan : Plan) (planned : HasPlan n 
   grant_first place e c kept settled own (had_no_room g at) q rest one = head_is place q rest [] one
 
 module _ (n : Node) (J : Journals) (op : Op) (certs : List Certificate) (reading : ℕ) (told : Reply) where
-  performed_full : (steps : List ShardStep) (refused : Option Reply) → IsPerformed n.plans J.shards op certs reading steps refused → (s limit : ℕ) → (told ≡ shard_full s limit → ⊥) → told_or refused told ≡ shard_full s limit → IsFull n J (OfShard s)
+  performed_full : (steps : List ShardStep) (refused : Option Reply) → IsPerformed n.plans J.shards op (effect_of op certs reading) steps refused → (s limit : ℕ) → (told ≡ shard_full s limit → ⊥) → told_or refused told ≡ shard_full s limit → IsFull n J (OfShard s)
   performed_full steps refused (through w lets) s limit not e = absurd (not e)
   performed_full steps refused (not_held digest is w none) s limit not e = absurd cc
   performed_full steps refused (no_room f) s limit not e = absurd cc
   performed_full steps refused (no_place {shard} {limit = l} f) s limit not e = subst (λ (k : ℕ). IsFull n J (OfShard k)) (same_number shard s l limit e) (f.plan, f.planned, f.full)
 
-  performed_object : (steps : List ShardStep) (refused : Option Reply) → IsPerformed n.plans J.shards op certs reading steps refused → (o limit : ℕ) → (told ≡ object_full o limit → ⊥) → told_or refused told ≡ object_full o limit → ⊥
+  performed_object : (steps : List ShardStep) (refused : Option Reply) → IsPerformed n.plans J.shards op (effect_of op certs reading) steps refused → (o limit : ℕ) → (told ≡ object_full o limit → ⊥) → told_or refused told ≡ object_full o limit → ⊥
   performed_object steps refused (through w lets) o limit not e = not e
   performed_object steps refused (not_held digest is w none) o limit not e = cc
   performed_object steps refused (no_room f) o limit not e = cc
   performed_object steps refused (no_place {shard} {limit = l} f) o limit not e = two_sorts o shard limit l (sym e)
 
-  performed_made : (steps : List ShardStep) (refused : Option Reply) → IsPerformed n.plans J.shards op certs reading steps refused → (s : ℕ) → IsMade s (told_or refused told) → IsMade s told
+  performed_made : (steps : List ShardStep) (refused : Option Reply) → IsPerformed n.plans J.shards op (effect_of op certs reading) steps refused → (s : ℕ) → IsMade s (told_or refused told) → IsMade s told
   performed_made steps refused (through w lets) s made = made
   performed_made steps refused (not_held digest is w none) s made = absurd made
   performed_made steps refused (no_room f) s made = absurd made
@@ -270,7 +271,7 @@ steps_there : (J : Journals) (effect : Option Event) (steps : List ShardStep) �
 steps_there J effect [] all = All-nil (IsThere J)
 steps_there J effect (s ∷ steps) all = All-cons (IsThere J) (its_place s) (map its_place steps) (stands_within (All-head (IsStep J.shards effect) s steps all).stands) (steps_there J effect steps (All-tail (IsStep J.shards effect) s steps all))
 
-performed_there : (plans : List Plan) (J : Journals) (op : Op) (certs : List Certificate) (reading : ℕ) (steps : List ShardStep) (refused : Option Reply) → IsPerformed plans J.shards op certs reading steps refused → AreThere J (map its_place steps)
+performed_there : (plans : List Plan) (J : Journals) (op : Op) (certs : List Certificate) (reading : ℕ) (steps : List ShardStep) (refused : Option Reply) → IsPerformed plans J.shards op (effect_of op certs reading) steps refused → AreThere J (map its_place steps)
 performed_there plans J op certs reading steps refused (through w lets) = steps_there J _ steps w.are_done.stand
 performed_there plans J op certs reading steps refused (not_held digest is w none) = steps_there J _ steps w.are_done.stand
 performed_there plans J op certs reading steps refused (no_room {shard = s} {held} f) =
@@ -356,6 +357,8 @@ filled_more n J K goes legal turns courses filled t course new =
     all_pairs_push (IsFilledBefore K) turns t (filled_stays n J K goes turns courses filled) (λ k d lt. comes_after n J K goes legal t course new _ (courses k d lt))
 
 pub no_entry_after_full : (n : Node) → NoEntryAfterFull n
-no_entry_after_full n J used frames replies outcome a first second is cell p found has same =
-    let pairs = subst (AllPairs (IsFilledBefore J)) is a.filled in
-    All-contains (λ (q : Place). q.cell ≢ cell) second.used.places p (pairs 0 1 first (omega arith) (omega arith) cell found) has same
+no_entry_after_full n J used frames replies outcome a i j earlier later before first second cell p found has same =
+    let was : get_or a.turns i earlier ≡ earlier = get_or_from_slice_get a.turns i earlier earlier first in
+    let is : get_or a.turns j earlier ≡ later = get_or_from_slice_get a.turns j later earlier second in
+    let apart = a.filled i j earlier before (slice_get_within a.turns j later second) cell (subst (FoundFull J cell) (sym was) found) in
+    All-contains (λ (q : Place). q.cell ≢ cell) later.used.places p (subst (λ (t : Turn). All (λ (q : Place). q.cell ≢ cell) t.used.places) is apart) has same

@@ -28,6 +28,7 @@ use Rattle.taos_monitor.specs.AtObject.{Seeking, Own, own_at, places_at, ruled_a
 use Rattle.taos_monitor.specs.AtObject as guarded
 use Rattle.taos_monitor.specs.Cells.{Journals, Place, entries_in, in_shard, in_object, Viewed, viewed, seen_of, alone_of, AreLegalShards}
 use Rattle.taos_monitor.specs.Effects.{ShardStep, its_place, IsPerformed, PerformedAs, SteppedBy}
+use Rattle.taos_monitor.specs.Operations.{effect_of}
 use Rattle.taos_monitor.specs.Ruling.{AskedAt, DecidedTo, GuardedTo, IsRuled, at_limit, unruled, shard_of, standing_of, ruled_at, seeking_of}
 use Rattle.taos_monitor.specs.Ruling as ruling
 use Rattle.taos_monitor.proofs.Going.{OneGoesOn, one_place, no_places, object_went_on, goes_on_twice, stood, shards_begin}
@@ -72,7 +73,7 @@ module _ (number : ℕ) (o : ObjectSeen) (lone : Bool) (seen0 seen1 : ℕ → Li
 
 module _ (plans : List Plan) (plan : Plan) (past : Journals) (shards : ℕ → List Entry) (objects : ℕ → List ObjectEntry) (x : Seeking) (before : List ObjectEntry) (after : Begins (past.objects x.request.object) before) where
   unruled_as : (ruled : Option Ruled) (own : List ℕ) (reply : Reply) → IsRuled (shard_of plan (shards x.shard)) x before ruled own reply → ruled ≡ None → objects x.request.object ≡ before →
-      IsGuardedAfter plans plan past (record { shards = shards; objects = objects }) x (own_at own [] []) reply
+      IsGuardedAfter plans plan (past, record { shards = shards; objects = objects }) x (own_at own [] []) reply
   unruled_as ruled own reply (at_limit full) none there = object_is_full (ap (λ (l : List ObjectEntry). length l) there ∙ full)
   unruled_as ruled own reply (unruled room u) none there = no_ruling before (record { begins = subst (Begins before) (sym there) (begins_itself before); after = λ told. after; room = λ told. room }) u
   unruled_as ruled own reply (ruling.denied d tells) none there = absurd cc
@@ -84,7 +85,7 @@ same_ruled a b e = cc
 -- the journals of the shards go on while what was granted is performed
 module _ (plans : List Plan) (plan : Plan) (past : Journals) (shards later : ℕ → List Entry) (objects : ℕ → List ObjectEntry) (x : Seeking) (before : List ObjectEntry) (goes : Begins (shards x.shard) (later x.shard)) (within : length (later x.shard) ≤ plan.limit)
     (r : Ruled) (rest : List ObjectEntry) (stands : objects x.request.object ≡ before ++ ruled_as r.shard r.place x.request.op r.ruling ∷ rest) (steps : List ShardStep) (refused : Option Reply)
-    (performed : PerformedAs r.ruling (IsPerformed plans later x.request.op x.certs x.reading) steps refused)
+    (performed : PerformedAs r.ruling (IsPerformed plans later x.request.op (effect_of x.request.op x.certs x.reading)) steps refused)
     (new : All (λ (p : Place). entries_in (record { shards = shards; objects = objects }) p.cell ≤ p.number) (map its_place steps)) (there : All (λ (p : Place). p.number < entries_in (record { shards = later; objects = objects }) p.cell) (map its_place steps)) where
   -- a journal at its limit has no step
   none_there : length (shards x.shard) ≡ plan.limit → All (λ (s : ShardStep). s.shard ≢ x.shard) steps
@@ -104,11 +105,11 @@ module _ (plans : List Plan) (plan : Plan) (past : Journals) (shards later : ℕ
   entry_stands : (s : Ruled) → r ≡ s → Stands (objects x.request.object) (length before) before (ruled_as s.shard s.place x.request.op s.ruling)
   entry_stands s is = record { rest = rest; is = stands ∙ ap (λ (t : Ruled). before ++ ruled_as t.shard t.place x.request.op t.ruling ∷ rest) is; placed = refl }
 
-  performed_as : (s : Ruled) → r ≡ s → PerformedAs s.ruling (IsPerformed plans later x.request.op x.certs x.reading) steps refused
-  performed_as s is = subst (λ (t : Ruled). PerformedAs t.ruling (IsPerformed plans later x.request.op x.certs x.reading) steps refused) is performed
+  performed_as : (s : Ruled) → r ≡ s → PerformedAs s.ruling (IsPerformed plans later x.request.op (effect_of x.request.op x.certs x.reading)) steps refused
+  performed_as s is = subst (λ (t : Ruled). PerformedAs t.ruling (IsPerformed plans later x.request.op (effect_of x.request.op x.certs x.reading)) steps refused) is performed
 
   abbrev Guarded : List ℕ → Reply → Type 0
-  Guarded own reply = IsGuardedAfter plans plan past (record { shards = later; objects = objects }) x (own_at own (length before ∷ []) steps) (told_or refused reply)
+  Guarded own reply = IsGuardedAfter plans plan (past, record { shards = later; objects = objects }) x (own_at own (length before ∷ []) steps) (told_or refused reply)
 
   pub ruled_on : (ruled : Option Ruled) (own : List ℕ) (reply : Reply) → IsRuled (shard_of plan (shards x.shard)) x before ruled own reply → ruled ≡ Some r → Guarded own reply
   ruled_on ruled own reply (at_limit full) some = absurd cc
@@ -116,7 +117,7 @@ module _ (plans : List Plan) (plan : Plan) (past : Journals) (shards later : ℕ
   ruled_on ruled own reply (ruling.denied {place} {denial} {told} d tells) some =
       let is : r ≡ ruled_at x.shard place rulings.Denied = same_ruled r (ruled_at x.shard place rulings.Denied) (sym some) in
       let (none, nothing) = performed_as (ruled_at x.shard place rulings.Denied) is in
-      subst₂ (λ (ss : List ShardStep) (o : Option Reply). IsGuardedAfter plans plan past (record { shards = later; objects = objects }) x (own_at (place ∷ []) (length before ∷ []) ss) (told_or o (replies.Denied x.shard place told))) (sym none) (sym nothing)
+      subst₂ (λ (ss : List ShardStep) (o : Option Reply). IsGuardedAfter plans plan (past, record { shards = later; objects = objects }) x (own_at (place ∷ []) (length before ∷ []) ss) (told_or o (replies.Denied x.shard place told))) (sym none) (sym nothing)
       (guarded.denied before (entry_stands (ruled_at x.shard place rulings.Denied) is) (denied_stays plan (shards x.shard) (later x.shard) (asks_for x before) goes place denial d) tells)
   ruled_on ruled own reply (ruling.granted {place} {entry} {c} {kept} {settled} {own = asks} g) some =
       let is : r ≡ ruled_at x.shard place (rulings.Granted entry) = same_ruled r (ruled_at x.shard place (rulings.Granted entry)) (sym some) in
@@ -127,11 +128,11 @@ module _ (plans : List Plan) (plan : Plan) (past : Journals) (shards later : ℕ
 
 -- the steps of what was performed, by the plans that stayed
 pub stepped_over : (plans other : List Plan) (alone lone : Bool) → other ≡ plans → lone ≡ alone → (old new : Viewed Entry) (r : Ruling) (op same_op : Op) → same_op ≡ op → (certs : List Certificate) (reading : ℕ) (answer refused : Option Reply) → answer ≡ refused →
-    SteppedBy other lone old new (λ steps. PerformedAs r (IsPerformed other new.seen same_op certs reading) steps answer) → SteppedBy plans alone old new (λ steps. PerformedAs r (IsPerformed plans new.seen op certs reading) steps refused)
+    SteppedBy other lone old new (λ steps. PerformedAs r (IsPerformed other new.seen same_op (effect_of same_op certs reading)) steps answer) → SteppedBy plans alone old new (λ steps. PerformedAs r (IsPerformed plans new.seen op (effect_of op certs reading)) steps refused)
 stepped_over plans other alone lone same solo old new r op same_op op_is certs reading answer refused is s =
-    subst (λ (o : Option Reply). SteppedBy plans alone old new (λ steps. PerformedAs r (IsPerformed plans new.seen op certs reading) steps o)) is
-    (subst₂ (λ (ps : List Plan) (b : Bool). SteppedBy ps b old new (λ steps. PerformedAs r (IsPerformed ps new.seen op certs reading) steps answer)) same solo
-    (subst (λ (o : Op). SteppedBy other lone old new (λ steps. PerformedAs r (IsPerformed other new.seen o certs reading) steps answer)) op_is s))
+    subst (λ (o : Option Reply). SteppedBy plans alone old new (λ steps. PerformedAs r (IsPerformed plans new.seen op (effect_of op certs reading)) steps o)) is
+    (subst₂ (λ (ps : List Plan) (b : Bool). SteppedBy ps b old new (λ steps. PerformedAs r (IsPerformed ps new.seen op (effect_of op certs reading)) steps answer)) same solo
+    (subst (λ (o : Op). SteppedBy other lone old new (λ steps. PerformedAs r (IsPerformed other new.seen o (effect_of o certs reading)) steps answer)) op_is s))
 
 -- ---- the whole
 
@@ -156,7 +157,7 @@ module _ (plans : List Plan) (objects : List ObjectFixed) (alone lone : Bool) (s
   module _ (o : ObjectSeen) (at : fixed_at objects number ≡ Some (fixed_of o)) (taken : TakenOn lone (seen0 number) o)
       (seen1 : ℕ → List ObjectEntry) (own1 : ℕ → List ℕ) (others : (n : ℕ) → n ≢ number → (seen1 n ≡ seen0 n) × (own1 n ≡ own0 n)) (shards1 : Viewed Entry) where
     -- there is no ruling
-    pub guarded_unruled : (ruled : Option Ruled) (reply : Reply) → DecidedTo plans alone shards0 shards1 (c, o) ruled reply → ruled ≡ None → seen1 number ≡ o.journal → own1 number ≡ own0 number → length o.journal ≤ o.limit →
+    pub guarded_unruled : (ruled : Option Ruled) (reply : Reply) → DecidedTo plans alone shards0 shards1 (c, o, ruled) reply → ruled ≡ None → seen1 number ≡ o.journal → own1 number ≡ own0 number → length o.journal ≤ o.limit →
         GuardedTo (standing_of plans objects (alone_of alone lone)) (seen_of shards0 (viewed seen0 own0)) (seen_of shards1 (viewed seen1 own1)) (seeking_of c (fixed_of o)) reply
     guarded_unruled ruled reply d none seen own fits = record {
       plan = d.plan;
@@ -176,8 +177,8 @@ module _ (plans : List Plan) (objects : List ObjectFixed) (alone lone : Bool) (s
 
     module _ (r : Ruled) (seen : seen1 number ≡ o.journal ++ ruled_as r.shard r.place (request c.asked.now).op r.ruling ∷ []) (own : own1 number ≡ own0 number ++ length o.journal ∷ []) (room : length o.journal < o.limit) (shards2 : Viewed Entry) where
       -- there is one, and what it grants was performed
-      pub guarded_ruled : (ruled : Option Ruled) (reply : Reply) (refused : Option Reply) → DecidedTo plans alone shards0 shards1 (c, o) ruled reply → ruled ≡ Some r →
-          SteppedBy plans alone shards1 shards2 (λ steps. PerformedAs r.ruling (IsPerformed plans shards2.seen (request c.asked.now).op (seeking_of c (fixed_of o)).certs c.reading) steps refused) →
+      pub guarded_ruled : (ruled : Option Ruled) (reply : Reply) (refused : Option Reply) → DecidedTo plans alone shards0 shards1 (c, o, ruled) reply → ruled ≡ Some r →
+          SteppedBy plans alone shards1 shards2 (λ steps. PerformedAs r.ruling (IsPerformed plans shards2.seen (request c.asked.now).op (effect_of (request c.asked.now).op (seeking_of c (fixed_of o)).certs c.reading)) steps refused) →
           GuardedTo (standing_of plans objects (alone_of alone lone)) (seen_of shards0 (viewed seen0 own0)) (seen_of shards2 (viewed seen1 own1)) (seeking_of c (fixed_of o)) (told_or refused reply)
       guarded_ruled ruled reply refused d some s = record {
         plan = d.plan;

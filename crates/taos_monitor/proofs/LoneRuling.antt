@@ -19,6 +19,7 @@ use Rattle.taos_monitor.specs.Cells.{Journals, Place, OfShard, OfObject, in_shar
 use Rattle.taos_monitor.specs.Asking.{TellsDenial, IsUnruled, full, replayed, channel_full, untold, unanswered}
 use Rattle.taos_monitor.specs.AtObject.{Seeking, Own, places_at, ruled_as, asks_for, gives_for, told_or, LeavesOut, IsAskedWith, IsGuardedAfter, object_is_full, no_ruling, denied, granted}
 use Rattle.taos_monitor.specs.Effects.{ShardStep, its_place, IsPerformed}
+use Rattle.taos_monitor.specs.Operations.{effect_of}
 use Rattle.taos_monitor.specs.Choices.{made, made_for}
 use Rattle.taos_monitor.proofs.Going.{longer_by}
 use Rattle.taos_monitor.proofs.Growing.{Grows, grown_none, same_front, add_shard, add_object, shard_next, shard_on, object_next, object_on, unchanged_in}
@@ -83,7 +84,8 @@ module _ (plans : List Plan) (plan : Plan) (x : Seeking) (K J : Journals) (plann
 
   -- ---- it is denied
 
-  by_denied : (place at : ℕ) (denial : Denial) (told : LinkSent) (choice : Option Cached) (before : List ObjectEntry) → IsDeniedAt plan (J.shards x.shard) the_ask place denial → TellsDenial the_ask.list denial told → Stands (J.objects x.request.object) at before (ruled_as x.shard place x.request.op rulings.Denied) →
+  by_denied : (place at : ℕ) (denial : Denial) (told : LinkSent) (choice : Option Cached) (before : List ObjectEntry) →
+      IsDeniedAt plan (J.shards x.shard) the_ask place denial → TellsDenial the_ask.list denial told → Stands (J.objects x.request.object) at before (ruled_as x.shard place x.request.op rulings.Denied) →
       Grows K J (in_shard x.shard place ∷ in_object x.request.object at ∷ []) → AskedTo (replies.Denied x.shard place told) choice
   by_denied place at denial told choice before d tells s g =
       let e = entry (Asks the_ask) Told.Miss in
@@ -97,12 +99,12 @@ module _ (plans : List Plan) (plan : Plan) (x : Seeking) (K J : Journals) (plann
         record {
           moment = d.moment;
           certs = d.certs;
-          link = d.link;
+          link = d.denied.link;
           denial = denial;
           judged = subst (λ (l : List Entry). IsJudged plan l the_ask d.moment d.certs) next.front d.judged;
-          none = d.none;
-          first = d.first;
-          names = d.names;
+          none = d.denied.none;
+          first = d.denied.first;
+          names = d.denied.names;
           tells = tells;
         },
         (grown_none _ J (object_on (add_shard K x.shard e) J [] o at before (ruled_as x.shard place x.request.op rulings.Denied) h s), refl),
@@ -126,7 +128,8 @@ module _ (plans : List Plan) (plan : Plan) (x : Seeking) (K J : Journals) (plann
       front_after : (shards : List Entry) (told : Told) → Stands (J.shards x.shard) place shards (entry (Asks a) told) → Grows K J (in_shard x.shard place ∷ after_ask) → before ≡ there
       front_after shards told d g = (object_next _ J (map its_place steps) x.request.object at before o (shard_on K J after_ask x.shard place shards (entry (Asks a) told) g d) s).front
 
-      front_kept : (shards others : List Entry) (told said : Told) (keep : ℕ) → Stands (J.shards x.shard) place shards (entry (Asks a) told) → Stands (J.shards x.shard) keep others (entry (Keeps place e c) said) → Grows K J (in_shard x.shard place ∷ in_shard x.shard keep ∷ after_ask) → before ≡ there
+      front_kept : (shards others : List Entry) (told said : Told) (keep : ℕ) → Stands (J.shards x.shard) place shards (entry (Asks a) told) → Stands (J.shards x.shard) keep others (entry (Keeps place e c) said) →
+          Grows K J (in_shard x.shard place ∷ in_shard x.shard keep ∷ after_ask) → before ≡ there
       front_kept shards others told said keep d k g =
           let h = shard_on K J (in_shard x.shard keep ∷ after_ask) x.shard place shards (entry (Asks a) told) g d in
           (object_next _ J (map its_place steps) x.request.object at before o (shard_on _ J after_ask x.shard keep others (entry (Keeps place e c) said) h k) s).front
@@ -137,7 +140,8 @@ module _ (plans : List Plan) (plan : Plan) (x : Seeking) (K J : Journals) (plann
       grant_front kept settled asks (was_dropped {keep} {cause} m t) g = front_kept m.before t.0 Told.Miss (Told.Dropped cause) keep m.stands t.1 g
       grant_front kept settled asks (had_no_room m at_limit) g = front_after m.before Told.Miss m.stands g
 
-    module _ (place e : ℕ) (c : Cached) (before : List ObjectEntry) (refused : Option Reply) (s : Stands (J.objects x.request.object) at before (ruled_as x.shard place x.request.op (rulings.Granted e))) (p : IsPerformed plans J.shards x.request.op x.certs x.reading steps refused) where
+    module _ (place e : ℕ) (c : Cached) (before : List ObjectEntry) (refused : Option Reply) (s : Stands (J.objects x.request.object) at before (ruled_as x.shard place x.request.op (rulings.Granted e)))
+        (p : IsPerformed plans J.shards x.request.op (effect_of x.request.op x.certs x.reading) steps refused) where
       abbrev its_reply : Bool → Reply
       its_reply kept = told_or refused (replies.Granted kept e x.shard place c.proof c.cites (gives_for x there))
 
@@ -180,9 +184,9 @@ module _ (plans : List Plan) (plan : Plan) (x : Seeking) (K J : Journals) (plann
             record {
               moment = m.moment;
               certs = m.certs;
-              grant = m.grant;
+              grant = m.granted.grant;
               judged = subst (λ (l : List Entry). IsJudged plan l the_ask m.moment m.certs) next.front m.judged;
-              first = m.first;
+              first = m.granted.first;
             },
             refl,
             then,
@@ -232,7 +236,7 @@ module _ (plans : List Plan) (plan : Plan) (x : Seeking) (K J : Journals) (plann
     room_before : (at : ℕ) (before : List ObjectEntry) (e : ObjectEntry) → Stands (J.objects x.request.object) at before e → before ≡ there → length there < x.fixed.limit
     room_before at before e s is = omega (arith, within, ap (λ (l : List ObjectEntry). length l) s.is, length-append before (e ∷ s.rest), ap (λ (l : List ObjectEntry). length l) is)
 
-    pub guarded_by : (own : Own) (reply : Reply) (r : IsGuardedAfter plans plan K J x own reply) → reply ≢ replies.NoMemory → Grows K J (places_at x own) → Guarded plans plan x K J reply (made_for r)
+    pub guarded_by : (own : Own) (reply : Reply) (r : IsGuardedAfter plans plan (K, J) x own reply) → reply ≢ replies.NoMemory → Grows K J (places_at x own) → Guarded plans plan x K J reply (made_for r)
     guarded_by own reply (object_is_full at) known g =
         let same = grown_none K J g in
         inl (ap (λ (I : Journals). length (I.objects x.request.object)) (sym same) ∙ at, (same, refl))

@@ -171,18 +171,18 @@ pub is_some : {X Y : Type 0} (f : X → Y) (o : Option X) (y : Y) → option_map
 is_some f None y e = absurd (none-some y e)
 is_some f (Some x) y e = refl
 
-has_part : (plan : Plan) (journal : List Entry) (a : Ask) (place : ℕ) (denial : Denial) (link : Link) → length a.list ≤ 8 → (d : IsDeniedAt plan journal a place denial) → d.link ≡ link → Names d.certs link denial → HasPart a.list denial
+has_part : (plan : Plan) (journal : List Entry) (a : Ask) (place : ℕ) (denial : Denial) (link : Link) → length a.list ≤ 8 → (d : IsDeniedAt plan journal a place denial) → d.denied.link ≡ link → Names d.certs link denial → HasPart a.list denial
 has_part plan journal a place denial (links.Expired k i) few d at (c, stands, is) =
-    let (within, found) = ended plan.anchors d.certs d.moment a.subject a.list a.right d.link k i at d.first in
+    let (within, found) = ended plan.anchors d.certs d.moment a.subject a.list a.right d.denied.link k i at d.denied.first in
     subst (HasPart a.list) (sym is) (omega (arith, within, few), digest_fits (digest_of c) c refl)
-has_part plan journal a place denial (links.Missing k n) few d at is = subst (HasPart a.list) (sym is) (named plan.anchors d.certs d.moment a.subject a.list a.right d.link k n at d.first)
+has_part plan journal a place denial (links.Missing k n) few d at is = subst (HasPart a.list) (sym is) (named plan.anchors d.certs d.moment a.subject a.list a.right d.denied.link k n at d.denied.first)
 has_part plan journal a place denial links.NoEntry few d at is = subst (HasPart a.list) (sym is) tt
 
 -- ---- what is told
 
 pub may_tell : (plan : Plan) (journal : List Entry) (a : Ask) (place : ℕ) (v : Verdict) (kept : Bool) (settled : Settled) (own : List ℕ) → IsPlan plan → IsLegalJournal plan journal → length a.list ≤ 8 → Ends plan journal a place v kept settled own → MayTell a.list v
 may_tell plan journal a place (verdict.Granted e c) kept settled own sound legal few granted = grant_few plan journal a place e _ kept settled own sound legal granted
-may_tell plan journal a place (verdict.Denied denial) kept settled own sound legal few ((denied, is), plain, none) = has_part plan journal a place denial denied.link few denied refl denied.names
+may_tell plan journal a place (verdict.Denied denial) kept settled own sound legal few ((denied, is), plain, none) = has_part plan journal a place denial denied.denied.link few denied refl denied.denied.names
 may_tell plan journal a place (verdict.Replayed last) kept settled own sound legal few ends = tt
 may_tell plan journal a place (verdict.Full held) kept settled own sound legal few ends = tt
 may_tell plan journal a place (verdict.JournalFull n) kept settled own sound legal few ends = tt

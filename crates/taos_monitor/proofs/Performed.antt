@@ -23,7 +23,7 @@ module _ (plans : List Plan) (alone : Bool) (old new : Viewed Entry) where
     Ended r = SteppedBy plans alone old new (λ steps. EndAs new.seen (effect_due due) plans (shards_due due) steps r)
 
     abbrev Performed : Option Reply → Type 0
-    Performed answer = SteppedBy plans alone old new (λ steps. IsPerformed plans new.seen op certs reading steps answer)
+    Performed answer = SteppedBy plans alone old new (λ steps. IsPerformed plans new.seen op (effect_of op certs reading) steps answer)
 
     as_due : (r : Effected) → Ended r → SteppedBy plans alone old new (λ steps. EndAs new.seen (effect_of op certs reading) plans (targets_of plans op) steps r)
     as_due r ended =

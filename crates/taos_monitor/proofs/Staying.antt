@@ -12,6 +12,7 @@ use Rattle.taos_monitor.specs.AtObject.{Seeking, Own, IsGuarded, IsGuardedAfter,
 use Rattle.taos_monitor.specs.Cells.{Node, Journals, Extends, AreLegalShards}
 use Rattle.taos_monitor.specs.Course.{Used, Course, CourseAfter, malformed, unknown_channel, bad_seal, cert_refused, relay_failed, unknown_object, ruled, unread, unopened}
 use Rattle.taos_monitor.specs.Effects.{ShardStep, WentThrough, FoundNoRoom, FoundNoPlace, IsPerformed, through, not_held, no_room, no_place}
+use Rattle.taos_monitor.specs.Operations.{effect_of}
 use Rattle.taos_monitor.specs.Laws.{CourseStays}
 use Rattle.taos_monitor.proofs.EffectSteps.{steps_stay}
 use Rattle.taos_monitor.proofs.Going.{longer_by}
@@ -62,7 +63,7 @@ module _ (plans : List Plan) (J K : ℕ → List Entry) (goes : (s : ℕ) → Be
   }
 
 module _ (plans : List Plan) (J K : ℕ → List Entry) (goes : (s : ℕ) → Begins (J s) (K s)) (legal : AreLegalShards plans K) (op : Op) (certs : List Certificate) (reading : ℕ) where
-  performed_stays : (steps : List ShardStep) (refused : Option Reply) → IsPerformed plans J op certs reading steps refused → IsPerformed plans K op certs reading steps refused
+  performed_stays : (steps : List ShardStep) (refused : Option Reply) → IsPerformed plans J op (effect_of op certs reading) steps refused → IsPerformed plans K op (effect_of op certs reading) steps refused
   performed_stays steps refused (through w lets) = through (went_stays plans J K goes legal _ _ steps w) lets
   performed_stays steps refused (not_held digest is w none) = not_held digest is (went_stays plans J K goes legal _ _ steps w) none
   performed_stays steps refused (no_room {shard = s} {held} f) = no_room (no_room_stays plans J K goes legal _ _ steps s held f)
@@ -96,7 +97,7 @@ course_stays n J K goes legal payload used sent (unopened asked interrupted) = u
 
 -- ---- after what was seen
 
-guarded_at_all : (plans : List Plan) (plan : Plan) (past J : Journals) (x : Seeking) (own : Own) (reply : Reply) → IsGuardedAfter plans plan past J x own reply → IsGuarded plans plan J x own reply
+guarded_at_all : (plans : List Plan) (plan : Plan) (past J : Journals) (x : Seeking) (own : Own) (reply : Reply) → IsGuardedAfter plans plan (past, J) x own reply → IsGuarded plans plan J x own reply
 guarded_at_all plans plan past J x own reply (object_is_full at) = object_is_full at
 guarded_at_all plans plan past J x own reply (no_ruling before b u) = no_ruling before (record { begins = b.begins; after = λ told. record { rest = before; is = refl }; room = b.room }) u
 guarded_at_all plans plan past J x own reply (denied before s d tells) = denied before s d tells

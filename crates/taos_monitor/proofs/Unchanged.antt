@@ -19,6 +19,7 @@ use Rattle.taos_monitor.specs.Cells.{Node, Journals, Cell, OfShard, OfObject, Pl
 use Rattle.taos_monitor.specs.Changes.{content_for, list_for, ObjectsAreMade, IsUngranted, NothingChanges, RepliesTellUngranted}
 use Rattle.taos_monitor.specs.Course.{Used, Course, malformed, unknown_channel, bad_seal, cert_refused, relay_failed, unknown_object, ruled, unread, unopened}
 use Rattle.taos_monitor.specs.Effects.{ShardStep, its_place, IsPerformed, through, not_held, no_room, no_place}
+use Rattle.taos_monitor.specs.Operations.{effect_of}
 use Rattle.taos_monitor.specs.Projected.{Effect, Written, Listed, Stepped, GrantedEntry, if_some, changes_of, steps_of, effects_in, effects_of, grants_of, AreProjected, none, more}
 use Rattle.taos_monitor.proofs.Ascending.{all_rest, numbers_ascend}
 use Rattle.taos_monitor.proofs.Effecting.{effects_more, grants_both, shard_grants, step_grants, grant_at, course_projects}
@@ -171,19 +172,19 @@ no_effects plans J gs es (more {g} {grants} due later) is = absurd (no_head g gr
 
 -- a grant that was told, or what its steps came to
 module _ (plans : List Plan) (J : ℕ → List Entry) (op : Op) (certs : List Certificate) (reading : ℕ) (told : Reply) (zero : status_of told ≡ 0) where
-  not_denied : (steps : List ShardStep) (refused : Option Reply) → IsPerformed plans J op certs reading steps refused → status_of (told_or refused told) ≡ 1 → ⊥
+  not_denied : (steps : List ShardStep) (refused : Option Reply) → IsPerformed plans J op (effect_of op certs reading) steps refused → status_of (told_or refused told) ≡ 1 → ⊥
   not_denied steps refused (through w lets) one = let e : status_of told ≡ 1 = one in absurd (omega (arith, zero, e))
   not_denied steps refused (not_held digest is w lacks) one = let e : 13 ≡ 1 = one in absurd (omega (arith, e))
   not_denied steps refused (no_room f) one = let e : 12 ≡ 1 = one in absurd (omega (arith, e))
   not_denied steps refused (no_place f) one = let e : 10 ≡ 1 = one in absurd (omega (arith, e))
 
-  performed_tells : (steps : List ShardStep) (refused : Option Reply) → IsPerformed plans J op certs reading steps refused → status_of (told_or refused told) ≢ 0 → status_of (told_or refused told) ≢ 10 → status_of (told_or refused told) ≢ 12 → status_of (told_or refused told) ≢ 13 → ⊥
+  performed_tells : (steps : List ShardStep) (refused : Option Reply) → IsPerformed plans J op (effect_of op certs reading) steps refused → status_of (told_or refused told) ≢ 0 → status_of (told_or refused told) ≢ 10 → status_of (told_or refused told) ≢ 12 → status_of (told_or refused told) ≢ 13 → ⊥
   performed_tells steps refused (through w lets) given full room held = given zero
   performed_tells steps refused (not_held digest is w lacks) given full room held = held refl
   performed_tells steps refused (no_room f) given full room held = room refl
   performed_tells steps refused (no_place f) given full room held = full refl
 
-  performed_not_full : (steps : List ShardStep) (refused : Option Reply) → IsPerformed plans J op certs reading steps refused → (o limit : ℕ) → told_or refused told ≡ object_full o limit → ⊥
+  performed_not_full : (steps : List ShardStep) (refused : Option Reply) → IsPerformed plans J op (effect_of op certs reading) steps refused → (o limit : ℕ) → told_or refused told ≡ object_full o limit → ⊥
   performed_not_full steps refused (through w lets) o limit is = let e : status_of told ≡ 10 = ap status_of is in absurd (omega (arith, zero, e))
   performed_not_full steps refused (not_held digest same w lacks) o limit is = let e : 13 ≡ 10 = ap status_of is in absurd (omega (arith, e))
   performed_not_full steps refused (no_room f) o limit is = let e : 12 ≡ 10 = ap status_of is in absurd (omega (arith, e))

@@ -18,6 +18,7 @@ use Rattle.taos_monitor.specs.Asking.{IsUnruled, full, replayed, channel_full, u
 use Rattle.taos_monitor.specs.AtObject.{Seeking, Own, told_or, asks_for, gives_for, IsGuarded, object_is_full, no_ruling, denied, granted}
 use Rattle.taos_monitor.specs.Course.{Used, Course, malformed, unknown_channel, bad_seal, cert_refused, relay_failed, unknown_object, ruled, unread, unopened}
 use Rattle.taos_monitor.specs.Effects.{ShardStep, IsPerformed, through, not_held, no_room, no_place}
+use Rattle.taos_monitor.specs.Operations.{effect_of}
 use Rattle.taos_monitor.specs.Verdicts.{HasVerdict, RepliesAreVerdicts}
 
 same_granted : (k l : Bool) (d e h s p q : ℕ) (x y : List Line) (c b : List Certificate) (m n : List ℕ) → replies.Granted k d h p x c m ≡ replies.Granted l e s q y b n → (h ≡ s) × (p ≡ q)
@@ -53,14 +54,14 @@ module _ (n : Node) (J : Journals) (h : ℕ) (plan : Plan) (planned : HasPlan n 
 
 -- what is told of a grant is the grant, or a refusal
 module _ (plans : List Plan) (J : ℕ → List Entry) (op : Op) (certs : List Certificate) (reading : ℕ) (told : Reply) where
-  performed_granted : (steps : List ShardStep) (refused : Option Reply) → IsPerformed plans J op certs reading steps refused → (kept : Bool) (entry shard place : ℕ) (proof : List Line) (cites : List Certificate) (content : List ℕ) →
+  performed_granted : (steps : List ShardStep) (refused : Option Reply) → IsPerformed plans J op (effect_of op certs reading) steps refused → (kept : Bool) (entry shard place : ℕ) (proof : List Line) (cites : List Certificate) (content : List ℕ) →
       told_or refused told ≡ replies.Granted kept entry shard place proof cites content → told ≡ replies.Granted kept entry shard place proof cites content
   performed_granted steps refused (through w lets) kept entry shard place proof cites content e = e
   performed_granted steps refused (not_held digest is w none) kept entry shard place proof cites content e = absurd cc
   performed_granted steps refused (no_room f) kept entry shard place proof cites content e = absurd cc
   performed_granted steps refused (no_place f) kept entry shard place proof cites content e = absurd cc
 
-  performed_not_denied : (steps : List ShardStep) (refused : Option Reply) → IsPerformed plans J op certs reading steps refused → (shard place : ℕ) (link : LinkSent) → (told ≡ replies.Denied shard place link → ⊥) → told_or refused told ≡ replies.Denied shard place link → ⊥
+  performed_not_denied : (steps : List ShardStep) (refused : Option Reply) → IsPerformed plans J op (effect_of op certs reading) steps refused → (shard place : ℕ) (link : LinkSent) → (told ≡ replies.Denied shard place link → ⊥) → told_or refused told ≡ replies.Denied shard place link → ⊥
   performed_not_denied steps refused (through w lets) shard place link not e = not e
   performed_not_denied steps refused (not_held digest is w none) shard place link not e = cc
   performed_not_denied steps refused (no_room f) shard place link not e = cc
@@ -83,7 +84,7 @@ module _ (n : Node) (J : Journals) (plan : Plan) (x : Seeking) (planned : HasPla
   ruled_denied own reply (denied {place = p} {denial} {told} before s d tells) link e =
       let (there, at) = same_denied x.shard shard p place told link e in
       subst₂ (λ (s q : ℕ). (why : Link) × HasVerdict n J s q (Denied why)) there at
-      (d.link, record { plan = plan; planned = planned; before = d.before; ask = asks_for x before; told = Told.Miss; stands = d.stands; is = denied_verdict plan (J.shards x.shard) (asks_for x before) p denial d })
+      (d.denied.link, record { plan = plan; planned = planned; before = d.before; ask = asks_for x before; told = Told.Miss; stands = d.stands; is = denied_verdict plan (J.shards x.shard) (asks_for x before) p denial d })
   ruled_denied own reply (granted {place = p} {entry} {c} {kept} {steps} {refused} before s g performed out) link e =
       absurd (performed_not_denied n.plans J.shards x.request.op x.certs x.reading (replies.Granted kept entry x.shard p c.proof c.cites (gives_for x before)) steps refused performed shard place link (λ same. cc) e)
 

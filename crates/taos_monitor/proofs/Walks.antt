@@ -114,7 +114,9 @@ module _ (J L : Journals) (effect : Option Event) (plans : List Plan) where
   walks_agree (s ∷ ts) K a b p q (plan, at, x) (other, there, y) =
       sides (λ M c d u v. walks_agree ts M c d p q u v) x (subst (λ (o : Plan). Stuck L effect o s K b q ⊎ Took L effect o s K b q (λ M rest. Walk L effect plans ts M rest q)) (same_Some other plan (sym there ∙ at)) y)
     where
-      sides : ((M : Journals) (c d : List ShardStep) → Walk J effect plans ts M c p → Walk L effect plans ts M d q → (J ≡ L) × (c ≡ d) × (p ≡ q)) → Stuck J effect plan s K a p ⊎ Took J effect plan s K a p (λ M rest. Walk J effect plans ts M rest p) → Stuck L effect plan s K b q ⊎ Took L effect plan s K b q (λ M rest. Walk L effect plans ts M rest q) → Ends J L a b p q
+      sides : ((M : Journals) (c d : List ShardStep) → Walk J effect plans ts M c p → Walk L effect plans ts M d q → (J ≡ L) × (c ≡ d) × (p ≡ q)) →
+          Stuck J effect plan s K a p ⊎ Took J effect plan s K a p (λ M rest. Walk J effect plans ts M rest p) →
+          Stuck L effect plan s K b q ⊎ Took L effect plan s K b q (λ M rest. Walk L effect plans ts M rest q) → Ends J L a b p q
       sides later (inl u) (inl v) = (u.1 ∙ sym v.1, u.2 ∙ sym v.2, u.3 ∙ sym v.3)
       sides later (inl u) (inr v) = absurd (stuck_or_took J L effect a b p q plan s K u v)
       sides later (inr u) (inl v) = absurd (took_or_stuck J L effect a b p q plan s K u v)
@@ -259,7 +261,7 @@ module _ (plans : List Plan) (op : Op) (certs : List Certificate) (reading : ℕ
             (subst (λ (p : Stop). Refuses op x.steps p b) (sym ends.2) (subst (λ (l : List ShardStep). Refuses op l y.stop b) (sym ends.1) y.refuses)),
       )
 
-  pub performs : (J : Journals) → AreLegalShards plans J.shards → 0 < length plans → (steps : List ShardStep) (refused : Option Reply) → Grows K J (map its_place steps) → IsPerformed plans J.shards op certs reading steps refused → Performs plans op certs reading K J refused
+  pub performs : (J : Journals) → AreLegalShards plans J.shards → 0 < length plans → (steps : List ShardStep) (refused : Option Reply) → Grows K J (map its_place steps) → IsPerformed plans J.shards op (effect_of op certs reading) steps refused → Performs plans op certs reading K J refused
   performs J legal some steps refused g (through w lets) = record {
     steps = steps;
     stop = Gone;

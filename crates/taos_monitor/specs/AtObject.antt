@@ -19,7 +19,7 @@ use Rattle.agent_core.specs.Journals.{Begins, Stands}
 use Rattle.agent_core.specs.Asked.{IsGrant, IsDeniedAt}
 use Rattle.taos_monitor.specs.Cells.{Journals, no_entries, Place, in_shard, in_object}
 use Rattle.taos_monitor.specs.Asking.{TellsDenial, ask_of, IsUnruled}
-use Rattle.taos_monitor.specs.Operations.{result_of}
+use Rattle.taos_monitor.specs.Operations.{effect_of, result_of}
 use Rattle.taos_monitor.specs.Effects.{ShardStep, its_place, IsPerformed}
 
 -- a journal of an object that stands at its limit
@@ -89,35 +89,37 @@ LeavesOut _ shard steps = Unit {0}
 
 -- What comes of it, after what was seen before: the own places and the reply. The object's entry
 -- stands in its journal right after those by which the object was asked for. What is performed in the
--- shards comes after the entry that grants it.
-pub data IsGuardedAfter (plans : List Plan) (plan : Plan) (past J : Journals) (x : Seeking) :
-    Own → Reply → Type 0 where
-  object_is_full : length (J.objects x.request.object) ≡ x.fixed.limit →
-      IsGuardedAfter plans plan past J x (own_at [] [] []) (object_full x.request.object x.fixed.limit)
+-- shards comes after the entry that grants it. The journals are those that were seen before, and these.
+pub data IsGuardedAfter (plans : List Plan) (plan : Plan) (seen : Journals × Journals)
+    (x : Seeking) : Own → Reply → Type 0 where
+  object_is_full : length (seen.1.objects x.request.object) ≡ x.fixed.limit →
+      IsGuardedAfter plans plan seen x (own_at [] [] [])
+      (object_full x.request.object x.fixed.limit)
   no_ruling : {own : List ℕ} {reply : Reply} (before : List ObjectEntry) →
-      IsAskedWith (past.objects x.request.object) (J.objects x.request.object) before x.fixed.limit
-      reply →
-      IsUnruled plan (J.shards x.shard) x.shard (asks_for x before) own reply →
-      IsGuardedAfter plans plan past J x (own_at own [] []) reply
+      IsAskedWith (seen.0.objects x.request.object) (seen.1.objects x.request.object) before
+      x.fixed.limit reply →
+      IsUnruled plan (seen.1.shards x.shard) x.shard (asks_for x before) own reply →
+      IsGuardedAfter plans plan seen x (own_at own [] []) reply
   denied : {place at : ℕ} {denial : Denial} {told : LinkSent} (before : List ObjectEntry) →
-      Stands (J.objects x.request.object) at before
+      Stands (seen.1.objects x.request.object) at before
       (ruled_as x.shard place x.request.op rulings.Denied) →
-      IsDeniedAt plan (J.shards x.shard) (asks_for x before) place denial →
+      IsDeniedAt plan (seen.1.shards x.shard) (asks_for x before) place denial →
       TellsDenial (list_after x.fixed.plan before) denial told →
-      IsGuardedAfter plans plan past J x (own_at (place ∷ []) (at ∷ []) [])
+      IsGuardedAfter plans plan seen x (own_at (place ∷ []) (at ∷ []) [])
       (replies.Denied x.shard place told)
   granted : {place at entry : ℕ} {c : Cached} {kept : Bool} {settled : Settled}
       {asks : List ℕ} {steps : List ShardStep} {refused : Option Reply}
       (before : List ObjectEntry) →
-      Stands (J.objects x.request.object) at before
+      Stands (seen.1.objects x.request.object) at before
       (ruled_as x.shard place x.request.op (rulings.Granted entry)) →
-      IsGrant plan (J.shards x.shard) (asks_for x before) place entry c kept settled asks →
-      IsPerformed plans J.shards x.request.op x.certs x.reading steps refused →
+      IsGrant plan (seen.1.shards x.shard) (asks_for x before) place entry c kept settled asks →
+      IsPerformed plans seen.1.shards x.request.op (effect_of x.request.op x.certs x.reading)
+      steps refused →
       LeavesOut settled x.shard steps →
-      IsGuardedAfter plans plan past J x (own_at asks (at ∷ []) steps)
+      IsGuardedAfter plans plan seen x (own_at asks (at ∷ []) steps)
       (told_or refused (replies.Granted kept entry x.shard place c.proof c.cites
       (gives_for x before)))
 
 -- the same, whatever was seen before
 abbrev pub IsGuarded : List Plan → Plan → Journals → Seeking → Own → Reply → Type 0
-IsGuarded plans plan J x own reply = IsGuardedAfter plans plan no_entries J x own reply
+IsGuarded plans plan J x own reply = IsGuardedAfter plans plan (no_entries, J) x own reply

@@ -24,8 +24,8 @@ made false c = Some c
 made true c = None
 
 -- the proof that was made for what is sought, if one was
-abbrev pub made_for : {plans : List Plan} {plan : Plan} {past J : Journals} {x : Seeking} {own : Own}
-    {reply : Reply} → IsGuardedAfter plans plan past J x own reply → Option Cached
+abbrev pub made_for : {plans : List Plan} {plan : Plan} {seen : Journals × Journals} {x : Seeking}
+    {own : Own} {reply : Reply} → IsGuardedAfter plans plan seen x own reply → Option Cached
 made_for (object_is_full at) = None
 made_for (no_ruling before with unruled) = None
 made_for (denied before stands denial tells) = None

@@ -110,7 +110,7 @@ module _ (n : Node) where
         CourseAfter past J payload (only_calls calls) (sealed key r (replies.UnknownObject r.object))
     ruled : {own : Own} {reply : Reply} (t : Arrival payload) (reading : ℕ) (plan : Plan) →
         HasPlan n (its_home t) plan →
-        IsGuardedAfter n.plans plan past J (its_seeking t reading) own reply →
+        IsGuardedAfter n.plans plan (past, J) (its_seeking t reading) own reply →
         CourseAfter past J payload (uses (reading ∷ []) t.calls (places_at (its_seeking t reading) own))
         (answering t reply)
     unread : CourseAfter past J payload nothing (unsealed replies.NoMemory)

@@ -125,25 +125,24 @@ module _ (journals : ℕ → List Entry) (effect : Option Event) where
   EndAs plans shards steps (effected.Full shard limit) =
       FoundNoPlace plans shards steps shard limit
 
--- what came of the effect of a granted operation, by the certificates of its request and a reading:
--- the steps, and the reply where the grant is not told
+-- what came of a granted operation with this effect in the shards: the steps, and the reply where the
+-- grant is not told
 pub data IsPerformed (plans : List Plan) (journals : ℕ → List Entry) (op : Op)
-    (certs : List Certificate) (reading : ℕ) : List ShardStep → Option Reply → Type 0 where
+    (effect : Option Event) : List ShardStep → Option Reply → Type 0 where
   through : {steps : List ShardStep} →
-      WentThrough journals (effect_of op certs reading) (targets_of plans op) steps →
+      WentThrough journals effect (targets_of plans op) steps →
       ((digest : List ℕ) → op ≡ Discard digest → LetsGo steps) →
-      IsPerformed plans journals op certs reading steps None
+      IsPerformed plans journals op effect steps None
   not_held : {steps : List ShardStep} (digest : List ℕ) → op ≡ Discard digest →
-      WentThrough journals (effect_of op certs reading) (targets_of plans op) steps →
+      WentThrough journals effect (targets_of plans op) steps →
       (LetsGo steps → ⊥) →
-      IsPerformed plans journals op certs reading steps (Some (replies.NotHeld digest))
+      IsPerformed plans journals op effect steps (Some (replies.NotHeld digest))
   no_room : {steps : List ShardStep} {shard held : ℕ} →
-      FoundNoRoom journals (effect_of op certs reading) (targets_of plans op) steps shard held →
-      IsPerformed plans journals op certs reading steps (Some (replies.CommonsFull held shard))
+      FoundNoRoom journals effect (targets_of plans op) steps shard held →
+      IsPerformed plans journals op effect steps (Some (replies.CommonsFull held shard))
   no_place : {steps : List ShardStep} {shard limit : ℕ} →
-      FoundNoPlace journals (effect_of op certs reading) plans (targets_of plans op) steps shard
-      limit →
-      IsPerformed plans journals op certs reading steps (Some (shard_full shard limit))
+      FoundNoPlace journals effect plans (targets_of plans op) steps shard limit →
+      IsPerformed plans journals op effect steps (Some (shard_full shard limit))
 
 -- a granted operation is performed so, and one that is denied not at all
 abbrev pub PerformedAs : Ruling → (List ShardStep → Option Reply → Type 0) →

@@ -1,5 +1,5 @@
 -- What the definitions of a course imply: each law is the contract of a function that does nothing.
-use Rattle.std.specs.Prelude.{◌≡◌, ◌≢◌, ℕ, ◌+◌, ◌-◌, ◌^◌, ◌<◌, ◌≤◌, Bool, List, [], ◌∷◌, ◌++◌, All, AllPairs, Contains}
+use Rattle.std.specs.Prelude.{◌≡◌, ◌≢◌, ℕ, ◌+◌, ◌-◌, ◌^◌, ◌<◌, ◌≤◌, Bool, List, [], ◌∷◌, ◌++◌, Some, slice_get, All, AllPairs, Contains}
 use Rattle.frame_link.specs.declared.outcome.Outcome.{Outcome}
 use Rattle.frame_link.specs.declared.outcome.Outcome.TheVariants.{End}
 use Rattle.taos_wire.specs.Reply.{Sent, CertRefused, spelling, status_of}
@@ -93,11 +93,12 @@ FaultsAreCounted =
     (before now : ℕ) (calls : List LinkCall) → FailedAs before now calls → now < 2 ^ 64 - 1 →
     before + failures calls ≤ now
 
--- of two frames the first does not find the journal of a cell full, for itself or for its proof,
--- where the second has an entry there
+-- of any two frames of a connection the earlier does not find the journal of a cell full, for itself
+-- or for its proof, where the later has an entry there
 abbrev pub NoEntryAfterFull : Node → Type 0
 NoEntryAfterFull n =
     (J : Journals) (used : Used) (frames replies : List (List ℕ)) (outcome : Outcome) →
     (a : Answered n J used frames replies outcome) →
-    (first second : Turn) → a.turns ≡ first ∷ second ∷ [] → (cell : Cell) (p : Place) →
-    FoundFull J cell first → Contains second.used.places p → p.cell ≡ cell → ⊥
+    (i j : ℕ) (earlier later : Turn) → i < j → slice_get a.turns i ≡ Some earlier →
+    slice_get a.turns j ≡ Some later → (cell : Cell) (p : Place) →
+    FoundFull J cell earlier → Contains later.used.places p → p.cell ≡ cell → ⊥

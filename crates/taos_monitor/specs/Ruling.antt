@@ -181,8 +181,8 @@ shard_of plan journal = record { plan = plan; journal = journal }
 
 -- the ask was made for the object as it was taken, unless that was full, and this was ruled
 abbrev pub DecidedTo : List Plan → Bool → (old new : Viewed Entry) →
-    Came × ObjectSeen → Option Ruled → Reply → Type 0
-DecidedTo plans alone old new (c, o) ruled reply =
+    Came × ObjectSeen × Option Ruled → Reply → Type 0
+DecidedTo plans alone old new (c, o, ruled) reply =
     AskedAt plans alone old new c.shard (λ plan journal own.
     IsRuled (shard_of plan journal) (seeking_of c (fixed_of o)) o.journal ruled own reply)
 
@@ -208,4 +208,4 @@ pub record GuardedTo (s : Standing) (old new : Seen) (x : Seeking) (reply : Repl
   pub own : Own
   pub goes_on : GoesOn s.alone old new (places_at x own)
   pub legal : AreLegalIn s.plans s.objects new.journals
-  pub guarded : IsGuardedAfter s.plans plan old.journals new.journals x own reply
+  pub guarded : IsGuardedAfter s.plans plan (old.journals, new.journals) x own reply

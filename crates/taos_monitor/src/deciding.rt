@@ -260,7 +260,7 @@ pub(crate) fn decide<W: Wait + Sync, S: Shards, D: Decide, G: Gate>(
         came.entry.sealer.now out.new
         (DecidedTo (S.plans shards.old) (S.alone shards.old)
         (viewed (S.seen shards.old) (S.own shards.old))
-        (viewed (S.seen shards.new) (S.own shards.new)) (came.entry, object.now) result) }
+        (viewed (S.seen shards.new) (S.own shards.new)) (came.entry, object.now, result)) }
     ensures room { IfSome result (λ r. length object.now.journal < object.now.limit) }
     ensures plans { S.plans shards.new ≡ S.plans shards.old }
     ensures alone { S.alone shards.new ≡ S.alone shards.old }

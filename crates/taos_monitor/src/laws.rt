@@ -29,8 +29,8 @@ pub fn one_more_is_answered()
     ensures { (n : Node) → AnswersMore n }
 {}
 
-/// Of two frames the first does not find a journal full, for itself or for the proof of its grant,
-/// where the second has an entry there.
+/// Of any two frames of a connection the earlier does not find a journal full, for itself or for the
+/// proof of its grant, where the later has an entry there.
 pub fn nothing_follows_a_full_journal()
     ensures { (n : Node) → NoEntryAfterFull n }
 {}

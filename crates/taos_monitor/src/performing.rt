@@ -9,6 +9,7 @@ ghost use Rattle.taos_wire.specs.Reply.{FitsReply, status_of};
 ghost use Rattle.taos_wire.specs.View.{reply};
 ghost use Rattle.taos_monitor.specs.Cells.{AreLegalShards, viewed};
 ghost use Rattle.taos_monitor.specs.Effects.{EndAs, IsDueOf, IsPerformed, IsReady, PerformedAs, SteppedBy, TellsHeld, effect_due, shards_due};
+ghost use Rattle.taos_monitor.specs.Operations.{effect_of};
 
 use crate::due::Due;
 use crate::stepping::{Went, step_one};
@@ -102,8 +103,8 @@ fn perform<W: Wait + Sync, S: Shards>(
         → SteppedBy (S.plans shards.old) (S.alone shards.old)
         (viewed (S.seen shards.old) (S.own shards.old))
         (viewed (S.seen shards.new) (S.own shards.new))
-        (λ steps. IsPerformed (S.plans shards.old) (S.seen shards.new) (operation op.now) certs
-        reading steps (option_map reply result)) }
+        (λ steps. IsPerformed (S.plans shards.old) (S.seen shards.new) (operation op.now)
+        (effect_of (operation op.now) certs reading) steps (option_map reply result)) }
     ensures fits { IfSome result (λ r. FitsReply (reply r) × (0 < status_of (reply r))) }
     ensures plans { S.plans shards.new ≡ S.plans shards.old }
     ensures alone { S.alone shards.new ≡ S.alone shards.old }
@@ -138,7 +139,8 @@ pub(crate) fn perform_ruled<W: Wait + Sync, S: Shards>(
         (viewed (S.seen shards.old) (S.own shards.old))
         (viewed (S.seen shards.new) (S.own shards.new))
         (λ steps. PerformedAs ruling (IsPerformed (S.plans shards.old) (S.seen shards.new)
-        (operation op.now) certs reading) steps (option_map reply result)) }
+        (operation op.now) (effect_of (operation op.now) certs reading)) steps
+        (option_map reply result)) }
     ensures fits { IfSome result (λ r. FitsReply (reply r) × (0 < status_of (reply r))) }
     ensures plans { S.plans shards.new ≡ S.plans shards.old }
     ensures alone { S.alone shards.new ≡ S.alone shards.old }

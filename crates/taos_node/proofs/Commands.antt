@@ -6,7 +6,7 @@ use Rattle.std.proofs.lemmas.List.{length-append}
 use Rattle.frame_link.specs.declared.outcome.Outcome.{Outcome}
 use Rattle.frame_link.specs.Faults.{Rose}
 use Rattle.frame_link.specs.Relay.{Said}
-use Rattle.taos_node.specs.declared.command.Lane.{Lane}
+use Rattle.taos_lanes.specs.declared.lane.Lane.{Lane}
 use Rattle.node_file.specs.Opening.{Opening}
 use Rattle.taos_monitor.specs.Cells.{Node, Seen, alone_of}
 use Rattle.taos_monitor.specs.Connection.{IsConnection}

@@ -22,14 +22,15 @@ use Rattle.clap.specs.declared.error.Error.{Error}
 use Rattle.clap.specs.declared.error.kind.ErrorKind.TheVariants as kind
 use Rattle.clap.specs.declared.parser.matches.ArgMatches.{ArgMatches}
 use Rattle.taos_node.specs.declared.wanted.Wanted.{Wanted}
-use Rattle.taos_node.specs.Words.{Given, HasNumber, IsMeaning, IsNumber, IsValue, Mean, ServeFrames, TextsMean, GivesMint, MintWords, Task, Run, Check, Relay, Mint, mint_options, serving_options, task_of, value_of, words_of}
-use Rattle.taos_node.specs.Table.{IsOfTable, IsOption, IsOptionOf, IsPlainWord, IsMintOf, IsServingOf, commands, taos_app, plain, option, alone, joined}
+use Rattle.taos_lanes.specs.declared.lane.Limits.{Limits}
+use Rattle.taos_node.specs.Words.{Given, GivesLimits, HasNumber, IsMeaning, IsNumber, IsValue, Mean, ServeFrames, ServeLanes, TextsMean, GivesMint, MintWords, Task, Run, Check, Relay, Mint, Serve, lane_options, mint_options, serving_options, task_of, value_of, words_of}
+use Rattle.taos_node.specs.Table.{IsOfTable, IsOption, IsOptionOf, IsPlainWord, IsLanesOf, IsMintOf, IsServingOf, all_options, commands, taos_app, plain, option, alone, joined}
 use Rattle.taos_node.proofs.Made.{taos_is_simple}
 use Rattle.taos_node.proofs.Meanings as law
 use Rattle.std.proofs.Math.Path.{fun_ext}
 use Rattle.taos_node.proofs.Rows.{AreNew, first_of_rows, rows_for}
-use Rattle.taos_node.proofs.Levels.{Entry, IsFound, IsSplit, each_command, line_found, line_split, mint_within}
-use Rattle.taos_node.proofs.Meanings.{IsTaken, TextMeaning, check_there, mint_there, is_line, same_values, meant_found, other_command, relay_there, run_there, serve_line, served_frames}
+use Rattle.taos_node.proofs.Levels.{Entry, IsFound, IsSplit, each_command, line_found, line_split}
+use Rattle.taos_node.proofs.Meanings.{IsTaken, TextMeaning, check_there, lanes_limits, lanes_line, mint_there, is_line, same_values, meant_found, other_command, relay_there, run_there, serve_line, serve_there, served_frames}
 use Rattle.std.specs.List.{flat_map}
 use Rattle.std.proofs.lemmas.List.{append-nil, append_cancel_left}
 use Rattle.std.specs.Prelude.{Contains}
@@ -165,19 +166,12 @@ pub none_at_all : (w : Text) (names : List (Bor Text)) (i : ℕ) → length name
 none_at_all w names i all none o = none o.1.0 o.0 (omega (arith, o.1.1, all, texts_count names)) o.1.2 o.2
 
 -- a word of the table is plain, or one of the options
-pub of_frames : (w text : Text) → text ≡ codes "frames" → IsOption w text → (IsTrue true → IsOfTable w) × (IsOfTable w → IsTrue true)
-of_frames w text is o = (λ _. option (codes "frames") (0, omega arith, refl) (subst (IsOption w) is o), λ _. refl)
-
-pub of_mint : (w : Text) (b : Bool) → (IsPlainWord w → ⊥) → (IsOption w (codes "frames") → ⊥) → (IsTrue b → IsOptionOf mint_options w) × (IsOptionOf mint_options w → IsTrue b) → (IsTrue b → IsOfTable w) × (IsOfTable w → IsTrue b)
-of_mint w b dashed other tells = (to, from)
+pub of_known : (w : Text) (b : Bool) → (IsPlainWord w → ⊥) → (IsTrue b → IsOptionOf all_options w) × (IsOptionOf all_options w → IsTrue b) → (IsTrue b → IsOfTable w) × (IsOfTable w → IsTrue b)
+of_known w b dashed tells = (λ told. let o = tells.0 told in option o.0 o.1 o.2, from)
   where
-    to : IsTrue b → IsOfTable w
-    to told = let o = tells.0 told in option o.0 (mint_within o.0 o.1) o.2
-
     from : IsOfTable w → IsTrue b
     from (plain is) = absurd (dashed is)
-    from (option n (zero, within, is) o) = absurd (other (subst (IsOption w) (sym is) o))
-    from (option n (suc k, within, is) o) = tells.1 (n, (k, omega (arith, within), is), o)
+    from (option n has o) = tells.1 (n, has, o)
 
 -- ---- all words
 
@@ -220,6 +214,16 @@ serving_means texts command serves given None means only there are new none = λ
     let o = only wanted is in
     none o.0 (served_frames texts command given o.0 there f o.1)
 
+lanes_mean : (texts : List Text) (command : Text) (serves : Limits → Task) (given : List Given) (r : Option Wanted) → ((limits : Limits) → ServeLanes texts command limits → TextsMean texts (serves limits)) →
+    ((wanted : Task) → TextsMean texts wanted → (limits : Limits) × ServeLanes texts command limits) → Contains commands (command, lane_options) →
+    texts ≡ command ∷ flat_map words_of given → AreNew lane_options [] given → IsLanesOf serves (λ name. value_of name given) r → TextMeaning texts r
+lanes_mean texts command serves given (Some wanted) means only there are new is =
+    subst (TextsMean texts) (sym is.1) (means is.0 (lanes_line texts command given is.0 are new is.2))
+lanes_mean texts command serves given None means only there are new none = λ wanted is.
+    let f = subst (λ (w : List Text). IsFound w command given) (sym are) (line_found (command, lane_options) there given new) in
+    let o = only wanted is in
+    none o.0 (lanes_limits texts command given o.0 there f o.1)
+
 -- texts that are taken as a command mean no other
 found_as : (texts : List Text) (c : Entry) (given : List Given) → Contains commands c → texts ≡ c.0 ∷ flat_map words_of given → AreNew c.1 [] given → IsFound texts c.0 given
 found_as texts c given there are new = subst (λ (w : List Text). IsFound w c.0 given) (sym are) (line_found c there given new)
@@ -232,18 +236,28 @@ only_run texts taken (Run n) is = (n, is)
 only_run texts taken (Mint m) is = absurd (other_command texts (codes "mint") (codes "run") refl (meant_found texts (Mint m) is) taken)
 only_run texts taken Check is = absurd (other_command texts (codes "check") (codes "run") refl (meant_found texts Check is) taken)
 only_run texts taken (Relay n) is = absurd (other_command texts (codes "relay") (codes "run") refl (meant_found texts (Relay n) is) taken)
+only_run texts taken (Serve l) is = absurd (other_command texts (codes "serve") (codes "run") refl (meant_found texts (Serve l) is) taken)
 
 only_relay : (texts : List Text) → IsTaken texts (codes "relay") → (wanted : Task) → TextsMean texts wanted → (n : ℕ) × ServeFrames texts (codes "relay") n
 only_relay texts taken (Relay n) is = (n, is)
 only_relay texts taken (Mint m) is = absurd (other_command texts (codes "mint") (codes "relay") refl (meant_found texts (Mint m) is) taken)
 only_relay texts taken Check is = absurd (other_command texts (codes "check") (codes "relay") refl (meant_found texts Check is) taken)
 only_relay texts taken (Run n) is = absurd (other_command texts (codes "run") (codes "relay") refl (meant_found texts (Run n) is) taken)
+only_relay texts taken (Serve l) is = absurd (other_command texts (codes "serve") (codes "relay") refl (meant_found texts (Serve l) is) taken)
 
 only_mint : (texts : List Text) → IsTaken texts (codes "mint") → (task : Task) → TextsMean texts task → (m : MintWords) × TextsMean texts (Mint m)
 only_mint texts taken (Mint m) is = (m, is)
 only_mint texts taken Check is = absurd (other_command texts (codes "check") (codes "mint") refl (meant_found texts Check is) taken)
 only_mint texts taken (Run n) is = absurd (other_command texts (codes "run") (codes "mint") refl (meant_found texts (Run n) is) taken)
 only_mint texts taken (Relay n) is = absurd (other_command texts (codes "relay") (codes "mint") refl (meant_found texts (Relay n) is) taken)
+only_mint texts taken (Serve l) is = absurd (other_command texts (codes "serve") (codes "mint") refl (meant_found texts (Serve l) is) taken)
+
+only_serve : (texts : List Text) → IsTaken texts (codes "serve") → (task : Task) → TextsMean texts task → (limits : Limits) × ServeLanes texts (codes "serve") limits
+only_serve texts taken (Serve l) is = (l, is)
+only_serve texts taken Check is = absurd (other_command texts (codes "check") (codes "serve") refl (meant_found texts Check is) taken)
+only_serve texts taken (Run n) is = absurd (other_command texts (codes "run") (codes "serve") refl (meant_found texts (Run n) is) taken)
+only_serve texts taken (Relay n) is = absurd (other_command texts (codes "relay") (codes "serve") refl (meant_found texts (Relay n) is) taken)
+only_serve texts taken (Mint m) is = absurd (other_command texts (codes "mint") (codes "serve") refl (meant_found texts (Mint m) is) taken)
 
 -- what the program reads of each command's rows
 pub record IsReadAs (m : ArgMatches) (r : Option Wanted) : Type 0 where
@@ -251,6 +265,7 @@ pub record IsReadAs (m : ArgMatches) (r : Option Wanted) : Type 0 where
   pub check : (rows : List Row) → subcommand_rows_of m ≡ Some (codes "check", rows) → option_map task_of r ≡ Some Check
   pub relay : (rows : List Row) → subcommand_rows_of m ≡ Some (codes "relay", rows) → IsServingOf (λ n. Relay n) (first_of (codes "frames") rows) r
   pub mint : (rows : List Row) → subcommand_rows_of m ≡ Some (codes "mint", rows) → IsMintOf (λ name. first_of name rows) r
+  pub serve : (rows : List Row) → subcommand_rows_of m ≡ Some (codes "serve", rows) → IsLanesOf (λ limits. Serve limits) (λ name. first_of name rows) r
 
 module _ (texts : List Text) (m : ArgMatches) (r : Option Wanted) (read : IsReadAs m r) (same : ◌≡◌ {A = Option (Text × List Row)} (subcommand_rows_of m) (subcommand_of taos_app texts)) where
   -- what is read of a line of this command is what it means
@@ -281,12 +296,17 @@ module _ (texts : List Text) (m : ArgMatches) (r : Option Wanted) (read : IsRead
       is_check (Some w) e =
           subst (TextsMean texts) (sym (same_Some (task_of w) Check e)) (given, is_line texts (codes "check", []) given are new (λ name v has is. absurd (omega (arith, has.1))))
 
-  mint_means : MeansIt (codes "mint", mint_options)
-  mint_means given are new = is_mint r (subst (λ f. IsMintOf f r) same_texts (read.mint (rows_for given) (rows_found (codes "mint", mint_options) given mint_there are new)))
-    where
-      same_texts : ◌≡◌ {A = Text → Option Text} (λ name. first_of name (rows_for given)) (λ name. value_of name given)
-      same_texts = fun_ext (λ name. first_of_rows name given)
+  same_texts : (given : List Given) → ◌≡◌ {A = Text → Option Text} (λ name. first_of name (rows_for given)) (λ name. value_of name given)
+  same_texts given = fun_ext (λ name. first_of_rows name given)
 
+  serve_means : MeansIt (codes "serve", lane_options)
+  serve_means given are new =
+      lanes_mean texts (codes "serve") (λ limits. Serve limits) given r (λ limits is. is) (only_serve texts (taken_as texts (codes "serve", lane_options) given serve_there are new)) serve_there are new
+      (subst (λ f. IsLanesOf (λ limits. Serve limits) f r) (same_texts given) (read.serve (rows_for given) (rows_found (codes "serve", lane_options) given serve_there are new)))
+
+  mint_means : MeansIt (codes "mint", mint_options)
+  mint_means given are new = is_mint r (subst (λ f. IsMintOf f r) (same_texts given) (read.mint (rows_for given) (rows_found (codes "mint", mint_options) given mint_there are new)))
+    where
       is_mint : (o : Option Wanted) → IsMintOf (λ name. value_of name given) o → TextMeaning texts o
       is_mint (Some w) is = subst (TextsMean texts) (sym is.1) (given, is_line texts (codes "mint", mint_options) given are new is.3, is.2)
       is_mint None none = λ task is.
@@ -299,7 +319,7 @@ module _ (texts : List Text) (m : ArgMatches) (r : Option Wanted) (read : IsRead
           (λ name v has e. law.value_is o.1.0 o.1.1.values name v (same name ∙ e))
 
   read_means : IsSplit texts → TextMeaning texts r
-  read_means split = each_command MeansIt run_means check_means relay_means mint_means split.command split.there split.given split.are split.new
+  read_means split = each_command MeansIt run_means check_means relay_means mint_means serve_means split.command split.there split.given split.are split.new
 
 as_meaning : (words : List (String Global)) (r : Option Wanted) → TextMeaning (map string_bytes words) r → IsMeaning words r
 as_meaning words (Some wanted) is = is

@@ -17,7 +17,7 @@ use Rattle.clap.proofs.OnLiterals.{clap_on_literals}
 use Rattle.clap.proofs.FaultLemmas.{stopped_fault}
 use Rattle.clap.proofs.WalkLemmas.{walk_stopped}
 use Rattle.taos_node.specs.Table.{IsOfTable, IsPlainWord, all_options, commands, taos_app, plain, option, alone, joined}
-use Rattle.taos_node.specs.Words.{Given, mint_options, words_of}
+use Rattle.taos_node.specs.Words.{Given, lane_options, mint_options, words_of}
 use Rattle.taos_node.proofs.Rows.{AreNew, rows_for}
 use Rattle.taos_node.proofs.Walks.{Reads, fault_by, is_rest, leaf_of, rest_fault_by}
 use Rattle.taos_node.proofs.Lines.{given_pass, given_rows, names, words_split}
@@ -43,13 +43,18 @@ pub record IsEntry (c : Entry) : Type 0 where
 none_of : (name : Text) → Contains [] name → ⊥
 none_of name has = absurd (omega (arith, has.1))
 
--- the one option of commands that serve is of the table, and so is each of `mint`
+-- the one option of commands that serve is of the table, and so are those of commands that serve lanes, and each of `mint`
 frames_within : (name : Text) → Contains (codes "frames" ∷ []) name → Contains all_options name
-frames_within name (zero, within, is) = (0, omega arith, is)
+frames_within name (zero, within, is) = (1, omega arith, is)
 frames_within name (suc k, within, is) = absurd (omega (arith, within))
 
-pub mint_within : (name : Text) → Contains mint_options name → Contains all_options name
-mint_within name has = (suc has.0, omega (arith, has.1), has.2)
+lanes_within : (name : Text) → Contains lane_options name → Contains all_options name
+lanes_within name (zero, within, is) = (0, omega arith, is)
+lanes_within name (suc zero, within, is) = (1, omega arith, is)
+lanes_within name (suc (suc k), within, is) = absurd (omega (arith, within))
+
+mint_within : (name : Text) → Contains mint_options name → Contains all_options name
+mint_within name has = (suc (suc has.0), omega (arith, has.1), has.2)
 
 run_entry : IsEntry (codes "run", codes "frames" ∷ [])
 run_entry = record { met = refl; found = refl; no_help = refl; word = λ e. omega (arith, e); within = frames_within }
@@ -63,16 +68,20 @@ relay_entry = record { met = refl; found = refl; no_help = refl; word = λ e. om
 mint_entry : IsEntry (codes "mint", mint_options)
 mint_entry = record { met = refl; found = refl; no_help = refl; word = λ e. omega (arith, e); within = mint_within }
 
+serve_entry : IsEntry (codes "serve", lane_options)
+serve_entry = record { met = refl; found = refl; no_help = refl; word = λ e. omega (arith, e); within = lanes_within }
+
 -- what holds of each command of the table holds of all
-pub each_command : (P : Entry → Type 0) → P (codes "run", codes "frames" ∷ []) → P (codes "check", []) → P (codes "relay", codes "frames" ∷ []) → P (codes "mint", mint_options) → (c : Entry) → Contains commands c → P c
-each_command P run check relay mint c (zero, within, is) = subst P is run
-each_command P run check relay mint c (suc zero, within, is) = subst P is check
-each_command P run check relay mint c (suc (suc zero), within, is) = subst P is relay
-each_command P run check relay mint c (suc (suc (suc zero)), within, is) = subst P is mint
-each_command P run check relay mint c (suc (suc (suc (suc k))), within, is) = absurd (omega (arith, within))
+pub each_command : (P : Entry → Type 0) → P (codes "run", codes "frames" ∷ []) → P (codes "check", []) → P (codes "relay", codes "frames" ∷ []) → P (codes "mint", mint_options) → P (codes "serve", lane_options) → (c : Entry) → Contains commands c → P c
+each_command P run check relay mint serve c (zero, within, is) = subst P is run
+each_command P run check relay mint serve c (suc zero, within, is) = subst P is check
+each_command P run check relay mint serve c (suc (suc zero), within, is) = subst P is relay
+each_command P run check relay mint serve c (suc (suc (suc zero)), within, is) = subst P is mint
+each_command P run check relay mint serve c (suc (suc (suc (suc zero))), within, is) = subst P is serve
+each_command P run check relay mint serve c (suc (suc (suc (suc (suc k)))), within, is) = absurd (omega (arith, within))
 
 pub entries : (c : Entry) → Contains commands c → IsEntry c
-entries = each_command IsEntry run_entry check_entry relay_entry mint_entry
+entries = each_command IsEntry run_entry check_entry relay_entry mint_entry serve_entry
 
 -- ---- a line that begins with a command
 

@@ -17,3 +17,5 @@ pub mod Levels
 pub mod Meanings
 pub mod Found
 pub mod Minted
+mod LaneStatuses
+mod Counts

@@ -30,6 +30,10 @@ frames_name : IsName (codes "frames")
 unfolding clap_on_literals
 frames_name = record { bare = record { dashes = refl; long = refl }; whole = λ v. record { dashes = refl; long = refl } }
 
+connections_name : IsName (codes "connections")
+unfolding clap_on_literals
+connections_name = record { bare = record { dashes = refl; long = refl }; whole = λ v. record { dashes = refl; long = refl } }
+
 issuer_name : IsName (codes "issuer")
 unfolding clap_on_literals
 issuer_name = record { bare = record { dashes = refl; long = refl }; whole = λ v. record { dashes = refl; long = refl } }
@@ -55,14 +59,15 @@ unfolding clap_on_literals
 right_name = record { bare = record { dashes = refl; long = refl }; whole = λ v. record { dashes = refl; long = refl } }
 
 pub names : (name : Text) → Contains all_options name → IsName name
-names name (zero, within, is) = subst IsName is frames_name
-names name (suc zero, within, is) = subst IsName is issuer_name
-names name (suc (suc zero), within, is) = subst IsName is serial_name
-names name (suc (suc (suc zero)), within, is) = subst IsName is until_name
-names name (suc (suc (suc (suc zero))), within, is) = subst IsName is quoted_name
-names name (suc (suc (suc (suc (suc zero)))), within, is) = subst IsName is left_name
-names name (suc (suc (suc (suc (suc (suc zero))))), within, is) = subst IsName is right_name
-names name (suc (suc (suc (suc (suc (suc (suc k)))))), within, is) = absurd (omega (arith, within))
+names name (zero, within, is) = subst IsName is connections_name
+names name (suc zero, within, is) = subst IsName is frames_name
+names name (suc (suc zero), within, is) = subst IsName is issuer_name
+names name (suc (suc (suc zero)), within, is) = subst IsName is serial_name
+names name (suc (suc (suc (suc zero))), within, is) = subst IsName is until_name
+names name (suc (suc (suc (suc (suc zero)))), within, is) = subst IsName is quoted_name
+names name (suc (suc (suc (suc (suc (suc zero))))), within, is) = subst IsName is left_name
+names name (suc (suc (suc (suc (suc (suc (suc zero)))))), within, is) = subst IsName is right_name
+names name (suc (suc (suc (suc (suc (suc (suc (suc k))))))), within, is) = absurd (omega (arith, within))
 
 -- ---- step by step
 

@@ -10,7 +10,8 @@ use Rattle.std.proofs.lemmas.Option.{same_Some}
 use Rattle.clap.specs.Words.{Row, Text, first_of}
 use Rattle.taos_node.specs.declared.wanted.Wanted.{Wanted}
 use Rattle.taos_node.specs.Table.{commands}
-use Rattle.taos_node.specs.Words.{AreFrames, AreOnce, Given, IsCount, IsLine, IsValue, ServeFrames, TextsMean, GivesMint, HasNumber, MintWords, Task, Run, Check, Relay, Mint, mint_options, serving_options, task_of, value_of, words_of}
+use Rattle.taos_lanes.specs.declared.lane.Limits.{Limits}
+use Rattle.taos_node.specs.Words.{AreConnections, AreFrames, AreOnce, Given, GivesLimits, IsCount, IsLine, IsValue, ServeFrames, ServeLanes, TextsMean, GivesMint, HasNumber, MintWords, Task, Run, Check, Relay, Mint, Serve, lane_options, mint_options, serving_options, task_of, value_of, words_of}
 use Rattle.taos_node.proofs.Options.{other_text, same_text, two_texts}
 use Rattle.taos_node.proofs.Rows.{AreNew, all_are_new, all_known, are_once, first_of_rows, rows_for}
 use Rattle.taos_node.proofs.Levels.{Entry, IsFound, line_found}
@@ -86,12 +87,16 @@ relay_there = (2, omega arith, refl)
 pub mint_there : Contains commands (codes "mint", mint_options)
 mint_there = (3, omega arith, refl)
 
+pub serve_there : Contains commands (codes "serve", lane_options)
+serve_there = (4, omega arith, refl)
+
 -- the name of the command that is asked for
 abbrev pub command_of : Task → Text
 command_of (Run n) = codes "run"
 command_of Check = codes "check"
 command_of (Relay n) = codes "relay"
 command_of (Mint m) = codes "mint"
+command_of (Serve limits) = codes "serve"
 
 -- what means something is a line that is taken
 abbrev pub IsTaken : List Text → Text → Type 0
@@ -102,6 +107,7 @@ meant_found words (Run n) is = (is.0, found_line words (codes "run", serving_opt
 meant_found words Check is = (is.0, found_line words (codes "check", []) is.0 check_there is.1)
 meant_found words (Mint m) is = (is.0, found_line words (codes "mint", mint_options) is.0 mint_there is.1)
 meant_found words (Relay n) is = (is.0, found_line words (codes "relay", serving_options) is.0 relay_there is.1)
+meant_found words (Serve limits) is = (is.0, found_line words (codes "serve", lane_options) is.0 serve_there is.1)
 
 -- no words are two commands
 pub other_command : (words : List Text) (a b : Text) → bytes_eq a b ≡ false → IsTaken words a → IsTaken words b → ⊥
@@ -130,6 +136,31 @@ served_frames words command given n there f is =
     let g = found_line words (command, serving_options) is.0 there is.1 in
     subst (λ o. AreFrames o n) (same_values words command command is.0 given g f (codes "frames")) is.2
 
+-- ---- commands that serve lanes
+
+connections_value : (o : Option Text) (v : Text) (n : ℕ) → o ≡ Some v → AreConnections o n → IsValue v
+connections_value o v n is count = count_is_value v n (subst (λ q. AreConnections q n) is count)
+
+limits_value : (given : List Given) (limits : Limits) → GivesLimits (λ name. value_of name given) limits → (name v : Text) → Contains lane_options name → value_of name given ≡ Some v → IsValue v
+limits_value given limits gives name v (zero, within, is) e = connections_value (value_of (codes "connections") given) v limits.connections (subst (λ t. value_of t given ≡ Some v) (sym is) e) gives.connections
+limits_value given limits gives name v (suc zero, within, is) e = frames_value (value_of (codes "frames") given) v limits.frames (subst (λ t. value_of t given ≡ Some v) (sym is) e) gives.frames
+limits_value given limits gives name v (suc (suc k), within, is) e = absurd (omega (arith, within))
+
+pub lanes_line : (words : List Text) (command : Text) (given : List Given) (limits : Limits) → words ≡ command ∷ flat_map words_of given → AreNew lane_options [] given → GivesLimits (λ name. value_of name given) limits → ServeLanes words command limits
+lanes_line words command given limits are new gives = (given, is_line words (command, lane_options) given are new (limits_value given limits gives), gives)
+
+-- texts that are the same give the same limits
+same_gives : (given other : Text → Option Text) (limits : Limits) → ((name : Text) → given name ≡ other name) → GivesLimits given limits → GivesLimits other limits
+same_gives given other limits same gives = record {
+  connections = subst (λ o. AreConnections o limits.connections) (same (codes "connections")) gives.connections;
+  frames = subst (λ o. AreFrames o limits.frames) (same (codes "frames")) gives.frames;
+}
+
+-- what lanes are limited to is told by what is found
+pub lanes_limits : (words : List Text) (command : Text) (given : List Given) (limits : Limits) → Contains commands (command, lane_options) → IsFound words command given → ServeLanes words command limits → GivesLimits (λ name. value_of name given) limits
+lanes_limits words command given limits there f is =
+    same_gives (λ name. value_of name is.0) (λ name. value_of name given) limits (same_values words command command is.0 given (found_line words (command, lane_options) is.0 there is.1) f) is.2
+
 -- ---- one meaning
 
 same_frames : (o : Option Text) (m n : ℕ) → AreFrames o m → AreFrames o n → m ≡ n
@@ -139,6 +170,20 @@ same_frames (Some v) m n a b = decimal_injective m n a.2 b.2 (sym a.0 ∙ b.0)
 same_serving : (words : List Text) (command : Text) (m n : ℕ) → Contains commands (command, serving_options) → ServeFrames words command m → ServeFrames words command n → m ≡ n
 same_serving words command m n there x y =
     same_frames (value_of (codes "frames") x.0) m n x.2 (served_frames words command x.0 n there (found_line words (command, serving_options) x.0 there x.1) y)
+
+same_connections : (o : Option Text) (m n : ℕ) → AreConnections o m → AreConnections o n → m ≡ n
+same_connections None m n a b = a ∙ sym b
+same_connections (Some v) m n a b = decimal_injective m n a.2 b.2 (sym a.0 ∙ b.0)
+
+same_limits : (text_of : Text → Option Text) (m n : Limits) → GivesLimits text_of m → GivesLimits text_of n → m ≡ n
+same_limits text_of m n a b = by (same_connections (text_of (codes "connections")) m.connections n.connections a.connections b.connections) (same_frames (text_of (codes "frames")) m.frames n.frames a.frames b.frames)
+  where
+    by : m.connections ≡ n.connections → m.frames ≡ n.frames → m ≡ n
+    by connections frames = λ i. record { connections = connections i; frames = frames i }
+
+same_lanes : (words : List Text) (command : Text) (m n : Limits) → Contains commands (command, lane_options) → ServeLanes words command m → ServeLanes words command n → m ≡ n
+same_lanes words command m n there x y =
+    same_limits (λ name. value_of name x.0) m n x.2 (lanes_limits words command x.0 n there (found_line words (command, lane_options) x.0 there x.1) y)
 
 cross : (words : List Text) (a b : Task) → TextsMean words a → TextsMean words b → bytes_eq (command_of a) (command_of b) ≡ false → a ≡ b
 cross words a b x y apart = absurd (other_command words (command_of a) (command_of b) apart (meant_found words a x) (meant_found words b y))
@@ -180,6 +225,15 @@ one_meaning words Check (Relay n) x y = cross words Check (Relay n) x y refl
 one_meaning words (Relay m) (Run n) x y = cross words (Relay m) (Run n) x y refl
 one_meaning words (Relay m) Check x y = cross words (Relay m) Check x y refl
 one_meaning words (Relay m) (Relay n) x y = ap (λ k. Relay k) (same_serving words (codes "relay") m n relay_there x y)
+one_meaning words (Serve m) (Serve n) x y = ap (λ k. Serve k) (same_lanes words (codes "serve") m n serve_there x y)
+one_meaning words (Serve m) (Run n) x y = cross words (Serve m) (Run n) x y refl
+one_meaning words (Serve m) Check x y = cross words (Serve m) Check x y refl
+one_meaning words (Serve m) (Relay n) x y = cross words (Serve m) (Relay n) x y refl
+one_meaning words (Serve m) (Mint n) x y = cross words (Serve m) (Mint n) x y refl
+one_meaning words (Run m) (Serve n) x y = cross words (Run m) (Serve n) x y refl
+one_meaning words Check (Serve n) x y = cross words Check (Serve n) x y refl
+one_meaning words (Relay m) (Serve n) x y = cross words (Relay m) (Serve n) x y refl
+one_meaning words (Mint m) (Serve n) x y = cross words (Mint m) (Serve n) x y refl
 
 -- ---- what is read
 

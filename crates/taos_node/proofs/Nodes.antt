@@ -1,6 +1,7 @@
 -- What an opening opens.
 use Rattle.std.proofs.Common.{◌≡◌, ℕ, zero, suc, ◌+◌, ◌<◌, Bool, true, false, List, [], ◌∷◌, ◌++◌, length, map, take, get_or, None, Some, slice_get, refl, sym, ap, ap₂, subst, ◌∙◌, arith, inl, inr}
-use Rattle.std.specs.Prelude.{AllPairs, Contains, Option, cond, ◌==◌, ◌≢◌}
+use Rattle.std.specs.Prelude.{All, AllPairs, Contains, Option, cond, ◌==◌, ◌≢◌}
+use Rattle.std.proofs.lemmas.List.Elements.{All-cons, All-nil}
 use Rattle.std.specs.List.Sorted.{IsStrictlyIncreasing}
 use Rattle.std.proofs.Math.Path.{fun_ext}
 use Rattle.std.proofs.lemmas.List.{get_or-map, length-map, map_push, take_more}
@@ -23,6 +24,7 @@ use Rattle.node_file.proofs.Listed.{same_node}
 use Rattle.agent_core.specs.Alone.{LoneSeen, plans_in, seen_in, own_in}
 use Rattle.agent_core.specs.Journals.{Entry, ShardSeen}
 use Rattle.agent_core.specs.Opened.{MayOpen, new_shard}
+use Rattle.agent_core.specs.Plans.{AreShards}
 use Rattle.agent_core.specs.State.{Plan}
 use Rattle.agent_core.proofs.AllShards.{each_channel_at_home}
 use Rattle.taos_monitor.specs.declared.node_keys.NodeKeys.{NodeKeys}
@@ -30,7 +32,8 @@ use Rattle.taos_monitor.specs.Arriving.{node_of}
 use Rattle.taos_monitor.specs.Cells.{Viewed, viewed, seen_of}
 use Rattle.taos_monitor.specs.Planned.{ArePlanned}
 use Rattle.taos_monitor.proofs.Keyed.{key_listed}
-use Rattle.taos_node.specs.Opened.{AllFit, IsNodeOf, its_plans, nothing_seen, numbers_of, fixed_with, new_object}
+use Rattle.taos_node.specs.declared.opened.NodeParts.{NodeParts}
+use Rattle.taos_node.specs.Opened.{AllFit, AreNew, IsNodeOf, its_plans, nothing_seen, numbers_of, fixed_with, new_object}
 
 -- ---- objects
 
@@ -159,3 +162,23 @@ is_node_of node o keys shards shelf r sound number relay_key channels objects ar
       objects = λ n. ap (λ (l : List ObjectSeen). fixed_at (map fixed_of l) n) objects ∙ fixed_new node.limit node.objects n ∙ ap₂ (λ (l : ℕ) (p : Option ObjectPlan). option_map (fixed_with l) p) r.limit ((same_node node o r).objects n);
       plans = ap plans_in are ∙ plans_new (its_plans (opening node) node.channels.entries) ∙ same_plans (opening node) o node.channels.entries r.shards r.anchors r.commons r.keep r.limit ∙ ap (its_plans o) (sym entries);
     }
+
+-- new shards and objects have no entries
+shards_without : (plans : List Plan) → All (λ (s : ShardSeen). s.journal ≡ []) (map new_shard plans)
+shards_without [] = All-nil _
+shards_without (p ∷ plans) = All-cons (λ (s : ShardSeen). s.journal ≡ []) (new_shard p) (map new_shard plans) refl (shards_without plans)
+
+objects_without : (limit : ℕ) (plans : List ObjectPlan) → All (λ (o : ObjectSeen). o.journal ≡ []) (map (new_object limit) plans)
+objects_without limit [] = All-nil _
+objects_without limit (p ∷ plans) = All-cons (λ (o : ObjectSeen). o.journal ≡ []) (new_object limit p) (map (new_object limit) plans) refl (objects_without limit plans)
+
+-- parts of an opening are new
+pub all_new : (parts : NodeParts) (node : code.Opening) (limit : ℕ) (objects : List ObjectPlan) → parts.keys.channels ≡ node.channels → parts.shards.items ≡ map new_shard (its_plans (opening node) node.channels.entries) →
+    parts.objects.items ≡ map (new_object limit) objects → AreShards (plans_in parts.shards.items) parts.anchors.value.items → HaveOwnNumbers (map fixed_of parts.objects.items) → AreNew parts
+all_new parts node limit objects same are these whole apart = record {
+  shards = whole;
+  shards_new = subst (λ (l : List ShardSeen). All (λ (s : ShardSeen). s.journal ≡ []) l) (sym are) (shards_without (its_plans (opening node) node.channels.entries));
+  objects = apart;
+  objects_new = subst (λ (l : List ObjectSeen). All (λ (o : ObjectSeen). o.journal ≡ []) l) (sym these) (objects_without limit objects);
+  planned = subst (λ (k : Keys). ArePlanned k.entries (plans_in parts.shards.items)) (sym same) (all_planned (opening node) node.channels.entries parts.shards.items are);
+}

@@ -14,10 +14,10 @@ use Rattle.taos_node.specs.declared.ending.FileFault.{FileFault}
 use Rattle.taos_node.specs.declared.ending.FileFault.TheVariants as fault
 use Rattle.taos_node.specs.declared.ending.FileFault.TheVariants.{Malformed, Refused}
 use Rattle.taos_node.specs.declared.finding.Finding.TheVariants.{Granted, Refused as Wrong}
-use Rattle.taos_node.specs.Words.{IsMeaning, Mean, MintWords, Task, Run, Check, Relay, Mint, task_of}
+use Rattle.taos_node.specs.Words.{IsMeaning, Mean, MintWords, Task, Run, Check, Relay, Mint, Serve, task_of}
 use Rattle.taos_node.specs.declared.wanted.Wanted.{Wanted}
 use Rattle.taos_node.specs.Files.{FaultHasCause, FileDecides, FileFails, IsNodeFile, IsRelayFile, Meaning, OpensNode, OpensRelay, node_means, relay_means}
-use Rattle.taos_node.specs.Command.{IsCommand, FileDecidesFor, FileFailsFor, Touched, EndsWell, ChecksWell, MintsWell, IsCaused, TellsFaults, IsStatus, counts_of}
+use Rattle.taos_node.specs.Command.{IsCommand, IsServe, FileDecidesFor, FileFailsFor, Touched, EndsWell, ChecksWell, MintsWell, IsCaused, TellsFaults, IsStatus, counts_of}
 use Rattle.taos_node.specs.Ending.{file_status, served_status, checked_status}
 use Rattle.taos_node.specs.Findings.{CheckCauses}
 use Rattle.taos_node.specs.Minting.{MintCauses, minted_status}
@@ -27,13 +27,23 @@ use Rattle.std.specs.Prelude.{Option, Some, None, map, string_bytes}
 use Rattle.taos_node.proofs.Meanings.{one_meaning}
 use Rattle.taos_node.proofs.Commands.{IsMeantBy, decided_opened, decided_fault, node_files, not_refused, relay_files, still}
 
-stayed : {P : Type 0} (a b : ℕ) → b ≡ a → a < b → P
+pub stayed : {P : Type 0} (a b : ℕ) → b ≡ a → a < b → P
 stayed a b same rose = absurd (omega (arith, same, rose))
+
+-- each fault is answered, by its status
+record AllTold (before after : Touched) (status : ℕ) : Type 0 where
+  pub file : before.file.faults < after.file.faults → status ≡ 3
+  pub input : before.input.faults < after.input.faults → status ≡ 3
+  pub output : before.output.faults < after.output.faults → status ≡ 4
+  pub clock : before.clock.faults < after.clock.faults → status ≡ 5
+
+streams_told : (before after : Touched) (status : ℕ) → AllTold before after status → TellsFaults before after status
+streams_told before after status t = record { file = t.file; input = t.input; output = t.output }
 
 -- ---- words
 
 -- what holds of the command that words mean holds of every command that they mean
-of_command : (P : Task → Type 0) (words : List (String Global)) (a b : Task) → Mean words a → Mean words b → P a → P b
+pub of_command : (P : Task → Type 0) (words : List (String Global)) (a b : Task) → Mean words a → Mean words b → P a → P b
 of_command P words a b is other h = subst P (one_meaning (map string_bytes words) a b is other) h
 
 -- the most frames of a command that serves
@@ -42,9 +52,10 @@ frames_in (Run frames) = frames
 frames_in Check = 0
 frames_in (Relay frames) = frames
 frames_in (Mint m) = 0
+frames_in (Serve limits) = 0
 
 -- no words are two commands
-two_commands : {P : Type 0} (words : List (String Global)) (a b : Task) → Mean words a → Mean words b → (a ≡ b → ⊥) → P
+pub two_commands : {P : Type 0} (words : List (String Global)) (a b : Task) → Mean words a → Mean words b → (a ≡ b → ⊥) → P
 two_commands words a b is other apart = absurd (apart (one_meaning (map string_bytes words) a b is other))
 
 -- what was found is what the words mean
@@ -63,6 +74,7 @@ unread_decides (Run n) t = lacks_decides IsNodeFile t
 unread_decides Check t = lacks_decides IsNodeFile t
 unread_decides (Relay n) t = lacks_decides IsRelayFile t
 unread_decides (Mint m) t = lacks_decides IsRelayFile t
+unread_decides (Serve l) t = lacks_decides IsNodeFile t
 
 -- memory was refused before the words were read, and nothing was touched
 pub unread : (words : List (String Global)) (t : Touched) → IsStatus words t t 6
@@ -78,8 +90,8 @@ unread words t = record {
     file = stayed t.file.faults t.file.faults refl;
     input = stayed t.input.faults t.input.faults refl;
     output = stayed t.output.faults t.output.faults refl;
-    clock = stayed t.clock.faults t.clock.faults refl;
   };
+  clock = λ _. stayed t.clock.faults t.clock.faults refl;
 }
 
 -- words that are no command, where nothing was touched
@@ -96,8 +108,8 @@ unused words t none = record {
     file = stayed t.file.faults t.file.faults refl;
     input = stayed t.input.faults t.input.faults refl;
     output = stayed t.output.faults t.output.faults refl;
-    clock = stayed t.clock.faults t.clock.faults refl;
   };
+  clock = λ _. stayed t.clock.faults t.clock.faults refl;
 }
 
 -- ---- a file that is not served
@@ -133,8 +145,9 @@ module _ (before after : Touched) where
   decides_unserved Check f bad why = decided_fault IsNodeFile node_means node_files before.file after.file f bad why
   decides_unserved (Relay n) f bad why = decided_fault IsRelayFile relay_means relay_files before.file after.file f bad why
   decides_unserved (Mint m) f bad why = decided_fault IsRelayFile relay_means relay_files before.file after.file f bad why
+  decides_unserved (Serve l) f bad why = decided_fault IsNodeFile node_means node_files before.file after.file f bad why
 
-  not_caused : (status : ℕ) → status ≢ 3 → status ≢ 4 → status ≢ 5 → IsCaused before after status
+  pub not_caused : (status : ℕ) → status ≢ 3 → status ≢ 4 → status ≢ 5 → IsCaused before after status
   not_caused status r w c = record { read = λ e. absurd (r e); write = λ e. absurd (w e); clock = λ e. absurd (c e) }
 
   file_caused : (f : FileFault) → FaultHasCause before.file after.file f → IsCaused before after (file_status f)
@@ -176,8 +189,8 @@ module _ (words : List (String Global)) (before after : Touched) (wanted : Task)
       file = file_told before after f cause;
       input = stayed before.input.faults after.input.faults input;
       output = stayed before.output.faults after.output.faults output;
-      clock = stayed before.clock.faults after.clock.faults clock;
     };
+    clock = λ _. stayed before.clock.faults after.clock.faults clock;
   }
 
 -- ---- a connection that was served
@@ -211,7 +224,7 @@ module _ (before after : Touched) where
   serving_caused NoMemory h = not_caused before after 6 (λ e. omega (arith, e)) (λ e. omega (arith, e)) (λ e. omega (arith, e))
 
   all_still : (status : ℕ) → after.file.faults ≡ before.file.faults → after.input.faults ≡ before.input.faults → after.output.faults ≡ before.output.faults → after.clock.faults ≡ before.clock.faults →
-      TellsFaults before after status
+      AllTold before after status
   all_still status f i o c = record {
     file = stayed before.file.faults after.file.faults f;
     input = stayed before.input.faults after.input.faults i;
@@ -219,11 +232,11 @@ module _ (before after : Touched) where
     clock = stayed before.clock.faults after.clock.faults c;
   }
 
-  none_rose : (status : ℕ) → after.file.faults ≡ before.file.faults → counts_of after ≡ counts_of before → TellsFaults before after status
+  none_rose : (status : ℕ) → after.file.faults ≡ before.file.faults → counts_of after ≡ counts_of before → AllTold before after status
   none_rose status file h =
       all_still status file (ap (λ (f : FaultCounts). f.input) h) (ap (λ (f : FaultCounts). f.output) h) (ap (λ (f : FaultCounts). f.clock) h)
 
-  serving_told : (outcome : Outcome) → after.file.faults ≡ before.file.faults → Causes outcome → TellsFaults before after (served_status outcome)
+  serving_told : (outcome : Outcome) → after.file.faults ≡ before.file.faults → Causes outcome → AllTold before after (served_status outcome)
   serving_told ReadFault same h = record {
     file = stayed before.file.faults after.file.faults same;
     input = λ _. refl;
@@ -292,7 +305,8 @@ module _ (words : List (String Global)) (frames : ℕ) (before after : Touched) 
     relays_well = λ most is. two_commands words (Run frames) (Relay most) run is (λ e. cc e);
     mints_well = λ m is. two_commands words (Run frames) (Mint m) run is (λ e. cc e);
     causes = serving_caused before after outcome h;
-    told = serving_told before after outcome same h;
+    told = streams_told before after (served_status outcome) (serving_told before after outcome same h);
+    clock = λ _. (serving_told before after outcome same h).clock;
   }
     where
       complete_for : (most : ℕ) → Mean words (Run most) → IsComplete frames before.input.told (counts_of before) (counts_of after) outcome → IsComplete most before.input.told (counts_of before) (counts_of after) outcome
@@ -313,7 +327,8 @@ module _ (words : List (String Global)) (frames : ℕ) (before after : Touched) 
         mints_well = λ m is. two_commands words (Relay frames) (Mint m) relay is (λ e. cc e);
         relays_well = λ most is. ends_well before after IsRelayFile most 0 0 outcome (complete_for most is complete) (refl, omega arith);
         causes = serving_caused before after outcome causes;
-        told = serving_told before after outcome same causes;
+        told = streams_told before after (served_status outcome) (serving_told before after outcome same causes);
+        clock = λ _. (serving_told before after outcome same causes).clock;
       }
     where
       complete_for : (most : ℕ) → Mean words (Relay most) → IsComplete frames before.input.told (counts before.input.faults before.output.faults 0) (counts after.input.faults after.output.faults 0) outcome →
@@ -332,7 +347,7 @@ module _ (before after : Touched) where
   check_caused ends.NoMemory h = not_caused before after 6 (λ e. omega (arith, e)) (λ e. omega (arith, e)) (λ e. omega (arith, e))
 
   check_told : (end : CheckEnd) → after.file.faults ≡ before.file.faults → after.clock.faults ≡ before.clock.faults →
-      CheckCauses before.input.faults after.input.faults before.output.faults after.output.faults end → TellsFaults before after (checked_status end)
+      CheckCauses before.input.faults after.input.faults before.output.faults after.output.faults end → AllTold before after (checked_status end)
   check_told (ends.Done finding) same clock h = all_still before after (checked_status (ends.Done finding)) same h.0 h.1 clock
   check_told ends.ReadFault same clock h = record {
     file = stayed before.file.faults after.file.faults same;
@@ -381,7 +396,8 @@ checked words before after o end check opens same clock h = record {
   relays_well = λ frames relay. two_commands words Check (Relay frames) check relay (λ e. cc e);
   mints_well = λ m is. two_commands words Check (Mint m) check is (λ e. cc e);
   causes = check_caused before after end h;
-  told = check_told before after end same clock h;
+  told = streams_told before after (checked_status end) (check_told before after end same clock h);
+  clock = λ _. (check_told before after end same clock h).clock;
 }
 
 -- ---- a certificate that was made, or refused
@@ -394,7 +410,7 @@ module _ (before after : Touched) where
   mint_caused made.NoMemory h = not_caused before after 6 (λ e. omega (arith, e)) (λ e. omega (arith, e)) (λ e. omega (arith, e))
 
   mint_told : (end : MintEnd) → after.file.faults ≡ before.file.faults → after.input.faults ≡ before.input.faults → after.clock.faults ≡ before.clock.faults →
-      MintCauses before.output.faults after.output.faults end → TellsFaults before after (minted_status end)
+      MintCauses before.output.faults after.output.faults end → AllTold before after (minted_status end)
   mint_told made.Done same input clock h = all_still before after 0 same input h clock
   mint_told (made.Refused w) same input clock h = all_still before after 12 same input h clock
   mint_told made.WriteFault same input clock h = record {
@@ -435,5 +451,6 @@ minted words m before after r end mint opens same input clock h = record {
   relays_well = λ frames relay. two_commands words (Mint m) (Relay frames) mint relay (λ e. cc e);
   mints_well = λ other is. mint_well before after end h;
   causes = mint_caused before after end h;
-  told = mint_told before after end same input clock h;
+  told = streams_told before after (minted_status end) (mint_told before after end same input clock h);
+  clock = λ _. (mint_told before after end same input clock h).clock;
 }

@@ -1,5 +1,6 @@
 -- The top call: the words, the file, and then the work.
-use Rattle.std.specs.Prelude.{◌≡◌, ◌⊎◌, ℕ, true, ◌<◌, ◌≤◌, List, [], ◌∷◌, length, All, Option, Some, None, String}
+use Rattle.std.specs.Prelude.{◌≡◌, ◌≢◌, ◌⊎◌, ℕ, true, ◌<◌, ◌≤◌, ◌-◌, ◌^◌, List, [], ◌∷◌, drop, length, All, Option, Some, None, String}
+use Rattle.std.specs.List.{AllZip}
 use Rattle.std.specs.Io.KnownBytes.{Keeps}
 use Rattle.std.specs.declared.alloc.Global.{Global}
 use Rattle.frame_link.specs.declared.outcome.Outcome.{Outcome}
@@ -9,13 +10,16 @@ use Rattle.frame_link.specs.Streams.{Stream, stream}
 use Rattle.taos_node.specs.declared.ending.FileFault.{FileFault}
 use Rattle.taos_node.specs.declared.ending.Ending.{Ending}
 use Rattle.taos_node.specs.declared.ending.Ending.TheVariants as ending
-use Rattle.taos_node.specs.declared.ending.Ending.TheVariants.{Usage, File, Served, Checked, Relayed, Minted}
+use Rattle.taos_node.specs.declared.ending.Ending.TheVariants.{Usage, File, Served, Checked, Relayed, Minted, Lanes}
 use Rattle.taos_node.specs.Files.{IsNodeFile, IsRelayFile, OpensNode, OpensRelay, FileFails, FileDecides, HasFailed, IsSteady, node_means, relay_means}
-use Rattle.taos_node.specs.Words.{Mean, MintWords, Task, Run, Check, Relay, Mint}
+use Rattle.taos_node.specs.Words.{Mean, MintWords, Task, Run, Check, Relay, Mint, Serve}
 use Rattle.taos_node.specs.declared.check.CheckEnd.{CheckEnd}
 use Rattle.taos_node.specs.Ending.{status_of}
 use Rattle.taos_node.specs.Notes.{note_of, IsNoted}
-use Rattle.taos_node.specs.declared.command.Lane.{Lane}
+use Rattle.taos_lanes.specs.declared.lane.Lane.{Lane}
+use Rattle.taos_lanes.specs.declared.lane.Limits.{Limits}
+use Rattle.taos_lanes.specs.Stocked.{LaneShown}
+use Rattle.taos_node.specs.Lanes.{ServesLanes}
 use Rattle.node_file.specs.Opening.{Opening}
 use Rattle.node_file.specs.Held.{HoldsKeys}
 use Rattle.node_file.specs.RelayFile.{RelayFile}
@@ -35,6 +39,10 @@ use Rattle.taos_node.specs.Findings.{Checks}
 -- the words are a command line
 abbrev pub IsCommand : List (String Global) → Type 0
 IsCommand words = (task : Task) × Mean words task
+
+-- the words are the command that serves lanes
+abbrev pub IsServe : List (String Global) → Type 0
+IsServe words = (limits : Limits) × Mean words (Serve limits)
 
 -- ---- what a call touches
 
@@ -145,38 +153,53 @@ FileFailsFor (Run frames) = FileFails node_means
 FileFailsFor Check = FileFails node_means
 FileFailsFor (Relay frames) = FileFails relay_means
 FileFailsFor (Mint m) = FileFails relay_means
+FileFailsFor (Serve limits) = FileFails node_means
 
--- What is done, by how it ends. Other words do nothing, nor is anything done where memory is refused
--- before the words are read. A file that is refused, or fails, and one for which memory is refused,
--- leaves the rest untouched; every other opens a node that serves the connection, or by which a
--- request and its reply are looked over, or a relay that serves it, or by which a certificate is
--- made.
-abbrev pub Runs : List (String Global) → Touched → Touched → Ending → Type 0
-Runs words before after Usage =
+-- What is done where no lanes are served, by how it ends. Other words do nothing, nor is anything
+-- done where memory is refused before the words are read. A file that is refused, or fails, and one
+-- for which memory is refused, leaves the rest untouched; every other opens a node that serves the
+-- connection, or by which a request and its reply are looked over, or a relay that serves it, or by
+-- which a certificate is made.
+abbrev pub RunsAlone : List (String Global) → Touched → Touched → Ending → Type 0
+RunsAlone words before after Usage =
     (IsCommand words → ⊥) × Keeps before.file.told after.file.told × LeavesRest before after
-Runs words before after ending.NoMemory =
+RunsAlone words before after ending.NoMemory =
     Keeps before.file.told after.file.told × LeavesRest before after
-Runs words before after (File fault) =
+RunsAlone words before after (File fault) =
     ((task : Task) × Mean words task × FileFailsFor task before.file after.file fault)
     × LeavesRest before after
-Runs words before after (Served outcome) =
+RunsAlone words before after (Served outcome) =
     (frames : ℕ) × Mean words (Run frames) ×
     ((o : Opening) × OpensNode before.file after.file o × ServesConnection o frames before after outcome)
-Runs words before after (Checked end) = Mean words Check × LooksOver before after end
-Runs words before after (Relayed outcome) =
+RunsAlone words before after (Checked end) = Mean words Check × LooksOver before after end
+RunsAlone words before after (Relayed outcome) =
     (frames : ℕ) × Mean words (Relay frames) ×
     ((r : RelayFile) × OpensRelay before.file after.file r × ServesRelay r frames before after outcome)
-Runs words before after (Minted end) =
+RunsAlone words before after (Minted end) =
     (m : MintWords) × Mean words (Mint m) ×
     ((r : RelayFile) × OpensRelay before.file after.file r × MintsBy r m before after end)
+RunsAlone words before after (Lanes end) = ⊥
 
--- How it ended, with what was done: the status and the note tell that ending.
-pub record Ends (words : List (String Global)) (before after : Touched) (notes0 notes1 : Stream)
-    (status : ℕ) : Type 0 where
-  pub ending : Ending
-  pub runs : Runs words before after ending
-  pub tells : status ≡ status_of ending
-  pub noted : IsNoted notes0.told notes1.told notes0.faults notes1.faults (note_of ending)
+module _ {In Out : Type 0} (left : In → Option (List ℕ)) (written : Out → Option (List ℕ)) where
+  -- What is done, by how it ends: the lanes of a node of the file's opening serve their doors, and the
+  -- line of what they counted is written; every other ending touches no other lane than the first.
+  abbrev pub Runs : List (String Global) → (before after : Touched) →
+      (lanes0 lanes1 : List (LaneShown (In × Out))) → Ending → Type 0
+  Runs words before after lanes0 lanes1 (Lanes end) =
+      Keeps before.input.told after.input.told × ((limits : Limits) × Mean words (Serve limits)
+      × ((o : Opening) × OpensNode before.file after.file o
+      × ServesLanes left written o limits lanes0 lanes1 before.output.told after.output.told end))
+  Runs words before after lanes0 lanes1 other =
+      RunsAlone words before after other × (drop 1 lanes1 ≡ drop 1 lanes0)
+
+  -- How it ended, with what was done: the status and the note tell that ending.
+  pub record Ends (words : List (String Global)) (before after : Touched)
+      (lanes0 lanes1 : List (LaneShown (In × Out))) (notes0 notes1 : Stream) (status : ℕ) :
+      Type 0 where
+    pub ending : Ending
+    pub runs : Runs words before after lanes0 lanes1 ending
+    pub tells : status ≡ status_of ending
+    pub noted : IsNoted notes0.told notes1.told notes0.faults notes1.faults (note_of ending)
 
 -- ---- what the status tells
 
@@ -186,6 +209,7 @@ FileDecidesFor (Run frames) = FileDecides IsNodeFile
 FileDecidesFor Check = FileDecides IsNodeFile
 FileDecidesFor (Relay frames) = FileDecides IsRelayFile
 FileDecidesFor (Mint m) = FileDecides IsRelayFile
+FileDecidesFor (Serve limits) = FileDecides IsNodeFile
 
 -- An input of whole frames is answered to its end: where the file means something, the frames are
 -- not more than may be answered, and nothing fails, the status is 0, or 6 where memory was refused.
@@ -224,7 +248,6 @@ pub record TellsFaults (before after : Touched) (status : ℕ) : Type 0 where
   pub file : before.file.faults < after.file.faults → status ≡ 3
   pub input : before.input.faults < after.input.faults → status ≡ 3
   pub output : before.output.faults < after.output.faults → status ≡ 4
-  pub clock : before.clock.faults < after.clock.faults → status ≡ 5
 
 -- the words decide status 1, but where memory was refused
 pub record WordsDecide (words : List (String Global)) (status : ℕ) : Type 0 where
@@ -246,3 +269,35 @@ pub record IsStatus (words : List (String Global)) (before after : Touched)
   pub mints_well : (m : MintWords) → Mean words (Mint m) → MintsWell before after status
   pub causes : IsCaused before after status
   pub told : TellsFaults before after status
+  -- by a command that serves lanes a reading that fails ends its connection alone
+  pub clock : (IsServe words → ⊥) → before.clock.faults < after.clock.faults → status ≡ 5
+
+module _ {X : Type 0} where
+  -- the door's count stayed
+  abbrev pub HasSameCount : (before after : LaneShown X) → Type 0
+  HasSameCount before after = after.door.faults ≡ before.door.faults
+
+  -- and does not stand at the largest u64
+  abbrev pub HasSteadyDoor : (before after : LaneShown X) → Type 0
+  HasSteadyDoor before after =
+      HasSameCount before after × (before.door.faults < 2 ^ 64 - 1)
+
+  -- What the status tells of the lanes' doors: 9 is answered by the command that serves lanes, where
+  -- a door failed, and always where a door's count rose; where nothing fails the status is 0, or 6
+  -- where memory was refused.
+  pub record TellsDoors (words : List (String Global)) (before after : Touched)
+      (lanes0 lanes1 : List (LaneShown X)) (status : ℕ) : Type 0 where
+    pub caused : status ≡ 9 → IsServe words × (AllZip HasSteadyDoor lanes0 lanes1 → ⊥)
+    pub told : IsServe words → status ≢ 9 → AllZip HasSameCount lanes0 lanes1
+    pub well : IsServe words → (bytes : List ℕ) (o : Opening) → before.file.told ≡ Some bytes →
+        IsNodeFile o bytes → IsSteady before.file after.file →
+        IsSteady before.output after.output → AllZip HasSteadyDoor lanes0 lanes1 →
+        (status ≡ 0) ⊎ (status ≡ 6)
+
+-- what a run does and tells, by how it ends
+pub record Does {In Out : Type 0} (left : In → Option (List ℕ)) (written : Out → Option (List ℕ))
+    (words : List (String Global)) (before after : Touched)
+    (lanes0 lanes1 : List (LaneShown (In × Out))) (ending : Ending) : Type 0 where
+  pub runs : Runs left written words before after lanes0 lanes1 ending
+  pub status : IsStatus words before after (status_of ending)
+  pub doors : TellsDoors words before after lanes0 lanes1 (status_of ending)

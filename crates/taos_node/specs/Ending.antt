@@ -7,7 +7,9 @@ use Rattle.taos_node.specs.declared.ending.FileFault.TheVariants as fault
 use Rattle.taos_node.specs.declared.ending.FileFault.TheVariants.{Malformed, Refused}
 use Rattle.taos_node.specs.declared.ending.Ending.{Ending}
 use Rattle.taos_node.specs.declared.ending.Ending.TheVariants as ending
-use Rattle.taos_node.specs.declared.ending.Ending.TheVariants.{Usage, File, Served, Checked, Relayed, Minted}
+use Rattle.taos_node.specs.declared.ending.Ending.TheVariants.{Usage, File, Served, Checked, Relayed, Minted, Lanes}
+use Rattle.taos_node.specs.declared.ending.LanesEnd.{LanesEnd}
+use Rattle.taos_node.specs.declared.ending.LanesEnd.TheVariants as lanes
 use Rattle.taos_node.specs.declared.check.CheckEnd.{CheckEnd}
 use Rattle.taos_node.specs.declared.check.CheckEnd.TheVariants as ends
 use Rattle.taos_node.specs.Findings.{finding_status}
@@ -38,6 +40,13 @@ checked_status ends.ReadFault = 3
 checked_status ends.WriteFault = 4
 checked_status ends.NoMemory = 6
 
+-- the exit status where the lanes of a node served their doors
+abbrev pub lanes_status : LanesEnd → ℕ
+lanes_status lanes.Done = 0
+lanes_status (lanes.DoorFault lane) = 9
+lanes_status lanes.WriteFault = 4
+lanes_status lanes.NoMemory = 6
+
 -- the exit status of an ending
 abbrev pub status_of : Ending → ℕ
 status_of Usage = 1
@@ -47,3 +56,4 @@ status_of (Served outcome) = served_status outcome
 status_of (Checked end) = checked_status end
 status_of (Relayed outcome) = served_status outcome
 status_of (Minted end) = minted_status end
+status_of (Lanes end) = lanes_status end

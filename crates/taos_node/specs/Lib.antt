@@ -5,6 +5,8 @@ pub mod Words
 pub mod Table
 pub mod Files
 pub mod Minting
+pub mod Summary
+pub mod Lanes
 pub mod Command
 pub mod Checking
 pub mod Findings

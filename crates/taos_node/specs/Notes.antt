@@ -11,7 +11,9 @@ use Rattle.taos_node.specs.declared.ending.FileFault.TheVariants as fault
 use Rattle.taos_node.specs.declared.ending.FileFault.TheVariants.{Malformed, Refused}
 use Rattle.taos_node.specs.declared.ending.Ending.{Ending}
 use Rattle.taos_node.specs.declared.ending.Ending.TheVariants as ending
-use Rattle.taos_node.specs.declared.ending.Ending.TheVariants.{Usage, File, Served, Checked, Relayed, Minted}
+use Rattle.taos_node.specs.declared.ending.Ending.TheVariants.{Usage, File, Served, Checked, Relayed, Minted, Lanes}
+use Rattle.taos_node.specs.declared.ending.LanesEnd.{LanesEnd}
+use Rattle.taos_node.specs.declared.ending.LanesEnd.TheVariants as lanes
 use Rattle.taos_node.specs.Minting.{minted_note}
 use Rattle.taos_node.specs.declared.check.CheckEnd.{CheckEnd}
 use Rattle.taos_node.specs.declared.check.CheckEnd.TheVariants as ends
@@ -62,6 +64,13 @@ checked_note ends.ReadFault = codes "taos: read fault\n"
 checked_note ends.WriteFault = codes "taos: write fault\n"
 checked_note ends.NoMemory = codes "taos: no memory\n"
 
+-- the note where the lanes of a node served their doors
+abbrev pub lanes_note : LanesEnd → List ℕ
+lanes_note lanes.Done = []
+lanes_note (lanes.DoorFault lane) = codes "taos: door fault at lane " ++ decimal lane ++ codes "\n"
+lanes_note lanes.WriteFault = codes "taos: write fault\n"
+lanes_note lanes.NoMemory = codes "taos: no memory\n"
+
 -- the bytes of the note of an ending
 abbrev pub note_of : Ending → List ℕ
 note_of Usage = codes "taos: usage\n"
@@ -71,6 +80,7 @@ note_of (Served outcome) = served_note outcome
 note_of (Checked end) = checked_note end
 note_of (Relayed outcome) = served_note outcome
 note_of (Minted end) = minted_note end
+note_of (Lanes end) = lanes_note end
 
 -- the note was written, or a proper front of it where the notes failed; what was told of the notes,
 -- and how often they had failed, before and after

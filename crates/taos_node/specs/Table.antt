@@ -1,7 +1,8 @@
 -- The commands and their options, as `clap` sees them.
 use Rattle.std.specs.Prelude.{◌≡◌, ◌≢◌, ℕ, List, [], ◌∷◌, ◌++◌, map, fold, Contains, codes, true, false, Option, Some, None}
+use Rattle.taos_lanes.specs.declared.lane.Limits.{Limits}
 use Rattle.taos_node.specs.declared.wanted.Wanted.{Wanted}
-use Rattle.taos_node.specs.Words.{AreFrames, GivesMint, HasNumber, IsValue, MintWords, Mint, Task, mint_options, serving_options, task_of}
+use Rattle.taos_node.specs.Words.{AreConnections, AreFrames, GivesLimits, GivesMint, HasNumber, IsValue, MintWords, Mint, Task, lane_options, mint_options, serving_options, task_of}
 use Rattle.clap.specs.Words.{App, Rule, Text, app_of, new_app, new_rule, with_subcommand}
 use Rattle.clap.specs.declared.builder.command.Command.TheViews.{out-Command}
 use Rattle.clap.specs.Simple.{on_top}
@@ -32,7 +33,7 @@ base_app =
 abbrev pub commands : List (Text × List Text)
 commands =
     (codes "run", serving_options) ∷ (codes "check", []) ∷ (codes "relay", serving_options)
-    ∷ (codes "mint", mint_options) ∷ []
+    ∷ (codes "mint", mint_options) ∷ (codes "serve", lane_options) ∷ []
 
 -- all commands
 abbrev pub taos_app : App
@@ -51,7 +52,7 @@ IsPlainWord (x ∷ xs) = x ≢ 45
 
 -- all options of the table
 abbrev pub all_options : List Text
-all_options = codes "frames" ∷ mint_options
+all_options = codes "connections" ∷ codes "frames" ∷ mint_options
 
 -- the word is the option of this name, in either way: `--name`, or `--name=value`
 pub data IsOption (word name : Text) : Type 0 where
@@ -72,11 +73,22 @@ abbrev pub IsFramesOf : Option Text → Option ℕ → Type 0
 IsFramesOf text (Some frames) = AreFrames text frames
 IsFramesOf text None = (frames : ℕ) → AreFrames text frames → ⊥
 
+-- what is read of the text of `--connections`, where that is given: the most connections
+abbrev pub IsConnectionsOf : Option Text → Option ℕ → Type 0
+IsConnectionsOf text (Some connections) = AreConnections text connections
+IsConnectionsOf text None = (connections : ℕ) → AreConnections text connections → ⊥
+
 -- what a command that serves is asked for, by the text of `--frames`
 abbrev pub IsServingOf : (ℕ → Task) → Option Text → Option Wanted → Type 0
 IsServingOf serves text (Some wanted) =
     (frames : ℕ) × (task_of wanted ≡ serves frames) × AreFrames text frames
 IsServingOf serves text None = IsFramesOf text None
+
+-- what a command that serves lanes is asked for, by the texts of its options
+abbrev pub IsLanesOf : (Limits → Task) → (Text → Option Text) → Option Wanted → Type 0
+IsLanesOf serves text_of (Some wanted) =
+    (limits : Limits) × (task_of wanted ≡ serves limits) × GivesLimits text_of limits
+IsLanesOf serves text_of None = (limits : Limits) → GivesLimits text_of limits → ⊥
 
 -- what is read of a text that has to be there: itself, where it may be a value
 abbrev pub IsNeeded : Option Text → Option Text → Type 0

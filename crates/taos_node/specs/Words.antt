@@ -1,10 +1,11 @@
 -- What a list of words means: a command, and its options.
 use Rattle.std.specs.Prelude.{◌≡◌, ◌≢◌, ℕ, ◌^◌, ◌<◌, ◌≤◌, Bool, if◌then◌else◌, List, [], ◌∷◌, ◌++◌, map, flat_map, All, Contains, Option, Some, None, option_map, find, codes, decimal, string_bytes, String, bytes_eq}
 use Rattle.std.specs.declared.alloc.Global.{Global}
+use Rattle.taos_lanes.specs.declared.lane.Limits.{Limits}
 use Rattle.taos_node.specs.declared.wanted.Mint.{Mint as MintAsked}
 use Rattle.taos_node.specs.declared.wanted.Wanted.{Wanted}
 use Rattle.taos_node.specs.declared.wanted.Wanted.TheVariants as wanted
-use Rattle.taos_node.specs.declared.wanted.TheConstants.{MAX_FRAMES}
+use Rattle.taos_node.specs.declared.wanted.TheConstants.{LANE_CONNECTIONS, MAX_FRAMES}
 
 abbrev pub Text : Type 0
 Text = List ℕ
@@ -39,6 +40,8 @@ pub data Task : Type 0 where
   Relay : ℕ → Task
   -- to print a certificate
   Mint : MintWords → Task
+  -- to serve so many connections at most of each lane, of at most so many frames each
+  Serve : Limits → Task
 
 -- the task that the program has
 abbrev pub task_of : Wanted → Task
@@ -46,6 +49,7 @@ task_of (wanted.Run frames) = Run frames
 task_of wanted.Check = Check
 task_of (wanted.Relay frames) = Relay frames
 task_of (wanted.Mint m) = Mint (mint_words m)
+task_of (wanted.Serve limits) = Serve limits
 
 -- an option that is given with its value, both in one word or in two
 pub record Given : Type 0 where
@@ -89,9 +93,23 @@ abbrev pub AreFrames : Option Text → ℕ → Type 0
 AreFrames None n = n ≡ MAX_FRAMES
 AreFrames (Some text) n = IsCount text n
 
+-- how many connections an option `--connections` means, and how many are meant without it
+abbrev pub AreConnections : Option Text → ℕ → Type 0
+AreConnections None n = n ≡ LANE_CONNECTIONS
+AreConnections (Some text) n = IsCount text n
+
 -- the options of a command that serves
 abbrev pub serving_options : List Text
 serving_options = codes "frames" ∷ []
+
+-- the options of a command that serves lanes
+abbrev pub lane_options : List Text
+lane_options = codes "connections" ∷ codes "frames" ∷ []
+
+-- the texts that options have give the limits
+pub record GivesLimits (text_of : Text → Option Text) (limits : Limits) : Type 0 where
+  pub connections : AreConnections (text_of (codes "connections")) limits.connections
+  pub frames : AreFrames (text_of (codes "frames")) limits.frames
 
 -- the options of `mint`
 abbrev pub mint_options : List Text
@@ -123,6 +141,12 @@ ServeFrames words command frames =
     (given : List Given) × IsLine words command serving_options given
     × AreFrames (value_of (codes "frames") given) frames
 
+-- the words are this command, which serves lanes so far
+abbrev pub ServeLanes : List Text → Text → Limits → Type 0
+ServeLanes words command limits =
+    (given : List Given) × IsLine words command lane_options given
+    × GivesLimits (λ name. value_of name given) limits
+
 -- the words of a command line, each by its bytes, mean the task
 abbrev pub TextsMean : List Text → Task → Type 0
 TextsMean words (Run frames) = ServeFrames words (codes "run") frames
@@ -131,6 +155,7 @@ TextsMean words Check = (given : List Given) × IsLine words (codes "check") [] 
 TextsMean words (Mint m) =
     (given : List Given) × IsLine words (codes "mint") mint_options given
     × GivesMint (λ name. value_of name given) m
+TextsMean words (Serve limits) = ServeLanes words (codes "serve") limits
 
 -- the words mean the task
 abbrev pub Mean : List (String Global) → Task → Type 0

@@ -1,6 +1,6 @@
 //! The top call: the words, the file, and then the work.
 
-ghost use Rattle.std.specs.Prelude.{◌≡◌, ◌⊎◌, ◌<◌, ◌≤◌, List, String, drop, length, IfOk, None};
+ghost use Rattle.std.specs.Prelude.{◌≡◌, ◌⊎◌, ◌<◌, ◌≤◌, List, String, drop, length, map, IfOk, None};
 ghost use Rattle.std.specs.declared.alloc.Global.{Global};
 ghost use Rattle.agent_core.specs.Alone.{plans_in};
 ghost use Rattle.frame_link.specs.Served.{counts, HasCauses, IsComplete};
@@ -9,7 +9,8 @@ ghost use Rattle.object_core.specs.OneOwner.{taken_from};
 ghost use Rattle.taos_monitor.specs.Planned.{ArePlanned};
 ghost use Rattle.taos_node.specs.Ending.{status_of};
 ghost use Rattle.frame_link.specs.Streams.{Stream, stream};
-ghost use Rattle.taos_node.specs.Command.{Link, touched, first_clock, first_link, Runs, Ends, IsStatus, ServesConnection};
+ghost use Rattle.taos_lanes.specs.Stocked.{door_by, shown_by};
+ghost use Rattle.taos_node.specs.Command.{Does, Link, touched, first_clock, first_link, Ends, IsServe, IsStatus, RunsAlone, ServesConnection, TellsDoors};
 ghost use Rattle.taos_node.specs.Files.{FileHasCause, NodeFileGives};
 ghost use Rattle.taos_node.specs.Opened.{IsOpenedBy};
 ghost use Rattle.taos_node.specs.Words.{Check, Mean};
@@ -17,6 +18,7 @@ ghost use Rattle.taos_node.specs.Words.{Check, Mean};
 use crate::check::check_connection;
 use crate::ending::{Ending, FileFault, status_of};
 use crate::file::file_opening;
+use crate::lanes::serve_by_file;
 use crate::note::tell;
 use crate::opened::{OpenNode, open_node};
 use crate::relay::{mint_by_file, relay_by_file};
@@ -27,36 +29,8 @@ use goal_search::Workbench;
 use std::alloc::Global;
 use std::sync::Wait;
 use std::thread::Threads;
+use taos_lanes::Lane;
 use taos_monitor::serve_connection;
-
-// What a lane holds while its worker runs. Nothing yet.
-#[derive(Drop)]
-struct Work {}
-
-/// What one worker has.
-#[derive(Drop)]
-pub struct Lane<C: Clock, R: RelayLink, D: Door> {
-    pub clock: C,
-    pub relay: R,
-    pub door: D,
-    work: Work,
-}
-
-impl<C: Clock, R: RelayLink, D: Door> Lane<C, R, D> {
-    /// A lane that does no work yet.
-    pub fn of(clock: C, relay: R, door: D) -> Lane<C, R, D>
-        ensures clock { result.clock ≡ clock }
-        ensures relay { result.relay ≡ relay }
-        ensures door { result.door ≡ door }
-    {
-        Lane {
-            clock,
-            relay,
-            door,
-            work: Work {},
-        }
-    }
-}
 
 // The node that it opens, with the room that decisions take.
 fn node_file_of<F: Source>(alloc: Global, file: &mut F) -> Result<(OpenNode, Workbench), FileFault>
@@ -141,7 +115,7 @@ fn check_file<F: Source, I: Source, O: Sink>(
         let after = touched (stream (F.left file.new) (F.faults file.new))
         (stream (I.left input.new) (I.faults input.new))
         (stream (O.written output.new) (O.faults output.new)) clock relay in
-        Runs words before after result × IsStatus words before after (status_of result) }
+        RunsAlone words before after result × IsStatus words before after (status_of result) }
 {
     match file_opening(alloc, file) {
         Ok(node) => Ending::Checked(check_connection(alloc, &node, input, output)),
@@ -150,7 +124,15 @@ fn check_file<F: Source, I: Source, O: Sink>(
 }
 
 // Does the work, and tells nobody how it ended.
-fn run<W: Wait + Sync, F: Source, I: Source, O: Sink, C: Clock, R: RelayLink, D: Door>(
+fn run<
+    W: Threads + Wait + Sync,
+    F: Source,
+    I: Source,
+    O: Sink,
+    C: Clock + Send,
+    R: RelayLink + Send,
+    D: Door + Send,
+>(
     rt: &W,
     alloc: Global,
     words: &[String],
@@ -160,6 +142,7 @@ fn run<W: Wait + Sync, F: Source, I: Source, O: Sink, C: Clock, R: RelayLink, D:
     lanes: &mut [Lane<C, R, D>],
 ) -> Ending
     requires some { 0 < length lanes.old }
+    requires few { length lanes.old ≤ 16 }
     ensures runs { let before = touched (stream (F.left file.old) (F.faults file.old))
         (stream (I.left input.old) (I.faults input.old))
         (stream (O.written output.old) (O.faults output.old))
@@ -168,8 +151,11 @@ fn run<W: Wait + Sync, F: Source, I: Source, O: Sink, C: Clock, R: RelayLink, D:
         (stream (I.left input.new) (I.faults input.new))
         (stream (O.written output.new) (O.faults output.new))
         (first_clock C.readings C.faults lanes.new) (first_link R.says R.faults lanes.new) in
-        Runs words.now before after result × IsStatus words.now before after (status_of result) }
-    ensures others { drop 1 lanes.new ≡ drop 1 lanes.old }
+        Does D.In.left D.Out.written words.now before after
+        (map (shown_by C.readings R.faults R.says (door_by D.left D.back D.given D.faults)) lanes.old)
+        (map (shown_by C.readings R.faults R.says (door_by D.left D.back D.given D.faults)) lanes.new)
+        result }
+    ensures others { (IsServe words.now → ⊥) → drop 1 lanes.new ≡ drop 1 lanes.old }
 {
     let Ok(found) = wanted_of(alloc, words) else {
         return Ending::NoMemory;
@@ -181,6 +167,7 @@ fn run<W: Wait + Sync, F: Source, I: Source, O: Sink, C: Clock, R: RelayLink, D:
         Wanted::Check => check_file(alloc, file, input, output),
         Wanted::Relay { frames } => relay_by_file(alloc, file, input, output, frames),
         Wanted::Mint(asked) => mint_by_file(alloc, file, output, &asked),
+        Wanted::Serve(limits) => serve_by_file(rt, alloc, file, output, lanes, limits),
         Wanted::Run { frames } => match node_file_of(alloc, file) {
             Ok(mut opened) => Ending::Served(serve(
                 rt,
@@ -197,11 +184,14 @@ fn run<W: Wait + Sync, F: Source, I: Source, O: Sink, C: Clock, R: RelayLink, D:
 }
 
 /// Does all that the program does, and answers its exit status. The command lines are `run` with
-/// `--frames N` or without, `check`, `relay` with `--frames N` or without, and `mint` with what a
-/// certificate is to say. `run` and `check` read the file to a node's opening, `relay` and `mint` to
-/// what a relay knows. By `run` each request frame of the
+/// `--frames N` or without, `serve` with `--connections N` and `--frames N` or without, `check`,
+/// `relay` with `--frames N` or without, and `mint` with what a certificate is to say. `run`, `serve`
+/// and `check` read the file to a node's opening, `relay` and `mint` to what a relay knows. By `run` each request frame of the
 /// input, of at most N or a million, is answered by one reply frame of the output, by a node of that
 /// opening whose journals are empty at first, with the first lane's clock and its link to the relay.
+/// By `serve` a worker for each lane serves connections of the lane's door, all at the same time, by
+/// one node of that opening whose journals are empty at first, and one line of the output says what
+/// was counted.
 /// By `check` the frames of a request and its reply are looked over, and one line of the output says
 /// what is found. By `relay` each frame of the input is answered by the relay's answer to a node. By
 /// `mint` one line of the output is the certificate. A note tells how it ended.
@@ -228,9 +218,11 @@ pub fn taos<
     requires few { length lanes.old ≤ 16 }
 
     // Every whole frame has its course in the journals of this connection alone, and the bytes that
-    // are written are the replies; or the line is written of what a request and its reply show; or a
-    // relay answers each frame; or the line of a certificate is written. The note and the status tell
-    // how it ended.
+    // are written are the replies; or each connection of each lane's door is answered in the journals
+    // by its own places, and each place of a journal is own of one connection, once, however the
+    // lanes' steps interleave, and the line is written of what was counted; or the line of what a
+    // request and its reply show; or a relay answers each frame; or the line of a certificate is
+    // written. The note and the status tell how it ended.
     ensures run { let before = touched (stream (F.left file.old) (F.faults file.old))
         (stream (I.left input.old) (I.faults input.old))
         (stream (O.written output.old) (O.faults output.old))
@@ -239,15 +231,22 @@ pub fn taos<
         (stream (I.left input.new) (I.faults input.new))
         (stream (O.written output.new) (O.faults output.new))
         (first_clock C.readings C.faults lanes.new) (first_link R.says R.faults lanes.new) in
-        Ends words.now before after (stream (N.written notes.old) (N.faults notes.old))
+        Ends D.In.left D.Out.written words.now before after
+        (map (shown_by C.readings R.faults R.says (door_by D.left D.back D.given D.faults)) lanes.old)
+        (map (shown_by C.readings R.faults R.says (door_by D.left D.back D.given D.faults)) lanes.new)
+        (stream (N.written notes.old) (N.faults notes.old))
         (stream (N.written notes.new) (N.faults notes.new)) result
-        × IsStatus words.now before after result }
+        × IsStatus words.now before after result
+        × TellsDoors words.now before after
+        (map (shown_by C.readings R.faults R.says (door_by D.left D.back D.given D.faults)) lanes.old)
+        (map (shown_by C.readings R.faults R.says (door_by D.left D.back D.given D.faults)) lanes.new)
+        result }
 
     // Success has no note, nor what a check refused.
     ensures silent { (result ≡ 0) ⊎ (result ≡ 11) → notes.new ≡ notes.old }
 
-    // No command touches another lane than the first.
-    ensures others { drop 1 lanes.new ≡ drop 1 lanes.old }
+    // No other command touches another lane than the first.
+    ensures others { (IsServe words.now → ⊥) → drop 1 lanes.new ≡ drop 1 lanes.old }
 {
     let ending = run(rt, alloc, words, file, input, output, lanes);
     tell(notes, ending);

@@ -3,7 +3,7 @@
 ghost use Rattle.std.specs.Prelude.{◌≡◌};
 ghost use Rattle.taos_node.specs.declared.ending.FileFault.TheVariants as fault;
 ghost use Rattle.taos_node.specs.Minting.{minted_status};
-ghost use Rattle.taos_node.specs.Ending.{checked_status, file_status, served_status, status_of};
+ghost use Rattle.taos_node.specs.Ending.{checked_status, file_status, lanes_status, served_status, status_of};
 
 use crate::check::CheckEnd;
 use crate::finding::finding_status;
@@ -34,6 +34,19 @@ impl From<AllocError> for FileFault {
     }
 }
 
+/// How the lanes of a node ended.
+#[derive(Clone, Copy, Debug, PartialEq, Eq)]
+pub enum LanesEnd {
+    /// The line of what was counted was written.
+    Done,
+    /// The door of this lane failed, and of none before it.
+    DoorFault { lane: u64 },
+    /// A write failed.
+    WriteFault,
+    /// Memory was refused, before the first connection or for one.
+    NoMemory,
+}
+
 /// How a run ended.
 #[derive(Clone, Copy, Debug, PartialEq, Eq)]
 pub enum Ending {
@@ -51,6 +64,8 @@ pub enum Ending {
     Relayed(Outcome),
     /// A certificate was made, or refused.
     Minted(MintEnd),
+    /// The lanes of a node served their doors.
+    Lanes(LanesEnd),
 }
 
 const USAGE: u8 = 1;
@@ -68,6 +83,8 @@ const MEMORY: u8 = 6;
 const TRUNCATED: u8 = 7;
 
 const TOO_LONG: u8 = 8;
+
+const DOOR_FAULT: u8 = 9;
 
 const SPENT: u8 = 10;
 
@@ -120,6 +137,17 @@ fn minted_status(end: MintEnd) -> u8
     }
 }
 
+fn lanes_status(end: LanesEnd) -> u8
+    ensures { result ≡ lanes_status end }
+{
+    match end {
+        LanesEnd::Done => 0,
+        LanesEnd::DoorFault { .. } => DOOR_FAULT,
+        LanesEnd::WriteFault => WRITE_FAULT,
+        LanesEnd::NoMemory => MEMORY,
+    }
+}
+
 /// The exit status of an ending.
 pub fn status_of(ending: Ending) -> u8
     ensures { result ≡ status_of ending }
@@ -132,5 +160,6 @@ pub fn status_of(ending: Ending) -> u8
         Ending::Checked(end) => checked_status(end),
         Ending::Relayed(outcome) => served_status(outcome),
         Ending::Minted(end) => minted_status(end),
+        Ending::Lanes(end) => lanes_status(end),
     }
 }

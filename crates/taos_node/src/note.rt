@@ -3,10 +3,10 @@
 ghost use Rattle.std.specs.Prelude.{◌≡◌, ◌⊎◌, ◌≤◌, ◌++◌, length, decimal};
 ghost use Rattle.taos_node.specs.Ending.{status_of};
 ghost use Rattle.taos_node.specs.Minting.{minted_note, word_text};
-ghost use Rattle.taos_node.specs.Notes.{cause_text, checked_note, file_note, served_note, note_of, IsNoted};
+ghost use Rattle.taos_node.specs.Notes.{cause_text, checked_note, file_note, lanes_note, served_note, note_of, IsNoted};
 
 use crate::check::CheckEnd;
-use crate::ending::{Ending, FileFault};
+use crate::ending::{Ending, FileFault, LanesEnd};
 use crate::minting::{MintEnd, MintWord};
 use arrayvec::ArrayVec;
 use frame_link::{Outcome, Sink, pour};
@@ -150,6 +150,17 @@ fn of_minted(end: MintEnd) -> ArrayVec<u8, ROOM>
     }
 }
 
+fn of_lanes(end: LanesEnd) -> ArrayVec<u8, ROOM>
+    ensures { result.items ≡ lanes_note end }
+{
+    match end {
+        LanesEnd::Done => plain(b""),
+        LanesEnd::DoorFault { lane } => numbered(b"taos: door fault at lane ", lane, b"\n"),
+        LanesEnd::WriteFault => plain(b"taos: write fault\n"),
+        LanesEnd::NoMemory => plain(b"taos: no memory\n"),
+    }
+}
+
 fn note_of(ending: Ending) -> ArrayVec<u8, ROOM>
     ensures { result.items ≡ note_of ending }
 {
@@ -161,6 +172,7 @@ fn note_of(ending: Ending) -> ArrayVec<u8, ROOM>
         Ending::Checked(end) => of_checked(end),
         Ending::Relayed(outcome) => of_served(outcome),
         Ending::Minted(end) => of_minted(end),
+        Ending::Lanes(end) => of_lanes(end),
     }
 }
 

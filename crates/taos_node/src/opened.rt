@@ -11,15 +11,25 @@ ghost use Rattle.node_file.specs.Meaning.{opening, FitsByNumber};
 ghost use Rattle.node_file.specs.Opening.{Opening as Meaning};
 ghost use Rattle.node_file.specs.OpeningView.{Represents};
 ghost use Rattle.taos_monitor.specs.Planned.{ArePlanned};
-ghost use Rattle.taos_node.specs.Opened.{AllFit, IsOpenedBy, its_plans, new_object, numbers_of};
+ghost use Rattle.taos_node.specs.Opened.{AllFit, AreNew, IsNodeOf, IsOpenedBy, its_plans, new_object, node_in, numbers_of};
 
 use agent_core::{Lone, Shard, open_shards};
 use keyed_seal::{KeyTable, Sealer};
 use node_file::{ObjectPlans, Opening};
 use object_core::{LoneShelf, Object};
+use prin_term::Anchor;
 use std::alloc::{AllocError, Global};
 use std::sync::Arc;
 use taos_monitor::NodeKeys;
+
+/// A node's keys, its shards and its objects, before anyone steps them.
+#[derive(Drop)]
+pub(crate) struct NodeParts {
+    pub(crate) keys: NodeKeys,
+    pub(crate) shards: Vec<Shard>,
+    pub(crate) anchors: Arc<Vec<Anchor>>,
+    pub(crate) objects: Vec<Object>,
+}
 
 /// A node's keys, its objects and its shards, which nobody else steps.
 #[derive(Drop)]
@@ -84,6 +94,31 @@ fn objects_of(alloc: Global, plans: &ObjectPlans, limit: u64) -> Result<Vec<Obje
     Ok(objects)
 }
 
+/// The parts of the node of an opening, with empty journals. All memory that its shards and objects
+/// want is taken here.
+pub(crate) fn open_parts(alloc: Global, node: Opening) -> Result<NodeParts, AllocError>
+    requires { FitsByNumber (opening node) }
+    ensures is_node { IfOk result (λ n. (o : Meaning) → Represents node o → IsNodeOf o (node_in n)) }
+    ensures shards { IfOk result (λ n. n.shards.items
+        ≡ map new_shard (its_plans (opening node) node.channels.entries)) }
+    ensures objects { IfOk result (λ n. n.objects.items
+        ≡ map (new_object node.limit) node.objects) }
+    ensures new { IfOk result AreNew }
+{
+    let shards = shards_of(alloc, &node)?;
+    let objects = objects_of(alloc, &node.objects, node.limit)?;
+    Ok(NodeParts {
+        keys: NodeKeys {
+            node: node.node,
+            relay_key: Sealer::of(&node.relay_key),
+            channels: node.channels,
+        },
+        shards,
+        anchors: node.anchors,
+        objects,
+    })
+}
+
 /// The node of an opening, with empty journals. All memory that its shards and objects want is taken
 /// here.
 pub(crate) fn open_node(alloc: Global, node: Opening) -> Result<OpenNode, AllocError>
@@ -93,15 +128,10 @@ pub(crate) fn open_node(alloc: Global, node: Opening) -> Result<OpenNode, AllocE
         (plans_in n.shards.shards)) }
     ensures none_taken { IfOk result (λ n. taken_from n.shelf ≡ None) }
 {
-    let shards = shards_of(alloc, &node)?;
-    let objects = objects_of(alloc, &node.objects, node.limit)?;
+    let parts = open_parts(alloc, node)?;
     Ok(OpenNode {
-        keys: NodeKeys {
-            node: node.node,
-            relay_key: Sealer::of(&node.relay_key),
-            channels: node.channels,
-        },
-        shelf: LoneShelf::new(alloc, objects)?,
-        shards: Lone::new(shards, node.anchors),
+        keys: parts.keys,
+        shelf: LoneShelf::new(alloc, parts.objects)?,
+        shards: Lone::new(parts.shards, parts.anchors),
     })
 }

@@ -4,7 +4,7 @@ ghost use Rattle.std.specs.Prelude.{List, String};
 ghost use Rattle.std.specs.declared.alloc.Global.{Global};
 ghost use Rattle.frame_link.specs.Streams.{Stream, stream};
 ghost use Rattle.taos_node.specs.Ending.{status_of};
-ghost use Rattle.taos_node.specs.Command.{Link, touched, Runs, IsStatus};
+ghost use Rattle.taos_node.specs.Command.{Link, touched, RunsAlone, IsStatus};
 ghost use Rattle.taos_node.specs.Words.{Mean, Mint, Relay, mint_words};
 
 use crate::ending::Ending;
@@ -32,7 +32,7 @@ pub(crate) fn relay_by_file<F: Source, I: Source, O: Sink>(
         let after = touched (stream (F.left file.new) (F.faults file.new))
         (stream (I.left input.new) (I.faults input.new))
         (stream (O.written output.new) (O.faults output.new)) clock relay in
-        Runs words before after result × IsStatus words before after (status_of result) }
+        RunsAlone words before after result × IsStatus words before after (status_of result) }
 {
     match file_relay(alloc, file) {
         Ok(relay) => Ending::Relayed(serve_relay(alloc, &relay.table, input, output, frames)),
@@ -54,7 +54,7 @@ pub(crate) fn mint_by_file<F: Source, O: Sink>(
         (stream (O.written output.old) (O.faults output.old)) clock relay in
         let after = touched (stream (F.left file.new) (F.faults file.new)) input
         (stream (O.written output.new) (O.faults output.new)) clock relay in
-        Runs words before after result × IsStatus words before after (status_of result) }
+        RunsAlone words before after result × IsStatus words before after (status_of result) }
 {
     match file_relay(alloc, file) {
         Ok(relay) => Ending::Minted(mint(alloc, &relay, asked, output)),

@@ -4,7 +4,7 @@ ghost use Rattle.std.specs.Prelude.{◌≡◌, codes, [], IfOk, map, string_byte
 ghost use Rattle.clap.specs.Words.{rule_of, HasMatchesOf, FailsBy, fault_of};
 ghost use Rattle.clap.specs.Words.{App, with_rule};
 ghost use Rattle.taos_node.specs.Table.{option_rule, command_app, base_app, taos_app, IsMade};
-ghost use Rattle.taos_node.specs.Words.{mint_options, serving_options};
+ghost use Rattle.taos_node.specs.Words.{lane_options, mint_options, serving_options};
 
 use clap::{Arg, ArgAction, ArgMatches, Command, Error};
 use std::alloc::{AllocError, Global};
@@ -53,6 +53,15 @@ fn with_option<'a>(
     Ok(more)
 }
 
+// A command that serves lanes.
+fn serving_lanes<'a>(alloc: Global, name: &'a str) -> Result<Command<'a>, AllocError>
+    ensures { IfOk result (IsMade (command_app name.entry.now lane_options)) }
+{
+    let connections = with_option(plain(alloc, name), alloc, "connections")?;
+    let frames = with_option(connections, alloc, "frames")?;
+    Ok(frames)
+}
+
 fn minting<'a>(alloc: Global) -> Result<Command<'a>, AllocError>
     ensures { IfOk result (IsMade (command_app (codes "mint") mint_options)) }
 {
@@ -72,10 +81,12 @@ fn commands<'a>(alloc: Global) -> Result<Command<'a>, AllocError>
     let run = serving(alloc, "run")?;
     let relay = serving(alloc, "relay")?;
     let mint = minting(alloc)?;
+    let serve = serving_lanes(alloc, "serve")?;
     let first = base(alloc).subcommand(run)?;
     let second = first.subcommand(plain(alloc, "check"))?;
     let third = second.subcommand(relay)?;
-    let whole = third.subcommand(mint)?;
+    let fourth = third.subcommand(mint)?;
+    let whole = fourth.subcommand(serve)?;
     Ok(whole)
 }
 

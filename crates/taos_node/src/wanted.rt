@@ -1,7 +1,12 @@
 //! What a command line asks for.
 
+use taos_lanes::Limits;
+
 /// The most frames that a connection answers where the words give no other number.
 pub const MAX_FRAMES: u64 = 1_000_000;
+
+/// The most connections that a lane serves where the words give no other number.
+pub const LANE_CONNECTIONS: u64 = 1;
 
 /// What a certificate is to say, as the words have it.
 #[derive(Clone, Copy, Debug, PartialEq, Eq)]
@@ -28,4 +33,6 @@ pub enum Wanted<'a> {
     Relay { frames: u64 },
     /// Print a certificate.
     Mint(Mint<'a>),
+    /// Serve connections of each lane's door.
+    Serve(Limits),
 }

@@ -3,18 +3,28 @@
 ghost use Rattle.std.specs.Prelude.{◌≡◌, ◌↔◌, ◌^◌, ℕ, List, String, Some, codes, map, decimal, option_map, string_bytes, All, IsTrue, IfOk, MatchOption};
 ghost use Rattle.std.specs.declared.alloc.Global.{Global};
 ghost use Rattle.clap.specs.Words.{Row, first_of, found_of, rows_of, subcommand_rows_of};
-ghost use Rattle.taos_node.specs.Words.{Check, IsCount, IsMeaning, IsNumber, IsValue, Mean, Relay, Run, Task, mint_options, task_of};
-ghost use Rattle.taos_node.specs.Table.{IsAllowed, IsFramesOf, IsMintOf, IsNeeded, IsNumberOf, IsOfTable, IsOption, IsOptionOf, IsPlainWord, IsServingOf};
+ghost use Rattle.taos_node.specs.Words.{Check, IsCount, IsMeaning, IsNumber, IsValue, Mean, Relay, Run, Serve, Task, task_of};
+ghost use Rattle.taos_node.specs.Table.{IsAllowed, IsConnectionsOf, IsFramesOf, IsLanesOf, IsMintOf, IsNeeded, IsNumberOf, IsOfTable, IsOption, IsOptionOf, IsPlainWord, IsServingOf, all_options};
 
 use crate::table::matches_of;
-use crate::wanted::{MAX_FRAMES, Mint, Wanted};
+use crate::wanted::{LANE_CONNECTIONS, MAX_FRAMES, Mint, Wanted};
 use clap::ArgMatches;
 use clap::error::ErrorKind;
 use itoa::Buffer;
 use std::alloc::{AllocError, Global};
+use taos_lanes::Limits;
 
-// The options of `mint`.
-const MINT_OPTIONS: [&str; 6] = ["issuer", "serial", "until", "quoted", "left", "right"];
+// The options of all commands.
+const OPTIONS: [&str; 8] = [
+    "connections",
+    "frames",
+    "issuer",
+    "serial",
+    "until",
+    "quoted",
+    "left",
+    "right",
+];
 
 /// Words mean one task.
 pub fn one_meaning()
@@ -56,10 +66,10 @@ fn is_among(word: &[u8], names: &[&str]) -> bool
     false
 }
 
-fn is_mint_option(word: &[u8]) -> bool
-    ensures { IsTrue result ↔ IsOptionOf mint_options word.now }
+fn is_known(word: &[u8]) -> bool
+    ensures { IsTrue result ↔ IsOptionOf all_options word.now }
 {
-    is_among(word, &MINT_OPTIONS)
+    is_among(word, &OPTIONS)
 }
 
 // Whether a word is no option, or one of the table.
@@ -69,10 +79,7 @@ fn is_of_table(word: &[u8]) -> bool
     if is_plain(word) {
         return true;
     }
-    if is_option(word, b"frames".as_slice()) {
-        return true;
-    }
-    is_mint_option(word)
+    is_known(word)
 }
 
 fn are_of_table(words: &[String]) -> bool
@@ -139,6 +146,16 @@ fn frames_of(text: Option<&str>) -> Option<u64>
     }
 }
 
+// The most connections of a lane, by the text of the option where that is given.
+fn connections_of(text: Option<&str>) -> Option<u64>
+    ensures { IsConnectionsOf (option_map (λ s. s.now) text.entry) result }
+{
+    match text {
+        Some(text) => count_of(text),
+        None => Some(LANE_CONNECTIONS),
+    }
+}
+
 fn run_of<'a>(text: Option<&'a str>) -> Option<Wanted<'a>>
     ensures { IsServingOf (λ frames. Run frames) (option_map (λ s. s.now) text.entry)
         result }
@@ -157,6 +174,18 @@ fn relay_of<'a>(text: Option<&'a str>) -> Option<Wanted<'a>>
         Some(frames) => Some(Wanted::Relay { frames }),
         None => None,
     }
+}
+
+fn serve_of<'a>(options: &ArgMatches<'a>) -> Option<Wanted<'a>>
+    ensures { IsLanesOf (λ limits. Serve limits)
+        (λ name. first_of name (rows_of (found_of options.now))) result }
+{
+    let connections = connections_of(text_of(options, "connections"))?;
+    let frames = frames_of(text_of(options, "frames"))?;
+    Some(Wanted::Serve(Limits {
+        connections,
+        frames,
+    }))
 }
 
 fn is_value(text: &[u8]) -> bool
@@ -240,6 +269,8 @@ fn found_in<'a>(matches: &ArgMatches<'a>) -> Option<Wanted<'a>>
         → IsServingOf (λ frames. Relay frames) (first_of (codes "frames") rows) result }
     ensures mint { (rows : List Row) → subcommand_rows_of matches.now ≡ Some (codes "mint", rows)
         → IsMintOf (λ name. first_of name rows) result }
+    ensures serve { (rows : List Row) → subcommand_rows_of matches.now ≡ Some (codes "serve", rows)
+        → IsLanesOf (λ limits. Serve limits) (λ name. first_of name rows) result }
 {
     let (name, options) = matches.subcommand()?;
     match name {
@@ -247,6 +278,7 @@ fn found_in<'a>(matches: &ArgMatches<'a>) -> Option<Wanted<'a>>
         "check" => Some(Wanted::Check),
         "relay" => relay_of(text_of(options, "frames")),
         "mint" => mint_of(options),
+        "serve" => serve_of(options),
         _ => None,
     }
 }

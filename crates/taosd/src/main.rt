@@ -3,36 +3,29 @@
 
 ghost use Rattle.std.specs.Prelude.{◌<◌, ◌≤◌, length};
 
-mod clock;
-mod exchange;
 mod keys;
-mod outbox;
-mod relay;
-mod streams;
-mod term;
+mod lanes;
+mod own;
 mod usage;
-mod warnings;
 
-use clock::SystemSeconds;
-use frame_link::{Clock, ClosedDoor, Door, NoRelay, RelayLink, Sink, pour};
+use frame_link::{Clock, Door, RelayLink, Sink, pour};
 use keys::fresh_key;
-use outbox::{Deferred, Outbox, Prompt};
-use relay::{LIMIT, TcpRelay};
+use lanes::{Setting, Site, lane_of};
+use own::{Own, own_of};
 use std::alloc::Global;
-use std::env;
 use std::fs::File;
-use std::io::{BufReader, ErrorKind, Stderr, Stdout};
+use std::io::{BufReader, ErrorKind, Stderr};
+use std::net::TcpListener;
 use std::process::ExitCode;
-use std::sync::Wait;
+use std::sync::{Arc, Wait};
 use std::thread::Threads;
-use std::time::Duration;
-use streams::{FileReading, Origin, Reading, Writing};
+use std::{env, io, slice};
+use system_link::{
+    Deferred, FileReading, Origin, Outbox, PIECE, Prompt, Reading, Stop, Watched, Writing,
+    addresses_of, bind_all, stop_at_end, tell_addresses, tell_readers,
+};
 use taos_node::{Ending, FileFault, Lane, Outcome, status_of, taos, tell};
 use usage::{USAGE, VERSION};
-use warnings::{Watched, tell_readers};
-
-// The input is read, and the output leaves, in pieces of at most this many bytes.
-const PIECE: usize = 65_536;
 
 // Where fresh keys come from.
 const RANDOM: &str = "/dev/urandom";
@@ -65,15 +58,7 @@ fn file_of<'a>(rt: &HostRuntime, path: &'a str) -> FileReading<'a, File, Stderr>
     }
 }
 
-// A lane that asks this relay, with no door.
-fn lane_of<'a, R: RelayLink>(
-    rt: &'a HostRuntime,
-    relay: R,
-) -> Lane<SystemSeconds<&'a HostRuntime>, R, ClosedDoor<Reading<File>, Writing<Stdout>>> {
-    Lane::of(SystemSeconds::new(rt), relay, ClosedDoor::new())
-}
-
-// The work of a command, by the first of these lanes.
+// The work of a command, by these lanes.
 fn work<W: Threads + Wait + Sync, N: Sink, C: Clock + Send, R: RelayLink + Send, D: Door + Send>(
     rt: &HostRuntime,
     workers: &W,
@@ -116,29 +101,96 @@ fn work<W: Threads + Wait + Sync, N: Sink, C: Clock + Send, R: RelayLink + Send,
     }
 }
 
-// The first three words are the file, where to listen and the relay; the others are the command.
+// Whether a command serves the connections of doors, and leaves standard input alone.
+fn serves_doors(command: &[String]) -> bool {
+    match command {
+        [word, ..] => word.as_str() == "serve",
+        [] => false,
+    }
+}
+
+// Tells the addresses, and lets the end of standard input stop the doors, where that is wanted.
+fn prepare<W: Threads>(
+    rt: &HostRuntime,
+    workers: &W,
+    own: &Own<'_>,
+    command: &[String],
+    stop: &Arc<Stop, Global>,
+    listeners: &[Option<TcpListener>],
+) -> io::Result<()> {
+    if own.tells_addresses {
+        tell_addresses(&mut rt.stderr(), listeners);
+    }
+    if own.stops_at_end && serves_doors(command) {
+        stop_at_end(workers, rt.alloc(), rt.stdin(), stop, listeners)?;
+    }
+    Ok(())
+}
+
+// The lane, and the work of the command by it.
+fn listen<W: Threads + Wait + Sync, N: Sink>(
+    rt: &HostRuntime,
+    workers: &W,
+    own: &Own<'_>,
+    setting: &Setting<'_>,
+    notes: &mut N,
+) -> u8 {
+    let alloc = rt.alloc();
+    let (Ok(listeners), Ok(stop)) = (
+        bind_all(rt, alloc, setting.addresses),
+        Arc::new(alloc, Stop::new()),
+    ) else {
+        return ended(notes, Ending::NoMemory);
+    };
+    if prepare(rt, workers, own, setting.command, &stop, &listeners).is_err() {
+        return ended(notes, Ending::NoMemory);
+    }
+    let mut lane = lane_of(Site {
+        rt,
+        idle: own.idle,
+        addresses: setting.addresses,
+        relay: setting.relay,
+        stop: &stop,
+        listeners: &listeners,
+    });
+    work(
+        rt,
+        workers,
+        alloc,
+        setting.path,
+        setting.command,
+        notes,
+        slice::from_mut(&mut lane),
+    )
+}
+
+// Behind the options, the first three words are the file, where to listen and the relay; the others
+// are the command.
 fn run<W: Threads + Wait + Sync, N: Sink>(
     rt: &HostRuntime,
     workers: &W,
-    alloc: Global,
     words: &[String],
     notes: &mut N,
 ) -> u8 {
-    let [path, listen, relay, command @ ..] = words else {
+    let Some(own) = own_of(words) else {
         return ended(notes, Ending::Usage);
     };
-    if command.is_empty() || listen.as_str() != "-" {
+    let [path, listening, relay, command @ ..] = own.words else {
+        return ended(notes, Ending::Usage);
+    };
+    let Some(addresses) = addresses_of(listening.as_str()) else {
+        return ended(notes, Ending::Usage);
+    };
+    if command.is_empty() || addresses.len() > 1 {
         return ended(notes, Ending::Usage);
     }
-    let path = path.as_str();
-    let address = relay.as_str();
-    if address == "-" {
-        let mut lanes = [lane_of(rt, NoRelay::new())];
-        return work(rt, workers, alloc, path, command, notes, &mut lanes);
-    }
-    let relay = TcpRelay::new(rt, alloc, address, Duration::from_secs(LIMIT));
-    let mut lanes = [lane_of(rt, relay)];
-    work(rt, workers, alloc, path, command, notes, &mut lanes)
+    let setting = Setting {
+        path: path.as_str(),
+        addresses: addresses.as_slice(),
+        relay: relay.as_str(),
+        command,
+    };
+    listen(rt, workers, &own, &setting, notes)
 }
 
 // Writes a text on standard output, and that alone.
@@ -176,7 +228,7 @@ fn answer<W: Threads + Wait + Sync, N: Sink>(
             "--key" => show_key(rt, notes),
             _ => ended(notes, Ending::Usage),
         },
-        _ => run(rt, workers, rt.alloc(), words, notes),
+        _ => run(rt, workers, words, notes),
     }
 }
 
@@ -193,6 +245,3 @@ fn main(rt: HostRuntime) -> ExitCode {
     };
     ExitCode::from(status)
 }
-
-#[cfg(test)]
-mod tests;

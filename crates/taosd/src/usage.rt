@@ -2,17 +2,27 @@
 
 /// How it is used.
 pub const USAGE: &[u8] = b"\
-taosd FILE LISTEN RELAY COMMAND
+taosd [OPTION..] FILE LISTEN RELAY COMMAND
 taosd --help | --version | --key
 
 FILE    the path of a node file, or for relay and mint of a relay file, or -
         for none
-LISTEN  -
+LISTEN  an address HOST:PORT, or - for none
 RELAY   the address HOST:PORT of the node's relay, or - for none
+
+OPTION is one of
+  --idle SECONDS    how long a peer of LISTEN may be silent between frames
+                    (1 to 86400; 60 without)
+  --tell-addresses  tells on standard error at which addresses it listens
+  --stop-at-end     the end of standard input stops what serves LISTEN
 
 COMMAND is one of
   run [--frames N]  answers the request frames of standard input on standard
                     output, N of them at most (1 or more; 1000000 without)
+  serve [--connections N] [--frames N]
+                    answers the connections of LISTEN, one after the other: N
+                    of them at most (1 or more; 1 without), N frames each (as
+                    run), and prints what was counted
   check             reads a request frame and its reply frame, and prints what
                     the reply shows
   relay [--frames N]
@@ -34,9 +44,10 @@ Exit status, told on standard error but for 0 and 11:
   0  done                          6  no memory
   1  the words are no command      7  the input ends inside a frame
   2  the file is refused           8  a frame is too long
-  3  a read failed                10  N frames were answered, and more came
-  4  a write failed               11  check refused the reply
-  5  the clock failed             12  mint refused a word
+  3  a read failed                 9  a door failed
+  4  a write failed               10  N frames were answered, and more came
+  5  the clock failed             11  check refused the reply
+                                  12  mint refused a word
 ";
 
 /// Its name and version.

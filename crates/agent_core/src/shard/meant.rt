@@ -51,8 +51,8 @@ fn has_channel(channels: &[u32], channel: u32) -> bool
 /// Whether the event is one that a shard of this plan takes after these entries.
 pub(crate) fn is_taken(plan: &ShardPlan, entries: &[ShardEntry], event: &Event) -> bool
     requires { IsStrictlyIncreasing (plan_of plan.now).channels }
-    ensures { IsTrue result ↔ (IsMeant (plan_of plan.now) (map entry_of entries.now) (event_of event.now)
-        × FitsEvent (event_of event.now)) }
+    ensures { let e = event_of event.now in
+        IsTrue result ↔ (IsMeant (plan_of plan.now) (map entry_of entries.now) e × FitsEvent e) }
 {
     match event {
         Event::Ask(asked) => {

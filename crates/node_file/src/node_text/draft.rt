@@ -33,22 +33,22 @@ pub(super) struct Draft {
 }
 
 // No line says anything.
-pub(super) fn empty(alloc: Global) -> Result<Draft, AllocError>
-    ensures { IfOk result (λ draft. IsDraftOf draft no_draft) }
+pub(super) fn empty(alloc: Global) -> Draft
+    ensures { IsDraftOf result no_draft }
 {
-    Ok(Draft {
+    Draft {
         settings: Settings {
             node: None,
             shards: None,
             keep: None,
             limit: None,
         },
-        names: Names::new(alloc)?,
+        names: Names::new(alloc),
         channels: KeyDraft::new(alloc, MAX_CHANNELS as usize),
         anchors: Vec::new(alloc),
         commons: Vec::new(alloc),
         objects: ObjectDrafts::new(alloc),
-    })
+    }
 }
 
 // The opening of a node of this number, with this key of its relay.

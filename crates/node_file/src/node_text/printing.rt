@@ -85,10 +85,8 @@ fn push_names(out: &mut String, names: &Names) -> Result<(), AllocError>
         ++ text_of_lines (map (text_line (codes "name")) names.now.names)) }
     ensures sound { AreLabels names.now }
 {
-    let mut place = 0;
-    while let Some((number, text)) = names.name_at(place) {
-        push_text(out, "name", number, text)?;
-        place += 1;
+    for (number, label) in names.names() {
+        push_text(out, "name", *number, label.text())?;
     }
     Ok(())
 }
@@ -98,10 +96,8 @@ fn push_roles(out: &mut String, names: &Names) -> Result<(), AllocError>
         ≡ string_bytes out.old
         ++ text_of_lines (map (text_line (codes "role")) names.now.roles)) }
 {
-    let mut place = 0;
-    while let Some((number, text)) = names.role_at(place) {
-        push_text(out, "role", number, text)?;
-        place += 1;
+    for (number, label) in names.roles() {
+        push_text(out, "role", *number, label.text())?;
     }
     Ok(())
 }

@@ -24,7 +24,7 @@ fn draft_of(alloc: Global, bytes: &[u8]) -> Result<(Draft, u32), FileFault>
         (draft_in bytes.now) }
 {
     let mut number = 0;
-    let mut draft = empty(alloc)?;
+    let mut draft = empty(alloc);
     let mut begun = false;
     let mut at = 0;
     while at < bytes.len() {

@@ -33,7 +33,7 @@ fn fields_of(alloc: Global, bytes: &[u8]) -> Result<(Opening, usize), FormatFaul
     let (anchors, next) = anchors_of(alloc, bytes, next)?;
     let (commons, next) = commons_of(alloc, bytes, next, &head.relay_key)?;
     let (objects, next) = objects_of(alloc, bytes, next)?;
-    let names = Names::new(alloc)?;
+    let names = Names::new(alloc);
     let relay_key = head.relay_key;
     let opening = Opening {
         node: head.node,

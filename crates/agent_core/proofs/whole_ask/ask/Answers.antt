@@ -1,35 +1,141 @@
--- what was taken in is the same Ask, at the same shards
-use Rattle.std.proofs.Common.{subst, sym, ap}
-use Rattle.agent_core.specs.Asked.{FitsAsk}
+-- the Ask's step, and what it came to, make the whole
+use Rattle.std.proofs.Common.{◌≡◌, ◌∙◌, ap₂, Some, slice_get, List, length, replicate, true, sym, ap, subst, inl, refl}
+use Rattle.stmt_codec.specs.View.{certificates}
+use Rattle.taos_calculus.specs.Question.{IsAskable}
+use Rattle.agent_core.specs.Plans.{AreShards, home}
+use Rattle.std.specs.Arc.{arc_value}
+use Rattle.proof_cache.specs.Cached.{Cached, cached}
+use Rattle.proof_cache.specs.declared.cached.Cached.{Cached as CachedValue}
+use Rattle.agent_core.specs.declared.asked.Verdict.TheVariants as verdict
+use Rattle.agent_core.specs.Journals.{IsKeepable}
+use Rattle.agent_core.specs.Asked.{IsGrantedBy, IsDeniedBy}
+use Rattle.agent_core.specs.Settling.{KeptAs, Settles}
+use Rattle.agent_core.specs.Steps.{StepRefused, seen_at}
+use Rattle.agent_core.specs.State.{Plan, Ask, Keeps}
 use Rattle.agent_core.specs.Views.{ask_of}
-use Rattle.agent_core.proofs.Asks.{on_err}
-use Rattle.agent_core.proofs.TakenIn.{meant_again, asked_again, lacked_again, others_again, not_stood}
+use Rattle.agent_core.proofs.Asks.{on_err, refused_asks, missed_step, replayed_ends, full_ends, journal_full_ends, hit_ends, hit_made, other_never, judged_by, denied_asks, unanswered_asks, ends_made, standing, askable, anchors_are}
+use Rattle.agent_core.proofs.Granting.{granted_as, kept_asks, may_keep, unkept_asks}
+use Rattle.denial_link.proofs.Places.{certificate_count}
 use Rattle.agent_core.proofs.whole_ask.ask.Goals as goal
 
-pub returns-in_err-asked-clause-unanswered : goal.returns-in_err-asked-clause-unanswered
-returns-in_err-asked-clause-unanswered g c plan at =
-    on_err c.from_residual.result (not_stood g.S.Shards.plans g.S.Shards.alone g.S.Shards.seen g.S.Shards.own c.args.shards.now c.taken_in.new.shards _ plan (ask_of c.args.asked.value)
-    c.taken_in.ensures.unchanged (c.taken_in.ensures.legal _ plan at))
+pub returns-in_err-place-clause-unanswered : goal.returns-in_err-place-clause-unanswered
+returns-in_err-place-clause-unanswered g c plan at = on_err c.from_residual.result (refused_asks _ _ (c.in_err-place.ensures.refused plan at) (inl refl))
 
-pub ask_taken_in-requires-clause-meant : goal.ask_taken_in-requires-clause-meant
-ask_taken_in-requires-clause-meant g c κs within =
-    meant_again g.S.Shards.plans g.S.Shards.alone g.S.Shards.seen g.S.Shards.own c.args.shards.now c.taken_in.new.shards (ask_of c.args.asked.value) (ask_of c.in_ok-asked.asked.value)
-    c.taken_in.ensures.unchanged c.in_ok-asked.ensures.same c.requires.meant
+pub settle-requires : goal.settle-requires
+settle-requires g c =
+    let plans : List Plan = g.S.Shards.plans c.args.shards.now in
+    let (plan, at) = standing plans (home plans c.args.asked.value.channel) c.in_ok-place.ensures.there in
+    let s = missed_step (c.in_ok-place.ensures.steps plan at) c.in-Miss.snapshot c.in-Miss.is in
+    let are = subst (λ p. AreShards p c.anchors.result.now) c.in_ok-place.ensures.plans c.anchors.ensures in
+    let certs = certificates c.in-Miss.snapshot.certs.items in
+    subst (λ (x : Ask). IsAskable c.anchors.result.now certs (replicate (length c.in-Miss.snapshot.certs.items) true) x.subject x.list) (sym (ap ask_of c.deref.ensures ∙ c.in_ok-place.ensures.same))
+    (askable plans c.anchors.result.now are (home plans c.args.asked.value.channel) plan at s.before (ask_of c.args.asked.value) c.in-Miss.snapshot.moment certs (length c.in-Miss.snapshot.certs.items)
+    (certificate_count c.in-Miss.snapshot.certs.items) (judged_by _ _ _ _ s) c.requires.fits)
 
-pub ask_taken_in-requires-clause-fits : goal.ask_taken_in-requires-clause-fits
-ask_taken_in-requires-clause-fits g c κs within = subst FitsAsk (sym c.in_ok-asked.ensures.same) c.requires.fits
+pub returns-in_err-entry-in-Miss-clause-unanswered : goal.returns-in_err-entry-in-Miss-clause-unanswered
+returns-in_err-entry-in-Miss-clause-unanswered g c plan at =
+    let plans : List Plan = g.S.Shards.plans c.args.shards.now in
+    let s = missed_step (c.in_ok-place.ensures.steps plan at) c.in-Miss.snapshot c.in-Miss.is in
+    let are = subst (λ p. AreShards p c.anchors.result.now) c.in_ok-place.ensures.plans c.anchors.ensures in
+    on_err c.from_residual-in_err-entry-in-Miss.result
+    (unanswered_asks _ _ _ _ s c.anchors.result.now (anchors_are plans c.anchors.result.now are (home plans c.args.asked.value.channel) plan at)
+    (ask_of c.deref.result.now) (ap ask_of c.deref.ensures ∙ c.in_ok-place.ensures.same) c.in_err-entry-in-Miss.ensures.wanted)
 
-pub returns-clause-asked : goal.returns-clause-asked
-returns-clause-asked g c =
-    asked_again g.S.Shards.plans g.S.Shards.alone g.S.Shards.seen g.S.Shards.own c.args.shards.now c.taken_in.new.shards c.ask_taken_in.new.shards
-    (ask_of c.args.asked.value) (ask_of c.in_ok-asked.asked.value) c.ask_taken_in.result c.taken_in.ensures.unchanged c.in_ok-asked.ensures.same c.ask_taken_in.ensures.asked
+pub keep_at_home-requires-clause-meant : goal.keep_at_home-requires-clause-meant
+keep_at_home-requires-clause-meant g c = λ lifetimes lives plan at.
+    let plans : List Plan = g.S.Shards.plans c.args.shards.now in
+    let same : g.S.Shards.plans c.step_at_home.new.shards ≡ plans = c.in_ok-place.ensures.plans in
+    let here : home (g.S.Shards.plans c.step_at_home.new.shards) c.deref-in-Granted.result.now.channel ≡ home plans c.args.asked.value.channel = ap₂ home same (ap (λ (x : Ask). x.channel) (ap ask_of c.deref-in-Granted.ensures ∙ c.in_ok-place.ensures.same)) in
+    let there : slice_get plans (home plans c.args.asked.value.channel) ≡ Some plan = ap₂ (λ (l : List Plan) n. slice_get l n) (sym same) (sym here) ∙ at in
+    let s = missed_step (c.in_ok-place.ensures.steps plan there) c.in-Miss.snapshot c.in-Miss.is in
+    let are = subst (λ p. AreShards p c.anchors.result.now) c.in_ok-place.ensures.plans c.anchors.ensures in
+    let certs = certificates c.in-Miss.snapshot.certs.items in
+    let kept : Cached = cached (arc_value {X = CachedValue} c.in-Granted.cached) in
+    let grant : IsGrantedBy c.anchors.result.now certs c.in-Miss.snapshot.moment (ask_of c.deref.result.now) c.in-Granted.entry kept =
+    subst (Settles c.anchors.result.now certs c.in-Miss.snapshot.moment (ask_of c.deref.result.now)) c.in-Granted.is c.in_ok-entry-in-Miss.ensures.settled in
+    subst (λ n. IsKeepable plan (g.S.Shards.seen c.step_at_home.new.shards n) c.in_ok-place.place c.in-Granted.entry kept) (sym here)
+    (may_keep (ask_of c.args.asked.value) c.in_ok-place.place c.in-Miss.snapshot.moment certs s c.in-Granted.entry kept
+    (granted_as c.anchors.result.now plan.anchors (anchors_are plans c.anchors.result.now are (home plans c.args.asked.value.channel) plan there)
+    (ask_of c.args.asked.value) (ask_of c.deref.result.now) (ap ask_of c.deref.ensures ∙ c.in_ok-place.ensures.same) certs c.in-Miss.snapshot.moment c.in-Granted.entry kept grant))
 
-pub returns-clause-unanswered : goal.returns-clause-unanswered
-returns-clause-unanswered g c =
-    lacked_again g.S.Shards.plans g.S.Shards.alone g.S.Shards.seen g.S.Shards.own c.args.shards.now c.taken_in.new.shards c.ask_taken_in.new.shards
-    (ask_of c.args.asked.value) (ask_of c.in_ok-asked.asked.value) c.ask_taken_in.result c.taken_in.ensures.unchanged c.in_ok-asked.ensures.same c.ask_taken_in.ensures.unanswered
+pub returns-in_err-settled-in-Granted-clause-unanswered : goal.returns-in_err-settled-in-Granted-clause-unanswered
+returns-in_err-settled-in-Granted-clause-unanswered g c plan at =
+    let plans : List Plan = g.S.Shards.plans c.args.shards.now in
+    let mid = c.step_at_home.new.shards in
+    let later = c.keep_at_home.new.shards in
+    let same : g.S.Shards.plans mid ≡ plans = c.in_ok-place.ensures.plans in
+    let here : home (g.S.Shards.plans mid) c.deref-in-Granted.result.now.channel ≡ home plans c.args.asked.value.channel = ap₂ home same (ap (λ (x : Ask). x.channel) (ap ask_of c.deref-in-Granted.ensures ∙ c.in_ok-place.ensures.same)) in
+    let there : slice_get (g.S.Shards.plans mid) (home (g.S.Shards.plans mid) c.deref-in-Granted.result.now.channel) ≡ Some plan = ap₂ (λ (l : List Plan) n. slice_get l n) same here ∙ at in
+    let s = missed_step (c.in_ok-place.ensures.steps plan at) c.in-Miss.snapshot c.in-Miss.is in
+    let are = subst (λ p. AreShards p c.anchors.result.now) same c.anchors.ensures in
+    let certs = certificates c.in-Miss.snapshot.certs.items in
+    let kept : Cached = cached (arc_value {X = CachedValue} c.in-Granted.cached) in
+    let grant : IsGrantedBy c.anchors.result.now certs c.in-Miss.snapshot.moment (ask_of c.deref.result.now) c.in-Granted.entry kept =
+    subst (Settles c.anchors.result.now certs c.in-Miss.snapshot.moment (ask_of c.deref.result.now)) c.in-Granted.is c.in_ok-entry-in-Miss.ensures.settled in
+    let refused =
+    subst (λ al. StepRefused plan (seen_at al (g.S.Shards.seen mid) (g.S.Shards.own mid) (home plans c.args.asked.value.channel)) (seen_at al (g.S.Shards.seen later) (g.S.Shards.own later) (home plans c.args.asked.value.channel))) c.in_ok-place.ensures.alone
+    (subst (λ n. StepRefused plan (seen_at (g.S.Shards.alone mid) (g.S.Shards.seen mid) (g.S.Shards.own mid) n) (seen_at (g.S.Shards.alone mid) (g.S.Shards.seen later) (g.S.Shards.own later) n)) here
+    (c.in_err-settled-in-Granted.ensures.refused plan there)) in
+    on_err c.from_residual-in_err-settled-in-Granted.result
+    (unkept_asks (ask_of c.args.asked.value) c.in_ok-place.place c.in-Miss.snapshot.moment certs s c.in-Granted.entry kept
+    (granted_as c.anchors.result.now plan.anchors (anchors_are plans c.anchors.result.now are (home plans c.args.asked.value.channel) plan at)
+    (ask_of c.args.asked.value) (ask_of c.deref.result.now) (ap ask_of c.deref.ensures ∙ c.in_ok-place.ensures.same) certs c.in-Miss.snapshot.moment c.in-Granted.entry kept grant)
+    (seen_at (g.S.Shards.alone c.args.shards.now) (g.S.Shards.seen later) (g.S.Shards.own later) (home plans c.args.asked.value.channel)) refl refused)
 
-pub returns-clause-others : goal.returns-clause-others
-returns-clause-others g c =
-    others_again g.S.Shards.plans g.S.Shards.alone g.S.Shards.seen g.S.Shards.own c.args.shards.now c.taken_in.new.shards c.ask_taken_in.new.shards
-    (ask_of c.args.asked.value) (ask_of c.in_ok-asked.asked.value) c.taken_in.ensures.unchanged c.in_ok-asked.ensures.same c.ask_taken_in.ensures.others
+pub returns-in-Granted-clause-asked : goal.returns-in-Granted-clause-asked
+returns-in-Granted-clause-asked g c plan at =
+    let plans : List Plan = g.S.Shards.plans c.args.shards.now in
+    let mid = c.step_at_home.new.shards in
+    let later = c.keep_at_home.new.shards in
+    let same : g.S.Shards.plans mid ≡ plans = c.in_ok-place.ensures.plans in
+    let here : home (g.S.Shards.plans mid) c.deref-in-Granted.result.now.channel ≡ home plans c.args.asked.value.channel = ap₂ home same (ap (λ (x : Ask). x.channel) (ap ask_of c.deref-in-Granted.ensures ∙ c.in_ok-place.ensures.same)) in
+    let there : slice_get (g.S.Shards.plans mid) (home (g.S.Shards.plans mid) c.deref-in-Granted.result.now.channel) ≡ Some plan = ap₂ (λ (l : List Plan) n. slice_get l n) same here ∙ at in
+    let s = missed_step (c.in_ok-place.ensures.steps plan at) c.in-Miss.snapshot c.in-Miss.is in
+    let are = subst (λ p. AreShards p c.anchors.result.now) same c.anchors.ensures in
+    let certs = certificates c.in-Miss.snapshot.certs.items in
+    let kept : Cached = cached (arc_value {X = CachedValue} c.in-Granted.cached) in
+    let settled = c.in_ok-settled-in-Granted.settled in
+    let grant : IsGrantedBy c.anchors.result.now certs c.in-Miss.snapshot.moment (ask_of c.deref.result.now) c.in-Granted.entry kept =
+    subst (Settles c.anchors.result.now certs c.in-Miss.snapshot.moment (ask_of c.deref.result.now)) c.in-Granted.is c.in_ok-entry-in-Miss.ensures.settled in
+    let became =
+    subst (λ al. KeptAs plan (seen_at al (g.S.Shards.seen mid) (g.S.Shards.own mid) (home plans c.args.asked.value.channel))
+    (seen_at al (g.S.Shards.seen later) (g.S.Shards.own later) (home plans c.args.asked.value.channel)) (Keeps c.in_ok-place.place c.in-Granted.entry kept) settled) c.in_ok-place.ensures.alone
+    (subst (λ n. KeptAs plan (seen_at (g.S.Shards.alone mid) (g.S.Shards.seen mid) (g.S.Shards.own mid) n) (seen_at (g.S.Shards.alone mid) (g.S.Shards.seen later) (g.S.Shards.own later) n) (Keeps c.in_ok-place.place c.in-Granted.entry kept) settled) here
+    (c.in_ok-settled-in-Granted.ensures.kept plan there)) in
+    kept_asks (ask_of c.args.asked.value) c.in_ok-place.place c.in-Miss.snapshot.moment certs s c.in-Granted.entry kept
+    (granted_as c.anchors.result.now plan.anchors (anchors_are plans c.anchors.result.now are (home plans c.args.asked.value.channel) plan at)
+    (ask_of c.args.asked.value) (ask_of c.deref.result.now) (ap ask_of c.deref.ensures ∙ c.in_ok-place.ensures.same) certs c.in-Miss.snapshot.moment c.in-Granted.entry kept grant)
+    (seen_at (g.S.Shards.alone c.args.shards.now) (g.S.Shards.seen later) (g.S.Shards.own later) (home plans c.args.asked.value.channel)) refl settled became
+
+pub returns-in-Miss-clause-asked : goal.returns-in-Miss-clause-asked
+returns-in-Miss-clause-asked g c plan at =
+    let plans : List Plan = g.S.Shards.plans c.args.shards.now in
+    let s = missed_step (c.in_ok-place.ensures.steps plan at) c.in-Miss.snapshot c.in-Miss.is in
+    let are = subst (λ p. AreShards p c.anchors.result.now) c.in_ok-place.ensures.plans c.anchors.ensures in
+    let certs = certificates c.in-Miss.snapshot.certs.items in
+    let denied : IsDeniedBy c.anchors.result.now certs c.in-Miss.snapshot.moment (ask_of c.deref.result.now) c.in-Denied.denial =
+    subst (Settles c.anchors.result.now certs c.in-Miss.snapshot.moment (ask_of c.deref.result.now)) c.in-Denied.is c.in_ok-entry-in-Miss.ensures.settled in
+    ends_made c.ended.result c.in_ok-place.place (verdict.Denied c.in-Denied.denial) c.ended.ensures
+    (denied_asks _ _ _ _ s c.anchors.result.now (anchors_are plans c.anchors.result.now are (home plans c.args.asked.value.channel) plan at) (ask_of c.deref.result.now) (ap ask_of c.deref.ensures ∙ c.in_ok-place.ensures.same) c.in-Denied.denial denied)
+
+pub returns-in-Replayed-clause-asked : goal.returns-in-Replayed-clause-asked
+returns-in-Replayed-clause-asked g c plan at =
+    ends_made c.ended-in-Replayed.result c.in_ok-place.place _ c.ended-in-Replayed.ensures (replayed_ends (c.in_ok-place.ensures.steps plan at) c.in-Replayed.last c.in-Replayed.is)
+
+pub returns-in-Full-clause-asked : goal.returns-in-Full-clause-asked
+returns-in-Full-clause-asked g c plan at =
+    ends_made c.ended-in-Full.result c.in_ok-place.place _ c.ended-in-Full.ensures (full_ends (c.in_ok-place.ensures.steps plan at) c.in-Full.held c.in-Full.is)
+
+pub returns-in-JournalFull-clause-asked : goal.returns-in-JournalFull-clause-asked
+returns-in-JournalFull-clause-asked g c plan at =
+    ends_made c.ended-in-JournalFull.result c.in_ok-place.place _ c.ended-in-JournalFull.ensures (journal_full_ends (c.in_ok-place.ensures.steps plan at) c.in-JournalFull.length c.in-JournalFull.is)
+
+pub returns-in-Hit-clause-asked : goal.returns-in-Hit-clause-asked
+returns-in-Hit-clause-asked g c plan at =
+    hit_made c.ended-in-Hit.result c.in_ok-place.place c.in-Hit.entry c.in-Hit.cached c.ended-in-Hit.ensures (hit_ends (c.in_ok-place.ensures.steps plan at) c.in-Hit.entry c.in-Hit.cached c.in-Hit.is)
+
+pub unreachable-requires : goal.unreachable-requires
+unreachable-requires g c =
+    let plans : List Plan = g.S.Shards.plans c.args.shards.now in
+    let (plan, at) = standing plans (home plans c.args.asked.value.channel) c.in_ok-place.ensures.there in
+    other_never (c.in_ok-place.ensures.steps plan at) c.in-Kept.is

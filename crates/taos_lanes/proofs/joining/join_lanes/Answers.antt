@@ -1,5 +1,5 @@
 use Rattle.std.proofs.Common.{◌≡◌, [], ◌∷◌, ◌++◌, cond, List, Option, Some, map, take, refl, sym, ap, subst, arith, ◌∙◌, ◌<◌, ◌+◌, length}
-use Rattle.std.specs.Prelude.{IsSome}
+use Rattle.std.specs.Prelude.{IsSome, ◌==◌}
 use Rattle.std.proofs.lemmas.Option.{same_Some}
 use Rattle.taos_lanes.specs.declared.lane.Stock.{Stock}
 use Rattle.taos_lanes.specs.declared.tally.Tally.{Tally}
@@ -39,12 +39,13 @@ loop-lane-preserved g c =
           (joins_push _ _ _ _ _ _ was.joined c.join_stock.ensures.joined);
       passes = c.join_stock.ensures.passes;
       total = subst (λ (l : List Stock). IsTotalOf l c.add.new.self) (sym more)
-          (total_more _ c.unwrap-stock.result _ _ was.total
+          (total_more _ c.unwrap-stock.result _ _ was.total c.add.ensures.lanes
           (c.add.ensures.served ∙ ap (λ (x : Tally). c.loop-lane.total.served + x.served) tally)
           (c.add.ensures.broken ∙ ap (λ (x : Tally). c.loop-lane.total.broken + x.broken) tally)
           (c.add.ensures.lacked ∙ ap (λ (x : Tally). c.loop-lane.total.lacked + x.lacked) tally)
-          (c.add.ensures.doors ∙ ap (λ (x : Tally). c.loop-lane.total.doors_failed + cond x.door_failed 1 0) tally));
-      small = small_more _ _ _ _ _ _ _ was.small c.add.ensures.served c.add.ensures.broken c.add.ensures.lacked c.add.ensures.doors c.add.ensures.few;
+          (c.add.ensures.doors ∙ ap (λ (x : Tally). c.loop-lane.total.doors_failed + cond x.door_failed 1 0) tally)
+          (c.add.ensures.first ∙ ap (λ (x : Tally). cond (c.loop-lane.total.first_failed == c.loop-lane.total.lanes) (c.loop-lane.total.lanes + cond x.door_failed 0 1) c.loop-lane.total.first_failed) tally));
+      small = small_more _ _ _ _ _ _ _ was.small c.add.ensures.lanes c.add.ensures.served c.add.ensures.broken c.add.ensures.lacked c.add.ensures.doors c.add.ensures.few;
     }
 
 pub returns-clause-emptied : goal.returns-clause-emptied

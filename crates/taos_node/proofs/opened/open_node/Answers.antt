@@ -1,24 +1,36 @@
 -- the parts of the node are those of the opening
-use Rattle.std.proofs.Common.{refl, ◌∙◌}
+use Rattle.std.proofs.Common.{List, ap, sym, subst, ◌∙◌}
+use Rattle.agent_core.specs.Alone.{plans_in}
+use Rattle.agent_core.specs.Journals.{ShardSeen}
+use Rattle.object_core.specs.Objects.{ObjectSeen}
+use Rattle.object_core.specs.Shelving.{fixed_of}
+use Rattle.std.specs.Prelude.{map}
 use Rattle.node_file.specs.Meaning.{opening}
-use Rattle.taos_node.specs.Opened.{its_plans}
-use Rattle.taos_node.proofs.Nodes.{all_planned, is_node_of, none_seen}
+use Rattle.taos_monitor.specs.Arriving.{node_of}
+use Rattle.taos_monitor.specs.Planned.{ArePlanned}
+use Rattle.taos_node.specs.Opened.{IsNodeOf, its_plans}
+use Rattle.taos_node.proofs.Nodes.{none_seen}
 use Rattle.taos_node.proofs.opened.open_node.Goals as goal
-
-pub objects_of-requires : goal.objects_of-requires
-objects_of-requires c = c.requires.objects
 
 pub returns-clause-opened : goal.returns-clause-opened
 returns-clause-opened c = λ o r.
     let node = c.args.node in
-    let are = c.new-2.ensures.shards ∙ c.in_ok-shards.ensures.opened in
-    let these = c.in_ok-new.ensures.objects ∙ c.in_ok-objects.ensures.opened in
+    let parts = c.in_ok-parts.parts in
+    let are = c.new-2.ensures.shards ∙ c.in_ok-parts.ensures.shards in
+    let these = c.in_ok-new.ensures.objects ∙ c.in_ok-parts.ensures.objects in
     record {
-      is_node = is_node_of node o (record { node = node.node; relay_key = c.of.result; channels = node.channels }) c.new-2.result.shards c.in_ok-new.field-0.objects r c.in_ok-shards.ensures.sound refl c.of.ensures.key refl these are;
+      is_node = subst (λ (x : List ShardSeen × List ObjectSeen). IsNodeOf o (node_of parts.keys (plans_in x.0) (map fixed_of x.1)))
+          (λ i. (sym c.new-2.ensures.shards i, sym c.in_ok-new.ensures.objects i)) (c.in_ok-parts.ensures.is_node o r);
       unseen = none_seen c.new-2.result (its_plans (opening node) node.channels.entries) are c.new-2.ensures.own c.in_ok-new.field-0 node.limit node.objects these c.in_ok-new.ensures.own;
       none_taken = c.in_ok-new.ensures.taken;
     }
 
 pub returns-clause-planned : goal.returns-clause-planned
 returns-clause-planned c =
-    all_planned (opening c.args.node) c.args.node.channels.entries c.new-2.result.shards (c.new-2.ensures.shards ∙ c.in_ok-shards.ensures.opened)
+    subst (λ (l : List ShardSeen). ArePlanned c.in_ok-parts.parts.keys.channels.entries (plans_in l)) (sym c.new-2.ensures.shards) c.in_ok-parts.ensures.new.planned
+
+pub new-requires : goal.new-requires
+new-requires c = c.in_ok-parts.ensures.new.objects
+
+pub new-requires-2 : goal.new-requires-2
+new-requires-2 c = c.in_ok-parts.ensures.new.shards

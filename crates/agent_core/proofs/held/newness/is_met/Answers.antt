@@ -6,7 +6,7 @@ use Rattle.stmt_codec.specs.Certificates.{certificate}
 use Rattle.stmt_codec.specs.Equality.{same_certificate}
 use Rattle.stmt_codec.specs.View.{certificates}
 use Rattle.agent_core.proofs.Among.{any_at, none_more}
-use Rattle.agent_core.proofs.Places.{certificate_at}
+use Rattle.denial_link.proofs.Places.{certificate_at}
 use Rattle.agent_core.proofs.held.newness.is_met.Goals as goal
 
 pub returns-then-same : goal.returns-then-same

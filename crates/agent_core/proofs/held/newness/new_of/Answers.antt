@@ -9,7 +9,7 @@ use Rattle.agent_core.specs.Held.{among}
 use Rattle.agent_core.specs.Names.{certs_named}
 use Rattle.agent_core.specs.Views.{entry_of}
 use Rattle.agent_core.proofs.Among.{newly_more, found_at}
-use Rattle.agent_core.proofs.Places.{certificate_at}
+use Rattle.denial_link.proofs.Places.{certificate_at}
 use Rattle.agent_core.proofs.held.newness.new_of.Goals as goal
 use Rattle.agent_core.proofs.held.newness.new_of.Goals.{then-is_new, else-is_new}
 

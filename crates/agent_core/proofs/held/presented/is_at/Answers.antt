@@ -2,7 +2,7 @@
 use Rattle.std.proofs.Common.{Some, sym, ap, ◌∙◌, arith}
 use Rattle.stmt_codec.specs.declared.cert.Cert.{Cert}
 use Rattle.stmt_codec.specs.Certificates.{certificate}
-use Rattle.agent_core.proofs.Places.{certificate_at}
+use Rattle.denial_link.proofs.Places.{certificate_at}
 use Rattle.agent_core.proofs.held.presented.is_at.Goals as goal
 
 pub returns-clause-equal : goal.returns-clause-equal

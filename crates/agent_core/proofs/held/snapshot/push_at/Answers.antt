@@ -4,7 +4,7 @@ use Rattle.std.specs.List.{slice_get}
 use Rattle.stmt_codec.specs.declared.cert.Cert.{Cert}
 use Rattle.stmt_codec.specs.Certificates.{certificate}
 use Rattle.stmt_codec.specs.View.{certificates}
-use Rattle.agent_core.proofs.Places.{certificate_at}
+use Rattle.denial_link.proofs.Places.{certificate_at}
 use Rattle.agent_core.proofs.Snapshots.{gathered_more}
 use Rattle.agent_core.proofs.held.snapshot.push_at.Goals as goal
 

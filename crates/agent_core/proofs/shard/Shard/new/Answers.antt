@@ -6,7 +6,7 @@ use Rattle.agent_core.specs.declared.shard.store.Store.{Store}
 use Rattle.agent_core.specs.Kept.{AreNew, first_names}
 use Rattle.agent_core.specs.Views.{entry_of, plan_of}
 use Rattle.agent_core.proofs.Opening.{opened_kept}
-use Rattle.agent_core.proofs.Places.{certificate_count}
+use Rattle.denial_link.proofs.Places.{certificate_count}
 use Rattle.agent_core.proofs.shard.Shard.new.Goals as goal
 
 pub invariant_of-result : goal.invariant_of-result

@@ -57,5 +57,6 @@ returns-then-deref-last-clause-cached c =
 
 pub returns-then-held-len-gt-MAX_OWN-clause-cached : goal.returns-then-held-len-gt-MAX_OWN-clause-cached
 returns-then-held-len-gt-MAX_OWN-clause-cached c =
-    tells_follow (plan_of c.args.plan.now) c.args.entries.now c.refuse-then-held-len-gt-MAX_OWN.new.entries (Asks (ask_of c.args.asked.value)) (Told.Full c.len-held.result) c.refuse-then-held-len-gt-MAX_OWN.new.store c.refuse-then-held-len-gt-MAX_OWN.ensures.tells c.args.cache.now c.purge_before-then-held-len-gt-MAX_OWN.new.self c.requires.cached
+    tells_follow (plan_of c.args.plan.now) c.args.entries.now c.refuse-then-held-len-gt-MAX_OWN.new.entries (Asks (ask_of c.args.asked.value)) (Told.Full c.len-held.result)
+    c.refuse-then-held-len-gt-MAX_OWN.new.store c.refuse-then-held-len-gt-MAX_OWN.ensures.tells c.args.cache.now c.purge_before-then-held-len-gt-MAX_OWN.new.self c.requires.cached
     (c.purge_before-then-held-len-gt-MAX_OWN.ensures ∙ ap (λ n. unlapsed n c.args.cache.now) (sym c.refuse-then-held-len-gt-MAX_OWN.ensures.clock))

@@ -10,7 +10,7 @@ use Rattle.agent_core.specs.Names.{named}
 use Rattle.agent_core.specs.State.{Plan, State}
 use Rattle.agent_core.specs.Views.{entry_of, plan_of}
 use Rattle.agent_core.proofs.Changing.{row_found, swept_later}
-use Rattle.agent_core.proofs.Places.{certificate_count}
+use Rattle.denial_link.proofs.Places.{certificate_count}
 use Rattle.agent_core.proofs.Rows.{left_named, left_names}
 use Rattle.agent_core.proofs.shard.asking.look_at.Goals as goal
 

@@ -6,7 +6,7 @@ use Rattle.stmt_codec.specs.declared.cert.Cert.{Cert}
 use Rattle.stmt_codec.specs.Certificates.{Certificate, certificate}
 use Rattle.stmt_codec.specs.View.{certificates}
 use Rattle.agent_core.proofs.Keepable.{differs_more}
-use Rattle.agent_core.proofs.Places.{certificate_at}
+use Rattle.denial_link.proofs.Places.{certificate_at}
 use Rattle.agent_core.proofs.shard.keepable.is_first.Goals as goal
 
 pub returns-then-same : goal.returns-then-same

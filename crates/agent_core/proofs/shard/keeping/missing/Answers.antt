@@ -8,7 +8,7 @@ use Rattle.agent_core.specs.Held.{among}
 use Rattle.agent_core.specs.Names.{certs_named}
 use Rattle.agent_core.specs.Views.{entry_of}
 use Rattle.agent_core.proofs.Firsts.{first_found, none_found, none_passes_more}
-use Rattle.agent_core.proofs.Places.{certificate_at, certificate_count}
+use Rattle.denial_link.proofs.Places.{certificate_at, certificate_count}
 use Rattle.agent_core.proofs.shard.keeping.missing.Goals as goal
 
 pub returns-then-not-is_held : goal.returns-then-not-is_held

@@ -11,7 +11,7 @@ use Rattle.agent_core.specs.Views.{entry_of, plan_of}
 use Rattle.agent_core.specs.Held.{newly}
 use Rattle.agent_core.specs.Names.{name_in}
 use Rattle.agent_core.proofs.Bringing.{commons_full, commons_fit, commons_held, held_more}
-use Rattle.agent_core.proofs.Places.{certificate_count}
+use Rattle.denial_link.proofs.Places.{certificate_count}
 use Rattle.agent_core.proofs.Journaling.{store_more, tells_more}
 use Rattle.agent_core.proofs.shard.plain.hold.Goals as goal
 

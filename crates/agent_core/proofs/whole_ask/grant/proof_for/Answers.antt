@@ -10,12 +10,11 @@ use Rattle.taos_calculus.specs.Tables.{lines_of}
 use Rattle.denial_link.specs.Revived.{claims}
 use Rattle.proof_cache.specs.Cached.{cached}
 use Rattle.denial_link.proofs.Entries.{part_of_subject, entry_is_term}
-use Rattle.denial_link.proofs.Places.{entry_at}
+use Rattle.denial_link.proofs.Places.{certificate_count, entry_at}
 use Rattle.denial_link.proofs.Reaching.{part_itself}
 use Rattle.agent_core.specs.Views.{ask_of}
 use Rattle.agent_core.proofs.Citing.{cites, proof_made}
 use Rattle.agent_core.proofs.Marks.{backward}
-use Rattle.agent_core.proofs.Places.{certificate_count}
 use Rattle.agent_core.proofs.whole_ask.grant.proof_for.Goals as goal
 
 pub take_proof-requires-clause-left : goal.take_proof-requires-clause-left

@@ -6,7 +6,7 @@ use Rattle.stmt_codec.specs.View.{certificates}
 use Rattle.agent_core.specs.declared.asked.Denial.{Denial}
 use Rattle.agent_core.specs.Asked.{Names}
 use Rattle.agent_core.specs.Settling.{IsPlaceIn}
-use Rattle.agent_core.proofs.Places.{certificate_at, certificate_count}
+use Rattle.denial_link.proofs.Places.{certificate_at, certificate_count}
 use Rattle.agent_core.proofs.whole_ask.settling.denial_of.Goals as goal
 
 pub returns-in-Expired : goal.returns-in-Expired

@@ -3,6 +3,6 @@ use Rattle.goal_search.specs.Gaps.{IsPassedOnIn}
 use Rattle.goal_search.specs.Searching.{core, IsNumber}
 use Rattle.goal_search.proofs.search.Search.all_passed_gaps.Goals as goal
 
-pub loop-from-preserved : goal.loop-from-preserved
-loop-from-preserved c =
-    below_more (λ (i : ℕ). (to : ℕ) → IsNumber (core c.args.self.now) to → IsPassedOnIn (core c.args.self.now) c.args.row i to) c.loop-from.from c.loop-from.invariant c.in_default.ensures
+pub loop-to-preserved : goal.loop-to-preserved
+loop-to-preserved c =
+    below_more (λ (i : ℕ). (from : ℕ) → IsNumber (core c.args.self.now) from → IsPassedOnIn (core c.args.self.now) c.args.row from i) c.loop-to.to c.loop-to.invariant c.in_default.ensures

@@ -3,5 +3,5 @@ use Rattle.goal_search.specs.Gaps.{IsPassedOnIn}
 use Rattle.goal_search.specs.Searching.{core, IsNumber}
 use Rattle.goal_search.proofs.search.Search.all_passed_gaps.Given as goal
 
-abbrev pub invariant-loop-from : goal.invariant-loop-from
-invariant-loop-from l = (i : ℕ) → i < l.from → (to : ℕ) → IsNumber (core l.self) to → IsPassedOnIn (core l.self) l.row i to
+abbrev pub invariant-loop-to : goal.invariant-loop-to
+invariant-loop-to l = (i : ℕ) → i < l.to → (from : ℕ) → IsNumber (core l.self) from → IsPassedOnIn (core l.self) l.row from i

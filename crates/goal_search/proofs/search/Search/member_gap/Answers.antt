@@ -4,4 +4,4 @@ use Rattle.goal_search.proofs.Refusals.{never}
 use Rattle.goal_search.proofs.search.Search.member_gap.Goals as goal
 
 pub returns-then-not-has : goal.returns-then-not-has
-returns-then-not-has c = λ to h. lacks_passed (core c.args.self.now) c.args.row c.args.from to (λ k. never (c.if-not-has.ensures.1 k))
+returns-then-not-has c = lacks_passed (core c.args.self.now) c.args.row c.args.from c.args.to (λ k. never (c.if-not-has.ensures.1 k))

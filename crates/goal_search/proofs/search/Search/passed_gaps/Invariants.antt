@@ -3,5 +3,5 @@ use Rattle.goal_search.specs.Gaps.{IsPassedOnIn}
 use Rattle.goal_search.specs.Searching.{core}
 use Rattle.goal_search.proofs.search.Search.passed_gaps.Given as goal
 
-abbrev pub invariant-loop-to : goal.invariant-loop-to
-invariant-loop-to l = (i : ℕ) → i < l.to → IsPassedOnIn (core l.self) l.row l.from i
+abbrev pub invariant-loop-from : goal.invariant-loop-from
+invariant-loop-from l = (i : ℕ) → i < l.from → IsPassedOnIn (core l.self) l.row i l.to

@@ -8,5 +8,7 @@ use Rattle.goal_search.proofs.search.Search.row_gap.Goals as goal
 pub returns : goal.returns
 returns c =
     for_none c.all_passed_gaps.result (IsGap (core c.args.self.now))
-    (finished_row (core c.args.self.now) c.args.row c.requires.ready c.in_default.ensures c.in_default-name_gaps.ensures c.in_default-heard_gaps.ensures)
+    (λ passed.
+    finished_row (core c.args.self.now) c.args.row c.requires.ready c.in_default.ensures c.in_default-name_gaps.ensures c.in_default-heard_gaps.ensures
+    (λ from to inside there. passed to from there inside))
     c.all_passed_gaps.ensures

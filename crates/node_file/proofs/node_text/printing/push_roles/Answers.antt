@@ -1,19 +1,20 @@
-use Rattle.std.proofs.Common.{ℕ, List, sym, arith}
-use Rattle.std.specs.Prelude.{codes}
-use Rattle.std.proofs.lemmas.Option.{slice_get_within}
-use Rattle.node_file.specs.FilePrinting.{text_line}
-use Rattle.node_file.proofs.PrintedLists.{all_lines, more_lines, past}
+use Rattle.std.proofs.Common.{◌++◌, ◌∷◌, [], ℕ, List, append_assoc, sym, ap, ◌∙◌}
+use Rattle.std.specs.Prelude.{codes, string_bytes}
+use Rattle.prin_text.specs.Labels.{Rows}
+use Rattle.node_file.specs.FilePrinting.{ended, text_line}
+use Rattle.node_file.proofs.PrintedLists.{last_line, next_line}
 use Rattle.node_file.proofs.node_text.printing.push_roles.Goals as goal
 
 pub loop-number-preserved : goal.loop-number-preserved
 loop-number-preserved c =
-    let row : ℕ × List ℕ = (c.in-Some.number, c.in-Some.text.now) in
-    let within = slice_get_within c.args.names.now.roles c.loop-number.place row (sym c.in-Some.ensures.value) in
+    let so = c.loop-number.invariant in
+    let row : ℕ × List ℕ = (c.in-Some.number.now, c.in-Some.label.now) in
+    let here = ap (λ (t : List ℕ). string_bytes c.loop-number.out ++ ended (text_line (codes "role") (c.in-Some.number.now, t))) c.text.ensures in
     record {
-      printed = more_lines (text_line (codes "role")) c.args.names.now.roles c.loop-number.place _ row _ _ (sym c.in-Some.ensures.value) c.loop-number.invariant.printed c.in_ok-push_text.ensures;
-      within = omega (arith, within);
+      before = so.before ++ row ∷ [];
+      split = append_assoc so.before (row ∷ []) c.next.new.self ∙ ap (λ (l : Rows). so.before ++ l) (sym c.in-Some.ensures.steps) ∙ so.split;
+      printed = next_line (text_line (codes "role")) _ so.before row _ _ so.printed (c.in_ok-push_text.ensures ∙ here);
     }
 
 pub returns : goal.returns
-returns c =
-    all_lines (text_line (codes "role")) c.args.names.now.roles c.loop-number.place _ _ (past c.args.names.now.roles c.loop-number.place (sym c.in_default.ensures.value)) c.loop-number.invariant.printed
+returns c = last_line (text_line (codes "role")) _ c.loop-number.invariant.before _ _ _ c.loop-number.invariant.split c.in-None.ensures.steps.0 c.loop-number.invariant.printed

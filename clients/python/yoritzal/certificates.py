@@ -1,0 +1,94 @@
+"""Certificates: an issuer's word that one principal speaks for another."""
+import hashlib
+from dataclasses import dataclass
+
+from .fields import Reader, number
+from .tags import TAG_BYTES, is_tag, tagged
+from .terms import STATED_NODES, And, As, For, Key, Quoting, read_term, term
+
+MAX_PARTS = 16
+# Under the issuer's own seal, and under the seal that a relay shares with a node.
+ISSUED, RELAYED = 1, 2
+
+
+def read_quoted(fields, most_nodes):
+    """The quoted principal, or None."""
+    return read_term(fields, most_nodes) if fields.number(1, most=1) else None
+
+
+def quoted_field(quoted, most_nodes):
+    return b"\0" if quoted is None else b"\1" + term(quoted, most_nodes)
+
+
+@dataclass(frozen=True)
+class Body:
+    """What an issuer says: that `left` speaks for `right`, until a second since 1970. The serial number tells
+    certificates of one content apart."""
+
+    issuer: int
+    left: object
+    right: object
+    until: int
+    serial: int
+    quoted: object = None
+
+    @property
+    def speaker(self):
+        return Key(self.issuer) if self.quoted is None else Quoting(Key(self.issuer), self.quoted)
+
+    def __bytes__(self):
+        if len(parts(self.speaker, self.left, self.right)) > MAX_PARTS:
+            raise ValueError(f"a certificate of more than {MAX_PARTS} distinct parts")
+        head = b"\1" + number(self.issuer, 4) + quoted_field(self.quoted, STATED_NODES)
+        stated = term(self.left, STATED_NODES) + term(self.right, STATED_NODES)
+        return head + stated + number(self.until, 8) + number(self.serial, 8)
+
+    @property
+    def digest(self):
+        """What a denial and a Discard name it by."""
+        return hashlib.sha256(bytes(self)).digest()
+
+
+def parts(*principals):
+    """The distinct principals in these, each of them included."""
+    found, waiting = set(), list(principals)
+    while waiting:
+        part = waiting.pop()
+        if part in found:
+            continue
+        found.add(part)
+        if isinstance(part, (And, Quoting, For)):
+            waiting += [part.left, part.right]
+        elif isinstance(part, As):
+            waiting.append(part.who)
+    return found
+
+
+def read_body(data):
+    """The body that is spelled by all these bytes."""
+    fields = Reader(data)
+    if fields.number(1) != 1:
+        fields.refuse("a certificate of another version", 0)
+    issuer, quoted = fields.number(4), read_quoted(fields, STATED_NODES)
+    left, right = read_term(fields, STATED_NODES), read_term(fields, STATED_NODES)
+    body = Body(issuer, left, right, 0, 0, quoted)
+    if len(parts(body.speaker, left, right)) > MAX_PARTS:
+        fields.refuse("a certificate of too many distinct parts")
+    until, serial = fields.number(8), fields.number(8)
+    fields.end()
+    return Body(issuer, left, right, until, serial, quoted)
+
+
+def sealed(key, body, kind=ISSUED):
+    """The certificate as it is presented, under this key: that of its issuer, if the kind is ISSUED."""
+    return tagged(key, number(kind, 1) + bytes(body))
+
+
+def body_of(certificate):
+    """What a certificate says, whoever sealed it."""
+    return read_body(certificate[1:-TAG_BYTES])
+
+
+def opens(certificate, key):
+    """Whether it is sealed under this key."""
+    return is_tag(certificate[-TAG_BYTES:], key, certificate[:-TAG_BYTES])

@@ -1,0 +1,54 @@
+"""Fields one behind the other. Numbers are unsigned, of a fixed width, with the highest byte first."""
+
+
+class Malformed(ValueError):
+    """Bytes that spell nothing: the one at this offset can't stand there, or is lacking."""
+
+    def __init__(self, offset, what):
+        super().__init__(f"{what} at byte {offset}")
+        self.offset = offset
+
+
+class Reader:
+    """Takes fields from the front of some bytes."""
+
+    def __init__(self, data):
+        self.data, self.at = bytes(data), 0
+
+    def refuse(self, what, at=None):
+        raise Malformed(self.at if at is None else at, what)
+
+    def take(self, count):
+        end = self.at + count
+        if end > len(self.data):
+            self.refuse("bytes are lacking", len(self.data))
+        taken, self.at = self.data[self.at : end], end
+        return taken
+
+    def number(self, width, most=None):
+        """A number of so many bytes, which is at most `most`."""
+        at = self.at
+        number = int.from_bytes(self.take(width), "big")
+        if most is not None and number > most:
+            self.refuse(f"the number {number}", at)
+        return number
+
+    def counted(self, width):
+        """Bytes behind their length."""
+        return self.take(self.number(width))
+
+    def end(self):
+        if self.at != len(self.data):
+            self.refuse("bytes follow")
+
+
+def number(value, width):
+    """The field of a number. One that has no room in it is refused by ValueError."""
+    if not isinstance(value, int) or not 0 <= value < 1 << 8 * width:
+        raise ValueError(f"{value!r} is no number of {width} bytes")
+    return value.to_bytes(width, "big")
+
+
+def counted(data, width):
+    """Bytes behind their length."""
+    return number(len(data), width) + bytes(data)

@@ -1,0 +1,258 @@
+"""Replies: what a node answers. Nothing of one is believed before its tag is found right."""
+from dataclasses import dataclass
+
+from .certificates import read_body
+from .fields import Malformed, Reader
+from .proofs import Proof, ProofFault, read_proof
+from .tags import TAG_BYTES, is_tag
+from .terms import ENTRY_NODES, read_term
+
+VERSION = 4
+MAX_CITED, MAX_REPLY = 64, (1 << 26) - 1
+DIGEST_BYTES = 32
+
+
+@dataclass(frozen=True)
+class Reply:
+    """What is told of a request: it is answered by its channel and number. `status` is the byte of its sort."""
+
+    channel: int
+    number: int
+    status = None
+
+
+@dataclass(frozen=True)
+class Granted(Reply):
+    """The operation is done. `kept` tells whether the proof was made for an earlier request, `entry` which entry of the
+    object's list has the right, shard and place where the request stands in the journals; `result` is what was read."""
+
+    kept: bool
+    entry: int
+    shard: int
+    place: int
+    proof: Proof
+    certificates: tuple
+    result: bytes
+    status = 0
+
+    def check(self, request, anchors, entries):
+        """Refuses the grant by ProofFault where its proof does not show that the one who asked speaks for its entry, by
+        the anchors of the node's opening and the certificates that it cites. `entries` is the object's access list.
+        Nothing is looked up about seals and ends of the certificates: a reply has none, and no clock is read."""
+        entry = entries[self.entry] if self.entry < len(entries) else None
+        if entry is None or not entry.rights & request.operation.right:
+            raise ProofFault(f"entry {self.entry} does not have the right")
+        self.proof.follows(anchors, self.certificates)
+        if not self.proof.concludes(request.subject, entry.who):
+            raise ProofFault(f"the proof is of something else than entry {self.entry}")
+
+
+@dataclass(frozen=True)
+class Expired:
+    """An entry would be reached but for the certificate of this digest, which has ended."""
+
+    entry: int
+    digest: bytes
+
+
+@dataclass(frozen=True)
+class Missing:
+    """Nothing speaks for this part of the entry."""
+
+    entry: int
+    part: object
+
+
+@dataclass(frozen=True)
+class NoEntry:
+    """No entry of the list has the right."""
+
+
+@dataclass(frozen=True)
+class Denied(Reply):
+    """Nothing was done. The link is the first that is missing: Expired, Missing or NoEntry."""
+
+    shard: int
+    place: int
+    link: object
+    status = 1
+
+
+@dataclass(frozen=True)
+class MalformedRequest(Reply):
+    offset: int
+    status = 2
+
+
+@dataclass(frozen=True)
+class UnknownChannel(Reply):
+    unknown: int
+    status = 3
+
+
+@dataclass(frozen=True)
+class BadSeal(Reply):
+    status = 4
+
+
+@dataclass(frozen=True)
+class Replayed(Reply):
+    """The channel's last number is as high."""
+
+    last: int
+    status = 5
+
+
+@dataclass(frozen=True)
+class CertificateRefused(Reply):
+    """The presented certificate of this index, and the code that says why."""
+
+    index: int
+    code: int
+    status = 6
+
+
+@dataclass(frozen=True)
+class ChannelFull(Reply):
+    held: int
+    status = 7
+
+
+@dataclass(frozen=True)
+class RelayFailed(Reply):
+    """No relay answered for the presented certificate of this index."""
+
+    index: int
+    status = 8
+
+
+@dataclass(frozen=True)
+class UnknownObject(Reply):
+    object: int
+    status = 9
+
+
+@dataclass(frozen=True)
+class JournalFull(Reply):
+    """The journal of an object (`which` 0) or of a shard (1) has no room."""
+
+    which: int
+    full: int
+    length: int
+    status = 10
+
+
+@dataclass(frozen=True)
+class OutOfMemory(Reply):
+    status = 11
+
+
+@dataclass(frozen=True)
+class CommonsFull(Reply):
+    held: int
+    shard: int
+    status = 12
+
+
+@dataclass(frozen=True)
+class NotHeld(Reply):
+    """No shard held the certificate of this digest."""
+
+    digest: bytes
+    status = 13
+
+
+# The widths of the numbers that each of these has.
+NUMBERS = {MalformedRequest: [4], UnknownChannel: [4], BadSeal: [], Replayed: [8], CertificateRefused: [1, 1],
+           ChannelFull: [1], RelayFailed: [1], UnknownObject: [4], JournalFull: [1, 4, 8], OutOfMemory: [],
+           CommonsFull: [1, 4]}
+BY_STATUS = {form.status: form for form in NUMBERS}
+# These come without a seal, and OutOfMemory may.
+UNSEALED = (MalformedRequest, UnknownChannel, BadSeal)
+
+
+def _read_granted(fields, channel, number):
+    kept, entry = bool(fields.number(1, most=1)), fields.number(1)
+    shard, place = fields.number(4), fields.number(8)
+    proof = read_proof(fields.counted(4))
+    bodies = tuple(read_body(fields.counted(2)) for _ in range(fields.number(1, most=MAX_CITED)))
+    return Granted(channel, number, kept, entry, shard, place, proof, bodies, fields.counted(2))
+
+
+def _read_link(fields):
+    at = fields.at
+    kind = fields.number(1)
+    if kind == 1:
+        return Expired(fields.number(1), fields.take(DIGEST_BYTES))
+    if kind == 2:
+        return Missing(fields.number(1), read_term(fields, ENTRY_NODES))
+    if kind == 3:
+        return NoEntry()
+    return fields.refuse(f"a link of kind {kind}", at)
+
+
+def _read_fields(fields, channel, number):
+    at = fields.at
+    status = fields.number(1)
+    if status == Granted.status:
+        return _read_granted(fields, channel, number)
+    if status == Denied.status:
+        return Denied(channel, number, fields.number(4), fields.number(8), _read_link(fields))
+    if status == NotHeld.status:
+        return NotHeld(channel, number, fields.take(DIGEST_BYTES))
+    if status not in BY_STATUS:
+        fields.refuse(f"a reply of status {status}", at)
+    form = BY_STATUS[status]
+    reply = form(channel, number, *[fields.number(width) for width in NUMBERS[form]])
+    if form is JournalFull and reply.which > 1:
+        fields.refuse(f"a journal of sort {reply.which}", at + 1)
+    return reply
+
+
+def read_reply(payload):
+    """The reply that is spelled by the payload. Its tag is not looked at."""
+    fields = Reader(payload[:-TAG_BYTES])
+    if len(payload) < TAG_BYTES or fields.number(1) != VERSION:
+        fields.refuse("a reply of another version", 0)
+    reply = _read_fields(fields, fields.number(4), fields.number(8))
+    fields.end()
+    if isinstance(reply, UNSEALED) and not is_unsealed(payload):
+        fields.refuse("a seal where there is none")
+    return reply
+
+
+def is_unsealed(payload):
+    """Whether nobody sealed the reply: anyone can make such a one, and it tells nothing of any request."""
+    return payload[1:13] == bytes(12) and payload[-TAG_BYTES:] == bytes(TAG_BYTES)
+
+
+class Unbelieved(ValueError):
+    """A payload that is no reply under the channel's key. `told` is what it says, if it is a reply without a seal."""
+
+    def __init__(self, what, told=None):
+        super().__init__(what)
+        self.told = told
+
+
+def believed(payload, channel, key):
+    """The reply under the key of this channel. Any other payload is refused by Unbelieved."""
+    if len(payload) <= TAG_BYTES:
+        raise Unbelieved("no reply")
+    if is_unsealed(payload):
+        raise Unbelieved("a reply that nobody sealed", _told(payload))
+    if not is_tag(payload[-TAG_BYTES:], key, payload[:-TAG_BYTES]):
+        raise Unbelieved("another tag than that of the channel's key")
+    try:
+        reply = read_reply(payload)
+    except Malformed as fault:
+        raise Unbelieved(f"a sealed reply that spells nothing: {fault}") from fault
+    if reply.channel != channel:
+        raise Unbelieved(f"a reply to channel {reply.channel}")
+    return reply
+
+
+def _told(payload):
+    try:
+        return read_reply(payload)
+    except Malformed:
+        return None

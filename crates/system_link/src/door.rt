@@ -1,0 +1,164 @@
+//! A door over a listener.
+
+ghost use Rattle.std.specs.Prelude.{◌≡◌, IsSome, None, IfOk, OnErr};
+
+use crate::peer::{PeerInput, PeerOutput, Terms, halves};
+use frame_link::{Door, Failed};
+use std::alloc::Global;
+use std::io::ErrorKind;
+use std::net::TcpListener;
+use std::time::{Clock, Duration};
+use std::{io, thread};
+
+// The milliseconds that a door waits where the system lacks what a connection takes.
+const SCARCE: u64 = 100;
+
+// The system's numbers of errors that have no kind of their own.
+const NO_MEMORY: i32 = 12;
+
+const TOO_MANY_FILES: i32 = 23;
+
+const TOO_MANY_OF_MINE: i32 = 24;
+
+const NO_NETWORK: i32 = 64;
+
+const BAD_PROTOCOL: i32 = 71;
+
+const NO_OPTION: i32 = 92;
+
+const NO_BUFFERS: i32 = 105;
+
+const HOST_DOWN: i32 = 112;
+
+// Why there is no connection.
+#[derive(Clone, Copy, Debug, PartialEq, Eq)]
+enum Cause {
+    // The connection that was next is none any more.
+    Peer,
+    // The system lacks descriptors or memory.
+    Scarce,
+    // The listener itself.
+    Listener,
+}
+
+fn cause_of(error: &io::Error) -> Cause {
+    match error.kind() {
+        ErrorKind::Interrupted
+        | ErrorKind::ConnectionAborted
+        | ErrorKind::ConnectionReset
+        | ErrorKind::TimedOut
+        | ErrorKind::WouldBlock
+        | ErrorKind::NetworkDown
+        | ErrorKind::NetworkUnreachable
+        | ErrorKind::HostUnreachable => return Cause::Peer,
+        ErrorKind::PermissionDenied => return Cause::Scarce,
+        _ => {}
+    }
+    match error.raw_os_error() {
+        Some(NO_NETWORK | BAD_PROTOCOL | NO_OPTION | HOST_DOWN) => Cause::Peer,
+        Some(NO_MEMORY | TOO_MANY_FILES | TOO_MANY_OF_MINE | NO_BUFFERS) => Cause::Scarce,
+        _ => Cause::Listener,
+    }
+}
+
+/// What stands behind a door.
+#[derive(Clone, Copy)]
+pub enum Doorway<'a> {
+    /// No address is wanted: the door has ended.
+    Ended,
+    /// The address could not be bound: each `accept` fails.
+    Unbound,
+    Bound(&'a TcpListener),
+}
+
+/// Gives the connections of a listener, one after the other. Other doors may have the same listener.
+#[derive(Drop)]
+pub struct TcpDoor<'a, C> {
+    doorway: Doorway<'a>,
+    alloc: Global,
+    terms: Terms<'a, C>,
+    given: u64,
+    faults: u64,
+}
+
+impl<'a, C: Clock> TcpDoor<'a, C> {
+    pub fn new(doorway: Doorway<'a>, alloc: Global, terms: Terms<'a, C>) -> TcpDoor<'a, C>
+        ensures { (result.given ≡ 0) × (result.faults ≡ 0) }
+    {
+        TcpDoor {
+            doorway,
+            alloc,
+            terms,
+            given: 0,
+            faults: 0,
+        }
+    }
+
+    /// How often it has failed.
+    pub fn faults(&self) -> u64
+        ensures { result ≡ self.now.faults }
+    {
+        self.faults
+    }
+
+    // The next connection of a listener. A connection that memory or descriptors lack for is
+    // closed, and the next one is waited for.
+    fn next_of(
+        &self,
+        listener: &TcpListener,
+    ) -> Result<Option<(PeerInput<'a, C>, PeerOutput<'a, C>)>, Failed> {
+        for _ in 0..u64::MAX {
+            let accepted = listener.accept();
+            if self.terms.stop.is_asked() {
+                return Ok(None);
+            }
+            match accepted {
+                Ok((stream, _)) => {
+                    if let Ok(connection) = halves(self.alloc, &self.terms, stream) {
+                        return Ok(Some(connection));
+                    }
+                }
+                Err(error) => match cause_of(&error) {
+                    Cause::Peer => {}
+                    Cause::Scarce => thread::sleep(self.terms.clock, Duration::from_millis(SCARCE)),
+                    Cause::Listener => return Err(Failed),
+                },
+            }
+        }
+        Err(Failed)
+    }
+}
+
+impl<'a, C: Clock + Sync> Door for TcpDoor<'a, C> {
+    type In = PeerInput<'a, C>;
+
+    type Out = PeerOutput<'a, C>;
+
+    ghost left = { λ _. None };
+
+    ghost given = { λ d. d.given };
+
+    ghost back = { λ _. None };
+
+    ghost faults = { λ d. d.faults };
+
+    fn accept(&mut self) -> Result<Option<(PeerInput<'a, C>, PeerOutput<'a, C>)>, Failed> {
+        let next = match self.doorway {
+            Doorway::Ended => Ok(None),
+            Doorway::Unbound => Err(Failed),
+            Doorway::Bound(listener) => self.next_of(listener),
+        };
+        match &next {
+            Ok(Some(_)) => self.given = self.given.saturating_add(1),
+            Ok(None) => {}
+            Err(Failed) => self.faults = self.faults.saturating_add(1),
+        }
+        next
+    }
+
+    // Whether its last replies came through is not told: a connection that is given back was
+    // answered as it was.
+    fn done(&mut self, mut input: PeerInput<'a, C>, _output: PeerOutput<'a, C>) {
+        input.inner_mut().get_mut().close();
+    }
+}

@@ -1,0 +1,30 @@
+//! The outside as the system has it: streams and files, the clock, replies that leave together, and
+//! a link to a relay. Each counts its faults.
+#![tactic(auto)]
+
+mod clock;
+mod door;
+mod exchange;
+mod files;
+mod line;
+mod listen;
+mod outbox;
+mod pace;
+mod peer;
+mod place;
+mod relay;
+mod stop;
+mod streams;
+mod term;
+mod warnings;
+
+pub use clock::{AHEAD, SystemSeconds, seconds_of};
+pub use door::{Doorway, TcpDoor};
+pub use files::{FileReading, Origin};
+pub use listen::{MAX_ADDRESSES, addresses_of, bind_all, first_place, tell_addresses};
+pub use outbox::{Deferred, Outbox, PIECE, Prompt};
+pub use peer::{FIRST, FRAME, IDLE, LINGER, PeerInput, PeerOutput, TAKE, Terms};
+pub use relay::{LIMIT, REST, TcpRelay};
+pub use stop::{Shutter, Stop, stop_at_end};
+pub use streams::{Reading, Writing};
+pub use warnings::{Watched, tell_readers};

@@ -1,0 +1,65 @@
+//! Where the program listens: a list of addresses, and a listener for each of them.
+
+ghost use Rattle.std.specs.Prelude.{◌<◌, ◌≤◌, length};
+
+use arrayvec::ArrayVec;
+use std::alloc::{AllocError, Global};
+use std::io::Write;
+use std::net::{Net, TcpListener, TcpStream};
+
+/// The most addresses of a list.
+pub const MAX_ADDRESSES: usize = 16;
+
+/// The addresses that a text joins by commas; `-` joins none. `None` where there are more than 16.
+pub fn addresses_of(listen: &str) -> Option<ArrayVec<&str, 16>> {
+    let mut addresses = ArrayVec::new();
+    if listen == "-" {
+        return Some(addresses);
+    }
+    for address in listen.split(',') {
+        if addresses.try_push(address).is_err() {
+            return None;
+        }
+    }
+    Some(addresses)
+}
+
+/// Where the address of a place stands first.
+pub fn first_place(addresses: &[&str], place: usize) -> usize
+    requires { place < length addresses.now }
+    ensures { result ≤ place }
+{
+    for earlier in 0..place {
+        if addresses[earlier] == addresses[place] {
+            return earlier;
+        }
+    }
+    place
+}
+
+/// For each address its listener: at its first place, where it can be bound, and at no other.
+pub fn bind_all<R: Net<Listener = TcpListener, Stream = TcpStream>>(
+    network: &R,
+    alloc: Global,
+    addresses: &[&str],
+) -> Result<Vec<Option<TcpListener>>, AllocError> {
+    let mut listeners = Vec::new(alloc);
+    for place in 0..addresses.len() {
+        let mut listener = None;
+        if first_place(addresses, place) == place {
+            listener = TcpListener::bind(network, addresses[place]).ok();
+        }
+        listeners.push(listener)?;
+    }
+    Ok(listeners)
+}
+
+/// Writes a line for each listener, with its address as it was bound. A line that can't be written
+/// is missing.
+pub fn tell_addresses<E: Write>(errors: &mut E, listeners: &[Option<TcpListener>]) {
+    for listener in listeners.iter().flatten() {
+        if let Ok(address) = listener.local_addr() {
+            let _ = writeln!(errors, "taosd: listening on {address}");
+        }
+    }
+}

@@ -1,0 +1,233 @@
+//! The two halves of a connection, and how long its peer may take.
+
+ghost use Rattle.std.specs.Prelude.{◌≡◌};
+ghost use Rattle.std.specs.Io.{ReadsAtMost};
+
+use crate::line::Line;
+use crate::outbox::{Deferred, Outbox, PIECE};
+use crate::pace::Pace;
+use crate::stop::Stop;
+use crate::streams::{Reading, Writing, is_cut_short};
+use crate::term::Term;
+use std::alloc::Global;
+use std::io;
+use std::io::{BufReader, ErrorKind, Read, Write};
+use std::net::{Shutdown, TcpStream};
+use std::sync::Arc;
+use std::time::{Clock, Duration};
+
+/// The seconds from a connection's begin to the end of its first frame.
+pub const FIRST: u64 = 2;
+
+/// The seconds that a frame may take once it has begun.
+pub const FRAME: u64 = 10;
+
+/// The seconds between frames, where nothing else is said.
+pub const IDLE: u64 = 60;
+
+/// The seconds that a peer has to take a reply.
+pub const TAKE: u64 = 10;
+
+/// The seconds in which a connection that was answered may still send what nobody reads.
+pub const LINGER: u64 = 1;
+
+// The milliseconds that a connection between two frames waits before it looks whether it shall stop.
+const LOOK: u64 = 250;
+
+/// What comes from a peer.
+pub type PeerInput<'a, C> = Reading<BufReader<Hearing<'a, C>>>;
+
+/// What goes to a peer.
+pub type PeerOutput<'a, C> = Writing<Holding<'a, C>>;
+
+/// The end of a stream that a peer takes bytes from.
+#[derive(Drop)]
+pub struct Sending<'a, C> {
+    stream: TcpStream,
+    clock: &'a C,
+    pace: Pace,
+}
+
+impl<'a, C: Clock> Write for Sending<'a, C> {
+    fn write(&mut self, piece: &[u8]) -> io::Result<usize> {
+        let Some(term) = self.pace.term(self.clock, Duration::from_secs(TAKE)) else {
+            return Err(io::Error::from(ErrorKind::TimedOut));
+        };
+        let line = Line {
+            stream: &self.stream,
+            clock: self.clock,
+            term,
+        };
+        let count = line.send(piece)?;
+        // A call that the term cut short may have taken some bytes.
+        if term.left(self.clock).is_none() {
+            return Err(io::Error::from(ErrorKind::TimedOut));
+        }
+        self.pace.pass(&piece[..count]);
+        Ok(count)
+    }
+
+    fn flush(&mut self) -> io::Result<()> {
+        Ok(())
+    }
+}
+
+/// Where replies wait, so that those that come together leave together. Once some could not leave,
+/// each write fails.
+#[derive(Drop)]
+pub struct Holding<'a, C: Clock> {
+    outbox: Arc<Outbox<Sending<'a, C>>, Global>,
+}
+
+impl<'a, C: Clock> Write for Holding<'a, C> {
+    fn write(&mut self, piece: &[u8]) -> io::Result<usize> {
+        Deferred::new(&self.outbox).write(piece)
+    }
+
+    fn flush(&mut self) -> io::Result<()> {
+        Deferred::new(&self.outbox).flush()
+    }
+}
+
+/// The end of a stream that a peer's bytes come from. Before it waits, all replies leave.
+#[derive(Drop)]
+pub struct Hearing<'a, C: Clock> {
+    stream: TcpStream,
+    clock: &'a C,
+    stop: &'a Stop,
+    idle: Duration,
+    pace: Pace,
+    outbox: Arc<Outbox<Sending<'a, C>>, Global>,
+    // Nothing comes any more, or nobody may wait for it.
+    is_over: bool,
+}
+
+impl<'a, C: Clock> Hearing<'a, C> {
+    // Waits for bytes until the term ends. Between frames, a stop is the end.
+    fn wait(&self, term: Term, into: &mut [u8]) -> io::Result<usize>
+        ensures { ReadsAtMost result into.new }
+    {
+        for _ in 0..u64::MAX {
+            let is_between = self.pace.is_between();
+            if is_between && self.stop.is_asked() {
+                return Ok(0);
+            }
+            let Some(left) = term.left(self.clock) else {
+                return Err(io::Error::from(ErrorKind::TimedOut));
+            };
+            let patience = match is_between {
+                true => left.min(Duration::from_millis(LOOK)),
+                false => left,
+            };
+            self.stream.set_read_timeout(Some(patience))?;
+            let mut reader: &TcpStream = &self.stream;
+            let read = reader.read(into);
+            match &read {
+                Err(error) if is_cut_short(error) => {}
+                Err(error) if error.kind() == ErrorKind::WouldBlock => {}
+                _ => return read,
+            }
+        }
+        Err(io::Error::from(ErrorKind::Interrupted))
+    }
+
+    fn hear(&mut self, into: &mut [u8]) -> io::Result<usize>
+        ensures { ReadsAtMost result into.new }
+    {
+        if !self.outbox.leave() {
+            return Err(io::Error::from(ErrorKind::BrokenPipe));
+        }
+        let length = match self.pace.is_between() {
+            true => self.idle,
+            false => Duration::from_secs(FRAME),
+        };
+        let Some(term) = self.pace.term(self.clock, length) else {
+            return Err(io::Error::from(ErrorKind::TimedOut));
+        };
+        let count = self.wait(term, into)?;
+        self.pace.pass(&into[..count]);
+        Ok(count)
+    }
+
+    // Takes what the peer still sends, for a short time: a stream that is closed with bytes that
+    // nobody read takes replies along that have left.
+    fn drain(&mut self) {
+        let Some(term) = Term::after(self.clock, Duration::from_secs(LINGER)) else {
+            return;
+        };
+        let line = Line {
+            stream: &self.stream,
+            clock: self.clock,
+            term,
+        };
+        let mut room = [0u8; 4096];
+        for _ in 0..u64::MAX {
+            match line.receive(&mut room) {
+                Ok(0) | Err(_) => return,
+                Ok(_) => {}
+            }
+        }
+    }
+
+    // Ends the connection, once all replies have left.
+    pub(crate) fn close(&mut self) {
+        let has_left = self.outbox.leave();
+        let _ = self.stream.shutdown(Shutdown::Write);
+        if has_left && !self.is_over {
+            self.drain();
+        }
+    }
+}
+
+impl<'a, C: Clock> Read for Hearing<'a, C> {
+    fn read(&mut self, into: &mut [u8]) -> io::Result<usize> {
+        let heard = self.hear(into);
+        match &heard {
+            Ok(0) if self.stop.is_asked() => {}
+            Ok(0) | Err(_) => self.is_over = true,
+            Ok(_) => {}
+        }
+        heard
+    }
+}
+
+/// How connections are served.
+#[derive(Drop)]
+pub struct Terms<'a, C> {
+    pub clock: &'a C,
+    pub stop: &'a Stop,
+    /// How long a peer may take between frames.
+    pub idle: Duration,
+}
+
+// The halves of a connection that begins now.
+pub(crate) fn halves<'a, C: Clock>(
+    alloc: Global,
+    terms: &Terms<'a, C>,
+    stream: TcpStream,
+) -> io::Result<(PeerInput<'a, C>, PeerOutput<'a, C>)> {
+    let Some(first) = Term::after(terms.clock, Duration::from_secs(FIRST)) else {
+        return Err(io::Error::from(ErrorKind::TimedOut));
+    };
+    stream.set_nodelay(true)?;
+    let sending = Sending {
+        stream: stream.try_clone()?,
+        clock: terms.clock,
+        pace: Pace::new(),
+    };
+    let outbox = Arc::new(alloc, Outbox::with_capacity(alloc, PIECE, sending)?)?;
+    let holding = Holding {
+        outbox: Arc::try_clone(&outbox)?,
+    };
+    let hearing = Hearing {
+        stream,
+        clock: terms.clock,
+        stop: terms.stop,
+        idle: terms.idle,
+        pace: Pace::with_first(first),
+        outbox,
+        is_over: false,
+    };
+    let reader = BufReader::with_capacity(alloc, PIECE, hearing)?;
+    Ok((Reading::new(reader), Writing::new(holding)))
+}

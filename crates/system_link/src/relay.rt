@@ -1,0 +1,235 @@
+//! A link to a relay at an address of the network.
+
+ghost use Rattle.std.specs.Prelude.{◌≡◌, ◌≢◌, ◌≤◌, [], length, IfOk, IsSome, MatchResult, None, OnErr};
+ghost use Rattle.frame_link.specs.Faults.{HasCause};
+ghost use Rattle.frame_link.specs.Plan.{counted};
+ghost use Rattle.frame_link.specs.Relay.{AnswersAs, HasRelayCode};
+
+use crate::exchange::{Silence, exchange};
+use crate::line::Line;
+use crate::streams::is_cut_short;
+use crate::term::Term;
+use arrayvec::ArrayVec;
+use frame_link::{Failed, RelayAnswer, RelayLink};
+use std::alloc::Global;
+use std::io;
+use std::io::ErrorKind;
+use std::net::{Net, TcpListener, TcpStream, ToSocketAddrs};
+use std::time::{Clock, Duration};
+
+/// The seconds that a call takes at most, from its first address to the last byte of its answer.
+pub const LIMIT: u64 = 5;
+
+/// The seconds behind a fault in which each call fails at once.
+pub const REST: u64 = 1;
+
+// A stream to the first of a host's addresses that answers, before the term ends.
+fn stream_to<R: Net<Listener = TcpListener, Stream = TcpStream> + Clock>(
+    network: &R,
+    address: &str,
+    term: Term,
+) -> io::Result<TcpStream> {
+    for place in address.to_socket_addrs(network)? {
+        let Some(left) = term.left(network) else {
+            return Err(io::Error::from(ErrorKind::TimedOut));
+        };
+        if let Ok(stream) = TcpStream::connect_timeout(network, &place, left) {
+            stream.set_nodelay(true)?;
+            return Ok(stream);
+        }
+    }
+    Err(io::Error::from(ErrorKind::NotConnected))
+}
+
+// Whether a look at what waits finds nothing, and no end.
+fn sees_nothing(stream: &TcpStream) -> bool {
+    let mut byte = [0u8; 1];
+    for _ in 0..u64::MAX {
+        match stream.peek(&mut byte) {
+            Ok(_) => return false,
+            Err(error) if is_cut_short(&error) => {}
+            Err(error) => return error.kind() == ErrorKind::WouldBlock,
+        }
+    }
+    false
+}
+
+// Whether a stream is open, and no byte waits on it that nobody asked for.
+fn is_quiet(stream: &TcpStream) -> bool {
+    if stream.set_nonblocking(true).is_err() {
+        return false;
+    }
+    let is_quiet = sees_nothing(stream);
+    stream.set_nonblocking(false).is_ok() && is_quiet
+}
+
+/// Asks the relay at an address. The first call connects, and so does a call behind one that
+/// failed: a stream that has failed once is closed, since a late answer on it would be taken for
+/// that of the next question. A kept stream that turns out closed before any byte of an answer came,
+/// or on which bytes wait that nobody asked for, is closed, and the same question is asked once
+/// more on a new one. Want of memory is answered as such, and is no fault.
+#[derive(Drop)]
+pub struct TcpRelay<'a, R> {
+    network: &'a R,
+    alloc: Global,
+    address: &'a str,
+    limit: Duration,
+    line: Option<TcpStream>,
+    // Behind a fault, until when each call fails.
+    rest: Option<Term>,
+    faults: u64,
+}
+
+impl<'a, R> TcpRelay<'a, R> {
+    /// A link to an address `host:port`. It connects to nothing yet.
+    pub fn new(network: &'a R, alloc: Global, address: &'a str, limit: Duration) -> TcpRelay<'a, R>
+        ensures faults { result.faults ≡ 0 }
+        ensures closed { result.line ≡ None }
+        ensures address { result.address ≡ address.entry }
+        ensures limit { result.limit ≡ limit }
+    {
+        TcpRelay {
+            network,
+            alloc,
+            address,
+            limit,
+            line: None,
+            rest: None,
+            faults: 0,
+        }
+    }
+
+    /// How often it has failed.
+    pub fn faults(&self) -> u64
+        ensures { result ≡ self.now.faults }
+    {
+        self.faults
+    }
+}
+
+impl<'a, R: Net<Listener = TcpListener, Stream = TcpStream> + Clock> TcpRelay<'a, R> {
+    // Until when the call that begins now may take. `None` where it fails at once.
+    fn term(&self) -> Option<Term> {
+        if let Some(rest) = &self.rest {
+            if rest.left(self.network).is_some() {
+                return None;
+            }
+        }
+        Term::after(self.network, self.limit)
+    }
+
+    // The stream that is kept, if one is and it is of use yet. It is kept no more.
+    fn quiet_stream(&mut self) -> Option<TcpStream>
+        ensures closed { self.new.line ≡ None }
+        ensures place { (self.new.address ≡ self.old.address)
+            × (self.new.limit ≡ self.old.limit) }
+        ensures faults { self.new.faults ≡ self.old.faults }
+    {
+        let stream = self.line.take()?;
+        if !is_quiet(&stream) {
+            return None;
+        }
+        Some(stream)
+    }
+
+    // Asks on a stream, which is kept where that is answered.
+    fn ask_on(
+        &mut self,
+        stream: TcpStream,
+        term: Term,
+        node: u32,
+        sealed: &[u8],
+        out: &mut ArrayVec<u8, 2048>,
+    ) -> Result<RelayAnswer, Silence>
+        requires fits { length sealed.now ≤ 65531 }
+        requires empty { out.old.items ≡ [] }
+        requires closed { self.old.line ≡ None }
+        ensures closed { OnErr result (self.new.line ≡ None) }
+        ensures open { IfOk result (λ _. IsSome self.new.line) }
+        ensures answer { AnswersAs None node sealed.now result out.new.items }
+        ensures codes { IfOk result HasRelayCode }
+        ensures place { (self.new.address ≡ self.old.address)
+            × (self.new.limit ≡ self.old.limit) }
+        ensures faults { self.new.faults ≡ self.old.faults }
+    {
+        let line = Line {
+            stream: &stream,
+            clock: self.network,
+            term,
+        };
+        let answer = exchange(self.alloc, &line, node, sealed, out)?;
+        self.line = Some(stream);
+        Ok(answer)
+    }
+
+    // Asks on the stream that is kept; or on a new one, where there is none or it is closed.
+    fn ask(
+        &mut self,
+        node: u32,
+        sealed: &[u8],
+        out: &mut ArrayVec<u8, 2048>,
+    ) -> Result<RelayAnswer, Silence>
+        requires fits { length sealed.now ≤ 65531 }
+        requires empty { out.old.items ≡ [] }
+        ensures open { IfOk result (λ _. IsSome self.new.line) }
+        ensures answer { AnswersAs None node sealed.now result out.new.items }
+        ensures codes { IfOk result HasRelayCode }
+        ensures place { (self.new.address ≡ self.old.address)
+            × (self.new.limit ≡ self.old.limit) }
+        ensures faults { self.new.faults ≡ self.old.faults }
+    {
+        let Some(term) = self.term() else {
+            return Err(Silence::Failed);
+        };
+        if let Some(stream) = self.quiet_stream() {
+            match self.ask_on(stream, term, node, sealed, out) {
+                Err(Silence::Closed) => {}
+                heard => return heard,
+            }
+        }
+        let Ok(stream) = stream_to(self.network, self.address, term) else {
+            return Err(Silence::Failed);
+        };
+        self.ask_on(stream, term, node, sealed, out)
+    }
+}
+
+impl<'a, R: Net<Listener = TcpListener, Stream = TcpStream> + Clock> RelayLink for TcpRelay<'a, R> {
+    ghost says = { λ _. None };
+
+    ghost faults = { λ r. r.faults };
+
+    fn reseal(
+        &mut self,
+        node: u32,
+        sealed: &[u8],
+        out: &mut ArrayVec<u8, 2048>,
+    ) -> Result<RelayAnswer, Failed>
+        requires { length sealed.now ≤ 65531 }
+        ensures closed { OnErr result (self.new.line ≡ None) }
+        ensures open { IfOk result
+            (λ answer. answer ≢ RelayAnswer.NoMemory → IsSome self.new.line) }
+        ensures count { MatchResult result (λ _. self.new.faults ≡ self.old.faults)
+            (λ _. self.new.faults ≡ counted self.old.faults) }
+        ensures place { (self.new.address ≡ self.old.address)
+            × (self.new.limit ≡ self.old.limit) }
+        ensures answer { AnswersAs None node sealed.now result out.new.items }
+        ensures codes { IfOk result HasRelayCode }
+        ensures cause { HasCause self.old.faults self.new.faults result }
+    {
+        out.clear();
+        match self.ask(node, sealed, out) {
+            Ok(answer) => Ok(answer),
+            Err(Silence::NoMemory) => {
+                self.line = None;
+                Ok(RelayAnswer::NoMemory)
+            }
+            Err(Silence::Closed | Silence::Failed) => {
+                self.line = None;
+                self.rest = Term::after(self.network, Duration::from_secs(REST));
+                self.faults = self.faults.saturating_add(1);
+                Err(Failed)
+            }
+        }
+    }
+}

@@ -1,0 +1,10 @@
+//! Tests of what stands between the program and the system. A crate with tests is proved twice, so
+//! they stand here.
+#![tactic(auto)]
+
+#[cfg(test)]
+mod doors;
+#[cfg(test)]
+mod relays;
+#[cfg(test)]
+mod streams;

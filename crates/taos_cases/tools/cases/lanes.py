@@ -1,0 +1,98 @@
+"""The command that serves lanes, with one lane: its words, its line, its connections, its faults."""
+from conversation import Case
+from formats import replayed, u16
+from .files import usage
+from .nodes import ask, by_anchor, no_alice, node
+
+LINE = b"connections 0 broken 0 entries 0 grants 0 denials 0\n"
+# The words that mean the command.
+WORDS = [
+    ["serve"],
+    ["serve", "--connections", "2"],
+    ["serve", "--connections=18446744073709551615"],
+    ["serve", "--frames", "2"],
+    ["serve", "--frames=3", "--connections", "4"],
+    ["serve", "--connections", "4", "--frames=3"],
+]
+# Words that are no command.
+OTHERS = [
+    ("no connections", ["serve", "--connections", "0"], "At least one connection."),
+    ("connections of no number", ["serve", "--connections", "two"], "A number is decimal digits."),
+    ("connections with a zero in front", ["serve", "--connections=02"], "A number has no zero in front."),
+    ("more connections than a number has", ["serve", "--connections", "18446744073709551616"], "It is 2 to the 64th."),
+    ("connections without a value", ["serve", "--connections"], "An option has a value."),
+    ("connections of an empty word", ["serve", "--connections="], "No value is empty."),
+    ("connections twice", ["serve", "--connections", "1", "--connections", "2"], "Each option at most once."),
+    ("connections of one stream", ["run", "--connections", "1"], "It serves one connection."),
+    ("connections of a relay", ["relay", "--connections", "1"], "It serves one connection."),
+    ("lanes of an issuer", ["serve", "--issuer", "1"], "An option of another command."),
+    ("a word behind", ["serve", "2"], "A command has options alone."),
+]
+
+
+def lanes():
+    about = "The door has no connection. Nothing of the input is taken."
+    cases = [Case(f"no connection: {' '.join(words)}", about, words=words, file=node(), input=[b"\0"], left=[b"\0"], output=[LINE])
+             for words in WORDS]
+    cases += [usage(*each, file=node()) for each in OTHERS]
+    cases += [
+        Case("a line that is cut", "Writing the line fails after five bytes.", 4, ["serve"], file=node(), output=[LINE[:5]],
+             output_room=5, faults=1, note="taos: write fault"),
+        Case("a file that fails", "The lanes are not asked.", 3, ["serve"], file=node(), file_fails=[0], faults=1,
+             note="taos: read fault"),
+        Case("no file for lanes", "No bytes are no opening.", 2, ["serve"], note="taos: node file: line 1: first line"),
+    ]
+    return cases + served() + broken() + failing()
+
+
+def line(connections, broken, entries, grants, denials):
+    return f"connections {connections} broken {broken} entries {entries} grants {grants} denials {denials}\n".encode("ascii")
+
+
+def doors(title, about, asked, output, connections=1, most=None, words=(), status=0, **lines):
+    """A door of so many connections, each of which asks the same."""
+    limit = [] if most is None else ["--connections", str(most)]
+    return Case(title, about, status, ["serve", *limit, *words], file=node(), input=asked, connections=connections,
+                output=output, **lines)
+
+
+ASKED = [ask(1, 1), ask(1, 2)]
+ANSWERED = [by_anchor(1), by_anchor(2, 2, kept=1)]
+REPLAYED = [replayed(1, 1, 2), replayed(1, 2, 2)]
+
+
+def served():
+    about = "Each connection asks the same: what the first was granted is replayed in the second."
+    return [
+        doors("one connection", "Two Asks and a Keep.", ASKED, ANSWERED + [line(1, 0, 3, 2, 0)]),
+        doors("an empty connection", "It ends after a whole frame.", [], [line(1, 0, 0, 0, 0)]),
+        doors("a denial", "Nobody speaks for alice.", [ask(2, 1)], [no_alice(2, 1), line(1, 0, 1, 0, 1)]),
+        doors("two connections", about, ASKED, ANSWERED + REPLAYED + [line(2, 0, 5, 2, 0)], 2, 2),
+        doors("fewer connections than may be", about, ASKED, ANSWERED + REPLAYED + [line(2, 0, 5, 2, 0)], 2, 3),
+        doors("more connections than may be", "One is served where nothing is said.", ASKED,
+              ANSWERED + [line(1, 0, 3, 2, 0)], 2),
+    ]
+
+
+def broken():
+    cut = "The connection breaks, and the lane goes on."
+    return [
+        doors("two frames of one", "A byte is there after the first.", ASKED, [by_anchor(1), line(1, 1, 2, 1, 0)],
+              words=["--frames", "1"]),
+        doors("connections that end inside a frame", cut, [ask(1, 1), u16(0)],
+              [by_anchor(1), replayed(1, 1, 1), line(2, 2, 3, 1, 0)], 2, 2),
+        doors("a clock that fails once", cut, [ask(1, 1)], [by_anchor(1), line(2, 1, 2, 1, 0)], 2, 2, clock_fails=[0], faults=1),
+    ]
+
+
+def failing():
+    note = "taos: door fault at lane 0"
+    return [
+        doors("a door that fails at once", "Nothing is served, and no line written.", ASKED, [], 1, door_fails=[0], status=9,
+              faults=1, note=note),
+        doors("a door that fails behind a connection", "What was served is served, and no line written.", ASKED, ANSWERED, 2, 2,
+              door_fails=[1], status=9, faults=1, note=note),
+    ]
+
+
+THEMES = [("serve", "The command that serves lanes, of which there is one.", lanes)]

@@ -1,0 +1,10 @@
+pub mod Ranges
+pub mod Rows
+pub mod Drawing
+pub mod OneMore
+pub mod Fitting
+pub mod Streams
+pub mod Numbering
+pub mod Asking
+pub mod Readable
+pub mod Frames

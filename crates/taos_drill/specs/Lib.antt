@@ -1,0 +1,4 @@
+pub mod Words
+pub mod Opened
+pub mod Sent
+pub mod Grown

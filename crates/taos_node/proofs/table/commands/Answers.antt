@@ -1,0 +1,11 @@
+-- one command after the other
+use Rattle.taos_node.proofs.Made.{adds_subcommand}
+use Rattle.taos_node.proofs.table.commands.Goals as goal
+
+pub returns : goal.returns
+returns c =
+    let first = adds_subcommand _ _ _ _ _ c.base.ensures c.in_ok-run.ensures c.in_ok-first.ensures in
+    let second = adds_subcommand _ _ _ _ _ first c.plain.ensures c.in_ok-second.ensures in
+    let third = adds_subcommand _ _ _ _ _ second c.in_ok-relay.ensures c.in_ok-third.ensures in
+    let fourth = adds_subcommand _ _ _ _ _ third c.in_ok-mint.ensures c.in_ok-fourth.ensures in
+    adds_subcommand _ _ _ _ _ fourth c.in_ok-serve.ensures c.in_ok-whole.ensures

@@ -1,0 +1,63 @@
+-- What the lanes of a node do, and what is printed of it.
+use Rattle.std.specs.Prelude.{◌≡◌, ℕ, ◌<◌, ◌≤◌, List, ◌++◌, length, Option}
+use Rattle.std.specs.Io.KnownBytes.{Appends, Keeps}
+use Rattle.std.specs.List.{AllZip}
+use Rattle.frame_link.specs.Faults.{Rose}
+use Rattle.node_file.specs.Opening.{Opening}
+use Rattle.taos_lanes.specs.declared.lane.Limits.{Limits}
+use Rattle.taos_lanes.specs.declared.total.Total.{Total}
+use Rattle.taos_lanes.specs.Joining.{HasOtherWork}
+use Rattle.taos_lanes.specs.Serving.{ServesNode}
+use Rattle.taos_lanes.specs.Stocked.{LaneShown}
+use Rattle.taos_monitor.specs.Cells.{Node}
+use Rattle.taos_node.specs.declared.ending.LanesEnd.{LanesEnd}
+use Rattle.taos_node.specs.declared.ending.LanesEnd.TheVariants as lanes
+use Rattle.taos_node.specs.Opened.{IsNodeOf}
+use Rattle.taos_node.specs.Summary.{Left, lanes_line}
+
+-- no door failed: the first lane whose door did is none of the lanes
+abbrev pub HasNoneFailed : Total → Type 0
+HasNoneFailed total = total.lanes ≤ total.first_failed
+
+-- no door failed, and no connection ended for want of memory
+pub record IsWhole (total : Total) : Type 0 where
+  pub doors : HasNoneFailed total
+  pub memory : total.lacked ≡ 0
+
+-- What is printed of what lanes left, by how it ends: the line of what was counted, or a proper front
+-- of it; nothing where a door failed, or a connection ended for want of memory.
+abbrev pub Prints : Left → Option (List ℕ) → Option (List ℕ) → LanesEnd → Type 0
+Prints l out0 out1 lanes.Done = IsWhole l.total × Appends out0 out1 (lanes_line l)
+Prints l out0 out1 (lanes.DoorFault lane) =
+    (lane ≡ l.total.first_failed) × (lane < l.total.lanes) × Keeps out0 out1
+Prints l out0 out1 lanes.WriteFault =
+    IsWhole l.total
+    × ((part more : List ℕ) × (lanes_line l ≡ part ++ more) × (0 < length more)
+    × Appends out0 out1 part)
+Prints l out0 out1 lanes.NoMemory =
+    HasNoneFailed l.total × (0 < l.total.lacked) × Keeps out0 out1
+
+-- the output's count rose where a fault of writing is answered, and else stayed
+abbrev pub LanesCauses : ℕ → ℕ → LanesEnd → Type 0
+LanesCauses out0 out1 lanes.Done = out1 ≡ out0
+LanesCauses out0 out1 (lanes.DoorFault lane) = out1 ≡ out0
+LanesCauses out0 out1 lanes.WriteFault = (out0 ≤ out1) × Rose out0 out1
+LanesCauses out0 out1 lanes.NoMemory = out1 ≡ out0
+
+module _ {In Out : Type 0} (left : In → Option (List ℕ)) (written : Out → Option (List ℕ)) (o : Opening) (limits : Limits) where
+  -- A node of the opening served the doors of its lanes, from empty journals on, and left this: each
+  -- connection of each lane is answered in the journals by its own places, and each place of each is
+  -- own of one connection, once.
+  pub record ServesOpening (before after : List (LaneShown (In × Out))) (l : Left) : Type 0 where
+    pub node : Node
+    pub is_node : IsNodeOf o node
+    pub serves : ServesNode left written node limits before after l.shards l.objects l.total
+
+  -- what lanes did, with what is printed
+  pub data ServesLanes (before after : List (LaneShown (In × Out)))
+      (out0 out1 : Option (List ℕ)) (end : LanesEnd) : Type 0 where
+    -- memory was refused before the first connection, and no door was asked
+    unserved : end ≡ lanes.NoMemory → AllZip HasOtherWork before after → Keeps out0 out1 →
+        ServesLanes before after out0 out1 end
+    served : (l : Left) → ServesOpening before after l → Prints l out0 out1 end →
+        ServesLanes before after out0 out1 end

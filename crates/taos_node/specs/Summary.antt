@@ -1,0 +1,39 @@
+-- What the lanes of a node leave, and the line that tells what was counted of it.
+use Rattle.std.specs.Prelude.{ℕ, List, ◌++◌, codes, count_by, decimal, length, not, sum_by}
+use Rattle.agent_core.specs.Journals.{ShardSeen}
+use Rattle.object_core.specs.Objects.{ObjectEntry, ObjectSeen, is_grant}
+use Rattle.taos_lanes.specs.declared.serving.Served.{Served}
+use Rattle.taos_lanes.specs.declared.total.Total.{Total}
+
+-- the shards and objects with their journals, and what the lanes counted
+pub record Left : Type 0 where
+  pub shards : List ShardSeen
+  pub objects : List ObjectSeen
+  pub total : Total
+
+-- the same of what the program has
+abbrev pub left_by : Served → Left
+left_by s = record { shards = s.shards.items; objects = s.objects.items; total = s.total }
+
+-- the entries of all shards' journals
+abbrev pub entries_of : List ShardSeen → ℕ
+entries_of shards = sum_by (λ (s : ShardSeen). length s.journal) shards
+
+-- the granted entries of all objects' journals
+abbrev pub grants_of : List ObjectSeen → ℕ
+grants_of objects =
+    sum_by (λ (o : ObjectSeen). count_by (λ (e : ObjectEntry). is_grant e.ruling) o.journal) objects
+
+-- the denied ones
+abbrev pub denials_of : List ObjectSeen → ℕ
+denials_of objects =
+    sum_by (λ (o : ObjectSeen). count_by (λ (e : ObjectEntry). not (is_grant e.ruling)) o.journal)
+    objects
+
+-- the line that tells what was counted: connections, those that broke, entries, grants and denials
+abbrev pub lanes_line : Left → List ℕ
+lanes_line l =
+    codes "connections " ++ decimal l.total.served ++ codes " broken " ++ decimal l.total.broken
+    ++ codes " entries " ++ decimal (entries_of l.shards) ++ codes " grants "
+    ++ decimal (grants_of l.objects) ++ codes " denials " ++ decimal (denials_of l.objects)
+    ++ codes "\n"

@@ -1,0 +1,132 @@
+//! The command that serves the lanes of a node.
+
+ghost use Rattle.std.specs.Prelude.{◌<◌, ◌≤◌, IfOk, List, String, length, map};
+ghost use Rattle.std.specs.declared.alloc.Global.{Global};
+ghost use Rattle.frame_link.specs.Streams.{Stream, stream};
+ghost use Rattle.node_file.specs.Opening.{Opening as Meaning};
+ghost use Rattle.taos_lanes.specs.Stocked.{door_by, shown_by};
+ghost use Rattle.taos_node.specs.Command.{Does, first_clock, first_link, touched};
+ghost use Rattle.taos_node.specs.Files.{FileHasCause, NodeFileGives};
+ghost use Rattle.taos_node.specs.Lanes.{LanesCauses, Prints, ServesLanes};
+ghost use Rattle.taos_node.specs.Opened.{AreNew, IsNodeOf, node_in};
+ghost use Rattle.taos_node.specs.Summary.{left_by};
+ghost use Rattle.taos_node.specs.Words.{Mean, Serve};
+
+use crate::ending::{Ending, FileFault, LanesEnd};
+use crate::file::file_opening;
+use crate::opened::{NodeParts, open_parts};
+use crate::summary::lanes_line;
+use frame_link::{Clock, Door, Failed, RelayLink, Sink, Source, pour};
+use std::alloc::{AllocError, Global};
+use std::sync::Wait;
+use std::thread::Threads;
+use taos_lanes::{Lane, Limits, Served, serve};
+
+// Prints what lanes counted, where no door failed and no connection ended for want of memory.
+fn print<O: Sink>(output: &mut O, served: &Served) -> LanesEnd
+    ensures prints { Prints (left_by served.now) (O.written output.old) (O.written output.new)
+        result }
+    ensures cause { LanesCauses (O.faults output.old) (O.faults output.new) result }
+{
+    let first = served.total.first_failed;
+    let lanes = served.total.lanes;
+    if first < lanes {
+        return LanesEnd::DoorFault { lane: first };
+    }
+    let lacked = served.total.lacked;
+    if lacked != 0 {
+        return LanesEnd::NoMemory;
+    }
+    match pour(output, &lanes_line(served)) {
+        Ok(()) => LanesEnd::Done,
+        Err(Failed) => LanesEnd::WriteFault,
+    }
+}
+
+// The parts of the node that a file opens.
+fn node_parts_of<F: Source>(alloc: Global, file: &mut F) -> Result<NodeParts, FileFault>
+    ensures gives { NodeFileGives (λ o x. IsNodeOf o (node_in x))
+        (stream (F.left file.old) (F.faults file.old))
+        (stream (F.left file.new) (F.faults file.new)) result }
+    ensures new { IfOk result AreNew }
+    ensures cause { FileHasCause (stream (F.left file.old) (F.faults file.old))
+        (stream (F.left file.new) (F.faults file.new)) result }
+{
+    let opening = file_opening(alloc, file)?;
+    let parts = open_parts(alloc, opening)?;
+    Ok(parts)
+}
+
+// Serves the doors of all lanes by a node of these parts.
+fn serve_parts<
+    W: Threads + Wait + Sync,
+    O: Sink,
+    C: Clock + Send,
+    R: RelayLink + Send,
+    D: Door + Send,
+>(
+    rt: &W,
+    alloc: Global,
+    parts: NodeParts,
+    output: &mut O,
+    lanes: &mut [Lane<C, R, D>],
+    limits: Limits,
+) -> LanesEnd
+    requires some { 0 < length lanes.old }
+    requires few { length lanes.old ≤ 16 }
+    requires new { AreNew parts }
+    ensures serves { (o : Meaning) → IsNodeOf o (node_in parts)
+        → ServesLanes D.In.left D.Out.written o limits
+        (map (shown_by C.readings R.faults R.says (door_by D.left D.back D.given D.faults)) lanes.old)
+        (map (shown_by C.readings R.faults R.says (door_by D.left D.back D.given D.faults)) lanes.new)
+        (O.written output.old) (O.written output.new) result }
+    ensures cause { LanesCauses (O.faults output.old) (O.faults output.new) result }
+{
+    let NodeParts {
+        keys,
+        shards,
+        anchors,
+        objects,
+    } = parts;
+    match serve(rt, alloc, &keys, shards, anchors, objects, lanes, limits) {
+        Ok(served) => print(output, &served),
+        Err(AllocError) => LanesEnd::NoMemory,
+    }
+}
+
+/// Serves the doors of all lanes by a node that a file opens, and prints what was counted.
+pub(crate) fn serve_by_file<
+    W: Threads + Wait + Sync,
+    F: Source,
+    O: Sink,
+    C: Clock + Send,
+    R: RelayLink + Send,
+    D: Door + Send,
+>(
+    rt: &W,
+    alloc: Global,
+    file: &mut F,
+    output: &mut O,
+    lanes: &mut [Lane<C, R, D>],
+    limits: Limits,
+) -> Ending
+    requires some { 0 < length lanes.old }
+    requires few { length lanes.old ≤ 16 }
+    // Whatever input there is.
+    ensures serves { (words : List (String Global)) (input : Stream) → Mean words (Serve limits)
+        → let before = touched (stream (F.left file.old) (F.faults file.old)) input
+        (stream (O.written output.old) (O.faults output.old))
+        (first_clock C.readings C.faults lanes.old) (first_link R.says R.faults lanes.old) in
+        let after = touched (stream (F.left file.new) (F.faults file.new)) input
+        (stream (O.written output.new) (O.faults output.new))
+        (first_clock C.readings C.faults lanes.new) (first_link R.says R.faults lanes.new) in
+        Does D.In.left D.Out.written words before after
+        (map (shown_by C.readings R.faults R.says (door_by D.left D.back D.given D.faults)) lanes.old)
+        (map (shown_by C.readings R.faults R.says (door_by D.left D.back D.given D.faults)) lanes.new)
+        result }
+{
+    match node_parts_of(alloc, file) {
+        Ok(parts) => Ending::Lanes(serve_parts(rt, alloc, parts, output, lanes, limits)),
+        Err(fault) => Ending::File(fault),
+    }
+}

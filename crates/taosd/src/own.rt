@@ -1,0 +1,66 @@
+//! The program's own options, before its first three words.
+
+use std::time::Duration;
+use system_link::IDLE;
+
+// The most seconds that a peer may have between frames.
+const MAX_IDLE: u64 = 86_400;
+
+/// What the options say, and the words behind them.
+#[derive(Drop)]
+pub struct Own<'w> {
+    /// How long a peer may take between frames.
+    pub idle: Duration,
+    /// The addresses where the program listens are told.
+    pub tells_addresses: bool,
+    /// The end of standard input stops what serves doors.
+    pub stops_at_end: bool,
+    pub words: &'w [String],
+}
+
+// How many seconds a word says, from 1 to a day's.
+fn seconds_of(word: &str) -> Option<u64> {
+    match word.parse::<u64>() {
+        Ok(seconds) if seconds >= 1 && seconds <= MAX_IDLE => Some(seconds),
+        _ => None,
+    }
+}
+
+// The first option taken in, and whether there was one. `None` where it is none of the program's.
+fn take_one(own: &mut Own<'_>) -> Option<bool> {
+    match own.words {
+        [option, seconds, rest @ ..] if option.as_str() == "--idle" => {
+            own.idle = Duration::from_secs(seconds_of(seconds.as_str())?);
+            own.words = rest;
+            Some(true)
+        }
+        [option, rest @ ..] if option.as_str() == "--tell-addresses" => {
+            own.tells_addresses = true;
+            own.words = rest;
+            Some(true)
+        }
+        [option, rest @ ..] if option.as_str() == "--stop-at-end" => {
+            own.stops_at_end = true;
+            own.words = rest;
+            Some(true)
+        }
+        [word, ..] if word.as_str().starts_with("--") => None,
+        _ => Some(false),
+    }
+}
+
+/// Reads the options that stand before the other words. `None` where one is none of the program's.
+pub fn own_of(words: &[String]) -> Option<Own<'_>> {
+    let mut own = Own {
+        idle: Duration::from_secs(IDLE),
+        tells_addresses: false,
+        stops_at_end: false,
+        words,
+    };
+    for _ in 0..words.len() {
+        if !take_one(&mut own)? {
+            break;
+        }
+    }
+    Some(own)
+}
