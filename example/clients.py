@@ -1,5 +1,5 @@
 #!/usr/bin/env python3
-"""Two clients of the example's node, with a connection for each of their requests.
+"""Two clients of the example's node. Each has one connection for all it asks, and both are there at the same time.
 
     clients.py CERTIFICATES HOST PORT
 
@@ -7,6 +7,7 @@ Alice has the channel 1, whose key is anchored to her name. Bob has the channel 
 the certificates of that. CERTIFICATES is a folder of them, as `mint` prints them. Each tells what it asks and what came of it;
 grants are checked line by line. Ends with 1 where an answer is another than the example's.
 """
+import contextlib
 import os
 import sys
 
@@ -29,18 +30,20 @@ class Other(Exception):
 
 
 class Person:
-    """A client with a name."""
+    """A client with a name, and a connection of its own from its first request until `open_ones` are closed."""
 
-    def __init__(self, name, number, address, quoted=None):
+    def __init__(self, name, number, address, open_ones, quoted=None):
         # Key n is 32 bytes of value n. A node that is started anew has forgotten the numbers, but clients use none twice.
-        self.name, self.address, self.quoted = name, address, quoted
+        self.name, self.address, self.open_ones, self.quoted = name, address, open_ones, quoted
         self.channel = Channel(number, bytes([number]) * 32, TimeNumbers())
+        self.client = None
 
     def ask(self, words, object, operation, certificates=()):
         print(f"{self.name} {words}", flush=True)
-        # The node serves one connection after the other.
-        with connect(*self.address) as connection:
-            return Client(self.channel, connection).ask(object, operation, certificates, self.quoted)
+        # A node hears a connection that says nothing for two seconds, so it begins with the first request.
+        if self.client is None:
+            self.client = Client(self.channel, self.open_ones.enter_context(connect(*self.address)))
+        return self.client.ask(object, operation, certificates, self.quoted)
 
     def gets(self, words, object, operation, certificates=()):
         """What a grant gives, once its proof is checked."""
@@ -93,7 +96,9 @@ def main(words):
     folder, host, port = words
     address = (host, int(port))
     try:
-        talk(Person("alice", 1, address), Person("bob", 15, address, BOB), read_certificates(folder))
+        with contextlib.ExitStack() as open_ones:
+            alice, bob = Person("alice", 1, address, open_ones), Person("bob", 15, address, open_ones, BOB)
+            talk(alice, bob, read_certificates(folder))
     except (Other, NotGranted, ProofFault) as fault:
         print(f"clients.py: {fault}", file=sys.stderr)
         return 1

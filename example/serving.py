@@ -4,8 +4,9 @@
     serving.py PROGRAM NODE RELAY CERTIFICATES PORT
 
 NODE and RELAY are their files. The relay is a process of the program for each connection that comes to a port (`listen.py`),
-whose number is written to the file PORT. The node listens on a port of 127.0.0.1 that it chose, tells its address on its standard
-error, and ends once its standard input has ended. Ends with 0 where the clients did, and the node with status 0.
+whose number is written to the file PORT. The node has two lanes at one port of 127.0.0.1 that it chose, so it serves both clients
+at the same time. It tells its address on its standard error, and ends once its standard input has ended. Ends with 0 where the
+clients did, and the node with status 0.
 """
 import os
 import re
@@ -17,13 +18,15 @@ import time
 HERE = os.path.dirname(os.path.abspath(__file__))
 BOUND = re.compile(r"taosd: listening on (\S+):(\d+)$")
 LIMIT = 30
+LANES = 2
 
 
 class Server:
-    """A process that serves an address, until it is stopped."""
+    """A process that serves a port by so many lanes, until it is stopped."""
 
-    def __init__(self, program, file, relay, command):
-        words = [program, "--tell-addresses", "--stop-at-end", file, "127.0.0.1:0", relay, command, "--connections", "100"]
+    def __init__(self, program, file, lanes, relay, command):
+        listen = ",".join(["127.0.0.1:0"] * lanes)
+        words = [program, "--tell-addresses", "--stop-at-end", file, listen, relay, command, "--connections", "100"]
         pipe = subprocess.PIPE
         self.name = command
         self.process = subprocess.Popen(words, stdin=pipe, stdout=pipe, stderr=pipe, text=True)
@@ -74,7 +77,7 @@ def main(words):
     listen = [sys.executable, os.path.join(HERE, "listen.py"), path, program, relay_file, "-", "-", "relay"]
     relay = subprocess.Popen(listen)
     try:
-        node = Server(program, node_file, f"127.0.0.1:{relay_port(path)}", "serve")
+        node = Server(program, node_file, LANES, f"127.0.0.1:{relay_port(path)}", "serve")
         status = 1
         if node.address:
             print(f"the node serves on {':'.join(node.address)}", flush=True)

@@ -32,6 +32,5 @@ pub mod Firsts
 pub mod Keepable
 pub mod Keeps
 pub mod NewAsks
-pub mod TakenIn
 pub mod OneOwner
 pub mod LinkPlaces

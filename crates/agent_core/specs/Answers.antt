@@ -1,5 +1,5 @@
 -- What a step of the program answers.
-use Rattle.std.specs.Prelude.{◌≡◌, ℕ, ◌≤◌, List, length}
+use Rattle.std.specs.Prelude.{◌≡◌, ◌⊎◌, ℕ, ◌<◌, ◌≤◌, List, length}
 use Rattle.std.specs.Arc.{arc_value}
 use Rattle.stmt_codec.specs.View.{certificates}
 use Rattle.taos_calculus.specs.declared.decide.TheConstants.{MAX_ENTRIES}
@@ -10,7 +10,7 @@ use Rattle.agent_core.specs.declared.told.Told.{Told}
 use Rattle.agent_core.specs.declared.told.Answer.{Answer}
 use Rattle.agent_core.specs.declared.told.Answer.TheVariants as answer
 use Rattle.agent_core.specs.State.{Plan, Event, Asks, Keeps, Holds, Discards, Forgets, Expires}
-use Rattle.agent_core.specs.Journals.{Entry}
+use Rattle.agent_core.specs.Journals.{Entry, told_at}
 use Rattle.agent_core.specs.Steps.{StepAnswer, Hit, Miss, Other, JournalSeen, Steps, StepsTo, StepRefused}
 
 -- the event is within the limits: it brings few certificates, and an Ask's list is short
@@ -29,6 +29,15 @@ TakesMemory (Told.Hit entry) = Unit {0}
 TakesMemory Told.Miss = Unit {0}
 TakesMemory Told.Kept = Unit {0}
 TakesMemory _ = ⊥
+
+-- the event is an Ask that presents certificates: a shard keeps and counts them
+abbrev pub Presents : Event → Type 0
+Presents (Asks a) = 0 < length a.presented
+Presents _ = ⊥
+
+-- after these entries memory may lack for the event: for what it presents, or by what is told of it
+abbrev pub WantsMemory : Plan → List Entry → Event → Type 0
+WantsMemory plan journal event = Presents event ⊎ TakesMemory (told_at plan journal event)
 
 -- the one holds of what is handed out or told; or the other of the length of a full journal
 abbrev pub OfAnswer : (StepAnswer → Type 0) → (ℕ → Type 0) → Answer → Type 0

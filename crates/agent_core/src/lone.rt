@@ -1,7 +1,6 @@
 //! Shards that nobody else steps.
 
-ghost use Rattle.std.specs.Prelude.{◌≡◌, ◌↔◌, ◌<◌, ◌≤◌, IsTrue, true, ℕ, [], length, map, Some, slice_get, All, Contains, IfOk};
-ghost use Rattle.stmt_codec.specs.View.{certificates};
+ghost use Rattle.std.specs.Prelude.{◌≡◌, ◌↔◌, ◌<◌, ◌≤◌, IsTrue, true, ℕ, [], length, map, Some, slice_get, All, Contains};
 ghost use Rattle.agent_core.specs.Alone.{plans_in, seen_in, own_in, HasLegalJournal, StepsLone};
 ghost use Rattle.agent_core.specs.Answers.{FitsEvent};
 ghost use Rattle.agent_core.specs.Journals.{ShardSeen, IsMeant};
@@ -19,7 +18,6 @@ use prin_term::Anchor;
 use std::alloc::{AllocError, Global};
 use std::marker::Model;
 use std::sync::{Arc, Wait};
-use stmt_codec::Cert;
 
 /// The shards of one owner.
 #[derive(Drop)]
@@ -121,21 +119,6 @@ impl Lone {
         self.shards[number as usize].step(alloc, event)
     }
 
-    // What an Ask is to present, taken in at one of the shards.
-    fn take_in_one(
-        &mut self,
-        alloc: Global,
-        number: u32,
-        presented: &[Arc<Cert>],
-    ) -> Result<Vec<Arc<Cert>>, AllocError>
-        requires { number < length (plans_in self.old.shards) }
-        ensures same { IfOk result
-            (λ taken. certificates taken.items ≡ certificates presented.now) }
-        ensures unchanged { self.new ≡ self.old }
-    {
-        self.shards[number as usize].take_in(alloc, presented)
-    }
-
     /// The shards back, in order. Takes no memory.
     pub fn close(self) -> Vec<Shard>
         ensures { result.items ≡ self.shards }
@@ -159,15 +142,6 @@ impl Shards for Lone {
 
     fn anchors(&self) -> &[Anchor] {
         &self.anchors
-    }
-
-    fn take_in(
-        &mut self,
-        alloc: Global,
-        number: u32,
-        presented: &[Arc<Cert>],
-    ) -> Result<Vec<Arc<Cert>>, AllocError> {
-        self.take_in_one(alloc, number, presented)
     }
 
     fn step<W: Wait + Sync>(

@@ -1,12 +1,12 @@
 //! The machine: events in, answers out, a journal of both.
 
 ghost use Rattle.std.specs.Prelude.{◌≡◌, ◌↔◌, IsTrue, ◌<◌, ◌≤◌, [], map, length, IfOk, OnErr};
-ghost use Rattle.stmt_codec.specs.View.{certificates};
 ghost use Rattle.agent_core.specs.Plans.{IsPlan};
 ghost use Rattle.agent_core.specs.Views.{event_of, plan_of, entry_of};
-ghost use Rattle.agent_core.specs.Journals.{IsMeant, IsLegalJournal, told_at};
-ghost use Rattle.agent_core.specs.Answers.{FitsEvent, Stepped, TakesMemory};
+ghost use Rattle.agent_core.specs.Journals.{IsMeant, IsLegalJournal};
+ghost use Rattle.agent_core.specs.Answers.{FitsEvent, Stepped, WantsMemory};
 ghost use Rattle.agent_core.specs.Kept.{AreNew, first_names};
+ghost use Rattle.agent_core.specs.Presented.{PresentsLittle};
 
 mod answering;
 mod append;
@@ -17,6 +17,7 @@ mod keeping;
 mod letting;
 mod meant;
 mod plain;
+mod presenting;
 mod removal;
 mod row;
 mod serving;
@@ -28,13 +29,12 @@ use crate::held::presented::Presented;
 use crate::plan::ShardPlan;
 use crate::shard::answering::answer_to;
 use crate::shard::meant::is_taken;
+use crate::shard::presenting::kept_event;
 use crate::shard::store::{Row, Store};
 use crate::told::Answer;
 use proof_cache::Cache;
 use std::alloc::{AllocError, Global};
 use std::marker::Model;
-use std::sync::Arc;
-use stmt_codec::Cert;
 
 /// A shard. A contract sees its plan and its journal: all else follows from these.
 #[derive(Drop)]
@@ -126,10 +126,12 @@ impl Shard {
         &self.plan
     }
 
-    /// The events and what was told of each, in their order.
+    /// The events and what was told of each, in their order. What Asks presented takes no more
+    /// memory than `MAX_PRESENTED_BYTES`.
     pub fn journal(&self) -> &[ShardEntry]
         ensures value { map entry_of result.now ≡ self.now.journal }
         ensures legal { IsLegalJournal self.now.plan self.now.journal }
+        ensures little { PresentsLittle self.now.journal }
     {
         &self.entries
     }
@@ -143,23 +145,11 @@ impl Shard {
         is_taken(&self.plan, &self.entries, event)
     }
 
-    /// Takes in what an Ask is to present: handles to equal certificates that the shard keeps
-    /// already, and from now on the others. So its journal keeps equal ones once. Memory is refused
-    /// where what is kept would take more than `MAX_PRESENTED_BYTES`.
-    pub fn take_in(
-        &mut self,
-        alloc: Global,
-        presented: &[Arc<Cert>],
-    ) -> Result<Vec<Arc<Cert>>, AllocError>
-        ensures same { IfOk result
-            (λ taken. certificates taken.items ≡ certificates presented.now) }
-        ensures unchanged { self.new ≡ self.old }
-    {
-        self.presented.take_in(alloc, presented)
-    }
-
-    /// Answers an event, and journals it at the place that comes with the answer. Only an Ask that
-    /// is a hit or a miss takes memory, and a proof that is kept. Nothing is done at a full journal.
+    /// Answers an event, and journals it at the place that comes with the answer. What an Ask
+    /// presents is kept: as handles to equal certificates that are kept already, and from now on the
+    /// others. Memory is refused where those would take more than `MAX_PRESENTED_BYTES`. Only an Ask
+    /// that presents certificates, or is a hit or a miss, takes memory, and a proof that is kept.
+    /// Nothing is done at a full journal.
     pub fn step(&mut self, alloc: Global, event: Event) -> Result<(u64, Answer), AllocError>
         requires meant { IsMeant self.old.plan self.old.journal (event_of event) }
         requires fits { FitsEvent (event_of event) }
@@ -167,8 +157,8 @@ impl Shard {
             self.new.journal r.0 r.1) }
         ensures plan { self.new.plan ≡ self.old.plan }
 
-        ensures wanted { OnErr result (TakesMemory
-            (told_at self.old.plan self.old.journal (event_of event))) }
+        ensures wanted { OnErr result (WantsMemory self.old.plan self.old.journal
+            (event_of event)) }
         ensures room { OnErr result (length self.old.journal < self.old.plan.limit) }
         ensures unchanged { OnErr result (self.new ≡ self.old) }
     {
@@ -176,6 +166,7 @@ impl Shard {
         if place == self.plan.limit {
             return Ok((place, Answer::JournalFull { length: place }));
         }
+        let event = kept_event(alloc, &mut self.presented, event)?;
         let answer = answer_to(
             alloc,
             &self.plan,

@@ -1,9 +1,8 @@
 //! The shards of a node, side by side.
 
 ghost use Rattle.std.specs.Prelude.{◌≡◌, ◌≢◌, ◌<◌, ℕ, Bool, List, length, Some, slice_get, All, IfOk, OnErr};
-ghost use Rattle.stmt_codec.specs.View.{certificates};
-ghost use Rattle.agent_core.specs.Answers.{FitsEvent, SteppedTo, TakesMemory};
-ghost use Rattle.agent_core.specs.Journals.{Entry, IsMeant, IsLegalJournal, told_at};
+ghost use Rattle.agent_core.specs.Answers.{FitsEvent, SteppedTo, WantsMemory};
+ghost use Rattle.agent_core.specs.Journals.{Entry, IsMeant, IsLegalJournal};
 ghost use Rattle.agent_core.specs.Plans.{AreShards, IsPlan};
 ghost use Rattle.agent_core.specs.State.{Plan};
 ghost use Rattle.agent_core.specs.Steps.{StepRefused, seen_at};
@@ -13,8 +12,7 @@ use crate::event::Event;
 use crate::told::Answer;
 use prin_term::Anchor;
 use std::alloc::{AllocError, Global};
-use std::sync::{Arc, Wait};
-use stmt_codec::Cert;
+use std::sync::Wait;
 
 /// All shards of a node, by their numbers. Others may step them too.
 pub trait Shards {
@@ -42,22 +40,9 @@ pub trait Shards {
     fn anchors(&self) -> &[Anchor]
         ensures { AreShards (plans self.now) result.now };
 
-    /// Takes in what an Ask is to present at one shard: handles to equal certificates that the
-    /// shard keeps already, and from now on the others. Memory is refused too where a shard keeps
-    /// as much as it may.
-    fn take_in(
-        &mut self,
-        alloc: Global,
-        number: u32,
-        presented: &[Arc<Cert>],
-    ) -> Result<Vec<Arc<Cert>>, AllocError>
-        requires there { number < length (plans self.old) }
-        ensures same { IfOk result
-            (λ taken. certificates taken.items ≡ certificates presented.now) }
-        ensures unchanged { self.new ≡ self.old };
-
     /// Answers an event at one shard, and journals it at the place that comes with the answer. Only
-    /// an Ask that is a hit or a miss takes memory, and a proof that is kept.
+    /// an Ask that presents certificates, or is a hit or a miss, takes memory, and a proof that is
+    /// kept. Memory is refused too where the shard would keep more of what Asks present than it may.
     fn step<W: Wait + Sync>(
         &mut self,
         rt: &W,
@@ -81,8 +66,7 @@ pub trait Shards {
             (seen_at (alone self.old) (seen self.old) (own self.old) number)
             (seen_at (alone self.old) (seen self.new) (own self.new) number)) }
         ensures wanted { (plan : Plan) → slice_get (plans self.old) number ≡ Some plan
-            → OnErr result (TakesMemory
-            (told_at plan (seen self.new number) (event_of event))) }
+            → OnErr result (WantsMemory plan (seen self.new number) (event_of event)) }
         ensures room { (plan : Plan) → slice_get (plans self.old) number ≡ Some plan
             → OnErr result (length (seen self.new number) < plan.limit) }
 

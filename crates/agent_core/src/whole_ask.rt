@@ -4,7 +4,7 @@ ghost use Rattle.std.specs.Prelude.{◌≡◌, ◌≢◌, ◌<◌, ℕ, Some, sl
 ghost use Rattle.proof_cache.specs.Cached.{cached};
 ghost use Rattle.agent_core.specs.declared.asked.Settled.TheVariants.{NoNeed};
 ghost use Rattle.agent_core.specs.Asked.{FitsAsk, AskedTo, AskEnds, Unanswered};
-ghost use Rattle.agent_core.specs.Journals.{IsKeepable, IsLegalJournal, IsMeant};
+ghost use Rattle.agent_core.specs.Journals.{IsKeepable, IsMeant};
 ghost use Rattle.agent_core.specs.Plans.{home};
 ghost use Rattle.agent_core.specs.Settling.{KeptAs, StepsAsk};
 ghost use Rattle.agent_core.specs.State.{Plan, Asks, Keeps};
@@ -28,69 +28,38 @@ use std::sync::{Arc, Wait};
 use taos_calculus::Decide;
 pub use verdict::{Decision, judge};
 
-// The Ask with its certificates taken in at the shard of its channel. One that others hold too
-// stays as it is.
-fn taken_in<S: Shards>(
-    alloc: Global,
-    shards: &mut S,
-    asked: Arc<Ask>,
-) -> Result<Arc<Ask>, AllocError>
-    ensures same { IfOk result (λ taken. ask_of taken.value ≡ ask_of asked.value) }
-    ensures there { home (S.plans shards.old) asked.value.channel < length (S.plans shards.old) }
-    ensures legal { (s : ℕ) (plan : Plan) → slice_get (S.plans shards.old) s ≡ Some plan
-        → IsLegalJournal plan (S.seen shards.old s) }
-    ensures unchanged { shards.new ≡ shards.old }
-{
-    let number = asked.channel % shards.count();
-    if asked.presented.is_empty() {
-        return Ok(asked);
-    }
-    let presented = shards.take_in(alloc, number, &asked.presented)?;
-    match Arc::try_unwrap(asked) {
-        Ok(mut own) => {
-            own.presented = presented;
-            Ok(Arc::new(alloc, own)?)
-        }
-        Err(shared) => Ok(shared),
-    }
-}
-
-// Takes the Ask's certificates in, and steps it at the shard of its channel: its place, the answer,
-// and the Ask as it was taken in.
+// Steps the Ask at the shard of its channel: its place, and the answer.
 fn step_at_home<W: Wait + Sync, S: Shards>(
     rt: &W,
     alloc: Global,
     shards: &mut S,
-    asked: Arc<Ask>,
-) -> Result<(u64, Answer, Arc<Ask>), AllocError>
+    asked: &Arc<Ask>,
+) -> Result<(u64, Answer), AllocError>
     requires meant { (plan : Plan) →
-        slice_get (S.plans shards.old) (home (S.plans shards.old) asked.value.channel) ≡ Some plan →
-        IsMeant plan (S.seen shards.old (home (S.plans shards.old) asked.value.channel))
-        (Asks (ask_of asked.value)) }
-    requires fits { FitsAsk (ask_of asked.value) }
-    ensures same { IfOk result (λ r. ask_of r.2.value ≡ ask_of asked.value) }
-    ensures there { home (S.plans shards.old) asked.value.channel < length (S.plans shards.old) }
-    ensures steps { let s = home (S.plans shards.old) asked.value.channel in
+        slice_get (S.plans shards.old) (home (S.plans shards.old) asked.now.value.channel) ≡ Some plan →
+        IsMeant plan (S.seen shards.old (home (S.plans shards.old) asked.now.value.channel))
+        (Asks (ask_of asked.now.value)) }
+    requires fits { FitsAsk (ask_of asked.now.value) }
+    ensures there { home (S.plans shards.old) asked.now.value.channel < length (S.plans shards.old) }
+    ensures steps { let s = home (S.plans shards.old) asked.now.value.channel in
         (plan : Plan) → slice_get (S.plans shards.old) s ≡ Some plan →
         IfOk result (λ r. StepsAsk plan
         (seen_at (S.alone shards.old) (S.seen shards.old) (S.own shards.old) s)
         (seen_at (S.alone shards.old) (S.seen shards.new) (S.own shards.new) s)
-        (ask_of asked.value) r.0 r.1) }
-    ensures refused { let s = home (S.plans shards.old) asked.value.channel in
+        (ask_of asked.now.value) r.0 r.1) }
+    ensures refused { let s = home (S.plans shards.old) asked.now.value.channel in
         (plan : Plan) → slice_get (S.plans shards.old) s ≡ Some plan →
         OnErr result (StepRefused plan
         (seen_at (S.alone shards.old) (S.seen shards.old) (S.own shards.old) s)
         (seen_at (S.alone shards.old) (S.seen shards.new) (S.own shards.new) s)) }
-    ensures others { (s : ℕ) → s ≢ home (S.plans shards.old) asked.value.channel →
+    ensures others { (s : ℕ) → s ≢ home (S.plans shards.old) asked.now.value.channel →
         (S.seen shards.new s ≡ S.seen shards.old s) × (S.own shards.new s ≡ S.own shards.old s) }
     ensures plans { S.plans shards.new ≡ S.plans shards.old }
     ensures alone { S.alone shards.new ≡ S.alone shards.old }
 {
-    let asked = taken_in(alloc, shards, asked)?;
     let number = asked.channel % shards.count();
-    let event = Event::Ask(Arc::try_clone(&asked)?);
-    let (place, answer) = shards.step(rt, alloc, number, event)?;
-    Ok((place, answer, asked))
+    let event = Event::Ask(Arc::try_clone(asked)?);
+    shards.step(rt, alloc, number, event)
 }
 
 // Keeps the proof of a grant at the shard of its channel, for the Ask that stands at the place.
@@ -159,8 +128,8 @@ fn ended(place: u64, verdict: Verdict, kept: bool) -> Asked
 
 /// Asks at the shard of the channel, and says how that ended: granted by a proof that was kept, or
 /// the verdict on what the shard handed out, or what it told at once. The proof of a grant is kept
-/// by a step of its own; the gate is passed before. The Ask's certificates are taken in first;
-/// where its shard may keep no more of them, memory is refused and nothing has changed.
+/// by a step of its own; the gate is passed before. Where its shard may keep no more of what is
+/// presented, memory is refused and nothing has changed.
 pub fn ask<W: Wait + Sync, S: Shards, D: Decide, G: Gate>(
     rt: &W,
     alloc: Global,
@@ -194,7 +163,7 @@ pub fn ask<W: Wait + Sync, S: Shards, D: Decide, G: Gate>(
     ensures plans { S.plans shards.new ≡ S.plans shards.old }
     ensures alone { S.alone shards.new ≡ S.alone shards.old }
 {
-    let (place, answer, asked) = step_at_home(rt, alloc, shards, asked)?;
+    let (place, answer) = step_at_home(rt, alloc, shards, &asked)?;
     match answer {
         Answer::Miss(snapshot) => {
             match settle(alloc, shards.anchors(), bench, gate, &snapshot, &asked)? {

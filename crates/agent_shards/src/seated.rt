@@ -1,13 +1,12 @@
 //! A seat at the shards of an agent.
 
-ghost use Rattle.std.specs.Prelude.{◌≡◌, ◌<◌, IfOk, Some, false, length, slice_get};
+ghost use Rattle.std.specs.Prelude.{◌≡◌, ◌<◌, Some, false, length, slice_get};
 ghost use Rattle.agent_core.specs.Answers.{FitsEvent};
 ghost use Rattle.agent_core.specs.Journals.{IsMeant};
 ghost use Rattle.agent_core.specs.State.{Plan};
 ghost use Rattle.agent_core.specs.Views.{event_of};
 ghost use Rattle.agent_shards.specs.Cells.{shares_of};
 ghost use Rattle.agent_shards.specs.Shards.{ArePasses, StepsSeat, journal_at, own_at, plans_of};
-ghost use Rattle.stmt_codec.specs.View.{certificates};
 
 use crate::agent::Agent;
 use crate::cells::{put_back, take_out};
@@ -19,8 +18,7 @@ use agent_core::{Answer, Event, Shards};
 use prin_term::Anchor;
 use std::alloc::{AllocError, Global};
 use std::marker::{Model, PhantomData};
-use std::sync::{Arc, Wait};
-use stmt_codec::Cert;
+use std::sync::Wait;
 use turn_cell::Pass;
 
 /// A seat at each shard of an agent, among others that step them too. Its type tells which agent
@@ -47,17 +45,6 @@ impl<'a, K: OfAgent> Model for Seated<'a, K> {
     // The passes are those of the agent's shards; agent and shares are those of the type.
     ghost invariant = { λ s. ArePasses s.agent.now s.passes.items
         × (s.agent.now ≡ K.cells) × (shares_of s.passes.items ≡ K.shares) };
-}
-
-// A handle to each of the certificates.
-fn handles_of(alloc: Global, certs: &[Arc<Cert>]) -> Result<Vec<Arc<Cert>>, AllocError>
-    ensures { IfOk result (λ handles. certificates handles.items ≡ certificates certs.now) }
-{
-    let mut handles = Vec::with_capacity(alloc, certs.len())?;
-    for cert in certs {
-        handles.push(Arc::try_clone(cert)?)?;
-    }
-    Ok(handles)
 }
 
 impl<'a, K: OfAgent> Seated<'a, K> {
@@ -113,15 +100,6 @@ impl<'a, K: OfAgent> Shards for Seated<'a, K> {
 
     fn anchors(&self) -> &[Anchor] {
         self.agent.anchors()
-    }
-
-    fn take_in(
-        &mut self,
-        alloc: Global,
-        _number: u32,
-        presented: &[Arc<Cert>],
-    ) -> Result<Vec<Arc<Cert>>, AllocError> {
-        handles_of(alloc, presented)
     }
 
     fn step<W: Wait + Sync>(

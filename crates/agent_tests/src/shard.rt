@@ -66,6 +66,17 @@ struct Asked {
 }
 
 fn ask(shard: &mut Shard, alloc: Global, asked: Asked) -> Result<(u64, Answer), Fail> {
+    let presented = hand_offs(alloc, asked.first, asked.count)?;
+    present(shard, alloc, asked, presented)
+}
+
+// The same with these certificates.
+fn present(
+    shard: &mut Shard,
+    alloc: Global,
+    asked: Asked,
+    presented: Vec<Arc<Cert>>,
+) -> Result<(u64, Answer), Fail> {
     let list: Vec<Entry> = Vec::new(alloc);
     let list = Arc::new(alloc, list)?;
     let ask = Ask {
@@ -75,7 +86,7 @@ fn ask(shard: &mut Shard, alloc: Global, asked: Asked) -> Result<(u64, Answer), 
         subject: Term::Key(asked.channel),
         list,
         right: 1,
-        presented: hand_offs(alloc, asked.first, asked.count)?,
+        presented,
     };
     step(shard, alloc, Event::Ask(Arc::new(alloc, ask)?))
 }
@@ -375,18 +386,39 @@ fn handles(certs: &[Arc<Cert>], place: usize) -> Option<usize> {
     }
 }
 
+// Presents handles to these certificates on channel 2. Whether that was a miss.
+fn is_miss(shard: &mut Shard, alloc: Global, seq: u64, certs: &[Arc<Cert>]) -> Result<bool, Fail> {
+    let mut presented = Vec::new(alloc);
+    for cert in certs {
+        presented.push(Arc::try_clone(cert)?)?;
+    }
+    let asked = Asked {
+        channel: 2,
+        seq,
+        reading: 1000,
+        first: 1,
+        count: 2,
+    };
+    match present(shard, alloc, asked, presented)? {
+        (_, Answer::Miss(_)) => Ok(true),
+        _ => Ok(false),
+    }
+}
+
+// The handles are one here, one among what is kept, and one in each entry.
 #[test]
-fn what_is_taken_in_is_what_is_kept(rt: HostRuntime) -> Result<(), Fail> {
+fn what_is_presented_again_is_kept_once(rt: HostRuntime) -> Result<(), Fail> {
     let mut shard = shard(rt.alloc(), 3600, 10)?;
     // serial number 1 is that of the certificate in common
     let certs = hand_offs(rt.alloc(), 1, 2)?;
     let again = hand_offs(rt.alloc(), 1, 2)?;
-    let first = shard.take_in(rt.alloc(), &certs)?;
-    let second = shard.take_in(rt.alloc(), &again)?;
-    assert!(rt; handles(&shard.plan().commons, 0) == Some(4), "in common");
+    assert!(rt; is_miss(&mut shard, rt.alloc(), 1, &certs)?);
+    assert!(rt; is_miss(&mut shard, rt.alloc(), 2, &again)?);
+    assert!(rt; !is_miss(&mut shard, rt.alloc(), 2, &again)?, "a replay");
+    assert!(rt; handles(&shard.plan().commons, 0) == Some(5), "in common");
     assert!(rt; handles(&certs, 0) == Some(1), "as one in common");
-    assert!(rt; handles(&certs, 1) == Some(4), "new");
+    assert!(rt; handles(&certs, 1) == Some(5), "new");
     assert!(rt; handles(&again, 1) == Some(1), "as before");
-    assert!(rt; shard.plan().commons.len() == 1 && first.len() == 2 && second.len() == 2);
+    assert!(rt; shard.journal().len() == 3);
     Ok(())
 }

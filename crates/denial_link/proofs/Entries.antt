@@ -1,8 +1,9 @@
 -- The first entries of an access list, and what is asked about its entries.
-use Rattle.std.proofs.Common.{◌≡◌, inl, inr, ℕ, zero, suc, ◌+◌, ◌<◌, ◌≤◌, ◌∷◌, [], Bool, true, List, length, map, replicate, Contains, All, Some, slice_get, refl, sym, ◌∙◌, ap, subst, arith}
+use Rattle.std.proofs.Common.{◌≡◌, inl, inr, ℕ, zero, suc, ◌+◌, ◌<◌, ◌≤◌, ◌∷◌, [], Bool, true, List, length, map, replicate, Contains, All, Option, None, Some, slice_get, refl, sym, ◌∙◌, ap, subst, arith}
 use Rattle.std.proofs.lemmas.Bool.{cases_lt}
 use Rattle.std.proofs.lemmas.Option.{same_Some, slice_get_within, slice_get-map, get_or_from_slice_get}
-use Rattle.std.specs.Option.{option_map}
+use Rattle.std.specs.Option.{option_map, MatchOption}
+use Rattle.std.specs.Prelude.{Any}
 use Rattle.std.proofs.lemmas.List.{length-map}
 use Rattle.std.proofs.lemmas.List.Elements.{All-contains}
 use Rattle.prin_term.specs.declared.term.Anchor.{Anchor}
@@ -11,18 +12,13 @@ use Rattle.prin_term.specs.declared.limits.TheConstants.{ENTRY_NODES}
 use Rattle.prin_term.specs.View.{Grant}
 use Rattle.stmt_codec.specs.Certificates.{Certificate}
 use Rattle.taos_calculus.specs.Rules.{Claim}
-use Rattle.taos_calculus.specs.Monitor.{MaySpeak, HasRight, FirstEntry, Grants}
+use Rattle.taos_calculus.specs.Monitor.{MaySpeak, HasRight, FirstEntry}
 use Rattle.taos_calculus.specs.Question.{Question, question_of, claims_of, claim_of, picked, IsTermOf, MayAnswer}
-use Rattle.denial_link.specs.Revived.{claims}
-use Rattle.denial_link.specs.Needed.{IsNeeded}
-use Rattle.denial_link.specs.Links.{NoEntryWith, IsReached, Lacks, IsFirstLink, expired, missing}
-use Rattle.denial_link.specs.declared.link.Link.TheVariants.{Expired, Missing}
+use Rattle.denial_link.specs.Revived.{claims, AsksWith}
+use Rattle.denial_link.specs.Links.{NoEntryWith, NoneBefore, IsReached, Lacks, IsFirstLink, missing}
+use Rattle.denial_link.specs.declared.link.Link.TheVariants.{Missing}
 use Rattle.denial_link.proofs.Members.{has-at}
 use Rattle.denial_link.proofs.Reaching.{part_itself, Reaches}
-
--- no entry before this place has the right and this too
-abbrev pub NoneBefore : List Grant → ℕ → (Grant → Type 0) → ℕ → Type 0
-NoneBefore list right P n = (k : ℕ) (e : Grant) → k < n → slice_get list k ≡ Some e → HasRight e right → P e → ⊥
 
 module _ (list : List Grant) (right : ℕ) (P : Grant → Type 0) where
   pub first_here : (n : ℕ) (e : Grant) → NoneBefore list right P n → slice_get list n ≡ Some e → HasRight e right → P e → (x : Grant) × FirstEntry list right P n x
@@ -40,6 +36,34 @@ module _ (list : List Grant) (right : ℕ) (P : Grant → Type 0) where
 
   pub none_at_all : (n : ℕ) → NoneBefore list right P n → length list ≤ n → NoEntryWith list right P
   none_at_all n none le k e s r p = none k e (omega (arith, slice_get_within list k e s)) s r p
+
+-- none before the end is none at all
+pub found_at_all : (o : Option ℕ) (list : List Grant) (right end : ℕ) (P : Grant → Type 0) → MatchOption o (NoneBefore list right P end) (λ k. (k < end) × (e : Grant) × FirstEntry list right P k e) →
+    length list ≤ end → MatchOption o (NoEntryWith list right P) (λ k. (e : Grant) × FirstEntry list right P k e)
+found_at_all None list right end P h le = none_at_all list right P end h le
+found_at_all (Some k) list right end P h le = (h.1, h.2)
+
+-- ---- a question about certificates that have ended
+
+abbrev HasPart : Principal → List Principal → Type 0
+HasPart p ps = Any (λ (who : Principal). Contains (subterms who) p) ps
+
+module _ (anchors : List Anchor) (certs : List Certificate) (moment : ℕ) (places : List ℕ) (subject : Principal) (list : List Grant) (q : Question)
+    (asks : AsksWith q anchors certs moment places subject list) where
+  pub asks_subject : IsTermOf q subject
+  asks_subject = inl (subst (λ (p : Principal). Contains (subterms p) subject) (sym asks.subject_is) (part_itself subject))
+
+  pub asks_entry : (k : ℕ) (e : Grant) → slice_get list k ≡ Some e → IsTermOf q e.who
+  asks_entry k e s =
+      let stands = slice_get-map (λ (g : Grant). g.who) list k ∙ ap (option_map (λ (g : Grant). g.who)) s in
+      let part : HasPart e.who (map (λ (g : Grant). g.who) list) = (
+        k,
+        e.who,
+        omega (arith, slice_get_within list k e s, length-map list (λ (g : Grant). g.who)),
+        get_or_from_slice_get (map (λ (g : Grant). g.who) list) k e.who e.who stands,
+        part_itself e.who,
+      ) in
+      inr (subst (HasPart e.who) (sym asks.list_is) part)
 
 -- ---- a question about all certificates
 
@@ -80,35 +104,16 @@ module _ (anchors : List Anchor) (certs : List Certificate) (subject : Principal
     abbrev Speaks : Grant → Type 0
     Speaks g = MaySpeak anchors (claims certs) subject g.who
 
-    first_speaks : FirstEntry list right (λ (g : Grant). MayAnswer q subject g.who) k e → FirstEntry list right Speaks k e
-    first_speaks f = record {
-      stands = f.stands;
-      has_right = f.has_right;
-      holds = answers_all (λ known said. MaySpeak known said subject e.who) f.holds;
-      first = λ j g lt s r m. f.first j g lt s r (asks_all (λ known said. MaySpeak known said subject g.who) m);
-    }
-
-    pub speaks_by_all_certs : FirstEntry list right (λ (g : Grant). MayAnswer q subject g.who) k e → MaySpeak anchors (claims certs) subject d.who
-    speaks_by_all_certs f = subst Speaks (same_Some e d (sym f.stands ∙ stands)) (first_speaks f).holds
-
-    pub link_expired : (moment c : ℕ) → FirstEntry list right (λ (g : Grant). MayAnswer q subject g.who) k e → IsNeeded anchors certs moment subject d.who c →
-        IsFirstLink anchors certs moment subject list right (Expired k c)
-    link_expired moment c f needed =
-        expired e (first_speaks f) (subst (λ (g : Grant). IsNeeded anchors certs moment subject g.who c) (sym (same_Some e d (sym f.stands ∙ stands))) needed)
-
-    pub link_missing : (moment m : ℕ) → FirstEntry list right (λ (g : Grant). Unit {0}) k e → NoEntryWith list right (λ (g : Grant). MayAnswer q subject g.who) →
-        Lacks (Reaches q subject) d.who m → IsFirstLink anchors certs moment subject list right (Missing k m)
+    pub link_missing : (moment m : ℕ) → FirstEntry list right (λ (g : Grant). Unit {0}) k e → NoEntryWith list right Speaks → Lacks (Reaches q subject) d.who m → IsFirstLink anchors certs moment subject list right (Missing k m)
     link_missing moment m f none lacks =
-        missing e f (λ j g s r speaks. none j g s r (asks_all (λ known said. MaySpeak known said subject g.who) speaks))
+        missing e f none
         (subst (λ (g : Grant). Lacks (IsReached anchors (claims certs) subject) g.who m) (sym (same_Some e d (sym f.stands ∙ stands)))
         (answers_all (λ known said. Lacks (IsReached known said subject) d.who m) lacks))
 
--- ---- an entry
+  pub none_by_all : (right : ℕ) → NoEntryWith list right (λ (g : Grant). MayAnswer q subject g.who) → NoEntryWith list right (λ (g : Grant). MaySpeak anchors (claims certs) subject g.who)
+  none_by_all right none j g s r speaks = none j g s r (asks_all (λ known said. MaySpeak known said subject g.who) speaks)
 
-pub not_granted : (anchors : List Anchor) (said : List Claim) (subject : Principal) (list : List Grant) (right k : ℕ) (e d : Grant) (P : Grant → Type 0) → FirstEntry list right P k e → slice_get list k ≡ Some d →
-    (Grants anchors said subject list right → ⊥) → MaySpeak anchors said subject d.who → ⊥
-not_granted anchors said subject list right k e d P f s denied m =
-    denied (record { place = k; entry = d; stands = s; has_right = subst (λ (g : Grant). HasRight g right) (same_Some e d (sym f.stands ∙ s)) f.has_right; speaks = m })
+-- ---- an entry
 
 pub small_entry : (list : List Grant) (k : ℕ) (d : Grant) → All (λ (e : Grant). node_count e.who ≤ ENTRY_NODES) list → slice_get list k ≡ Some d → node_count d.who < 256
 small_entry list k d fit s =

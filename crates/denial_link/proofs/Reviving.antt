@@ -1,11 +1,10 @@
 -- What is picked by marks says what the revived certificates say, and more of them derive more.
-use Rattle.std.proofs.Common.{◌≡◌, ◌⊎◌, ◌↔◌, inl, inr, ℕ, ◌+◌, ◌<◌, ◌≤◌, ◌∷◌, [], Bool, List, length, take, map, filter_map, nat_lt, Contains, Some, None, Option, IsTrue, slice_get, refl, sym, ◌∙◌, ap, subst, arith, get_or}
-use Rattle.std.proofs.Math.Seq.{take-length}
-use Rattle.std.proofs.lemmas.List.{append-nil}
+use Rattle.std.proofs.Common.{◌≡◌, ◌⊎◌, ◌↔◌, inl, inr, ℕ, ◌+◌, ◌<◌, ◌≤◌, ◌∷◌, [], Bool, List, length, take, map, filter_map, nat_lt, Contains, Some, None, Option, slice_get, refl, sym, ◌∙◌, ap, subst, arith}
+use Rattle.std.proofs.lemmas.List.{append-nil, take_all}
 use Rattle.std.specs.List.{cons_option}
-use Rattle.std.specs.Option.{option_map}
+use Rattle.std.specs.Option.{option_map, MatchOption}
 use Rattle.std.proofs.lemmas.Bool.{cases_lt, ltb-true, lt-ltb}
-use Rattle.std.proofs.lemmas.Option.{none-some, same_Some, slice_get-map, slice_get_within, slice_get-get_or}
+use Rattle.std.proofs.lemmas.Option.{none-some, same_Some, slice_get-map, slice_get_within}
 use Rattle.std.proofs.lemmas.List.Elements.{Contains-append_left, Contains-append_right, Contains-append_cases}
 use Rattle.prin_term.specs.declared.term.Anchor.{Anchor}
 use Rattle.prin_term.specs.Principal.{Principal}
@@ -13,14 +12,16 @@ use Rattle.prin_term.specs.View.{Grant}
 use Rattle.stmt_codec.specs.Certificates.{Certificate, live}
 use Rattle.taos_calculus.specs.Rules.{Claim}
 use Rattle.taos_calculus.specs.Rules as rules
-use Rattle.taos_calculus.specs.Monitor.{MaySpeak}
+use Rattle.taos_calculus.specs.Monitor.{FirstEntry, Grants, HasRight, MaySpeak}
 use Rattle.taos_calculus.specs.Question.{Question, question_of, MayAnswer, picked, claim_of}
 use Rattle.taos_calculus.proofs.Asking.{IsPicked, picked-at, has-picked}
 use Rattle.taos_calculus.proofs.Staying.{derives_more}
 use Rattle.denial_link.specs.Order.{DeadInOrder}
 use Rattle.denial_link.specs.Keys.{AreMarked}
-use Rattle.denial_link.specs.Needed.{IsNeeded}
-use Rattle.denial_link.specs.Revived.{claims, at_places, revived}
+use Rattle.denial_link.specs.Needed.{IsNeeded, IsRevived}
+use Rattle.denial_link.specs.Links.{NoEntryWith, NoneBefore}
+use Rattle.denial_link.specs.declared.revive.Revival.{Revival}
+use Rattle.denial_link.specs.Revived.{claims, at_places, revived, AsksWith}
 use Rattle.denial_link.proofs.Members.{has-at, at-has, has-cons, has-head, has-cases, has-nil, Contains-to_map, Contains-from_map, Contains-take, Contains-to_filter, Contains-from_filter}
 
 option_map_some : {X Y : Type 0} (f : X → Y) (o : Option X) (y : Y) → option_map f o ≡ Some y → (x : X) × (o ≡ Some x) × (f x ≡ y)
@@ -158,40 +159,99 @@ speaks_by_all anchors certs moment places left right d = speaks_more anchors _ _
         elim (cases_lt moment c.until) [ inl l ↦ inl l | inr le ↦ inr ((d.dead i).1 (c, at, le)) ] in
         revived-taken certs moment places x (record { place = i; cert = c; stands = at; taken = which; says = says })
 
-pub answer_by_marks : (q : Question) (anchors : List Anchor) (certs : List Certificate) (moment : ℕ) (places : List ℕ) (n : ℕ) (marks used : List Bool) (subject : Principal) (list : List Grant) (left right : Principal) (answer : Bool) →
-    q ≡ question_of anchors certs used subject list → used ≡ marks → n ≡ length certs → AreMarked certs moment places n marks → IsTrue answer ↔ MayAnswer q left right →
-    IsTrue answer ↔ MaySpeak anchors (claims (revived certs moment places)) left right
-answer_by_marks q anchors certs moment places n marks used subject list left right answer asked same count m is =
-    let by = speaks_by_marks anchors certs moment places marks left right (subst (λ k. AreMarked certs moment places k marks) count m) in
-    let e : q ≡ question_of anchors certs marks subject list = asked ∙ ap (λ u. question_of anchors certs u subject list) same in
-    (λ t. by.0 (subst (λ (p : Question). MayAnswer p left right) e (is.0 t)), λ d. is.1 (subst (λ (p : Question). MayAnswer p left right) (sym e) (by.1 d)))
+-- what is asked by marks is asked about the live certificates and those at the places
+pub asks_by_marks : (q : Question) (anchors : List Anchor) (certs : List Certificate) (moment : ℕ) (places : List ℕ) (n : ℕ) (marks used : List Bool) (subject : Principal) (list : List Grant) →
+    q ≡ question_of anchors certs used subject list → used ≡ marks → n ≡ length certs → AreMarked certs moment places n marks → AsksWith q anchors certs moment places subject list
+asks_by_marks q anchors certs moment places n marks used subject list asked same count m = record {
+  answers = answers;
+  subject_is = ap (λ (x : Question). x.subject) asked;
+  list_is = ap (λ (x : Question). x.list) asked;
+}
+  where
+    e : q ≡ question_of anchors certs marks subject list
+    e = asked ∙ ap (λ u. question_of anchors certs u subject list) same
 
--- ---- the search for the first that is needed
+    answers : (left right : Principal) → MayAnswer q left right ↔ MaySpeak anchors (claims (revived certs moment places)) left right
+    answers left right =
+        let by = speaks_by_marks anchors certs moment places marks left right (subst (λ k. AreMarked certs moment places k marks) count m) in
+        (λ d. by.0 (subst (λ (p : Question). MayAnswer p left right) e d), λ d. subst (λ (p : Question). MayAnswer p left right) (sym e) (by.1 d))
 
-module _ (anchors : List Anchor) (certs : List Certificate) (moment : ℕ) (places : List ℕ) (left right : Principal) where
-  abbrev Enough : ℕ → Type 0
-  Enough n = MaySpeak anchors (claims (revived certs moment (take n places))) left right
+-- ---- certificates that have ended are added one after the other
 
-  pub search_begins : (n : ℕ) → DeadInOrder certs moment places → (MaySpeak anchors (claims (live certs moment)) left right → ⊥) → MaySpeak anchors (claims certs) left right → n ≡ length places →
-      (0 < n) × (n ≤ length places) × (Enough 0 → ⊥) × Enough n
-  search_begins n d lacking enough e = (some, omega (arith, e), none, all)
+module _ (anchors : List Anchor) (certs : List Certificate) (moment : ℕ) (places : List ℕ) (subject : Principal) (list : List Grant) (right : ℕ) where
+  abbrev pub Enough : ℕ → Grant → Type 0
+  Enough n e = MaySpeak anchors (claims (revived certs moment (take n places))) subject e.who
+
+  -- the entry at this place is derivable with the first n, and with the needed certificate first
+  abbrev pub IsFoundAt : ℕ → ℕ → Revival → Type 0
+  IsFoundAt end n r =
+      (r.entry ≡ end) × (e : Grant) × (slice_get list end ≡ Some e) × HasRight e right × Enough n e × IsNeeded anchors certs moment subject e.who r.cert
+
+  more : (n m : ℕ) (e : Grant) → n ≤ m → Enough n e → Enough m e
+  more n m e le h = speaks_by_more anchors certs moment places n m subject e.who le h
+
+  pub none_begins : (Grants anchors (claims (live certs moment)) subject list right → ⊥) → NoneBefore list right (Enough 0) (length list)
+  none_begins denied k e lt s r h =
+      denied (record { place = k; entry = e; stands = s; has_right = r; speaks = speaks_by_none anchors certs moment places subject e.who h })
+
+  pub found_still : (end n : ℕ) (r : Revival) → IsFoundAt end n r → IsFoundAt end (n + 1) r
+  found_still end n r (at, e, s, has, enough, needed) = (at, e, s, has, more n (n + 1) e (omega arith) enough, needed)
+
+  -- one before it is, and was not before
+  pub found_now : (end n k c : ℕ) (e : Grant) (r : Revival) → DeadInOrder certs moment places → NoneBefore list right (Enough n) end → k < end → FirstEntry list right (Enough (n + 1)) k e →
+      slice_get places n ≡ Some c → r.entry ≡ k → r.cert ≡ c → IsFoundAt k (n + 1) r
+  found_now end n k c e r d none lt f stands at is = (at, e, f.stands, f.has_right, f.holds, needed)
     where
-      none : Enough 0 → ⊥
-      none h = lacking (speaks_by_none anchors certs moment places left right h)
+      needed : IsNeeded anchors certs moment subject e.who r.cert
+      needed = record {
+        n = n;
+        places = places;
+        in_order = d;
+        enough = f.holds;
+        no_fewer = λ m le h. none k e lt f.stands f.has_right (more m n e le h);
+        stands = stands ∙ ap Some (sym is);
+      }
 
-      all : Enough n
-      all = subst (λ ps. MaySpeak anchors (claims (revived certs moment ps)) left right) (sym (ap (λ k. take k places) e ∙ take-length places)) (speaks_by_all anchors certs moment places left right d enough)
+  -- what is found stays found where one more is taken
+  pub still_found : (o : Option Revival) (end n : ℕ) (N : Type 0) → MatchOption o N (IsFoundAt end n) → MatchOption o N (IsFoundAt end (n + 1))
+  still_found None end n N h = h
+  still_found (Some r) end n N h = found_still end n r h
 
-      some : 0 < n
-      some = elim (cases_lt 0 n) [ inl lt ↦ lt | inr le ↦ let z : n ≡ 0 = omega arith in absurd (none (subst Enough z all)) ]
+  -- what a question about them answers
+  module _ (q : Question) (n : ℕ) (asks : AsksWith q anchors certs moment (take n places) subject list) where
+    pub asked_none : (end : ℕ) → NoneBefore list right (λ (e : Grant). MayAnswer q subject e.who) end → NoneBefore list right (Enough n) end
+    asked_none end none k e lt s r h = none k e lt s r ((asks.answers subject e.who).1 h)
 
-  pub search_ends : (low high : ℕ) (used : List ℕ) → DeadInOrder certs moment places → low < high → high ≤ length places → high ≤ low + 1 → (Enough low → ⊥) → Enough high → used ≡ places →
-      IsNeeded anchors certs moment left right (get_or used low 0)
-  search_ends low high used d lt within next lacking enough e = record {
-    n = low;
-    places = places;
-    in_order = d;
-    enough = let at : high ≡ low + 1 = omega arith in subst Enough at enough;
-    no_fewer = λ m le h. lacking (speaks_by_more anchors certs moment places m low left right le h);
-    stands = slice_get-get_or places low 0 (omega arith) ∙ ap (λ (ps : List ℕ). Some (get_or ps low 0)) (sym e);
-  }
+    pub asked_first : (k : ℕ) (e : Grant) → FirstEntry list right (λ (g : Grant). MayAnswer q subject g.who) k e → FirstEntry list right (Enough n) k e
+    asked_first k e f = record {
+      stands = f.stands;
+      has_right = f.has_right;
+      holds = (asks.answers subject e.who).0 f.holds;
+      first = λ j g lt s r h. f.first j g lt s r ((asks.answers subject g.who).1 h);
+    }
+
+  -- at the end there are all
+  module _ (d : DeadInOrder certs moment places) (n : ℕ) (all : length places ≤ n) where
+    by_all : (e : Grant) → MaySpeak anchors (claims certs) subject e.who → Enough n e
+    by_all e h = subst (λ ps. MaySpeak anchors (claims (revived certs moment ps)) subject e.who) (sym (take_all n places all)) (speaks_by_all anchors certs moment places subject e.who d h)
+
+    all_by : (e : Grant) → Enough n e → MaySpeak anchors (claims certs) subject e.who
+    all_by e h = speaks_more anchors _ _ subject e.who (λ x k. taken_all x (taken-revived certs moment (take n places) x k)) h
+      where
+        taken_all : (x : Claim) → IsTaken certs moment (take n places) x → Contains (claims certs) x
+        taken_all x t = subst (Contains (claims certs)) t.says (Contains-to_map claim_of certs t.cert (has-at certs t.place t.cert t.stands))
+
+    pub none_ends : NoneBefore list right (Enough n) (length list) → NoEntryWith list right (λ (e : Grant). MaySpeak anchors (claims certs) subject e.who)
+    none_ends none k e s r h = none k e (slice_get_within list k e s) s r (by_all e h)
+
+    pub found_ends : (end : ℕ) (r : Revival) → NoneBefore list right (Enough n) end → IsFoundAt end n r → IsRevived anchors certs moment subject list right r
+    found_ends end r none (at, e, s, has, enough, needed) = record {
+      entry = e;
+      first = rw at (record { stands = s; has_right = has; holds = all_by e enough; first = λ k g lt q h m. none k g lt q h (by_all g m) });
+      needed = needed;
+    }
+
+    pub revived_ends : (o : Option Revival) (end m : ℕ) → m ≡ length list → NoneBefore list right (Enough n) end → MatchOption o (end ≡ m) (IsFoundAt end n) →
+        MatchOption o (NoEntryWith list right (λ (e : Grant). MaySpeak anchors (claims certs) subject e.who)) (IsRevived anchors certs moment subject list right)
+    revived_ends None end m count none e = none_ends (subst (NoneBefore list right (Enough n)) (e ∙ count) none)
+    revived_ends (Some r) end m count none found = found_ends end r none found

@@ -1,5 +1,5 @@
 -- What a denial names: the first thing that is missing.
-use Rattle.std.specs.Prelude.{◌≡◌, ℕ, ◌+◌, ◌++◌, List, ◌∷◌, Some, slice_get, Contains, All, sum_by}
+use Rattle.std.specs.Prelude.{◌≡◌, ℕ, ◌+◌, ◌<◌, ◌++◌, List, ◌∷◌, Some, slice_get, Contains, All, sum_by}
 use Rattle.prin_term.specs.declared.term.Anchor.{Anchor}
 use Rattle.prin_term.specs.Principal.{Principal, operands, subterms, node_count}
 use Rattle.prin_term.specs.View.{Grant}
@@ -26,6 +26,11 @@ pub data Lacks (Reached : Principal → Type 0) : Principal → ℕ → Type 0 w
   below : {p q : Principal} {k n : ℕ} (front rest : List Principal) →
       operands p ≡ front ++ q ∷ rest → All Reached front → (Reached q → ⊥) → Lacks Reached q k →
       n ≡ 1 + sum_by node_count front + k → Lacks Reached p n
+
+-- no entry before this place has the right and this too
+abbrev pub NoneBefore : List Grant → ℕ → (Grant → Type 0) → ℕ → Type 0
+NoneBefore list right P n =
+    (k : ℕ) (e : Grant) → k < n → slice_get list k ≡ Some e → HasRight e right → P e → ⊥
 
 -- no entry has the right and this too
 abbrev pub NoEntryWith : List Grant → ℕ → (Grant → Type 0) → Type 0

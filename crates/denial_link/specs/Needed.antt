@@ -3,7 +3,9 @@ use Rattle.std.specs.Prelude.{◌≡◌, ℕ, ◌+◌, ◌≤◌, List, Some, sl
 use Rattle.prin_term.specs.declared.term.Anchor.{Anchor}
 use Rattle.prin_term.specs.Principal.{Principal}
 use Rattle.stmt_codec.specs.Certificates.{Certificate}
-use Rattle.taos_calculus.specs.Monitor.{MaySpeak}
+use Rattle.prin_term.specs.View.{Grant}
+use Rattle.taos_calculus.specs.Monitor.{FirstEntry, MaySpeak}
+use Rattle.denial_link.specs.declared.revive.Revival.{Revival}
 use Rattle.denial_link.specs.Order.{DeadInOrder}
 use Rattle.denial_link.specs.Revived.{claims, revived}
 
@@ -22,3 +24,11 @@ pub record IsNeeded (anchors : List Anchor) (certs : List Certificate)
   pub no_fewer : (m : ℕ) → m ≤ n →
       MaySpeak anchors (claims (revived certs moment (take m places))) subject who → ⊥
   pub stands : slice_get places n ≡ Some c
+
+-- of the entries with the right for whose principal all certificates do, the first, and the
+-- certificate that is needed
+pub record IsRevived (anchors : List Anchor) (certs : List Certificate) (moment : ℕ)
+    (subject : Principal) (list : List Grant) (right : ℕ) (r : Revival) : Type 0 where
+  pub entry : Grant
+  pub first : FirstEntry list right (λ g. MaySpeak anchors (claims certs) subject g.who) r.entry entry
+  pub needed : IsNeeded anchors certs moment subject entry.who r.cert

@@ -1,6 +1,6 @@
 //! The first missing or expired link.
 
-ghost use Rattle.std.specs.Prelude.{◌≡◌, ◌≤◌, ℕ, true, map, length};
+ghost use Rattle.std.specs.Prelude.{◌≡◌, ◌<◌, ◌≤◌, ℕ, true, map, length};
 ghost use Rattle.std.specs.Prelude.{replicate, slice_get, Some, MatchOption};
 ghost use Rattle.prin_term.specs.View.{Grant, grant, principal};
 ghost use Rattle.stmt_codec.specs.Certificates.{live};
@@ -8,11 +8,11 @@ ghost use Rattle.stmt_codec.specs.View.{certificates};
 ghost use Rattle.taos_calculus.specs.Monitor.{FirstEntry, Grants};
 ghost use Rattle.taos_calculus.specs.Question.{IsAskable, IsTermOf, MayAnswer, question_of};
 ghost use Rattle.denial_link.specs.Revived.{claims};
-ghost use Rattle.denial_link.specs.Links.{IsFirstLink, NoEntryWith};
+ghost use Rattle.denial_link.specs.Links.{IsFirstLink, NoEntryWith, NoneBefore};
 
 use crate::link::Link;
 use crate::part::lacking;
-use crate::revive::first_needed;
+use crate::revive::{Revival, first_revived};
 use prin_term::{Anchor, Entry, Term};
 use std::sync::Arc;
 use stmt_codec::Cert;
@@ -26,6 +26,36 @@ pub fn first_with(list: &[Entry], right: u8) -> Option<u8>
 {
     for place in 0..list.len() {
         if list[place].rights & right != 0 {
+            return Some(place as u8);
+        }
+    }
+    None
+}
+
+/// The first entry before this place with the right for whom the subject speaks, by what `bench` was
+/// asked last. Takes no memory.
+pub(crate) fn first_before<D: Decide>(
+    bench: &mut D,
+    subject: &Term,
+    list: &[Entry],
+    right: u8,
+    end: usize,
+) -> Option<u8>
+    requires few { length list.now ≤ 8 }
+    requires end_in { end ≤ length list.now }
+    requires asking { IsTermOf (D.question bench.old) (principal subject.now) }
+    requires asked { (k : ℕ) (e : Grant) → slice_get (map grant list.now) k ≡ Some e
+        → IsTermOf (D.question bench.old) e.who }
+    ensures found { MatchOption result
+        (NoneBefore (map grant list.now) right
+        (λ e. MayAnswer (D.question bench.old) (principal subject.now) e.who) end)
+        (λ k. (k < end) × (e : Grant) × FirstEntry (map grant list.now) right
+        (λ g. MayAnswer (D.question bench.old) (principal subject.now) g.who) k e) }
+    ensures same { D.question bench.new ≡ D.question bench.old }
+{
+    for place in 0..end {
+        let entry = &list[place];
+        if entry.rights & right != 0 && bench.derives(subject, &entry.who) {
             return Some(place as u8);
         }
     }
@@ -51,13 +81,7 @@ pub fn first_derivable<D: Decide>(
         (λ g. MayAnswer (D.question bench.old) (principal subject.now) g.who) k e) }
     ensures same { D.question bench.new ≡ D.question bench.old }
 {
-    for place in 0..list.len() {
-        let entry = &list[place];
-        if entry.rights & right != 0 && bench.derives(subject, &entry.who) {
-            return Some(place as u8);
-        }
-    }
-    None
+    first_before(bench, subject, list, right, list.len())
 }
 
 /// What is missing where nothing is granted: that an entry has the right; or, where the
@@ -80,12 +104,18 @@ pub fn first_link<D: Decide>(
     ensures { IsFirstLink anchors.now (certificates certs.now) moment
         (principal subject.now) (map grant list.now) right result }
 {
-    let Some(_) = first_with(list, right) else {
+    let Some(first) = first_with(list, right) else {
         return Link::NoEntry;
     };
+    if let Some(Revival { entry, cert }) = first_revived(
+        bench, anchors, certs, moment, subject, list, right,
+    ) {
+        return Link::Expired { entry, cert };
+    }
     let all = [true; MAX_CERTS];
     bench.begin(anchors, certs, &all[..certs.len()], subject, list);
-    first_link_by_all(bench, anchors, certs, moment, subject, list, right)
+    let node = lacking(bench, subject, &list[first as usize].who);
+    Link::Missing { entry: first, node }
 }
 
 /// The first link, where `bench` was asked last about all certificates: where none has ended, it
@@ -112,11 +142,7 @@ pub fn first_link_by_all<D: Decide>(
         return Link::NoEntry;
     };
     match first_derivable(bench, subject, list, right) {
-        Some(entry) => {
-            let who = &list[entry as usize].who;
-            let cert = first_needed(bench, anchors, certs, moment, subject, list, who);
-            Link::Expired { entry, cert }
-        }
+        Some(_) => first_link(bench, anchors, certs, moment, subject, list, right),
         None => {
             let node = lacking(bench, subject, &list[first as usize].who);
             Link::Missing { entry: first, node }

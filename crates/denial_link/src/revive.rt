@@ -1,15 +1,17 @@
 //! Which of the certificates that have ended would have been enough.
 
-ghost use Rattle.std.specs.Prelude.{◌≡◌, ◌≤◌, ◌↔◌, true, map, length, replicate, IsTrue};
+ghost use Rattle.std.specs.Prelude.{◌≡◌, ◌≤◌, true, map, length, replicate, MatchOption};
 ghost use Rattle.prin_term.specs.View.{grant, principal};
 ghost use Rattle.stmt_codec.specs.Certificates.{live};
 ghost use Rattle.stmt_codec.specs.View.{certificates};
-ghost use Rattle.taos_calculus.specs.Monitor.{MaySpeak};
-ghost use Rattle.taos_calculus.specs.Question.{IsAskable, IsTermOf, question_of};
-ghost use Rattle.denial_link.specs.Revived.{claims, revived};
-ghost use Rattle.denial_link.specs.Needed.{IsNeeded};
+ghost use Rattle.taos_calculus.specs.Monitor.{Grants, MaySpeak};
+ghost use Rattle.taos_calculus.specs.Question.{IsAskable};
+ghost use Rattle.denial_link.specs.Revived.{claims, AsksWith};
+ghost use Rattle.denial_link.specs.Needed.{IsRevived};
 ghost use Rattle.denial_link.specs.Keys.{AreMarked};
+ghost use Rattle.denial_link.specs.Links.{NoEntryWith};
 
+use crate::first::first_before;
 use crate::order::dead_in_order;
 use arrayvec::ArrayVec;
 use prin_term::{Anchor, Entry, Term};
@@ -38,68 +40,70 @@ struct Revived<'a> {
     places: &'a [u8],
 }
 
-// Whether these are enough for a principal.
-fn are_enough<D: Decide>(
+// Asks about these.
+fn ask_with<D: Decide>(
     bench: &mut D,
     anchors: &[Anchor],
     these: &Revived<'_>,
     subject: &Term,
     list: &[Entry],
-    who: &Term,
-) -> bool
-    requires askable { IsAskable anchors.now (certificates these.now.certs.now)
+)
+    requires { IsAskable anchors.now (certificates these.now.certs.now)
         (replicate (length these.now.certs.now) true) (principal subject.now)
         (map grant list.now) }
-    requires listed { IsTermOf (question_of anchors.now (certificates these.now.certs.now)
-        (replicate (length these.now.certs.now) true) (principal subject.now)
-        (map grant list.now)) (principal who.now) }
-    ensures { IsTrue result ↔ MaySpeak anchors.now
-        (claims (revived (certificates these.now.certs.now) these.now.moment
-        these.now.places.now)) (principal subject.now) (principal who.now) }
+    ensures { AsksWith (D.question bench.new) anchors.now (certificates these.now.certs.now)
+        these.now.moment these.now.places.now (principal subject.now) (map grant list.now) }
 {
     let marks = marks_of(these.certs, these.moment, these.places);
     bench.begin(anchors, these.certs, &marks, subject, list);
-    bench.derives(subject, who)
 }
 
-/// The place of the first of those that have ended with which the live ones are enough for a
-/// principal: all before it in their order are taken too.
-pub(crate) fn first_needed<D: Decide>(
+/// An entry, and the certificate that has ended with which its principal is derivable first.
+#[derive(Clone, Copy, Debug)]
+pub(crate) struct Revival {
+    pub(crate) entry: u8,
+    pub(crate) cert: u8,
+}
+
+/// The first entry with the right that all certificates together are enough for, with the first of
+/// those that have ended with which the live ones are, all before it in their order taken too. They
+/// are added one after the other, so that the decider may keep what it knows.
+pub(crate) fn first_revived<D: Decide>(
     bench: &mut D,
     anchors: &[Anchor],
     certs: &[Arc<Cert>],
     moment: u64,
     subject: &Term,
     list: &[Entry],
-    who: &Term,
-) -> u8
+    right: u8,
+) -> Option<Revival>
     requires askable { IsAskable anchors.now (certificates certs.now)
         (replicate (length certs.now) true) (principal subject.now) (map grant list.now) }
-    requires listed { IsTermOf (question_of anchors.now (certificates certs.now)
-        (replicate (length certs.now) true) (principal subject.now) (map grant list.now))
-        (principal who.now) }
-    requires lacking { MaySpeak anchors.now (claims (live (certificates certs.now) moment))
-        (principal subject.now) (principal who.now) → ⊥ }
-    requires enough { MaySpeak anchors.now (claims (certificates certs.now))
-        (principal subject.now) (principal who.now) }
-    ensures { IsNeeded anchors.now (certificates certs.now) moment
-        (principal subject.now) (principal who.now) result }
+    requires denied { Grants anchors.now (claims (live (certificates certs.now) moment))
+        (principal subject.now) (map grant list.now) right → ⊥ }
+    ensures { MatchOption result
+        (NoEntryWith (map grant list.now) right
+        (λ e. MaySpeak anchors.now (claims (certificates certs.now)) (principal subject.now) e.who))
+        (λ r. IsRevived anchors.now (certificates certs.now) moment (principal subject.now)
+        (map grant list.now) right r) }
 {
     let places = dead_in_order(certs, moment);
-    let mut low = 0;
-    let mut high = places.len();
-    while low + 1 < high {
-        let middle = low + (high - low) / 2;
+    let mut end = list.len();
+    let mut found = None;
+    for n in 0..places.len() {
         let these = Revived {
             certs,
             moment,
-            places: &places[..middle],
+            places: &places[..n + 1],
         };
-        if are_enough(bench, anchors, &these, subject, list, who) {
-            high = middle;
-        } else {
-            low = middle;
+        ask_with(bench, anchors, &these, subject, list);
+        if let Some(entry) = first_before(bench, subject, list, right, end) {
+            end = entry as usize;
+            found = Some(Revival {
+                entry,
+                cert: places[n],
+            });
         }
     }
-    places[low]
+    found
 }

@@ -1,16 +1,28 @@
 -- When a look finds nothing, each wanted row is finished.
-use Rattle.std.proofs.Common.{◌≡◌, ◌⊎◌, inl, inr, ℕ, ◌<◌, List, Some, slice_get, length, sym, ◌∙◌, ap, Contains}
+use Rattle.std.proofs.Common.{◌≡◌, ◌⊎◌, inl, inr, ℕ, ◌+◌, ◌<◌, List, Some, slice_get, length, sym, ◌∙◌, ap, arith, refl, Contains}
 use Rattle.std.proofs.lemmas.Option.{same_Some, slice_get_within, slice_get-get_or}
 use Rattle.taos_calculus.specs.declared.line.Node.{Node}
 use Rattle.goal_search.specs.declared.search.Anchored.{Anchored}
 use Rattle.goal_search.specs.Goals.{ForWhom}
-use Rattle.goal_search.specs.Gaps.{RefusesIn, IsFormed, IsNamedIn, IsPassedOnIn, IsHandedIn}
+use Rattle.goal_search.specs.Gaps.{RefusesIn, IsFormed, IsNamedIn, IsPassedOnIn, IsHandedIn, form_of}
 use Rattle.goal_search.specs.Searching.{Core, Has, IsNumber, IsReady, IsFinishedIn}
 use Rattle.goal_search.proofs.ByCited.{handed_cited}
 
 -- two nodes at one number are one
 one_node : (nodes : List Node) (i : ℕ) (a b : Node) → slice_get nodes i ≡ Some a → slice_get nodes i ≡ Some b → a ≡ b
 one_node nodes i a b e f = same_Some a b (sym e ∙ f)
+
+-- the form of the node that stands somewhere
+pub form_at : (nodes : List Node) (i : ℕ) (m : Node) → slice_get nodes i ≡ Some m → (n : Node) → slice_get nodes i ≡ Some n → form_of m ≡ form_of n
+form_at nodes i m e n f = ap form_of (one_node nodes i m n e f)
+
+pub formless : (node : Node) → ((a b : ℕ) → node ≡ Node.Quote a b → ⊥) → ((a b : ℕ) → node ≡ Node.For a b → ⊥) → ((a r : ℕ) → node ≡ Node.AsRole a r → ⊥) → 0 ≡ form_of node
+formless (Node.Key k) nq nf nr = refl
+formless (Node.Name n) nq nf nr = refl
+formless (Node.And a b) nq nf nr = refl
+formless (Node.Quote a b) nq nf nr = absurd (nq a b refl)
+formless (Node.For a b) nq nf nr = absurd (nf a b refl)
+formless (Node.AsRole a r) nq nf nr = absurd (nr a r refl)
 
 module _ (s : Core) (row : ℕ) where
   -- nothing is passed on to what has no form
@@ -21,6 +33,23 @@ module _ (s : Core) (row : ℕ) where
     for_both = λ a b c d f g h. absurd (nf c d (one_node s.nodes j node (Node.For c d) e g));
     role_under = λ a c r f g h. absurd (nr c r (one_node s.nodes j node (Node.AsRole c r) e g));
   }
+
+  module _ (i j form : ℕ) (form_is : (m : Node) → slice_get s.nodes i ≡ Some m → form ≡ form_of m) where
+    -- nor by what has none
+    pub no_form : form ≡ 0 → IsPassedOnIn s row i j
+    no_form z = record {
+      quoting = λ a b c d f g h. absurd (let q : form ≡ 1 = form_is (Node.Quote a b) f in omega (arith, q, z));
+      for_both = λ a b c d f g h. absurd (let q : form ≡ 2 = form_is (Node.For a b) f in omega (arith, q, z));
+      role_under = λ a c r f g h. absurd (let q : form ≡ r + 3 = form_is (Node.AsRole a r) f in omega (arith, q, z));
+    }
+
+    -- nor to what has another
+    pub other_form : (other : ℕ) → ((n : Node) → slice_get s.nodes j ≡ Some n → other ≡ form_of n) → (other ≡ form → ⊥) → IsPassedOnIn s row i j
+    other_form other other_is ne = record {
+      quoting = λ a b c d f g h. absurd (ne (other_is (Node.Quote c d) g ∙ sym (form_is (Node.Quote a b) f)));
+      for_both = λ a b c d f g h. absurd (ne (other_is (Node.For c d) g ∙ sym (form_is (Node.For a b) f)));
+      role_under = λ a c r f g h. absurd (ne (other_is (Node.AsRole c r) g ∙ sym (form_is (Node.AsRole a r) f)));
+    }
 
   module _ (i j a b : ℕ) (e : slice_get s.nodes i ≡ Some (Node.Quote a b)) where
     pub quoting_refused : (c d : ℕ) → slice_get s.nodes j ≡ Some (Node.Quote c d) → RefusesIn s (ForWhom a) c ⊎ RefusesIn s (ForWhom b) d → IsPassedOnIn s row i j

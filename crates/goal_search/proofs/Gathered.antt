@@ -1,21 +1,21 @@
 -- What stays where a pool widens, and what comes in.
-use Rattle.std.proofs.Common.{◌≡◌, ℕ, ◌+◌, ◌<◌, ◌≤◌, Bool, true, false, List, [], ◌∷◌, ◌++◌, Some, slice_get, length, map, take, refl, sym, ap, ap₂, subst, ◌∙◌, arith, All, append_assoc, add-one}
-use Rattle.std.proofs.lemmas.List.{get_or_append_left, append-nil, map-append, length-append}
-use Rattle.std.proofs.lemmas.List.Elements.{All-nil, All-push, All-weaker}
-use Rattle.std.proofs.lemmas.Option.{slice_get_within, get_or_from_slice_get}
+use Rattle.std.proofs.Common.{◌≡◌, ℕ, ◌+◌, ◌<◌, ◌≤◌, inl, inr, List, [], ◌∷◌, ◌++◌, Bool, true, Some, slice_get, length, map, refl, sym, ap, subst, ◌∙◌, arith, All, append_assoc}
+use Rattle.std.proofs.lemmas.List.{get_or_append_left, append-nil, length-append}
+use Rattle.std.proofs.lemmas.List.Elements.{All-weaker}
+use Rattle.std.proofs.lemmas.Option.{none-some, slice_get_within, get_or_from_slice_get}
 use Rattle.prin_term.specs.Principal.{Principal, Key}
 use Rattle.stmt_codec.specs.Certificates.{Certificate, speaker_of, IsWithinLimits}
 use Rattle.stmt_codec.specs.Distinct.{met}
 use Rattle.stmt_codec.proofs.Firsts.{met-grows, met-append}
 use Rattle.taos_calculus.specs.Canonical.{post_order}
-use Rattle.taos_calculus.specs.Question.{picked}
 use Rattle.taos_calculus.specs.Rules.{Claim}
 use Rattle.term_pool.specs.declared.cited.Cited.{Cited}
-use Rattle.term_pool.specs.Claims.{CitedIn, chosen_by, claim_by}
+use Rattle.term_pool.specs.Claims.{CitedIn, claim_by}
 use Rattle.term_pool.specs.Pool.{Pooled, Interns}
 use Rattle.term_pool.proofs.Few.{cert_few}
-use Rattle.term_pool.proofs.Picking.{map_same, picked-true, picked-false}
-use Rattle.goal_search.specs.Taking.{Gathers, Widens, principal_at}
+use Rattle.term_pool.proofs.Picking.{map_same}
+use Rattle.goal_search.proofs.Pushed.{pushed_at}
+use Rattle.goal_search.specs.Taking.{Holds, Widens, principal_at}
 
 pub widens_none : (pool : Pooled) (n : ℕ) → Widens pool pool n
 widens_none pool n = record { more = []; longer = sym (append-nil pool.terms); few = omega arith; room = refl }
@@ -44,14 +44,14 @@ module _ (old new : Pooled) (n : ℕ) (w : Widens old new n) where
   cited_still : (c : Cited) → CitedIn (length old.terms) c → CitedIn (length new.terms) c
   cited_still c h = record { speaker = omega (arith, h.speaker, widens_length); left = omega (arith, h.left, widens_length); right = omega (arith, h.right, widens_length) }
 
-  same_chosen : (c : Cited) → CitedIn (length old.terms) c → chosen_by (principal_at new) c ≡ chosen_by (principal_at old) c
-  same_chosen c h = λ k. (c.place, record { speaker = widens_named c.speaker h.speaker k; left = widens_named c.left h.left k; right = widens_named c.right h.right k })
+  same_claim : (c : Cited) → CitedIn (length old.terms) c → claim_by (principal_at new) c ≡ claim_by (principal_at old) c
+  same_claim c h = λ k. record { speaker = widens_named c.speaker h.speaker k; left = widens_named c.left h.left k; right = widens_named c.right h.right k }
 
-  pub widens_gathers : (cited : List Cited) (chosen : List (ℕ × Claim)) → Gathers old cited chosen → Gathers new cited chosen
-  widens_gathers cited chosen g = record {
-    cited_in = All-weaker (CitedIn (length old.terms)) (CitedIn (length new.terms)) cited_still cited g.cited_in;
-    chosen_is = map_same (chosen_by (principal_at new)) (chosen_by (principal_at old)) cited
-        (All-weaker (CitedIn (length old.terms)) (λ c. chosen_by (principal_at new) c ≡ chosen_by (principal_at old) c) same_chosen cited g.cited_in) ∙ g.chosen_is;
+  pub widens_holds : (held : List Cited) (claims : List Claim) (taken : List Bool) → Holds old held claims taken → Holds new held claims taken
+  widens_holds held claims taken g = record {
+    held_in = λ i c e t. cited_still c (g.held_in i c e t);
+    claims_are = λ i c e t. g.claims_are i c e t ∙ ap (λ (x : Claim). Some x) (sym (same_claim c (g.held_in i c e t)));
+    placed = g.placed;
   }
 
   pub widens_numbers : (numbers : List ℕ) → All (λ i. i < length old.terms) numbers → All (λ i. i < length new.terms) numbers
@@ -61,8 +61,8 @@ module _ (old new : Pooled) (n : ℕ) (w : Widens old new n) where
   widens_map numbers all =
       map_same (principal_at new) (principal_at old) numbers (All-weaker (λ i. i < length old.terms) (λ i. principal_at new i ≡ principal_at old i) widens_named numbers all)
 
-pub gathers_none : (pool : Pooled) → Gathers pool [] []
-gathers_none pool = record { cited_in = All-nil (CitedIn (length pool.terms)); chosen_is = refl }
+pub holds_none : (pool : Pooled) (claims : List Claim) (taken : List Bool) → Holds pool [] claims taken
+holds_none pool claims taken = record { held_in = λ i c e t. absurd (none-some c e); claims_are = λ i c e t. absurd (none-some c e); placed = λ i c e. absurd (none-some c e) }
 
 -- a number's principal
 pub interned_within : (old new : Pooled) (p : Principal) (id : ℕ) → Interns old new p id → id < length new.terms
@@ -131,25 +131,22 @@ module _ (a b c d : Pooled) (sp l r : Principal) (x y z : ℕ) (h : Interns a b 
         interned_named c d r z m,
       )
 
-gathers_more : (pool : Pooled) (cited : List Cited) (chosen : List (ℕ × Claim)) (c : Cited) (place : ℕ) (claim : Claim) → Gathers pool cited chosen → CitedIn (length pool.terms) c →
-    c.place ≡ place → claim_by (principal_at pool) c ≡ claim → Gathers pool (cited ++ c ∷ []) (chosen ++ (place, claim) ∷ [])
-gathers_more pool cited chosen c place claim g h at is = record {
-  cited_in = All-push (CitedIn (length pool.terms)) cited c g.cited_in h;
-  chosen_is = map-append (chosen_by (principal_at pool)) cited (c ∷ []) ∙ ap₂ (λ (xs ys : List (ℕ × Claim)). xs ++ ys) g.chosen_is (λ k. (at k, is k) ∷ []);
-}
-
--- one certificate more is looked at
-pub gathers_skip : (pool : Pooled) (cited : List Cited) (xs : List Claim) (marks : List Bool) (i : ℕ) → slice_get marks i ≡ Some false →
-    Gathers pool cited (picked 0 (take i xs) (take i marks)) → Gathers pool cited (picked 0 (take (i + 1) xs) (take (i + 1) marks))
-gathers_skip pool cited xs marks i e g =
-    subst (λ n. Gathers pool cited (picked 0 (take n xs) (take n marks))) (sym (add-one i))
-    (subst (λ (ch : List (ℕ × Claim)). Gathers pool cited ch) (sym (picked-false 0 xs marks i e)) g)
-
-pub gathers_step : (old new : Pooled) (n : ℕ) (cited : List Cited) (xs : List Claim) (marks : List Bool) (i : ℕ) (c : Cited) (claim : Claim) → Widens old new n →
-    slice_get xs i ≡ Some claim → slice_get marks i ≡ Some true → CitedIn (length new.terms) c → c.place ≡ i → claim_by (principal_at new) c ≡ claim →
-    Gathers old cited (picked 0 (take i xs) (take i marks)) → Gathers new (cited ++ c ∷ []) (picked 0 (take (i + 1) xs) (take (i + 1) marks))
-gathers_step old new n cited xs marks i c claim w e f h at is g =
-    let more : Gathers new (cited ++ c ∷ []) (picked 0 (take i xs) (take i marks) ++ (0 + i, claim) ∷ [])
-    = gathers_more new cited (picked 0 (take i xs) (take i marks)) c (0 + i) claim (widens_gathers old new n w cited (picked 0 (take i xs) (take i marks)) g) h (omega (arith, at)) is in
-    subst (λ k. Gathers new (cited ++ c ∷ []) (picked 0 (take k xs) (take k marks))) (sym (add-one i))
-    (subst (λ (ch : List (ℕ × Claim)). Gathers new (cited ++ c ∷ []) ch) (sym (picked-true 0 xs marks i claim e f)) more)
+-- one certificate more is held
+pub holds_more : (old new : Pooled) (n : ℕ) (held : List Cited) (claims : List Claim) (taken : List Bool) (c : Cited) → Widens old new n → c.place ≡ length held →
+    (slice_get taken (length held) ≡ Some true → CitedIn (length new.terms) c × (slice_get claims (length held) ≡ Some (claim_by (principal_at new) c))) →
+    Holds old held claims taken → Holds new (held ++ c ∷ []) claims taken
+holds_more old new n held claims taken c w at is g =
+    let more : Holds new held claims taken = widens_holds old new n w held claims taken g in
+    record {
+      held_in = λ i d e t.
+          elim (pushed_at held c i d e) [
+            | inl p ↦ more.held_in i d p t
+            | inr p ↦ subst (λ (x : Cited). CitedIn (length new.terms) x) p.1 (is (ap (slice_get taken) (sym p.0) ∙ t)).0
+          ];
+      claims_are = λ i d e t.
+          elim (pushed_at held c i d e) [
+            | inl p ↦ more.claims_are i d p t
+            | inr p ↦ ap (slice_get claims) p.0 ∙ (is (ap (slice_get taken) (sym p.0) ∙ t)).1 ∙ ap (λ (x : Cited). Some (claim_by (principal_at new) x)) p.1
+          ];
+      placed = λ i d e. elim (pushed_at held c i d e) [ inl p ↦ more.placed i d p | inr p ↦ ap (λ (x : Cited). x.place) (sym p.1) ∙ at ∙ sym p.0 ];
+    }

@@ -28,3 +28,8 @@ pub mod Beginning
 pub mod GapLaws
 pub mod Taken
 pub mod Restarted
+pub mod Lengthened
+pub mod Citing
+pub mod Choosing
+pub mod Pushed
+pub mod Followed

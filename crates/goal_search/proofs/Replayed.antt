@@ -1,10 +1,8 @@
 -- Cells that are told in the order in which they were filled make a proof.
-use Rattle.std.proofs.Common.{◌≡◌, ◌≢◌, ◌⊎◌, inl, inr, ℕ, zero, suc, ◌+◌, ◌-◌, ◌*◌, ◌/◌, ◌%◌, ◌<◌, ◌≤◌, List, Option, None, Some, slice_get, slice_index, length, map, refl, sym, ap, subst, ◌∙◌, arith}
-use Rattle.std.specs.Prelude.{option_map}
+use Rattle.std.proofs.Common.{◌≡◌, ◌≢◌, ◌⊎◌, inl, inr, ℕ, zero, suc, ◌+◌, ◌-◌, ◌*◌, ◌/◌, ◌%◌, ◌<◌, ◌≤◌, List, Some, slice_get, slice_index, length, map, refl, sym, ap, subst, ◌∙◌, arith}
 use Rattle.std.proofs.lemmas.List.{length-map}
 use Rattle.std.proofs.Math.Nat.{div-lt_iff_lt-mul, mod-lt, mul_comm, zero-mul}
 use Rattle.std.proofs.lemmas.Nat.{div-mul-add, mod-mul-add, mul-add-lt}
-use Rattle.std.proofs.lemmas.Option.{same_Some, slice_get-map}
 use Rattle.taos_calculus.specs.declared.line.Fact.{Fact}
 use Rattle.taos_calculus.specs.Question.{Question}
 use Rattle.taos_calculus.specs.Tables.{IsBelow}
@@ -21,15 +19,8 @@ use Rattle.goal_search.specs.Replaying.{IsOrder, IsQuestionOf}
 use Rattle.goal_search.specs.Searching.{Core, about, Has, HadBefore, IsReady}
 use Rattle.goal_search.specs.Telling.{IsTelling, IsTold, TellsBefore, TellsMore, TellsOf}
 use Rattle.goal_search.proofs.Gaining.{reason_more}
+use Rattle.goal_search.proofs.Pushed.{made_of}
 use Rattle.goal_search.proofs.Told.{cited_below}
-
--- what stands in a list that is made of another
-made_of : {X Y : Type 0} (f : X → Y) (xs : List X) (i : ℕ) (y : Y) → slice_get (map f xs) i ≡ Some y → (x : X) × (slice_get xs i ≡ Some x) × (f x ≡ y)
-made_of {X} {Y} f xs i y e = go (slice_get xs i) refl
-  where
-    go : (o : Option X) → slice_get xs i ≡ o → (x : X) × (slice_get xs i ≡ Some x) × (f x ≡ y)
-    go None q = let n : slice_get (map f xs) i ≡ None = slice_get-map f xs i ∙ ap (option_map f) q in absurd (cc)
-    go (Some x) q = (x, q, same_Some (f x) y (sym (slice_get-map f xs i ∙ ap (option_map f) q) ∙ e))
 
 -- a place is in a row and a column
 pub place_row : (w rows place n : ℕ) → n ≡ w * rows → place < n → (place / w < rows) × (place % w < w)

@@ -81,6 +81,15 @@ pub record IsPassedOnIn (s : Core) (row i j : ℕ) : Type 0 where
       slice_get s.nodes j ≡ Some (Node.AsRole c r) → Has s row i →
       Has s row j ⊎ RefusesIn s (ForWhom a) c
 
+-- the form of a node, which is passed on to nodes of the same form alone; 0 where it is passed on to none
+abbrev pub form_of : Node → ℕ
+form_of (Node.Quote a b) = 1
+form_of (Node.For a b) = 2
+form_of (Node.AsRole a r) = r + 3
+form_of (Node.Key k) = 0
+form_of (Node.Name n) = 0
+form_of (Node.And a b) = 0
+
 -- what the certificate gives the row is there, or the certificate is not heard
 abbrev pub IsHandedIn : Core → ℕ → ℕ → Type 0
 IsHandedIn s row number =

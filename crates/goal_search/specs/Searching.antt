@@ -153,3 +153,9 @@ IsFinishedIn s row =
 -- each wanted row is finished
 abbrev pub IsSettled : Core → Type 0
 IsSettled s = (row : ℕ) → Contains s.wanted row → IsFinishedIn s row
+
+-- each wanted row is that of a number, and has the right side of the certificate where it has the
+-- left one
+abbrev pub HasFollowed : Core → Cited → Type 0
+HasFollowed s it =
+    All (λ row. IsNumber s row × (Has s row it.left → Has s row it.right)) s.wanted

@@ -1,11 +1,11 @@
 -- Taking a question into a pool of principals.
-use Rattle.std.specs.Prelude.{◌≡◌, ℕ, ◌+◌, ◌≤◌, List, ◌++◌, length, map, All, slice_index_or}
+use Rattle.std.specs.Prelude.{◌≡◌, ℕ, ◌+◌, ◌≤◌, Bool, true, List, ◌++◌, Some, length, slice_get, slice_index_or}
 use Rattle.prin_term.specs.declared.term.Anchor.{Anchor}
 use Rattle.prin_term.specs.Principal.{Principal, Key}
 use Rattle.taos_calculus.specs.declared.line.Node.{Node}
 use Rattle.taos_calculus.specs.Rules.{Claim}
 use Rattle.taos_calculus.specs.Tables.{IsNodeTable, principals_of}
-use Rattle.term_pool.specs.Claims.{CitedIn, chosen_by}
+use Rattle.term_pool.specs.Claims.{CitedIn, claim_by}
 use Rattle.term_pool.specs.declared.cited.Cited.{Cited}
 use Rattle.term_pool.specs.Pool.{Pooled}
 use Rattle.goal_search.specs.declared.search.Anchored.{Anchored}
@@ -22,11 +22,15 @@ pub record Widens (old new : Pooled) (n : ℕ) : Type 0 where
   pub few : length new.terms ≤ length old.terms + n
   pub room : new.room ≡ old.room
 
--- the certificates by their numbers are these
-pub record Gathers (pool : Pooled) (cited : List Cited)
-    (chosen : List (ℕ × Claim)) : Type 0 where
-  pub cited_in : All (CitedIn (length pool.terms)) cited
-  pub chosen_is : map (chosen_by (principal_at pool)) cited ≡ chosen
+-- of the certificates that are held, those that are taken make the claims of their places, by the
+-- numbers of the pool, and each has its place
+pub record Holds (pool : Pooled) (held : List Cited) (claims : List Claim)
+    (taken : List Bool) : Type 0 where
+  pub held_in : (i : ℕ) (c : Cited) → slice_get held i ≡ Some c → slice_get taken i ≡ Some true →
+      CitedIn (length pool.terms) c
+  pub claims_are : (i : ℕ) (c : Cited) → slice_get held i ≡ Some c → slice_get taken i ≡ Some true →
+      slice_get claims i ≡ Some (claim_by (principal_at pool) c)
+  pub placed : (i : ℕ) (c : Cited) → slice_get held i ≡ Some c → c.place ≡ i
 
 -- these are the anchors by number, in whatever table has the pool's principals
 abbrev pub LinksAnchors : Pooled → List Anchor → List Anchored → Type 0

@@ -1,24 +1,34 @@
 //! A search with what it was asked.
 
 ghost use Rattle.std.specs.Prelude.{◌≡◌, ◌≤◌, vec_capacity};
-ghost use Rattle.taos_calculus.specs.declared.decide.TheConstants.{MAX_ENTRIES};
+ghost use Rattle.taos_calculus.specs.declared.decide.TheConstants.{MAX_CERTS, MAX_ENTRIES};
 ghost use Rattle.taos_calculus.specs.declared.proof.TheConstants.{MAX_NODES};
 
-use crate::gather::{keep_anchors, keep_nodes, link_anchors, take_certs, take_list, take_term};
+use crate::gather::{
+    keep_anchors, keep_marks, keep_nodes, link_anchors, take_certs, take_list, take_term,
+};
+use crate::going_on::are_among;
 use crate::replay::replay;
 use crate::search::Search;
 use prin_term::{Anchor, Entry, Term};
 use std::alloc::{AllocError, Global};
 use std::sync::Arc;
 use stmt_codec::Cert;
-use taos_calculus::{MAX_ENTRIES, MAX_NODES, Taken};
-use term_pool::Pool;
+use taos_calculus::{MAX_CERTS, MAX_ENTRIES, MAX_NODES, Taken};
+use term_pool::{Cited, Pool};
 
 /// What was asked, and how far the search for it went.
 #[derive(Drop)]
 pub struct Asked {
     pub pool: Pool,
     pub search: Search,
+    /// All certificates in their order: by the numbers of their terms those that are taken in, by
+    /// their place alone the others.
+    pub held: Vec<Cited>,
+    /// Which of them are taken in.
+    pub taken: Vec<bool>,
+    /// Which of these are chosen.
+    pub marks: Vec<bool>,
     pub subject: u16,
     pub list: Vec<u16>,
     /// Whether nothing is left to do about the rows that are wanted.
@@ -26,16 +36,19 @@ pub struct Asked {
     /// There is room for the largest question.
     ghost pool_room: { pool.room ≡ MAX_NODES },
     ghost list_room: { MAX_ENTRIES ≤ vec_capacity list },
+    ghost held_room: { MAX_CERTS ≤ vec_capacity held },
+    ghost taken_room: { MAX_CERTS ≤ vec_capacity taken },
+    ghost marks_room: { MAX_CERTS ≤ vec_capacity marks },
 }
 
 impl Asked {
-    ghost use Rattle.std.specs.Prelude.{◌⊎◌, ◌↔◌, [], IsTrue, IfOk, Contains, map};
+    ghost use Rattle.std.specs.Prelude.{◌⊎◌, ◌↔◌, [], IsTrue, IfOk, Contains, false, length, map, replicate};
     ghost use Rattle.prin_term.specs.View.{grant, principal};
     ghost use Rattle.stmt_codec.specs.View.{certificates};
     ghost use Rattle.taos_calculus.specs.Question.{question_of, IsAskable, IsProofOf};
     ghost use Rattle.taos_calculus.specs.Question.{IsTermOf, MayAnswer};
     ghost use Rattle.taos_calculus.specs.Tables.{lines_of, named};
-    ghost use Rattle.goal_search.specs.Asked.{AsksTheSame, IsAsked, IsGathered, seen};
+    ghost use Rattle.goal_search.specs.Asked.{AreAmong, AsksTheSame, IsAbout, IsAsked, IsGathered, seen};
     ghost use Rattle.goal_search.specs.Searching.{core, IsNumber, IsSettled, Has};
 
     /// Room for the largest question.
@@ -43,6 +56,9 @@ impl Asked {
         Ok(Asked {
             pool: Pool::reserve(alloc, MAX_NODES as u32)?,
             search: Search::reserve(alloc)?,
+            held: Vec::with_capacity(alloc, MAX_CERTS)?,
+            taken: Vec::with_capacity(alloc, MAX_CERTS)?,
+            marks: Vec::with_capacity(alloc, MAX_CERTS)?,
             subject: 0,
             list: Vec::with_capacity(alloc, MAX_ENTRIES)?,
             settled: false,
@@ -57,6 +73,9 @@ impl Asked {
         ensures links { self.new.search.links.items ≡ [] }
         ensures cited { self.new.search.cited.items ≡ [] }
         ensures wanted { self.new.search.wanted.items ≡ [] }
+        ensures held { self.new.held.items ≡ [] }
+        ensures taken { self.new.taken.items ≡ [] }
+        ensures marks { self.new.marks.items ≡ [] }
         ensures list { self.new.list.items ≡ [] }
     {
         self.pool.reset();
@@ -66,16 +85,19 @@ impl Asked {
         self.search.cited.clear();
         self.search.wanted.clear();
         self.search.queue.clear();
+        self.held.clear();
+        self.taken.clear();
+        self.marks.clear();
         self.list.clear();
         self.settled = false;
     }
 
-    // Takes in what is asked.
+    // Takes in what is asked about, and these certificates. None is chosen yet.
     fn gather(
         &mut self,
         anchors: &[Anchor],
         certs: &[Arc<Cert>],
-        chosen: &[bool],
+        taken: &[bool],
         subject: &Term,
         list: &[Entry],
     )
@@ -85,22 +107,79 @@ impl Asked {
         requires links { self.old.search.links.items ≡ [] }
         requires cited { self.old.search.cited.items ≡ [] }
         requires wanted { self.old.search.wanted.items ≡ [] }
+        requires held { self.old.held.items ≡ [] }
+        requires taken { self.old.taken.items ≡ [] }
+        requires marks { self.old.marks.items ≡ [] }
         requires list { self.old.list.items ≡ [] }
-        requires askable { IsAskable anchors.now (certificates certs.now) chosen.now
+        requires askable { IsAskable anchors.now (certificates certs.now) taken.now
             (principal subject.now) (map grant list.now) }
         ensures gathered { IsGathered self.new }
-        ensures seen_is { seen self.new ≡ question_of anchors.now (certificates certs.now)
-            chosen.now (principal subject.now) (map grant list.now) }
+        ensures about { IsAbout self.new anchors.now (certificates certs.now)
+            (principal subject.now) (map grant list.now) }
+        ensures taken { self.new.taken.items ≡ taken.now }
     {
         keep_anchors(&mut self.search.anchors, anchors);
-        take_certs(&mut self.pool, &mut self.search.cited, certs, chosen);
+        take_certs(&mut self.pool, &mut self.held, certs, taken);
+        keep_marks(&mut self.taken, taken);
+        self.marks.resize(taken.len(), false).unwrap();
         self.subject = take_term(&mut self.pool, subject);
         take_list(&mut self.pool, &mut self.list, list);
         keep_nodes(&mut self.search.nodes, self.pool.nodes());
         link_anchors(&mut self.search.links, &self.pool, anchors);
     }
 
-    /// Asks about the certificates at whose place `chosen` is true.
+    /// Asks anew, with these certificates taken in and none chosen.
+    pub fn start(
+        &mut self,
+        anchors: &[Anchor],
+        certs: &[Arc<Cert>],
+        taken: &[bool],
+        subject: &Term,
+        list: &[Entry],
+    )
+        requires { IsAskable anchors.now (certificates certs.now) taken.now
+            (principal subject.now) (map grant list.now) }
+        ensures asked { IsAsked self.new }
+        ensures about { IsAbout self.new anchors.now (certificates certs.now)
+            (principal subject.now) (map grant list.now) }
+        ensures taken { self.new.taken.items ≡ taken.now }
+        ensures none { self.new.marks.items ≡ replicate (length taken.now) false }
+    {
+        self.forget();
+        self.gather(anchors, certs, taken, subject, list);
+        self.search.restart();
+    }
+
+    // Is asked about these, with none chosen but what stays so. Where that is the question which was
+    // asked last, what is known stays known if no certificate fewer is chosen, and all that are have
+    // been taken in; else all are taken in, for the questions that come next.
+    fn prepare(
+        &mut self,
+        anchors: &[Anchor],
+        certs: &[Arc<Cert>],
+        chosen: &[bool],
+        subject: &Term,
+        list: &[Entry],
+    )
+        requires asked { IsAsked self.old }
+        requires askable { IsAskable anchors.now (certificates certs.now) chosen.now
+            (principal subject.now) (map grant list.now) }
+        ensures asked { IsAsked self.new }
+        ensures about { IsAbout self.new anchors.now (certificates certs.now)
+            (principal subject.now) (map grant list.now) }
+        ensures taken { AreAmong chosen.now self.new.taken.items }
+        ensures still { AreAmong self.new.marks.items chosen.now }
+    {
+        if !self.is_about(anchors, certs, subject, list) {
+            self.start(anchors, certs, chosen, subject, list);
+        } else if !are_among(&self.marks, chosen) || !are_among(chosen, &self.taken) {
+            let all = [true; MAX_CERTS];
+            self.start(anchors, certs, &all[..certs.len()], subject, list);
+        }
+    }
+
+    /// Asks about the certificates at whose place `chosen` is true. Where that is the question which
+    /// was asked last, with no certificate fewer, what is known may stay known.
     pub fn begin(
         &mut self,
         anchors: &[Anchor],
@@ -109,15 +188,15 @@ impl Asked {
         subject: &Term,
         list: &[Entry],
     )
-        requires { IsAskable anchors.now (certificates certs.now) chosen.now
+        requires asked { IsAsked self.old }
+        requires askable { IsAskable anchors.now (certificates certs.now) chosen.now
             (principal subject.now) (map grant list.now) }
         ensures asked { IsAsked self.new }
         ensures seen_is { seen self.new ≡ question_of anchors.now (certificates certs.now)
             chosen.now (principal subject.now) (map grant list.now) }
     {
-        self.forget();
-        self.gather(anchors, certs, chosen, subject, list);
-        self.search.restart();
+        self.prepare(anchors, certs, chosen, subject, list);
+        self.choose_all(chosen);
     }
 
     // Wants the row of a number.

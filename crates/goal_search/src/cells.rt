@@ -62,6 +62,21 @@ impl Cells {
         self.cells.resize(width * rows, 0).unwrap();
     }
 
+    /// One row more, which is empty.
+    pub fn add_row(&mut self)
+        requires cells { AreCells self.old }
+        requires few { self.old.rows < MAX_LINES }
+        requires fits { self.old.width * (self.old.rows + 1) ≤ MAX_LINES }
+        ensures cells { AreCells self.new }
+        ensures width { self.new.width ≡ self.old.width }
+        ensures rows { self.new.rows ≡ self.old.rows + 1 }
+        ensures same { (place : ℕ) → slice_index self.new.cells.items place
+            ≡ slice_index self.old.cells.items place }
+    {
+        self.rows += 1;
+        self.cells.resize(self.width * self.rows, 0).unwrap();
+    }
+
     /// What the cell holds.
     pub fn held(&self, row: usize, column: usize) -> u32
         requires cells { AreCells self.now }

@@ -74,7 +74,7 @@ impl Search {
         requires to_in { IsNumber (core self.old) to }
         ensures { IsFilled (core self.old) (core self.new) }
     {
-        if self.has(row, from) && !self.has(row, to) && self.is_form_edge(from, to) {
+        if self.is_form_edge(from, to) {
             self.go_on(row, from, to);
         }
     }

@@ -8,10 +8,10 @@ ghost use Rattle.stmt_codec.specs.Certificates.{certificate};
 ghost use Rattle.stmt_codec.specs.View.{certificates};
 ghost use Rattle.taos_calculus.specs.declared.line.Node.{Node};
 ghost use Rattle.taos_calculus.specs.declared.proof.TheConstants.{MAX_NODES};
-ghost use Rattle.taos_calculus.specs.Question.{claim_of, picked};
+ghost use Rattle.taos_calculus.specs.Question.{claim_of};
 ghost use Rattle.taos_calculus.specs.Tables.{IsNodeTable, principals_of};
 ghost use Rattle.term_pool.specs.Claims.{CitedIn, claim_by};
-ghost use Rattle.goal_search.specs.Taking.{Gathers, LinksAnchors, Widens, principal_at};
+ghost use Rattle.goal_search.specs.Taking.{Holds, LinksAnchors, Widens, principal_at};
 
 use crate::search::Anchored;
 use prin_term::{Anchor, Entry, Term};
@@ -61,50 +61,75 @@ fn take_cert(pool: &mut Pool, cert: &Cert, place: u16) -> Cited
     }
 }
 
-// Takes in the certificate at this place, where it is chosen.
+// A certificate that is not taken in.
+fn untaken(place: u16) -> Cited
+    ensures { result.place ≡ place }
+{
+    Cited {
+        place,
+        speaker: 0,
+        left: 0,
+        right: 0,
+    }
+}
+
+// Takes in the certificate at this place, where it is to be taken.
 fn take_at(
     pool: &mut Pool,
-    cited: &mut Vec<Cited>,
+    held: &mut Vec<Cited>,
     certs: &[Arc<Cert>],
-    chosen: &[bool],
+    taken: &[bool],
     place: usize,
 )
     requires room { length pool.old.terms + 16 ≤ pool.old.room }
     requires place_in { place < length certs.now }
     requires few { length certs.now ≤ 64 }
-    requires same_length { length chosen.now ≡ length certs.now }
-    requires cited_few { length cited.old.items ≤ place }
-    requires cited_room { length certs.now ≤ vec_capacity cited.old }
-    requires gathers { Gathers pool.old cited.old.items
-        (picked 0 (take place (map claim_of (certificates certs.now))) (take place chosen.now)) }
+    requires same_length { length taken.now ≡ length certs.now }
+    requires held_room { length certs.now ≤ vec_capacity held.old }
+    requires count { length held.old.items ≡ place }
+    requires holds { Holds pool.old held.old.items (map claim_of (certificates certs.now))
+        taken.now }
     ensures widens { Widens pool.old pool.new 16 }
-    ensures gathers { Gathers pool.new cited.new.items
-        (picked 0 (take (place + 1) (map claim_of (certificates certs.now)))
-        (take (place + 1) chosen.now)) }
-    ensures cited_few { length cited.new.items ≤ place + 1 }
-    ensures cited_capacity { vec_capacity cited.old ≤ vec_capacity cited.new }
+    ensures holds { Holds pool.new held.new.items (map claim_of (certificates certs.now))
+        taken.now }
+    ensures count { length held.new.items ≡ place + 1 }
+    ensures held_capacity { vec_capacity held.old ≤ vec_capacity held.new }
 {
-    if chosen[place] {
+    if taken[place] {
         let it = take_cert(pool, &certs[place], place as u16);
-        cited.push(it).unwrap();
+        held.push(it).unwrap();
+    } else {
+        held.push(untaken(place as u16)).unwrap();
     }
 }
 
-/// Takes in the chosen certificates.
-pub fn take_certs(pool: &mut Pool, cited: &mut Vec<Cited>, certs: &[Arc<Cert>], chosen: &[bool])
+/// Takes in these certificates; each of the others has its place alone.
+pub fn take_certs(pool: &mut Pool, held: &mut Vec<Cited>, certs: &[Arc<Cert>], taken: &[bool])
     requires room { length pool.old.terms + 16 * length certs.now ≤ pool.old.room }
     requires few { length certs.now ≤ 64 }
-    requires same_length { length chosen.now ≡ length certs.now }
-    requires none { cited.old.items ≡ [] }
-    requires cited_room { length certs.now ≤ vec_capacity cited.old }
+    requires same_length { length taken.now ≡ length certs.now }
+    requires none { held.old.items ≡ [] }
+    requires held_room { length certs.now ≤ vec_capacity held.old }
     ensures widens { Widens pool.old pool.new (16 * length certs.now) }
-    ensures gathers { Gathers pool.new cited.new.items
-        (picked 0 (map claim_of (certificates certs.now)) chosen.now) }
-    ensures cited_few { length cited.new.items ≤ length certs.now }
-    ensures cited_capacity { vec_capacity cited.old ≤ vec_capacity cited.new }
+    ensures holds { Holds pool.new held.new.items (map claim_of (certificates certs.now))
+        taken.now }
+    ensures count { length held.new.items ≡ length certs.now }
+    ensures held_capacity { vec_capacity held.old ≤ vec_capacity held.new }
 {
     for i in 0..certs.len() {
-        take_at(pool, cited, certs, chosen, i);
+        take_at(pool, held, certs, taken, i);
+    }
+}
+
+/// Keeps which certificates are taken in.
+pub fn keep_marks(kept: &mut Vec<bool>, marks: &[bool])
+    requires none { kept.old.items ≡ [] }
+    requires room { length marks.now ≤ vec_capacity kept.old }
+    ensures kept { kept.new.items ≡ marks.now }
+    ensures capacity { vec_capacity kept.old ≤ vec_capacity kept.new }
+{
+    for i in 0..marks.len() {
+        kept.push(marks[i]).unwrap();
     }
 }
 

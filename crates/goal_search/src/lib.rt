@@ -8,6 +8,7 @@ mod close;
 mod edges;
 mod entering;
 mod gather;
+mod going_on;
 mod hearing;
 pub mod laws;
 mod look;

@@ -6,7 +6,7 @@ ghost use Rattle.taos_calculus.specs.declared.line.Node.{Node};
 ghost use Rattle.goal_search.specs.Goals.{ForWhom};
 ghost use Rattle.goal_search.specs.Reasons.{IsEdge, IsPassed};
 ghost use Rattle.goal_search.specs.Gaps.{RefusesIn};
-ghost use Rattle.goal_search.specs.Gaps.{IsGap, IsPassedOnIn, IsUnwanted};
+ghost use Rattle.goal_search.specs.Gaps.{IsGap, IsPassedOnIn, IsUnwanted, form_of};
 ghost use Rattle.goal_search.specs.Searching.{core, IsReady, IsNumber, IsRow};
 ghost use Rattle.goal_search.specs.Searching.{Has, about};
 
@@ -97,12 +97,13 @@ impl Search {
         requires to_in { IsNumber (core self.now) to }
         requires stands { slice_get self.now.nodes.items from ≡ Some (Node.Quote a b) }
         requires has { Has (core self.now) row from }
-        requires lacks { Has (core self.now) row to → ⊥ }
         ensures { MatchOption result (IsPassedOnIn (core self.now) row from to)
             (IsGap (core self.now)) }
     {
         if let Node::Quote(c, d) = self.node(to) {
-            return self.pair_gap(row, from, to, (a, c), (b, d));
+            if !self.has(row, to) {
+                return self.pair_gap(row, from, to, (a, c), (b, d));
+            }
         }
         None
     }
@@ -114,12 +115,13 @@ impl Search {
         requires to_in { IsNumber (core self.now) to }
         requires stands { slice_get self.now.nodes.items from ≡ Some (Node.For a b) }
         requires has { Has (core self.now) row from }
-        requires lacks { Has (core self.now) row to → ⊥ }
         ensures { MatchOption result (IsPassedOnIn (core self.now) row from to)
             (IsGap (core self.now)) }
     {
         if let Node::For(c, d) = self.node(to) {
-            return self.pair_gap(row, from, to, (a, c), (b, d));
+            if !self.has(row, to) {
+                return self.pair_gap(row, from, to, (a, c), (b, d));
+            }
         }
         None
     }
@@ -131,26 +133,24 @@ impl Search {
         requires to_in { IsNumber (core self.now) to }
         requires stands { slice_get self.now.nodes.items from ≡ Some (Node.AsRole a role) }
         requires has { Has (core self.now) row from }
-        requires lacks { Has (core self.now) row to → ⊥ }
         ensures { MatchOption result (IsPassedOnIn (core self.now) row from to)
             (IsGap (core self.now)) }
     {
         if let Node::AsRole(c, other) = self.node(to) {
-            if role == other {
+            if role == other && !self.has(row, to) {
                 return self.pair_gap(row, from, to, (a, c), (a, a));
             }
         }
         None
     }
 
-    // What the form of one number, which the row has, would give it of another, which it lacks.
+    // What the form of one number, which the row has, would give it of another.
     fn passed_gap(&self, row: usize, from: u16, to: u16) -> Option<Gap>
         requires ready { IsReady (core self.now) }
         requires row_in { IsRow (core self.now) row }
         requires from_in { IsNumber (core self.now) from }
         requires to_in { IsNumber (core self.now) to }
         requires has { Has (core self.now) row from }
-        requires lacks { Has (core self.now) row to → ⊥ }
         ensures { MatchOption result (IsPassedOnIn (core self.now) row from to)
             (IsGap (core self.now)) }
     {
@@ -162,13 +162,12 @@ impl Search {
         }
     }
 
-    // What the form of one number would give the row of another, which it lacks.
+    // What the form of one number would give the row of another.
     fn member_gap(&self, row: usize, from: u16, to: u16) -> Option<Gap>
         requires ready { IsReady (core self.now) }
         requires row_in { IsRow (core self.now) row }
         requires from_in { IsNumber (core self.now) from }
         requires to_in { IsNumber (core self.now) to }
-        requires lacks { Has (core self.now) row to → ⊥ }
         ensures { MatchOption result (IsPassedOnIn (core self.now) row from to)
             (IsGap (core self.now)) }
     {
@@ -178,12 +177,11 @@ impl Search {
         self.passed_gap(row, from, to)
     }
 
-    // What the forms of the numbers that the row has would give it of one that it lacks.
+    // What the forms of the numbers that the row has would give it of one.
     fn passed_gaps(&self, row: usize, to: u16) -> Option<Gap>
         requires ready { IsReady (core self.now) }
         requires row_in { IsRow (core self.now) row }
         requires to_in { IsNumber (core self.now) to }
-        requires lacks { Has (core self.now) row to → ⊥ }
         ensures { MatchOption result
             ((from : ℕ) → IsNumber (core self.now) from → IsPassedOnIn (core self.now) row from to)
             (IsGap (core self.now)) }
@@ -226,9 +224,8 @@ impl Search {
         self.passed_gaps(row, to)
     }
 
-    /// What the forms of all numbers that the row has would give it. What it has is not looked for, so
-    /// that a row which has nearly all numbers is soon looked through.
-    pub fn all_passed_gaps(&self, row: usize) -> Option<Gap>
+    // What the forms of all numbers that the row has would give it, by what it lacks.
+    fn target_gaps(&self, row: usize) -> Option<Gap>
         requires ready { IsReady (core self.now) }
         requires row_in { IsRow (core self.now) row }
         ensures { MatchOption result
@@ -242,5 +239,130 @@ impl Search {
             }
         }
         None
+    }
+    // The form of a number: 0 where it is passed on by none.
+    fn form(&self, number: u16) -> u64
+        requires ready { IsReady (core self.now) }
+        requires number_in { IsNumber (core self.now) number }
+        ensures { (node : Node) → slice_get self.now.nodes.items number ≡ Some node
+            → result ≡ form_of node }
+    {
+        match self.node(number) {
+            Node::Quote(_, _) => 1,
+            Node::For(_, _) => 2,
+            Node::AsRole(_, role) => role as u64 + 3,
+            _ => 0,
+        }
+    }
+
+    // What a number that the row has, of this form, would give it of one.
+    fn given_gap(&self, row: usize, from: u16, to: u16, form: u64) -> Option<Gap>
+        requires ready { IsReady (core self.now) }
+        requires row_in { IsRow (core self.now) row }
+        requires from_in { IsNumber (core self.now) from }
+        requires to_in { IsNumber (core self.now) to }
+        requires has { Has (core self.now) row from }
+        requires form_is { (node : Node) → slice_get self.now.nodes.items from ≡ Some node
+            → form ≡ form_of node }
+        ensures { MatchOption result (IsPassedOnIn (core self.now) row from to)
+            (IsGap (core self.now)) }
+    {
+        if self.form(to) != form {
+            return None;
+        }
+        self.passed_gap(row, from, to)
+    }
+
+    // What a number that the row has, of this form, would give it of all numbers.
+    fn given_gaps(&self, row: usize, from: u16, form: u64) -> Option<Gap>
+        requires ready { IsReady (core self.now) }
+        requires row_in { IsRow (core self.now) row }
+        requires from_in { IsNumber (core self.now) from }
+        requires has { Has (core self.now) row from }
+        requires form_is { (node : Node) → slice_get self.now.nodes.items from ≡ Some node
+            → form ≡ form_of node }
+        ensures { MatchOption result
+            ((to : ℕ) → IsNumber (core self.now) to → IsPassedOnIn (core self.now) row from to)
+            (IsGap (core self.now)) }
+    {
+        for to in 0..self.nodes.len() {
+            if let Some(gap) = self.given_gap(row, from, to as u16, form) {
+                return Some(gap);
+            }
+        }
+        None
+    }
+
+    // What the form of one number would give the row.
+    fn source_gap(&self, row: usize, from: u16) -> Option<Gap>
+        requires ready { IsReady (core self.now) }
+        requires row_in { IsRow (core self.now) row }
+        requires from_in { IsNumber (core self.now) from }
+        ensures { MatchOption result
+            ((to : ℕ) → IsNumber (core self.now) to → IsPassedOnIn (core self.now) row from to)
+            (IsGap (core self.now)) }
+    {
+        if !self.has(row, from) {
+            return None;
+        }
+        let form = self.form(from);
+        if form == 0 {
+            return None;
+        }
+        self.given_gaps(row, from, form)
+    }
+
+    // What the forms of all numbers that the row has would give it, by what it has.
+    fn source_gaps(&self, row: usize) -> Option<Gap>
+        requires ready { IsReady (core self.now) }
+        requires row_in { IsRow (core self.now) row }
+        ensures { MatchOption result
+            ((from to : ℕ) → IsNumber (core self.now) from → IsNumber (core self.now) to
+            → IsPassedOnIn (core self.now) row from to)
+            (IsGap (core self.now)) }
+    {
+        for from in 0..self.nodes.len() {
+            if let Some(gap) = self.source_gap(row, from as u16) {
+                return Some(gap);
+            }
+        }
+        None
+    }
+
+    // Whether the row has fewer compounds than it lacks.
+    fn has_few(&self, row: usize) -> bool
+        requires ready { IsReady (core self.now) }
+        requires row_in { IsRow (core self.now) row }
+    {
+        let mut has = 0_usize;
+        let mut lacks = 0_usize;
+        for number in 0..self.nodes.len() {
+            if self.is_compound(number as u16) {
+                if self.has(row, number as u16) {
+                    has = has.wrapping_add(1);
+                } else {
+                    lacks = lacks.wrapping_add(1);
+                }
+            }
+        }
+        has < lacks
+    }
+
+    /// What the forms of all numbers that the row has would give it. Either the compounds that it has
+    /// are gone through or those that it lacks, whichever are fewer, so that a row which has few
+    /// numbers, or nearly all, is soon looked through.
+    pub fn all_passed_gaps(&self, row: usize) -> Option<Gap>
+        requires ready { IsReady (core self.now) }
+        requires row_in { IsRow (core self.now) row }
+        ensures { MatchOption result
+            ((to from : ℕ) → IsNumber (core self.now) to → IsNumber (core self.now) from
+            → IsPassedOnIn (core self.now) row from to)
+            (IsGap (core self.now)) }
+    {
+        if self.has_few(row) {
+            self.source_gaps(row)
+        } else {
+            self.target_gaps(row)
+        }
     }
 }

@@ -29,6 +29,19 @@ impl Queue {
         }
     }
 
+    /// How many are in.
+    pub fn count(&self) -> usize {
+        self.numbers.len()
+    }
+
+    /// The number at this place, or 0 where none is.
+    pub fn at(&self, place: usize) -> u16 {
+        match self.numbers.get(place) {
+            Some(number) => *number,
+            None => 0,
+        }
+    }
+
     /// Takes a number out.
     pub fn take(&mut self) -> Option<u16> {
         self.numbers.pop()

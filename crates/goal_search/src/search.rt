@@ -43,6 +43,10 @@ pub struct Search {
     pub parents: Parents,
     /// What came into a row and was not followed yet. Nothing rests on it.
     pub queue: Queue,
+    /// What quotes or acts for another in a row, while it is worked on. Nothing rests on it.
+    pub pairs: Queue,
+    /// The same of those in roles.
+    pub roles: Queue,
     /// There is room for the largest question.
     ghost nodes_room: { MAX_NODES ≤ vec_capacity nodes },
     ghost anchors_room: { MAX_ANCHORS ≤ vec_capacity anchors },
@@ -52,11 +56,11 @@ pub struct Search {
 }
 
 impl Search {
-    ghost use Rattle.std.specs.Prelude.{◌≡◌, ◌↔◌, ℕ, ◌<◌, [], Some, IsTrue};
+    ghost use Rattle.std.specs.Prelude.{◌≡◌, ◌↔◌, ℕ, ◌<◌, [], ◌∷◌, ◌++◌, Some, IsTrue};
     ghost use Rattle.std.specs.Prelude.{All, Contains, slice_get, length};
     ghost use Rattle.taos_calculus.specs.Tables.{IsNodeTable, OperandsBelow};
     ghost use Rattle.term_pool.specs.Claims.{CitedIn};
-    ghost use Rattle.goal_search.specs.Searching.{core, IsReady, IsNumber, IsRow, Has};
+    ghost use Rattle.goal_search.specs.Searching.{core, HasFollowed, IsReady, IsNumber, IsRow, IsSettled, Has};
     ghost use Rattle.goal_search.specs.Searching.{AreAnchored, about};
 
     /// Room for the largest question.
@@ -70,6 +74,8 @@ impl Search {
             wanted: Vec::with_capacity(alloc, MAX_ROWS)?,
             parents: Parents::reserve(alloc)?,
             queue: Queue::reserve(alloc)?,
+            pairs: Queue::reserve(alloc)?,
+            roles: Queue::reserve(alloc)?,
         })
     }
 
@@ -91,6 +97,53 @@ impl Search {
         let count = self.nodes.len();
         self.cells.restart(count, count + self.cited.len());
         self.parents.restart(&self.nodes);
+    }
+
+    /// One certificate more. What is known stays known, and the rows of numbers that are wanted stay
+    /// wanted.
+    pub fn add_cert(&mut self, it: Cited)
+        requires ready { IsReady (core self.old) }
+        requires cited_in { CitedIn (length self.old.nodes.items) it }
+        requires few { length self.old.cited.items < MAX_CERTS }
+        ensures ready { IsReady (core self.new) }
+        ensures nodes { self.new.nodes.items ≡ self.old.nodes.items }
+        ensures anchors { self.new.anchors.items ≡ self.old.anchors.items }
+        ensures cited { self.new.cited.items ≡ self.old.cited.items ++ it ∷ [] }
+        ensures settled { IsSettled (core self.old) → HasFollowed (core self.old) it
+            → IsSettled (core self.new) }
+    {
+        let count = self.nodes.len();
+        self.wanted.retain(|row| (*row as usize) < count);
+        self.cited.push(it).unwrap();
+        self.cells.add_row();
+    }
+
+    // Whether the row is one of a number, and has the right side of the certificate if it has the
+    // left one.
+    fn row_has_followed(&self, row: u16, it: Cited) -> bool
+        requires ready { IsReady (core self.now) }
+        requires row_in { IsRow (core self.now) row }
+        requires cited_in { CitedIn (length self.now.nodes.items) it }
+        ensures number { IsTrue result → row < length self.now.nodes.items }
+        ensures followed { IsTrue result → Has (core self.now) row it.left
+            → Has (core self.now) row it.right }
+    {
+        (row as usize) < self.nodes.len()
+            && (!self.has(row as usize, it.left) || self.has(row as usize, it.right))
+    }
+
+    /// Whether the certificate gives the wanted rows nothing, and each of them is one of a number.
+    pub fn has_followed(&self, it: Cited) -> bool
+        requires ready { IsReady (core self.now) }
+        requires cited_in { CitedIn (length self.now.nodes.items) it }
+        ensures { IsTrue result → HasFollowed (core self.now) it }
+    {
+        for i in 0..self.wanted.len() {
+            if !self.row_has_followed(self.wanted[i], it) {
+                return false;
+            }
+        }
+        true
     }
 
     pub fn node(&self, id: u16) -> Node

@@ -67,8 +67,8 @@ impl Search {
         ensures answer { IsTrue result → Has (core self.new) left right }
         ensures settled { IsTrue result ⊎ IsSettled (core self.new) }
     {
+        self.work_at(left, right);
         loop {
-            self.work(left, right);
             if self.has(left as usize, right) {
                 return true;
             }
@@ -76,6 +76,7 @@ impl Search {
                 Some(gap) => self.mend(gap),
                 None => return false,
             }
+            self.work(left, right);
         }
     }
 }

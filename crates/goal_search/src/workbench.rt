@@ -41,7 +41,7 @@ impl Workbench {
         ensures { IfOk result (λ w. w ≡ question_of [] [] [] (Key 0) []) }
     {
         let mut asked = Asked::reserve(alloc)?;
-        asked.begin(&[], &[], &[], &Term::Key(0), &[]);
+        asked.start(&[], &[], &[], &Term::Key(0), &[]);
         Ok(Workbench { asked })
     }
 }

@@ -262,6 +262,46 @@ fn a_login_needs_each_of_its_certificates(rt: HostRuntime) -> Result<(), Fail> {
 }
 
 #[test]
+fn certificates_may_come_one_after_the_other(rt: HostRuntime) -> Result<(), Fail> {
+    let alloc = rt.alloc();
+    let mut deciders = both_deciders(alloc)?;
+    let certs = certs(alloc, &DELEGATED[..4])?;
+    for first in 0..4 {
+        let mut chosen = [false; 4];
+        for count in 1..5 {
+            chosen[(first + count) % 4] = true;
+            let taken = log_in(&rt, &mut deciders, &certs, &chosen)?;
+            assert_eq!(rt; taken.is_some(), count == 4, "{count} from {first} on");
+        }
+    }
+    Ok(())
+}
+
+// How many certificates the proof of a chain of 16 cites.
+fn ask_chain(
+    rt: &HostRuntime,
+    deciders: &mut Deciders,
+    certs: &[Arc<Cert>],
+) -> Result<Option<usize>, Fail> {
+    let alloc = rt.alloc();
+    let chosen = vec![in alloc; true; certs.len()]?;
+    let subject = channel(alloc, 116, &[])?;
+    let taken = ask(rt, deciders, certs, &chosen, &subject, Term::Key(100))?;
+    Ok(taken.map(|taken| taken.cites.len()))
+}
+
+#[test]
+fn sixteen_hand_offs_may_stand_in_either_order(rt: HostRuntime) -> Result<(), Fail> {
+    let alloc = rt.alloc();
+    let mut deciders = both_deciders(alloc)?;
+    let mut certs = chain(alloc, 16)?;
+    assert_eq!(rt; ask_chain(&rt, &mut deciders, &certs)?, Some(16));
+    certs.reverse();
+    assert_eq!(rt; ask_chain(&rt, &mut deciders, &certs)?, Some(16));
+    Ok(())
+}
+
+#[test]
 fn a_large_question_is_decided_by_hints_alone(rt: HostRuntime) -> Result<(), Fail> {
     let alloc = rt.alloc();
     let mut deciders = both_deciders(alloc)?;

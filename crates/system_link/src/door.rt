@@ -7,6 +7,7 @@ use frame_link::{Door, Failed};
 use std::alloc::Global;
 use std::io::ErrorKind;
 use std::net::TcpListener;
+use std::sync::Arc;
 use std::time::{Clock, Duration};
 use std::{io, thread};
 
@@ -61,28 +62,31 @@ fn cause_of(error: &io::Error) -> Cause {
     }
 }
 
+/// A listener that several doors may have.
+pub type Listener = Arc<TcpListener, Global>;
+
 /// What stands behind a door.
-#[derive(Clone, Copy)]
-pub enum Doorway<'a> {
+#[derive(Drop)]
+pub enum Doorway {
     /// No address is wanted: the door has ended.
     Ended,
     /// The address could not be bound: each `accept` fails.
     Unbound,
-    Bound(&'a TcpListener),
+    Bound(Listener),
 }
 
 /// Gives the connections of a listener, one after the other. Other doors may have the same listener.
 #[derive(Drop)]
-pub struct TcpDoor<'a, C> {
-    doorway: Doorway<'a>,
+pub struct TcpDoor<C> {
+    doorway: Doorway,
     alloc: Global,
-    terms: Terms<'a, C>,
+    terms: Terms<C>,
     given: u64,
     faults: u64,
 }
 
-impl<'a, C: Clock> TcpDoor<'a, C> {
-    pub fn new(doorway: Doorway<'a>, alloc: Global, terms: Terms<'a, C>) -> TcpDoor<'a, C>
+impl<C: Clock + Copy> TcpDoor<C> {
+    pub fn new(doorway: Doorway, alloc: Global, terms: Terms<C>) -> TcpDoor<C>
         ensures { (result.given ≡ 0) × (result.faults ≡ 0) }
     {
         TcpDoor {
@@ -106,7 +110,7 @@ impl<'a, C: Clock> TcpDoor<'a, C> {
     fn next_of(
         &self,
         listener: &TcpListener,
-    ) -> Result<Option<(PeerInput<'a, C>, PeerOutput<'a, C>)>, Failed> {
+    ) -> Result<Option<(PeerInput<C>, PeerOutput<C>)>, Failed> {
         for _ in 0..u64::MAX {
             let accepted = listener.accept();
             if self.terms.stop.is_asked() {
@@ -120,7 +124,10 @@ impl<'a, C: Clock> TcpDoor<'a, C> {
                 }
                 Err(error) => match cause_of(&error) {
                     Cause::Peer => {}
-                    Cause::Scarce => thread::sleep(self.terms.clock, Duration::from_millis(SCARCE)),
+                    Cause::Scarce => thread::sleep(
+                        &self.terms.clock,
+                        Duration::from_millis(SCARCE),
+                    ),
                     Cause::Listener => return Err(Failed),
                 },
             }
@@ -129,10 +136,10 @@ impl<'a, C: Clock> TcpDoor<'a, C> {
     }
 }
 
-impl<'a, C: Clock + Sync> Door for TcpDoor<'a, C> {
-    type In = PeerInput<'a, C>;
+impl<C: Clock + Copy + Send> Door for TcpDoor<C> {
+    type In = PeerInput<C>;
 
-    type Out = PeerOutput<'a, C>;
+    type Out = PeerOutput<C>;
 
     ghost left = { λ _. None };
 
@@ -142,8 +149,8 @@ impl<'a, C: Clock + Sync> Door for TcpDoor<'a, C> {
 
     ghost faults = { λ d. d.faults };
 
-    fn accept(&mut self) -> Result<Option<(PeerInput<'a, C>, PeerOutput<'a, C>)>, Failed> {
-        let next = match self.doorway {
+    fn accept(&mut self) -> Result<Option<(PeerInput<C>, PeerOutput<C>)>, Failed> {
+        let next = match &self.doorway {
             Doorway::Ended => Ok(None),
             Doorway::Unbound => Err(Failed),
             Doorway::Bound(listener) => self.next_of(listener),
@@ -158,7 +165,7 @@ impl<'a, C: Clock + Sync> Door for TcpDoor<'a, C> {
 
     // Whether its last replies came through is not told: a connection that is given back was
     // answered as it was.
-    fn done(&mut self, mut input: PeerInput<'a, C>, _output: PeerOutput<'a, C>) {
+    fn done(&mut self, mut input: PeerInput<C>, _output: PeerOutput<C>) {
         input.inner_mut().get_mut().close();
     }
 }

@@ -19,9 +19,9 @@ mod term;
 mod warnings;
 
 pub use clock::{AHEAD, SystemSeconds, seconds_of};
-pub use door::{Doorway, TcpDoor};
+pub use door::{Doorway, Listener, TcpDoor};
 pub use files::{FileReading, Origin};
-pub use listen::{MAX_ADDRESSES, addresses_of, bind_all, first_place, tell_addresses};
+pub use listen::{MAX_ADDRESSES, addresses_of, bind_all, doorways_of, first_place, tell_addresses};
 pub use outbox::{Deferred, Outbox, PIECE, Prompt};
 pub use peer::{FIRST, FRAME, IDLE, LINGER, PeerInput, PeerOutput, TAKE, Terms};
 pub use relay::{LIMIT, REST, TcpRelay};

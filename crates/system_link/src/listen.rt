@@ -1,11 +1,13 @@
 //! Where the program listens: a list of addresses, and a listener for each of them.
 
-ghost use Rattle.std.specs.Prelude.{◌<◌, ◌≤◌, length};
+ghost use Rattle.std.specs.Prelude.{◌≡◌, ◌<◌, ◌≤◌, IfOk, length, vec_len};
 
+use crate::door::{Doorway, Listener};
 use arrayvec::ArrayVec;
 use std::alloc::{AllocError, Global};
 use std::io::Write;
 use std::net::{Net, TcpListener, TcpStream};
+use std::sync::Arc;
 
 /// The most addresses of a list.
 pub const MAX_ADDRESSES: usize = 16;
@@ -42,21 +44,49 @@ pub fn bind_all<R: Net<Listener = TcpListener, Stream = TcpStream>>(
     network: &R,
     alloc: Global,
     addresses: &[&str],
-) -> Result<Vec<Option<TcpListener>>, AllocError> {
+) -> Result<Vec<Option<Listener>>, AllocError> {
     let mut listeners = Vec::new(alloc);
     for place in 0..addresses.len() {
         let mut listener = None;
         if first_place(addresses, place) == place {
-            listener = TcpListener::bind(network, addresses[place]).ok();
+            if let Ok(bound) = TcpListener::bind(network, addresses[place]) {
+                listener = Some(Arc::new(alloc, bound)?);
+            }
         }
         listeners.push(listener)?;
     }
     Ok(listeners)
 }
 
+/// What stands behind the door of each address: the listener of its first place. Without an
+/// address there is one door, which has ended.
+pub fn doorways_of(
+    alloc: Global,
+    addresses: &[&str],
+    listeners: &[Option<Listener>],
+) -> Result<Vec<Doorway>, AllocError>
+    ensures one { length addresses.now ≡ 0 → IfOk result (λ doorways. vec_len doorways ≡ 1) }
+    ensures each { 0 < length addresses.now
+        → IfOk result (λ doorways. vec_len doorways ≡ length addresses.now) }
+{
+    let mut doorways = Vec::new(alloc);
+    if addresses.is_empty() {
+        doorways.push(Doorway::Ended)?;
+        return Ok(doorways);
+    }
+    for place in 0..addresses.len() {
+        let doorway = match listeners.get(first_place(addresses, place)) {
+            Some(Some(listener)) => Doorway::Bound(Arc::try_clone(listener)?),
+            _ => Doorway::Unbound,
+        };
+        doorways.push(doorway)?;
+    }
+    Ok(doorways)
+}
+
 /// Writes a line for each listener, with its address as it was bound. A line that can't be written
 /// is missing.
-pub fn tell_addresses<E: Write>(errors: &mut E, listeners: &[Option<TcpListener>]) {
+pub fn tell_addresses<E: Write>(errors: &mut E, listeners: &[Option<Listener>]) {
     for listener in listeners.iter().flatten() {
         if let Ok(address) = listener.local_addr() {
             let _ = writeln!(errors, "taosd: listening on {address}");

@@ -35,32 +35,32 @@ pub const LINGER: u64 = 1;
 const LOOK: u64 = 250;
 
 /// What comes from a peer.
-pub type PeerInput<'a, C> = Reading<BufReader<Hearing<'a, C>>>;
+pub type PeerInput<C> = Reading<BufReader<Hearing<C>>>;
 
 /// What goes to a peer.
-pub type PeerOutput<'a, C> = Writing<Holding<'a, C>>;
+pub type PeerOutput<C> = Writing<Holding<C>>;
 
 /// The end of a stream that a peer takes bytes from.
 #[derive(Drop)]
-pub struct Sending<'a, C> {
+pub struct Sending<C> {
     stream: TcpStream,
-    clock: &'a C,
+    clock: C,
     pace: Pace,
 }
 
-impl<'a, C: Clock> Write for Sending<'a, C> {
+impl<C: Clock> Write for Sending<C> {
     fn write(&mut self, piece: &[u8]) -> io::Result<usize> {
-        let Some(term) = self.pace.term(self.clock, Duration::from_secs(TAKE)) else {
+        let Some(term) = self.pace.term(&self.clock, Duration::from_secs(TAKE)) else {
             return Err(io::Error::from(ErrorKind::TimedOut));
         };
         let line = Line {
             stream: &self.stream,
-            clock: self.clock,
+            clock: &self.clock,
             term,
         };
         let count = line.send(piece)?;
         // A call that the term cut short may have taken some bytes.
-        if term.left(self.clock).is_none() {
+        if term.left(&self.clock).is_none() {
             return Err(io::Error::from(ErrorKind::TimedOut));
         }
         self.pace.pass(&piece[..count]);
@@ -75,11 +75,11 @@ impl<'a, C: Clock> Write for Sending<'a, C> {
 /// Where replies wait, so that those that come together leave together. Once some could not leave,
 /// each write fails.
 #[derive(Drop)]
-pub struct Holding<'a, C: Clock> {
-    outbox: Arc<Outbox<Sending<'a, C>>, Global>,
+pub struct Holding<C: Clock + Copy> {
+    outbox: Arc<Outbox<Sending<C>>, Global>,
 }
 
-impl<'a, C: Clock> Write for Holding<'a, C> {
+impl<C: Clock + Copy> Write for Holding<C> {
     fn write(&mut self, piece: &[u8]) -> io::Result<usize> {
         Deferred::new(&self.outbox).write(piece)
     }
@@ -91,18 +91,18 @@ impl<'a, C: Clock> Write for Holding<'a, C> {
 
 /// The end of a stream that a peer's bytes come from. Before it waits, all replies leave.
 #[derive(Drop)]
-pub struct Hearing<'a, C: Clock> {
+pub struct Hearing<C: Clock + Copy> {
     stream: TcpStream,
-    clock: &'a C,
-    stop: &'a Stop,
+    clock: C,
+    stop: Arc<Stop, Global>,
     idle: Duration,
     pace: Pace,
-    outbox: Arc<Outbox<Sending<'a, C>>, Global>,
+    outbox: Arc<Outbox<Sending<C>>, Global>,
     // Nothing comes any more, or nobody may wait for it.
     is_over: bool,
 }
 
-impl<'a, C: Clock> Hearing<'a, C> {
+impl<C: Clock + Copy> Hearing<C> {
     // Waits for bytes until the term ends. Between frames, a stop is the end.
     fn wait(&self, term: Term, into: &mut [u8]) -> io::Result<usize>
         ensures { ReadsAtMost result into.new }
@@ -112,7 +112,7 @@ impl<'a, C: Clock> Hearing<'a, C> {
             if is_between && self.stop.is_asked() {
                 return Ok(0);
             }
-            let Some(left) = term.left(self.clock) else {
+            let Some(left) = term.left(&self.clock) else {
                 return Err(io::Error::from(ErrorKind::TimedOut));
             };
             let patience = match is_between {
@@ -141,7 +141,7 @@ impl<'a, C: Clock> Hearing<'a, C> {
             true => self.idle,
             false => Duration::from_secs(FRAME),
         };
-        let Some(term) = self.pace.term(self.clock, length) else {
+        let Some(term) = self.pace.term(&self.clock, length) else {
             return Err(io::Error::from(ErrorKind::TimedOut));
         };
         let count = self.wait(term, into)?;
@@ -152,12 +152,12 @@ impl<'a, C: Clock> Hearing<'a, C> {
     // Takes what the peer still sends, for a short time: a stream that is closed with bytes that
     // nobody read takes replies along that have left.
     fn drain(&mut self) {
-        let Some(term) = Term::after(self.clock, Duration::from_secs(LINGER)) else {
+        let Some(term) = Term::after(&self.clock, Duration::from_secs(LINGER)) else {
             return;
         };
         let line = Line {
             stream: &self.stream,
-            clock: self.clock,
+            clock: &self.clock,
             term,
         };
         let mut room = [0u8; 4096];
@@ -179,7 +179,7 @@ impl<'a, C: Clock> Hearing<'a, C> {
     }
 }
 
-impl<'a, C: Clock> Read for Hearing<'a, C> {
+impl<C: Clock + Copy> Read for Hearing<C> {
     fn read(&mut self, into: &mut [u8]) -> io::Result<usize> {
         let heard = self.hear(into);
         match &heard {
@@ -193,20 +193,20 @@ impl<'a, C: Clock> Read for Hearing<'a, C> {
 
 /// How connections are served.
 #[derive(Drop)]
-pub struct Terms<'a, C> {
-    pub clock: &'a C,
-    pub stop: &'a Stop,
+pub struct Terms<C> {
+    pub clock: C,
+    pub stop: Arc<Stop, Global>,
     /// How long a peer may take between frames.
     pub idle: Duration,
 }
 
 // The halves of a connection that begins now.
-pub(crate) fn halves<'a, C: Clock>(
+pub(crate) fn halves<C: Clock + Copy>(
     alloc: Global,
-    terms: &Terms<'a, C>,
+    terms: &Terms<C>,
     stream: TcpStream,
-) -> io::Result<(PeerInput<'a, C>, PeerOutput<'a, C>)> {
-    let Some(first) = Term::after(terms.clock, Duration::from_secs(FIRST)) else {
+) -> io::Result<(PeerInput<C>, PeerOutput<C>)> {
+    let Some(first) = Term::after(&terms.clock, Duration::from_secs(FIRST)) else {
         return Err(io::Error::from(ErrorKind::TimedOut));
     };
     stream.set_nodelay(true)?;
@@ -222,7 +222,7 @@ pub(crate) fn halves<'a, C: Clock>(
     let hearing = Hearing {
         stream,
         clock: terms.clock,
-        stop: terms.stop,
+        stop: Arc::try_clone(&terms.stop)?,
         idle: terms.idle,
         pace: Pace::with_first(first),
         outbox,

@@ -69,10 +69,10 @@ fn is_quiet(stream: &TcpStream) -> bool {
 /// or on which bytes wait that nobody asked for, is closed, and the same question is asked once
 /// more on a new one. Want of memory is answered as such, and is no fault.
 #[derive(Drop)]
-pub struct TcpRelay<'a, R> {
-    network: &'a R,
+pub struct TcpRelay<R> {
+    network: R,
     alloc: Global,
-    address: &'a str,
+    address: String,
     limit: Duration,
     line: Option<TcpStream>,
     // Behind a fault, until when each call fails.
@@ -80,12 +80,12 @@ pub struct TcpRelay<'a, R> {
     faults: u64,
 }
 
-impl<'a, R> TcpRelay<'a, R> {
+impl<R> TcpRelay<R> {
     /// A link to an address `host:port`. It connects to nothing yet.
-    pub fn new(network: &'a R, alloc: Global, address: &'a str, limit: Duration) -> TcpRelay<'a, R>
+    pub fn new(network: R, alloc: Global, address: String, limit: Duration) -> TcpRelay<R>
         ensures faults { result.faults ≡ 0 }
         ensures closed { result.line ≡ None }
-        ensures address { result.address ≡ address.entry }
+        ensures address { result.address ≡ address }
         ensures limit { result.limit ≡ limit }
     {
         TcpRelay {
@@ -107,15 +107,15 @@ impl<'a, R> TcpRelay<'a, R> {
     }
 }
 
-impl<'a, R: Net<Listener = TcpListener, Stream = TcpStream> + Clock> TcpRelay<'a, R> {
+impl<R: Net<Listener = TcpListener, Stream = TcpStream> + Clock> TcpRelay<R> {
     // Until when the call that begins now may take. `None` where it fails at once.
     fn term(&self) -> Option<Term> {
         if let Some(rest) = &self.rest {
-            if rest.left(self.network).is_some() {
+            if rest.left(&self.network).is_some() {
                 return None;
             }
         }
-        Term::after(self.network, self.limit)
+        Term::after(&self.network, self.limit)
     }
 
     // The stream that is kept, if one is and it is of use yet. It is kept no more.
@@ -154,7 +154,7 @@ impl<'a, R: Net<Listener = TcpListener, Stream = TcpStream> + Clock> TcpRelay<'a
     {
         let line = Line {
             stream: &stream,
-            clock: self.network,
+            clock: &self.network,
             term,
         };
         let answer = exchange(self.alloc, &line, node, sealed, out)?;
@@ -187,14 +187,14 @@ impl<'a, R: Net<Listener = TcpListener, Stream = TcpStream> + Clock> TcpRelay<'a
                 heard => return heard,
             }
         }
-        let Ok(stream) = stream_to(self.network, self.address, term) else {
+        let Ok(stream) = stream_to(&self.network, self.address.as_str(), term) else {
             return Err(Silence::Failed);
         };
         self.ask_on(stream, term, node, sealed, out)
     }
 }
 
-impl<'a, R: Net<Listener = TcpListener, Stream = TcpStream> + Clock> RelayLink for TcpRelay<'a, R> {
+impl<R: Net<Listener = TcpListener, Stream = TcpStream> + Clock> RelayLink for TcpRelay<R> {
     ghost says = { λ _. None };
 
     ghost faults = { λ r. r.faults };
@@ -226,7 +226,7 @@ impl<'a, R: Net<Listener = TcpListener, Stream = TcpStream> + Clock> RelayLink f
             }
             Err(Silence::Closed | Silence::Failed) => {
                 self.line = None;
-                self.rest = Term::after(self.network, Duration::from_secs(REST));
+                self.rest = Term::after(&self.network, Duration::from_secs(REST));
                 self.faults = self.faults.saturating_add(1);
                 Err(Failed)
             }

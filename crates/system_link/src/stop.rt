@@ -1,5 +1,6 @@
 //! A way to stop in order.
 
+use crate::door::Listener;
 use crate::streams::is_cut_short;
 use std::alloc::Global;
 use std::io::{ErrorKind, Read};
@@ -69,7 +70,7 @@ fn read_out<R: Read + Drop>(mut input: R) {
 }
 
 // A handle to shut each of these listeners.
-fn shutters_of(alloc: Global, listeners: &[Option<TcpListener>]) -> io::Result<Vec<Shutter>> {
+fn shutters_of(alloc: Global, listeners: &[Option<Listener>]) -> io::Result<Vec<Shutter>> {
     let mut shutters = Vec::new(alloc);
     for listener in listeners.iter().flatten() {
         shutters.push(Shutter::of(listener)?)?;
@@ -84,7 +85,7 @@ pub fn stop_at_end<W: Threads, R: Read + Send + Drop + 'static>(
     alloc: Global,
     input: R,
     stop: &Arc<Stop, Global>,
-    listeners: &[Option<TcpListener>],
+    listeners: &[Option<Listener>],
 ) -> io::Result<()> {
     let stop = Arc::try_clone(stop)?;
     let shutters = shutters_of(alloc, listeners)?;

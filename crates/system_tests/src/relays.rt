@@ -1,5 +1,6 @@
 use arrayvec::ArrayVec;
 use frame_link::{Failed, RelayAnswer, RelayLink};
+use std::alloc::AllocError;
 use std::io::{Read, Write};
 use std::net::{TcpListener, TcpStream};
 use std::test::*;
@@ -10,6 +11,16 @@ use system_link::{LIMIT, TcpRelay};
 
 // What a call answers, and how often the link has failed.
 type Told = (Result<RelayAnswer, Failed>, u64);
+
+// A link to a relay at an address.
+fn link_to<'a>(
+    rt: &'a HostRuntime,
+    address: &str,
+    limit: Duration,
+) -> Result<TcpRelay<&'a HostRuntime>, AllocError> {
+    let address = String::from_str(rt.alloc(), address)?;
+    Ok(TcpRelay::new(rt, rt.alloc(), address, limit))
+}
 
 // A listener on this machine, and its address.
 fn listen(rt: &HostRuntime) -> Result<(TcpListener, String), Fail> {
@@ -50,7 +61,7 @@ fn answer_twice(listener: &TcpListener, first: &[u8], is_closed: bool) -> io::Re
     Ok(is_first && is_second)
 }
 
-fn ask(relay: &mut TcpRelay<'_, HostRuntime>) -> Told {
+fn ask(relay: &mut TcpRelay<&HostRuntime>) -> Told {
     let mut out = ArrayVec::new();
     let answer = relay.reseal(7, &[1, 9], &mut out);
     (answer, relay.faults())
@@ -65,10 +76,9 @@ fn is_failed(told: Told, faults: u64) -> bool {
 }
 
 // Whether the first two calls are answered.
-fn is_answered_twice(rt: &HostRuntime, address: &str) -> bool {
-    let mut relay = TcpRelay::new(rt, rt.alloc(), address, Duration::from_secs(LIMIT));
-    let first = ask(&mut relay);
-    let second = ask(&mut relay);
+fn is_answered_twice(relay: &mut TcpRelay<&HostRuntime>) -> bool {
+    let first = ask(relay);
+    let second = ask(relay);
     is_refused(first, 3, 0) && is_refused(second, 2, 0)
 }
 
@@ -85,10 +95,11 @@ fn is_opened_again(
     is_closed: bool,
 ) -> Result<bool, Fail> {
     let (listener, address) = listen(rt)?;
-    let (listener, address) = (&listener, address.as_str());
+    let mut relay = link_to(rt, address.as_str(), Duration::from_secs(LIMIT))?;
+    let (listener, relay) = (&listener, &mut relay);
     let (is_answered, are_asked) = thread::join(
         workers,
-        move || is_answered_twice(rt, address),
+        move || is_answered_twice(relay),
         move || answer_twice(listener, first, is_closed),
     );
     Ok(are_asked? && is_answered)
@@ -112,49 +123,47 @@ fn answer_late(listener: &TcpListener) -> io::Result<bool> {
 }
 
 // Whether the first call fails, the second one fails at once, and the third one connects again.
-fn is_answered_late(rt: &HostRuntime, address: &str) -> bool {
-    let mut relay = TcpRelay::new(rt, rt.alloc(), address, Duration::from_secs(LIMIT));
-    let first = ask(&mut relay);
-    let second = ask(&mut relay);
+fn is_answered_late(rt: &HostRuntime, relay: &mut TcpRelay<&HostRuntime>) -> bool {
+    let first = ask(relay);
+    let second = ask(relay);
     thread::sleep(rt, Duration::from_millis(1_100));
-    let third = ask(&mut relay);
+    let third = ask(relay);
     is_failed(first, 1) && is_failed(second, 2) && is_refused(third, 2, 2)
 }
 
 #[test]
 fn a_relay_is_connected_to_again_a_second_behind_a_fault(rt: HostRuntime) -> Result<(), Fail> {
     let (listener, address) = listen(&rt)?;
-    let (rt, listener, address) = (&rt, &listener, address.as_str());
+    let mut relay = link_to(&rt, address.as_str(), Duration::from_secs(LIMIT))?;
+    let (rt, listener, relay) = (&rt, &listener, &mut relay);
     let (is_answered, are_asked) = thread::join(
         rt,
-        move || is_answered_late(rt, address),
+        move || is_answered_late(rt, relay),
         move || answer_late(listener),
     );
     assert!(rt; are_asked? && is_answered);
     Ok(())
 }
 
-fn fails_twice(rt: &HostRuntime, address: &str, limit: Duration) -> bool {
-    let mut relay = TcpRelay::new(rt, rt.alloc(), address, limit);
-    is_failed(ask(&mut relay), 1) && is_failed(ask(&mut relay), 2)
+fn fails_twice(relay: &mut TcpRelay<&HostRuntime>) -> bool {
+    is_failed(ask(relay), 1) && is_failed(ask(relay), 2)
 }
 
 #[test]
 fn a_relay_that_says_nothing_fails_behind_the_limit(rt: HostRuntime) -> Result<(), Fail> {
     let (_listener, address) = listen(&rt)?;
     let limit = Duration::from_millis(50);
-    assert!(rt; fails_twice(&rt, address.as_str(), limit));
+    assert!(rt; fails_twice(&mut link_to(&rt, address.as_str(), limit)?));
     Ok(())
 }
 
 const UNREACHED: &[&str] = &["127.0.0.1:1", "127.0.0.1", "127.0.0.1:70000", ""];
 
 #[test]
-fn an_address_that_is_not_reached_fails_at_each_call(rt: HostRuntime) {
+fn an_address_that_is_not_reached_fails_at_each_call(rt: HostRuntime) -> Result<(), Fail> {
     for address in UNREACHED {
-        assert!(rt;
-            fails_twice(&rt, address, Duration::from_secs(LIMIT)),
-            "at {address}"
-        );
+        let mut relay = link_to(&rt, address, Duration::from_secs(LIMIT))?;
+        assert!(rt; fails_twice(&mut relay), "at {address}");
     }
+    Ok(())
 }

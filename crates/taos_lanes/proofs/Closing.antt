@@ -4,14 +4,15 @@ use Rattle.std.specs.Prelude.{All, sum_by}
 use Rattle.std.proofs.lemmas.List.Elements.{All-nil, All-cons, All-append, All-head, All-tail, filter_map-append}
 use Rattle.std.proofs.lemmas.List.Sums.{sum_by-cons}
 use Rattle.frame_link.specs.Relay.{Said}
-use Rattle.frame_link.specs.Served.{replies_of}
+use Rattle.frame_link.specs.declared.outcome.Outcome.{Outcome}
+use Rattle.frame_link.specs.Served.{Line, replies_of}
 use Rattle.agent_core.specs.Journals.{Begins}
 use Rattle.agent_core.proofs.Onward.{begins_itself, begins_on}
 use Rattle.turn_cell.specs.Journal.{times, HasEach}
 use Rattle.taos_monitor.specs.Cells.{Node, Journals, Cell, OfShard, OfObject, number_in, numbers_in, entries_in, AreLegal, Extends}
 use Rattle.taos_monitor.specs.World.{World}
 use Rattle.taos_monitor.specs.Laws.{AnsweredStays}
-use Rattle.taos_lanes.specs.Visits.{Visit, begun, left, Chain, places_of, all_places, AnsweredIn, times_own}
+use Rattle.taos_lanes.specs.Visits.{Visit, VisitBy, begun, left, Chain, places_of, all_places, AnsweredIn, times_own}
 use Rattle.taos_lanes.specs.Lanes.{LaneRun, times_in_lane, owned_in, IsFresh, IsLaneAnswered}
 use Rattle.taos_lanes.specs.Laws.{ChainGoesOn, JoinedAt, JoinsOneMore, JoinedAreClosed, ClosedServesAll}
 
@@ -140,6 +141,11 @@ joined_are_closed n limit J shards_own objects_own lanes legal fresh shards obje
     owned (OfShard s) = subst (HasEach 0 (length (J.shards s))) (shards s).owned (each s)
     owned (OfObject o) = subst (HasEach 0 (length (J.objects o))) (objects o).owned (each_object o)
 
+-- a chain of connections that are served so goes on
+pub goes_on : {S : Type 0} {Serves : Line S → Line S → Outcome → Type 0} {limit : ℕ} (first last : S) (visits : List (VisitBy Serves limit)) (v : VisitBy Serves limit) → Chain first visits last → begun v ≡ last →
+    Chain first (visits ++ v ∷ []) (left v)
+goes_on first last [] v c same = (same ∙ c, refl)
+goes_on first last (w ∷ visits) v c same = (c.0, goes_on (left w) last visits v c.1 same)
+
 pub chain_goes_on : (n : Node) (limit : ℕ) → ChainGoesOn n limit
-chain_goes_on n limit says first last [] v c same = (same ∙ c, refl)
-chain_goes_on n limit says first last (w ∷ visits) v c same = (c.0, chain_goes_on n limit says (left w) last visits v c.1 same)
+chain_goes_on n limit says first last visits v c same = goes_on first last visits v c same

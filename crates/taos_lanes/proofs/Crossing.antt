@@ -8,6 +8,9 @@ use Rattle.std.proofs.option.Option.TheSendSync as option
 use Rattle.taos_lanes.specs.contracts.lane.Lane as lane
 use Rattle.taos_lanes.specs.contracts.lane.Stock as stock
 use Rattle.taos_lanes.specs.contracts.sitting.Shared as shared
+use Rattle.taos_lanes.specs.contracts.relaying.Relay as relay
+use Rattle.relay_core.specs.contracts.resealing.RelayTable as table
+use Rattle.relay_core.proofs.resealing.RelayTable.TheSendSync as table_cross
 use Rattle.taos_lanes.proofs.tally.Tally.TheSendSync as tally
 use Rattle.goal_search.specs.contracts.workbench.Workbench as workbench
 use Rattle.goal_search.proofs.asked.Asked.TheSendSync as asked
@@ -27,8 +30,14 @@ pub keys_sync : IsSync keys.the_row
 keys_sync = keys_cross.the_sync
 
 pub lane_send : (C R D I O : _) → IsSend C → IsSend R → IsSend D → IsSend (lane.the_row C R D I O)
-lane_send C R D I O c r d = declared_send (lane.the_type C R D I O) (search (sendable, c), (search (sendable, r), (search (sendable, d), (search (sendable, as_row_send, option.the_send, stock_send), tt))))
+lane_send C R D I O c r d = declared_send (lane.the_type C R D I O) (search (sendable, c), (search (sendable, r), (search (sendable, d), (search (sendable, as_row_send, option.the_send, stock_send), (search (sendable, as_row_send, tally.the_send), tt)))))
 
 pub shared_sync : (κ W K L : _) → IsSync W → IsSync K → IsSync L → IsSync (shared.the_row κ W K L)
 shared_sync κ W K L w k l = declared_sync (shared.the_type κ W K L)
     (search (sendable, w), (search (sendable, as_row_sync, global.the_sync), (search (sendable, keys_sync), (search (sendable, agent_sync), (search (sendable, rack_sync), (search (sendable, as_row_sync), (search (sendable, as_row_sync, crosses), tt)))))))
+
+table_sync : IsSync table.the_row
+table_sync = table_cross.the_sync
+
+pub relay_sync : (κ : _) → IsSync (relay.the_row κ)
+relay_sync κ = declared_sync (relay.the_type κ) (search (sendable, as_row_sync, global.the_sync), (search (sendable, table_sync), (search (sendable, as_row_sync), tt)))

@@ -9,3 +9,4 @@ mod Runs
 mod Totals
 mod Ends
 mod Opening
+mod Relayed

@@ -30,7 +30,7 @@ use Rattle.taos_lanes.specs.declared.lane.Stock.{Stock}
 use Rattle.taos_lanes.specs.declared.total.Total.{Total}
 use Rattle.taos_lanes.specs.Doors.{DoorSeen, GoesThrough}
 use Rattle.taos_lanes.specs.Visits.{Visit, is_broken, is_lacking}
-use Rattle.taos_lanes.specs.Lanes.{LaneRun, ServesAll, IsFresh, connection_count, broken_count, lacked_count}
+use Rattle.taos_lanes.specs.Lanes.{LaneRun, ServesAll, IsFresh}
 use Rattle.taos_lanes.specs.Working.{HasDoorCause}
 use Rattle.taos_lanes.specs.Stocked.{NodeCells, node_at, seat, shelf, shards_viewed, objects_viewed, world_at, LaneShown, ServesLane}
 use Rattle.taos_lanes.specs.Joining.{NodePasses, ArePassesOf, JoinsAll, AreFresh, WorkIs, IsFreshStock, HasOtherWork, IsGivenStock, IsEmptied, stocks_in, IsTotalOf}

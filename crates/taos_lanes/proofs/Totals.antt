@@ -11,6 +11,7 @@ use Rattle.taos_lanes.specs.declared.tally.Tally.{Tally}
 use Rattle.taos_lanes.specs.declared.total.Total.{Total}
 use Rattle.taos_lanes.specs.Stocked.{LaneShown}
 use Rattle.taos_lanes.specs.Joining.{IsEmptied, WorkIs, stocks_in, IsTotalOf}
+use Rattle.taos_lanes.specs.Totals.{IsSumOf}
 use Rattle.taos_lanes.proofs.Rows.{Upto, here_is, upto_long}
 use Rattle.taos_lanes.proofs.Runs.{given_first}
 
@@ -23,18 +24,24 @@ pub record IsSmall (count : ℕ) (total : Total) : Type 0 where
   pub doors_failed : total.doors_failed ≤ count * 2 ^ 64
 
 -- one lane more
+pub sum_more : {A : Type 0} (tally : A → Tally) (xs : List A) (x : A) (total more : Total) → IsSumOf tally xs total → more.lanes ≡ total.lanes + 1 →
+    more.served ≡ total.served + (tally x).served → more.broken ≡ total.broken + (tally x).broken → more.lacked ≡ total.lacked + (tally x).lacked →
+    more.doors_failed ≡ total.doors_failed + cond (tally x).door_failed 1 0 →
+    more.first_failed ≡ cond (total.first_failed == total.lanes) (total.lanes + cond (tally x).door_failed 0 1) total.first_failed → IsSumOf tally (xs ++ x ∷ []) more
+sum_more {A} tally xs x total more t lanes served broken lacked failed first = record {
+  lanes = omega (arith, lanes, t.lanes, length-append xs (x ∷ []));
+  served = served ∙ (ap (λ (n : ℕ). n + (tally x).served) t.served ∙ sym (sum_by_push (λ (y : A). (tally y).served) xs x));
+  broken = broken ∙ (ap (λ (n : ℕ). n + (tally x).broken) t.broken ∙ sym (sum_by_push (λ (y : A). (tally y).broken) xs x));
+  lacked = lacked ∙ (ap (λ (n : ℕ). n + (tally x).lacked) t.lacked ∙ sym (sum_by_push (λ (y : A). (tally y).lacked) xs x));
+  doors_failed = failed ∙ (ap (λ (n : ℕ). n + cond (tally x).door_failed 1 0) t.doors_failed ∙ sym (sum_by_push (λ (y : A). cond (tally y).door_failed 1 0) xs x));
+  first_failed = first ∙ (ap₂ (λ (f l : ℕ). cond (f == l) (l + cond (tally x).door_failed 0 1) f) t.first_failed t.lanes ∙ sym (position_or_len_push (λ (y : A). (tally y).door_failed) xs x));
+}
+
 pub total_more : (stocks : List Stock) (stock : Stock) (total more : Total) → IsTotalOf stocks total → more.lanes ≡ total.lanes + 1 →
     more.served ≡ total.served + stock.tally.served → more.broken ≡ total.broken + stock.tally.broken → more.lacked ≡ total.lacked + stock.tally.lacked →
     more.doors_failed ≡ total.doors_failed + cond stock.tally.door_failed 1 0 →
     more.first_failed ≡ cond (total.first_failed == total.lanes) (total.lanes + cond stock.tally.door_failed 0 1) total.first_failed → IsTotalOf (stocks ++ stock ∷ []) more
-total_more stocks stock total more t lanes served broken lacked failed first = record {
-  lanes = omega (arith, lanes, t.lanes, length-append stocks (stock ∷ []));
-  served = served ∙ (ap (λ (n : ℕ). n + stock.tally.served) t.served ∙ sym (sum_by_push (λ (s : Stock). s.tally.served) stocks stock));
-  broken = broken ∙ (ap (λ (n : ℕ). n + stock.tally.broken) t.broken ∙ sym (sum_by_push (λ (s : Stock). s.tally.broken) stocks stock));
-  lacked = lacked ∙ (ap (λ (n : ℕ). n + stock.tally.lacked) t.lacked ∙ sym (sum_by_push (λ (s : Stock). s.tally.lacked) stocks stock));
-  doors_failed = failed ∙ (ap (λ (n : ℕ). n + cond stock.tally.door_failed 1 0) t.doors_failed ∙ sym (sum_by_push (λ (s : Stock). cond s.tally.door_failed 1 0) stocks stock));
-  first_failed = first ∙ (ap₂ (λ (f l : ℕ). cond (f == l) (l + cond stock.tally.door_failed 0 1) f) t.first_failed t.lanes ∙ sym (position_or_len_push (λ (s : Stock). s.tally.door_failed) stocks stock));
-}
+total_more = sum_more (λ (s : Stock). s.tally)
 
 -- the stocks of one lane more
 stocks_at : {X : Type 0} (lanes : List (LaneShown X)) (i : ℕ) (d : LaneShown X) (stock : Stock) → i < length lanes → (get_or lanes i d).work ≡ Some stock →

@@ -1,9 +1,9 @@
 -- The connections that a lane's door gave and took back, by what the door tells.
 use Rattle.std.specs.Prelude.{◌≡◌, ◌⊎◌, ℕ, ◌+◌, ◌≤◌, List, [], ◌∷◌, ◌++◌, length, Option, None, Some, ⊤}
 use Rattle.frame_link.specs.Doors.{OpensKnown, Counts, TakesBack}
-use Rattle.frame_link.specs.Relay.{Said}
-use Rattle.taos_monitor.specs.Cells.{Node}
-use Rattle.taos_lanes.specs.Visits.{Visit}
+use Rattle.frame_link.specs.declared.outcome.Outcome.{Outcome}
+use Rattle.frame_link.specs.Served.{Line}
+use Rattle.taos_lanes.specs.Visits.{VisitBy}
 
 -- of the connections that were left, where that is told, these were given, in order
 abbrev pub GaveKnown : {X : Type 0} → (before after : Option (List X)) → List X → Type 0
@@ -54,22 +54,22 @@ pub record IsOrderly {X : Type 0} (door : DoorSeen X) : Type 0 where
   pub back : IsTold door.back
   pub few : AreFew door.back door.given
 
-module _ {In Out : Type 0} (left : In → Option (List ℕ)) (written : Out → Option (List ℕ)) {n : Node} {says : Option (ℕ → List ℕ → Said)} {limit : ℕ} where
+module _ {In Out : Type 0} (left : In → Option (List ℕ)) (written : Out → Option (List ℕ)) {S : Type 0} {Serves : Line S → Line S → Outcome → Type 0} {limit : ℕ} where
   -- what the connection came from and came to are the two ends as they were given and given back
-  pub record IsVisitOf (given kept : In × Out) (v : Visit n says limit) : Type 0 where
+  pub record IsVisitOf (given kept : In × Out) (v : VisitBy Serves limit) : Type 0 where
     pub input : v.before.input ≡ left given.0
     pub output : v.before.output ≡ written given.1
     pub input_after : v.after.input ≡ left kept.0
     pub output_after : v.after.output ≡ written kept.1
 
   -- these are the connections of what was given and given back, in order
-  abbrev pub AreVisits : (given kept : List (In × Out)) → List (Visit n says limit) → Type 0
+  abbrev pub AreVisits : (given kept : List (In × Out)) → List (VisitBy Serves limit) → Type 0
   AreVisits [] [] [] = ⊤
   AreVisits (g ∷ given) (k ∷ kept) (v ∷ visits) = IsVisitOf g k v × AreVisits given kept visits
   AreVisits given kept visits = ⊥
 
   -- each connection that the door gave was served and given back, in order
-  pub record Through (before after : DoorSeen (In × Out)) (visits : List (Visit n says limit)) :
+  pub record Through (before after : DoorSeen (In × Out)) (visits : List (VisitBy Serves limit)) :
       Type 0 where
     pub given : List (In × Out)
     pub kept : List (In × Out)
@@ -81,17 +81,17 @@ module _ {In Out : Type 0} (left : In → Option (List ℕ)) (written : Out → 
   -- the lane served so many connections, or all that its door had left where these are fewer, or
   -- the door failed
   pub record GoesThrough (most : ℕ) (before after : DoorSeen (In × Out)) (failed : Type 0)
-      (visits : List (Visit n says limit)) : Type 0 where
+      (visits : List (VisitBy Serves limit)) : Type 0 where
     pub through : Through before after visits
     pub few : length visits ≤ most
     pub whole : (length visits ≡ most) ⊎ (IsNoneLeft before.left after.left ⊎ failed)
 
 -- one connection more
-abbrev pub ThroughGoesOn : {In Out : Type 0} → (In → Option (List ℕ)) → (Out → Option (List ℕ)) →
-    Node → Option (ℕ → List ℕ → Said) → ℕ → Type 0
-ThroughGoesOn {In} {Out} left written n says limit =
+abbrev pub ThroughGoesOn : {In Out S : Type 0} → (In → Option (List ℕ)) → (Out → Option (List ℕ)) →
+    (Line S → Line S → Outcome → Type 0) → ℕ → Type 0
+ThroughGoesOn {In} {Out} left written Serves limit =
     (before middle after : DoorSeen (In × Out))
-    (visits : List (Visit n says limit)) (g k : In × Out) (v : Visit n says limit) →
+    (visits : List (VisitBy Serves limit)) (g k : In × Out) (v : VisitBy Serves limit) →
     Through left written before middle visits →
     OpensKnown middle.left after.left (Some g) →
     Counts middle.left middle.given after.given (Some g) →

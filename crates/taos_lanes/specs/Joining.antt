@@ -1,6 +1,5 @@
 -- Passes of a node's cells that go to lanes and come back.
-use Rattle.std.specs.Prelude.{◌≡◌, ℕ, ◌+◌, List, [], ◌∷◌, length, filter_map, All, None, Some, sum_by, count_by}
-use Rattle.std.specs.List.{position_or_len}
+use Rattle.std.specs.Prelude.{◌≡◌, ℕ, ◌+◌, List, [], ◌∷◌, length, filter_map, All, None, Some}
 use Rattle.agent_core.specs.Journals.{MayFollow}
 use Rattle.agent_shards.specs.Cells.{AreJoined}
 use Rattle.agent_shards.specs.Shards.{ShardCell, KnownShard, ArePasses}
@@ -11,6 +10,7 @@ use Rattle.turn_cell.specs.Known.{Known}
 use Rattle.taos_lanes.specs.declared.lane.Stock.{Stock}
 use Rattle.taos_lanes.specs.declared.total.Total.{Total}
 use Rattle.taos_lanes.specs.Stocked.{NodeCells, IsStockOf, LaneShown}
+use Rattle.taos_lanes.specs.Totals.{IsSumOf}
 
 -- passes of the shards and of the objects of a node
 pub record NodePasses : Type 0 where
@@ -102,11 +102,5 @@ abbrev pub stocks_in : {X : Type 0} → List (LaneShown X) → List Stock
 stocks_in {X} lanes = filter_map (λ (lane : LaneShown X). lane.work) lanes
 
 -- what all lanes counted
-pub record IsTotalOf (stocks : List Stock) (total : Total) : Type 0 where
-  pub lanes : total.lanes ≡ length stocks
-  pub served : total.served ≡ sum_by (λ (s : Stock). s.tally.served) stocks
-  pub broken : total.broken ≡ sum_by (λ (s : Stock). s.tally.broken) stocks
-  pub lacked : total.lacked ≡ sum_by (λ (s : Stock). s.tally.lacked) stocks
-  pub doors_failed : total.doors_failed ≡ count_by (λ (s : Stock). s.tally.door_failed) stocks
-  pub first_failed : total.first_failed ≡
-      position_or_len (λ (s : Stock). s.tally.door_failed) stocks
+abbrev pub IsTotalOf : List Stock → Total → Type 0
+IsTotalOf = IsSumOf (λ (s : Stock). s.tally)

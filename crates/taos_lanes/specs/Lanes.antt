@@ -1,11 +1,11 @@
 -- Lanes that serve connections at seats of one node's cells.
-use Rattle.std.specs.Prelude.{◌≡◌, ℕ, Bool, List, [], length, All, Option, sum_by, count_by}
+use Rattle.std.specs.Prelude.{◌≡◌, ℕ, Bool, List, [], length, All, Option, sum_by}
 use Rattle.std.specs.List.{flat_map}
 use Rattle.frame_link.specs.Relay.{Said}
 use Rattle.turn_cell.specs.Journal.{once_within, HasEach}
 use Rattle.taos_monitor.specs.Cells.{Node, Journals, Cell, entries_in, AreLegal, Extends}
 use Rattle.taos_monitor.specs.World.{World}
-use Rattle.taos_lanes.specs.Visits.{Visit, Chain, AnsweredIn, times_own, is_broken, is_lacking}
+use Rattle.taos_lanes.specs.Visits.{Visit, Chain, AnsweredIn, times_own}
 
 -- a lane of a node: what it began with and came to, by its connections, in order
 pub record LaneRun (n : Node) (limit : ℕ) : Type 0 where
@@ -49,21 +49,3 @@ module _ {n : Node} {limit : ℕ} where
     pub fresh : All IsFresh lanes
     pub begin : All (λ (lane : LaneRun n limit). Extends lane.last.seen.journals J) lanes
     pub owned : (cell : Cell) → HasEach 0 (entries_in J cell) (owned_in cell lanes)
-
-  -- ---- what is counted
-
-  -- how many connections the lanes served
-  abbrev pub connection_count : List (LaneRun n limit) → ℕ
-  connection_count lanes = sum_by (λ (lane : LaneRun n limit). length lane.visits) lanes
-
-  -- how many of them broke
-  abbrev pub broken_count : List (LaneRun n limit) → ℕ
-  broken_count lanes =
-      sum_by (λ (lane : LaneRun n limit).
-      count_by (λ (v : Visit n lane.says limit). is_broken v.outcome) lane.visits) lanes
-
-  -- how many of them ended for want of memory
-  abbrev pub lacked_count : List (LaneRun n limit) → ℕ
-  lacked_count lanes =
-      sum_by (λ (lane : LaneRun n limit).
-      count_by (λ (v : Visit n lane.says limit). is_lacking v.outcome) lane.visits) lanes

@@ -4,5 +4,7 @@ pub mod Laws
 pub mod Doors
 pub mod Working
 pub mod Stocked
+pub mod Totals
 pub mod Joining
 pub mod Serving
+pub mod Relaying

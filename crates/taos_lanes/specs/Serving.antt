@@ -10,8 +10,10 @@ use Rattle.object_core.specs.Shelving.{fixed_of, numbers_of}
 use Rattle.taos_lanes.specs.declared.lane.Limits.{Limits}
 use Rattle.taos_lanes.specs.declared.total.Total.{Total}
 use Rattle.taos_lanes.specs.Doors.{GoesThrough}
-use Rattle.taos_lanes.specs.Lanes.{LaneRun, ServesAll, connection_count, broken_count, lacked_count}
+use Rattle.taos_lanes.specs.Lanes.{LaneRun, ServesAll}
 use Rattle.taos_lanes.specs.Stocked.{LaneShown}
+use Rattle.taos_lanes.specs.Totals.{AreCountedBy}
+use Rattle.taos_lanes.specs.Visits.{Visit, is_broken, is_lacking}
 use Rattle.taos_lanes.specs.Working.{HasDoorCause}
 use Rattle.taos_monitor.specs.Cells.{Node, Journals, Viewed, viewed}
 use Rattle.taos_monitor.specs.World.{world_of}
@@ -44,17 +46,14 @@ pub record IsRunOf {In Out : Type 0} (left : In → Option (List ℕ)) (written 
   pub cause : HasDoorCause run.door_failed before.door.faults after.door.faults
 
 -- these are counted
-pub record AreCounted {n : Node} {limit : ℕ} (runs : List (LaneRun n limit)) (total : Total) :
-    Type 0 where
-  pub lanes : total.lanes ≡ length runs
-  pub served : total.served ≡ connection_count runs
-  pub broken : total.broken ≡ broken_count runs
-  pub lacked : total.lacked ≡ lacked_count runs
-  pub doors_failed : total.doors_failed ≡
-      count_by (λ (run : LaneRun n limit). run.door_failed) runs
-  -- the first lane whose door failed, or how many lanes there are where none did
-  pub first_failed : total.first_failed ≡
-      position_or_len (λ (run : LaneRun n limit). run.door_failed) runs
+abbrev pub AreCounted : {n : Node} {limit : ℕ} → List (LaneRun n limit) → Total → Type 0
+AreCounted {n} {limit} =
+    AreCountedBy (λ (run : LaneRun n limit). length run.visits)
+    (λ (run : LaneRun n limit).
+    count_by (λ (v : Visit n run.says limit). is_broken v.outcome) run.visits)
+    (λ (run : LaneRun n limit).
+    count_by (λ (v : Visit n run.says limit). is_lacking v.outcome) run.visits)
+    (λ (run : LaneRun n limit). run.door_failed)
 
 -- The node's lanes served all that stands in the journals of its shards and objects.
 pub record ServesNode {In Out : Type 0} (left : In → Option (List ℕ))

@@ -9,6 +9,7 @@ use Rattle.object_core.specs.Objects.{ObjectEntry}
 use Rattle.taos_lanes.specs.declared.lane.Lane.{Lane}
 use Rattle.taos_lanes.specs.declared.lane.Limits.{Limits}
 use Rattle.taos_lanes.specs.declared.lane.Stock.{Stock}
+use Rattle.taos_lanes.specs.declared.tally.Tally.{Tally}
 use Rattle.taos_lanes.specs.Doors.{DoorSeen, door_of}
 use Rattle.taos_lanes.specs.Working.{ServesDoor, lane_of}
 use Rattle.taos_monitor.specs.declared.node_keys.NodeKeys.{NodeKeys}
@@ -79,6 +80,8 @@ pub record LaneShown (X : Type 0) : Type 0 where
   pub says : Option (ℕ → List ℕ → Said)
   pub door : DoorSeen X
   pub work : Option Stock
+  -- what its worker counted as a relay
+  pub tally : Tally
 
 -- a door, by what is told of it
 abbrev pub door_by : {D X : Type 0} → (left back : D → Option (List X)) →
@@ -94,6 +97,7 @@ shown_by readings faults says door lane = record {
   says = says lane.relay;
   door = door lane.door;
   work = lane.work;
+  tally = lane.tally;
 }
 
 -- The lane served connections of its door at the cells, from what its passes had seen before to what

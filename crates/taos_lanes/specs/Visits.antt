@@ -1,4 +1,4 @@
--- A connection that a lane served among others.
+-- The connections that a lane served among others.
 use Rattle.std.specs.Prelude.{◌≡◌, ℕ, Bool, true, false, List, [], ◌∷◌, Option}
 use Rattle.std.specs.List.{flat_map}
 use Rattle.frame_link.specs.declared.outcome.Outcome.{Outcome}
@@ -15,18 +15,28 @@ use Rattle.taos_monitor.specs.Run.{Answered}
 abbrev pub among : Node → Option (ℕ → List ℕ → Said) → Setting
 among n says = setting_of n (alone_of false false) says
 
--- A connection that was served, of at most so many frames: what it came from and what it came to, and
--- its outcome with its cause.
-pub record Visit (n : Node) (says : Option (ℕ → List ℕ → Said)) (limit : ℕ) : Type 0 where
-  pub before : Line World
-  pub after : Line World
+-- A connection that was served so, of at most so many frames: what it came from and what it came to,
+-- and its outcome with its cause.
+pub record VisitBy {S : Type 0} (Serves : Line S → Line S → Outcome → Type 0) (limit : ℕ) :
+    Type 0 where
+  pub before : Line S
+  pub after : Line S
   -- how often its input, its output and the lane's clock had failed
   pub faults_before : FaultCounts
   pub faults_after : FaultCounts
   pub outcome : Outcome
-  pub connection : IsConnection (among n says) limit before after outcome
+  pub connection : Serves before after outcome
   pub causes : HasCauses faults_before faults_after outcome
   pub complete : IsComplete limit before.input faults_before faults_after outcome
+
+-- how a node serves a connection of a lane
+abbrev pub ServesAmong : Node → Option (ℕ → List ℕ → Said) → ℕ → Line World → Line World →
+    Outcome → Type 0
+ServesAmong n says limit = IsConnection (among n says) limit
+
+-- a connection that a node served
+abbrev pub Visit : Node → Option (ℕ → List ℕ → Said) → ℕ → Type 0
+Visit n says limit = VisitBy (ServesAmong n says limit) limit
 
 -- the outcome is neither the end of whole frames nor want of memory
 abbrev pub is_broken : Outcome → Bool
@@ -44,20 +54,21 @@ abbrev pub is_lacking : Outcome → Bool
 is_lacking NoMemory = true
 is_lacking _ = false
 
-module _ {n : Node} {says : Option (ℕ → List ℕ → Said)} {limit : ℕ} where
+module _ {S : Type 0} {Serves : Line S → Line S → Outcome → Type 0} {limit : ℕ} where
   -- what a connection began with
-  abbrev pub begun : Visit n says limit → World
+  abbrev pub begun : VisitBy Serves limit → S
   begun v = v.before.service
 
   -- what it left
-  abbrev pub left : Visit n says limit → World
+  abbrev pub left : VisitBy Serves limit → S
   left v = v.after.service
 
   -- each connection begins with what the one before left
-  abbrev pub Chain : World → List (Visit n says limit) → World → Type 0
+  abbrev pub Chain : S → List (VisitBy Serves limit) → S → Type 0
   Chain first [] last = last ≡ first
   Chain first (v ∷ visits) last = (begun v ≡ first) × Chain (left v) visits last
 
+module _ {n : Node} {says : Option (ℕ → List ℕ → Said)} {limit : ℕ} where
   -- the own places of a connection
   abbrev pub places_of : Visit n says limit → List Place
   places_of v = v.connection.used.places

@@ -34,6 +34,8 @@ pub struct Lane<C: Clock, R: RelayLink, D: Door> {
     pub door: D,
     // Empty but while the workers run.
     pub(crate) work: Option<Stock>,
+    // What its worker counted as a relay.
+    pub(crate) tally: Tally,
 }
 
 impl<C: Clock, R: RelayLink, D: Door> Lane<C, R, D> {
@@ -49,6 +51,7 @@ impl<C: Clock, R: RelayLink, D: Door> Lane<C, R, D> {
             relay,
             door,
             work: None,
+            tally: Tally::new(),
         }
     }
 }

@@ -1,10 +1,11 @@
 //! Lanes of a node: each has a clock, a link to the relay and a door, and serves the connections of
-//! its door at seats of the node's cells, beside the others.
+//! its door at seats of the node's cells, beside the others; or the doors are a relay's.
 #![tactic(auto)]
 
 mod joining;
 mod lane;
 mod laws;
+mod relaying;
 mod serving;
 mod sitting;
 mod stocking;
@@ -15,6 +16,7 @@ mod worker;
 
 pub use lane::{Lane, Limits, Stock};
 pub use laws::{chains_go_on, closed_lanes_serve_all, joined_lanes_are_closed};
+pub use relaying::serve_relays;
 pub use serving::{MAX_LANES, Served, serve};
 pub use tally::Tally;
 pub use total::Total;

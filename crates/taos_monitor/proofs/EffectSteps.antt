@@ -16,7 +16,7 @@ use Rattle.agent_core.specs.declared.limits.TheConstants.{MAX_COMMONS}
 use Rattle.agent_core.specs.Held.{newly}
 use Rattle.agent_core.specs.State.{Plan, State, Event, Asks, Keeps, Holds, Discards, Forgets, Expires, Answer, Plain, holding, next}
 use Rattle.agent_core.specs.Journals.{Entry, entry, Begins, Stands, state_after, cache_after, told_of, told_at, IsMeant, IsLegalJournal}
-use Rattle.agent_core.specs.Answers.{TakesMemory, SteppedTo}
+use Rattle.agent_core.specs.Answers.{Presents, TakesMemory, WantsMemory, SteppedTo}
 use Rattle.agent_core.specs.declared.told.Answer.{Answer as ValueOfAnswer}
 use Rattle.agent_core.specs.declared.told.Answer.TheVariants as answer
 use Rattle.agent_core.specs.declared.told.DropCause.{DropCause}
@@ -101,13 +101,25 @@ holding_takes_none s new cache event =
     (λ _ none. none)
 
 -- no effect takes memory
-pub takes_none : (plan : Plan) (before : List Entry) (event : Event) → IsEffect event → TakesMemory (told_at plan before event) → ⊥
-takes_none plan before (Asks a) is takes = is
-takes_none plan before (Keeps ask entry c) is takes = is
-takes_none plan before (Holds certs) is takes = holding_takes_none (state_after plan before) (newly (state_after plan before).commons certs) (cache_after plan before) (Holds certs) takes
-takes_none plan before (Discards digest) is takes = takes
-takes_none plan before (Forgets channel) is takes = takes
-takes_none plan before (Expires reading) is takes = takes
+told_takes_none : (plan : Plan) (before : List Entry) (event : Event) → IsEffect event → TakesMemory (told_at plan before event) → ⊥
+told_takes_none plan before (Asks a) is takes = is
+told_takes_none plan before (Keeps ask entry c) is takes = is
+told_takes_none plan before (Holds certs) is takes = holding_takes_none (state_after plan before) (newly (state_after plan before).commons certs) (cache_after plan before) (Holds certs) takes
+told_takes_none plan before (Discards digest) is takes = takes
+told_takes_none plan before (Forgets channel) is takes = takes
+told_takes_none plan before (Expires reading) is takes = takes
+
+presents_none : (event : Event) → IsEffect event → Presents event → ⊥
+presents_none (Asks a) is presents = is
+presents_none (Keeps ask entry c) is presents = presents
+presents_none (Holds certs) is presents = presents
+presents_none (Discards digest) is presents = presents
+presents_none (Forgets channel) is presents = presents
+presents_none (Expires reading) is presents = presents
+
+pub takes_none : (plan : Plan) (before : List Entry) (event : Event) → IsEffect event → WantsMemory plan before event → ⊥
+takes_none plan before event is (inl presents) = presents_none event is presents
+takes_none plan before event is (inr takes) = told_takes_none plan before event is takes
 
 -- an effect is meant, whatever stands before it
 pub is_meant_effect : (plan : Plan) (before : List Entry) (event : Event) → IsEffect event → IsMeant plan before event

@@ -1,13 +1,14 @@
 -- What is read of words.
-use Rattle.std.proofs.Common.{append_assoc, ◌≡◌, ℕ, zero, suc, ◌<◌, ◌≤◌, Bool, true, List, [], ◌∷◌, ◌++◌, ◌+◌, length, Option, Some, None, Result, Ok, Err, refl, sym, ap, subst, ◌∙◌, codes, arith, inl, inr, IsTrue, ◌^◌, decimal}
+use Rattle.std.proofs.Common.{append_assoc, ◌≡◌, ℕ, zero, suc, ◌<◌, ◌≤◌, Bool, false, List, [], ◌∷◌, ◌++◌, ◌+◌, get_or, length, Option, Some, None, Result, Ok, Err, refl, sym, ap, subst, ◌∙◌, codes, arith, inl, inr, IsTrue, ◌^◌}
 use Rattle.std.specs.Option.{option_map}
 use Rattle.std.specs.Borrow.{Bor}
 use Rattle.std.specs.Str.Parse.{ParsesUnsigned}
-use Rattle.std.proofs.lemmas.Fmt.{decimal_digit, decimal_injective, parse-decimal}
+use Rattle.std.proofs.lemmas.Fmt.{decimal_injective, parse-decimal}
 use Rattle.clap.specs.Words.{Row, Text, first_of, first_value, rows_of}
 use Rattle.clap.specs.declared.parser.matches.Found.{Found}
 use Rattle.clap.proofs.WalkLemmas.{first_value-rows}
 use Rattle.std.specs.Prelude.{nat_eq}
+use Rattle.std.specs.Str.{bytes_eq}
 use Rattle.std.proofs.lemmas.Bool.Decides.{Decides-eqb}
 use Rattle.std.specs.List.{All, slice_index_or}
 use Rattle.std.proofs.lemmas.Bool.{cases_lt}
@@ -23,14 +24,15 @@ use Rattle.clap.specs.declared.error.kind.ErrorKind.TheVariants as kind
 use Rattle.clap.specs.declared.parser.matches.ArgMatches.{ArgMatches}
 use Rattle.taos_node.specs.declared.wanted.Wanted.{Wanted}
 use Rattle.taos_lanes.specs.declared.lane.Limits.{Limits}
-use Rattle.taos_node.specs.Words.{Given, GivesLimits, HasNumber, IsMeaning, IsNumber, IsValue, Mean, ServeFrames, ServeLanes, TextsMean, GivesMint, MintWords, Task, Run, Check, Relay, Mint, Serve, lane_options, mint_options, serving_options, task_of, value_of, words_of}
-use Rattle.taos_node.specs.Table.{IsOfTable, IsOption, IsOptionOf, IsPlainWord, IsLanesOf, IsMintOf, IsServingOf, all_options, commands, taos_app, plain, option, alone, joined}
+use Rattle.taos_node.specs.Words.{Given, HasNumber, IsMeaning, IsNumber, IsValue, Mean, ServeFrames, ServeLanes, TextsMean, GivesMint, MintWords, Task, Run, Check, Relay, Mint, Serve, RelayServe, Audit, Drill, AsksDrill, DrillWords, lane_options, mint_options, serving_options, task_of, value_of, words_of}
+use Rattle.taos_node.specs.Table.{IsOfTable, IsOption, IsOptionOf, IsPlainWord, IsDrillOf, IsLanesOf, IsMintOf, IsServingOf, ReadsDrill, all_options, commands, taos_app, plain, option, alone, joined}
 use Rattle.taos_node.proofs.Made.{taos_is_simple}
 use Rattle.taos_node.proofs.Meanings as law
 use Rattle.std.proofs.Math.Path.{fun_ext}
 use Rattle.taos_node.proofs.Rows.{AreNew, first_of_rows, rows_for}
-use Rattle.taos_node.proofs.Levels.{Entry, IsFound, IsSplit, each_command, line_found, line_split}
-use Rattle.taos_node.proofs.Meanings.{IsTaken, TextMeaning, check_there, lanes_limits, lanes_line, mint_there, is_line, same_values, meant_found, other_command, relay_there, run_there, serve_line, serve_there, served_frames}
+use Rattle.taos_node.proofs.Drilled.{AreFew, no_words, one_word, two_words, three_words, rows_of_words}
+use Rattle.taos_node.proofs.Levels.{Entry, IsFound, IsSplit, has_options, has_words, drill_rows, each_command, line_found, line_split}
+use Rattle.taos_node.proofs.Meanings.{IsTaken, command_of, TextMeaning, audit_there, relay_serve_there, text_value, check_there, lanes_limits, lanes_line, mint_there, is_line, same_values, meant_found, other_command, relay_there, run_there, serve_line, serve_there, served_frames}
 use Rattle.std.specs.List.{flat_map}
 use Rattle.std.proofs.lemmas.List.{append-nil, append_cancel_left}
 use Rattle.std.specs.Prelude.{Contains}
@@ -66,17 +68,27 @@ pub narrower : (o : Option Text) (n : ℕ) → HasNumber (2 ^ 64) o n → n < 2 
 narrower None n is small = absurd is
 narrower (Some text) n is small = (is.0, small)
 
-zero_value : (text : Text) → text ≡ decimal 0 → IsValue text
-zero_value text is = subst IsValue (sym (is ∙ decimal_digit 0 (omega arith))) (λ dash. omega (arith, dash))
-
-text_value : (text : Text) (n : ℕ) → text ≡ decimal n → n < 2 ^ 64 → IsValue text
-text_value text zero is small = zero_value text is
-text_value text (suc n) is small = law.count_is_value text (suc n) (is, omega arith, small)
-
 -- the text of a number may be a value
 pub number_value : (o : Option Text) (n : ℕ) → HasNumber (2 ^ 64) o n → (v : Text) → o ≡ Some v → IsValue v
 number_value None n is v e = absurd is
 number_value (Some text) n is v e = subst IsValue (same_Some text v e) (text_value text n is.0 is.1)
+
+-- a number is below a larger bound too
+pub below_more : (small large : ℕ) → small ≤ large → (o : Option Text) (n : ℕ) → HasNumber small o n → HasNumber large o n
+below_more small large le None n is = absurd is
+below_more small large le (Some text) n is = (is.0, omega (arith, is.1, le))
+
+-- a text is one number
+pub same_number : (o : Option Text) (bound m n : ℕ) → bound ≤ 2 ^ 64 → HasNumber bound o m → HasNumber bound o n → m ≡ n
+same_number None bound m n small a b = absurd a
+same_number (Some text) bound m n small a b = decimal_injective m n (omega (arith, a.1, small)) (omega (arith, b.1, small)) (sym a.0 ∙ b.0)
+
+-- so it is no number below a bound where it is one at that bound or above
+pub not_below : (o : Option Text) (bound m n : ℕ) → HasNumber (2 ^ 32) o m → bound ≤ m → HasNumber bound o n → ⊥
+not_below None bound m n a over b = absurd a
+not_below (Some text) bound m n a over b =
+    let same : m ≡ n = decimal_injective m n (omega (arith, a.1)) (omega (arith, a.1, over, b.1)) (sym a.0 ∙ b.0) in
+    absurd (omega (arith, same, over, b.1))
 
 -- a text that is no number of 64 bits is none of 32
 pub none_narrower : (o : Option Text) → ((n : ℕ) → HasNumber (2 ^ 64) o n → ⊥) → (n : ℕ) → HasNumber (2 ^ 32) o n → ⊥
@@ -229,35 +241,81 @@ found_as : (texts : List Text) (c : Entry) (given : List Given) → Contains com
 found_as texts c given there are new = subst (λ (w : List Text). IsFound w c.0 given) (sym are) (line_found c there given new)
 
 taken_as : (texts : List Text) (c : Entry) (given : List Given) → Contains commands c → texts ≡ c.0 ∷ flat_map words_of given → AreNew c.1 [] given → IsTaken texts c.0
-taken_as texts c given there are new = (given, found_as texts c given there are new)
+taken_as texts c given there are new = (rows_for given, found_as texts c given there are new)
 
-only_run : (texts : List Text) → IsTaken texts (codes "run") → (wanted : Task) → TextsMean texts wanted → (n : ℕ) × ServeFrames texts (codes "run") n
+-- a task of another command is not what they mean
+not_other : {P : Type 0} (texts : List Text) (command : Text) (task : Task) → IsTaken texts command → bytes_eq (command_of task) command ≡ false → TextsMean texts task → P
+not_other texts command task taken apart is = absurd (other_command texts (command_of task) command apart (meant_found texts task is) taken)
+
+only_run : (texts : List Text) → IsTaken texts (codes "run") → (task : Task) → TextsMean texts task → (n : ℕ) × ServeFrames texts (codes "run") n
 only_run texts taken (Run n) is = (n, is)
-only_run texts taken (Mint m) is = absurd (other_command texts (codes "mint") (codes "run") refl (meant_found texts (Mint m) is) taken)
-only_run texts taken Check is = absurd (other_command texts (codes "check") (codes "run") refl (meant_found texts Check is) taken)
-only_run texts taken (Relay n) is = absurd (other_command texts (codes "relay") (codes "run") refl (meant_found texts (Relay n) is) taken)
-only_run texts taken (Serve l) is = absurd (other_command texts (codes "serve") (codes "run") refl (meant_found texts (Serve l) is) taken)
+only_run texts taken Check is = not_other texts (codes "run") Check taken refl is
+only_run texts taken (Relay n) is = not_other texts (codes "run") (Relay n) taken refl is
+only_run texts taken (Mint m) is = not_other texts (codes "run") (Mint m) taken refl is
+only_run texts taken (Serve l) is = not_other texts (codes "run") (Serve l) taken refl is
+only_run texts taken (RelayServe l) is = not_other texts (codes "run") (RelayServe l) taken refl is
+only_run texts taken (Audit n) is = not_other texts (codes "run") (Audit n) taken refl is
+only_run texts taken (Drill d) is = not_other texts (codes "run") (Drill d) taken refl is
 
-only_relay : (texts : List Text) → IsTaken texts (codes "relay") → (wanted : Task) → TextsMean texts wanted → (n : ℕ) × ServeFrames texts (codes "relay") n
+only_relay : (texts : List Text) → IsTaken texts (codes "relay") → (task : Task) → TextsMean texts task → (n : ℕ) × ServeFrames texts (codes "relay") n
 only_relay texts taken (Relay n) is = (n, is)
-only_relay texts taken (Mint m) is = absurd (other_command texts (codes "mint") (codes "relay") refl (meant_found texts (Mint m) is) taken)
-only_relay texts taken Check is = absurd (other_command texts (codes "check") (codes "relay") refl (meant_found texts Check is) taken)
-only_relay texts taken (Run n) is = absurd (other_command texts (codes "run") (codes "relay") refl (meant_found texts (Run n) is) taken)
-only_relay texts taken (Serve l) is = absurd (other_command texts (codes "serve") (codes "relay") refl (meant_found texts (Serve l) is) taken)
+only_relay texts taken (Run n) is = not_other texts (codes "relay") (Run n) taken refl is
+only_relay texts taken Check is = not_other texts (codes "relay") Check taken refl is
+only_relay texts taken (Mint m) is = not_other texts (codes "relay") (Mint m) taken refl is
+only_relay texts taken (Serve l) is = not_other texts (codes "relay") (Serve l) taken refl is
+only_relay texts taken (RelayServe l) is = not_other texts (codes "relay") (RelayServe l) taken refl is
+only_relay texts taken (Audit n) is = not_other texts (codes "relay") (Audit n) taken refl is
+only_relay texts taken (Drill d) is = not_other texts (codes "relay") (Drill d) taken refl is
 
 only_mint : (texts : List Text) → IsTaken texts (codes "mint") → (task : Task) → TextsMean texts task → (m : MintWords) × TextsMean texts (Mint m)
 only_mint texts taken (Mint m) is = (m, is)
-only_mint texts taken Check is = absurd (other_command texts (codes "check") (codes "mint") refl (meant_found texts Check is) taken)
-only_mint texts taken (Run n) is = absurd (other_command texts (codes "run") (codes "mint") refl (meant_found texts (Run n) is) taken)
-only_mint texts taken (Relay n) is = absurd (other_command texts (codes "relay") (codes "mint") refl (meant_found texts (Relay n) is) taken)
-only_mint texts taken (Serve l) is = absurd (other_command texts (codes "serve") (codes "mint") refl (meant_found texts (Serve l) is) taken)
+only_mint texts taken (Run n) is = not_other texts (codes "mint") (Run n) taken refl is
+only_mint texts taken Check is = not_other texts (codes "mint") Check taken refl is
+only_mint texts taken (Relay n) is = not_other texts (codes "mint") (Relay n) taken refl is
+only_mint texts taken (Serve l) is = not_other texts (codes "mint") (Serve l) taken refl is
+only_mint texts taken (RelayServe l) is = not_other texts (codes "mint") (RelayServe l) taken refl is
+only_mint texts taken (Audit n) is = not_other texts (codes "mint") (Audit n) taken refl is
+only_mint texts taken (Drill d) is = not_other texts (codes "mint") (Drill d) taken refl is
 
 only_serve : (texts : List Text) → IsTaken texts (codes "serve") → (task : Task) → TextsMean texts task → (limits : Limits) × ServeLanes texts (codes "serve") limits
 only_serve texts taken (Serve l) is = (l, is)
-only_serve texts taken Check is = absurd (other_command texts (codes "check") (codes "serve") refl (meant_found texts Check is) taken)
-only_serve texts taken (Run n) is = absurd (other_command texts (codes "run") (codes "serve") refl (meant_found texts (Run n) is) taken)
-only_serve texts taken (Relay n) is = absurd (other_command texts (codes "relay") (codes "serve") refl (meant_found texts (Relay n) is) taken)
-only_serve texts taken (Mint m) is = absurd (other_command texts (codes "mint") (codes "serve") refl (meant_found texts (Mint m) is) taken)
+only_serve texts taken (Run n) is = not_other texts (codes "serve") (Run n) taken refl is
+only_serve texts taken Check is = not_other texts (codes "serve") Check taken refl is
+only_serve texts taken (Relay n) is = not_other texts (codes "serve") (Relay n) taken refl is
+only_serve texts taken (Mint m) is = not_other texts (codes "serve") (Mint m) taken refl is
+only_serve texts taken (RelayServe l) is = not_other texts (codes "serve") (RelayServe l) taken refl is
+only_serve texts taken (Audit n) is = not_other texts (codes "serve") (Audit n) taken refl is
+only_serve texts taken (Drill d) is = not_other texts (codes "serve") (Drill d) taken refl is
+
+only_relay_serve : (texts : List Text) → IsTaken texts (codes "relay-serve") → (task : Task) → TextsMean texts task → (limits : Limits) × ServeLanes texts (codes "relay-serve") limits
+only_relay_serve texts taken (RelayServe l) is = (l, is)
+only_relay_serve texts taken (Run n) is = not_other texts (codes "relay-serve") (Run n) taken refl is
+only_relay_serve texts taken Check is = not_other texts (codes "relay-serve") Check taken refl is
+only_relay_serve texts taken (Relay n) is = not_other texts (codes "relay-serve") (Relay n) taken refl is
+only_relay_serve texts taken (Mint m) is = not_other texts (codes "relay-serve") (Mint m) taken refl is
+only_relay_serve texts taken (Serve l) is = not_other texts (codes "relay-serve") (Serve l) taken refl is
+only_relay_serve texts taken (Audit n) is = not_other texts (codes "relay-serve") (Audit n) taken refl is
+only_relay_serve texts taken (Drill d) is = not_other texts (codes "relay-serve") (Drill d) taken refl is
+
+only_audit : (texts : List Text) → IsTaken texts (codes "audit") → (task : Task) → TextsMean texts task → (n : ℕ) × ServeFrames texts (codes "audit") n
+only_audit texts taken (Audit n) is = (n, is)
+only_audit texts taken (Run n) is = not_other texts (codes "audit") (Run n) taken refl is
+only_audit texts taken Check is = not_other texts (codes "audit") Check taken refl is
+only_audit texts taken (Relay n) is = not_other texts (codes "audit") (Relay n) taken refl is
+only_audit texts taken (Mint m) is = not_other texts (codes "audit") (Mint m) taken refl is
+only_audit texts taken (Serve l) is = not_other texts (codes "audit") (Serve l) taken refl is
+only_audit texts taken (RelayServe l) is = not_other texts (codes "audit") (RelayServe l) taken refl is
+only_audit texts taken (Drill d) is = not_other texts (codes "audit") (Drill d) taken refl is
+
+only_drill : (texts : List Text) → IsTaken texts (codes "drill") → (task : Task) → TextsMean texts task → (d : DrillWords) × AsksDrill texts d
+only_drill texts taken (Drill d) is = (d, is)
+only_drill texts taken (Run n) is = not_other texts (codes "drill") (Run n) taken refl is
+only_drill texts taken Check is = not_other texts (codes "drill") Check taken refl is
+only_drill texts taken (Relay n) is = not_other texts (codes "drill") (Relay n) taken refl is
+only_drill texts taken (Mint m) is = not_other texts (codes "drill") (Mint m) taken refl is
+only_drill texts taken (Serve l) is = not_other texts (codes "drill") (Serve l) taken refl is
+only_drill texts taken (RelayServe l) is = not_other texts (codes "drill") (RelayServe l) taken refl is
+only_drill texts taken (Audit n) is = not_other texts (codes "drill") (Audit n) taken refl is
 
 -- what the program reads of each command's rows
 pub record IsReadAs (m : ArgMatches) (r : Option Wanted) : Type 0 where
@@ -266,6 +324,18 @@ pub record IsReadAs (m : ArgMatches) (r : Option Wanted) : Type 0 where
   pub relay : (rows : List Row) → subcommand_rows_of m ≡ Some (codes "relay", rows) → IsServingOf (λ n. Relay n) (first_of (codes "frames") rows) r
   pub mint : (rows : List Row) → subcommand_rows_of m ≡ Some (codes "mint", rows) → IsMintOf (λ name. first_of name rows) r
   pub serve : (rows : List Row) → subcommand_rows_of m ≡ Some (codes "serve", rows) → IsLanesOf (λ limits. Serve limits) (λ name. first_of name rows) r
+  pub relay_serve : (rows : List Row) → subcommand_rows_of m ≡ Some (codes "relay-serve", rows) → IsLanesOf (λ limits. RelayServe limits) (λ name. first_of name rows) r
+  pub audit : (rows : List Row) → subcommand_rows_of m ≡ Some (codes "audit", rows) → IsServingOf (λ n. Audit n) (first_of (codes "frames") rows) r
+  pub drill : (rows : List Row) → subcommand_rows_of m ≡ Some (codes "drill", rows) → IsDrillOf (λ name. first_of name rows) r
+
+-- what three words give is read of their rows
+reads_three : (a b c : Text) (d : DrillWords) → AsksDrill (codes "drill" ∷ a ∷ b ∷ c ∷ []) d → ReadsDrill (λ name. first_of name (rows_of_words (a ∷ b ∷ c ∷ []))) d
+reads_three a b c d (seed, requests, lanes, is, gives) = record {
+  seed = subst (λ t. IsNumber (2 ^ 64) t d.seed) (sym (ap (λ (l : List Text). get_or l 1 []) is)) gives.seed;
+  requests = subst (λ t. IsNumber 10001 t d.requests) (sym (ap (λ (l : List Text). get_or l 2 []) is)) gives.requests;
+  lanes = subst (λ t. IsNumber 17 t d.lanes) (sym (ap (λ (l : List Text). get_or l 3 []) is)) gives.lanes;
+  some = gives.some;
+}
 
 module _ (texts : List Text) (m : ArgMatches) (r : Option Wanted) (read : IsReadAs m r) (same : ◌≡◌ {A = Option (Text × List Row)} (subcommand_rows_of m) (subcommand_of taos_app texts)) where
   -- what is read of a line of this command is what it means
@@ -318,8 +388,59 @@ module _ (texts : List Text) (m : ArgMatches) (r : Option Wanted) (read : IsRead
           none o.0 (subst (λ g. GivesMint g o.0) (fun_ext same) o.1.2)
           (λ name v has e. law.value_is o.1.0 o.1.1.values name v (same name ∙ e))
 
+  relay_serve_means : MeansIt (codes "relay-serve", lane_options)
+  relay_serve_means given are new =
+      lanes_mean texts (codes "relay-serve") (λ limits. RelayServe limits) given r (λ limits is. is) (only_relay_serve texts (taken_as texts (codes "relay-serve", lane_options) given relay_serve_there are new)) relay_serve_there are new
+      (subst (λ f. IsLanesOf (λ limits. RelayServe limits) f r) (same_texts given) (read.relay_serve (rows_for given) (rows_found (codes "relay-serve", lane_options) given relay_serve_there are new)))
+
+  audit_means : MeansIt (codes "audit", serving_options)
+  audit_means given are new =
+      serving_means texts (codes "audit") (λ n. Audit n) given r (λ n is. is) (only_audit texts (taken_as texts (codes "audit", serving_options) given audit_there are new)) audit_there are new
+      (subst (λ o. IsServingOf (λ n. Audit n) o r) (first_of_rows (codes "frames") given) (read.audit (rows_for given) (rows_found (codes "audit", serving_options) given audit_there are new)))
+
+  drill_means : (ws : List Text) → texts ≡ codes "drill" ∷ ws → AreFew ws → TextMeaning texts r
+  drill_means ws are few = by few r (read.drill (rows_of_words ws) rows)
+    where
+      rows : ◌≡◌ {A = Option (Text × List Row)} (subcommand_rows_of m) (Some (codes "drill", rows_of_words ws))
+      rows = same ∙ (ap (subcommand_of taos_app) are ∙ drill_rows ws few)
+
+      -- `drill` has three words in a line that means it
+      asked : (l : List Text) → ws ≡ l → (task : Task) → TextsMean texts task → (d : DrillWords) × AsksDrill (codes "drill" ∷ l) d
+      asked l is task means =
+          let taken : IsTaken texts (codes "drill") = asked_taken task means in
+          let o = only_drill texts taken task means in
+          (o.0, subst (λ t. AsksDrill t o.0) (are ∙ ap (λ (k : List Text). codes "drill" ∷ k) is) o.1)
+        where
+          asked_taken : (t : Task) → TextsMean texts t → IsTaken texts (codes "drill")
+          asked_taken t is_meant =
+              let f = meant_found texts t is_meant in
+              (rows_of_words ws, record { known = f.1.known; no_fault = f.1.no_fault; found = ap (subcommand_of taos_app) are ∙ drill_rows ws few })
+
+      too_few : (l : List Text) → length l < 3 → (d : DrillWords) → AsksDrill (codes "drill" ∷ l) d → ⊥
+      too_few l less d (seed, requests, lanes, is, gives) = absurd (omega (arith, less, ap (λ (k : List Text). length k) is))
+
+      few_mean : (l : List Text) → ws ≡ l → length l < 3 → ((d : DrillWords) → ReadsDrill (λ name. first_of name (rows_of_words l)) d → ⊥) → (o : Option Wanted) → IsDrillOf (λ name. first_of name (rows_of_words ws)) o → TextMeaning texts o
+      few_mean l is less lacks (Some w) read_it = absurd (lacks read_it.0 (subst (λ k. ReadsDrill (λ name. first_of name (rows_of_words k)) read_it.0) is read_it.2))
+      few_mean l is less lacks None none = λ task means. let o = asked l is task means in too_few l less o.0 o.1
+
+      three_mean : (a b c : Text) → ws ≡ a ∷ b ∷ c ∷ [] → (o : Option Wanted) → IsDrillOf (λ name. first_of name (rows_of_words ws)) o → TextMeaning texts o
+      three_mean a b c is (Some w) read_it =
+          let gives = subst (λ k. ReadsDrill (λ name. first_of name (rows_of_words k)) read_it.0) is read_it.2 in
+          subst (TextsMean texts) (sym read_it.1) (a, b, c, are ∙ ap (λ (k : List Text). codes "drill" ∷ k) is, record { seed = gives.seed; requests = gives.requests; lanes = gives.lanes; some = gives.some })
+      three_mean a b c is None none = λ task means.
+          let o = asked (a ∷ b ∷ c ∷ []) is task means in
+          none o.0 (subst (λ k. ReadsDrill (λ name. first_of name (rows_of_words k)) o.0) (sym is) (reads_three a b c o.0 o.1))
+
+      by : AreFew ws → (o : Option Wanted) → IsDrillOf (λ name. first_of name (rows_of_words ws)) o → TextMeaning texts o
+      by (no_words is) o read_it = few_mean [] is (omega arith) (λ d x. x.lanes) o read_it
+      by (one_word a pa is) o read_it = few_mean (a ∷ []) is (omega arith) (λ d x. x.lanes) o read_it
+      by (two_words a b pa pb is) o read_it = few_mean (a ∷ b ∷ []) is (omega arith) (λ d x. x.lanes) o read_it
+      by (three_words a b c pa pb pc is) o read_it = three_mean a b c is o read_it
+
   read_means : IsSplit texts → TextMeaning texts r
-  read_means split = each_command MeansIt run_means check_means relay_means mint_means serve_means split.command split.there split.given split.are split.new
+  read_means (has_options command there given are new) =
+      each_command MeansIt run_means check_means relay_means mint_means serve_means relay_serve_means audit_means command there given are new
+  read_means (has_words ws are few) = drill_means ws are few
 
 as_meaning : (words : List (String Global)) (r : Option Wanted) → TextMeaning (map string_bytes words) r → IsMeaning words r
 as_meaning words (Some wanted) is = is

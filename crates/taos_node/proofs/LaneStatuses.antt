@@ -7,43 +7,61 @@ use Rattle.agent_shards.specs.Each.{Each3}
 use Rattle.frame_link.specs.declared.outcome.Outcome.{Outcome}
 use Rattle.frame_link.specs.declared.outcome.Outcome.TheVariants.{End, Truncated, TooLong, ReadFault, WriteFault, ClockFault, Spent, NoMemory}
 use Rattle.node_file.specs.Opening.{Opening}
+use Rattle.node_file.specs.RelayFile.{RelayFile}
 use Rattle.node_file.specs.declared.fault.FileFault.TheVariants.{Line, Byte}
 use Rattle.taos_lanes.specs.declared.lane.Limits.{Limits}
 use Rattle.taos_lanes.specs.Doors.{DoorSeen}
 use Rattle.taos_lanes.specs.Joining.{HasOtherWork}
 use Rattle.taos_lanes.specs.Lanes.{LaneRun}
+use Rattle.taos_lanes.specs.declared.total.Total.{Total}
+use Rattle.taos_lanes.specs.Relaying.{IsRelayRunOf, RelayRun}
 use Rattle.taos_lanes.specs.Serving.{IsRunOf}
 use Rattle.taos_lanes.specs.Stocked.{LaneShown}
 use Rattle.taos_lanes.specs.Working.{HasDoorCause}
-use Rattle.taos_monitor.specs.Cells.{Node}
 use Rattle.taos_node.specs.declared.check.CheckEnd.{CheckEnd}
 use Rattle.taos_node.specs.declared.check.CheckEnd.TheVariants as ends
 use Rattle.taos_node.specs.declared.ending.Ending.{Ending}
 use Rattle.taos_node.specs.declared.ending.Ending.TheVariants as ending
-use Rattle.taos_node.specs.declared.ending.Ending.TheVariants.{Usage, File, Served, Checked, Relayed, Minted, Lanes}
+use Rattle.taos_node.specs.declared.ending.Ending.TheVariants.{Usage, File, Served, Checked, Relayed, Minted, Lanes, RelayLanes, Audited, Drilled}
 use Rattle.taos_node.specs.declared.ending.FileFault.{FileFault}
 use Rattle.taos_node.specs.declared.ending.FileFault.TheVariants as fault
 use Rattle.taos_node.specs.declared.ending.FileFault.TheVariants.{Malformed, Refused}
+use Rattle.taos_node.specs.declared.ending.AuditEnd.{AuditEnd}
+use Rattle.taos_node.specs.declared.ending.AuditEnd.TheVariants as audits
+use Rattle.taos_node.specs.declared.ending.DrillEnd.{DrillEnd}
+use Rattle.taos_node.specs.declared.ending.DrillEnd.TheVariants as drills
 use Rattle.taos_node.specs.declared.ending.LanesEnd.{LanesEnd}
 use Rattle.taos_node.specs.declared.ending.LanesEnd.TheVariants as lanes
 use Rattle.taos_node.specs.declared.finding.Finding.TheVariants.{Granted, Refused as Wrong}
 use Rattle.taos_node.specs.declared.minting.MintEnd.{MintEnd}
 use Rattle.taos_node.specs.declared.minting.MintEnd.TheVariants as made
-use Rattle.taos_node.specs.Command.{Does, FileDecidesFor, HasSameCount, HasSteadyDoor, IsCaused, IsCommand, IsServe, IsStatus, Runs, RunsAlone, TellsDoors, TellsFaults, Touched}
-use Rattle.taos_node.specs.Ending.{checked_status, file_status, lanes_status, served_status, status_of}
-use Rattle.taos_node.specs.Files.{FaultHasCause, FileFails, IsNodeFile, IsSteady, OpensNode, node_means}
-use Rattle.taos_node.specs.Lanes.{HasNoneFailed, LanesCauses, Prints, ServesLanes, ServesOpening, served, unserved}
+use Rattle.taos_node.specs.Command.{Does, FileDecidesFor, HasSameCount, HasSteadyDoor, IsCaused, IsCommand, IsStatus, ServesDoors, Runs, RunsAlone, TellsDoors, Touched}
+use Rattle.taos_node.specs.Ending.{audited_status, checked_status, drilled_status, file_status, lanes_status, served_status, status_of}
+use Rattle.taos_node.specs.Files.{FaultHasCause, FileFails, IsNodeFile, IsRelayFile, IsSteady, Meaning, node_means, relay_means}
+use Rattle.taos_node.specs.Lanes.{HasNoneFailed, LanesCauses, PrintsLine, ServesLanes, served, unserved}
+use Rattle.taos_node.specs.RelayLanes.{RelaysDoors}
 use Rattle.taos_node.specs.Minting.{minted_status}
-use Rattle.taos_node.specs.Summary.{Left}
-use Rattle.taos_node.specs.Words.{Check, Mean, Mint, MintWords, Relay, Run, Serve, Task}
-use Rattle.taos_node.proofs.Commands.{decided_opened, node_files, not_refused, still}
+use Rattle.taos_node.specs.Words.{Audit, Check, Drill, Mean, Mint, Relay, RelayServe, Run, Serve, Task}
+use Rattle.taos_node.proofs.Commands.{IsMeantBy, node_files, not_refused, relay_files, still}
 use Rattle.taos_node.proofs.Statuses.{not_caused, of_command, stayed, two_commands}
 
 -- ---- the other commands
 
+-- the command serves lanes
+abbrev pub IsLaneTask : Task → Type 0
+IsLaneTask (Serve limits) = Unit {0}
+IsLaneTask (RelayServe limits) = Unit {0}
+IsLaneTask other = ⊥
+
 -- words of another command serve no lanes
-pub other_words : (words : List (String Global)) (a : Task) → Mean words a → ((limits : Limits) → a ≡ Serve limits → ⊥) → IsServe words → ⊥
-other_words words a is apart serve = two_commands words a (Serve serve.0) is serve.1 (apart serve.0)
+pub other_words : (words : List (String Global)) (a : Task) → Mean words a → (IsLaneTask a → ⊥) → ServesDoors words → ⊥
+other_words words a is apart (inl serve) = two_commands words a (Serve serve.0) is serve.1 (λ e. apart (subst IsLaneTask (sym e) tt))
+other_words words a is apart (inr serve) = two_commands words a (RelayServe serve.0) is serve.1 (λ e. apart (subst IsLaneTask (sym e) tt))
+
+-- nor do words of no command
+pub none_serves : (words : List (String Global)) → (IsCommand words → ⊥) → ServesDoors words → ⊥
+none_serves words none (inl serve) = none (Serve serve.0, serve.1)
+none_serves words none (inr serve) = none (RelayServe serve.0, serve.1)
 
 pub not_nine_file : (f : FileFault) → file_status f ≢ 9
 not_nine_file (Malformed offset) = λ e. omega (arith, e)
@@ -74,6 +92,17 @@ not_nine_mint (made.Refused w) = λ e. omega (arith, e)
 not_nine_mint made.WriteFault = λ e. omega (arith, e)
 not_nine_mint made.NoMemory = λ e. omega (arith, e)
 
+not_nine_audit : (end : AuditEnd) → audited_status end ≢ 9
+not_nine_audit audits.Done = λ e. omega (arith, e)
+not_nine_audit (audits.Stopped outcome) = not_nine_served outcome
+not_nine_audit audits.WriteFault = λ e. omega (arith, e)
+not_nine_audit audits.NoMemory = λ e. omega (arith, e)
+
+not_nine_drill : (end : DrillEnd) → drilled_status end ≢ 9
+not_nine_drill drills.Done = λ e. omega (arith, e)
+not_nine_drill drills.WriteFault = λ e. omega (arith, e)
+not_nine_drill drills.NoMemory = λ e. omega (arith, e)
+
 -- where no lanes are served no door fault is answered
 not_nine : (words : List (String Global)) (before after : Touched) (e : Ending) → RunsAlone words before after e → status_of e ≢ 9
 not_nine words before after Usage r = λ e. omega (arith, e)
@@ -83,7 +112,10 @@ not_nine words before after (Served outcome) r = not_nine_served outcome
 not_nine words before after (Checked end) r = not_nine_check end
 not_nine words before after (Relayed outcome) r = not_nine_served outcome
 not_nine words before after (Minted end) r = not_nine_mint end
+not_nine words before after (Audited end) r = not_nine_audit end
+not_nine words before after (Drilled end) r = not_nine_drill end
 not_nine words before after (Lanes end) r = absurd r
+not_nine words before after (RelayLanes end) r = absurd r
 
 module _ {In Out : Type 0} (left : In → Option (List ℕ)) (written : Out → Option (List ℕ)) (words : List (String Global)) (before after : Touched) (lanes0 lanes1 : List (LaneShown (In × Out))) where
   alone_runs : (e : Ending) → RunsAlone words before after e → drop 1 lanes1 ≡ drop 1 lanes0 → Runs left written words before after lanes0 lanes1 e
@@ -94,14 +126,17 @@ module _ {In Out : Type 0} (left : In → Option (List ℕ)) (written : Out → 
   alone_runs (Checked end) r others = (r, others)
   alone_runs (Relayed outcome) r others = (r, others)
   alone_runs (Minted end) r others = (r, others)
+  alone_runs (Audited end) r others = (r, others)
+  alone_runs (Drilled end) r others = (r, others)
   alone_runs (Lanes end) r others = absurd r
+  alone_runs (RelayLanes end) r others = absurd r
 
   -- a command that serves no lanes
-  pub alone : (e : Ending) → RunsAlone words before after e → IsStatus words before after (status_of e) → drop 1 lanes1 ≡ drop 1 lanes0 → (IsServe words → ⊥) → Does left written words before after lanes0 lanes1 e
+  pub alone : (e : Ending) → RunsAlone words before after e → IsStatus words before after (status_of e) → drop 1 lanes1 ≡ drop 1 lanes0 → (ServesDoors words → ⊥) → Does left written words before after lanes0 lanes1 e
   alone e r status others none = record {
     runs = alone_runs e r others;
     status = status;
-    doors = record { caused = λ nine. absurd (not_nine words before after e r nine); told = λ serve. absurd (none serve); well = λ serve. absurd (none serve) };
+    doors = record { caused = λ nine. absurd (not_nine words before after e r nine); told = λ serve. absurd (none serve); well = λ serve. absurd (none (inl serve)); relays_well = λ serve. absurd (none (inr serve)) };
   }
 
 -- ---- doors that nobody asked
@@ -122,24 +157,43 @@ module _ {In Out : Type 0} (left : In → Option (List ℕ)) (written : Out → 
   unread_does r status = record {
     runs = (r, refl);
     status = status;
-    doors = record { caused = λ nine. absurd (omega (arith, nine)); told = λ serve other. same_doors l; well = λ serve bytes o told is sf so steady. inr refl };
+    doors = record { caused = λ nine. absurd (omega (arith, nine)); told = λ serve other. same_doors l; well = λ serve bytes o told is sf so steady. inr refl; relays_well = λ serve bytes r told is sf so steady. inr refl };
   }
 
+  file_well : {A : Type 0} (Means : A → List ℕ → Type 0) (means : Meaning A) (laws : IsMeantBy Means means) (f : FileFault) → FileFails means before.file after.file f → FaultHasCause before.file after.file f →
+      (bytes : List ℕ) (a : A) → before.file.told ≡ Some bytes → Means a bytes → IsSteady before.file after.file → (file_status f ≡ 0) ⊎ (file_status f ≡ 6)
+  file_well Means means laws (Refused line cause) bad why bytes a told is sf = absurd (not_refused Means means laws before.file after.file bytes a (Line line cause) bad told is)
+  file_well Means means laws (Malformed offset) bad why bytes a told is sf = absurd (not_refused Means means laws before.file after.file bytes a (Byte offset) bad told is)
+  file_well Means means laws fault.ReadFault bad why bytes a told is sf = absurd (still before.file.faults after.file.faults sf why.1)
+  file_well Means means laws fault.NoMemory bad why bytes a told is sf = inr refl
+
   -- the file of the command that serves lanes was not served
-  pub file_does : (f : FileFault) → RunsAlone words before after (File f) → IsStatus words before after (file_status f) → FileFails node_means before.file after.file f → FaultHasCause before.file after.file f →
-      Does left written words before after l l (File f)
-  file_does f r status bad cause = record {
+  pub file_does : (limits : Limits) (f : FileFault) → Mean words (Serve limits) → RunsAlone words before after (File f) → IsStatus words before after (file_status f) → FileFails node_means before.file after.file f →
+      FaultHasCause before.file after.file f → Does left written words before after l l (File f)
+  file_does limits f serve r status bad cause = record {
     runs = (r, refl);
     status = status;
-    doors = record { caused = λ nine. absurd (not_nine_file f nine); told = λ serve other. same_doors l; well = λ serve bytes o told is sf so steady. by f bad cause bytes o told is sf };
+    doors = record {
+      caused = λ nine. absurd (not_nine_file f nine);
+      told = λ is other. same_doors l;
+      well = λ is bytes o told means sf so steady. file_well IsNodeFile node_means node_files f bad cause bytes o told means sf;
+      relays_well = λ relay. two_commands words (Serve limits) (RelayServe relay.0) serve relay.1 (λ e. cc e);
+    };
   }
-    where
-      by : (g : FileFault) → FileFails node_means before.file after.file g → FaultHasCause before.file after.file g → (bytes : List ℕ) (o : Opening) → before.file.told ≡ Some bytes → IsNodeFile o bytes → IsSteady before.file after.file →
-          (file_status g ≡ 0) ⊎ (file_status g ≡ 6)
-      by (Refused line cause) bad why bytes o told is sf = absurd (not_refused IsNodeFile node_means node_files before.file after.file bytes o (Line line cause) bad told is)
-      by (Malformed offset) bad why bytes o told is sf = absurd (not_refused IsNodeFile node_means node_files before.file after.file bytes o (Byte offset) bad told is)
-      by fault.ReadFault bad why bytes o told is sf = absurd (still before.file.faults after.file.faults sf why.1)
-      by fault.NoMemory bad why bytes o told is sf = inr refl
+
+  -- nor that of the command that serves them as a relay
+  pub relay_file_does : (limits : Limits) (f : FileFault) → Mean words (RelayServe limits) → RunsAlone words before after (File f) → IsStatus words before after (file_status f) → FileFails relay_means before.file after.file f →
+      FaultHasCause before.file after.file f → Does left written words before after l l (File f)
+  relay_file_does limits f relay r status bad cause = record {
+    runs = (r, refl);
+    status = status;
+    doors = record {
+      caused = λ nine. absurd (not_nine_file f nine);
+      told = λ is other. same_doors l;
+      well = λ serve. two_commands words (RelayServe limits) (Serve serve.0) relay serve.1 (λ e. cc e);
+      relays_well = λ is bytes q told means sf so steady. file_well IsRelayFile relay_means relay_files f bad cause bytes q told means sf;
+    };
+  }
 
 -- ---- the first lane whose door failed
 
@@ -154,32 +208,59 @@ same_run : (failed : Bool) (b a : ℕ) → HasDoorCause failed b a → failed �
 same_run true b a cause is = absurd (cc is)
 same_run false b a cause is = cause
 
-module _ {In Out : Type 0} (left : In → Option (List ℕ)) (written : Out → Option (List ℕ)) {n : Node} {limit : ℕ} (most : ℕ) where
-  abbrev first_in : List (LaneRun n limit) → ℕ
-  first_in runs = position_or_len (λ (run : LaneRun n limit). run.door_failed) runs
+module _ {X R : Type 0} (Is : LaneShown X → LaneShown X → R → Type 0) (failed : R → Bool) (cause : (x y : LaneShown X) (r : R) → Is x y r → HasDoorCause (failed r) x.door.faults y.door.faults) where
+  abbrev first_in : List R → ℕ
+  first_in runs = position_or_len failed runs
 
-  abbrev first_by : Bool → List (LaneRun n limit) → ℕ
-  first_by failed runs = cond (not failed) (1 + first_in runs) 0
+  abbrev first_by : Bool → List R → ℕ
+  first_by b runs = cond (not b) (1 + first_in runs) 0
 
   -- where each door was steady none failed
-  pub none_failed : (xs ys : List (LaneShown (In × Out))) (runs : List (LaneRun n limit)) → Each3 (IsRunOf left written most) xs ys runs → AllZip HasSteadyDoor xs ys → first_in runs ≡ length runs
+  none_failed : (xs ys : List (LaneShown X)) (runs : List R) → Each3 Is xs ys runs → AllZip HasSteadyDoor xs ys → first_in runs ≡ length runs
   none_failed [] [] [] each steady = refl
   none_failed (x ∷ xs) (y ∷ ys) (r ∷ runs) each steady =
-      let at : first_in (r ∷ runs) ≡ 1 + first_in runs = ap (λ (b : Bool). first_by b runs) (steady_run r.door_failed x.door.faults y.door.faults each.0.cause steady.0) in
+      let at : first_in (r ∷ runs) ≡ 1 + first_in runs = ap (λ (b : Bool). first_by b runs) (steady_run (failed r) x.door.faults y.door.faults (cause x y r each.0) steady.0) in
       omega (arith, at, none_failed xs ys runs each.1 steady.1)
   none_failed _ _ _ each steady = absurd each
 
   -- and where none failed each count stayed
-  pub none_rose : (xs ys : List (LaneShown (In × Out))) (runs : List (LaneRun n limit)) → Each3 (IsRunOf left written most) xs ys runs → length runs ≤ first_in runs → AllZip HasSameCount xs ys
+  none_rose : (xs ys : List (LaneShown X)) (runs : List R) → Each3 Is xs ys runs → length runs ≤ first_in runs → AllZip HasSameCount xs ys
   none_rose [] [] [] each all = tt
   none_rose (x ∷ xs) (y ∷ ys) (r ∷ runs) each all =
-      let here = by r.door_failed refl in
-      (same_run r.door_failed x.door.faults y.door.faults each.0.cause here.0, none_rose xs ys runs each.1 here.1)
+      let here = by (failed r) refl in
+      (same_run (failed r) x.door.faults y.door.faults (cause x y r each.0) here.0, none_rose xs ys runs each.1 here.1)
     where
-      by : (b : Bool) → r.door_failed ≡ b → (r.door_failed ≡ false) × (length runs ≤ first_in runs)
+      by : (b : Bool) → failed r ≡ b → (failed r ≡ false) × (length runs ≤ first_in runs)
       by true is = let at : first_in (r ∷ runs) ≡ 0 = ap (λ (b : Bool). first_by b runs) is in absurd (omega (arith, all, at))
       by false is = let at : first_in (r ∷ runs) ≡ 1 + first_in runs = ap (λ (b : Bool). first_by b runs) is in (is, omega (arith, all, at))
   none_rose _ _ _ each all = absurd each
+
+  -- what is printed of what these counted tells of the doors
+  module _ (xs ys : List (LaneShown X)) (runs : List R) (each : Each3 Is xs ys runs) (total : Total) (many : total.lanes ≡ length runs) (first : total.first_failed ≡ first_in runs) where
+    none_first : AllZip HasSteadyDoor xs ys → total.first_failed ≡ total.lanes
+    none_first steady = first ∙ (none_failed xs ys runs each steady ∙ sym many)
+
+    counts_stay : HasNoneFailed total → AllZip HasSameCount xs ys
+    counts_stay none = none_rose xs ys runs each (no_less none many first)
+
+    pub line_nine : (text : List ℕ) (out0 out1 : Option (List ℕ)) (end : LanesEnd) → PrintsLine total text out0 out1 end → lanes_status end ≡ 9 → AllZip HasSteadyDoor xs ys → ⊥
+    line_nine text out0 out1 lanes.Done p nine steady = absurd (omega (arith, nine))
+    line_nine text out0 out1 (lanes.DoorFault lane) p nine steady = absurd (omega (arith, p.0, p.1, none_first steady))
+    line_nine text out0 out1 lanes.WriteFault p nine steady = absurd (omega (arith, nine))
+    line_nine text out0 out1 lanes.NoMemory p nine steady = absurd (omega (arith, nine))
+
+    pub line_same : (text : List ℕ) (out0 out1 : Option (List ℕ)) (end : LanesEnd) → PrintsLine total text out0 out1 end → lanes_status end ≢ 9 → AllZip HasSameCount xs ys
+    line_same text out0 out1 lanes.Done p other = counts_stay p.0.doors
+    line_same text out0 out1 (lanes.DoorFault lane) p other = absurd (other refl)
+    line_same text out0 out1 lanes.WriteFault p other = counts_stay p.0.doors
+    line_same text out0 out1 lanes.NoMemory p other = counts_stay p.0
+
+    pub line_well : (text : List ℕ) (before after : Touched) (end : LanesEnd) → PrintsLine total text before.output.told after.output.told end → LanesCauses before.output.faults after.output.faults end →
+        IsSteady before.output after.output → AllZip HasSteadyDoor xs ys → (lanes_status end ≡ 0) ⊎ (lanes_status end ≡ 6)
+    line_well text before after lanes.Done p h so steady = inl refl
+    line_well text before after (lanes.DoorFault lane) p h so steady = absurd (omega (arith, p.0, p.1, none_first steady))
+    line_well text before after lanes.WriteFault p h so steady = absurd (still before.output.faults after.output.faults so h.1)
+    line_well text before after lanes.NoMemory p h so steady = inr refl
 
 -- ---- lanes that served
 
@@ -189,7 +270,7 @@ not_one_lanes (lanes.DoorFault lane) = λ e. omega (arith, e)
 not_one_lanes lanes.WriteFault = λ e. omega (arith, e)
 not_one_lanes lanes.NoMemory = λ e. omega (arith, e)
 
-not_two_lanes : (end : LanesEnd) → lanes_status end ≢ 2
+pub not_two_lanes : (end : LanesEnd) → lanes_status end ≢ 2
 not_two_lanes lanes.Done = λ e. omega (arith, e)
 not_two_lanes (lanes.DoorFault lane) = λ e. omega (arith, e)
 not_two_lanes lanes.WriteFault = λ e. omega (arith, e)
@@ -208,68 +289,53 @@ module _ (before after : Touched) where
   lanes_output lanes.WriteFault h = λ _. refl
   lanes_output lanes.NoMemory h = stayed before.output.faults after.output.faults h
 
-  pub lanes_tell : (words : List (String Global)) (limits : Limits) (o : Opening) (end : LanesEnd) → Mean words (Serve limits) → OpensNode before.file after.file o → after.file.faults ≡ before.file.faults →
-      after.input.faults ≡ before.input.faults → LanesCauses before.output.faults after.output.faults end → IsStatus words before after (lanes_status end)
-  lanes_tell words limits o end serve opens same input h = record {
-    usage = record { usage = λ e. absurd (not_one_lanes end e); no_command = λ none. absurd (none (Serve limits, serve)) };
-    file = λ other is. of_command (λ w. FileDecidesFor w before.file after.file (lanes_status end)) words (Serve limits) other serve is
-        (decided_opened IsNodeFile node_means node_files before.file after.file o (lanes_status end) opens (not_two_lanes end));
-    complete = λ frames run. two_commands words (Serve limits) (Run frames) serve run (λ e. cc e);
-    checks_well = λ check. two_commands words (Serve limits) Check serve check (λ e. cc e);
-    relays_well = λ frames relay. two_commands words (Serve limits) (Relay frames) serve relay (λ e. cc e);
-    mints_well = λ m is. two_commands words (Serve limits) (Mint m) serve is (λ e. cc e);
+  pub lanes_tell : (words : List (String Global)) (task : Task) (end : LanesEnd) → Mean words task → IsLaneTask task → FileDecidesFor task before.file after.file (lanes_status end) → ServesDoors words →
+      after.file.faults ≡ before.file.faults → after.input.faults ≡ before.input.faults → LanesCauses before.output.faults after.output.faults end → IsStatus words before after (lanes_status end)
+  lanes_tell words task end is lane decides serve same input h = record {
+    usage = record { usage = λ e. absurd (not_one_lanes end e); no_command = λ none. absurd (none (task, is)) };
+    file = λ other o. of_command (λ w. FileDecidesFor w before.file after.file (lanes_status end)) words task other is o decides;
+    complete = λ frames run. two_commands words task (Run frames) is run (λ e. subst IsLaneTask e lane);
+    checks_well = λ check. two_commands words task Check is check (λ e. subst IsLaneTask e lane);
+    relays_well = λ frames relay. two_commands words task (Relay frames) is relay (λ e. subst IsLaneTask e lane);
+    audits_well = λ frames audit. two_commands words task (Audit frames) is audit (λ e. subst IsLaneTask e lane);
+    drills_well = λ d drill. two_commands words task (Drill d) is drill (λ e. subst IsLaneTask e lane);
+    mints_well = λ m mint. two_commands words task (Mint m) is mint (λ e. subst IsLaneTask e lane);
     causes = lanes_caused end h;
     told = record { file = stayed before.file.faults after.file.faults same; input = stayed before.input.faults after.input.faults input; output = lanes_output end h };
-    clock = λ none. absurd (none (limits, serve));
+    clock = λ none. absurd (none serve);
   }
 
-module _ {In Out : Type 0} (left : In → Option (List ℕ)) (written : Out → Option (List ℕ)) (o : Opening) (limits : Limits) (xs ys : List (LaneShown (In × Out))) where
-  abbrev Leaves : Left → Type 0
-  Leaves l = ServesOpening left written o limits xs ys l
-
-  -- no lane's door failed where each was steady
-  none_first : (l : Left) → Leaves l → AllZip HasSteadyDoor xs ys → l.total.first_failed ≡ l.total.lanes
-  none_first l s steady =
-      s.serves.counted.first_failed ∙ (none_failed left written limits.connections xs ys s.serves.runs s.serves.each steady ∙ sym s.serves.counted.lanes)
-
-  -- and each count stayed where none failed
-  counts_stay : (l : Left) → Leaves l → HasNoneFailed l.total → AllZip HasSameCount xs ys
-  counts_stay l s none =
-      none_rose left written limits.connections xs ys s.serves.runs s.serves.each (no_less none s.serves.counted.lanes s.serves.counted.first_failed)
-
-  served_nine : (out0 out1 : Option (List ℕ)) (end : LanesEnd) (l : Left) → Leaves l → Prints l out0 out1 end → lanes_status end ≡ 9 → AllZip HasSteadyDoor xs ys → ⊥
-  served_nine out0 out1 lanes.Done l s p nine steady = absurd (omega (arith, nine))
-  served_nine out0 out1 (lanes.DoorFault lane) l s p nine steady = absurd (omega (arith, p.0, p.1, none_first l s steady))
-  served_nine out0 out1 lanes.WriteFault l s p nine steady = absurd (omega (arith, nine))
-  served_nine out0 out1 lanes.NoMemory l s p nine steady = absurd (omega (arith, nine))
-
-  served_same : (out0 out1 : Option (List ℕ)) (end : LanesEnd) (l : Left) → Leaves l → Prints l out0 out1 end → lanes_status end ≢ 9 → AllZip HasSameCount xs ys
-  served_same out0 out1 lanes.Done l s p other = counts_stay l s p.0.doors
-  served_same out0 out1 (lanes.DoorFault lane) l s p other = absurd (other refl)
-  served_same out0 out1 lanes.WriteFault l s p other = counts_stay l s p.0.doors
-  served_same out0 out1 lanes.NoMemory l s p other = counts_stay l s p.0
-
-  served_well : (before after : Touched) (end : LanesEnd) (l : Left) → Leaves l → Prints l before.output.told after.output.told end → LanesCauses before.output.faults after.output.faults end →
-      IsSteady before.output after.output → AllZip HasSteadyDoor xs ys → (lanes_status end ≡ 0) ⊎ (lanes_status end ≡ 6)
-  served_well before after lanes.Done l s p h so steady = inl refl
-  served_well before after (lanes.DoorFault lane) l s p h so steady = absurd (omega (arith, p.0, p.1, none_first l s steady))
-  served_well before after lanes.WriteFault l s p h so steady = absurd (still before.output.faults after.output.faults so h.1)
-  served_well before after lanes.NoMemory l s p h so steady = inr refl
-
-  pub doors_tell : (words : List (String Global)) (before after : Touched) (end : LanesEnd) → Mean words (Serve limits) → ServesLanes left written o limits xs ys before.output.told after.output.told end →
+module _ {In Out : Type 0} (left : In → Option (List ℕ)) (written : Out → Option (List ℕ)) (limits : Limits) (xs ys : List (LaneShown (In × Out))) where
+  pub doors_tell : (o : Opening) (words : List (String Global)) (before after : Touched) (end : LanesEnd) → Mean words (Serve limits) → ServesLanes left written o limits xs ys before.output.told after.output.told end →
       LanesCauses before.output.faults after.output.faults end → TellsDoors words before after xs ys (lanes_status end)
-  doors_tell words before after end serve (unserved none same kept) h =
+  doors_tell o words before after end serve (unserved none same kept) h =
       let six : lanes_status end ≡ 6 = ap lanes_status none in
       record {
         caused = λ nine. absurd (omega (arith, nine, six));
         told = λ is other. other_work xs ys same;
         well = λ is bytes p told means sf so steady. inr six;
+        relays_well = λ is bytes p told means sf so steady. inr six;
       }
-  doors_tell words before after end serve (served l s p) h = record {
-    caused = λ nine. ((limits, serve), served_nine before.output.told after.output.told end l s p nine);
-    told = λ is other. served_same before.output.told after.output.told end l s p other;
-    well = λ is bytes q told means sf so steady. served_well before after end l s p h so steady;
-  }
+  doors_tell o words before after end serve (served l s p) h =
+      let run = λ (x y : LaneShown (In × Out)) (r : LaneRun s.node limits.frames) (is : IsRunOf left written limits.connections x y r). is.cause in
+      record {
+        caused = λ nine. (inl (limits, serve), line_nine _ _ run xs ys s.serves.runs s.serves.each l.total s.serves.counted.lanes s.serves.counted.first_failed _ before.output.told after.output.told end p nine);
+        told = λ is other. line_same _ _ run xs ys s.serves.runs s.serves.each l.total s.serves.counted.lanes s.serves.counted.first_failed _ before.output.told after.output.told end p other;
+        well = λ is bytes q told means sf so steady. line_well _ _ run xs ys s.serves.runs s.serves.each l.total s.serves.counted.lanes s.serves.counted.first_failed _ before after end p h so steady;
+        relays_well = λ is bytes q told means sf so steady. line_well _ _ run xs ys s.serves.runs s.serves.each l.total s.serves.counted.lanes s.serves.counted.first_failed _ before after end p h so steady;
+      }
+
+  -- the same of a relay's lanes
+  pub relay_doors_tell : (r : RelayFile) (words : List (String Global)) (before after : Touched) (end : LanesEnd) → Mean words (RelayServe limits) → RelaysDoors left written r limits xs ys before.output.told after.output.told end →
+      LanesCauses before.output.faults after.output.faults end → TellsDoors words before after xs ys (lanes_status end)
+  relay_doors_tell r words before after end relay s h =
+      let run = λ (x y : LaneShown (In × Out)) (q : RelayRun limits.frames) (is : IsRelayRunOf left written s.table limits.connections x y q). is.cause in
+      record {
+        caused = λ nine. (inr (limits, relay), line_nine _ _ run xs ys s.serves.runs s.serves.each s.total s.serves.counted.lanes s.serves.counted.first_failed _ before.output.told after.output.told end s.prints nine);
+        told = λ is other. line_same _ _ run xs ys s.serves.runs s.serves.each s.total s.serves.counted.lanes s.serves.counted.first_failed _ before.output.told after.output.told end s.prints other;
+        well = λ is bytes q told means sf so steady. line_well _ _ run xs ys s.serves.runs s.serves.each s.total s.serves.counted.lanes s.serves.counted.first_failed _ before after end s.prints h so steady;
+        relays_well = λ is bytes q told means sf so steady. line_well _ _ run xs ys s.serves.runs s.serves.each s.total s.serves.counted.lanes s.serves.counted.first_failed _ before after end s.prints h so steady;
+      }
 
 -- ---- lanes, as they are shown
 

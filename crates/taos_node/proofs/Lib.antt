@@ -17,5 +17,9 @@ pub mod Levels
 pub mod Meanings
 pub mod Found
 pub mod Minted
+pub mod Drilled
+pub mod Audited
+pub mod Endings
+pub mod DrillRuns
 mod LaneStatuses
 mod Counts

@@ -92,12 +92,12 @@ some_fault : (k : ErrorKind) (ks b : Kinds) → or_else (k ∷ ks) b ≡ [] → 
 some_fault k ks b e = absurd cc
 
 -- the word is refused
-stops : (s : Shape) (k : Walk) (w : Text) (ws : List Text) (x : ErrorKind) → turn_fault s [] k w ≡ x ∷ [] → from s k (w ∷ ws) ≡ [] → ⊥
+pub stops : (s : Shape) (k : Walk) (w : Text) (ws : List Text) (x : ErrorKind) → turn_fault s [] k w ≡ x ∷ [] → from s k (w ∷ ws) ≡ [] → ⊥
 stops s k w ws x is none =
     some_fault x [] (from s (walked s.rules [] k w) ws) (sym (ap (λ f. or_else f (from s (walked s.rules [] k w) ws)) is) ∙ sym (step s k w ws) ∙ none)
 
 -- the word is taken
-goes : (s : Shape) (k : Walk) (w : Text) (ws : List Text) (next : Walk) → turn_fault s [] k w ≡ [] → walked s.rules [] k w ≡ next → from s k (w ∷ ws) ≡ from s next ws
+pub goes : (s : Shape) (k : Walk) (w : Text) (ws : List Text) (next : Walk) → turn_fault s [] k w ≡ [] → walked s.rules [] k w ≡ next → from s k (w ∷ ws) ≡ from s next ws
 goes s k w ws next is to = step s k w ws ∙ ap (λ f. or_else f (from s (walked s.rules [] k w) ws)) is ∙ ap (λ n. from s n ws) to
 
 long_known : (options : List Text) (name : Text) → Contains options name → Knows options name → arg_by_long (rules_for options) name ≡ Some (rule_for name)

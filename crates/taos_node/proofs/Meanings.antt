@@ -4,17 +4,18 @@ use Rattle.std.specs.Prelude.{Contains, cond, find}
 use Rattle.std.specs.List.{All, flat_map}
 use Rattle.std.specs.Option.{option_map}
 use Rattle.std.specs.Str.{bytes_eq}
-use Rattle.std.proofs.lemmas.Fmt.{decimal_nonempty, first_decimal, decimal_injective}
+use Rattle.std.proofs.lemmas.Fmt.{decimal_digit, decimal_nonempty, first_decimal, decimal_injective}
 use Rattle.std.proofs.lemmas.List.Elements.{All-nil, All-cons, All-head, All-tail}
 use Rattle.std.proofs.lemmas.Option.{same_Some}
 use Rattle.clap.specs.Words.{Row, Text, first_of}
 use Rattle.taos_node.specs.declared.wanted.Wanted.{Wanted}
-use Rattle.taos_node.specs.Table.{commands}
+use Rattle.taos_node.specs.Table.{IsPlainWord, commands}
 use Rattle.taos_lanes.specs.declared.lane.Limits.{Limits}
-use Rattle.taos_node.specs.Words.{AreConnections, AreFrames, AreOnce, Given, GivesLimits, IsCount, IsLine, IsValue, ServeFrames, ServeLanes, TextsMean, GivesMint, HasNumber, MintWords, Task, Run, Check, Relay, Mint, Serve, lane_options, mint_options, serving_options, task_of, value_of, words_of}
+use Rattle.taos_node.specs.Words.{AreConnections, AreFrames, AreOnce, Given, GivesLimits, IsCount, IsLine, IsValue, ServeFrames, ServeLanes, TextsMean, GivesMint, HasNumber, MintWords, Task, Run, Check, Relay, Mint, Serve, RelayServe, Audit, Drill, AsksDrill, DrillWords, IsNumber, lane_options, mint_options, serving_options, task_of, value_of, words_of}
 use Rattle.taos_node.proofs.Options.{other_text, same_text, two_texts}
 use Rattle.taos_node.proofs.Rows.{AreNew, all_are_new, all_known, are_once, first_of_rows, rows_for}
-use Rattle.taos_node.proofs.Levels.{Entry, IsFound, line_found}
+use Rattle.taos_node.proofs.Drilled.{rows_of_words}
+use Rattle.taos_node.proofs.Levels.{Entry, IsFound, IsTakenAs, drill_found, line_found}
 
 -- ---- values
 
@@ -64,14 +65,14 @@ pub found_line : (words : List Text) (c : Entry) (given : List Given) → Contai
 found_line words c given there l = subst (λ (w : List Text). IsFound w c.0 given) (sym l.are) (line_found c there given (all_are_new c.1 given l.known l.once l.values))
 
 -- words are one command, and give each option one value
-same_pair : (words : List Text) (a b : Text) (gs hs : List Given) → IsFound words a gs → IsFound words b hs → ◌≡◌ {A = Text × List Row} (a, rows_for gs) (b, rows_for hs)
-same_pair words a b gs hs f g = same_Some _ _ (sym f.found ∙ g.found)
+same_pair : (words : List Text) (a b : Text) (p q : List Row) → IsTakenAs words a p → IsTakenAs words b q → ◌≡◌ {A = Text × List Row} (a, p) (b, q)
+same_pair words a b p q f g = same_Some _ _ (sym f.found ∙ g.found)
 
-pub same_command : (words : List Text) (a b : Text) (gs hs : List Given) → IsFound words a gs → IsFound words b hs → a ≡ b
-same_command words a b gs hs f g = ap (λ (p : Text × List Row). p.0) (same_pair words a b gs hs f g)
+pub same_command : (words : List Text) (a b : Text) (p q : List Row) → IsTakenAs words a p → IsTakenAs words b q → a ≡ b
+same_command words a b p q f g = ap (λ (x : Text × List Row). x.0) (same_pair words a b p q f g)
 
 pub same_values : (words : List Text) (a b : Text) (gs hs : List Given) → IsFound words a gs → IsFound words b hs → (name : Text) → value_of name gs ≡ value_of name hs
-same_values words a b gs hs f g name = sym (first_of_rows name gs) ∙ ap (λ (p : Text × List Row). first_of name p.1) (same_pair words a b gs hs f g) ∙ first_of_rows name hs
+same_values words a b gs hs f g name = sym (first_of_rows name gs) ∙ ap (λ (p : Text × List Row). first_of name p.1) (same_pair words a b (rows_for gs) (rows_for hs) f g) ∙ first_of_rows name hs
 
 -- ---- what a command's words give
 
@@ -90,6 +91,12 @@ mint_there = (3, omega arith, refl)
 pub serve_there : Contains commands (codes "serve", lane_options)
 serve_there = (4, omega arith, refl)
 
+pub relay_serve_there : Contains commands (codes "relay-serve", lane_options)
+relay_serve_there = (5, omega arith, refl)
+
+pub audit_there : Contains commands (codes "audit", serving_options)
+audit_there = (6, omega arith, refl)
+
 -- the name of the command that is asked for
 abbrev pub command_of : Task → Text
 command_of (Run n) = codes "run"
@@ -97,17 +104,44 @@ command_of Check = codes "check"
 command_of (Relay n) = codes "relay"
 command_of (Mint m) = codes "mint"
 command_of (Serve limits) = codes "serve"
+command_of (RelayServe limits) = codes "relay-serve"
+command_of (Audit n) = codes "audit"
+command_of (Drill d) = codes "drill"
 
 -- what means something is a line that is taken
 abbrev pub IsTaken : List Text → Text → Type 0
-IsTaken words command = (given : List Given) × IsFound words command given
+IsTaken words command = (rows : List Row) × IsTakenAs words command rows
+
+zero_value : (text : Text) → text ≡ decimal 0 → IsValue text
+zero_value text is = subst IsValue (sym (is ∙ decimal_digit 0 (omega arith))) (λ dash. omega (arith, dash))
+
+pub text_value : (text : Text) (n : ℕ) → text ≡ decimal n → n < 2 ^ 64 → IsValue text
+text_value text zero is small = zero_value text is
+text_value text (suc n) is small = count_is_value text (suc n) (is, omega arith, small)
+
+value_plain : (text : Text) → IsValue text → IsPlainWord text
+value_plain [] is = absurd is
+value_plain (x ∷ text) is = is
+
+number_plain : (bound : ℕ) (text : Text) (n : ℕ) → bound ≤ 2 ^ 64 → IsNumber bound text n → IsPlainWord text
+number_plain bound text n small is = value_plain text (text_value text n is.0 (omega (arith, is.1, small)))
+
+pub asked_drill : (words : List Text) (d : DrillWords) → AsksDrill words d → IsTaken words (codes "drill")
+asked_drill words d (seed, requests, lanes, are, gives) = (
+  rows_of_words (seed ∷ requests ∷ lanes ∷ []),
+  subst (λ (w : List Text). IsTakenAs w (codes "drill") (rows_of_words (seed ∷ requests ∷ lanes ∷ []))) (sym are)
+      (drill_found seed requests lanes (number_plain (2 ^ 64) seed d.seed (omega arith) gives.seed) (number_plain 10001 requests d.requests (omega arith) gives.requests) (number_plain 17 lanes d.lanes (omega arith) gives.lanes)),
+)
 
 pub meant_found : (words : List Text) (wanted : Task) → TextsMean words wanted → IsTaken words (command_of wanted)
-meant_found words (Run n) is = (is.0, found_line words (codes "run", serving_options) is.0 run_there is.1)
-meant_found words Check is = (is.0, found_line words (codes "check", []) is.0 check_there is.1)
-meant_found words (Mint m) is = (is.0, found_line words (codes "mint", mint_options) is.0 mint_there is.1)
-meant_found words (Relay n) is = (is.0, found_line words (codes "relay", serving_options) is.0 relay_there is.1)
-meant_found words (Serve limits) is = (is.0, found_line words (codes "serve", lane_options) is.0 serve_there is.1)
+meant_found words (Run n) is = (rows_for is.0, found_line words (codes "run", serving_options) is.0 run_there is.1)
+meant_found words Check is = (rows_for is.0, found_line words (codes "check", []) is.0 check_there is.1)
+meant_found words (Mint m) is = (rows_for is.0, found_line words (codes "mint", mint_options) is.0 mint_there is.1)
+meant_found words (Relay n) is = (rows_for is.0, found_line words (codes "relay", serving_options) is.0 relay_there is.1)
+meant_found words (Serve limits) is = (rows_for is.0, found_line words (codes "serve", lane_options) is.0 serve_there is.1)
+meant_found words (RelayServe limits) is = (rows_for is.0, found_line words (codes "relay-serve", lane_options) is.0 relay_serve_there is.1)
+meant_found words (Audit n) is = (rows_for is.0, found_line words (codes "audit", serving_options) is.0 audit_there is.1)
+meant_found words (Drill d) is = asked_drill words d is
 
 -- no words are two commands
 pub other_command : (words : List Text) (a b : Text) → bytes_eq a b ≡ false → IsTaken words a → IsTaken words b → ⊥
@@ -205,35 +239,87 @@ same_mint given other m n same a b = by
     by : m.issuer ≡ n.issuer → m.serial ≡ n.serial → m.until ≡ n.until → m.quoted ≡ n.quoted → m.left ≡ n.left → m.right ≡ n.right → m ≡ n
     by issuer serial until quoted left right = λ i. record { issuer = issuer i; serial = serial i; until = until i; quoted = quoted i; left = left i; right = right i }
 
+-- the words of `drill` are one number, one count of requests and one of lanes
+same_word : (words : List Text) (a b : Text) (i : ℕ) (xs ys : List Text) → words ≡ xs → words ≡ ys → get_or xs i [] ≡ a → get_or ys i [] ≡ b → a ≡ b
+same_word words a b i xs ys p q x y = sym x ∙ ap (λ (l : List Text). get_or l i []) (sym p ∙ q) ∙ y
+
+same_drill : (words : List Text) (m n : DrillWords) → AsksDrill words m → AsksDrill words n → m ≡ n
+same_drill words m n (s, r, l, are, a) (s', r', l', are', b) = by
+    (decimal_injective m.seed n.seed a.seed.1 b.seed.1 (sym a.seed.0 ∙ same_word words s s' 1 _ _ are are' refl refl ∙ b.seed.0))
+    (decimal_injective m.requests n.requests (omega (arith, a.requests.1)) (omega (arith, b.requests.1)) (sym a.requests.0 ∙ same_word words r r' 2 _ _ are are' refl refl ∙ b.requests.0))
+    (decimal_injective m.lanes n.lanes (omega (arith, a.lanes.1)) (omega (arith, b.lanes.1)) (sym a.lanes.0 ∙ same_word words l l' 3 _ _ are are' refl refl ∙ b.lanes.0))
+  where
+    by : m.seed ≡ n.seed → m.requests ≡ n.requests → m.lanes ≡ n.lanes → m ≡ n
+    by seed requests lanes = λ i. record { seed = seed i; requests = requests i; lanes = lanes i }
+
 pub one_meaning : (words : List Text) (a b : Task) → TextsMean words a → TextsMean words b → a ≡ b
 one_meaning words (Run m) (Run n) x y = ap (λ k. Run k) (same_serving words (codes "run") m n run_there x y)
 one_meaning words (Run m) Check x y = cross words (Run m) Check x y refl
 one_meaning words (Run m) (Relay n) x y = cross words (Run m) (Relay n) x y refl
+one_meaning words (Run m) (Mint n) x y = cross words (Run m) (Mint n) x y refl
+one_meaning words (Run m) (Serve n) x y = cross words (Run m) (Serve n) x y refl
+one_meaning words (Run m) (RelayServe n) x y = cross words (Run m) (RelayServe n) x y refl
+one_meaning words (Run m) (Audit n) x y = cross words (Run m) (Audit n) x y refl
+one_meaning words (Run m) (Drill n) x y = cross words (Run m) (Drill n) x y refl
+one_meaning words Check (Run n) x y = cross words Check (Run n) x y refl
+one_meaning words Check Check x y = refl
+one_meaning words Check (Relay n) x y = cross words Check (Relay n) x y refl
+one_meaning words Check (Mint n) x y = cross words Check (Mint n) x y refl
+one_meaning words Check (Serve n) x y = cross words Check (Serve n) x y refl
+one_meaning words Check (RelayServe n) x y = cross words Check (RelayServe n) x y refl
+one_meaning words Check (Audit n) x y = cross words Check (Audit n) x y refl
+one_meaning words Check (Drill n) x y = cross words Check (Drill n) x y refl
+one_meaning words (Relay m) (Run n) x y = cross words (Relay m) (Run n) x y refl
+one_meaning words (Relay m) Check x y = cross words (Relay m) Check x y refl
+one_meaning words (Relay m) (Relay n) x y = ap (λ k. Relay k) (same_serving words (codes "relay") m n relay_there x y)
+one_meaning words (Relay m) (Mint n) x y = cross words (Relay m) (Mint n) x y refl
+one_meaning words (Relay m) (Serve n) x y = cross words (Relay m) (Serve n) x y refl
+one_meaning words (Relay m) (RelayServe n) x y = cross words (Relay m) (RelayServe n) x y refl
+one_meaning words (Relay m) (Audit n) x y = cross words (Relay m) (Audit n) x y refl
+one_meaning words (Relay m) (Drill n) x y = cross words (Relay m) (Drill n) x y refl
+one_meaning words (Mint m) (Run n) x y = cross words (Mint m) (Run n) x y refl
+one_meaning words (Mint m) Check x y = cross words (Mint m) Check x y refl
+one_meaning words (Mint m) (Relay n) x y = cross words (Mint m) (Relay n) x y refl
 one_meaning words (Mint m) (Mint n) x y =
     let f = found_line words (codes "mint", mint_options) x.0 mint_there x.1 in
     let g = found_line words (codes "mint", mint_options) y.0 mint_there y.1 in
     ap (λ k. Mint k) (same_mint (λ name. value_of name x.0) (λ name. value_of name y.0) m n (same_values words (codes "mint") (codes "mint") x.0 y.0 f g) x.2 y.2)
-one_meaning words (Mint m) (Run n) x y = cross words (Mint m) (Run n) x y refl
-one_meaning words (Mint m) Check x y = cross words (Mint m) Check x y refl
-one_meaning words (Mint m) (Relay n) x y = cross words (Mint m) (Relay n) x y refl
-one_meaning words (Run m) (Mint n) x y = cross words (Run m) (Mint n) x y refl
-one_meaning words Check (Mint n) x y = cross words Check (Mint n) x y refl
-one_meaning words (Relay m) (Mint n) x y = cross words (Relay m) (Mint n) x y refl
-one_meaning words Check (Run n) x y = cross words Check (Run n) x y refl
-one_meaning words Check Check x y = refl
-one_meaning words Check (Relay n) x y = cross words Check (Relay n) x y refl
-one_meaning words (Relay m) (Run n) x y = cross words (Relay m) (Run n) x y refl
-one_meaning words (Relay m) Check x y = cross words (Relay m) Check x y refl
-one_meaning words (Relay m) (Relay n) x y = ap (λ k. Relay k) (same_serving words (codes "relay") m n relay_there x y)
-one_meaning words (Serve m) (Serve n) x y = ap (λ k. Serve k) (same_lanes words (codes "serve") m n serve_there x y)
+one_meaning words (Mint m) (Serve n) x y = cross words (Mint m) (Serve n) x y refl
+one_meaning words (Mint m) (RelayServe n) x y = cross words (Mint m) (RelayServe n) x y refl
+one_meaning words (Mint m) (Audit n) x y = cross words (Mint m) (Audit n) x y refl
+one_meaning words (Mint m) (Drill n) x y = cross words (Mint m) (Drill n) x y refl
 one_meaning words (Serve m) (Run n) x y = cross words (Serve m) (Run n) x y refl
 one_meaning words (Serve m) Check x y = cross words (Serve m) Check x y refl
 one_meaning words (Serve m) (Relay n) x y = cross words (Serve m) (Relay n) x y refl
 one_meaning words (Serve m) (Mint n) x y = cross words (Serve m) (Mint n) x y refl
-one_meaning words (Run m) (Serve n) x y = cross words (Run m) (Serve n) x y refl
-one_meaning words Check (Serve n) x y = cross words Check (Serve n) x y refl
-one_meaning words (Relay m) (Serve n) x y = cross words (Relay m) (Serve n) x y refl
-one_meaning words (Mint m) (Serve n) x y = cross words (Mint m) (Serve n) x y refl
+one_meaning words (Serve m) (Serve n) x y = ap (λ k. Serve k) (same_lanes words (codes "serve") m n serve_there x y)
+one_meaning words (Serve m) (RelayServe n) x y = cross words (Serve m) (RelayServe n) x y refl
+one_meaning words (Serve m) (Audit n) x y = cross words (Serve m) (Audit n) x y refl
+one_meaning words (Serve m) (Drill n) x y = cross words (Serve m) (Drill n) x y refl
+one_meaning words (RelayServe m) (Run n) x y = cross words (RelayServe m) (Run n) x y refl
+one_meaning words (RelayServe m) Check x y = cross words (RelayServe m) Check x y refl
+one_meaning words (RelayServe m) (Relay n) x y = cross words (RelayServe m) (Relay n) x y refl
+one_meaning words (RelayServe m) (Mint n) x y = cross words (RelayServe m) (Mint n) x y refl
+one_meaning words (RelayServe m) (Serve n) x y = cross words (RelayServe m) (Serve n) x y refl
+one_meaning words (RelayServe m) (RelayServe n) x y = ap (λ k. RelayServe k) (same_lanes words (codes "relay-serve") m n relay_serve_there x y)
+one_meaning words (RelayServe m) (Audit n) x y = cross words (RelayServe m) (Audit n) x y refl
+one_meaning words (RelayServe m) (Drill n) x y = cross words (RelayServe m) (Drill n) x y refl
+one_meaning words (Audit m) (Run n) x y = cross words (Audit m) (Run n) x y refl
+one_meaning words (Audit m) Check x y = cross words (Audit m) Check x y refl
+one_meaning words (Audit m) (Relay n) x y = cross words (Audit m) (Relay n) x y refl
+one_meaning words (Audit m) (Mint n) x y = cross words (Audit m) (Mint n) x y refl
+one_meaning words (Audit m) (Serve n) x y = cross words (Audit m) (Serve n) x y refl
+one_meaning words (Audit m) (RelayServe n) x y = cross words (Audit m) (RelayServe n) x y refl
+one_meaning words (Audit m) (Audit n) x y = ap (λ k. Audit k) (same_serving words (codes "audit") m n audit_there x y)
+one_meaning words (Audit m) (Drill n) x y = cross words (Audit m) (Drill n) x y refl
+one_meaning words (Drill m) (Run n) x y = cross words (Drill m) (Run n) x y refl
+one_meaning words (Drill m) Check x y = cross words (Drill m) Check x y refl
+one_meaning words (Drill m) (Relay n) x y = cross words (Drill m) (Relay n) x y refl
+one_meaning words (Drill m) (Mint n) x y = cross words (Drill m) (Mint n) x y refl
+one_meaning words (Drill m) (Serve n) x y = cross words (Drill m) (Serve n) x y refl
+one_meaning words (Drill m) (RelayServe n) x y = cross words (Drill m) (RelayServe n) x y refl
+one_meaning words (Drill m) (Audit n) x y = cross words (Drill m) (Audit n) x y refl
+one_meaning words (Drill m) (Drill n) x y = ap (λ k. Drill k) (same_drill words m n x y)
 
 -- ---- what is read
 

@@ -66,6 +66,15 @@ module _ (limit : ℕ) where
       let at_j = get_or-map (λ (p : ObjectPlan). p.number) plans j nothing d second in
       omega (arith, up i j lt second, at_i, at_j, same))
 
+  pub objects_ascend : (plans : List ObjectPlan) → AreByNumber plans → IsStrictlyIncreasing (object_numbers (map fixed_of (map (new_object limit) plans)))
+  objects_ascend plans up =
+      subst IsStrictlyIncreasing (sym (new_numbers plans))
+      (λ k lt.
+      let second : k + 1 < length plans = omega (arith, lt, length-map plans (λ (p : ObjectPlan). p.number)) in
+      let at = get_or-map (λ (p : ObjectPlan). p.number) plans k nothing 0 (omega (arith, second)) in
+      let next = get_or-map (λ (p : ObjectPlan). p.number) plans (k + 1) nothing 0 second in
+      omega (arith, up k (k + 1) (omega arith) second, at, next))
+
   found_new : (b : Bool) (p : ObjectPlan) (found : Option ObjectFixed) (plan : Option ObjectPlan) → found ≡ option_map (fixed_with limit) plan → cond b (Some (fixed_with limit p)) found ≡ option_map (fixed_with limit) (cond b (Some p) plan)
   found_new true p found plan e = refl
   found_new false p found plan e = e
@@ -150,8 +159,8 @@ same_plans a b channels shards anchors commons keep limit = rw (shards, anchors,
 
 pub is_node_of : (node : code.Opening) (o : Opening) (keys : NodeKeys) (shards : List ShardSeen) (shelf : List ObjectSeen) → Represents node o → IsKeyTable node.channels →
     keys.node ≡ node.node → keys.relay_key ≡ node.relay_key → keys.channels ≡ node.channels → shelf ≡ map (new_object node.limit) node.objects →
-    shards ≡ map new_shard (its_plans (opening node) node.channels.entries) → IsNodeOf o (node_of keys (plans_in shards) (map fixed_of shelf))
-is_node_of node o keys shards shelf r sound number relay_key channels objects are =
+    shards ≡ map new_shard (its_plans (opening node) node.channels.entries) → IsStrictlyIncreasing (object_numbers (map fixed_of shelf)) → IsNodeOf o (node_of keys (plans_in shards) (map fixed_of shelf))
+is_node_of node o keys shards shelf r sound number relay_key channels objects are by_number =
     let entries : keys.channels.entries ≡ node.channels.entries = ap (λ (k : Keys). k.entries) channels in
     record {
       number = number ∙ r.node;
@@ -160,6 +169,7 @@ is_node_of node o keys shards shelf r sound number relay_key channels objects ar
       count = ap (λ (k : Entries). length k) entries ∙ r.channels.count;
       ascending = subst (λ (k : Entries). IsStrictlyIncreasing (numbers_of k)) (sym entries) (numbers_ascend node.channels sound);
       objects = λ n. ap (λ (l : List ObjectSeen). fixed_at (map fixed_of l) n) objects ∙ fixed_new node.limit node.objects n ∙ ap₂ (λ (l : ℕ) (p : Option ObjectPlan). option_map (fixed_with l) p) r.limit ((same_node node o r).objects n);
+      by_number = by_number;
       plans = ap plans_in are ∙ plans_new (its_plans (opening node) node.channels.entries) ∙ same_plans (opening node) o node.channels.entries r.shards r.anchors r.commons r.keep r.limit ∙ ap (its_plans o) (sym entries);
     }
 

@@ -14,10 +14,10 @@ use Rattle.taos_node.specs.declared.ending.FileFault.{FileFault}
 use Rattle.taos_node.specs.declared.ending.FileFault.TheVariants as fault
 use Rattle.taos_node.specs.declared.ending.FileFault.TheVariants.{Malformed, Refused}
 use Rattle.taos_node.specs.declared.finding.Finding.TheVariants.{Granted, Refused as Wrong}
-use Rattle.taos_node.specs.Words.{IsMeaning, Mean, MintWords, Task, Run, Check, Relay, Mint, Serve, task_of}
+use Rattle.taos_node.specs.Words.{IsMeaning, Mean, MintWords, Task, Run, Check, Relay, Mint, Serve, RelayServe, Audit, Drill, task_of}
 use Rattle.taos_node.specs.declared.wanted.Wanted.{Wanted}
 use Rattle.taos_node.specs.Files.{FaultHasCause, FileDecides, FileFails, IsNodeFile, IsRelayFile, Meaning, OpensNode, OpensRelay, node_means, relay_means}
-use Rattle.taos_node.specs.Command.{IsCommand, IsServe, FileDecidesFor, FileFailsFor, Touched, EndsWell, ChecksWell, MintsWell, IsCaused, TellsFaults, IsStatus, counts_of}
+use Rattle.taos_node.specs.Command.{IsCommand, FileDecidesFor, FileFailsFor, Touched, EndsWell, ChecksWell, MintsWell, IsCaused, TellsFaults, IsStatus, counts_of}
 use Rattle.taos_node.specs.Ending.{file_status, served_status, checked_status}
 use Rattle.taos_node.specs.Findings.{CheckCauses}
 use Rattle.taos_node.specs.Minting.{MintCauses, minted_status}
@@ -31,13 +31,13 @@ pub stayed : {P : Type 0} (a b : ℕ) → b ≡ a → a < b → P
 stayed a b same rose = absurd (omega (arith, same, rose))
 
 -- each fault is answered, by its status
-record AllTold (before after : Touched) (status : ℕ) : Type 0 where
+pub record AllTold (before after : Touched) (status : ℕ) : Type 0 where
   pub file : before.file.faults < after.file.faults → status ≡ 3
   pub input : before.input.faults < after.input.faults → status ≡ 3
   pub output : before.output.faults < after.output.faults → status ≡ 4
   pub clock : before.clock.faults < after.clock.faults → status ≡ 5
 
-streams_told : (before after : Touched) (status : ℕ) → AllTold before after status → TellsFaults before after status
+pub streams_told : (before after : Touched) (status : ℕ) → AllTold before after status → TellsFaults before after status
 streams_told before after status t = record { file = t.file; input = t.input; output = t.output }
 
 -- ---- words
@@ -47,12 +47,15 @@ pub of_command : (P : Task → Type 0) (words : List (String Global)) (a b : Tas
 of_command P words a b is other h = subst P (one_meaning (map string_bytes words) a b is other) h
 
 -- the most frames of a command that serves
-abbrev frames_in : Task → ℕ
+abbrev pub frames_in : Task → ℕ
 frames_in (Run frames) = frames
 frames_in Check = 0
 frames_in (Relay frames) = frames
 frames_in (Mint m) = 0
 frames_in (Serve limits) = 0
+frames_in (RelayServe limits) = 0
+frames_in (Audit frames) = frames
+frames_in (Drill d) = 0
 
 -- no words are two commands
 pub two_commands : {P : Type 0} (words : List (String Global)) (a b : Task) → Mean words a → Mean words b → (a ≡ b → ⊥) → P
@@ -75,6 +78,9 @@ unread_decides Check t = lacks_decides IsNodeFile t
 unread_decides (Relay n) t = lacks_decides IsRelayFile t
 unread_decides (Mint m) t = lacks_decides IsRelayFile t
 unread_decides (Serve l) t = lacks_decides IsNodeFile t
+unread_decides (RelayServe l) t = lacks_decides IsRelayFile t
+unread_decides (Audit n) t = lacks_decides IsNodeFile t
+unread_decides (Drill d) t = λ e. omega (arith, e)
 
 -- memory was refused before the words were read, and nothing was touched
 pub unread : (words : List (String Global)) (t : Touched) → IsStatus words t t 6
@@ -85,6 +91,8 @@ unread words t = record {
   checks_well = λ is bytes o told opens sf si so. inr (inr refl);
   relays_well = λ frames is bytes r told opens fs whole within few sf si so. inr refl;
   mints_well = λ m is bytes r told opens sf so. inr (inr refl);
+  audits_well = λ frames is sc bytes o told opens fs whole within few sf si so. inr refl;
+  drills_well = λ d is so. inr refl;
   causes = record { read = λ e. absurd (omega (arith, e)); write = λ e. absurd (omega (arith, e)); clock = λ e. absurd (omega (arith, e)) };
   told = record {
     file = stayed t.file.faults t.file.faults refl;
@@ -103,6 +111,8 @@ unused words t none = record {
   checks_well = λ is. absurd (none (Check, is));
   relays_well = λ frames is. absurd (none (Relay frames, is));
   mints_well = λ m is. absurd (none (Mint m, is));
+  audits_well = λ frames is. absurd (none (Audit frames, is));
+  drills_well = λ d is. absurd (none (Drill d, is));
   causes = record { read = λ e. absurd (omega (arith, e)); write = λ e. absurd (omega (arith, e)); clock = λ e. absurd (omega (arith, e)) };
   told = record {
     file = stayed t.file.faults t.file.faults refl;
@@ -146,6 +156,9 @@ module _ (before after : Touched) where
   decides_unserved (Relay n) f bad why = decided_fault IsRelayFile relay_means relay_files before.file after.file f bad why
   decides_unserved (Mint m) f bad why = decided_fault IsRelayFile relay_means relay_files before.file after.file f bad why
   decides_unserved (Serve l) f bad why = decided_fault IsNodeFile node_means node_files before.file after.file f bad why
+  decides_unserved (RelayServe l) f bad why = decided_fault IsRelayFile relay_means relay_files before.file after.file f bad why
+  decides_unserved (Audit n) f bad why = decided_fault IsNodeFile node_means node_files before.file after.file f bad why
+  decides_unserved (Drill d) f bad why = absurd bad
 
   pub not_caused : (status : ℕ) → status ≢ 3 → status ≢ 4 → status ≢ 5 → IsCaused before after status
   not_caused status r w c = record { read = λ e. absurd (r e); write = λ e. absurd (w e); clock = λ e. absurd (c e) }
@@ -173,6 +186,9 @@ module _ (words : List (String Global)) (before after : Touched) (wanted : Task)
   complete_unserved : FileFailsFor wanted before.file after.file f → (most : ℕ) → Mean words (Run most) → EndsWell IsNodeFile most before after (file_status f)
   complete_unserved bad most is = ends_unserved before after IsNodeFile node_means node_files most f (of_command (λ w. FileFailsFor w before.file after.file f) words wanted (Run most) command is bad) cause
 
+  audits_unserved : FileFailsFor wanted before.file after.file f → (most : ℕ) → Mean words (Audit most) → EndsWell IsNodeFile most before after (file_status f)
+  audits_unserved bad most is = ends_unserved before after IsNodeFile node_means node_files most f (of_command (λ w. FileFailsFor w before.file after.file f) words wanted (Audit most) command is bad) cause
+
   relays_unserved : FileFailsFor wanted before.file after.file f → (most : ℕ) → Mean words (Relay most) → EndsWell IsRelayFile most before after (file_status f)
   relays_unserved bad most is = ends_unserved before after IsRelayFile relay_means relay_files most f (of_command (λ w. FileFailsFor w before.file after.file f) words wanted (Relay most) command is bad) cause
 
@@ -184,6 +200,8 @@ module _ (words : List (String Global)) (before after : Touched) (wanted : Task)
     checks_well = λ is. checks_unserved before after f (of_command (λ w. FileFailsFor w before.file after.file f) words wanted Check command is bad) cause;
     relays_well = λ most is. relays_unserved bad most is;
     mints_well = λ m is. mints_unserved before after f (of_command (λ w. FileFailsFor w before.file after.file f) words wanted (Mint m) command is bad) cause;
+    audits_well = λ most is clock. audits_unserved bad most is;
+    drills_well = λ d is so. absurd (of_command (λ w. FileFailsFor w before.file after.file f) words wanted (Drill d) command is bad);
     causes = file_caused before after f cause;
     told = record {
       file = file_told before after f cause;
@@ -195,7 +213,7 @@ module _ (words : List (String Global)) (before after : Touched) (wanted : Task)
 
 -- ---- a connection that was served
 
-same_counts : (i o c i' o' c' : ℕ) → i' ≡ i → o' ≡ o → c' ≡ c → counts i' o' c' ≡ counts i o c
+pub same_counts : (i o c i' o' c' : ℕ) → i' ≡ i → o' ≡ o → c' ≡ c → counts i' o' c' ≡ counts i o c
 same_counts i o c i' o' c' input output clock = rw (input, output, clock) refl
 
 module _ (before after : Touched) where
@@ -213,7 +231,7 @@ module _ (before after : Touched) where
         | inr want ↦ inr (ap served_status want)
       ]
 
-  serving_caused : (outcome : Outcome) → Causes outcome → IsCaused before after (served_status outcome)
+  pub serving_caused : (outcome : Outcome) → Causes outcome → IsCaused before after (served_status outcome)
   serving_caused ReadFault h = record { read = λ e. inr h.1; write = λ e. absurd (omega (arith, e)); clock = λ e. absurd (omega (arith, e)) }
   serving_caused WriteFault h = record { read = λ e. absurd (omega (arith, e)); write = λ e. h.1; clock = λ e. absurd (omega (arith, e)) }
   serving_caused ClockFault h = record { read = λ e. absurd (omega (arith, e)); write = λ e. absurd (omega (arith, e)); clock = λ e. h.1 }
@@ -223,7 +241,7 @@ module _ (before after : Touched) where
   serving_caused (Spent n) h = not_caused before after 10 (λ e. omega (arith, e)) (λ e. omega (arith, e)) (λ e. omega (arith, e))
   serving_caused NoMemory h = not_caused before after 6 (λ e. omega (arith, e)) (λ e. omega (arith, e)) (λ e. omega (arith, e))
 
-  all_still : (status : ℕ) → after.file.faults ≡ before.file.faults → after.input.faults ≡ before.input.faults → after.output.faults ≡ before.output.faults → after.clock.faults ≡ before.clock.faults →
+  pub all_still : (status : ℕ) → after.file.faults ≡ before.file.faults → after.input.faults ≡ before.input.faults → after.output.faults ≡ before.output.faults → after.clock.faults ≡ before.clock.faults →
       AllTold before after status
   all_still status f i o c = record {
     file = stayed before.file.faults after.file.faults f;
@@ -236,7 +254,7 @@ module _ (before after : Touched) where
   none_rose status file h =
       all_still status file (ap (λ (f : FaultCounts). f.input) h) (ap (λ (f : FaultCounts). f.output) h) (ap (λ (f : FaultCounts). f.clock) h)
 
-  serving_told : (outcome : Outcome) → after.file.faults ≡ before.file.faults → Causes outcome → AllTold before after (served_status outcome)
+  pub serving_told : (outcome : Outcome) → after.file.faults ≡ before.file.faults → Causes outcome → AllTold before after (served_status outcome)
   serving_told ReadFault same h = record {
     file = stayed before.file.faults after.file.faults same;
     input = λ _. refl;
@@ -261,7 +279,7 @@ module _ (before after : Touched) where
   serving_told (Spent n) same h = none_rose 10 same h
   serving_told NoMemory same h = none_rose 6 same h
 
-not_one : (outcome : Outcome) → served_status outcome ≢ 1
+pub not_one : (outcome : Outcome) → served_status outcome ≢ 1
 not_one (End n) = λ e. omega (arith, e)
 not_one (Truncated n) = λ e. omega (arith, e)
 not_one (TooLong n) = λ e. omega (arith, e)
@@ -271,7 +289,7 @@ not_one ClockFault = λ e. omega (arith, e)
 not_one (Spent n) = λ e. omega (arith, e)
 not_one NoMemory = λ e. omega (arith, e)
 
-not_two : (outcome : Outcome) → served_status outcome ≢ 2
+pub not_two : (outcome : Outcome) → served_status outcome ≢ 2
 not_two (End n) = λ e. omega (arith, e)
 not_two (Truncated n) = λ e. omega (arith, e)
 not_two (TooLong n) = λ e. omega (arith, e)
@@ -304,6 +322,8 @@ module _ (words : List (String Global)) (frames : ℕ) (before after : Touched) 
     checks_well = λ check. two_commands words (Run frames) Check run check (λ e. cc e);
     relays_well = λ most is. two_commands words (Run frames) (Relay most) run is (λ e. cc e);
     mints_well = λ m is. two_commands words (Run frames) (Mint m) run is (λ e. cc e);
+    audits_well = λ most is. two_commands words (Run frames) (Audit most) run is (λ e. cc e);
+    drills_well = λ d is. two_commands words (Run frames) (Drill d) run is (λ e. cc e);
     causes = serving_caused before after outcome h;
     told = streams_told before after (served_status outcome) (serving_told before after outcome same h);
     clock = λ _. (serving_told before after outcome same h).clock;
@@ -326,6 +346,8 @@ module _ (words : List (String Global)) (frames : ℕ) (before after : Touched) 
         checks_well = λ check. two_commands words (Relay frames) Check relay check (λ e. cc e);
         mints_well = λ m is. two_commands words (Relay frames) (Mint m) relay is (λ e. cc e);
         relays_well = λ most is. ends_well before after IsRelayFile most 0 0 outcome (complete_for most is complete) (refl, omega arith);
+        audits_well = λ most is. two_commands words (Relay frames) (Audit most) relay is (λ e. cc e);
+        drills_well = λ d is. two_commands words (Relay frames) (Drill d) relay is (λ e. cc e);
         causes = serving_caused before after outcome causes;
         told = streams_told before after (served_status outcome) (serving_told before after outcome same causes);
         clock = λ _. (serving_told before after outcome same causes).clock;
@@ -395,6 +417,8 @@ checked words before after o end check opens same clock h = record {
   checks_well = λ _. check_well before after end h;
   relays_well = λ frames relay. two_commands words Check (Relay frames) check relay (λ e. cc e);
   mints_well = λ m is. two_commands words Check (Mint m) check is (λ e. cc e);
+  audits_well = λ most is. two_commands words Check (Audit most) check is (λ e. cc e);
+  drills_well = λ d is. two_commands words Check (Drill d) check is (λ e. cc e);
   causes = check_caused before after end h;
   told = streams_told before after (checked_status end) (check_told before after end same clock h);
   clock = λ _. (check_told before after end same clock h).clock;
@@ -450,6 +474,8 @@ minted words m before after r end mint opens same input clock h = record {
   checks_well = λ check. two_commands words (Mint m) Check mint check (λ e. cc e);
   relays_well = λ frames relay. two_commands words (Mint m) (Relay frames) mint relay (λ e. cc e);
   mints_well = λ other is. mint_well before after end h;
+  audits_well = λ most is. two_commands words (Mint m) (Audit most) mint is (λ e. cc e);
+  drills_well = λ d is. two_commands words (Mint m) (Drill d) mint is (λ e. cc e);
   causes = mint_caused before after end h;
   told = streams_told before after (minted_status end) (mint_told before after end same input clock h);
   clock = λ _. (mint_told before after end same input clock h).clock;

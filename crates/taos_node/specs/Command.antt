@@ -10,18 +10,22 @@ use Rattle.frame_link.specs.Streams.{Stream, stream}
 use Rattle.taos_node.specs.declared.ending.FileFault.{FileFault}
 use Rattle.taos_node.specs.declared.ending.Ending.{Ending}
 use Rattle.taos_node.specs.declared.ending.Ending.TheVariants as ending
-use Rattle.taos_node.specs.declared.ending.Ending.TheVariants.{Usage, File, Served, Checked, Relayed, Minted, Lanes}
+use Rattle.taos_node.specs.declared.ending.Ending.TheVariants.{Usage, File, Served, Checked, Relayed, Minted, Lanes, RelayLanes, Audited, Drilled}
 use Rattle.taos_node.specs.Files.{IsNodeFile, IsRelayFile, OpensNode, OpensRelay, FileFails, FileDecides, HasFailed, IsSteady, node_means, relay_means}
-use Rattle.taos_node.specs.Words.{Mean, MintWords, Task, Run, Check, Relay, Mint, Serve}
+use Rattle.taos_node.specs.Words.{Mean, MintWords, DrillWords, Task, Run, Check, Relay, Mint, Serve, RelayServe, Audit, Drill}
 use Rattle.taos_node.specs.declared.check.CheckEnd.{CheckEnd}
 use Rattle.taos_node.specs.Ending.{status_of}
 use Rattle.taos_node.specs.Notes.{note_of, IsNoted}
 use Rattle.taos_lanes.specs.declared.lane.Lane.{Lane}
 use Rattle.taos_lanes.specs.declared.lane.Limits.{Limits}
 use Rattle.taos_lanes.specs.Stocked.{LaneShown}
+use Rattle.taos_node.specs.declared.ending.AuditEnd.{AuditEnd}
+use Rattle.taos_node.specs.declared.ending.DrillEnd.{DrillEnd}
+use Rattle.taos_node.specs.Audit.{IsAuditOf, WritesAudit}
+use Rattle.taos_node.specs.Drills.{Drills}
 use Rattle.taos_node.specs.Lanes.{ServesLanes}
+use Rattle.taos_node.specs.RelayLanes.{IsRelayOf, RelaysDoors}
 use Rattle.node_file.specs.Opening.{Opening}
-use Rattle.node_file.specs.Held.{HoldsKeys}
 use Rattle.node_file.specs.RelayFile.{RelayFile}
 use Rattle.taos_node.specs.declared.minting.MintEnd.{MintEnd}
 use Rattle.taos_node.specs.Minting.{Mints}
@@ -43,6 +47,14 @@ IsCommand words = (task : Task) × Mean words task
 -- the words are the command that serves lanes
 abbrev pub IsServe : List (String Global) → Type 0
 IsServe words = (limits : Limits) × Mean words (Serve limits)
+
+-- the words are the command that serves lanes as a relay
+abbrev pub IsRelayServe : List (String Global) → Type 0
+IsRelayServe words = (limits : Limits) × Mean words (RelayServe limits)
+
+-- the words are one of the two
+abbrev pub ServesDoors : List (String Global) → Type 0
+ServesDoors words = IsServe words ⊎ IsRelayServe words
 
 -- ---- what a call touches
 
@@ -113,6 +125,32 @@ pub record ServesConnection (o : Opening) (frames : ℕ) (before after : Touched
   pub connection : IsConnection (setting_of node (alone_of true true) before.relay.says) frames
       (with_seen before nothing_seen) (with_seen after seen) outcome
 
+-- what a connection is served over where nobody has the replies
+abbrev pub unwritten : Touched → Seen → Line World
+unwritten t seen = line t.input.told None
+    (record { clock = t.clock.told; faults = t.relay.faults; seen = seen })
+
+-- A node of the opening serves the connection, of at most so many frames, from empty journals on; its
+-- replies are written nowhere. Of the journals at the end, whose entries are all its own, the text is
+-- written.
+pub record Audits (o : Opening) (frames : ℕ) (before after : Touched) (end : AuditEnd) : Type 0 where
+  pub node : Node
+  pub is_node : IsNodeOf o node
+  pub seen : Seen
+  pub outcome : Outcome
+  pub connection : IsConnection (setting_of node (alone_of true true) before.relay.says) frames
+      (unwritten before nothing_seen) (unwritten after seen) outcome
+  pub text : List ℕ
+  pub is_text : IsAuditOf o seen.journals text
+  pub writes : WritesAudit text outcome before.output.told after.output.told end
+
+-- a load that is made was served, and nothing but the output was touched
+pub record DrillsAlone (d : DrillWords) (before after : Touched) (end : DrillEnd) : Type 0 where
+  pub drills : Drills d before.output.told after.output.told end
+  pub file : Keeps before.file.told after.file.told
+  pub input : Keeps before.input.told after.input.told
+  pub lane : UsesNoLane before after
+
 -- a request and its reply were looked over, by the node that the file opens
 pub record LooksOver (before after : Touched) (end : CheckEnd) : Type 0 where
   pub node : Opening
@@ -120,11 +158,6 @@ pub record LooksOver (before after : Touched) (end : CheckEnd) : Type 0 where
   pub checks : Checks node before.input.told after.input.told before.output.told
       after.output.told end
   pub lane : UsesNoLane before after
-
--- the relay has the keys of the file
-pub record IsRelayOf (r : RelayFile) (table : RelayTable) : Type 0 where
-  pub issuers : HoldsKeys table.issuers r.issuers
-  pub nodes : HoldsKeys table.nodes r.nodes
 
 -- a relay of the file serves the connection, of at most so many frames
 pub record ServesRelay (r : RelayFile) (frames : ℕ) (before after : Touched)
@@ -154,6 +187,9 @@ FileFailsFor Check = FileFails node_means
 FileFailsFor (Relay frames) = FileFails relay_means
 FileFailsFor (Mint m) = FileFails relay_means
 FileFailsFor (Serve limits) = FileFails node_means
+FileFailsFor (RelayServe limits) = FileFails relay_means
+FileFailsFor (Audit frames) = FileFails node_means
+FileFailsFor (Drill d) = λ file0 file1 fault. ⊥
 
 -- What is done where no lanes are served, by how it ends. Other words do nothing, nor is anything
 -- done where memory is refused before the words are read. A file that is refused, or fails, and one
@@ -178,17 +214,28 @@ RunsAlone words before after (Relayed outcome) =
 RunsAlone words before after (Minted end) =
     (m : MintWords) × Mean words (Mint m) ×
     ((r : RelayFile) × OpensRelay before.file after.file r × MintsBy r m before after end)
+RunsAlone words before after (Audited end) =
+    (frames : ℕ) × Mean words (Audit frames) ×
+    ((o : Opening) × OpensNode before.file after.file o × Audits o frames before after end)
+RunsAlone words before after (Drilled end) =
+    (d : DrillWords) × Mean words (Drill d) × DrillsAlone d before after end
 RunsAlone words before after (Lanes end) = ⊥
+RunsAlone words before after (RelayLanes end) = ⊥
 
 module _ {In Out : Type 0} (left : In → Option (List ℕ)) (written : Out → Option (List ℕ)) where
-  -- What is done, by how it ends: the lanes of a node of the file's opening serve their doors, and the
-  -- line of what they counted is written; every other ending touches no other lane than the first.
+  -- What is done, by how it ends: the lanes of a node of the file's opening, or of a relay of the file,
+  -- serve their doors, and the line of what they counted is written; every other ending touches no
+  -- other lane than the first.
   abbrev pub Runs : List (String Global) → (before after : Touched) →
       (lanes0 lanes1 : List (LaneShown (In × Out))) → Ending → Type 0
   Runs words before after lanes0 lanes1 (Lanes end) =
       Keeps before.input.told after.input.told × ((limits : Limits) × Mean words (Serve limits)
       × ((o : Opening) × OpensNode before.file after.file o
       × ServesLanes left written o limits lanes0 lanes1 before.output.told after.output.told end))
+  Runs words before after lanes0 lanes1 (RelayLanes end) =
+      Keeps before.input.told after.input.told × ((limits : Limits) × Mean words (RelayServe limits)
+      × ((r : RelayFile) × OpensRelay before.file after.file r
+      × RelaysDoors left written r limits lanes0 lanes1 before.output.told after.output.told end))
   Runs words before after lanes0 lanes1 other =
       RunsAlone words before after other × (drop 1 lanes1 ≡ drop 1 lanes0)
 
@@ -210,6 +257,9 @@ FileDecidesFor Check = FileDecides IsNodeFile
 FileDecidesFor (Relay frames) = FileDecides IsRelayFile
 FileDecidesFor (Mint m) = FileDecides IsRelayFile
 FileDecidesFor (Serve limits) = FileDecides IsNodeFile
+FileDecidesFor (RelayServe limits) = FileDecides IsRelayFile
+FileDecidesFor (Audit frames) = FileDecides IsNodeFile
+FileDecidesFor (Drill d) = λ file0 file1 status. status ≢ 2
 
 -- An input of whole frames is answered to its end: where the file means something, the frames are
 -- not more than may be answered, and nothing fails, the status is 0, or 6 where memory was refused.
@@ -266,11 +316,15 @@ pub record IsStatus (words : List (String Global)) (before after : Touched)
   pub checks_well : Mean words Check → ChecksWell before after status
   pub relays_well : (frames : ℕ) → Mean words (Relay frames) →
       EndsWell IsRelayFile frames before after status
+  pub audits_well : (frames : ℕ) → Mean words (Audit frames) → IsSteady before.clock after.clock →
+      EndsWell IsNodeFile frames before after status
+  pub drills_well : (d : DrillWords) → Mean words (Drill d) → IsSteady before.output after.output →
+      (status ≡ 0) ⊎ (status ≡ 6)
   pub mints_well : (m : MintWords) → Mean words (Mint m) → MintsWell before after status
   pub causes : IsCaused before after status
   pub told : TellsFaults before after status
   -- by a command that serves lanes a reading that fails ends its connection alone
-  pub clock : (IsServe words → ⊥) → before.clock.faults < after.clock.faults → status ≡ 5
+  pub clock : (ServesDoors words → ⊥) → before.clock.faults < after.clock.faults → status ≡ 5
 
 module _ {X : Type 0} where
   -- the door's count stayed
@@ -282,15 +336,19 @@ module _ {X : Type 0} where
   HasSteadyDoor before after =
       HasSameCount before after × (before.door.faults < 2 ^ 64 - 1)
 
-  -- What the status tells of the lanes' doors: 9 is answered by the command that serves lanes, where
+  -- What the status tells of the lanes' doors: 9 is answered by a command that serves lanes, where
   -- a door failed, and always where a door's count rose; where nothing fails the status is 0, or 6
   -- where memory was refused.
   pub record TellsDoors (words : List (String Global)) (before after : Touched)
       (lanes0 lanes1 : List (LaneShown X)) (status : ℕ) : Type 0 where
-    pub caused : status ≡ 9 → IsServe words × (AllZip HasSteadyDoor lanes0 lanes1 → ⊥)
-    pub told : IsServe words → status ≢ 9 → AllZip HasSameCount lanes0 lanes1
+    pub caused : status ≡ 9 → ServesDoors words × (AllZip HasSteadyDoor lanes0 lanes1 → ⊥)
+    pub told : ServesDoors words → status ≢ 9 → AllZip HasSameCount lanes0 lanes1
     pub well : IsServe words → (bytes : List ℕ) (o : Opening) → before.file.told ≡ Some bytes →
         IsNodeFile o bytes → IsSteady before.file after.file →
+        IsSteady before.output after.output → AllZip HasSteadyDoor lanes0 lanes1 →
+        (status ≡ 0) ⊎ (status ≡ 6)
+    pub relays_well : IsRelayServe words → (bytes : List ℕ) (r : RelayFile) →
+        before.file.told ≡ Some bytes → IsRelayFile r bytes → IsSteady before.file after.file →
         IsSteady before.output after.output → AllZip HasSteadyDoor lanes0 lanes1 →
         (status ≡ 0) ⊎ (status ≡ 6)
 

@@ -7,7 +7,11 @@ use Rattle.taos_node.specs.declared.ending.FileFault.TheVariants as fault
 use Rattle.taos_node.specs.declared.ending.FileFault.TheVariants.{Malformed, Refused}
 use Rattle.taos_node.specs.declared.ending.Ending.{Ending}
 use Rattle.taos_node.specs.declared.ending.Ending.TheVariants as ending
-use Rattle.taos_node.specs.declared.ending.Ending.TheVariants.{Usage, File, Served, Checked, Relayed, Minted, Lanes}
+use Rattle.taos_node.specs.declared.ending.Ending.TheVariants.{Usage, File, Served, Checked, Relayed, Minted, Lanes, RelayLanes, Audited, Drilled}
+use Rattle.taos_node.specs.declared.ending.AuditEnd.{AuditEnd}
+use Rattle.taos_node.specs.declared.ending.AuditEnd.TheVariants as audit
+use Rattle.taos_node.specs.declared.ending.DrillEnd.{DrillEnd}
+use Rattle.taos_node.specs.declared.ending.DrillEnd.TheVariants as drill
 use Rattle.taos_node.specs.declared.ending.LanesEnd.{LanesEnd}
 use Rattle.taos_node.specs.declared.ending.LanesEnd.TheVariants as lanes
 use Rattle.taos_node.specs.declared.check.CheckEnd.{CheckEnd}
@@ -47,6 +51,19 @@ lanes_status (lanes.DoorFault lane) = 9
 lanes_status lanes.WriteFault = 4
 lanes_status lanes.NoMemory = 6
 
+-- the exit status where a connection was served and its journals were to be printed
+abbrev pub audited_status : AuditEnd → ℕ
+audited_status audit.Done = 0
+audited_status (audit.Stopped outcome) = served_status outcome
+audited_status audit.WriteFault = 4
+audited_status audit.NoMemory = 6
+
+-- the exit status where a load was served
+abbrev pub drilled_status : DrillEnd → ℕ
+drilled_status drill.Done = 0
+drilled_status drill.WriteFault = 4
+drilled_status drill.NoMemory = 6
+
 -- the exit status of an ending
 abbrev pub status_of : Ending → ℕ
 status_of Usage = 1
@@ -57,3 +74,6 @@ status_of (Checked end) = checked_status end
 status_of (Relayed outcome) = served_status outcome
 status_of (Minted end) = minted_status end
 status_of (Lanes end) = lanes_status end
+status_of (RelayLanes end) = lanes_status end
+status_of (Audited end) = audited_status end
+status_of (Drilled end) = drilled_status end

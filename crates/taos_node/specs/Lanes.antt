@@ -24,18 +24,22 @@ pub record IsWhole (total : Total) : Type 0 where
   pub doors : HasNoneFailed total
   pub memory : total.lacked ≡ 0
 
--- What is printed of what lanes left, by how it ends: the line of what was counted, or a proper front
--- of it; nothing where a door failed, or a connection ended for want of memory.
-abbrev pub Prints : Left → Option (List ℕ) → Option (List ℕ) → LanesEnd → Type 0
-Prints l out0 out1 lanes.Done = IsWhole l.total × Appends out0 out1 (lanes_line l)
-Prints l out0 out1 (lanes.DoorFault lane) =
-    (lane ≡ l.total.first_failed) × (lane < l.total.lanes) × Keeps out0 out1
-Prints l out0 out1 lanes.WriteFault =
-    IsWhole l.total
-    × ((part more : List ℕ) × (lanes_line l ≡ part ++ more) × (0 < length more)
+-- What is printed of what lanes counted, by how it ends: this line, or a proper front of it; nothing
+-- where a door failed, or a connection ended for want of memory.
+abbrev pub PrintsLine : Total → List ℕ → Option (List ℕ) → Option (List ℕ) → LanesEnd → Type 0
+PrintsLine total text out0 out1 lanes.Done = IsWhole total × Appends out0 out1 text
+PrintsLine total text out0 out1 (lanes.DoorFault lane) =
+    (lane ≡ total.first_failed) × (lane < total.lanes) × Keeps out0 out1
+PrintsLine total text out0 out1 lanes.WriteFault =
+    IsWhole total
+    × ((part more : List ℕ) × (text ≡ part ++ more) × (0 < length more)
     × Appends out0 out1 part)
-Prints l out0 out1 lanes.NoMemory =
-    HasNoneFailed l.total × (0 < l.total.lacked) × Keeps out0 out1
+PrintsLine total text out0 out1 lanes.NoMemory =
+    HasNoneFailed total × (0 < total.lacked) × Keeps out0 out1
+
+-- what is printed of what the lanes of a node left
+abbrev pub Prints : Left → Option (List ℕ) → Option (List ℕ) → LanesEnd → Type 0
+Prints l = PrintsLine l.total (lanes_line l)
 
 -- the output's count rose where a fault of writing is answered, and else stayed
 abbrev pub LanesCauses : ℕ → ℕ → LanesEnd → Type 0

@@ -7,6 +7,10 @@ pub mod Files
 pub mod Minting
 pub mod Summary
 pub mod Lanes
+pub mod RelayLanes
+pub mod Audit
+pub mod AuditOf
+pub mod Drills
 pub mod Command
 pub mod Checking
 pub mod Findings

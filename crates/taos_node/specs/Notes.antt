@@ -11,7 +11,11 @@ use Rattle.taos_node.specs.declared.ending.FileFault.TheVariants as fault
 use Rattle.taos_node.specs.declared.ending.FileFault.TheVariants.{Malformed, Refused}
 use Rattle.taos_node.specs.declared.ending.Ending.{Ending}
 use Rattle.taos_node.specs.declared.ending.Ending.TheVariants as ending
-use Rattle.taos_node.specs.declared.ending.Ending.TheVariants.{Usage, File, Served, Checked, Relayed, Minted, Lanes}
+use Rattle.taos_node.specs.declared.ending.Ending.TheVariants.{Usage, File, Served, Checked, Relayed, Minted, Lanes, RelayLanes, Audited, Drilled}
+use Rattle.taos_node.specs.declared.ending.AuditEnd.{AuditEnd}
+use Rattle.taos_node.specs.declared.ending.AuditEnd.TheVariants as audit
+use Rattle.taos_node.specs.declared.ending.DrillEnd.{DrillEnd}
+use Rattle.taos_node.specs.declared.ending.DrillEnd.TheVariants as drill
 use Rattle.taos_node.specs.declared.ending.LanesEnd.{LanesEnd}
 use Rattle.taos_node.specs.declared.ending.LanesEnd.TheVariants as lanes
 use Rattle.taos_node.specs.Minting.{minted_note}
@@ -71,6 +75,19 @@ lanes_note (lanes.DoorFault lane) = codes "taos: door fault at lane " ++ decimal
 lanes_note lanes.WriteFault = codes "taos: write fault\n"
 lanes_note lanes.NoMemory = codes "taos: no memory\n"
 
+-- the note where a connection was served and its journals were to be printed
+abbrev pub audited_note : AuditEnd → List ℕ
+audited_note audit.Done = []
+audited_note (audit.Stopped outcome) = served_note outcome
+audited_note audit.WriteFault = codes "taos: write fault\n"
+audited_note audit.NoMemory = codes "taos: no memory\n"
+
+-- the note where a load was served
+abbrev pub drilled_note : DrillEnd → List ℕ
+drilled_note drill.Done = []
+drilled_note drill.WriteFault = codes "taos: write fault\n"
+drilled_note drill.NoMemory = codes "taos: no memory\n"
+
 -- the bytes of the note of an ending
 abbrev pub note_of : Ending → List ℕ
 note_of Usage = codes "taos: usage\n"
@@ -81,6 +98,9 @@ note_of (Checked end) = checked_note end
 note_of (Relayed outcome) = served_note outcome
 note_of (Minted end) = minted_note end
 note_of (Lanes end) = lanes_note end
+note_of (RelayLanes end) = lanes_note end
+note_of (Audited end) = audited_note end
+note_of (Drilled end) = drilled_note end
 
 -- the note was written, or a proper front of it where the notes failed; what was told of the notes,
 -- and how often they had failed, before and after

@@ -4,7 +4,7 @@ use Rattle.std.specs.List.Sorted.{IsStrictlyIncreasing}
 use Rattle.keyed_seal.specs.Keys.{Entries, key_of}
 use Rattle.object_core.specs.Objects.{ObjectPlan, ObjectSeen, object_of}
 use Rattle.object_core.specs.OneOwner.{fixed_on, seen_on, own_on, taken_from}
-use Rattle.object_core.specs.Shelving.{HaveOwnNumbers, ObjectFixed, fixed_at, fixed_of}
+use Rattle.object_core.specs.Shelving.{HaveOwnNumbers, ObjectFixed, fixed_at, fixed_of, numbers_of as object_numbers}
 use Rattle.std.specs.Option.{option_map}
 use Rattle.node_file.specs.Opening.{Opening, FitsObject}
 use Rattle.agent_core.specs.Alone.{plans_in, seen_in, own_in}
@@ -39,7 +39,7 @@ fixed_with limit plan = record { plan = plan; limit = limit }
 abbrev pub new_object : ℕ → ObjectPlan → ObjectSeen
 new_object limit plan = record { plan = plan; limit = limit; journal = [] }
 
--- the node has what the opening says, its channels by ascending number
+-- the node has what the opening says, its channels and objects by ascending number
 pub record IsNodeOf (o : Opening) (n : Node) : Type 0 where
   pub number : n.number ≡ o.node
   pub relay_key : n.relay_key ≡ o.relay_key
@@ -48,6 +48,7 @@ pub record IsNodeOf (o : Opening) (n : Node) : Type 0 where
   pub ascending : IsStrictlyIncreasing (numbers_of n.channels)
   pub objects : (number : ℕ) →
       fixed_at n.objects number ≡ option_map (fixed_with o.limit) (object_of o.objects number)
+  pub by_number : IsStrictlyIncreasing (object_numbers n.objects)
   pub plans : n.plans ≡ its_plans o n.channels
 
 -- the node of these parts
@@ -67,12 +68,24 @@ abbrev pub nothing_seen : Seen
 nothing_seen =
     seen_of (viewed (λ shard. []) (λ shard. [])) (viewed (λ object. []) (λ object. []))
 
+-- the node that it is
+abbrev pub node_by : OpenNode → Node
+node_by node = node_of node.keys (plans_in node.shards.shards) (fixed_on node.shelf)
+
+-- what is seen of the node's journals
+abbrev pub seen_by : OpenNode → Seen
+seen_by node =
+    seen_of (viewed (λ shard. seen_in node.shards.shards shard) (λ shard. own_in node.shards shard))
+    (viewed (λ object. seen_on node.shelf object) (λ object. own_on node.shelf object))
+
+-- the node has the same shards and objects, whatever their journals are, and no object is taken
+pub record IsSameNode (old new : OpenNode) : Type 0 where
+  pub plans : plans_in new.shards.shards ≡ plans_in old.shards.shards
+  pub objects : fixed_on new.shelf ≡ fixed_on old.shelf
+  pub none_taken : taken_from new.shelf ≡ None
+
 -- the program's node is one of the opening, and its journals are empty
 pub record IsOpenedBy (o : Opening) (node : OpenNode) : Type 0 where
-  pub is_node : IsNodeOf o
-      (node_of node.keys (plans_in node.shards.shards) (fixed_on node.shelf))
-  pub unseen : seen_of (viewed (λ shard. seen_in node.shards.shards shard)
-      (λ shard. own_in node.shards shard))
-      (viewed (λ object. seen_on node.shelf object) (λ object. own_on node.shelf object))
-      ≡ nothing_seen
+  pub is_node : IsNodeOf o (node_by node)
+  pub unseen : seen_by node ≡ nothing_seen
   pub none_taken : taken_from node.shelf ≡ None

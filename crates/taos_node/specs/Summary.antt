@@ -30,6 +30,19 @@ denials_of objects =
     sum_by (λ (o : ObjectSeen). count_by (λ (e : ObjectEntry). not (is_grant e.ruling)) o.journal)
     objects
 
+-- the line that tells what the lanes of a relay counted: connections, and those that broke
+abbrev pub relays_line : Total → List ℕ
+relays_line total =
+    codes "connections " ++ decimal total.served ++ codes " broken " ++ decimal total.broken
+    ++ codes "\n"
+
+-- the line that tells what a drill of so many requests came to: these, entries, grants and denials
+abbrev pub drill_line : ℕ → Left → List ℕ
+drill_line requests l =
+    codes "requests " ++ decimal requests ++ codes " entries " ++ decimal (entries_of l.shards)
+    ++ codes " grants " ++ decimal (grants_of l.objects) ++ codes " denials "
+    ++ decimal (denials_of l.objects) ++ codes "\n"
+
 -- the line that tells what was counted: connections, those that broke, entries, grants and denials
 abbrev pub lanes_line : Left → List ℕ
 lanes_line l =

@@ -1,8 +1,9 @@
 -- The commands and their options, as `clap` sees them.
-use Rattle.std.specs.Prelude.{◌≡◌, ◌≢◌, ℕ, List, [], ◌∷◌, ◌++◌, map, fold, Contains, codes, true, false, Option, Some, None}
+use Rattle.std.specs.Prelude.{◌≡◌, ◌≢◌, ℕ, ◌+◌, ◌≤◌, ◌^◌, List, [], ◌∷◌, ◌++◌, map, fold, Contains, codes, true, false, Option, Some, None}
 use Rattle.taos_lanes.specs.declared.lane.Limits.{Limits}
+use Rattle.taos_drill.specs.declared.numbers.TheConstants.{MAX_LANES, MAX_REQUESTS}
 use Rattle.taos_node.specs.declared.wanted.Wanted.{Wanted}
-use Rattle.taos_node.specs.Words.{AreConnections, AreFrames, GivesLimits, GivesMint, HasNumber, IsValue, MintWords, Mint, Task, lane_options, mint_options, serving_options, task_of}
+use Rattle.taos_node.specs.Words.{AreConnections, AreFrames, GivesLimits, GivesMint, HasNumber, IsValue, MintWords, DrillWords, Drill, Mint, Task, lane_options, mint_options, serving_options, task_of}
 use Rattle.clap.specs.Words.{App, Rule, Text, app_of, new_app, new_rule, with_subcommand}
 use Rattle.clap.specs.declared.builder.command.Command.TheViews.{out-Command}
 use Rattle.clap.specs.Simple.{on_top}
@@ -12,6 +13,10 @@ use Rattle.clap.specs.declared.builder.action.ArgAction.TheVariants.{Set}
 -- an option with one value
 abbrev pub option_rule : Text → Rule
 option_rule name = record (new_rule name) { long = Some name; action = Some Set }
+
+-- a word without an option's name, by its place
+abbrev pub word_rule : Text → Rule
+word_rule name = record (new_rule name) { action = Some Set }
 
 -- a command that has these options, and no help of its own
 abbrev pub command_app : Text → List Text → App
@@ -33,13 +38,25 @@ base_app =
 abbrev pub commands : List (Text × List Text)
 commands =
     (codes "run", serving_options) ∷ (codes "check", []) ∷ (codes "relay", serving_options)
-    ∷ (codes "mint", mint_options) ∷ (codes "serve", lane_options) ∷ []
+    ∷ (codes "mint", mint_options) ∷ (codes "serve", lane_options)
+    ∷ (codes "relay-serve", lane_options) ∷ (codes "audit", serving_options) ∷ []
+
+-- the words of `drill`, by their places
+abbrev pub drill_names : List Text
+drill_names = codes "seed" ∷ codes "requests" ∷ codes "lanes" ∷ []
+
+-- the command that has no options
+abbrev pub drill_app : App
+drill_app =
+    on_top (λ s. record s { disable_help_flag = true; rules = map word_rule drill_names })
+    (new_app (codes "drill"))
 
 -- all commands
 abbrev pub taos_app : App
 taos_app =
-    fold (λ (a : App) (c : Text × List Text). with_subcommand a (command_app c.0 c.1).top) base_app
-    commands
+    with_subcommand
+    (fold (λ (a : App) (c : Text × List Text). with_subcommand a (command_app c.0 c.1).top) base_app
+    commands) drill_app.top
 
 -- a command of this form, with no global argument
 abbrev pub IsMade : App → Command → Type 0
@@ -105,10 +122,23 @@ abbrev pub IsNumberOf : ℕ → Option Text → Option ℕ → Type 0
 IsNumberOf bound text (Some n) = HasNumber bound text n
 IsNumberOf bound text None = (n : ℕ) → HasNumber bound text n → ⊥
 
+-- the texts of the words of `drill` give what it is asked for
+pub record ReadsDrill (text_of : Text → Option Text) (d : DrillWords) : Type 0 where
+  pub seed : HasNumber (2 ^ 64) (text_of (codes "seed")) d.seed
+  pub requests : HasNumber (MAX_REQUESTS + 1) (text_of (codes "requests")) d.requests
+  pub lanes : HasNumber (MAX_LANES + 1) (text_of (codes "lanes")) d.lanes
+  pub some : 1 ≤ d.lanes
+
 -- each text of an option of `mint` may be a value
 abbrev pub AreValues : (Text → Option Text) → Type 0
 AreValues text_of =
     (name v : Text) → Contains mint_options name → text_of name ≡ Some v → IsValue v
+
+-- what `drill` is asked for, by the texts of its words
+abbrev pub IsDrillOf : (Text → Option Text) → Option Wanted → Type 0
+IsDrillOf text_of (Some wanted) =
+    (d : DrillWords) × (task_of wanted ≡ Drill d) × ReadsDrill text_of d
+IsDrillOf text_of None = (d : DrillWords) → ReadsDrill text_of d → ⊥
 
 -- what `mint` is asked for, by the texts of its options
 abbrev pub IsMintOf : (Text → Option Text) → Option Wanted → Type 0

@@ -1,7 +1,9 @@
 -- What a list of words means: a command, and its options.
-use Rattle.std.specs.Prelude.{◌≡◌, ◌≢◌, ℕ, ◌^◌, ◌<◌, ◌≤◌, Bool, if◌then◌else◌, List, [], ◌∷◌, ◌++◌, map, flat_map, All, Contains, Option, Some, None, option_map, find, codes, decimal, string_bytes, String, bytes_eq}
+use Rattle.std.specs.Prelude.{◌≡◌, ◌≢◌, ℕ, ◌^◌, ◌+◌, ◌<◌, ◌≤◌, Bool, if◌then◌else◌, List, [], ◌∷◌, ◌++◌, map, flat_map, All, Contains, Option, Some, None, option_map, find, codes, decimal, string_bytes, String, bytes_eq}
 use Rattle.std.specs.declared.alloc.Global.{Global}
 use Rattle.taos_lanes.specs.declared.lane.Limits.{Limits}
+use Rattle.taos_drill.specs.declared.numbers.TheConstants.{MAX_LANES, MAX_REQUESTS}
+use Rattle.taos_node.specs.declared.wanted.Drill.{Drill as DrillAsked}
 use Rattle.taos_node.specs.declared.wanted.Mint.{Mint as MintAsked}
 use Rattle.taos_node.specs.declared.wanted.Wanted.{Wanted}
 use Rattle.taos_node.specs.declared.wanted.Wanted.TheVariants as wanted
@@ -30,6 +32,16 @@ mint_words m = record {
   right = m.right.now;
 }
 
+-- what `drill` is asked for
+pub record DrillWords : Type 0 where
+  pub seed : ℕ
+  pub requests : ℕ
+  pub lanes : ℕ
+
+-- what the program has of it
+abbrev pub drill_words : DrillAsked → DrillWords
+drill_words d = record { seed = d.seed; requests = d.requests; lanes = d.lanes }
+
 -- what a command line asks for
 pub data Task : Type 0 where
   -- to serve a connection, of at most so many frames
@@ -42,6 +54,12 @@ pub data Task : Type 0 where
   Mint : MintWords → Task
   -- to serve so many connections at most of each lane, of at most so many frames each
   Serve : Limits → Task
+  -- the same, as a relay
+  RelayServe : Limits → Task
+  -- to serve a connection, of at most so many frames, and to print the journals
+  Audit : ℕ → Task
+  -- to serve a load that is made
+  Drill : DrillWords → Task
 
 -- the task that the program has
 abbrev pub task_of : Wanted → Task
@@ -50,6 +68,9 @@ task_of wanted.Check = Check
 task_of (wanted.Relay frames) = Relay frames
 task_of (wanted.Mint m) = Mint (mint_words m)
 task_of (wanted.Serve limits) = Serve limits
+task_of (wanted.RelayServe limits) = RelayServe limits
+task_of (wanted.Audit frames) = Audit frames
+task_of (wanted.Drill d) = Drill (drill_words d)
 
 -- an option that is given with its value, both in one word or in two
 pub record Given : Type 0 where
@@ -147,6 +168,20 @@ ServeLanes words command limits =
     (given : List Given) × IsLine words command lane_options given
     × GivesLimits (λ name. value_of name given) limits
 
+-- the three words behind `drill` give what it is asked for: a number, the count of requests, and that of
+-- lanes, of which there is one at least
+pub record GivesDrill (first second third : Text) (d : DrillWords) : Type 0 where
+  pub seed : IsNumber (2 ^ 64) first d.seed
+  pub requests : IsNumber (MAX_REQUESTS + 1) second d.requests
+  pub lanes : IsNumber (MAX_LANES + 1) third d.lanes
+  pub some : 1 ≤ d.lanes
+
+-- the words are `drill` and the three words behind it
+abbrev pub AsksDrill : List Text → DrillWords → Type 0
+AsksDrill words d =
+    (seed requests lanes : Text) × (words ≡ codes "drill" ∷ seed ∷ requests ∷ lanes ∷ [])
+    × GivesDrill seed requests lanes d
+
 -- the words of a command line, each by its bytes, mean the task
 abbrev pub TextsMean : List Text → Task → Type 0
 TextsMean words (Run frames) = ServeFrames words (codes "run") frames
@@ -156,6 +191,9 @@ TextsMean words (Mint m) =
     (given : List Given) × IsLine words (codes "mint") mint_options given
     × GivesMint (λ name. value_of name given) m
 TextsMean words (Serve limits) = ServeLanes words (codes "serve") limits
+TextsMean words (RelayServe limits) = ServeLanes words (codes "relay-serve") limits
+TextsMean words (Audit frames) = ServeFrames words (codes "audit") frames
+TextsMean words (Drill d) = AsksDrill words d
 
 -- the words mean the task
 abbrev pub Mean : List (String Global) → Task → Type 0

@@ -2,6 +2,7 @@
 
 ghost use Rattle.std.specs.Prelude.{◌≡◌, ◌⊎◌, ◌<◌, ◌≤◌, List, String, drop, length, map, IfOk, None};
 ghost use Rattle.std.specs.declared.alloc.Global.{Global};
+ghost use Rattle.agent_core.specs.declared.limits.TheConstants.{MAX_SHARDS};
 ghost use Rattle.agent_core.specs.Alone.{plans_in};
 ghost use Rattle.frame_link.specs.Served.{counts, HasCauses, IsComplete};
 ghost use Rattle.node_file.specs.Opening.{Opening as Meaning};
@@ -10,18 +11,21 @@ ghost use Rattle.taos_monitor.specs.Planned.{ArePlanned};
 ghost use Rattle.taos_node.specs.Ending.{status_of};
 ghost use Rattle.frame_link.specs.Streams.{Stream, stream};
 ghost use Rattle.taos_lanes.specs.Stocked.{door_by, shown_by};
-ghost use Rattle.taos_node.specs.Command.{Does, Link, touched, first_clock, first_link, Ends, IsServe, IsStatus, RunsAlone, ServesConnection, TellsDoors};
+ghost use Rattle.taos_node.specs.Command.{Does, Link, touched, first_clock, first_link, Ends, ServesDoors, IsStatus, RunsAlone, ServesConnection, TellsDoors};
 ghost use Rattle.taos_node.specs.Files.{FileHasCause, NodeFileGives};
-ghost use Rattle.taos_node.specs.Opened.{IsOpenedBy};
+ghost use Rattle.taos_node.specs.Opened.{IsOpenedBy, IsSameNode, seen_by};
 ghost use Rattle.taos_node.specs.Words.{Check, Mean};
 
+use crate::audit::audit_by_file;
 use crate::check::check_connection;
+use crate::drill::drill_asked;
 use crate::ending::{Ending, FileFault, status_of};
 use crate::file::file_opening;
 use crate::lanes::serve_by_file;
 use crate::note::tell;
 use crate::opened::{OpenNode, open_node};
 use crate::relay::{mint_by_file, relay_by_file};
+use crate::relay_lanes::serve_relay_by_file;
 use crate::wanted::Wanted;
 use crate::words::wanted_of;
 use frame_link::{Clock, Door, Outcome, RelayLink, Sink, Source};
@@ -32,14 +36,18 @@ use std::thread::Threads;
 use taos_lanes::Lane;
 use taos_monitor::serve_connection;
 
-// The node that it opens, with the room that decisions take.
-fn node_file_of<F: Source>(alloc: Global, file: &mut F) -> Result<(OpenNode, Workbench), FileFault>
+/// The node that it opens, with the room that decisions take.
+pub(crate) fn node_file_of<F: Source>(
+    alloc: Global,
+    file: &mut F,
+) -> Result<(OpenNode, Workbench), FileFault>
     ensures gives { NodeFileGives (λ o x. IsOpenedBy o x.0)
         (stream (F.left file.old) (F.faults file.old))
         (stream (F.left file.new) (F.faults file.new)) result }
     ensures planned { IfOk result (λ x. ArePlanned x.0.keys.channels.entries
         (plans_in x.0.shards.shards)) }
     ensures none_taken { IfOk result (λ x. taken_from x.0.shelf ≡ None) }
+    ensures few { IfOk result (λ x. length x.0.shards.shards ≤ MAX_SHARDS) }
     ensures cause { FileHasCause (stream (F.left file.old) (F.faults file.old))
         (stream (F.left file.new) (F.faults file.new)) result }
 {
@@ -48,8 +56,8 @@ fn node_file_of<F: Source>(alloc: Global, file: &mut F) -> Result<(OpenNode, Wor
     Ok((node, Workbench::reserve(alloc)?))
 }
 
-// Serves the connection of the first lane, of at most so many frames.
-fn serve<W: Wait + Sync, I: Source, O: Sink, C: Clock, R: RelayLink, D: Door>(
+/// Serves the connection of the first lane, of at most so many frames.
+pub(crate) fn serve_first<W: Wait + Sync, I: Source, O: Sink, C: Clock, R: RelayLink, D: Door>(
     rt: &W,
     alloc: Global,
     opened: &mut (OpenNode, Workbench),
@@ -63,13 +71,15 @@ fn serve<W: Wait + Sync, I: Source, O: Sink, C: Clock, R: RelayLink, D: Door>(
         (plans_in opened.old.0.shards.shards) }
     requires none_taken { taken_from opened.old.0.shelf ≡ None }
     ensures connection { (o : Meaning) (file0 file1 : Stream) → IsOpenedBy o opened.old.0
-        → ServesConnection o frames
-        (touched file0 (stream (I.left input.old) (I.faults input.old))
+        → let before = touched file0 (stream (I.left input.old) (I.faults input.old))
         (stream (O.written output.old) (O.faults output.old))
-        (first_clock C.readings C.faults lanes.old) (first_link R.says R.faults lanes.old))
-        (touched file1 (stream (I.left input.new) (I.faults input.new))
+        (first_clock C.readings C.faults lanes.old) (first_link R.says R.faults lanes.old) in
+        let after = touched file1 (stream (I.left input.new) (I.faults input.new))
         (stream (O.written output.new) (O.faults output.new))
-        (first_clock C.readings C.faults lanes.new) (first_link R.says R.faults lanes.new)) result }
+        (first_clock C.readings C.faults lanes.new) (first_link R.says R.faults lanes.new) in
+        (served : ServesConnection o frames before after result)
+        × (served.seen ≡ seen_by opened.new.0) }
+    ensures same { IsSameNode opened.old.0 opened.new.0 }
     ensures causes { HasCauses
         (counts (I.faults input.old) (O.faults output.old)
         (first_clock C.readings C.faults lanes.old).faults)
@@ -155,7 +165,7 @@ fn run<
         (map (shown_by C.readings R.faults R.says (door_by D.left D.back D.given D.faults)) lanes.old)
         (map (shown_by C.readings R.faults R.says (door_by D.left D.back D.given D.faults)) lanes.new)
         result }
-    ensures others { (IsServe words.now → ⊥) → drop 1 lanes.new ≡ drop 1 lanes.old }
+    ensures others { (ServesDoors words.now → ⊥) → drop 1 lanes.new ≡ drop 1 lanes.old }
 {
     let Ok(found) = wanted_of(alloc, words) else {
         return Ending::NoMemory;
@@ -168,8 +178,13 @@ fn run<
         Wanted::Relay { frames } => relay_by_file(alloc, file, input, output, frames),
         Wanted::Mint(asked) => mint_by_file(alloc, file, output, &asked),
         Wanted::Serve(limits) => serve_by_file(rt, alloc, file, output, lanes, limits),
+        Wanted::RelayServe(limits) => {
+            serve_relay_by_file(rt, alloc, file, output, lanes, limits)
+        }
+        Wanted::Drill(asked) => drill_asked(rt, alloc, asked, output),
+        Wanted::Audit { frames } => { audit_by_file(rt, alloc, file, input, output, lanes, frames) }
         Wanted::Run { frames } => match node_file_of(alloc, file) {
-            Ok(mut opened) => Ending::Served(serve(
+            Ok(mut opened) => Ending::Served(serve_first(
                 rt,
                 alloc,
                 &mut opened,
@@ -185,16 +200,22 @@ fn run<
 
 /// Does all that the program does, and answers its exit status. The command lines are `run` with
 /// `--frames N` or without, `serve` with `--connections N` and `--frames N` or without, `check`,
-/// `relay` with `--frames N` or without, and `mint` with what a certificate is to say. `run`, `serve`
-/// and `check` read the file to a node's opening, `relay` and `mint` to what a relay knows. By `run` each request frame of the
-/// input, of at most N or a million, is answered by one reply frame of the output, by a node of that
-/// opening whose journals are empty at first, with the first lane's clock and its link to the relay.
+/// `relay` with `--frames N` or without, `relay-serve` with the options of `serve`, `mint` with what
+/// a certificate is to say, `audit` with `--frames N` or without, and `drill` with a number and how
+/// many requests and lanes. `run`, `serve`, `audit` and `check` read the file to a node's opening,
+/// `relay`, `relay-serve` and `mint` to what a relay knows; `drill` reads none. By `run` each request
+/// frame of the input, of at most N or a million, is answered by one reply frame of the output, by a
+/// node of that opening whose journals are empty at first, with the first lane's clock and its link
+/// to the relay.
 /// By `serve` a worker for each lane serves connections of the lane's door, all at the same time, by
 /// one node of that opening whose journals are empty at first, and one line of the output says what
 /// was counted.
 /// By `check` the frames of a request and its reply are looked over, and one line of the output says
-/// what is found. By `relay` each frame of the input is answered by the relay's answer to a node. By
-/// `mint` one line of the output is the certificate. A note tells how it ended.
+/// what is found. By `relay` each frame of the input is answered by the relay's answer to a node; by
+/// `relay-serve` the lanes' doors are served so, and one line says what was counted. By `mint` one
+/// line of the output is the certificate. By `audit` a connection is served as by `run`, and the
+/// output has the text of the journals in place of the replies. By `drill` a node serves a load that
+/// is made of the number, and one line says what it came to. A note tells how it ended.
 pub fn taos<
     W: Threads + Wait + Sync,
     F: Source,
@@ -246,7 +267,7 @@ pub fn taos<
     ensures silent { (result ≡ 0) ⊎ (result ≡ 11) → notes.new ≡ notes.old }
 
     // No other command touches another lane than the first.
-    ensures others { (IsServe words.now → ⊥) → drop 1 lanes.new ≡ drop 1 lanes.old }
+    ensures others { (ServesDoors words.now → ⊥) → drop 1 lanes.new ≡ drop 1 lanes.old }
 {
     let ending = run(rt, alloc, words, file, input, output, lanes);
     tell(notes, ending);

@@ -3,7 +3,7 @@
 ghost use Rattle.std.specs.Prelude.{◌≡◌};
 ghost use Rattle.taos_node.specs.declared.ending.FileFault.TheVariants as fault;
 ghost use Rattle.taos_node.specs.Minting.{minted_status};
-ghost use Rattle.taos_node.specs.Ending.{checked_status, file_status, lanes_status, served_status, status_of};
+ghost use Rattle.taos_node.specs.Ending.{audited_status, checked_status, drilled_status, file_status, lanes_status, served_status, status_of};
 
 use crate::check::CheckEnd;
 use crate::finding::finding_status;
@@ -47,6 +47,30 @@ pub enum LanesEnd {
     NoMemory,
 }
 
+/// How an audit ended.
+#[derive(Clone, Copy, Debug, PartialEq, Eq)]
+pub enum AuditEnd {
+    /// The text of the journals was written.
+    Done,
+    /// The connection had another outcome than the end of whole frames, and nothing was written.
+    Stopped(Outcome),
+    /// A write failed.
+    WriteFault,
+    /// Memory was refused for the text, and nothing was written.
+    NoMemory,
+}
+
+/// How a drill ended.
+#[derive(Clone, Copy, Debug, PartialEq, Eq)]
+pub enum DrillEnd {
+    /// The line of what was counted was written.
+    Done,
+    /// A write failed.
+    WriteFault,
+    /// Memory was refused, before the first request or for one, and nothing was written.
+    NoMemory,
+}
+
 /// How a run ended.
 #[derive(Clone, Copy, Debug, PartialEq, Eq)]
 pub enum Ending {
@@ -66,6 +90,12 @@ pub enum Ending {
     Minted(MintEnd),
     /// The lanes of a node served their doors.
     Lanes(LanesEnd),
+    /// The lanes of a relay served their doors.
+    RelayLanes(LanesEnd),
+    /// A connection was served, and the journals were to be printed.
+    Audited(AuditEnd),
+    /// A load was served.
+    Drilled(DrillEnd),
 }
 
 const USAGE: u8 = 1;
@@ -148,6 +178,27 @@ fn lanes_status(end: LanesEnd) -> u8
     }
 }
 
+fn audited_status(end: AuditEnd) -> u8
+    ensures { result ≡ audited_status end }
+{
+    match end {
+        AuditEnd::Done => 0,
+        AuditEnd::Stopped(outcome) => served_status(outcome),
+        AuditEnd::WriteFault => WRITE_FAULT,
+        AuditEnd::NoMemory => MEMORY,
+    }
+}
+
+fn drilled_status(end: DrillEnd) -> u8
+    ensures { result ≡ drilled_status end }
+{
+    match end {
+        DrillEnd::Done => 0,
+        DrillEnd::WriteFault => WRITE_FAULT,
+        DrillEnd::NoMemory => MEMORY,
+    }
+}
+
 /// The exit status of an ending.
 pub fn status_of(ending: Ending) -> u8
     ensures { result ≡ status_of ending }
@@ -160,6 +211,8 @@ pub fn status_of(ending: Ending) -> u8
         Ending::Checked(end) => checked_status(end),
         Ending::Relayed(outcome) => served_status(outcome),
         Ending::Minted(end) => minted_status(end),
-        Ending::Lanes(end) => lanes_status(end),
+        Ending::Lanes(end) | Ending::RelayLanes(end) => lanes_status(end),
+        Ending::Audited(end) => audited_status(end),
+        Ending::Drilled(end) => drilled_status(end),
     }
 }

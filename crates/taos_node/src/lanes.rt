@@ -7,7 +7,7 @@ ghost use Rattle.node_file.specs.Opening.{Opening as Meaning};
 ghost use Rattle.taos_lanes.specs.Stocked.{door_by, shown_by};
 ghost use Rattle.taos_node.specs.Command.{Does, first_clock, first_link, touched};
 ghost use Rattle.taos_node.specs.Files.{FileHasCause, NodeFileGives};
-ghost use Rattle.taos_node.specs.Lanes.{LanesCauses, Prints, ServesLanes};
+ghost use Rattle.taos_node.specs.Lanes.{LanesCauses, Prints, PrintsLine, ServesLanes};
 ghost use Rattle.taos_node.specs.Opened.{AreNew, IsNodeOf, node_in};
 ghost use Rattle.taos_node.specs.Summary.{left_by};
 ghost use Rattle.taos_node.specs.Words.{Mean, Serve};
@@ -20,27 +20,37 @@ use frame_link::{Clock, Door, Failed, RelayLink, Sink, Source, pour};
 use std::alloc::{AllocError, Global};
 use std::sync::Wait;
 use std::thread::Threads;
-use taos_lanes::{Lane, Limits, Served, serve};
+use taos_lanes::{Lane, Limits, Served, Total, serve};
 
-// Prints what lanes counted, where no door failed and no connection ended for want of memory.
+/// Prints the line of what lanes counted, where no door failed and no connection ended for want of
+/// memory.
+pub(crate) fn print_line<O: Sink>(output: &mut O, total: Total, line: &[u8]) -> LanesEnd
+    ensures prints { PrintsLine total line.now (O.written output.old) (O.written output.new)
+        result }
+    ensures cause { LanesCauses (O.faults output.old) (O.faults output.new) result }
+{
+    let first = total.first_failed;
+    let lanes = total.lanes;
+    if first < lanes {
+        return LanesEnd::DoorFault { lane: first };
+    }
+    let lacked = total.lacked;
+    if lacked != 0 {
+        return LanesEnd::NoMemory;
+    }
+    match pour(output, line) {
+        Ok(()) => LanesEnd::Done,
+        Err(Failed) => LanesEnd::WriteFault,
+    }
+}
+
+// Prints what the lanes of a node counted.
 fn print<O: Sink>(output: &mut O, served: &Served) -> LanesEnd
     ensures prints { Prints (left_by served.now) (O.written output.old) (O.written output.new)
         result }
     ensures cause { LanesCauses (O.faults output.old) (O.faults output.new) result }
 {
-    let first = served.total.first_failed;
-    let lanes = served.total.lanes;
-    if first < lanes {
-        return LanesEnd::DoorFault { lane: first };
-    }
-    let lacked = served.total.lacked;
-    if lacked != 0 {
-        return LanesEnd::NoMemory;
-    }
-    match pour(output, &lanes_line(served)) {
-        Ok(()) => LanesEnd::Done,
-        Err(Failed) => LanesEnd::WriteFault,
-    }
+    print_line(output, served.total, &lanes_line(served))
 }
 
 // The parts of the node that a file opens.

@@ -3,10 +3,10 @@
 ghost use Rattle.std.specs.Prelude.{◌≡◌, ◌⊎◌, ◌≤◌, ◌++◌, length, decimal};
 ghost use Rattle.taos_node.specs.Ending.{status_of};
 ghost use Rattle.taos_node.specs.Minting.{minted_note, word_text};
-ghost use Rattle.taos_node.specs.Notes.{cause_text, checked_note, file_note, lanes_note, served_note, note_of, IsNoted};
+ghost use Rattle.taos_node.specs.Notes.{audited_note, cause_text, checked_note, drilled_note, file_note, lanes_note, served_note, note_of, IsNoted};
 
 use crate::check::CheckEnd;
-use crate::ending::{Ending, FileFault, LanesEnd};
+use crate::ending::{AuditEnd, DrillEnd, Ending, FileFault, LanesEnd};
 use crate::minting::{MintEnd, MintWord};
 use arrayvec::ArrayVec;
 use frame_link::{Outcome, Sink, pour};
@@ -161,6 +161,27 @@ fn of_lanes(end: LanesEnd) -> ArrayVec<u8, ROOM>
     }
 }
 
+fn of_audited(end: AuditEnd) -> ArrayVec<u8, ROOM>
+    ensures { result.items ≡ audited_note end }
+{
+    match end {
+        AuditEnd::Done => plain(b""),
+        AuditEnd::Stopped(outcome) => of_served(outcome),
+        AuditEnd::WriteFault => plain(b"taos: write fault\n"),
+        AuditEnd::NoMemory => plain(b"taos: no memory\n"),
+    }
+}
+
+fn of_drilled(end: DrillEnd) -> ArrayVec<u8, ROOM>
+    ensures { result.items ≡ drilled_note end }
+{
+    match end {
+        DrillEnd::Done => plain(b""),
+        DrillEnd::WriteFault => plain(b"taos: write fault\n"),
+        DrillEnd::NoMemory => plain(b"taos: no memory\n"),
+    }
+}
+
 fn note_of(ending: Ending) -> ArrayVec<u8, ROOM>
     ensures { result.items ≡ note_of ending }
 {
@@ -172,7 +193,9 @@ fn note_of(ending: Ending) -> ArrayVec<u8, ROOM>
         Ending::Checked(end) => of_checked(end),
         Ending::Relayed(outcome) => of_served(outcome),
         Ending::Minted(end) => of_minted(end),
-        Ending::Lanes(end) => of_lanes(end),
+        Ending::Lanes(end) | Ending::RelayLanes(end) => of_lanes(end),
+        Ending::Audited(end) => of_audited(end),
+        Ending::Drilled(end) => of_drilled(end),
     }
 }
 

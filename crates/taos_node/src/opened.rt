@@ -1,9 +1,11 @@
 //! A node that is opened.
 
-ghost use Rattle.std.specs.Prelude.{◌≡◌, map, IfOk, None};
+ghost use Rattle.std.specs.Prelude.{◌≡◌, ◌≤◌, length, map, IfOk, None};
+ghost use Rattle.std.specs.List.Sorted.{IsStrictlyIncreasing};
 ghost use Rattle.keyed_seal.specs.Keys.{IsKeyTable};
 ghost use Rattle.object_core.specs.OneOwner.{taken_from};
-ghost use Rattle.object_core.specs.Shelving.{HaveOwnNumbers, fixed_of};
+ghost use Rattle.object_core.specs.Shelving.{HaveOwnNumbers, fixed_of, numbers_of as object_numbers};
+ghost use Rattle.agent_core.specs.declared.limits.TheConstants.{MAX_SHARDS};
 ghost use Rattle.agent_core.specs.Alone.{plans_in};
 ghost use Rattle.agent_core.specs.Opened.{new_shard};
 ghost use Rattle.agent_core.specs.Plans.{AreShards};
@@ -80,6 +82,7 @@ fn objects_of(alloc: Global, plans: &ObjectPlans, limit: u64) -> Result<Vec<Obje
     requires { AllFit plans.now }
     ensures opened { IfOk result (λ v. v.items ≡ map (new_object limit) plans.now) }
     ensures apart { IfOk result (λ v. HaveOwnNumbers (map fixed_of v.items)) }
+    ensures by_number { IfOk result (λ v. IsStrictlyIncreasing (object_numbers (map fixed_of v.items))) }
 {
     // It says that no number comes twice.
     let _first = plans.at(0);
@@ -127,6 +130,7 @@ pub(crate) fn open_node(alloc: Global, node: Opening) -> Result<OpenNode, AllocE
     ensures planned { IfOk result (λ n. ArePlanned n.keys.channels.entries
         (plans_in n.shards.shards)) }
     ensures none_taken { IfOk result (λ n. taken_from n.shelf ≡ None) }
+    ensures few { IfOk result (λ n. length n.shards.shards ≤ MAX_SHARDS) }
 {
     let parts = open_parts(alloc, node)?;
     Ok(OpenNode {

@@ -3,13 +3,13 @@
 ghost use Rattle.std.specs.Prelude.{◌≡◌, ◌+◌, ◌≤◌, ◌++◌, count_by, decimal, length, map, not};
 ghost use Rattle.object_core.specs.Objects.{is_grant};
 ghost use Rattle.object_core.specs.ObjectView.{object_entry};
-ghost use Rattle.taos_node.specs.Summary.{denials_of, entries_of, grants_of, left_by, lanes_line};
+ghost use Rattle.taos_node.specs.Summary.{denials_of, drill_line, entries_of, grants_of, left_by, lanes_line, relays_line};
 
 use agent_core::Shard;
 use arrayvec::ArrayVec;
 use itoa::Buffer;
 use object_core::{Object, ObjectEntry, Ruling};
-use taos_lanes::Served;
+use taos_lanes::{Served, Total};
 
 // A line has no more bytes than this.
 const ROOM: usize = 256;
@@ -98,6 +98,30 @@ pub(crate) fn lanes_line(served: &Served) -> ArrayVec<u8, ROOM>
     let mut line = ArrayVec::new();
     add_number(&mut line, b"connections ", served.total.served);
     add_number(&mut line, b" broken ", served.total.broken);
+    add_number(&mut line, b" entries ", entries_in(&served.shards));
+    add_number(&mut line, b" grants ", grants_in(&served.objects));
+    add_number(&mut line, b" denials ", denials_in(&served.objects));
+    line.try_extend_from_slice(b"\n").unwrap();
+    line
+}
+
+/// The line that tells what the lanes of a relay counted.
+pub(crate) fn relays_line(total: Total) -> ArrayVec<u8, ROOM>
+    ensures { result.items ≡ relays_line total }
+{
+    let mut line = ArrayVec::new();
+    add_number(&mut line, b"connections ", total.served);
+    add_number(&mut line, b" broken ", total.broken);
+    line.try_extend_from_slice(b"\n").unwrap();
+    line
+}
+
+/// The line that tells what a drill of so many requests came to.
+pub(crate) fn drill_line(requests: u32, served: &Served) -> ArrayVec<u8, ROOM>
+    ensures { result.items ≡ drill_line requests (left_by served.now) }
+{
+    let mut line = ArrayVec::new();
+    add_number(&mut line, b"requests ", requests as u128);
     add_number(&mut line, b" entries ", entries_in(&served.shards));
     add_number(&mut line, b" grants ", grants_in(&served.objects));
     add_number(&mut line, b" denials ", denials_in(&served.objects));

@@ -3,7 +3,7 @@
 ghost use Rattle.std.specs.Prelude.{◌≡◌, codes, [], IfOk, map, string_bytes, false};
 ghost use Rattle.clap.specs.Words.{rule_of, HasMatchesOf, FailsBy, fault_of};
 ghost use Rattle.clap.specs.Words.{App, with_rule};
-ghost use Rattle.taos_node.specs.Table.{option_rule, command_app, base_app, taos_app, IsMade};
+ghost use Rattle.taos_node.specs.Table.{option_rule, word_rule, command_app, drill_app, base_app, taos_app, IsMade};
 ghost use Rattle.taos_node.specs.Words.{lane_options, mint_options, serving_options};
 
 use clap::{Arg, ArgAction, ArgMatches, Command, Error};
@@ -29,6 +29,14 @@ fn base<'a>(alloc: Global) -> Command<'a>
         .disable_help_subcommand(true)
         .no_binary_name(true)
         .subcommand_required(true)
+}
+
+// A word without an option's name, by its place.
+fn word<'a>(alloc: Global, name: &'a str) -> Arg<'a>
+    ensures rule { rule_of result ≡ word_rule name.entry.now }
+    ensures local { result.global ≡ false }
+{
+    Arg::new(alloc, name).action(ArgAction::Set)
 }
 
 // A command that serves connections.
@@ -74,6 +82,16 @@ fn minting<'a>(alloc: Global) -> Result<Command<'a>, AllocError>
     Ok(right)
 }
 
+#[tactic(auto, using(crate::proofs::Made::adds_rule))]
+fn drilling<'a>(alloc: Global) -> Result<Command<'a>, AllocError>
+    ensures { IfOk result (IsMade drill_app) }
+{
+    let seed = plain(alloc, "drill").arg(word(alloc, "seed"))?;
+    let requests = seed.arg(word(alloc, "requests"))?;
+    let lanes = requests.arg(word(alloc, "lanes"))?;
+    Ok(lanes)
+}
+
 #[tactic(auto, using(crate::proofs::Made::adds_subcommand))]
 fn commands<'a>(alloc: Global) -> Result<Command<'a>, AllocError>
     ensures { IfOk result (IsMade taos_app) }
@@ -82,11 +100,17 @@ fn commands<'a>(alloc: Global) -> Result<Command<'a>, AllocError>
     let relay = serving(alloc, "relay")?;
     let mint = minting(alloc)?;
     let serve = serving_lanes(alloc, "serve")?;
+    let relay_serve = serving_lanes(alloc, "relay-serve")?;
+    let audit = serving(alloc, "audit")?;
+    let drill = drilling(alloc)?;
     let first = base(alloc).subcommand(run)?;
     let second = first.subcommand(plain(alloc, "check"))?;
     let third = second.subcommand(relay)?;
     let fourth = third.subcommand(mint)?;
-    let whole = fourth.subcommand(serve)?;
+    let fifth = fourth.subcommand(serve)?;
+    let sixth = fifth.subcommand(relay_serve)?;
+    let seventh = sixth.subcommand(audit)?;
+    let whole = seventh.subcommand(drill)?;
     Ok(whole)
 }
 

@@ -22,6 +22,15 @@ pub struct Mint<'a> {
     pub right: &'a str,
 }
 
+/// The load that is to be made and served.
+#[derive(Clone, Copy, Debug, PartialEq, Eq)]
+pub struct Drill {
+    /// The number that it is made from.
+    pub seed: u64,
+    pub requests: u32,
+    pub lanes: u32,
+}
+
 /// A command with its options.
 #[derive(Clone, Copy, Debug, PartialEq, Eq)]
 pub enum Wanted<'a> {
@@ -35,4 +44,10 @@ pub enum Wanted<'a> {
     Mint(Mint<'a>),
     /// Serve connections of each lane's door.
     Serve(Limits),
+    /// Serve connections of each lane's door as a relay.
+    RelayServe(Limits),
+    /// Serve one connection, of at most so many frames, and print the journals.
+    Audit { frames: u64 },
+    /// Serve a load that is made.
+    Drill(Drill),
 }

@@ -1,17 +1,19 @@
 //! The words of a command line, read.
 
-ghost use Rattle.std.specs.Prelude.{◌≡◌, ◌↔◌, ◌^◌, ℕ, List, String, Some, codes, map, decimal, option_map, string_bytes, All, IsTrue, IfOk, MatchOption};
+ghost use Rattle.std.specs.Prelude.{◌≡◌, ◌↔◌, ◌+◌, ◌^◌, ℕ, List, String, Some, codes, map, decimal, option_map, string_bytes, All, IsTrue, IfOk, MatchOption};
 ghost use Rattle.std.specs.declared.alloc.Global.{Global};
 ghost use Rattle.clap.specs.Words.{Row, first_of, found_of, rows_of, subcommand_rows_of};
-ghost use Rattle.taos_node.specs.Words.{Check, IsCount, IsMeaning, IsNumber, IsValue, Mean, Relay, Run, Serve, Task, task_of};
-ghost use Rattle.taos_node.specs.Table.{IsAllowed, IsConnectionsOf, IsFramesOf, IsLanesOf, IsMintOf, IsNeeded, IsNumberOf, IsOfTable, IsOption, IsOptionOf, IsPlainWord, IsServingOf, all_options};
+ghost use Rattle.taos_lanes.specs.declared.lane.Limits.{Limits};
+ghost use Rattle.taos_node.specs.Words.{Audit, Check, GivesLimits, IsCount, IsMeaning, IsNumber, IsValue, Mean, Relay, RelayServe, Run, Serve, Task, task_of};
+ghost use Rattle.taos_node.specs.Table.{IsAllowed, IsConnectionsOf, IsDrillOf, IsFramesOf, IsLanesOf, IsMintOf, IsNeeded, IsNumberOf, IsOfTable, IsOption, IsOptionOf, IsPlainWord, IsServingOf, all_options};
 
 use crate::table::matches_of;
-use crate::wanted::{LANE_CONNECTIONS, MAX_FRAMES, Mint, Wanted};
+use crate::wanted::{Drill, LANE_CONNECTIONS, MAX_FRAMES, Mint, Wanted};
 use clap::ArgMatches;
 use clap::error::ErrorKind;
 use itoa::Buffer;
 use std::alloc::{AllocError, Global};
+use taos_drill::{MAX_LANES, MAX_REQUESTS};
 use taos_lanes::Limits;
 
 // The options of all commands.
@@ -176,16 +178,49 @@ fn relay_of<'a>(text: Option<&'a str>) -> Option<Wanted<'a>>
     }
 }
 
+fn audit_of<'a>(text: Option<&'a str>) -> Option<Wanted<'a>>
+    ensures { IsServingOf (λ frames. Audit frames) (option_map (λ s. s.now) text.entry)
+        result }
+{
+    match frames_of(text) {
+        Some(frames) => Some(Wanted::Audit { frames }),
+        None => None,
+    }
+}
+
+// What lanes are limited to, by the texts of options.
+fn limits_of<'a>(options: &ArgMatches<'a>) -> Option<Limits>
+    ensures { MatchOption result
+        ((limits : Limits) → GivesLimits (λ name. first_of name (rows_of (found_of options.now)))
+        limits → ⊥)
+        (GivesLimits (λ name. first_of name (rows_of (found_of options.now)))) }
+{
+    let connections = connections_of(text_of(options, "connections"))?;
+    let frames = frames_of(text_of(options, "frames"))?;
+    Some(Limits {
+        connections,
+        frames,
+    })
+}
+
 fn serve_of<'a>(options: &ArgMatches<'a>) -> Option<Wanted<'a>>
     ensures { IsLanesOf (λ limits. Serve limits)
         (λ name. first_of name (rows_of (found_of options.now))) result }
 {
-    let connections = connections_of(text_of(options, "connections"))?;
-    let frames = frames_of(text_of(options, "frames"))?;
-    Some(Wanted::Serve(Limits {
-        connections,
-        frames,
-    }))
+    match limits_of(options) {
+        Some(limits) => Some(Wanted::Serve(limits)),
+        None => None,
+    }
+}
+
+fn relay_serve_of<'a>(options: &ArgMatches<'a>) -> Option<Wanted<'a>>
+    ensures { IsLanesOf (λ limits. RelayServe limits)
+        (λ name. first_of name (rows_of (found_of options.now))) result }
+{
+    match limits_of(options) {
+        Some(limits) => Some(Wanted::RelayServe(limits)),
+        None => None,
+    }
 }
 
 fn is_value(text: &[u8]) -> bool
@@ -259,6 +294,33 @@ fn mint_of<'a>(options: &ArgMatches<'a>) -> Option<Wanted<'a>>
     }))
 }
 
+// A number up to a largest one, by its text.
+fn number_up_to(text: Option<&str>, most: u32) -> Option<u32>
+    ensures { IsNumberOf (most + 1) (option_map (λ s. s.now) text.entry) result }
+{
+    let number = needed_u32(text)?;
+    if most < number {
+        return None;
+    }
+    Some(number)
+}
+
+fn drill_of<'a>(words: &ArgMatches<'a>) -> Option<Wanted<'a>>
+    ensures { IsDrillOf (λ name. first_of name (rows_of (found_of words.now))) result }
+{
+    let seed = needed_number(text_of(words, "seed"))?;
+    let requests = number_up_to(text_of(words, "requests"), MAX_REQUESTS)?;
+    let lanes = number_up_to(text_of(words, "lanes"), MAX_LANES)?;
+    if lanes == 0 {
+        return None;
+    }
+    Some(Wanted::Drill(Drill {
+        seed,
+        requests,
+        lanes,
+    }))
+}
+
 // What is asked for by what `clap` found.
 fn found_in<'a>(matches: &ArgMatches<'a>) -> Option<Wanted<'a>>
     ensures run { (rows : List Row) → subcommand_rows_of matches.now ≡ Some (codes "run", rows)
@@ -271,6 +333,13 @@ fn found_in<'a>(matches: &ArgMatches<'a>) -> Option<Wanted<'a>>
         → IsMintOf (λ name. first_of name rows) result }
     ensures serve { (rows : List Row) → subcommand_rows_of matches.now ≡ Some (codes "serve", rows)
         → IsLanesOf (λ limits. Serve limits) (λ name. first_of name rows) result }
+    ensures relay_serve { (rows : List Row)
+        → subcommand_rows_of matches.now ≡ Some (codes "relay-serve", rows)
+        → IsLanesOf (λ limits. RelayServe limits) (λ name. first_of name rows) result }
+    ensures audit { (rows : List Row) → subcommand_rows_of matches.now ≡ Some (codes "audit", rows)
+        → IsServingOf (λ frames. Audit frames) (first_of (codes "frames") rows) result }
+    ensures drill { (rows : List Row) → subcommand_rows_of matches.now ≡ Some (codes "drill", rows)
+        → IsDrillOf (λ name. first_of name rows) result }
 {
     let (name, options) = matches.subcommand()?;
     match name {
@@ -279,6 +348,9 @@ fn found_in<'a>(matches: &ArgMatches<'a>) -> Option<Wanted<'a>>
         "relay" => relay_of(text_of(options, "frames")),
         "mint" => mint_of(options),
         "serve" => serve_of(options),
+        "relay-serve" => relay_serve_of(options),
+        "audit" => audit_of(text_of(options, "frames")),
+        "drill" => drill_of(options),
         _ => None,
     }
 }

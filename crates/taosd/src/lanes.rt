@@ -1,7 +1,11 @@
-//! The lane of the program.
+//! The lanes of the program.
 
-use std::net::TcpListener;
-use std::time::Duration;
+ghost use Rattle.std.specs.Prelude.{◌≡◌, IfOk, vec_len};
+
+use std::alloc::{AllocError, Global};
+use std::net::{Net, TcpListener, TcpStream};
+use std::sync::Arc;
+use std::time::{Clock, Duration};
 use system_link::{Doorway, LIMIT, Stop, SystemSeconds, TcpDoor, TcpRelay, Terms};
 use taos_node::Lane;
 
@@ -9,52 +13,54 @@ use taos_node::Lane;
 #[derive(Drop)]
 pub struct Setting<'w> {
     pub path: &'w str,
-    /// Where to listen: one address, or none.
+    /// Where to listen.
     pub addresses: &'w [&'w str],
     /// The relay's address. `-` is none, so a link to it fails at each call.
     pub relay: &'w str,
     pub command: &'w [String],
 }
 
-/// Where the lane stands: the system, how long a peer may be silent, what the words say, what stops
-/// its door, and the listener of the address.
+/// What all lanes have: how long a peer may be silent, what stops their doors, and the relay's address.
 #[derive(Clone, Copy)]
-pub struct Site<'a> {
-    pub rt: &'a HostRuntime,
+pub struct Common<'a> {
     pub idle: Duration,
-    pub addresses: &'a [&'a str],
+    pub stop: &'a Arc<Stop, Global>,
     pub relay: &'a str,
-    pub stop: &'a Stop,
-    pub listeners: &'a [Option<TcpListener>],
 }
 
-/// A lane of the program: the system's clock, a link to the relay and a door.
-pub type SystemLane<'a> = Lane<
-    SystemSeconds<&'a HostRuntime>,
-    TcpRelay<'a, HostRuntime>,
-    TcpDoor<'a, HostRuntime>,
->;
+/// A lane over a system: its clock, a link to the relay and a door.
+pub type SystemLane<S> = Lane<SystemSeconds<S>, TcpRelay<S>, TcpDoor<S>>;
 
-// What stands behind the door.
-fn doorway_of<'a>(site: Site<'a>) -> Doorway<'a> {
-    if site.addresses.is_empty() {
-        return Doorway::Ended;
-    }
-    match site.listeners.first() {
-        Some(Some(listener)) => Doorway::Bound(listener),
-        _ => Doorway::Unbound,
-    }
-}
-
-/// The lane, whose door gives the connections of the address. Without one, its door has ended.
-pub fn lane_of<'a>(site: Site<'a>) -> SystemLane<'a> {
+// A lane with this behind its door.
+fn lane_of<S: Net<Listener = TcpListener, Stream = TcpStream> + Clock + Copy + Send>(
+    system: S,
+    alloc: Global,
+    common: Common<'_>,
+    doorway: Doorway,
+) -> Result<SystemLane<S>, AllocError> {
     let terms = Terms {
-        clock: site.rt,
-        stop: site.stop,
-        idle: site.idle,
+        clock: system,
+        stop: Arc::try_clone(common.stop)?,
+        idle: common.idle,
     };
-    let limit = Duration::from_secs(LIMIT);
-    let link = TcpRelay::new(site.rt, site.rt.alloc(), site.relay, limit);
-    let door = TcpDoor::new(doorway_of(site), site.rt.alloc(), terms);
-    Lane::of(SystemSeconds::new(site.rt), link, door)
+    let relay = String::from_str(alloc, common.relay)?;
+    let link = TcpRelay::new(system, alloc, relay, Duration::from_secs(LIMIT));
+    let door = TcpDoor::new(doorway, alloc, terms);
+    Ok(Lane::of(SystemSeconds::new(system), link, door))
+}
+
+/// A lane for each door.
+pub fn lanes_of<S: Net<Listener = TcpListener, Stream = TcpStream> + Clock + Copy + Send>(
+    system: S,
+    alloc: Global,
+    common: Common<'_>,
+    doorways: Vec<Doorway>,
+) -> Result<Vec<SystemLane<S>>, AllocError>
+    ensures each { IfOk result (λ lanes. vec_len lanes ≡ vec_len doorways) }
+{
+    let mut lanes = Vec::new(alloc);
+    for doorway in doorways {
+        lanes.push(lane_of(system, alloc, common, doorway)?)?;
+    }
+    Ok(lanes)
 }

@@ -1,7 +1,7 @@
 //! The program: real streams, the system's clock, and the top call.
 #![tactic(auto)]
 
-ghost use Rattle.std.specs.Prelude.{◌<◌, ◌≤◌, length};
+ghost use Rattle.std.specs.Prelude.{◌<◌, ◌≤◌, length, vec_len};
 
 mod keys;
 mod lanes;
@@ -10,19 +10,20 @@ mod usage;
 
 use frame_link::{Clock, Door, RelayLink, Sink, pour};
 use keys::fresh_key;
-use lanes::{Setting, Site, lane_of};
+use lanes::{Common, Setting, lanes_of};
 use own::{Own, own_of};
 use std::alloc::Global;
 use std::fs::File;
 use std::io::{BufReader, ErrorKind, Stderr};
-use std::net::TcpListener;
+use std::net::{Net, TcpListener, TcpStream};
 use std::process::ExitCode;
 use std::sync::{Arc, Wait};
 use std::thread::Threads;
-use std::{env, io, slice};
+use std::{env, io, time};
 use system_link::{
-    Deferred, FileReading, Origin, Outbox, PIECE, Prompt, Reading, Stop, Watched, Writing,
-    addresses_of, bind_all, stop_at_end, tell_addresses, tell_readers,
+    Deferred, Doorway, FileReading, Listener, Origin, Outbox, PIECE, Prompt, Reading, Stop,
+    Watched, Writing, addresses_of, bind_all, doorways_of, stop_at_end, tell_addresses,
+    tell_readers,
 };
 use taos_node::{Ending, FileFault, Lane, Outcome, status_of, taos, tell};
 use usage::{USAGE, VERSION};
@@ -104,7 +105,7 @@ fn work<W: Threads + Wait + Sync, N: Sink, C: Clock + Send, R: RelayLink + Send,
 // Whether a command serves the connections of doors, and leaves standard input alone.
 fn serves_doors(command: &[String]) -> bool {
     match command {
-        [word, ..] => word.as_str() == "serve",
+        [word, ..] => matches!(word.as_str(), "serve" | "relay-serve"),
         [] => false,
     }
 }
@@ -116,7 +117,7 @@ fn prepare<W: Threads>(
     own: &Own<'_>,
     command: &[String],
     stop: &Arc<Stop, Global>,
-    listeners: &[Option<TcpListener>],
+    listeners: &[Option<Listener>],
 ) -> io::Result<()> {
     if own.tells_addresses {
         tell_addresses(&mut rt.stderr(), listeners);
@@ -127,14 +128,48 @@ fn prepare<W: Threads>(
     Ok(())
 }
 
-// The lane, and the work of the command by it.
+// The lanes of these doors over a system, and the work of the command by them.
+fn work_by<
+    S: Net<Listener = TcpListener, Stream = TcpStream> + time::Clock + Copy + Send,
+    W: Threads + Wait + Sync,
+    N: Sink,
+>(
+    rt: &HostRuntime,
+    system: S,
+    workers: &W,
+    setting: &Setting<'_>,
+    common: Common<'_>,
+    doorways: Vec<Doorway>,
+    notes: &mut N,
+) -> u8
+    requires some { 0 < vec_len doorways }
+    requires few { vec_len doorways ≤ 16 }
+{
+    let alloc = rt.alloc();
+    let Ok(mut lanes) = lanes_of(system, alloc, common, doorways) else {
+        return ended(notes, Ending::NoMemory);
+    };
+    work(
+        rt,
+        workers,
+        alloc,
+        setting.path,
+        setting.command,
+        notes,
+        lanes.as_mut_slice(),
+    )
+}
+
+// A lane for each address, and the work of the command by them.
 fn listen<W: Threads + Wait + Sync, N: Sink>(
     rt: &HostRuntime,
     workers: &W,
     own: &Own<'_>,
     setting: &Setting<'_>,
     notes: &mut N,
-) -> u8 {
+) -> u8
+    requires few { length setting.now.addresses.now ≤ 16 }
+{
     let alloc = rt.alloc();
     let (Ok(listeners), Ok(stop)) = (
         bind_all(rt, alloc, setting.addresses),
@@ -145,23 +180,15 @@ fn listen<W: Threads + Wait + Sync, N: Sink>(
     if prepare(rt, workers, own, setting.command, &stop, &listeners).is_err() {
         return ended(notes, Ending::NoMemory);
     }
-    let mut lane = lane_of(Site {
-        rt,
+    let Ok(doorways) = doorways_of(alloc, setting.addresses, &listeners) else {
+        return ended(notes, Ending::NoMemory);
+    };
+    let common = Common {
         idle: own.idle,
-        addresses: setting.addresses,
-        relay: setting.relay,
         stop: &stop,
-        listeners: &listeners,
-    });
-    work(
-        rt,
-        workers,
-        alloc,
-        setting.path,
-        setting.command,
-        notes,
-        slice::from_mut(&mut lane),
-    )
+        relay: setting.relay,
+    };
+    work_by(rt, rt, workers, setting, common, doorways, notes)
 }
 
 // Behind the options, the first three words are the file, where to listen and the relay; the others
@@ -181,7 +208,7 @@ fn run<W: Threads + Wait + Sync, N: Sink>(
     let Some(addresses) = addresses_of(listening.as_str()) else {
         return ended(notes, Ending::Usage);
     };
-    if command.is_empty() || addresses.len() > 1 {
+    if command.is_empty() {
         return ended(notes, Ending::Usage);
     }
     let setting = Setting {

@@ -5,9 +5,10 @@ pub const USAGE: &[u8] = b"\
 taosd [OPTION..] FILE LISTEN RELAY COMMAND
 taosd --help | --version | --key
 
-FILE    the path of a node file, or for relay and mint of a relay file, or -
-        for none
-LISTEN  an address HOST:PORT, or - for none
+FILE    the path of a node file, or for relay, relay-serve and mint of a relay
+        file, or - for none
+LISTEN  addresses HOST:PORT joined by commas, 16 at most, each with a lane, or
+        - for none
 RELAY   the address HOST:PORT of the node's relay, or - for none
 
 OPTION is one of
@@ -20,14 +21,25 @@ COMMAND is one of
   run [--frames N]  answers the request frames of standard input on standard
                     output, N of them at most (1 or more; 1000000 without)
   serve [--connections N] [--frames N]
-                    answers the connections of LISTEN, one after the other: N
-                    of them at most (1 or more; 1 without), N frames each (as
-                    run), and prints what was counted
+                    answers the connections of LISTEN, all lanes at the same
+                    time, each one connection after the other: N of them at
+                    most (1 or more; 1 without), N frames each (as run); and
+                    prints what was counted
   check             reads a request frame and its reply frame, and prints what
                     the reply shows
   relay [--frames N]
                     answers the frames of a node on standard input as a relay,
                     N of them at most (1 or more; 1000000 without)
+  relay-serve [--connections N] [--frames N]
+                    answers the connections of LISTEN as a relay, by the
+                    options of serve, and prints what was counted
+  audit [--frames N]
+                    serves standard input as run, and prints the journals in
+                    place of the replies
+  drill SEED N LANES
+                    serves N requests (10000 at most) over so many lanes (16 at
+                    most) that are made from the number SEED, in memory, and
+                    prints what they came to; FILE is not read
   mint --issuer N --serial N --until TIME [--quoted P] --left P --right P
                     prints a certificate under the issuer's key, in hex: the
                     issuer, quoting P if so, says until TIME that the left P

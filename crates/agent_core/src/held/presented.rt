@@ -181,8 +181,8 @@ impl Presented {
     fn handle_to(&mut self, alloc: Global, cert: &Arc<Cert>) -> Result<Arc<Cert>, AllocError>
         requires { IsCounted self.old }
         ensures counted { IsCounted self.new }
-        ensures grows { OnOk result (Begins (certificates self.old.certs.items)
-            (certificates self.new.certs.items)) }
+        ensures grows { Begins (certificates self.old.certs.items)
+            (certificates self.new.certs.items) }
         ensures same { IfOk result
             (λ handle. certificate handle.value.body ≡ certificate cert.now.value.body) }
         ensures kept { OnOk result (Contains (certificates self.new.certs.items)
@@ -204,6 +204,8 @@ impl Presented {
     ) -> Result<Vec<Arc<Cert>>, AllocError>
         requires { IsCounted self.old }
         ensures counted { IsCounted self.new }
+        ensures grows { Begins (certificates self.old.certs.items)
+            (certificates self.new.certs.items) }
         ensures same { IfOk result
             (λ taken. certificates taken.items ≡ certificates certs.now) }
         ensures kept { OnOk result (All (Contains (certificates self.new.certs.items))

@@ -28,7 +28,7 @@ settle-requires g c =
     let s = missed_step (c.in_ok-place.ensures.steps plan at) c.in-Miss.snapshot c.in-Miss.is in
     let are = subst (λ p. AreShards p c.anchors.result.now) c.in_ok-place.ensures.plans c.anchors.ensures in
     let certs = certificates c.in-Miss.snapshot.certs.items in
-    subst (λ (x : Ask). IsAskable c.anchors.result.now certs (replicate (length c.in-Miss.snapshot.certs.items) true) x.subject x.list) (sym (ap ask_of c.deref.ensures ∙ c.in_ok-place.ensures.same))
+    subst (λ (x : Ask). IsAskable c.anchors.result.now certs (replicate (length c.in-Miss.snapshot.certs.items) true) x.subject x.list) (sym (ap ask_of c.deref.ensures))
     (askable plans c.anchors.result.now are (home plans c.args.asked.value.channel) plan at s.before (ask_of c.args.asked.value) c.in-Miss.snapshot.moment certs (length c.in-Miss.snapshot.certs.items)
     (certificate_count c.in-Miss.snapshot.certs.items) (judged_by _ _ _ _ s) c.requires.fits)
 
@@ -39,13 +39,13 @@ returns-in_err-entry-in-Miss-clause-unanswered g c plan at =
     let are = subst (λ p. AreShards p c.anchors.result.now) c.in_ok-place.ensures.plans c.anchors.ensures in
     on_err c.from_residual-in_err-entry-in-Miss.result
     (unanswered_asks _ _ _ _ s c.anchors.result.now (anchors_are plans c.anchors.result.now are (home plans c.args.asked.value.channel) plan at)
-    (ask_of c.deref.result.now) (ap ask_of c.deref.ensures ∙ c.in_ok-place.ensures.same) c.in_err-entry-in-Miss.ensures.wanted)
+    (ask_of c.deref.result.now) (ap ask_of c.deref.ensures) c.in_err-entry-in-Miss.ensures.wanted)
 
 pub keep_at_home-requires-clause-meant : goal.keep_at_home-requires-clause-meant
 keep_at_home-requires-clause-meant g c = λ lifetimes lives plan at.
     let plans : List Plan = g.S.Shards.plans c.args.shards.now in
     let same : g.S.Shards.plans c.step_at_home.new.shards ≡ plans = c.in_ok-place.ensures.plans in
-    let here : home (g.S.Shards.plans c.step_at_home.new.shards) c.deref-in-Granted.result.now.channel ≡ home plans c.args.asked.value.channel = ap₂ home same (ap (λ (x : Ask). x.channel) (ap ask_of c.deref-in-Granted.ensures ∙ c.in_ok-place.ensures.same)) in
+    let here : home (g.S.Shards.plans c.step_at_home.new.shards) c.deref-in-Granted.result.now.channel ≡ home plans c.args.asked.value.channel = ap₂ home same (ap (λ (x : Ask). x.channel) (ap ask_of c.deref-in-Granted.ensures)) in
     let there : slice_get plans (home plans c.args.asked.value.channel) ≡ Some plan = ap₂ (λ (l : List Plan) n. slice_get l n) (sym same) (sym here) ∙ at in
     let s = missed_step (c.in_ok-place.ensures.steps plan there) c.in-Miss.snapshot c.in-Miss.is in
     let are = subst (λ p. AreShards p c.anchors.result.now) c.in_ok-place.ensures.plans c.anchors.ensures in
@@ -56,7 +56,7 @@ keep_at_home-requires-clause-meant g c = λ lifetimes lives plan at.
     subst (λ n. IsKeepable plan (g.S.Shards.seen c.step_at_home.new.shards n) c.in_ok-place.place c.in-Granted.entry kept) (sym here)
     (may_keep (ask_of c.args.asked.value) c.in_ok-place.place c.in-Miss.snapshot.moment certs s c.in-Granted.entry kept
     (granted_as c.anchors.result.now plan.anchors (anchors_are plans c.anchors.result.now are (home plans c.args.asked.value.channel) plan there)
-    (ask_of c.args.asked.value) (ask_of c.deref.result.now) (ap ask_of c.deref.ensures ∙ c.in_ok-place.ensures.same) certs c.in-Miss.snapshot.moment c.in-Granted.entry kept grant))
+    (ask_of c.args.asked.value) (ask_of c.deref.result.now) (ap ask_of c.deref.ensures) certs c.in-Miss.snapshot.moment c.in-Granted.entry kept grant))
 
 pub returns-in_err-settled-in-Granted-clause-unanswered : goal.returns-in_err-settled-in-Granted-clause-unanswered
 returns-in_err-settled-in-Granted-clause-unanswered g c plan at =
@@ -64,7 +64,7 @@ returns-in_err-settled-in-Granted-clause-unanswered g c plan at =
     let mid = c.step_at_home.new.shards in
     let later = c.keep_at_home.new.shards in
     let same : g.S.Shards.plans mid ≡ plans = c.in_ok-place.ensures.plans in
-    let here : home (g.S.Shards.plans mid) c.deref-in-Granted.result.now.channel ≡ home plans c.args.asked.value.channel = ap₂ home same (ap (λ (x : Ask). x.channel) (ap ask_of c.deref-in-Granted.ensures ∙ c.in_ok-place.ensures.same)) in
+    let here : home (g.S.Shards.plans mid) c.deref-in-Granted.result.now.channel ≡ home plans c.args.asked.value.channel = ap₂ home same (ap (λ (x : Ask). x.channel) (ap ask_of c.deref-in-Granted.ensures)) in
     let there : slice_get (g.S.Shards.plans mid) (home (g.S.Shards.plans mid) c.deref-in-Granted.result.now.channel) ≡ Some plan = ap₂ (λ (l : List Plan) n. slice_get l n) same here ∙ at in
     let s = missed_step (c.in_ok-place.ensures.steps plan at) c.in-Miss.snapshot c.in-Miss.is in
     let are = subst (λ p. AreShards p c.anchors.result.now) same c.anchors.ensures in
@@ -79,7 +79,7 @@ returns-in_err-settled-in-Granted-clause-unanswered g c plan at =
     on_err c.from_residual-in_err-settled-in-Granted.result
     (unkept_asks (ask_of c.args.asked.value) c.in_ok-place.place c.in-Miss.snapshot.moment certs s c.in-Granted.entry kept
     (granted_as c.anchors.result.now plan.anchors (anchors_are plans c.anchors.result.now are (home plans c.args.asked.value.channel) plan at)
-    (ask_of c.args.asked.value) (ask_of c.deref.result.now) (ap ask_of c.deref.ensures ∙ c.in_ok-place.ensures.same) certs c.in-Miss.snapshot.moment c.in-Granted.entry kept grant)
+    (ask_of c.args.asked.value) (ask_of c.deref.result.now) (ap ask_of c.deref.ensures) certs c.in-Miss.snapshot.moment c.in-Granted.entry kept grant)
     (seen_at (g.S.Shards.alone c.args.shards.now) (g.S.Shards.seen later) (g.S.Shards.own later) (home plans c.args.asked.value.channel)) refl refused)
 
 pub returns-in-Granted-clause-asked : goal.returns-in-Granted-clause-asked
@@ -88,7 +88,7 @@ returns-in-Granted-clause-asked g c plan at =
     let mid = c.step_at_home.new.shards in
     let later = c.keep_at_home.new.shards in
     let same : g.S.Shards.plans mid ≡ plans = c.in_ok-place.ensures.plans in
-    let here : home (g.S.Shards.plans mid) c.deref-in-Granted.result.now.channel ≡ home plans c.args.asked.value.channel = ap₂ home same (ap (λ (x : Ask). x.channel) (ap ask_of c.deref-in-Granted.ensures ∙ c.in_ok-place.ensures.same)) in
+    let here : home (g.S.Shards.plans mid) c.deref-in-Granted.result.now.channel ≡ home plans c.args.asked.value.channel = ap₂ home same (ap (λ (x : Ask). x.channel) (ap ask_of c.deref-in-Granted.ensures)) in
     let there : slice_get (g.S.Shards.plans mid) (home (g.S.Shards.plans mid) c.deref-in-Granted.result.now.channel) ≡ Some plan = ap₂ (λ (l : List Plan) n. slice_get l n) same here ∙ at in
     let s = missed_step (c.in_ok-place.ensures.steps plan at) c.in-Miss.snapshot c.in-Miss.is in
     let are = subst (λ p. AreShards p c.anchors.result.now) same c.anchors.ensures in
@@ -104,7 +104,7 @@ returns-in-Granted-clause-asked g c plan at =
     (c.in_ok-settled-in-Granted.ensures.kept plan there)) in
     kept_asks (ask_of c.args.asked.value) c.in_ok-place.place c.in-Miss.snapshot.moment certs s c.in-Granted.entry kept
     (granted_as c.anchors.result.now plan.anchors (anchors_are plans c.anchors.result.now are (home plans c.args.asked.value.channel) plan at)
-    (ask_of c.args.asked.value) (ask_of c.deref.result.now) (ap ask_of c.deref.ensures ∙ c.in_ok-place.ensures.same) certs c.in-Miss.snapshot.moment c.in-Granted.entry kept grant)
+    (ask_of c.args.asked.value) (ask_of c.deref.result.now) (ap ask_of c.deref.ensures) certs c.in-Miss.snapshot.moment c.in-Granted.entry kept grant)
     (seen_at (g.S.Shards.alone c.args.shards.now) (g.S.Shards.seen later) (g.S.Shards.own later) (home plans c.args.asked.value.channel)) refl settled became
 
 pub returns-in-Miss-clause-asked : goal.returns-in-Miss-clause-asked
@@ -116,7 +116,7 @@ returns-in-Miss-clause-asked g c plan at =
     let denied : IsDeniedBy c.anchors.result.now certs c.in-Miss.snapshot.moment (ask_of c.deref.result.now) c.in-Denied.denial =
     subst (Settles c.anchors.result.now certs c.in-Miss.snapshot.moment (ask_of c.deref.result.now)) c.in-Denied.is c.in_ok-entry-in-Miss.ensures.settled in
     ends_made c.ended.result c.in_ok-place.place (verdict.Denied c.in-Denied.denial) c.ended.ensures
-    (denied_asks _ _ _ _ s c.anchors.result.now (anchors_are plans c.anchors.result.now are (home plans c.args.asked.value.channel) plan at) (ask_of c.deref.result.now) (ap ask_of c.deref.ensures ∙ c.in_ok-place.ensures.same) c.in-Denied.denial denied)
+    (denied_asks _ _ _ _ s c.anchors.result.now (anchors_are plans c.anchors.result.now are (home plans c.args.asked.value.channel) plan at) (ask_of c.deref.result.now) (ap ask_of c.deref.ensures) c.in-Denied.denial denied)
 
 pub returns-in-Replayed-clause-asked : goal.returns-in-Replayed-clause-asked
 returns-in-Replayed-clause-asked g c plan at =

@@ -1,19 +1,49 @@
 -- what is asked about all is what the marks of all say
-use Rattle.std.proofs.Common.{Bool, List, length, true, map, ap, ◌∙◌, arith}
-use Rattle.std.proofs.lemmas.List.{take-replicate}
+use Rattle.std.proofs.Common.{length, true, map, arith, sym}
+use Rattle.std.proofs.lemmas.List.{length-map, take-replicate}
+use Rattle.std.proofs.lemmas.Option.{slice_get_within}
 use Rattle.prin_term.specs.View.{grant, principal}
-use Rattle.taos_calculus.specs.Question.{question_of}
-use Rattle.denial_link.specs.Links.{no_entry}
+use Rattle.denial_link.specs.Links.{expired, no_entry}
 use Rattle.stmt_codec.specs.View.{certificates}
-use Rattle.denial_link.proofs.Places.{certificate_count}
+use Rattle.denial_link.proofs.Places.{certificate_count, entry_in}
+use Rattle.denial_link.proofs.Entries.{part_of_subject, part_of_entry, link_missing, small_entry}
 use Rattle.denial_link.proofs.first.first_link.Goals as goal
 
 pub returns-in_default : goal.returns-in_default
 returns-in_default g c = no_entry c.in_default.ensures
 
-pub first_link_by_all-requires-clause-by_all : goal.first_link_by_all-requires-clause-by_all
-first_link_by_all-requires-clause-by_all g c =
+pub bounds-list-first : goal.bounds-list-first
+bounds-list-first g c =
+    let f = c.in-Some.ensures in
+    omega (arith, slice_get_within (map grant c.args.list.now) c.in-Some.first f.0 f.1.stands, length-map c.args.list.now grant)
+
+pub lacking-node-requires-clause-asking : goal.lacking-node-requires-clause-asking
+lacking-node-requires-clause-asking g c =
+    part_of_subject c.args.anchors.now (certificates c.args.certs.now) (principal c.args.subject.now) (map grant c.args.list.now) _ _ c.begin.ensures
+
+pub lacking-node-requires-clause-asked : goal.lacking-node-requires-clause-asked
+lacking-node-requires-clause-asked g c =
+    let f = c.in-Some.ensures in
+    let within = slice_get_within (map grant c.args.list.now) c.in-Some.first f.0 f.1.stands in
+    let at = entry_in c.args.list.now c.in-Some.first c.index-list-first.result (omega (arith, within, length-map c.args.list.now grant)) in
+    part_of_entry c.args.anchors.now (certificates c.args.certs.now) (principal c.args.subject.now) (map grant c.args.list.now) _ _ c.begin.ensures c.in-Some.first _ at
+
+pub lacking-node-requires-clause-small : goal.lacking-node-requires-clause-small
+lacking-node-requires-clause-small g c =
+    let f = c.in-Some.ensures in
+    let within = slice_get_within (map grant c.args.list.now) c.in-Some.first f.0 f.1.stands in
+    let at = entry_in c.args.list.now c.in-Some.first c.index-list-first.result (omega (arith, within, length-map c.args.list.now grant)) in
+    small_entry (map grant c.args.list.now) c.in-Some.first _ c.requires.askable.entries_fit at
+
+pub returns-in-Some-first_revived : goal.returns-in-Some-first_revived
+returns-in-Some-first_revived g c = let r = c.in-Some-first_revived.ensures in expired r.entry r.first r.needed
+
+pub returns : goal.returns
+returns g c =
+    let f = c.in-Some.ensures in
+    let within = slice_get_within (map grant c.args.list.now) c.in-Some.first f.0 f.1.stands in
+    let at = entry_in c.args.list.now c.in-Some.first c.index-list-first.result (omega (arith, within, length-map c.args.list.now grant)) in
     let count = certificate_count c.args.certs.now in
-    c.begin.ensures ∙
-    ap (λ (marks : List Bool). question_of c.args.anchors.now (certificates c.args.certs.now) marks (principal c.args.subject.now) (map grant c.args.list.now))
-    (take-replicate (length c.args.certs.now) 64 true (omega (arith, c.requires.askable.certs_fit, count)))
+    link_missing c.args.anchors.now (certificates c.args.certs.now) (principal c.args.subject.now) (map grant c.args.list.now) _ (length c.args.certs.now) _
+    c.begin.ensures (take-replicate (length c.args.certs.now) 64 true (omega (arith, c.requires.askable.certs_fit, count))) (sym count)
+    c.args.right c.in-Some.first f.0 _ at c.args.moment _ f.1 c.in_default-first_revived.ensures c.lacking-node.ensures.lacks

@@ -1,15 +1,12 @@
 -- what is asked about all certificates says what all of them say
-use Rattle.std.proofs.Common.{length, true, replicate, map, arith, refl, sym}
+use Rattle.std.proofs.Common.{length, map, arith, refl, sym}
 use Rattle.std.proofs.lemmas.List.{length-map}
 use Rattle.std.proofs.lemmas.Option.{slice_get_within}
-use Rattle.prin_term.specs.View.{Grant, grant, principal}
-use Rattle.stmt_codec.specs.Certificates.{live}
-use Rattle.taos_calculus.specs.Question.{question_of, MayAnswer}
-use Rattle.denial_link.specs.Revived.{claims}
+use Rattle.prin_term.specs.View.{grant, principal}
 use Rattle.denial_link.specs.Links.{no_entry}
 use Rattle.stmt_codec.specs.View.{certificates}
 use Rattle.denial_link.proofs.Places.{certificate_count, entry_in}
-use Rattle.denial_link.proofs.Entries.{part_of_subject, part_of_entry, entry_is_term, speaks_by_all_certs, link_expired, link_missing, not_granted, small_entry}
+use Rattle.denial_link.proofs.Entries.{part_of_subject, part_of_entry, entry_is_term, link_missing, none_by_all, small_entry}
 use Rattle.denial_link.proofs.Reaching.{part_itself, still_terms, lacks_same}
 use Rattle.denial_link.proofs.first.first_link_by_all.Goals as goal
 
@@ -25,38 +22,6 @@ pub first_derivable-requires-clause-asked : goal.first_derivable-requires-clause
 first_derivable-requires-clause-asked g c =
     entry_is_term c.args.anchors.now (certificates c.args.certs.now) (principal c.args.subject.now) (map grant c.args.list.now) (g.D.Decide.question c.args.bench.now) _
     c.requires.by_all
-
-pub bounds-list-entry : goal.bounds-list-entry
-bounds-list-entry g c =
-    let f = c.in-Some-first_derivable.ensures.found in
-    omega (arith, slice_get_within (map grant c.args.list.now) c.in-Some-first_derivable.entry f.0 f.1.stands, length-map c.args.list.now grant)
-
-pub first_needed-cert-requires-clause-listed : goal.first_needed-cert-requires-clause-listed
-first_needed-cert-requires-clause-listed g c =
-    let f = c.in-Some-first_derivable.ensures.found in
-    let within = slice_get_within (map grant c.args.list.now) c.in-Some-first_derivable.entry f.0 f.1.stands in
-    let at = entry_in c.args.list.now c.in-Some-first_derivable.entry c.index-list-entry.result (omega (arith, within, length-map c.args.list.now grant)) in
-    entry_is_term c.args.anchors.now (certificates c.args.certs.now) (principal c.args.subject.now) (map grant c.args.list.now)
-    (question_of c.args.anchors.now (certificates c.args.certs.now) (replicate (length c.args.certs.now) true) (principal c.args.subject.now) (map grant c.args.list.now))
-    (replicate (length c.args.certs.now) true) refl c.in-Some-first_derivable.entry _ at
-
-pub first_needed-cert-requires-clause-lacking : goal.first_needed-cert-requires-clause-lacking
-first_needed-cert-requires-clause-lacking g c =
-    let f = c.in-Some-first_derivable.ensures.found in
-    let within = slice_get_within (map grant c.args.list.now) c.in-Some-first_derivable.entry f.0 f.1.stands in
-    let at = entry_in c.args.list.now c.in-Some-first_derivable.entry c.index-list-entry.result (omega (arith, within, length-map c.args.list.now grant)) in
-    not_granted c.args.anchors.now (claims (live (certificates c.args.certs.now) c.args.moment)) (principal c.args.subject.now) (map grant c.args.list.now) c.args.right c.in-Some-first_derivable.entry f.0 _
-    (λ (e : Grant). MayAnswer (g.D.Decide.question c.args.bench.now) (principal c.args.subject.now) e.who) f.1 at c.requires.denied
-
-pub first_needed-cert-requires-clause-enough : goal.first_needed-cert-requires-clause-enough
-first_needed-cert-requires-clause-enough g c =
-    let f = c.in-Some-first_derivable.ensures.found in
-    let within = slice_get_within (map grant c.args.list.now) c.in-Some-first_derivable.entry f.0 f.1.stands in
-    let at = entry_in c.args.list.now c.in-Some-first_derivable.entry c.index-list-entry.result (omega (arith, within, length-map c.args.list.now grant)) in
-    let count = certificate_count c.args.certs.now in
-    speaks_by_all_certs c.args.anchors.now (certificates c.args.certs.now) (principal c.args.subject.now) (map grant c.args.list.now) (g.D.Decide.question c.args.bench.now) (length c.args.certs.now) _
-    c.requires.by_all refl (sym count)
-    c.args.right c.in-Some-first_derivable.entry f.0 _ at f.1
 
 pub bounds-list-first : goal.bounds-list-first
 bounds-list-first g c =
@@ -83,16 +48,6 @@ lacking-node-requires-clause-small g c =
     let at = entry_in c.args.list.now c.in-Some.first c.index-list-first.result (omega (arith, within, length-map c.args.list.now grant)) in
     small_entry (map grant c.args.list.now) c.in-Some.first _ c.requires.askable.entries_fit at
 
-pub returns-in-Some-first_derivable : goal.returns-in-Some-first_derivable
-returns-in-Some-first_derivable g c =
-    let f = c.in-Some-first_derivable.ensures.found in
-    let within = slice_get_within (map grant c.args.list.now) c.in-Some-first_derivable.entry f.0 f.1.stands in
-    let at = entry_in c.args.list.now c.in-Some-first_derivable.entry c.index-list-entry.result (omega (arith, within, length-map c.args.list.now grant)) in
-    let count = certificate_count c.args.certs.now in
-    link_expired c.args.anchors.now (certificates c.args.certs.now) (principal c.args.subject.now) (map grant c.args.list.now) (g.D.Decide.question c.args.bench.now) (length c.args.certs.now) _
-    c.requires.by_all refl (sym count)
-    c.args.right c.in-Some-first_derivable.entry f.0 _ at c.args.moment _ f.1 c.first_needed-cert.ensures
-
 pub returns-in-None : goal.returns-in-None
 returns-in-None g c =
     let q = g.D.Decide.question c.args.bench.now in
@@ -100,7 +55,9 @@ returns-in-None g c =
     let within = slice_get_within (map grant c.args.list.now) c.in-Some.first f.0 f.1.stands in
     let at = entry_in c.args.list.now c.in-Some.first c.index-list-first.result (omega (arith, within, length-map c.args.list.now grant)) in
     let count = certificate_count c.args.certs.now in
+    let none = none_by_all c.args.anchors.now (certificates c.args.certs.now) (principal c.args.subject.now) (map grant c.args.list.now) q (length c.args.certs.now) _
+    c.requires.by_all refl (sym count) c.args.right c.in-None.ensures.found in
     link_missing c.args.anchors.now (certificates c.args.certs.now) (principal c.args.subject.now) (map grant c.args.list.now) q (length c.args.certs.now) _
     c.requires.by_all refl (sym count)
-    c.args.right c.in-Some.first f.0 _ at c.args.moment _ f.1 c.in-None.ensures.found
+    c.args.right c.in-Some.first f.0 _ at c.args.moment _ f.1 none
     (lacks_same q _ (principal c.args.subject.now) _ _ c.lacking-node.result c.first_derivable.ensures.same refl c.lacking-node.ensures.lacks)

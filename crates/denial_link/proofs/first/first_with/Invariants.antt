@@ -1,6 +1,6 @@
 use Rattle.std.proofs.Common.{map}
 use Rattle.prin_term.specs.View.{Grant, grant}
-use Rattle.denial_link.proofs.Entries.{NoneBefore}
+use Rattle.denial_link.specs.Links.{NoneBefore}
 use Rattle.denial_link.proofs.first.first_with.Given as goal
 
 abbrev pub invariant-loop-place : goal.invariant-loop-place

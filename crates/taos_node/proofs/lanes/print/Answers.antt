@@ -1,16 +1,8 @@
--- the line, or a front of it, or nothing
-use Rattle.std.proofs.Common.{refl, sym, ◌∙◌, arith}
-use Rattle.std.proofs.KnownBytes.{Keeps-refl}
+-- the line is that of what the lanes left
+use Rattle.std.proofs.Common.{subst, ◌∙◌}
+use Rattle.taos_node.specs.Lanes.{PrintsLine}
 use Rattle.taos_node.proofs.lanes.print.Goals as goal
 
-pub returns-then-first-lanes-clause-prints : goal.returns-then-first-lanes-clause-prints
-returns-then-first-lanes-clause-prints g c = (refl, c.if-first-lanes.true, Keeps-refl (g.O.Sink.written c.args.output.now))
-
-pub returns-then-lacked-ne0-clause-prints : goal.returns-then-lacked-ne0-clause-prints
-returns-then-lacked-ne0-clause-prints g c = (c.if-first-lanes.false, omega (arith, c.if-lacked-ne0.true), Keeps-refl (g.O.Sink.written c.args.output.now))
-
-pub returns-in-Err-clause-prints : goal.returns-in-Err-clause-prints
-returns-in-Err-clause-prints g c =
-    let part = c.in-Err.ensures.part in
-    let line = sym c.lanes_line.ensures ∙ sym c.deref.ensures.0 in
-    (record { doors = c.if-first-lanes.false; memory = c.if-lacked-ne0.false }, (part.0, part.1, line ∙ part.2, part.3, part.4))
+pub returns-clause-prints : goal.returns-clause-prints
+returns-clause-prints g c =
+    subst (λ text. PrintsLine c.args.served.now.total text (g.O.Sink.written c.args.output.now) (g.O.Sink.written c.print_line.new.output) c.print_line.result) (c.deref.ensures.0 ∙ c.lanes_line.ensures) c.print_line.ensures.prints

@@ -1,11 +1,14 @@
 -- what the file opens, and what its lanes did
-use Rattle.std.proofs.Common.{map, refl}
+use Rattle.std.proofs.Common.{inl, map, refl}
 use Rattle.std.proofs.KnownBytes.{Keeps-refl}
 use Rattle.frame_link.specs.Streams.{stream}
 use Rattle.taos_lanes.specs.Stocked.{door_by, shown_by}
 use Rattle.taos_node.specs.Command.{touched, first_clock, first_link, LeavesRest}
 use Rattle.taos_node.specs.Words.{Serve}
-use Rattle.taos_node.proofs.LaneStatuses.{doors_tell, file_does, lanes_tell}
+use Rattle.taos_node.proofs.LaneStatuses.{doors_tell, file_does, lanes_tell, not_two_lanes}
+use Rattle.taos_node.proofs.Commands.{decided_opened, node_files}
+use Rattle.taos_node.specs.Ending.{lanes_status}
+use Rattle.taos_node.specs.Files.{IsNodeFile, node_means}
 use Rattle.taos_node.proofs.Statuses.{unserved}
 use Rattle.taos_node.proofs.lanes.serve_by_file.Goals as goal
 
@@ -21,8 +24,9 @@ returns-in-Ok g c = record {
       let did = c.serve_parts.ensures.serves gives.0 gives.2 in
       record {
         runs = (Keeps-refl input.told, (c.args.limits, is, (gives.0, gives.1, did)));
-        status = lanes_tell before after words c.args.limits gives.0 c.serve_parts.result is gives.1 c.in-Ok.ensures.cause refl c.serve_parts.ensures.cause;
-        doors = doors_tell g.D.In.Source.left g.D.Out.Sink.written gives.0 c.args.limits (map f c.args.lanes.now) (map f c.serve_parts.new.lanes) words before after c.serve_parts.result is did c.serve_parts.ensures.cause;
+        status = lanes_tell before after words (Serve c.args.limits) c.serve_parts.result is tt (decided_opened IsNodeFile node_means node_files before.file after.file gives.0 (lanes_status c.serve_parts.result) gives.1 (not_two_lanes c.serve_parts.result))
+            (inl (c.args.limits, is)) c.in-Ok.ensures.cause refl c.serve_parts.ensures.cause;
+        doors = doors_tell g.D.In.Source.left g.D.Out.Sink.written c.args.limits (map f c.args.lanes.now) (map f c.serve_parts.new.lanes) gives.0 words before after c.serve_parts.result is did c.serve_parts.ensures.cause;
       };
 }
 
@@ -37,6 +41,6 @@ returns-in-Err g c = record {
       let after = touched (stream (g.F.Source.left c.node_parts_of.new.file) (g.F.Source.faults c.node_parts_of.new.file)) input output clock relay in
       let rest : LeavesRest before after = record { input = Keeps-refl input.told; output = Keeps-refl output.told; lane = record { clock = Keeps-refl clock.told; link = refl } } in
       let wanted = Serve c.args.limits in
-      file_does g.D.In.Source.left g.D.Out.Sink.written words before after (map f c.args.lanes.now) c.in-Err.fault ((wanted, is, c.in-Err.ensures.gives), rest)
+      file_does g.D.In.Source.left g.D.Out.Sink.written words before after (map f c.args.lanes.now) c.args.limits c.in-Err.fault is ((wanted, is, c.in-Err.ensures.gives), rest)
       (unserved words before after wanted c.in-Err.fault is c.in-Err.ensures.cause c.in-Err.ensures.gives refl refl refl) c.in-Err.ensures.gives c.in-Err.ensures.cause;
 }

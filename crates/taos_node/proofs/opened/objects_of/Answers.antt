@@ -1,16 +1,17 @@
 -- each object is made of its plan
 use Rattle.std.proofs.Common.{ℕ, ◌++◌, ◌∷◌, [], List, map, sym, ap, ap₂, subst, ◌∙◌, arith}
 use Rattle.std.proofs.lemmas.List.{take_all}
+use Rattle.std.specs.List.Sorted.{IsStrictlyIncreasing}
 use Rattle.std.specs.declared.alloc.Global.{Global}
 use Rattle.std.specs.declared.vec.Vec.{Vec}
 use Rattle.prin_term.specs.declared.term.Entry.{Entry}
 use Rattle.prin_term.specs.View.{Grant, grant}
 use Rattle.object_core.specs.Objects.{ObjectSeen}
 use Rattle.object_core.specs.Operation.{IsAccessList, IsContent}
-use Rattle.object_core.specs.Shelving.{HaveOwnNumbers, fixed_of}
+use Rattle.object_core.specs.Shelving.{HaveOwnNumbers, fixed_of, numbers_of}
 use Rattle.node_file.specs.Plans.{plan}
 use Rattle.taos_node.specs.Opened.{new_object}
-use Rattle.taos_node.proofs.Nodes.{are_apart, none_within, one_object_more, plan_fits}
+use Rattle.taos_node.proofs.Nodes.{are_apart, none_within, objects_ascend, one_object_more, plan_fits}
 use Rattle.taos_node.proofs.opened.objects_of.Goals as goal
 use Rattle.taos_node.proofs.opened.objects_of.Goals.{in-Some+in_ok-list+in_ok-new+in_ok-push, in_default}
 
@@ -39,3 +40,9 @@ returns-clause-apart c =
     let plans = c.args.plans.now in
     let all = c.loop-place.invariant ∙ ap (map (new_object c.args.limit)) (take_all c.loop-place.place plans (omega (arith, c.loop-place-test.false, c.count-count.ensures))) in
     subst (λ (l : List ObjectSeen). HaveOwnNumbers (map fixed_of l)) (sym all) (are_apart c.args.limit plans c.at-first.ensures.sound)
+
+pub returns-clause-by_number : goal.returns-clause-by_number
+returns-clause-by_number c =
+    let plans = c.args.plans.now in
+    let all = c.loop-place.invariant ∙ ap (map (new_object c.args.limit)) (take_all c.loop-place.place plans (omega (arith, c.loop-place-test.false, c.count-count.ensures))) in
+    subst (λ (l : List ObjectSeen). IsStrictlyIncreasing (numbers_of (map fixed_of l))) (sym all) (objects_ascend c.args.limit plans c.at-first.ensures.sound)

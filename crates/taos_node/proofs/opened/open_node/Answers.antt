@@ -1,5 +1,6 @@
 -- the parts of the node are those of the opening
-use Rattle.std.proofs.Common.{List, ap, sym, subst, ◌∙◌}
+use Rattle.std.proofs.Common.{List, length, ap, sym, subst, ◌∙◌, arith}
+use Rattle.std.proofs.lemmas.List.{length-map}
 use Rattle.agent_core.specs.Alone.{plans_in}
 use Rattle.agent_core.specs.Journals.{ShardSeen}
 use Rattle.object_core.specs.Objects.{ObjectSeen}
@@ -34,3 +35,7 @@ new-requires c = c.in_ok-parts.ensures.new.objects
 
 pub new-requires-2 : goal.new-requires-2
 new-requires-2 c = c.in_ok-parts.ensures.new.shards
+
+pub returns-clause-few : goal.returns-clause-few
+returns-clause-few c =
+    omega (arith, ap (λ (l : List ShardSeen). length l) c.new-2.ensures.shards, length-map c.in_ok-parts.parts.shards.items (λ (s : ShardSeen). s.plan), c.in_ok-parts.ensures.new.shards.few)

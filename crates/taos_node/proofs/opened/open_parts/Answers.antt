@@ -10,7 +10,7 @@ pub returns-clause-is_node : goal.returns-clause-is_node
 returns-clause-is_node c = λ o r.
     let node = c.args.node in
     is_node_of node o (record { node = node.node; relay_key = c.of.result; channels = node.channels }) c.in_ok-shards.shards.items c.in_ok-objects.objects.items r c.in_ok-shards.ensures.sound refl c.of.ensures.key refl
-    c.in_ok-objects.ensures.opened c.in_ok-shards.ensures.opened
+    c.in_ok-objects.ensures.opened c.in_ok-shards.ensures.opened c.in_ok-objects.ensures.by_number
 
 pub returns-clause-new : goal.returns-clause-new
 returns-clause-new c =

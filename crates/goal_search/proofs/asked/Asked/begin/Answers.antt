@@ -1,11 +1,13 @@
-use Rattle.goal_search.proofs.Answered.{asks_the_same, begun_asked}
-use Rattle.std.proofs.Common.{◌∙◌}
+use Rattle.std.proofs.Common.{map}
+use Rattle.prin_term.specs.View.{grant, principal}
+use Rattle.stmt_codec.specs.View.{certificates}
+use Rattle.goal_search.proofs.Answered.{seen_about, still_about}
 use Rattle.goal_search.proofs.asked.Asked.begin.Goals as goal
-
-pub returns-clause-asked : goal.returns-clause-asked
-returns-clause-asked c = begun_asked c.gather.new.self c.restart.new.self _ _ c.gather.ensures.gathered c.restart.ensures.about_is c.restart.ensures.ready c.restart.ensures.none
 
 pub returns-clause-seen_is : goal.returns-clause-seen_is
 returns-clause-seen_is c =
-    let g = c.gather.new.self in
-    (asks_the_same g c.restart.new.self g.settled g.pool_room g.list_room c.restart.ensures.about_is).seen_is ∙ c.gather.ensures.seen_is
+    let a = c.prepare.new.self in
+    let b = c.choose_all.new.self in
+    let same = c.choose_all.ensures.same in
+    seen_about b c.args.anchors.now (certificates c.args.certs.now) c.args.chosen.now (principal c.args.subject.now) (map grant c.args.list.now)
+    (still_about a b _ _ _ _ same c.prepare.ensures.about) (rw same.taken_are c.prepare.ensures.taken) c.choose_all.ensures.marks

@@ -1,12 +1,22 @@
-use Rattle.std.proofs.Common.{◌≡◌, ◌≤◌, length, ap, arith, le_refl, ◌∙◌}
+use Rattle.std.proofs.Common.{◌≡◌, ◌≤◌, ℕ, List, Global, false, length, map, ap, arith, le_refl, sym, ◌∙◌}
+use Rattle.std.specs.Prelude.{is_ok, replicate, vec_len}
+use Rattle.std.proofs.lemmas.List.{length-map}
+use Rattle.std.specs.declared.sync.Arc.{Arc}
+use Rattle.stmt_codec.specs.declared.cert.Cert.{Cert}
+use Rattle.stmt_codec.specs.Certificates.{certificate}
+use Rattle.stmt_codec.specs.View.{certificates}
+use Rattle.taos_calculus.specs.Question.{claim_of}
 use Rattle.prin_term.specs.Principal.{node_count}
 use Rattle.prin_term.specs.View.{grant, principal}
 use Rattle.taos_calculus.specs.Tables.{IsNodeTable, principals_of}
-use Rattle.term_pool.proofs.Picking.{few_mapped, map_who, picked-apart}
+use Rattle.term_pool.proofs.Picking.{few_mapped, map_who}
 use Rattle.goal_search.specs.Taking.{Widens}
-use Rattle.goal_search.proofs.Gathered.{widens_then, widens_length, widens_named, widens_gathers}
-use Rattle.goal_search.proofs.Taken.{chosen_same, cited_same, count_same, list_same, names_same, taken_few}
+use Rattle.goal_search.proofs.Gathered.{widens_then, widens_length, widens_named, widens_holds}
+use Rattle.goal_search.proofs.Taken.{count_same, holding_of, list_same, makes_claims, names_same, resized, taken_few}
 use Rattle.goal_search.proofs.asked.Asked.gather.Goals as goal
+
+count_of : (certs : List (Arc Cert Global)) → length (certificates certs) ≡ length certs
+count_of certs = length-map certs (λ (a : Arc Cert Global). certificate a.value.body)
 
 pub keep_nodes-requires-clause-room : goal.keep_nodes-requires-clause-room
 keep_nodes-requires-clause-room c =
@@ -30,10 +40,12 @@ returns-clause-gathered c =
     let certs' : length c.args.certs.now ≤ 64 = few_mapped _ c.args.certs.now 64 c.requires.askable.certs_fit in
     let list' : length c.args.list.now ≤ 8 = few_mapped grant c.args.list.now 8 c.requires.askable.list_fits in
     let w13 : Widens p1 p3 144 = widens_then p1 p2 p3 _ _ 144 c.take_term-self.ensures.widens c.take_list.ensures.widens (omega (arith, s, list')) in
-    let gathers = widens_gathers p1 p3 144 w13 c.take_certs.new.cited.items _ c.take_certs.ensures.gathers in
+    let holds = widens_holds p1 p3 144 w13 c.take_certs.new.held.items _ _ c.take_certs.ensures.holds in
     let count = count_same p3 nodes same in
-    let chosen = chosen_same p3 nodes same c.take_certs.new.cited.items _ gathers in
     let table : IsNodeTable nodes = rw c.keep_nodes.ensures.kept c.nodes.ensures.table in
+    let items = resized (is_ok c.resize.result) c.resize.new.self.items c.args.self.now.marks.items (length c.args.taken.now) (vec_len c.args.self.now.marks) c.resize.ensures.items (ap is_ok c.unwrap.ensures) c.requires.marks (omega (arith, c.args.self.now.marks.ok.0)) in
+    let kept : c.keep_marks.new.kept.items ≡ c.args.taken.now = c.keep_marks.ensures.kept in
+    let count_taken : length c.args.taken.now ≡ length c.take_certs.new.held.items = omega (arith, c.take_certs.ensures.count, c.requires.askable.chosen_fit, count_of c.args.certs.now) in
     record {
       table = table;
       few_nodes = omega (
@@ -43,26 +55,33 @@ returns-clause-gathered c =
       );
       few_anchors = omega (arith, ap length c.keep_anchors.ensures.kept, c.requires.askable.anchors_fit);
       few_links = omega (arith, c.link_anchors.ensures.few, c.requires.askable.anchors_fit);
-      few_cited = omega (arith, c.take_certs.ensures.cited_few, certs');
-      cited_in = cited_same p3 nodes same c.take_certs.new.cited.items _ gathers;
       anchored = rw c.keep_anchors.ensures.kept (c.link_anchors.ensures.linked nodes table same);
+      none_cited = c.requires.cited;
       none_wanted = c.requires.wanted;
       pooled = same;
       subject_in = omega (arith, c.take_term-self.ensures.within, widens_length p2 p3 _ c.take_list.ensures.widens, count);
       list_in = rw count c.take_list.ensures.within;
-      apart = rw chosen (λ i j place x y e f. picked-apart 0 _ c.args.chosen.now i j place x y e f);
+      holding = rw kept (holding_of p3 nodes same c.take_certs.new.held.items _ c.args.taken.now c.resize.new.self.items holds (omega (arith, c.take_certs.ensures.count, certs')) count_taken items);
+      none_marked = items ∙ ap (λ (n : ℕ). replicate n false) count_taken;
     }
 
-pub returns-clause-seen_is : goal.returns-clause-seen_is
-returns-clause-seen_is c =
+pub returns-clause-about : goal.returns-clause-about
+returns-clause-about c =
     let p1 = c.take_certs.new.pool in
     let p2 = c.take_term-self.new.pool in
     let p3 = c.take_list.new.pool in
     let nodes = c.keep_nodes.new.kept.items in
     let same : principals_of nodes ≡ p3.terms = ap principals_of c.keep_nodes.ensures.kept ∙ c.nodes.ensures.terms in
     let w13 = widens_then p1 p2 p3 _ _ _ c.take_term-self.ensures.widens c.take_list.ensures.widens (le_refl _) in
-    let chosen = chosen_same p3 nodes same c.take_certs.new.cited.items _ (widens_gathers p1 p3 _ w13 c.take_certs.new.cited.items _ c.take_certs.ensures.gathers) in
+    let holds = widens_holds p1 p3 _ w13 c.take_certs.new.held.items _ _ c.take_certs.ensures.holds in
+    let kept : c.keep_marks.new.kept.items ≡ c.args.taken.now = c.keep_marks.ensures.kept in
+    let long : length c.take_certs.new.held.items ≡ length (map claim_of (certificates c.args.certs.now)) = c.take_certs.ensures.count ∙ sym (length-map (certificates c.args.certs.now) claim_of ∙ count_of c.args.certs.now) in
     let subject = names_same p3 nodes same c.take_term-self.result ∙
     (widens_named p2 p3 _ c.take_list.ensures.widens c.take_term-self.result c.take_term-self.ensures.within ∙ c.take_term-self.ensures.named_is) in
     let list = list_same p3 nodes same c.take_list.new.numbers.items ∙ (c.take_list.ensures.named_are ∙ map_who c.args.list.now) in
-    λ k. record { anchors = c.keep_anchors.ensures.kept k; chosen = chosen k; subject = subject k; list = list k }
+    record {
+      anchors_are = c.keep_anchors.ensures.kept;
+      claims_are = rw kept (makes_claims p3 nodes same c.take_certs.new.held.items _ c.args.taken.now holds long);
+      subject_is = subject;
+      list_are = list;
+    }

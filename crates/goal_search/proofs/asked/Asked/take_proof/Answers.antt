@@ -1,4 +1,4 @@
-use Rattle.std.proofs.Common.{◌≡◌, List, ap, refl, ◌∙◌}
+use Rattle.std.proofs.Common.{◌≡◌, List, ap, ◌∙◌}
 use Rattle.std.proofs.lemmas.Result.{IfOk-weaker}
 use Rattle.prin_term.specs.View.{principal}
 use Rattle.taos_calculus.specs.declared.line.Node.{Node}
@@ -7,6 +7,7 @@ use Rattle.taos_calculus.specs.Tables.{lines_of, named}
 use Rattle.goal_search.specs.Asked.{seen}
 use Rattle.goal_search.specs.Replaying.{IsQuestionOf}
 use Rattle.goal_search.specs.Searching.{core}
+use Rattle.goal_search.proofs.Seen.{proof_seen, searched, searched_question}
 use Rattle.goal_search.proofs.asked.Asked.take_proof.Goals as goal
 
 pub replay-requires-clause-left_in : goal.replay-requires-clause-left_in
@@ -21,7 +22,7 @@ replay-requires-clause-known c =
     c.decide.ensures.known (c.decide.ensures.answer.1 (rw (c.number-i.ensures.named_is, c.number-j.ensures.named_is) c.requires.derivable))
 
 pub replay-requires-clause-asked : goal.replay-requires-clause-asked
-replay-requires-clause-asked c = (seen c.decide.new.self, record { anchors_are = refl; chosen_is = refl; apart = c.decide.ensures.asked.apart })
+replay-requires-clause-asked c = (searched c.decide.new.self, searched_question c.decide.new.self c.decide.ensures.asked)
 
 pub returns-clause-seen_is : goal.returns-clause-seen_is
 returns-clause-seen_is c = c.decide.ensures.same.seen_is
@@ -32,10 +33,10 @@ returns-clause-proof c =
     let old = c.args.self.now in
     let same = c.decide.ensures.same in
     let nodes = a.search.nodes.items in
-    let is : IsQuestionOf (core a.search) (seen a) = record { anchors_are = refl; chosen_is = refl; apart = c.decide.ensures.asked.apart } in
+    let is : IsQuestionOf (core a.search) (searched a) = searched_question a c.decide.ensures.asked in
     let left : named nodes c.number-i.result ≡ principal c.args.left.now = ap (λ (ns : List Node). named ns c.number-i.result) same.nodes_are ∙ c.number-i.ensures.named_is in
     let right : named nodes c.number-j.result ≡ principal c.args.right.now = ap (λ (ns : List Node). named ns c.number-j.result) same.nodes_are ∙ c.number-j.ensures.named_is in
     IfOk-weaker c.replay.result
     (λ t. (q : Question) → IsQuestionOf (core a.search) q → IsProofOf q (named nodes c.number-i.result) (named nodes c.number-j.result) (lines_of t.proof) t.cites.items)
     (λ t. IsProofOf (seen old) (principal c.args.left.now) (principal c.args.right.now) (lines_of t.proof) t.cites.items)
-    (λ t proves. rw (same.seen_is, left, right) at (proves (seen a) is)) c.replay.ensures
+    (λ t proves. rw (same.seen_is, left, right) at (proof_seen a c.decide.ensures.asked _ _ _ _ (proves (searched a) is))) c.replay.ensures

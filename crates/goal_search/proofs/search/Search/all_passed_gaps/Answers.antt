@@ -1,8 +1,7 @@
-use Rattle.std.proofs.Common.{ℕ, below_more}
-use Rattle.goal_search.specs.Gaps.{IsPassedOnIn}
-use Rattle.goal_search.specs.Searching.{core, IsNumber}
+use Rattle.goal_search.specs.Gaps.{IsGap}
+use Rattle.goal_search.specs.Searching.{core}
+use Rattle.goal_search.proofs.GapLaws.{for_none}
 use Rattle.goal_search.proofs.search.Search.all_passed_gaps.Goals as goal
 
-pub loop-to-preserved : goal.loop-to-preserved
-loop-to-preserved c =
-    below_more (λ (i : ℕ). (from : ℕ) → IsNumber (core c.args.self.now) from → IsPassedOnIn (core c.args.self.now) c.args.row from i) c.loop-to.to c.loop-to.invariant c.in_default.ensures
+pub returns-then-has_few : goal.returns-then-has_few
+returns-then-has_few c = for_none c.source_gaps.result (IsGap (core c.args.self.now)) (λ f to from k h. f from to h k) c.source_gaps.ensures

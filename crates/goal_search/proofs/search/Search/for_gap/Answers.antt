@@ -1,10 +1,7 @@
 use Rattle.std.proofs.lemmas.Option.{slice_get_within}
 use Rattle.taos_calculus.specs.declared.line.Node.{Node}
-use Rattle.goal_search.specs.Gaps.{IsGap}
 use Rattle.goal_search.specs.Reasons.{for_both}
 use Rattle.goal_search.specs.Searching.{core}
-use Rattle.goal_search.proofs.Finishing.{for_refused}
-use Rattle.goal_search.proofs.GapLaws.{for_none}
 use Rattle.goal_search.proofs.Told.{node_below}
 use Rattle.goal_search.proofs.search.Search.for_gap.Goals as goal
 
@@ -21,8 +18,3 @@ pair_gap-requires-clause-second_in c =
 
 pub pair_gap-requires-clause-edge : goal.pair_gap-requires-clause-edge
 pair_gap-requires-clause-edge c = λ p q. for_both c.requires.stands c.in-For.ensures.stands p q
-
-pub returns-in-For : goal.returns-in-For
-returns-in-For c =
-    for_none c.pair_gap.result (IsGap (core c.args.self.now))
-    (for_refused (core c.args.self.now) c.args.row c.args.from c.args.to c.args.a c.args.b c.requires.stands c.in-For.c c.in-For.d c.in-For.ensures.stands) c.pair_gap.ensures

@@ -1,7 +1,6 @@
 use Rattle.std.proofs.Common.{refl}
 use Rattle.goal_search.specs.Searching.{core}
 use Rattle.goal_search.proofs.GapLaws.{there_passed}
-use Rattle.goal_search.proofs.Refusals.{never}
 use Rattle.goal_search.proofs.search.Search.target_gap.Goals as goal
 
 pub returns-then-has : goal.returns-then-has

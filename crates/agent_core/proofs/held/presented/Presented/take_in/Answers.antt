@@ -3,6 +3,7 @@ use Rattle.std.proofs.Common.{All, Contains, subst, sym, ap, ◌∙◌, arith}
 use Rattle.std.proofs.lemmas.List.{take_all}
 use Rattle.stmt_codec.specs.Certificates.{certificate}
 use Rattle.stmt_codec.specs.View.{certificates}
+use Rattle.agent_core.proofs.Onward.{begins_on}
 use Rattle.agent_core.proofs.TakingIn.{certificates_more, same_more, all_kept_more}
 use Rattle.agent_core.proofs.held.presented.Presented.take_in.Goals as goal
 
@@ -11,6 +12,7 @@ loop-place-preserved c =
     let added = certificates_more c.loop-place.taken.items c.push.new.self.items c.in_ok-handle_to.field-0 c.in_ok-push.ensures.items in
     record {
       counted = c.handle_to.ensures.counted;
+      grows = begins_on c.loop-place.invariant.grows c.handle_to.ensures.grows;
       same = same_more c.loop-place.taken.items c.push.new.self.items c.in_ok-handle_to.field-0 c.in_ok-push.ensures.items c.args.certs.now c.loop-place.place
           c.index-certs-place.result (omega arith) c.index-certs-place.is c.loop-place.invariant.same c.in_ok-handle_to.ensures.same;
       kept = all_kept_more (certificates c.loop-place.self.certs.items) (certificates c.handle_to.new.self.certs.items) (certificates c.loop-place.taken.items)

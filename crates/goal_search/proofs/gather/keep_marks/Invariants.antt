@@ -1,0 +1,9 @@
+use Rattle.std.proofs.Common.{◌≡◌, ◌≤◌, take}
+use Rattle.std.specs.Prelude.{vec_capacity}
+use Rattle.goal_search.proofs.gather.keep_marks.Given as goal
+
+abbrev pub invariant-loop-i : goal.invariant-loop-i
+invariant-loop-i l = record {
+  kept : l.kept.items ≡ take l.i l.marks;
+  capacity : vec_capacity l.fn.kept ≤ vec_capacity l.kept;
+}

@@ -1,7 +1,0 @@
-use Rattle.std.proofs.Common.{ℕ, ◌<◌}
-use Rattle.goal_search.specs.Gaps.{IsPassedOnIn}
-use Rattle.goal_search.specs.Searching.{core, IsNumber}
-use Rattle.goal_search.proofs.search.Search.all_passed_gaps.Given as goal
-
-abbrev pub invariant-loop-to : goal.invariant-loop-to
-invariant-loop-to l = (i : ℕ) → i < l.to → (from : ℕ) → IsNumber (core l.self) from → IsPassedOnIn (core l.self) l.row from i

@@ -1,0 +1,135 @@
+//! The lanes of a relay: each serves the connections of its door by one table.
+
+ghost use Rattle.std.specs.List.{AllZip};
+ghost use Rattle.std.specs.Prelude.{◌≡◌, ◌<◌, ◌≤◌, ◌^◌, length, map};
+ghost use Rattle.taos_lanes.specs.Relaying.{RelaysLane, RelaysLanes, ServesRelayed};
+ghost use Rattle.taos_lanes.specs.Stocked.{door_by, shown_by};
+ghost use Rattle.taos_lanes.specs.Totals.{IsSumOf};
+ghost use Rattle.taos_lanes.specs.Working.{ServesDoorBy, lane_of};
+
+use crate::lane::{Lane, Limits};
+use crate::tally::Tally;
+use crate::total::Total;
+use frame_link::{Clock, Door, RelayLink};
+use relay_core::{RelayTable, serve_relay};
+use std::alloc::Global;
+use std::thread;
+use std::thread::Threads;
+
+// What all workers of a relay share.
+#[derive(Drop)]
+struct Relay<'a> {
+    alloc: Global,
+    table: &'a RelayTable,
+    limits: Limits,
+}
+
+// Serves connections of the door, up to as many as the limits say, or until the door has none or
+// fails. Each is given back.
+fn relay_door<D: Door>(relay: &Relay<'_>, door: &mut D) -> Tally
+    ensures { ServesDoorBy D.In.left D.Out.written (ServesRelayed relay.now.limits.frames)
+        relay.now.limits.frames relay.now.limits.connections
+        (lane_of relay.now.table.now (door_by D.left D.back D.given D.faults door.old))
+        (lane_of relay.now.table.now (door_by D.left D.back D.given D.faults door.new)) result }
+{
+    let limits = relay.limits;
+    let mut tally = Tally::new();
+    while tally.served < limits.connections {
+        let Ok(opened) = door.accept() else {
+            tally.door_failed = true;
+            return tally;
+        };
+        let Some((mut input, mut output)) = opened else {
+            return tally;
+        };
+        let outcome = serve_relay(
+            relay.alloc,
+            relay.table,
+            &mut input,
+            &mut output,
+            limits.frames,
+        );
+        door.done(input, output);
+        tally.add(outcome);
+    }
+    tally
+}
+
+// Serves connections of the lane's door, and counts them.
+fn relay_lane<C: Clock, R: RelayLink, D: Door>(relay: &Relay<'_>, lane: &mut Lane<C, R, D>)
+    ensures { RelaysLane D.In.left D.Out.written relay.now.table.now relay.now.limits
+        (shown_by C.readings R.faults R.says (door_by D.left D.back D.given D.faults) lane.old)
+        (shown_by C.readings R.faults R.says (door_by D.left D.back D.given D.faults) lane.new) }
+{
+    lane.tally = relay_door(relay, &mut lane.door);
+}
+
+// Serves the door of each lane, all at the same time.
+fn relay_all<W: Threads + Sync, C: Clock + Send, R: RelayLink + Send, D: Door + Send>(
+    rt: &W,
+    relay: &Relay<'_>,
+    lanes: &mut [Lane<C, R, D>],
+)
+    requires some { 0 < length lanes.old }
+    ensures { AllZip (RelaysLane D.In.left D.Out.written relay.now.table.now relay.now.limits)
+        (map (shown_by C.readings R.faults R.says (door_by D.left D.back D.given D.faults)) lanes.old)
+        (map (shown_by C.readings R.faults R.says (door_by D.left D.back D.given D.faults)) lanes.new) }
+{
+    let count = lanes.len();
+    thread::for_each_mut(
+        rt,
+        lanes,
+        count,
+        &|_, lane: &mut Lane<C, R, D>|
+            ensures { RelaysLane D.In.left D.Out.written relay.entry.now.table.now
+                relay.entry.now.limits
+                (shown_by C.readings R.faults R.says (door_by D.left D.back D.given D.faults) lane.old)
+                (shown_by C.readings R.faults R.says (door_by D.left D.back D.given D.faults) lane.new) }
+        { relay_lane(relay, lane) },
+    );
+}
+
+// What a lane counted.
+fn tally_of<C: Clock, R: RelayLink, D: Door>(lane: &Lane<C, R, D>) -> Tally
+    ensures { result ≡ lane.now.tally }
+{
+    lane.tally
+}
+
+// What all lanes counted.
+fn total_of<C: Clock, R: RelayLink, D: Door>(lanes: &[Lane<C, R, D>]) -> Total
+    requires few { length lanes.now ≤ 2 ^ 32 }
+    ensures { IsSumOf (λ lane. lane.tally) lanes.now result }
+{
+    let mut total = Total::new();
+    for lane in lanes {
+        total.add(tally_of(lane));
+    }
+    total
+}
+
+/// Serves the doors of all lanes as a relay that has this table, all at the same time, a worker a
+/// lane, until each has served as many connections as the limits say, or its door has no more or
+/// fails. Each connection is given back, whatever its outcome is. It takes no memory of its own.
+pub fn serve_relays<W: Threads + Sync, C: Clock + Send, R: RelayLink + Send, D: Door + Send>(
+    rt: &W,
+    alloc: Global,
+    table: &RelayTable,
+    lanes: &mut [Lane<C, R, D>],
+    limits: Limits,
+) -> Total
+    requires some { 0 < length lanes.old }
+    requires few { length lanes.old ≤ 16 }
+    ensures { RelaysLanes D.In.left D.Out.written table.now limits
+        (map (shown_by C.readings R.faults R.says (door_by D.left D.back D.given D.faults)) lanes.old)
+        (map (shown_by C.readings R.faults R.says (door_by D.left D.back D.given D.faults)) lanes.new)
+        result }
+{
+    let relay = Relay {
+        alloc,
+        table,
+        limits,
+    };
+    relay_all(rt, &relay, lanes);
+    total_of(lanes)
+}

@@ -1,0 +1,131 @@
+-- What the status tells of an audit and of a drill.
+use Rattle.std.proofs.Common.{◌≡◌, ◌≢◌, ◌⊎◌, ℕ, List, refl, sym, ap, subst, ◌∙◌, arith, inl, inr}
+use Rattle.std.specs.Prelude.{String}
+use Rattle.std.specs.declared.alloc.Global.{Global}
+use Rattle.frame_link.specs.declared.outcome.Outcome.{Outcome}
+use Rattle.frame_link.specs.declared.outcome.Outcome.TheVariants.{End, WriteFault, NoMemory}
+use Rattle.frame_link.specs.Served.{HasCauses}
+use Rattle.node_file.specs.Opening.{Opening}
+use Rattle.taos_node.specs.declared.ending.AuditEnd.{AuditEnd}
+use Rattle.taos_node.specs.declared.ending.AuditEnd.TheVariants as audits
+use Rattle.taos_node.specs.declared.ending.DrillEnd.{DrillEnd}
+use Rattle.taos_node.specs.declared.ending.DrillEnd.TheVariants as drills
+use Rattle.taos_node.specs.Audit.{AuditCauses, AuditIsComplete}
+use Rattle.taos_node.specs.Command.{EndsWell, FileDecidesFor, IsCaused, IsStatus, Touched, counts_of}
+use Rattle.taos_node.specs.Drills.{DrillCauses}
+use Rattle.taos_node.specs.Ending.{audited_status, drilled_status, served_status}
+use Rattle.taos_node.specs.Files.{IsNodeFile, IsSteady, OpensNode, node_means}
+use Rattle.taos_node.specs.Words.{Audit, Check, Drill, DrillWords, Mean, Mint, Relay, Run}
+use Rattle.taos_node.proofs.Commands.{decided_opened, node_files, still}
+use Rattle.taos_node.proofs.Statuses.{AllTold, all_still, frames_in, not_caused, not_one, not_two, of_command, same_counts, serving_caused, serving_told, stayed, streams_told, two_commands}
+
+-- ---- an audit
+
+-- an outcome that has the same status and the same causes
+abbrev outcome_of : AuditEnd → Outcome
+outcome_of audits.Done = End 0
+outcome_of (audits.Stopped outcome) = outcome
+outcome_of audits.WriteFault = WriteFault
+outcome_of audits.NoMemory = NoMemory
+
+same_status : (end : AuditEnd) → audited_status end ≡ served_status (outcome_of end)
+same_status audits.Done = refl
+same_status (audits.Stopped outcome) = refl
+same_status audits.WriteFault = refl
+same_status audits.NoMemory = refl
+
+module _ (before after : Touched) where
+  same_causes : (end : AuditEnd) → AuditCauses (counts_of before) (counts_of after) end → HasCauses (counts_of before) (counts_of after) (outcome_of end)
+  same_causes audits.Done h = h
+  same_causes (audits.Stopped outcome) h = h
+  same_causes audits.WriteFault h = h
+  same_causes audits.NoMemory h = h
+
+  audit_caused : (end : AuditEnd) → AuditCauses (counts_of before) (counts_of after) end → IsCaused before after (audited_status end)
+  audit_caused end h = subst (IsCaused before after) (sym (same_status end)) (serving_caused before after (outcome_of end) (same_causes end h))
+
+  audit_told : (end : AuditEnd) → after.file.faults ≡ before.file.faults → AuditCauses (counts_of before) (counts_of after) end → AllTold before after (audited_status end)
+  audit_told end same h = subst (AllTold before after) (sym (same_status end)) (serving_told before after (outcome_of end) same (same_causes end h))
+
+  audit_well : (most : ℕ) (end : AuditEnd) → AuditIsComplete most before.input.told (counts_of before) (counts_of after) end → IsSteady before.clock after.clock → EndsWell IsNodeFile most before after (audited_status end)
+  audit_well most end complete sc bytes o told is frames whole within few sf si so =
+      let same = same_counts before.input.faults before.output.faults before.clock.faults after.input.faults after.output.faults after.clock.faults si.0 so.0 sc.0 in
+      elim (complete frames whole within few (record { same = same; input = si.1; output = so.1; clock = sc.1 })) [
+        | inl done ↦ inl (ap audited_status done)
+        | inr want ↦ inr (lacked want)
+      ]
+    where
+      lacked : (end ≡ audits.NoMemory) ⊎ (end ≡ audits.Stopped NoMemory) → audited_status end ≡ 6
+      lacked (inl e) = ap audited_status e
+      lacked (inr e) = ap audited_status e
+
+pub audited : (words : List (String Global)) (frames : ℕ) (before after : Touched) (end : AuditEnd) (o : Opening) → Mean words (Audit frames) → OpensNode before.file after.file o →
+    after.file.faults ≡ before.file.faults → AuditIsComplete frames before.input.told (counts_of before) (counts_of after) end → AuditCauses (counts_of before) (counts_of after) end →
+    IsStatus words before after (audited_status end)
+audited words frames before after end o audit opens same complete h = record {
+  usage = record { usage = λ e. absurd (not_one (outcome_of end) (sym (same_status end) ∙ e)); no_command = λ none. absurd (none (Audit frames, audit)) };
+  file = λ other is. of_command (λ w. FileDecidesFor w before.file after.file (audited_status end)) words (Audit frames) other audit is
+      (decided_opened IsNodeFile node_means node_files before.file after.file o (audited_status end) opens (λ e. not_two (outcome_of end) (sym (same_status end) ∙ e)));
+  complete = λ most is. two_commands words (Audit frames) (Run most) audit is (λ e. cc e);
+  checks_well = λ is. two_commands words (Audit frames) Check audit is (λ e. cc e);
+  relays_well = λ most is. two_commands words (Audit frames) (Relay most) audit is (λ e. cc e);
+  mints_well = λ m is. two_commands words (Audit frames) (Mint m) audit is (λ e. cc e);
+  audits_well = λ most is clock. audit_well before after most end (complete_for most is) clock;
+  drills_well = λ d is. two_commands words (Audit frames) (Drill d) audit is (λ e. cc e);
+  causes = audit_caused before after end h;
+  told = streams_told before after (audited_status end) (audit_told before after end same h);
+  clock = λ _. (audit_told before after end same h).clock;
+}
+  where
+    complete_for : (most : ℕ) → Mean words (Audit most) → AuditIsComplete most before.input.told (counts_of before) (counts_of after) end
+    complete_for most is = of_command (λ w. AuditIsComplete (frames_in w) before.input.told (counts_of before) (counts_of after) end) words (Audit frames) (Audit most) audit is complete
+
+-- ---- a drill
+
+not_one_drill : (end : DrillEnd) → drilled_status end ≢ 1
+not_one_drill drills.Done = λ e. omega (arith, e)
+not_one_drill drills.WriteFault = λ e. omega (arith, e)
+not_one_drill drills.NoMemory = λ e. omega (arith, e)
+
+not_two_drill : (end : DrillEnd) → drilled_status end ≢ 2
+not_two_drill drills.Done = λ e. omega (arith, e)
+not_two_drill drills.WriteFault = λ e. omega (arith, e)
+not_two_drill drills.NoMemory = λ e. omega (arith, e)
+
+module _ (before after : Touched) where
+  drill_caused : (end : DrillEnd) → DrillCauses before.output.faults after.output.faults end → IsCaused before after (drilled_status end)
+  drill_caused drills.Done h = not_caused before after 0 (λ e. omega (arith, e)) (λ e. omega (arith, e)) (λ e. omega (arith, e))
+  drill_caused drills.WriteFault h = record { read = λ e. absurd (omega (arith, e)); write = λ e. h; clock = λ e. absurd (omega (arith, e)) }
+  drill_caused drills.NoMemory h = not_caused before after 6 (λ e. omega (arith, e)) (λ e. omega (arith, e)) (λ e. omega (arith, e))
+
+  drill_told : (end : DrillEnd) → after.file.faults ≡ before.file.faults → after.input.faults ≡ before.input.faults → after.clock.faults ≡ before.clock.faults →
+      DrillCauses before.output.faults after.output.faults end → AllTold before after (drilled_status end)
+  drill_told drills.Done same input clock h = all_still before after 0 same input h clock
+  drill_told drills.WriteFault same input clock h = record {
+    file = stayed before.file.faults after.file.faults same;
+    input = stayed before.input.faults after.input.faults input;
+    output = λ _. refl;
+    clock = stayed before.clock.faults after.clock.faults clock;
+  }
+  drill_told drills.NoMemory same input clock h = all_still before after 6 same input h clock
+
+  drill_well : (end : DrillEnd) → DrillCauses before.output.faults after.output.faults end → IsSteady before.output after.output → (drilled_status end ≡ 0) ⊎ (drilled_status end ≡ 6)
+  drill_well drills.Done h so = inl refl
+  drill_well drills.WriteFault h so = absurd (still before.output.faults after.output.faults so h)
+  drill_well drills.NoMemory h so = inr refl
+
+pub drilled : (words : List (String Global)) (d : DrillWords) (before after : Touched) (end : DrillEnd) → Mean words (Drill d) → after.file.faults ≡ before.file.faults → after.input.faults ≡ before.input.faults →
+    after.clock.faults ≡ before.clock.faults → DrillCauses before.output.faults after.output.faults end → IsStatus words before after (drilled_status end)
+drilled words d before after end drill same input clock h = record {
+  usage = record { usage = λ e. absurd (not_one_drill end e); no_command = λ none. absurd (none (Drill d, drill)) };
+  file = λ other is. of_command (λ w. FileDecidesFor w before.file after.file (drilled_status end)) words (Drill d) other drill is (not_two_drill end);
+  complete = λ most is. two_commands words (Drill d) (Run most) drill is (λ e. cc e);
+  checks_well = λ is. two_commands words (Drill d) Check drill is (λ e. cc e);
+  relays_well = λ most is. two_commands words (Drill d) (Relay most) drill is (λ e. cc e);
+  mints_well = λ m is. two_commands words (Drill d) (Mint m) drill is (λ e. cc e);
+  audits_well = λ most is. two_commands words (Drill d) (Audit most) drill is (λ e. cc e);
+  drills_well = λ other is. drill_well before after end h;
+  causes = drill_caused before after end h;
+  told = streams_told before after (drilled_status end) (drill_told before after end same input clock h);
+  clock = λ _. (drill_told before after end same input clock h).clock;
+}

@@ -1,0 +1,28 @@
+-- What the lanes of a relay do, and what is printed of it.
+use Rattle.std.specs.Prelude.{ℕ, List, Option}
+use Rattle.node_file.specs.Held.{HoldsKeys}
+use Rattle.node_file.specs.RelayFile.{RelayFile}
+use Rattle.relay_core.specs.declared.resealing.RelayTable.{RelayTable}
+use Rattle.taos_lanes.specs.declared.lane.Limits.{Limits}
+use Rattle.taos_lanes.specs.declared.total.Total.{Total}
+use Rattle.taos_lanes.specs.Relaying.{RelaysLanes}
+use Rattle.taos_lanes.specs.Stocked.{LaneShown}
+use Rattle.taos_node.specs.declared.ending.LanesEnd.{LanesEnd}
+use Rattle.taos_node.specs.Lanes.{PrintsLine}
+use Rattle.taos_node.specs.Summary.{relays_line}
+
+-- the relay has the keys of the file
+pub record IsRelayOf (r : RelayFile) (table : RelayTable) : Type 0 where
+  pub issuers : HoldsKeys table.issuers r.issuers
+  pub nodes : HoldsKeys table.nodes r.nodes
+
+-- a relay of the file served the doors of its lanes, with what is printed
+pub record RelaysDoors {In Out : Type 0} (left : In → Option (List ℕ))
+    (written : Out → Option (List ℕ)) (r : RelayFile) (limits : Limits)
+    (before after : List (LaneShown (In × Out))) (out0 out1 : Option (List ℕ)) (end : LanesEnd) :
+    Type 0 where
+  pub table : RelayTable
+  pub is_relay : IsRelayOf r table
+  pub total : Total
+  pub serves : RelaysLanes left written table limits before after total
+  pub prints : PrintsLine total (relays_line total) out0 out1 end

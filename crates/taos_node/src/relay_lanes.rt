@@ -1,0 +1,82 @@
+//! The command that serves the lanes of a relay.
+
+ghost use Rattle.std.specs.Prelude.{◌<◌, ◌≤◌, List, String, length, map};
+ghost use Rattle.std.specs.declared.alloc.Global.{Global};
+ghost use Rattle.frame_link.specs.Streams.{Stream, stream};
+ghost use Rattle.node_file.specs.RelayFile as meant;
+ghost use Rattle.node_file.specs.RelayView.{StandsFor};
+ghost use Rattle.taos_lanes.specs.Stocked.{door_by, shown_by};
+ghost use Rattle.taos_node.specs.Command.{Does, first_clock, first_link, touched};
+ghost use Rattle.taos_node.specs.Lanes.{LanesCauses};
+ghost use Rattle.taos_node.specs.RelayLanes.{RelaysDoors};
+ghost use Rattle.taos_node.specs.Words.{Mean, RelayServe};
+
+use crate::ending::{Ending, LanesEnd};
+use crate::file::file_relay;
+use crate::lanes::print_line;
+use crate::summary::relays_line;
+use frame_link::{Clock, Door, RelayLink, Sink, Source};
+use node_file::RelayFile;
+use std::alloc::Global;
+use std::thread::Threads;
+use taos_lanes::{Lane, Limits, serve_relays};
+
+// Serves the doors of all lanes as a relay that knows this, and prints what was counted.
+fn serve_lanes<W: Threads + Sync, O: Sink, C: Clock + Send, R: RelayLink + Send, D: Door + Send>(
+    rt: &W,
+    alloc: Global,
+    relay: &RelayFile,
+    output: &mut O,
+    lanes: &mut [Lane<C, R, D>],
+    limits: Limits,
+) -> LanesEnd
+    requires some { 0 < length lanes.old }
+    requires few { length lanes.old ≤ 16 }
+    ensures serves { (r : meant.RelayFile) → StandsFor relay.now r
+        → RelaysDoors D.In.left D.Out.written r limits
+        (map (shown_by C.readings R.faults R.says (door_by D.left D.back D.given D.faults)) lanes.old)
+        (map (shown_by C.readings R.faults R.says (door_by D.left D.back D.given D.faults)) lanes.new)
+        (O.written output.old) (O.written output.new) result }
+    ensures cause { LanesCauses (O.faults output.old) (O.faults output.new) result }
+{
+    let total = serve_relays(rt, alloc, &relay.table, lanes, limits);
+    print_line(output, total, &relays_line(total))
+}
+
+/// Serves the doors of all lanes as the relay of a file, and prints what was counted.
+pub(crate) fn serve_relay_by_file<
+    W: Threads + Sync,
+    F: Source,
+    O: Sink,
+    C: Clock + Send,
+    R: RelayLink + Send,
+    D: Door + Send,
+>(
+    rt: &W,
+    alloc: Global,
+    file: &mut F,
+    output: &mut O,
+    lanes: &mut [Lane<C, R, D>],
+    limits: Limits,
+) -> Ending
+    requires some { 0 < length lanes.old }
+    requires few { length lanes.old ≤ 16 }
+    // Whatever input there is.
+    ensures serves { (words : List (String Global)) (input : Stream)
+        → Mean words (RelayServe limits)
+        → let before = touched (stream (F.left file.old) (F.faults file.old)) input
+        (stream (O.written output.old) (O.faults output.old))
+        (first_clock C.readings C.faults lanes.old) (first_link R.says R.faults lanes.old) in
+        let after = touched (stream (F.left file.new) (F.faults file.new)) input
+        (stream (O.written output.new) (O.faults output.new))
+        (first_clock C.readings C.faults lanes.new) (first_link R.says R.faults lanes.new) in
+        Does D.In.left D.Out.written words before after
+        (map (shown_by C.readings R.faults R.says (door_by D.left D.back D.given D.faults)) lanes.old)
+        (map (shown_by C.readings R.faults R.says (door_by D.left D.back D.given D.faults)) lanes.new)
+        result }
+{
+    match file_relay(alloc, file) {
+        Ok(relay) => Ending::RelayLanes(serve_lanes(rt, alloc, &relay, output, lanes, limits)),
+        Err(fault) => Ending::File(fault),
+    }
+}
