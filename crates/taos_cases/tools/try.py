@@ -5,7 +5,7 @@
 
 Each has its node file, its input and its relay, which listens on 127.0.0.1. The readings of its clock come
 from tools/clock.c, which `cc` compiles and which is preloaded; where that has no effect, conversations with
-readings are left out. What is written, the exit status and the note have to be as the conversation says.
+readings are left out, and so are audits that tell a reading which none says. What is written, the exit status and the note have to be as the conversation says.
 One run more has little memory, and has to end with 6; in one more a frame is sent only once the reply to the one before
 has come; and in another such a signal cuts short each wait for a frame, by tools/signals.c, where that is compiled.
 Files are those of data/ where none is named. Ends with 1 where one is not as it should be.
@@ -167,9 +167,14 @@ def has_readings(case):
     return max(case.numbers("clock"), default=0) <= MOST_SECONDS
 
 
+def tells_readings(case):
+    """Whether what is written has readings of a clock that the conversation does not say."""
+    return case.words("words")[:1] == ["audit"] and b" reading " in case.bytes("output") and not case.numbers("clock")
+
+
 def chosen(program, cases):
     """The conversations that are tried; it says how many are left out."""
-    fit = [case for case in cases if not any(key in case.said for key in UNFIT)]
+    fit = [case for case in cases if not any(key in case.said for key in UNFIT) and not tells_readings(case)]
     print(f"{len(cases) - len(fit)} left out: something is made to fail or comes in pieces")
     timely = [case for case in fit if has_readings(case)]
     print(f"{len(fit) - len(timely)} left out: the system's clock has no such readings")
