@@ -5,7 +5,8 @@
 
 Each has its node file, its input and its relay, which listens on 127.0.0.1. The readings of its clock come
 from tools/clock.c, which `cc` compiles and which is preloaded; where that has no effect, conversations with
-readings are left out, and so are audits that tell a reading which none says. What is written, the exit status and the note have to be as the conversation says.
+readings are left out, and so are audits that tell a reading which none says. What is written, the exit status and the
+note have to be as the conversation says.
 One run more has little memory, and has to end with 6; in one more a frame is sent only once the reply to the one before
 has come; and in another such a signal cuts short each wait for a frame, by tools/signals.c, where that is compiled.
 Files are those of data/ where none is named. Ends with 1 where one is not as it should be.
