@@ -1,5 +1,5 @@
-//! Tests of principals, certificates, seals, credentials and operations. A crate with tests is
-//! proved twice, so they stand here.
+//! Tests of principals, certificates, seals, credentials and operations, of frames and of relays. A
+//! crate with tests is proved twice, so they stand here.
 #![tactic(auto)]
 
 #[cfg(test)]
@@ -7,9 +7,13 @@ mod bodies;
 #[cfg(test)]
 mod credentials;
 #[cfg(test)]
+mod frames;
+#[cfg(test)]
 mod objects;
 #[cfg(test)]
 mod operations;
+#[cfg(test)]
+mod relays;
 #[cfg(test)]
 mod seals;
 #[cfg(test)]

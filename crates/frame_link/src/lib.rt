@@ -4,6 +4,7 @@
 mod closed;
 mod fault_plan;
 mod frame;
+mod limits;
 mod mem_clock;
 mod mem_door;
 mod mem_sink;
@@ -16,6 +17,7 @@ mod whole;
 
 pub use closed::{ClosedDoor, NoRelay};
 pub use frame::{FrameBuf, Next, Put, SMALL_FRAME, next_frame, one_reading, put_frame};
+pub use limits::Limits;
 pub use mem_clock::MemClock;
 pub use mem_door::MemDoor;
 pub use mem_sink::MemSink;

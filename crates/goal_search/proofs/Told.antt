@@ -177,6 +177,13 @@ module _ (s : Core) (f g h : Found) (from to : ℕ) (since : TellsMore s f g) (m
           below_else : (i ≡ n → ⊥) → i < n
           below_else other = omega (arith, b, other)
 
+-- where it is told that the one speaks for the other, each certificate's part of that is told
+pub heard_told : (s : Core) (f g : Found) (from to : ℕ) → IsTold g (Fact.Speaks from to) → (i : ℕ) → TellsHeard s f g from to i
+heard_told s f g from to told i = record {
+  handed = λ c e p q k. told;
+  delegated = λ c a b e p q u v k. told;
+}
+
 -- who says a statement is told, once it is wherever its certificate's speaker speaks for it
 pub said_told : (s : Core) (ready : IsReady s) (f g : Found) (more : TellsMore s f g) (i who : ℕ) (c : Cited) → slice_get s.cited i ≡ Some c → TellsSaid s f i c who →
     (IsTold g (Fact.Speaks c.speaker who) → IsTold g (Fact.Says who c.left c.right)) → IsTold g (Fact.Says who c.left c.right)

@@ -20,7 +20,8 @@ impl Search {
         }
     }
 
-    // Begins the row of a statement that several speakers make, and closes it.
+    // Begins the row of the certificate's speaker, and closes it; also that of its statement, where
+    // several speakers make this and the one alone is not enough.
     fn open_statement(&mut self, number: usize)
         requires ready { IsReady (core self.old) }
         requires number_in { number < length self.old.cited.items }
@@ -28,6 +29,9 @@ impl Search {
     {
         let it = self.cite(number);
         self.open(it.speaker);
+        if self.is_heard(number) {
+            return;
+        }
         let row = self.statement_row(number);
         if !self.says_all(it.speaker as usize, number) && !self.has(row, it.speaker) {
             self.begin_statement(number);

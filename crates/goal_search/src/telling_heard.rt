@@ -1,6 +1,6 @@
 //! Lines that tell what certificates hand off and delegate.
 
-ghost use Rattle.std.specs.Prelude.{◌≡◌, ◌<◌, ℕ, Some, slice_get, length};
+ghost use Rattle.std.specs.Prelude.{◌≡◌, ◌<◌, ℕ, IsTrue, Some, slice_get, length};
 ghost use Rattle.taos_calculus.specs.declared.line.Fact.{Fact};
 ghost use Rattle.taos_calculus.specs.declared.line.Node.{Node};
 ghost use Rattle.term_pool.specs.declared.cited.Cited.{Cited};
@@ -26,6 +26,9 @@ impl Search {
         let it = self.cite(number);
         let cite = number as u16;
         self.tell_says(found, number, it.speaker, Step::Said { cite });
+        if who == it.speaker {
+            return;
+        }
         match self.says_line(found, number, it.speaker) {
             Some(says) => match self.speaks_line(found, it.speaker, who) {
                 Some(speaks) => self.tell_says(found, number, who, Step::Lift { says, speaks }),
@@ -82,19 +85,23 @@ impl Search {
         }
     }
 
-    // Tells what the certificate gives from the one to the other.
-    fn tell_one(&self, found: &mut Found, number: usize, from: u16, to: u16)
+    // Tells what the certificate gives from the one to the other. Answers whether the lines now tell
+    // that the one speaks for the other.
+    fn tell_one(&self, found: &mut Found, number: usize, from: u16, to: u16) -> bool
         requires ready { IsReady (core self.now) }
         requires telling { IsTelling (core self.now) found.old }
         requires number_in { number < length self.now.cited.items }
         ensures more { TellsMore (core self.now) found.old found.new }
         ensures told { TellsHeard (core self.now) found.old found.new from to number }
+        ensures done { IsTrue result → IsTold found.new (Fact.Speaks from to) }
     {
         let it = self.cite(number);
         if it.left == from && it.right == to {
             self.tell_handed(found, number);
             self.tell_delegated(found, number);
+            return self.speaks_line(found, it.left, it.right).is_some();
         }
+        false
     }
 
     /// Tells what the certificates give from the one to the other.
@@ -106,7 +113,9 @@ impl Search {
             → TellsHeard (core self.now) found.old found.new from to i }
     {
         for number in 0..self.cited.len() {
-            self.tell_one(found, number, from, to);
+            if self.tell_one(found, number, from, to) {
+                return;
+            }
         }
     }
 }

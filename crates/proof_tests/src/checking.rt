@@ -5,7 +5,7 @@ use std::test::Fail;
 use stmt_codec::{Cert, CertBody};
 use taos_calculus::*;
 
-const ANCHORS: [Anchor; 2] = [Anchor { key: 1, name: 10 }, Anchor { key: 2, name: 20 }];
+const ANCHORS: &[Anchor] = &[Anchor { key: 1, name: 10 }, Anchor { key: 2, name: 20 }];
 
 // Lines and steps, by their numbers.
 macro_rules! speaks {
@@ -251,7 +251,7 @@ fn certs(alloc: Global) -> Result<Vec<Arc<Cert>>, Fail> {
 }
 
 fn bad_line(certs: &[Arc<Cert>], proof: &Proof) -> Option<usize> {
-    match check_proof(&ANCHORS, certs, proof) {
+    match check_proof(ANCHORS, certs, proof) {
         Ok(_) => None,
         Err(bad) => Some(bad.line as usize),
     }
@@ -306,7 +306,7 @@ fn no_lines_conclude_nothing(rt: HostRuntime) -> Result<(), Fail> {
 }
 
 // The hand-off of a name by four lines, spelled.
-const HAND_OFF: [u8; 61] = [
+const HAND_OFF: &[u8] = &[
     0, 3, 1, 0, 0, 0, 1, 2, 0, 0, 0, 10, 1, 0, 0, 0, 2, 0, 0, 0, 4, 9, 0, 0, 0, 1, 0, 0, 10, 0, 0,
     0, 2, 0, 1, 0, 0, 11, 0, 1, 0, 2, 0, 1, 0, 0, 0, 1, 0, 0, 0, 0, 13, 0, 2, 0, 1, 0, 0, 0, 2,
 ];
@@ -317,10 +317,12 @@ fn concluded(
     certs: &[Arc<Cert>],
     anchor: u8,
 ) -> Result<Result<Conclusion, usize>, Fail> {
-    let mut bytes = HAND_OFF;
-    bytes[27] = anchor;
+    let mut bytes = HAND_OFF.to_vec(alloc)?;
+    if let Some(byte) = bytes.get_mut(27) {
+        *byte = anchor;
+    }
     let proof = read_proof(alloc, &bytes)?;
-    match check_proof(&ANCHORS, certs, &proof) {
+    match check_proof(ANCHORS, certs, &proof) {
         Ok(found) => Ok(Ok(found)),
         Err(bad) => Ok(Err(bad.line as usize)),
     }

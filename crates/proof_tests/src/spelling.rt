@@ -64,24 +64,25 @@ fn is_proof(alloc: Global, nodes: &[Node], lines: &[Line], bytes: &[u8]) -> Resu
     Ok(has_them && is_spelled(alloc, &proof, bytes)?)
 }
 
-#[test]
-fn an_anchored_read_is_proved_by_one_line(rt: HostRuntime) -> Result<(), Fail> {
-    let want = [
-        0, 2, 1, 0, 0, 0, 1, 2, 0, 0, 0, 10, 0, 0, 0, 1, 9, 0, 0, 0, 1, 0, 0,
-    ];
-    assert!(rt; is_proof(rt.alloc(), &[Node::Key(1), Node::Name(10)], ANCHORED, &want)?);
-    Ok(())
-}
+// What is shown, the nodes and lines of a proof, and how it is spelled.
+const SPELLED: &[(&str, &[Node], &[Line], &[u8])] = &[
+    (
+        "an anchored read by one line",
+        &[Node::Key(1), Node::Name(10)],
+        ANCHORED,
+        &[
+            0, 2, 1, 0, 0, 0, 1, 2, 0, 0, 0, 10, 0, 0, 0, 1, 9, 0, 0, 0, 1, 0, 0,
+        ],
+    ),
+    ("a hand-off by four lines", NODES, HANDED, HAND_OFF),
+    ("an empty proof", &[], &[], &[0, 0, 0, 0, 0, 0]),
+];
 
 #[test]
-fn a_hand_off_is_proved_by_four_lines(rt: HostRuntime) -> Result<(), Fail> {
-    assert!(rt; is_proof(rt.alloc(), NODES, HANDED, &HAND_OFF)?);
-    Ok(())
-}
-
-#[test]
-fn an_empty_proof_is_spelled_too(rt: HostRuntime) -> Result<(), Fail> {
-    assert!(rt; is_proof(rt.alloc(), &[], &[], &[0; 6])?);
+fn a_proof_is_spelled_by_its_nodes_and_lines(rt: HostRuntime) -> Result<(), Fail> {
+    for &(what, nodes, lines, bytes) in SPELLED {
+        assert!(rt; is_proof(rt.alloc(), nodes, lines, bytes)?, "{what}");
+    }
     Ok(())
 }
 
@@ -140,8 +141,8 @@ fn only_the_canonical_table_is_taken(rt: HostRuntime) -> Result<(), Fail> {
     Ok(())
 }
 
-// The hand-off of a name by four lines, spelled.
-const HAND_OFF: [u8; 61] = [
+// It by four lines, spelled.
+const HAND_OFF: &[u8] = &[
     0, 3, 1, 0, 0, 0, 1, 2, 0, 0, 0, 10, 1, 0, 0, 0, 2, 0, 0, 0, 4, 9, 0, 0, 0, 1, 0, 0, 10, 0, 0,
     0, 2, 0, 1, 0, 0, 11, 0, 1, 0, 2, 0, 1, 0, 0, 0, 1, 0, 0, 0, 0, 13, 0, 2, 0, 1, 0, 0, 0, 2,
 ];
@@ -156,16 +157,16 @@ fn names_key_ten(proof: &Proof) -> bool {
 
 #[test]
 fn a_hand_off_is_read_and_written_back(rt: HostRuntime) -> Result<(), Fail> {
-    let proof = read_proof(rt.alloc(), &HAND_OFF)?;
+    let proof = read_proof(rt.alloc(), HAND_OFF)?;
     assert!(rt; proof.lines() == HANDED && names_ten(&proof) && !names_key_ten(&proof));
-    assert!(rt; is_spelled(rt.alloc(), &proof, &HAND_OFF)?);
+    assert!(rt; is_spelled(rt.alloc(), &proof, HAND_OFF)?);
     Ok(())
 }
 
 // The hand-off between other bytes.
 fn surrounded(alloc: Global) -> Result<Vec<u8>, Fail> {
     let mut bytes = vec![in alloc; 7; 3]?;
-    bytes.extend_from_slice(&HAND_OFF)?;
+    bytes.extend_from_slice(HAND_OFF)?;
     bytes.push(7)?;
     Ok(bytes)
 }
@@ -195,21 +196,22 @@ const TURNED: &[(usize, u8, usize)] = &[
     (20, 3, 52),
 ];
 
-fn fault_with(alloc: Global, place: usize, value: u8) -> Option<ProofFault> {
-    let mut bytes = HAND_OFF;
+fn fault_with(alloc: Global, place: usize, value: u8) -> Result<Option<ProofFault>, Fail> {
+    let mut bytes = HAND_OFF.to_vec(alloc)?;
     if let Some(byte) = bytes.get_mut(place) {
         *byte = value;
     }
-    read_proof(alloc, &bytes).err()
+    Ok(read_proof(alloc, &bytes).err())
 }
 
 #[test]
-fn a_turned_byte_is_refused_at_its_place(rt: HostRuntime) {
+fn a_turned_byte_is_refused_at_its_place(rt: HostRuntime) -> Result<(), Fail> {
     for &(place, value, offset) in TURNED {
-        let fault = fault_with(rt.alloc(), place, value);
+        let fault = fault_with(rt.alloc(), place, value)?;
         assert!(rt;
             fault == Some(ProofFault::Malformed { offset }),
             "at {place}"
         );
     }
+    Ok(())
 }

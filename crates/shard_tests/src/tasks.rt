@@ -8,6 +8,7 @@ ghost use Rattle.agent_core.specs.Journals.{IsOn};
 ghost use Rattle.agent_core.specs.Views.{ask_of, event_of};
 ghost use Rattle.shard_tests.specs.Seats.{HasChannel, IsAlwaysMeant};
 
+use crate::large::large_certs;
 use crate::meeting::{Meeting, When};
 use crate::opening::hand_off;
 use agent_core::{Ask, Event, Gate, Settled, Shards, Verdict, ask};
@@ -28,6 +29,8 @@ pub(crate) enum Task {
     Discard,
     /// Takes the object of the number, and gives it back.
     Take(u32),
+    /// Presents the large certificates of each number from one on, so many, by an ask each.
+    Present { first: u64, count: u64 },
 }
 
 /// A task, and when its thread meets the other.
@@ -46,6 +49,8 @@ pub(crate) enum Deed {
     Asked(u64, bool, Settled),
     /// The number of the object that was taken.
     Took(Option<u32>),
+    /// How many asks were answered before memory was refused to one.
+    Answered(u64),
 }
 
 /// What came of a task.
@@ -96,7 +101,8 @@ fn presented(alloc: Global, presents: bool) -> Result<Vec<Arc<Cert>>, AllocError
 }
 
 // That key 2 asks to read what name 10 may read.
-fn asked(alloc: Global, seq: u64, presents: bool) -> Result<Arc<Ask>, AllocError>
+fn asked(alloc: Global, seq: u64, presented: Vec<Arc<Cert>>) -> Result<Arc<Ask>, AllocError>
+    requires { length presented.items ≤ 16 }
     ensures channel { IfOk result (λ a. a.value.channel ≡ 2) }
     ensures subject { IfOk result (λ a. IsOn 2 (principal a.value.subject)) }
     ensures fits { IfOk result (λ a. FitsAsk (ask_of a.value)) }
@@ -112,7 +118,7 @@ fn asked(alloc: Global, seq: u64, presents: bool) -> Result<Arc<Ask>, AllocError
         subject: Term::Key(2),
         list: Arc::new(alloc, vec![in alloc; entry]?)?,
         right: 1,
-        presented: presented(alloc, presents)?,
+        presented,
     };
     Ok(Arc::new(alloc, made)?)
 }
@@ -122,20 +128,43 @@ fn ask_once<W: Wait + Sync, S: Shards>(
     rt: &W,
     alloc: Global,
     shards: &mut S,
+    bench: &mut Workbench,
     meeting: &mut Meeting<'_>,
     asked: Arc<Ask>,
 ) -> Result<Deed, AllocError>
     requires planned { HasChannel (S.plans shards.old) asked.value.channel }
     requires on { IsOn asked.value.channel (principal asked.value.subject) }
     requires fits { FitsAsk (ask_of asked.value) }
+    ensures { S.plans shards.new ≡ S.plans shards.old }
 {
-    let mut bench = Workbench::reserve(alloc)?;
-    let ended = ask(rt, alloc, shards, &mut bench, meeting, asked)?;
+    let ended = ask(rt, alloc, shards, bench, meeting, asked)?;
     let is_granted = match ended.verdict {
         Verdict::Granted { .. } => true,
         _ => false,
     };
     Ok(Deed::Asked(ended.place, is_granted, ended.settled))
+}
+
+// Asks that present large certificates, until memory is refused to one.
+fn present<W: Wait + Sync, S: Shards>(
+    rt: &W,
+    alloc: Global,
+    shards: &mut S,
+    meeting: &mut Meeting<'_>,
+    first: u64,
+    count: u64,
+) -> Result<Deed, AllocError>
+    requires { HasChannel (S.plans shards.old) 2 }
+{
+    let mut bench = Workbench::reserve(alloc)?;
+    for more in 0..count {
+        let number = first.wrapping_add(more);
+        let made = asked(alloc, number, large_certs(alloc, number)?)?;
+        if ask_once(rt, alloc, shards, &mut bench, meeting, made).is_err() {
+            return Ok(Deed::Answered(more));
+        }
+    }
+    Ok(Deed::Answered(count))
 }
 
 // Takes the object of the number, if there is one, and gives it back after the meeting.
@@ -170,8 +199,9 @@ fn do_task<W: Wait + Sync, S: Shards, H: Shelf>(
     match task {
         Task::Expire(times) => Ok(Deed::Stepped(expire(rt, alloc, shards, times)?)),
         Task::Ask { seq, presents } => {
-            let made = asked(alloc, seq, presents)?;
-            ask_once(rt, alloc, shards, meeting, made)
+            let made = asked(alloc, seq, presented(alloc, presents)?)?;
+            let mut bench = Workbench::reserve(alloc)?;
+            ask_once(rt, alloc, shards, &mut bench, meeting, made)
         }
         Task::Discard => {
             let digest = hand_off(alloc)?.digest;
@@ -179,6 +209,7 @@ fn do_task<W: Wait + Sync, S: Shards, H: Shelf>(
             Ok(Deed::Stepped(vec![in alloc; place]?))
         }
         Task::Take(number) => Ok(Deed::Took(take(rt, shelf, number, meeting))),
+        Task::Present { first, count } => { present(rt, alloc, shards, meeting, first, count) }
     }
 }
 

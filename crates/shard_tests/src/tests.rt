@@ -46,6 +46,17 @@ fn took(report: &Option<Report>) -> Option<u32> {
     }
 }
 
+// How many asks were answered.
+fn answered(report: &Option<Report>) -> Option<u64> {
+    match report {
+        Some(report) => match &report.deed {
+            Deed::Answered(count) => Some(*count),
+            _ => None,
+        },
+        None => None,
+    }
+}
+
 // Whether the one shard's journal tells this, and nothing else.
 fn tells(ended: &Ended, tolds: &[Told]) -> bool {
     let [shard] = ended.shards.as_slice() else {
@@ -159,6 +170,37 @@ fn what_is_let_go_between_is_not_kept_and_the_grant_stands(rt: HostRuntime) -> R
         Told::Miss,
     ];
     assert!(rt; tells(&made, &tolds));
+    Ok(())
+}
+
+// 250 numbers' certificates fit where they are kept once, whoever presents them: ten of these are
+// presented at both seats. One number's more do not, and then those that are kept still may be.
+#[test]
+fn seats_share_what_is_presented_and_its_limit(rt: HostRuntime) -> Result<(), Fail> {
+    let mine = Job {
+        when: When::Before,
+        task: Task::Present {
+            first: 1,
+            count: 130,
+        },
+    };
+    let yours = Job {
+        when: When::Before,
+        task: Task::Present {
+            first: 121,
+            count: 130,
+        },
+    };
+    let more = Task::Present {
+        first: 250,
+        count: 2,
+    };
+    let made = run(&rt, rt.alloc(), mine, yours, more)?;
+    assert!(rt; met(&made.first) && met(&made.second));
+    assert_eq!(rt; answered(&made.first), Some(130));
+    assert_eq!(rt; answered(&made.second), Some(130));
+    assert_eq!(rt; answered(&made.last), Some(1));
+    assert!(rt; is_long(&made, 261));
     Ok(())
 }
 

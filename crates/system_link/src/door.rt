@@ -2,11 +2,12 @@
 
 ghost use Rattle.std.specs.Prelude.{◌≡◌, IsSome, None, IfOk, OnErr};
 
+use crate::notice::{Breakage, Happening};
 use crate::peer::{PeerInput, PeerOutput, Terms, halves};
 use frame_link::{Door, Failed};
 use std::alloc::Global;
 use std::io::ErrorKind;
-use std::net::TcpListener;
+use std::net::{SocketAddr, TcpListener};
 use std::sync::Arc;
 use std::time::{Clock, Duration};
 use std::{io, thread};
@@ -105,6 +106,13 @@ impl<C: Clock + Copy> TcpDoor<C> {
         self.faults
     }
 
+    // Leaves a notice of a connection that broke.
+    fn tell(&self, peer: SocketAddr, why: Breakage) {
+        if let Some(notices) = &self.terms.teller {
+            notices.tell(&self.terms.clock, Some(peer), Happening::Broken(why));
+        }
+    }
+
     // The next connection of a listener. A connection that memory or descriptors lack for is
     // closed, and the next one is waited for.
     fn next_of(
@@ -117,10 +125,11 @@ impl<C: Clock + Copy> TcpDoor<C> {
                 return Ok(None);
             }
             match accepted {
-                Ok((stream, _)) => {
-                    if let Ok(connection) = halves(self.alloc, &self.terms, stream) {
+                Ok((stream, peer)) => {
+                    if let Ok(connection) = halves(self.alloc, &self.terms, stream, peer) {
                         return Ok(Some(connection));
                     }
+                    self.tell(peer, Breakage::TurnedAway);
                 }
                 Err(error) => match cause_of(&error) {
                     Cause::Peer => {}
@@ -163,9 +172,13 @@ impl<C: Clock + Copy + Send> Door for TcpDoor<C> {
         next
     }
 
-    // Whether its last replies came through is not told: a connection that is given back was
+    // Whether its last replies came through no caller is told: a connection that is given back was
     // answered as it was.
     fn done(&mut self, mut input: PeerInput<C>, _output: PeerOutput<C>) {
-        input.inner_mut().get_mut().close();
+        let hearing = input.inner_mut().get_mut();
+        let (peer, why) = (hearing.peer(), hearing.close());
+        if let Some(why) = why {
+            self.tell(peer, why);
+        }
     }
 }

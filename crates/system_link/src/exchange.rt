@@ -24,6 +24,8 @@ pub enum Silence {
     Failed,
     /// Memory was refused.
     NoMemory,
+    /// So short a time behind a fault nobody was asked.
+    Resting,
 }
 
 // Whether the other side has closed the stream.

@@ -37,6 +37,11 @@ impl Pace {
         self.place.is_between()
     }
 
+    // Whether a frame was announced that is longer than any may be.
+    pub(crate) fn is_long(&self) -> bool {
+        self.place.is_long()
+    }
+
     // Until when the next call may take: what was begun keeps its term, and what begins now has
     // this length. `None` where the clock fails.
     pub(crate) fn term<C: Clock>(&mut self, clock: &C, length: Duration) -> Option<Term> {

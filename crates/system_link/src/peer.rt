@@ -4,15 +4,18 @@ ghost use Rattle.std.specs.Prelude.{◌≡◌};
 ghost use Rattle.std.specs.Io.{ReadsAtMost};
 
 use crate::line::Line;
+use crate::notice::Breakage;
+use crate::notices::{Teller, teller_of};
 use crate::outbox::{Deferred, Outbox, PIECE};
 use crate::pace::Pace;
 use crate::stop::Stop;
 use crate::streams::{Reading, Writing, is_cut_short};
+use crate::telling::Telling;
 use crate::term::Term;
 use std::alloc::Global;
 use std::io;
 use std::io::{BufReader, ErrorKind, Read, Write};
-use std::net::{Shutdown, TcpStream};
+use std::net::{Shutdown, SocketAddr, TcpStream};
 use std::sync::Arc;
 use std::time::{Clock, Duration};
 
@@ -38,7 +41,7 @@ const LOOK: u64 = 250;
 pub type PeerInput<C> = Reading<BufReader<Hearing<C>>>;
 
 /// What goes to a peer.
-pub type PeerOutput<C> = Writing<Holding<C>>;
+pub type PeerOutput<C> = Writing<Telling<Holding<C>, C>>;
 
 /// The end of a stream that a peer takes bytes from.
 #[derive(Drop)]
@@ -93,6 +96,7 @@ impl<C: Clock + Copy> Write for Holding<C> {
 #[derive(Drop)]
 pub struct Hearing<C: Clock + Copy> {
     stream: TcpStream,
+    peer: SocketAddr,
     clock: C,
     stop: Arc<Stop, Global>,
     idle: Duration,
@@ -100,9 +104,33 @@ pub struct Hearing<C: Clock + Copy> {
     outbox: Arc<Outbox<Sending<C>>, Global>,
     // Nothing comes any more, or nobody may wait for it.
     is_over: bool,
+    // Why it broke.
+    why: Option<Breakage>,
 }
 
 impl<C: Clock + Copy> Hearing<C> {
+    // Whose bytes they are.
+    pub(crate) fn peer(&self) -> SocketAddr {
+        self.peer
+    }
+
+    // The first reason stays.
+    fn broke(&mut self, why: Breakage) {
+        self.why = self.why.or(Some(why));
+    }
+
+    // What was heard is the end, or nothing.
+    fn ended(&mut self, error: Option<ErrorKind>) {
+        let is_between = self.pace.is_between();
+        match error {
+            None if is_between => {}
+            None => self.broke(Breakage::Cut),
+            Some(ErrorKind::TimedOut) if is_between => self.broke(Breakage::Silent),
+            Some(ErrorKind::TimedOut) => self.broke(Breakage::Slow),
+            Some(_) => self.broke(Breakage::Lost),
+        }
+    }
+
     // Waits for bytes until the term ends. Between frames, a stop is the end.
     fn wait(&self, term: Term, into: &mut [u8]) -> io::Result<usize>
         ensures { ReadsAtMost result into.new }
@@ -135,6 +163,7 @@ impl<C: Clock + Copy> Hearing<C> {
         ensures { ReadsAtMost result into.new }
     {
         if !self.outbox.leave() {
+            self.broke(Breakage::Untaken);
             return Err(io::Error::from(ErrorKind::BrokenPipe));
         }
         let length = match self.pace.is_between() {
@@ -169,13 +198,32 @@ impl<C: Clock + Copy> Hearing<C> {
         }
     }
 
-    // Ends the connection, once all replies have left.
-    pub(crate) fn close(&mut self) {
+    // Why the connection did not end well, where it did not.
+    fn breakage(&self, has_left: bool) -> Option<Breakage> {
+        if self.why.is_some() {
+            return self.why;
+        }
+        if !has_left {
+            return Some(Breakage::Untaken);
+        }
+        if self.pace.is_long() {
+            return Some(Breakage::Long);
+        }
+        if self.is_over || self.stop.is_asked() {
+            return None;
+        }
+        Some(Breakage::GivenUp)
+    }
+
+    // Ends the connection, once all replies have left. Why it did not end well, where it did not.
+    pub(crate) fn close(&mut self) -> Option<Breakage> {
         let has_left = self.outbox.leave();
+        let why = self.breakage(has_left);
         let _ = self.stream.shutdown(Shutdown::Write);
         if has_left && !self.is_over {
             self.drain();
         }
+        why
     }
 }
 
@@ -183,8 +231,14 @@ impl<C: Clock + Copy> Read for Hearing<C> {
     fn read(&mut self, into: &mut [u8]) -> io::Result<usize> {
         let heard = self.hear(into);
         match &heard {
-            Ok(0) if self.stop.is_asked() => {}
-            Ok(0) | Err(_) => self.is_over = true,
+            Ok(0) => {
+                self.is_over |= !self.stop.is_asked();
+                self.ended(None);
+            }
+            Err(error) => {
+                self.is_over = true;
+                self.ended(Some(error.kind()));
+            }
             Ok(_) => {}
         }
         heard
@@ -198,6 +252,8 @@ pub struct Terms<C> {
     pub stop: Arc<Stop, Global>,
     /// How long a peer may take between frames.
     pub idle: Duration,
+    /// What is left notices by.
+    pub teller: Teller,
 }
 
 // The halves of a connection that begins now.
@@ -205,6 +261,7 @@ pub(crate) fn halves<C: Clock + Copy>(
     alloc: Global,
     terms: &Terms<C>,
     stream: TcpStream,
+    peer: SocketAddr,
 ) -> io::Result<(PeerInput<C>, PeerOutput<C>)> {
     let Some(first) = Term::after(&terms.clock, Duration::from_secs(FIRST)) else {
         return Err(io::Error::from(ErrorKind::TimedOut));
@@ -219,15 +276,19 @@ pub(crate) fn halves<C: Clock + Copy>(
     let holding = Holding {
         outbox: Arc::try_clone(&outbox)?,
     };
+    let teller = teller_of(&terms.teller)?;
     let hearing = Hearing {
         stream,
+        peer,
         clock: terms.clock,
         stop: Arc::try_clone(&terms.stop)?,
         idle: terms.idle,
         pace: Pace::with_first(first),
         outbox,
         is_over: false,
+        why: None,
     };
     let reader = BufReader::with_capacity(alloc, PIECE, hearing)?;
-    Ok((Reading::new(reader), Writing::new(holding)))
+    let telling = Telling::new(holding, terms.clock, Some(peer), teller);
+    Ok((Reading::new(reader), Writing::new(telling)))
 }

@@ -1,4 +1,10 @@
-//! Where a stream of frames stands.
+//! Where a stream of frames stands, and what stands at the front of each of its payloads.
+
+ghost use Rattle.std.specs.Prelude.{◌<◌, ◌≤◌, length};
+
+use crate::reply_head::HEAD;
+use arrayvec::ArrayVec;
+use frame_link::MAX_PAYLOAD;
 
 /// How far a stream of frames has come in the frame that it is in.
 #[derive(Clone, Copy, Debug, PartialEq, Eq)]
@@ -8,6 +14,8 @@ pub(crate) struct Place {
     word: u32,
     // The bytes of the payload that have not come.
     left: usize,
+    // A length word was above that of any frame.
+    is_long: bool,
 }
 
 impl Place {
@@ -17,12 +25,18 @@ impl Place {
             seen: 0,
             word: 0,
             left: 0,
+            is_long: false,
         }
     }
 
     // Whether all that came is whole frames.
     pub(crate) fn is_between(&self) -> bool {
         self.seen == 0 && self.left == 0
+    }
+
+    // Whether a frame was announced that is longer than any may be.
+    pub(crate) fn is_long(&self) -> bool {
+        self.is_long
     }
 
     // One byte of the length word. Whether it ends a frame that has no payload.
@@ -33,29 +47,77 @@ impl Place {
             return false;
         }
         self.left = self.word as usize;
+        self.is_long |= self.word > MAX_PAYLOAD;
         self.seen = 0;
         self.word = 0;
         self.left == 0
     }
 
+    // Takes one byte of a length word, or what is there of a payload. How many bytes that is, and
+    // whether a frame ended with them.
+    fn step(&mut self, bytes: &[u8]) -> (usize, bool)
+        requires { 0 < length bytes.now }
+        ensures { result.0 ≤ length bytes.now }
+    {
+        if self.left == 0 {
+            return (1, self.pass_word(bytes[0]));
+        }
+        let count = self.left.min(bytes.len());
+        self.left -= count;
+        (count, self.left == 0)
+    }
+
     // These bytes come next. Whether a frame ended among them.
     pub(crate) fn pass(&mut self, bytes: &[u8]) -> bool {
         let mut has_ended = false;
-        let mut at = 0;
+        let mut rest = bytes;
         for _ in 0..bytes.len() {
-            if at >= bytes.len() {
+            if rest.is_empty() {
                 return has_ended;
             }
-            if self.left == 0 {
-                has_ended |= self.pass_word(bytes[at]);
-                at += 1;
-            } else {
-                let count = self.left.min(bytes.len() - at);
-                self.left -= count;
-                has_ended |= self.left == 0;
-                at += count;
-            }
+            let (count, has_one_ended) = self.step(rest);
+            has_ended |= has_one_ended;
+            rest = &rest[count..];
         }
         has_ended
+    }
+}
+
+/// The front of the payload that passes, however its frame is cut into pieces.
+#[derive(Drop)]
+pub(crate) struct Fronts {
+    place: Place,
+    front: ArrayVec<u8, HEAD>,
+}
+
+impl Fronts {
+    // Before the first frame.
+    pub(crate) fn new() -> Fronts {
+        Fronts {
+            place: Place::new(),
+            front: ArrayVec::new(),
+        }
+    }
+
+    // Takes some of these bytes, up to the end of a frame at most. How many, and whether the frame
+    // ended with them.
+    pub(crate) fn step(&mut self, bytes: &[u8]) -> (usize, bool)
+        requires { 0 < length bytes.now }
+        ensures { result.0 ≤ length bytes.now }
+    {
+        let is_payload = self.place.left > 0;
+        let (count, has_ended) = self.place.step(bytes);
+        if is_payload {
+            let room = HEAD - self.front.len();
+            let _ = self.front.try_extend_from_slice(&bytes[..count.min(room)]);
+        } else {
+            self.front.clear();
+        }
+        (count, has_ended)
+    }
+
+    // What came of the payload, up to `HEAD` bytes.
+    pub(crate) fn front(&self) -> &[u8] {
+        &self.front
     }
 }

@@ -7,6 +7,8 @@ ghost use Rattle.frame_link.specs.Relay.{AnswersAs, HasRelayCode};
 
 use crate::exchange::{Silence, exchange};
 use crate::line::Line;
+use crate::notice::Happening;
+use crate::notices::Teller;
 use crate::streams::is_cut_short;
 use crate::term::Term;
 use arrayvec::ArrayVec;
@@ -77,12 +79,19 @@ pub struct TcpRelay<R> {
     line: Option<TcpStream>,
     // Behind a fault, until when each call fails.
     rest: Option<Term>,
+    teller: Teller,
     faults: u64,
 }
 
 impl<R> TcpRelay<R> {
     /// A link to an address `host:port`. It connects to nothing yet.
-    pub fn new(network: R, alloc: Global, address: String, limit: Duration) -> TcpRelay<R>
+    pub fn new(
+        network: R,
+        alloc: Global,
+        address: String,
+        limit: Duration,
+        teller: Teller,
+    ) -> TcpRelay<R>
         ensures faults { result.faults ≡ 0 }
         ensures closed { result.line ≡ None }
         ensures address { result.address ≡ address }
@@ -95,6 +104,7 @@ impl<R> TcpRelay<R> {
             limit,
             line: None,
             rest: None,
+            teller,
             faults: 0,
         }
     }
@@ -108,6 +118,13 @@ impl<R> TcpRelay<R> {
 }
 
 impl<R: Net<Listener = TcpListener, Stream = TcpStream> + Clock> TcpRelay<R> {
+    // Leaves a notice of a call that failed.
+    fn tell_failure(&self) {
+        if let Some(notices) = &self.teller {
+            notices.tell(&self.network, None, Happening::RelayFailed);
+        }
+    }
+
     // Until when the call that begins now may take. `None` where it fails at once.
     fn term(&self) -> Option<Term> {
         if let Some(rest) = &self.rest {
@@ -179,7 +196,7 @@ impl<R: Net<Listener = TcpListener, Stream = TcpStream> + Clock> TcpRelay<R> {
         ensures faults { self.new.faults ≡ self.old.faults }
     {
         let Some(term) = self.term() else {
-            return Err(Silence::Failed);
+            return Err(Silence::Resting);
         };
         if let Some(stream) = self.quiet_stream() {
             match self.ask_on(stream, term, node, sealed, out) {
@@ -224,10 +241,16 @@ impl<R: Net<Listener = TcpListener, Stream = TcpStream> + Clock> RelayLink for T
                 self.line = None;
                 Ok(RelayAnswer::NoMemory)
             }
+            Err(Silence::Resting) => {
+                self.line = None;
+                self.faults = self.faults.saturating_add(1);
+                Err(Failed)
+            }
             Err(Silence::Closed | Silence::Failed) => {
                 self.line = None;
                 self.rest = Term::after(&self.network, Duration::from_secs(REST));
                 self.faults = self.faults.saturating_add(1);
+                self.tell_failure();
                 Err(Failed)
             }
         }

@@ -25,6 +25,7 @@ fn door_of<'a>(
         clock: rt,
         stop: Arc::try_clone(stop)?,
         idle: Duration::from_millis(idle),
+        teller: None,
     };
     Ok(TcpDoor::new(doorway, rt.alloc(), terms))
 }

@@ -5,6 +5,8 @@
 #[cfg(test)]
 mod doors;
 #[cfg(test)]
+mod notices;
+#[cfg(test)]
 mod relays;
 #[cfg(test)]
 mod streams;

@@ -19,7 +19,7 @@ fn link_to<'a>(
     limit: Duration,
 ) -> Result<TcpRelay<&'a HostRuntime>, AllocError> {
     let address = String::from_str(rt.alloc(), address)?;
-    Ok(TcpRelay::new(rt, rt.alloc(), address, limit))
+    Ok(TcpRelay::new(rt, rt.alloc(), address, limit, None))
 }
 
 // A listener on this machine, and its address.
@@ -122,11 +122,13 @@ fn answer_late(listener: &TcpListener) -> io::Result<bool> {
     Ok(is_first && is_second)
 }
 
-// Whether the first call fails, the second one fails at once, and the third one connects again.
+// Whether the first call fails, the second one fails at once, and the third one, a second behind the
+// first, connects again.
 fn is_answered_late(rt: &HostRuntime, relay: &mut TcpRelay<&HostRuntime>) -> bool {
     let first = ask(relay);
+    thread::sleep(rt, Duration::from_millis(300));
     let second = ask(relay);
-    thread::sleep(rt, Duration::from_millis(1_100));
+    thread::sleep(rt, Duration::from_millis(900));
     let third = ask(relay);
     is_failed(first, 1) && is_failed(second, 2) && is_refused(third, 2, 2)
 }

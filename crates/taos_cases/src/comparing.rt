@@ -10,7 +10,7 @@ use std::sync::Wait;
 use std::thread::Threads;
 
 /// What differs.
-#[derive(Clone, Copy, Debug, PartialEq, Eq)]
+#[derive(Clone, Copy)]
 pub enum Difference {
     Status { is: u64, wanted: u64 },
     /// The first byte that differs, or lacks, or is too much.

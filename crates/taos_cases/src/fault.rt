@@ -4,7 +4,7 @@ use std::alloc::{AllocError, AllocFailed};
 use std::fmt;
 
 /// Why a line is none.
-#[derive(Clone, Copy, Debug, PartialEq, Eq)]
+#[derive(Clone, Copy)]
 pub enum LineFault {
     /// It stands before the first case.
     NoCase,
@@ -61,7 +61,7 @@ impl<T: Drop> From<AllocFailed<T>> for LineFault {
 }
 
 /// A line that is none.
-#[derive(Clone, Copy, Debug, PartialEq, Eq)]
+#[derive(Clone, Copy)]
 pub struct BadLine {
     /// Counted from 1.
     pub line: u64,

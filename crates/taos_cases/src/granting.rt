@@ -3,7 +3,7 @@
 use crate::case::Grant;
 use crate::objects::{Around, no_door, readings_of, sink_of, source_of};
 use crate::playing::call;
-use frame_link::{MemClock, MemSink, NoRelay};
+use frame_link::{MemClock, NoRelay};
 use std::alloc::{AllocError, Global};
 use std::sync::Wait;
 use std::thread::Threads;
@@ -44,27 +44,34 @@ fn is_alike(payload: &[u8], grant: &Grant) -> bool {
     }
 }
 
-// What `check` says of a request and its reply, by this node file.
-fn checked<W: Threads + Wait + Sync>(
-    rt: &W,
+// What stands round a check of a request and its reply, by this node file.
+fn around_check(
     alloc: Global,
     file: &[u8],
     request: &[u8],
     reply: &[u8],
-) -> Result<(u8, MemSink), AllocError> {
+) -> Result<Around, AllocError> {
     let mut frames = request.to_vec(alloc)?;
     frames.extend_from_slice(reply)?;
-    let mut around = Around {
+    Ok(Around {
         file: source_of(alloc, file, &[])?,
         input: source_of(alloc, &frames, &[])?,
         output: sink_of(alloc, LINE, &[])?,
         notes: sink_of(alloc, LINE, &[])?,
-    };
+    })
+}
+
+// The status of `check` with these.
+fn checked<W: Threads + Wait + Sync>(
+    rt: &W,
+    alloc: Global,
+    around: &mut Around,
+) -> Result<u8, AllocError> {
     let clock = MemClock::new(readings_of(alloc, &[])?, Vec::new(alloc));
     let words = [String::from_str(alloc, "check")?];
     let door = no_door(alloc)?;
-    let (status, _) = call(rt, alloc, &words, &mut around, clock, NoRelay::new(), door);
-    Ok((status, around.output))
+    let (status, _) = call(rt, alloc, &words, around, clock, NoRelay::new(), door);
+    Ok(status)
 }
 
 // Whether the line tells a grant of this entry by so many certificates, whatever the lines of its
@@ -99,6 +106,7 @@ pub fn is_met<W: Threads + Wait + Sync>(
     if !is_alike(payload, grant) {
         return Ok(false);
     }
-    let (status, line) = checked(rt, alloc, file, request, reply)?;
-    Ok(status == 0 && tells(alloc, line.written(), *entry, grant.certificates)?)
+    let mut around = around_check(alloc, file, request, reply)?;
+    let status = checked(rt, alloc, &mut around)?;
+    Ok(status == 0 && tells(alloc, around.output.written(), *entry, grant.certificates)?)
 }

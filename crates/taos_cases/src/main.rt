@@ -25,7 +25,7 @@ use std::thread::Threads;
 use std::{env, fmt, fs, io};
 
 // Why the files are not played to their end.
-#[derive(Clone, Copy, Debug, PartialEq, Eq)]
+#[derive(Clone, Copy)]
 enum Stop {
     NoWords,
     Unread,

@@ -8,7 +8,7 @@ use std::alloc::{AllocError, Global};
 use std::fmt;
 
 /// How the input comes.
-#[derive(Clone, Copy, Debug, PartialEq, Eq)]
+#[derive(Clone, Copy)]
 pub enum Manner {
     /// Whole, or in its pieces.
     Whole,

@@ -1,6 +1,6 @@
 //! A conversation, played over objects in memory.
 
-use crate::case::{Conversation, NumberedKey};
+use crate::case::{Conversation, NumberedKey, Setting};
 use crate::objects::{
     Around, LaneDoor, Manner, around_of, door_of, faults_at, left_of, readings_of, room_of,
     sink_of, source_of, written_to,
@@ -56,6 +56,48 @@ pub fn call<W: Threads + Wait + Sync, R: RelayLink + Send + Drop>(
     (status, lanes)
 }
 
+fn clock_of(alloc: Global, setting: &Setting) -> Result<MemClock, AllocError> {
+    let readings = readings_of(alloc, &setting.readings)?;
+    Ok(MemClock::new(readings, setting.fails.clock.to_vec(alloc)?))
+}
+
+// What was not taken of the input, where that is wanted.
+fn rest_of(alloc: Global, case: &Conversation, around: &mut Around) -> Result<Vec<u8>, AllocError> {
+    match &case.wanted.left {
+        Some(_) => left_of(alloc, &mut around.input),
+        None => Ok(Vec::new(alloc)),
+    }
+}
+
+// What was written to the door's connections, and then to the output.
+fn all_written(alloc: Global, around: &Around, door: &LaneDoor) -> Result<Vec<u8>, AllocError> {
+    let mut written = written_to(alloc, door)?;
+    written.extend_from_slice(around.output.written())?;
+    Ok(written)
+}
+
+// What came of a call with this status, where its clock failed so often, without the link's faults.
+fn played_of(
+    alloc: Global,
+    case: &Conversation,
+    status: u8,
+    mut around: Around,
+    clock_faults: u64,
+    door: &LaneDoor,
+) -> Result<Played, AllocError> {
+    let faults = around.faults().saturating_add(clock_faults);
+    let written = all_written(alloc, &around, door)?;
+    let left = rest_of(alloc, case, &mut around)?;
+    Ok(Played {
+        status,
+        around,
+        written,
+        faults: faults.saturating_add(faults_at(door)),
+        hears: None,
+        left,
+    })
+}
+
 // The call over this link: what came of it, without the link's faults, and the lane.
 fn play_over<W: Threads + Wait + Sync, R: RelayLink + Send + Drop>(
     rt: &W,
@@ -64,28 +106,20 @@ fn play_over<W: Threads + Wait + Sync, R: RelayLink + Send + Drop>(
     manner: Manner,
     relay: R,
 ) -> Result<(Played, Lanes<R>), AllocError> {
-    let setting = &case.setting;
-    let readings = readings_of(alloc, &setting.readings)?;
-    let clock = MemClock::new(readings, setting.fails.clock.to_vec(alloc)?);
+    let clock = clock_of(alloc, &case.setting)?;
     let mut around = around_of(alloc, case, manner)?;
     let door = door_of(alloc, case, manner)?;
-    let (status, lanes) = call(rt, alloc, &setting.words, &mut around, clock, relay, door);
-    let faults = around.faults().saturating_add(lanes[0].clock.faults());
-    let faults = faults.saturating_add(faults_at(&lanes[0].door));
-    let mut written = written_to(alloc, &lanes[0].door)?;
-    written.extend_from_slice(around.output.written())?;
-    let left = match &case.wanted.left {
-        Some(_) => left_of(alloc, &mut around.input)?,
-        None => Vec::new(alloc),
-    };
-    let played = Played {
-        status,
-        around,
-        written,
-        faults,
-        hears: None,
-        left,
-    };
+    let (status, lanes) = call(
+        rt,
+        alloc,
+        &case.setting.words,
+        &mut around,
+        clock,
+        relay,
+        door,
+    );
+    let clock_faults = lanes[0].clock.faults();
+    let played = played_of(alloc, case, status, around, clock_faults, &lanes[0].door)?;
     Ok((played, lanes))
 }
 

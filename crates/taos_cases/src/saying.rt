@@ -108,6 +108,16 @@ fn grant_of(alloc: Global, text: &str) -> Result<Grant, LineFault> {
     })
 }
 
+fn add_output(alloc: Global, parts: &mut Vec<Part>, text: &str) -> Result<(), LineFault> {
+    let bytes = bytes_of(alloc, text)?;
+    Ok(parts.push(Part::Bytes(bytes))?)
+}
+
+fn add_grant(alloc: Global, parts: &mut Vec<Part>, text: &str) -> Result<(), LineFault> {
+    let grant = grant_of(alloc, text)?;
+    Ok(parts.push(Part::Granted(grant))?)
+}
+
 fn put_notes(alloc: Global, wanted: &mut Wanted, text: &str, end: &str) -> Result<(), LineFault> {
     let mut bytes = text.as_bytes().to_vec(alloc)?;
     bytes.extend_from_slice(end.as_bytes())?;
@@ -130,40 +140,42 @@ fn says_setting(
     text: &str,
 ) -> Result<bool, LineFault> {
     let setting = &mut case.setting;
-    match key {
-        "words" => add_words(alloc, &mut setting.words, text)?,
-        "file" => add_bytes(alloc, &mut setting.file, text)?,
-        "input" => add_bytes(alloc, &mut setting.input, text)?,
-        "pieces" => add_pieces(&mut setting.pieces, text)?,
-        "clock" => add_numbers(&mut setting.readings, text)?,
-        "connections" => put_number(&mut setting.connections, text)?,
-        "relay-node" => add_relay_key(alloc, &mut setting.relay, false, text)?,
-        "relay-issuer" => add_relay_key(alloc, &mut setting.relay, true, text)?,
-        "relay-says" => add_says(alloc, &mut setting.relay, text)?,
-        "output-room" => put_number(&mut setting.rooms.output, text)?,
-        "notes-room" => put_number(&mut setting.rooms.notes, text)?,
-        "hears-room" => put_number(&mut setting.rooms.hears, text)?,
+    let added = match key {
+        "words" => add_words(alloc, &mut setting.words, text),
+        "file" => add_bytes(alloc, &mut setting.file, text),
+        "input" => add_bytes(alloc, &mut setting.input, text),
+        "pieces" => add_pieces(&mut setting.pieces, text),
+        "clock" => add_numbers(&mut setting.readings, text),
+        "connections" => put_number(&mut setting.connections, text),
+        "relay-node" => add_relay_key(alloc, &mut setting.relay, false, text),
+        "relay-issuer" => add_relay_key(alloc, &mut setting.relay, true, text),
+        "relay-says" => add_says(alloc, &mut setting.relay, text),
+        "output-room" => put_number(&mut setting.rooms.output, text),
+        "notes-room" => put_number(&mut setting.rooms.notes, text),
+        "hears-room" => put_number(&mut setting.rooms.hears, text),
         _ => return Ok(false),
-    }
+    };
+    added?;
     Ok(true)
 }
 
 // Adds to the calls that fail.
 fn says_fails(case: &mut Conversation, key: &str, text: &str) -> Result<bool, LineFault> {
     let fails = &mut case.setting.fails;
-    match key {
-        "file-fails" => add_numbers(&mut fails.file, text)?,
-        "input-fails" => add_numbers(&mut fails.input, text)?,
-        "byte-fails" => add_numbers(&mut fails.bytes, text)?,
-        "output-fails" => add_numbers(&mut fails.output, text)?,
-        "notes-fails" => add_numbers(&mut fails.notes, text)?,
-        "clock-fails" => add_numbers(&mut fails.clock, text)?,
-        "relay-fails" => add_numbers(&mut fails.relay, text)?,
-        "says-fails" => add_numbers(&mut fails.says, text)?,
-        "hears-fails" => add_numbers(&mut fails.hears, text)?,
-        "door-fails" => add_numbers(&mut fails.door, text)?,
+    let added = match key {
+        "file-fails" => add_numbers(&mut fails.file, text),
+        "input-fails" => add_numbers(&mut fails.input, text),
+        "byte-fails" => add_numbers(&mut fails.bytes, text),
+        "output-fails" => add_numbers(&mut fails.output, text),
+        "notes-fails" => add_numbers(&mut fails.notes, text),
+        "clock-fails" => add_numbers(&mut fails.clock, text),
+        "relay-fails" => add_numbers(&mut fails.relay, text),
+        "says-fails" => add_numbers(&mut fails.says, text),
+        "hears-fails" => add_numbers(&mut fails.hears, text),
+        "door-fails" => add_numbers(&mut fails.door, text),
         _ => return Ok(false),
-    }
+    };
+    added?;
     Ok(true)
 }
 
@@ -174,17 +186,18 @@ fn says_wanted(
     key: &str,
     text: &str,
 ) -> Result<bool, LineFault> {
-    match key {
-        "output" => wanted.output.push(Part::Bytes(bytes_of(alloc, text)?))?,
-        "grant" => wanted.output.push(Part::Granted(grant_of(alloc, text)?))?,
-        "status" => put_status(wanted, text)?,
-        "note" => put_notes(alloc, wanted, text, "\n")?,
-        "note-front" => put_notes(alloc, wanted, text, "")?,
-        "faults" => put_number(&mut wanted.faults, text)?,
-        "hears" => add_some(alloc, &mut wanted.hears, text)?,
-        "left" => add_some(alloc, &mut wanted.left, text)?,
+    let added = match key {
+        "output" => add_output(alloc, &mut wanted.output, text),
+        "grant" => add_grant(alloc, &mut wanted.output, text),
+        "status" => put_status(wanted, text),
+        "note" => put_notes(alloc, wanted, text, "\n"),
+        "note-front" => put_notes(alloc, wanted, text, ""),
+        "faults" => put_number(&mut wanted.faults, text),
+        "hears" => add_some(alloc, &mut wanted.hears, text),
+        "left" => add_some(alloc, &mut wanted.left, text),
         _ => return Ok(false),
-    }
+    };
+    added?;
     Ok(true)
 }
 

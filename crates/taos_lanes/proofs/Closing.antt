@@ -14,7 +14,7 @@ use Rattle.taos_monitor.specs.World.{World}
 use Rattle.taos_monitor.specs.Laws.{AnsweredStays}
 use Rattle.taos_lanes.specs.Visits.{Visit, VisitBy, begun, left, Chain, places_of, all_places, AnsweredIn, times_own}
 use Rattle.taos_lanes.specs.Lanes.{LaneRun, times_in_lane, owned_in, IsFresh, IsLaneAnswered}
-use Rattle.taos_lanes.specs.Laws.{ChainGoesOn, JoinedAt, JoinsOneMore, JoinedAreClosed, ClosedServesAll}
+use Rattle.taos_lanes.specs.Laws.{ChainGoesOn, JoinsOneMore, JoinedAreClosed, ClosedServesAll}
 
 -- ---- journals that begin journals
 

@@ -1,5 +1,5 @@
 -- What serving at new cells comes to, of its steps.
-use Rattle.std.proofs.Common.{◌≡◌, ℕ, suc, ◌+◌, List, [], ◌∷◌, length, map, get_or, drop, Option, None, refl, sym, ap, ◌∙◌, subst, arith}
+use Rattle.std.proofs.Common.{◌≡◌, ℕ, suc, ◌+◌, List, [], ◌∷◌, length, map, get_or, drop, None, refl, sym, ap, ◌∙◌, subst, arith}
 use Rattle.std.specs.Prelude.{All}
 use Rattle.std.specs.List.{AllZip}
 use Rattle.std.proofs.lemmas.List.Elements.{All-nil, All-cons, All-head, All-tail}
@@ -7,15 +7,16 @@ use Rattle.agent_core.specs.Journals.{MayFollow}
 use Rattle.agent_shards.specs.Cells.{AreJoined, HaveAll, shares_of}
 use Rattle.agent_shards.proofs.Rows.{zip_long}
 use Rattle.agent_shards.specs.Room.{HasRoom}
-use Rattle.agent_shards.specs.Shards.{ShardCell, KnownShard, ArePasses}
-use Rattle.agent_shards.specs.Objects.{ObjectCell, KnownObject, AreObjectPasses}
+use Rattle.agent_shards.specs.Shards.{ShardCell}
+use Rattle.agent_shards.specs.Objects.{ObjectCell}
 use Rattle.turn_cell.specs.declared.shares.TheConstants.{ALL_SHARES}
 use Rattle.turn_cell.specs.Known.{Cell, Known}
 use Rattle.taos_monitor.specs.declared.node_keys.NodeKeys.{NodeKeys}
-use Rattle.taos_lanes.specs.declared.lane.Limits.{Limits}
+use Rattle.frame_link.specs.declared.limits.Limits.{Limits}
 use Rattle.taos_lanes.specs.declared.lane.Stock.{Stock}
-use Rattle.taos_lanes.specs.Stocked.{NodeCells, cells_of, LaneShown, IsStockOf, IsStocked, ServesLane}
-use Rattle.taos_lanes.specs.Joining.{NodePasses, HaveAllBut, HaveOne, HasOneShare, HasOtherWork, IsFreshStock, IsGivenStock, IsEmptied, JoinsAll, WorkIs, stocks_in}
+use Rattle.taos_lanes.specs.Stocked.{NodeCells, LaneShown, IsStockOf, IsStocked, ServesLane}
+use Rattle.taos_lanes.specs.Joining.{NodePasses, HaveAllBut, HaveOne, HasOtherWork, IsFreshStock, IsGivenStock, IsEmptied, JoinsAll, WorkIs, stocks_in}
+use Rattle.taos_lanes.specs.Telling.{Telling}
 use Rattle.taos_lanes.proofs.Runs.{given_first, same_stock}
 
 -- ---- lanes before and after
@@ -106,15 +107,15 @@ have_all {F} {E} (p ∷ passes) left =
     All-cons (λ (q : Known F E). q.shares ≡ ALL_SHARES) p passes (omega (arith, All-head (λ (q : Known F E). q.shares + 0 ≡ ALL_SHARES) p passes left))
     (have_all passes (All-tail (λ (q : Known F E). q.shares + 0 ≡ ALL_SHARES) p passes left))
 
-module _ {In Out : Type 0} (left : In → Option (List ℕ)) (written : Out → Option (List ℕ)) (keys : NodeKeys) (cells : NodeCells) (limits : Limits) where
+module _ {In Out : Type 0} (telling : Telling In Out) (keys : NodeKeys) (cells : NodeCells) (limits : Limits) where
   -- the lanes' work is of the cells
-  pub works : (befores afters : List (LaneShown (In × Out))) → AllZip (ServesLane left written keys cells limits) befores afters → All (WorkIs (IsStockOf cells)) afters
+  pub works : (befores afters : List (LaneShown (In × Out))) → AllZip (ServesLane telling keys cells limits) befores afters → All (WorkIs (IsStockOf cells)) afters
   works [] [] z = All-nil _
   works (b ∷ befores) (a ∷ afters) z = All-cons (WorkIs (IsStockOf cells)) a afters (z.0.new, z.0.has, z.0.of) (works befores afters z.1)
   works [] (a ∷ afters) z = absurd z
   works (b ∷ befores) [] z = absurd z
 
-  stocks_long : (befores afters : List (LaneShown (In × Out))) → AllZip (ServesLane left written keys cells limits) befores afters → length (stocks_in afters) ≡ length befores
+  stocks_long : (befores afters : List (LaneShown (In × Out))) → AllZip (ServesLane telling keys cells limits) befores afters → length (stocks_in afters) ≡ length befores
   stocks_long [] [] z = refl
   stocks_long (b ∷ befores) (a ∷ afters) z =
       ap (λ (l : List Stock). length l) (given_first (λ (l : LaneShown (In × Out)). l.work) a afters z.0.new z.0.has) ∙ ap suc (stocks_long befores afters z.1)
@@ -122,7 +123,7 @@ module _ {In Out : Type 0} (left : In → Option (List ℕ)) (written : Out → 
   stocks_long (b ∷ befores) [] z = absurd z
 
   -- each lane's stock still has one share of each cell
-  pub ones_after : (olds befores afters : List (LaneShown (In × Out))) → AllZip (IsGivenStock cells) olds befores → AllZip (ServesLane left written keys cells limits) befores afters →
+  pub ones_after : (olds befores afters : List (LaneShown (In × Out))) → AllZip (IsGivenStock cells) olds befores → AllZip (ServesLane telling keys cells limits) befores afters →
       All (λ (s : Stock). HaveOne s.passes × HaveOne s.racked) (stocks_in afters)
   ones_after [] [] [] g z = All-nil _
   ones_after (o ∷ olds) (b ∷ befores) (a ∷ afters) g z =
@@ -137,7 +138,7 @@ module _ {In Out : Type 0} (left : In → Option (List ℕ)) (written : Out → 
   ones_after (o ∷ olds) (b ∷ befores) [] g z = absurd z
 
   -- all shares are back
-  pub all_back : (kept final : NodePasses) (olds befores afters : List (LaneShown (In × Out))) → AllZip (IsGivenStock cells) olds befores → AllZip (ServesLane left written keys cells limits) befores afters →
+  pub all_back : (kept final : NodePasses) (olds befores afters : List (LaneShown (In × Out))) → AllZip (IsGivenStock cells) olds befores → AllZip (ServesLane telling keys cells limits) befores afters →
       JoinsAll cells kept (stocks_in afters) final → HaveAllBut (length olds) kept.shards → HaveAllBut (length olds) kept.objects → HaveAll final.shards × HaveAll final.objects
   all_back kept final olds befores afters g z j shards objects =
       let long : length (stocks_in afters) ≡ length olds = stocks_long befores afters z ∙ zip_long (IsGivenStock cells) olds befores g in

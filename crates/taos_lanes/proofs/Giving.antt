@@ -1,10 +1,11 @@
 -- One connection more of a lane's door.
-use Rattle.std.proofs.Common.{◌≡◌, ℕ, ◌+◌, List, [], ◌∷◌, ◌++◌, length, Option, None, Some, refl, sym, ap, ◌∙◌, arith, append_assoc, length-append}
+use Rattle.std.proofs.Common.{◌≡◌, ℕ, List, [], ◌∷◌, ◌++◌, length, Option, None, Some, sym, ap, ◌∙◌, arith, append_assoc, length-append}
 use Rattle.frame_link.specs.declared.outcome.Outcome.{Outcome}
 use Rattle.frame_link.specs.Served.{Line}
 use Rattle.frame_link.specs.Doors.{OpensKnown, Counts, TakesBack}
+use Rattle.taos_lanes.specs.Telling.{Telling}
 use Rattle.taos_lanes.specs.Visits.{VisitBy}
-use Rattle.taos_lanes.specs.Doors.{GaveKnown, TookKnown, AreFew, DoorSeen, IsTold, IsOrderly, IsVisitOf, AreVisits, ThroughGoesOn}
+use Rattle.taos_lanes.specs.Doors.{GaveKnown, TookKnown, AreFew, IsTold, IsVisitOf, AreVisits, ThroughGoesOn}
 
 gives_one : {X : Type 0} (before middle after : Option (List X)) (given : List X) (x : X) → GaveKnown before middle given → OpensKnown middle after (Some x) → GaveKnown before after (given ++ x ∷ [])
 gives_one None middle after given x g o = tt
@@ -31,15 +32,15 @@ takes_one (Some ls) (Some ms) (Some ws) (Some ys) (Some zs) kept given given_aft
       omega (arith, ap length more, length-append ys (x ∷ []), few, counts),
     )
 
-module _ {In Out : Type 0} (left : In → Option (List ℕ)) (written : Out → Option (List ℕ)) {S : Type 0} {Serves : Line S → Line S → Outcome → Type 0} {limit : ℕ} where
+module _ {In Out S : Type 0} (telling : Telling In Out) {Serves : Line S → Line S → Outcome → Type 0} {limit : ℕ} where
   visits_more : (given kept : List (In × Out)) (visits : List (VisitBy Serves limit)) (g k : In × Out) (v : VisitBy Serves limit) →
-      AreVisits left written given kept visits → IsVisitOf left written g k v → AreVisits left written (given ++ g ∷ []) (kept ++ k ∷ []) (visits ++ v ∷ [])
+      AreVisits telling given kept visits → IsVisitOf telling g k v → AreVisits telling (given ++ g ∷ []) (kept ++ k ∷ []) (visits ++ v ∷ [])
   visits_more [] [] [] g k v a is = (is, tt)
   visits_more (x ∷ given) (y ∷ kept) (w ∷ visits) g k v a is = (a.0, visits_more given kept visits g k v a.1 is)
   visits_more _ _ _ g k v a is = absurd a
 
-pub through_goes_on : {In Out S : Type 0} (left : In → Option (List ℕ)) (written : Out → Option (List ℕ)) (Serves : Line S → Line S → Outcome → Type 0) (limit : ℕ) → ThroughGoesOn left written Serves limit
-through_goes_on left written Serves limit before middle after visits g k v t opens counts takes is = record {
+pub through_goes_on : {In Out S : Type 0} (telling : Telling In Out) (Serves : Line S → Line S → Outcome → Type 0) (limit : ℕ) → ThroughGoesOn telling Serves limit
+through_goes_on telling Serves limit before middle after visits g k v t opens counts takes is = record {
   given = t.given ++ g ∷ [];
   kept = t.kept ++ k ∷ [];
   gave = gives_one before.left middle.left after.left t.given g t.gave opens;
@@ -47,5 +48,5 @@ through_goes_on left written Serves limit before middle after visits g k v t ope
       let was = t.took orderly in
       let now = takes_one middle.left after.left before.back middle.back after.back t.kept middle.given after.given g k was.1.left was.1.back was.1.few was.0 opens counts takes in
       (now.0, record { left = now.1; back = now.2; few = now.3 });
-  are = visits_more left written t.given t.kept visits g k v t.are is;
+  are = visits_more telling t.given t.kept visits g k v t.are is;
 }

@@ -1,12 +1,10 @@
 -- What passes that come back make of what lanes have seen.
-use Rattle.std.proofs.Common.{◌≡◌, ℕ, zero, suc, ◌+◌, List, [], ◌∷◌, ◌++◌, length, Option, None, Some, refl, sym, ap, ◌∙◌, subst, arith, append_assoc, append-nil}
-use Rattle.std.specs.Prelude.{All, slice_get, ⊤}
+use Rattle.std.proofs.Common.{◌≡◌, ℕ, zero, suc, ◌+◌, List, [], ◌∷◌, ◌++◌, Option, None, Some, refl, sym, ap, ◌∙◌, subst, arith, append_assoc, append-nil}
+use Rattle.std.specs.Prelude.{slice_get, ⊤}
 use Rattle.std.specs.List.{AllZip}
 use Rattle.std.proofs.lemmas.List.Elements.{All-nil, All-cons, All-head, All-tail}
-use Rattle.object_core.specs.Objects.{ObjectEntry}
-use Rattle.agent_core.specs.Journals.{Entry, Begins, MayFollow}
-use Rattle.agent_shards.specs.Cells.{AreJoined, IsJoined, IsSplit, AreSplit}
-use Rattle.agent_shards.specs.Each.{Each4}
+use Rattle.agent_core.specs.Journals.{Begins, MayFollow}
+use Rattle.agent_shards.specs.Cells.{AreJoined, AreSplit}
 use Rattle.agent_shards.specs.Room.{HasRoom}
 use Rattle.agent_shards.specs.Shards.{KnownShard, journal_of, places_of, journal_at, own_at}
 use Rattle.agent_shards.specs.Objects.{KnownObject, journal_by, places_by, place_among, seen_on, own_on}
@@ -46,34 +44,33 @@ at_place allows _ _ _ _ h i = absurd h
 begins_none : {E : Type 0} (journal : List E) → Begins [] journal
 begins_none journal = record { rest = journal; is = refl }
 
+-- what was seen and is own, once what another has is joined to it
+record IsMore {E : Type 0} (seen later its : List E) (own both here : List ℕ) : Type 0 where
+  pub owned : both ≡ own ++ here
+  pub first : Begins seen later
+  pub second : Begins its later
+
+shard_more : (o p q : Option KnownShard) → AtPlace o p q → IsMore (journal_of o) (journal_of p) (journal_of q) (places_of o) (places_of p) (places_of q)
+shard_more None None None at = record { owned = refl; first = begins_none []; second = begins_none [] }
+shard_more (Some a) (Some b) (Some c) at = record { owned = at.0; first = at.1; second = at.2 }
+shard_more _ _ _ at = absurd at
+
+object_more : (o p q : Option KnownObject) → AtPlace o p q → IsMore (journal_by o) (journal_by p) (journal_by q) (places_by o) (places_by p) (places_by q)
+object_more None None None at = record { owned = refl; first = begins_none []; second = begins_none [] }
+object_more (Some a) (Some b) (Some c) at = record { owned = at.0; first = at.1; second = at.2 }
+object_more _ _ _ at = absurd at
+
 module _ {n : Node} {limit : ℕ} where
   -- the lane has seen what the stock's passes have
   abbrev pub HasSeen : NodeCells → LaneRun n limit → Stock → Type 0
   HasSeen cells run stock = run.last.seen ≡ seen_of (shards_viewed cells.shards stock.passes) (objects_viewed cells.objects stock.racked)
 
-  shard_step : (s : ℕ) (done : List (LaneRun n limit)) (run : LaneRun n limit) (o p q : Option KnownShard) → AtPlace o p q →
-      JoinedAt (OfShard s) (λ (K : Journals). K.shards s) (journal_of o) (places_of o) done →
-      run.last.seen.journals.shards s ≡ journal_of q → run.last.seen.own (OfShard s) ≡ places_of q →
-      JoinedAt (OfShard s) (λ (K : Journals). K.shards s) (journal_of p) (places_of p) (done ++ run ∷ [])
-  shard_step s done run None None None at joined seen own =
-      subst (λ (l : List ℕ). JoinedAt (OfShard s) (λ (K : Journals). K.shards s) [] l (done ++ run ∷ [])) own
-      (joins_one_more Entry n limit (OfShard s) (λ (K : Journals). K.shards s) [] [] [] done run joined (begins_none []) (subst (λ (l : List Entry). Begins l []) (sym seen) (begins_none [])))
-  shard_step s done run (Some a) (Some b) (Some c) at joined seen own =
-      subst (λ (l : List ℕ). JoinedAt (OfShard s) (λ (K : Journals). K.shards s) b.seen l (done ++ run ∷ [])) (ap (λ (l : List ℕ). a.own ++ l) own ∙ sym at.0)
-      (joins_one_more Entry n limit (OfShard s) (λ (K : Journals). K.shards s) a.seen b.seen a.own done run joined at.1 (subst (λ (l : List Entry). Begins l b.seen) (sym seen) at.2))
-  shard_step s done run _ _ _ at joined seen own = absurd at
-
-  object_step : (o : ℕ) (done : List (LaneRun n limit)) (run : LaneRun n limit) (x p q : Option KnownObject) → AtPlace x p q →
-      JoinedAt (OfObject o) (λ (K : Journals). K.objects o) (journal_by x) (places_by x) done →
-      run.last.seen.journals.objects o ≡ journal_by q → run.last.seen.own (OfObject o) ≡ places_by q →
-      JoinedAt (OfObject o) (λ (K : Journals). K.objects o) (journal_by p) (places_by p) (done ++ run ∷ [])
-  object_step o done run None None None at joined seen own =
-      subst (λ (l : List ℕ). JoinedAt (OfObject o) (λ (K : Journals). K.objects o) [] l (done ++ run ∷ [])) own
-      (joins_one_more ObjectEntry n limit (OfObject o) (λ (K : Journals). K.objects o) [] [] [] done run joined (begins_none []) (subst (λ (l : List ObjectEntry). Begins l []) (sym seen) (begins_none [])))
-  object_step o done run (Some a) (Some b) (Some c) at joined seen own =
-      subst (λ (l : List ℕ). JoinedAt (OfObject o) (λ (K : Journals). K.objects o) b.seen l (done ++ run ∷ [])) (ap (λ (l : List ℕ). a.own ++ l) own ∙ sym at.0)
-      (joins_one_more ObjectEntry n limit (OfObject o) (λ (K : Journals). K.objects o) a.seen b.seen a.own done run joined at.1 (subst (λ (l : List ObjectEntry). Begins l b.seen) (sym seen) at.2))
-  object_step o done run _ _ _ at joined seen own = absurd at
+  -- one more lane's pass is joined to those before
+  step : {E : Type 0} (cell : node.Cell) (journal : Journals → List E) (done : List (LaneRun n limit)) (run : LaneRun n limit) {seen later its : List E} {own both here : List ℕ} →
+      IsMore seen later its own both here → JoinedAt cell journal seen own done → journal run.last.seen.journals ≡ its → run.last.seen.own cell ≡ here → JoinedAt cell journal later both (done ++ run ∷ [])
+  step {E} cell journal done run {seen} {later} {its} {own} more joined told mine =
+      subst (λ (l : List ℕ). JoinedAt cell journal later l (done ++ run ∷ [])) (ap (λ (l : List ℕ). own ++ l) mine ∙ sym more.owned)
+      (joins_one_more E n limit cell journal seen later own done run joined more.first (subst (λ (l : List E). Begins l later) (sym told) more.second))
 
   -- what passes joined of these lanes know of the node's cells
   pub record Knows (cells : NodeCells) (passes : NodePasses) (runs : List (LaneRun n limit)) : Type 0 where
@@ -83,9 +80,9 @@ module _ {n : Node} {limit : ℕ} where
   knows_more : (cells : NodeCells) (before after : NodePasses) (stock : Stock) (done : List (LaneRun n limit)) (run : LaneRun n limit) → Joins cells before after stock → HasSeen cells run stock →
       Knows cells before done → Knows cells after (done ++ run ∷ [])
   knows_more cells before after stock done run j seen k = record {
-    shards = λ s. shard_step s done run _ _ _ (at_place MayFollow cells.shards before.shards after.shards stock.passes j.shards s) (k.shards s)
+    shards = λ s. step (OfShard s) (λ (K : Journals). K.shards s) done run (shard_more _ _ _ (at_place MayFollow cells.shards before.shards after.shards stock.passes j.shards s)) (k.shards s)
         (ap (λ (x : node.Seen). x.journals.shards s) seen) (ap (λ (x : node.Seen). x.own (OfShard s)) seen);
-    objects = λ o. object_step o done run _ _ _ (at_place HasRoom cells.objects before.objects after.objects stock.racked j.objects (place_among cells.objects o)) (k.objects o)
+    objects = λ o. step (OfObject o) (λ (K : Journals). K.objects o) done run (object_more _ _ _ (at_place HasRoom cells.objects before.objects after.objects stock.racked j.objects (place_among cells.objects o))) (k.objects o)
         (ap (λ (x : node.Seen). x.journals.objects o) seen) (ap (λ (x : node.Seen). x.own (OfObject o)) seen);
   }
 

@@ -1,21 +1,22 @@
 -- The runs of a relay's lanes.
-use Rattle.std.proofs.Common.{◌≡◌, ℕ, suc, ◌+◌, Bool, List, [], ◌∷◌, length, map, Option, refl, sym, ap, ap₂, ◌∙◌, cond}
+use Rattle.std.proofs.Common.{◌≡◌, ℕ, suc, ◌+◌, List, [], ◌∷◌, length, map, refl, sym, ap, ap₂, ◌∙◌, cond}
 use Rattle.std.specs.Prelude.{count_by, not, sum_by}
 use Rattle.std.specs.List.{AllZip, position_or_len}
 use Rattle.std.proofs.lemmas.List.Sums.{sum_by-cons}
 use Rattle.agent_shards.specs.Each.{Each3}
 use Rattle.relay_core.specs.declared.resealing.RelayTable.{RelayTable}
-use Rattle.taos_lanes.specs.declared.lane.Limits.{Limits}
+use Rattle.frame_link.specs.declared.limits.Limits.{Limits}
 use Rattle.taos_lanes.specs.declared.tally.Tally.{Tally}
 use Rattle.taos_lanes.specs.declared.total.Total.{Total}
-use Rattle.taos_lanes.specs.Relaying.{AreRelaysCounted, IsRelayRunOf, RelayRun, RelayVisit, RelaysLane, RelaysLanes}
+use Rattle.taos_lanes.specs.Relaying.{IsRelayRunOf, RelayRun, RelayVisit, RelaysLane, RelaysLanes}
 use Rattle.taos_lanes.specs.Stocked.{LaneShown}
 use Rattle.taos_lanes.specs.Totals.{IsSumOf}
+use Rattle.taos_lanes.specs.Telling.{Telling, change}
 use Rattle.taos_lanes.specs.Visits.{is_broken, is_lacking}
 
-module _ {A In Out : Type 0} (f : A → LaneShown (In × Out)) (left : In → Option (List ℕ)) (written : Out → Option (List ℕ)) (table : RelayTable) (limits : Limits) where
+module _ {A In Out : Type 0} (f : A → LaneShown (In × Out)) (telling : Telling In Out) (table : RelayTable) (limits : Limits) where
   abbrev Serves : A → A → Type 0
-  Serves x y = RelaysLane left written table limits (f x) (f y)
+  Serves x y = RelaysLane telling table limits (f x) (f y)
 
   abbrev Run : Type 0
   Run = RelayRun limits.frames
@@ -24,7 +25,7 @@ module _ {A In Out : Type 0} (f : A → LaneShown (In × Out)) (left : In → Op
   run_of x y s = record { visits = s.serves.visits; door_failed = (f y).tally.door_failed }
 
   abbrev ServeAll : List A → List A → Type 0
-  ServeAll xs ys = AllZip (RelaysLane left written table limits) (map f xs) (map f ys)
+  ServeAll xs ys = AllZip (RelaysLane telling table limits) (map f xs) (map f ys)
 
   abbrev runs_of : (xs ys : List A) → ServeAll xs ys → List Run
   runs_of [] [] z = []
@@ -32,7 +33,7 @@ module _ {A In Out : Type 0} (f : A → LaneShown (In × Out)) (left : In → Op
   runs_of [] (y ∷ ys) z = absurd z
   runs_of (x ∷ xs) [] z = absurd z
 
-  each_run : (xs ys : List A) (z : ServeAll xs ys) → Each3 (IsRelayRunOf left written table limits.connections) (map f xs) (map f ys) (runs_of xs ys z)
+  each_run : (xs ys : List A) (z : ServeAll xs ys) → Each3 (IsRelayRunOf telling table limits) (map f xs) (map f ys) (runs_of xs ys z)
   each_run [] [] z = tt
   each_run (x ∷ xs) (y ∷ ys) z = (record { same = z.0.same; chain = z.0.serves.chain; through = z.0.serves.through; cause = z.0.serves.cause }, each_run xs ys z.1)
   each_run [] (y ∷ ys) z = absurd z
@@ -61,7 +62,7 @@ module _ {A In Out : Type 0} (f : A → LaneShown (In × Out)) (left : In → Op
   long [] (y ∷ ys) z = absurd z
   long (x ∷ xs) [] z = absurd z
 
-  pub relays : (xs ys : List A) (total : Total) → ServeAll xs ys → IsSumOf (λ (y : A). (f y).tally) ys total → RelaysLanes left written table limits (map f xs) (map f ys) total
+  pub relays : (xs ys : List A) (total : Total) → ServeAll xs ys → IsSumOf (λ (y : A). (f y).tally) ys total → RelaysLanes telling table limits (change (map f xs) (map f ys)) total
   relays xs ys total z t = record {
     runs = runs_of xs ys z;
     each = each_run xs ys z;

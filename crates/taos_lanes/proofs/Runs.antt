@@ -1,5 +1,5 @@
 -- The lanes of a node, from their stocks until its cells were closed.
-use Rattle.std.proofs.Common.{◌≡◌, ℕ, zero, suc, ◌+◌, ◌≤◌, ◌==◌, true, List, [], ◌∷◌, ◌++◌, length, map, Option, None, Some, refl, sym, ap, ap₂, ◌∙◌, subst, arith, cond}
+use Rattle.std.proofs.Common.{◌≡◌, ℕ, zero, suc, ◌+◌, ◌≤◌, ◌==◌, true, List, [], ◌∷◌, length, map, Option, None, Some, refl, sym, ap, ap₂, ◌∙◌, subst, cond}
 use Rattle.std.specs.Prelude.{All, not, slice_get, filter_map, sum_by, count_by}
 use Rattle.std.specs.List.{AllZip}
 use Rattle.std.specs.List.{cons_option, position_or_len}
@@ -7,12 +7,13 @@ use Rattle.std.proofs.lemmas.List.Elements.{All-nil, All-cons, All-head, All-tai
 use Rattle.std.proofs.lemmas.List.Sums.{sum_by-cons}
 use Rattle.std.proofs.lemmas.Option.{same_Some}
 use Rattle.agent_core.specs.Alone as alone
-use Rattle.agent_core.specs.Alone.{plans_in, seen_in}
+use Rattle.agent_core.specs.Alone.{plans_in}
 use Rattle.agent_core.specs.Journals.{Entry, ShardSeen, IsLegalJournal}
+use Rattle.agent_core.specs.State.{Plan}
 use Rattle.agent_shards.specs.Cells.{IsClosed}
 use Rattle.agent_shards.specs.Each.{Each3}
-use Rattle.agent_shards.specs.Shards.{ShardCell, KnownShard, AreShardsClosed, IsShardClosed, ArePasses, journal_of, places_of, journal_at, own_at, plans_of}
-use Rattle.agent_shards.specs.Objects.{ObjectCell, KnownObject, AreObjectsClosed, IsObjectClosed, journal_by, places_by, seen_on, own_on, fixed_in, place_among}
+use Rattle.agent_shards.specs.Shards.{ShardCell, KnownShard, AreShardsClosed, journal_of, places_of, journal_at, own_at, plans_of}
+use Rattle.agent_shards.specs.Objects.{ObjectCell, KnownObject, AreObjectsClosed, journal_by, places_by, seen_on, own_on, fixed_in, place_among}
 use Rattle.object_core.specs.Objects.{ObjectEntry, ObjectSeen}
 use Rattle.object_core.specs.OneOwner as lone
 use Rattle.object_core.specs.Shelving.{ObjectFixed, fixed_of, numbers_of}
@@ -25,16 +26,17 @@ use Rattle.taos_monitor.specs.declared.node_keys.NodeKeys.{NodeKeys}
 use Rattle.taos_monitor.specs.Cells as node
 use Rattle.taos_monitor.specs.Cells.{Node, Journals, OfShard, OfObject, AreLegal, viewed}
 use Rattle.taos_monitor.specs.World.{world_of}
-use Rattle.taos_lanes.specs.declared.lane.Limits.{Limits}
+use Rattle.frame_link.specs.declared.limits.Limits.{Limits}
 use Rattle.taos_lanes.specs.declared.lane.Stock.{Stock}
 use Rattle.taos_lanes.specs.declared.total.Total.{Total}
 use Rattle.taos_lanes.specs.Doors.{DoorSeen, GoesThrough}
+use Rattle.taos_lanes.specs.Telling.{Telling}
 use Rattle.taos_lanes.specs.Visits.{Visit, is_broken, is_lacking}
 use Rattle.taos_lanes.specs.Lanes.{LaneRun, ServesAll, IsFresh}
 use Rattle.taos_lanes.specs.Working.{HasDoorCause}
 use Rattle.taos_lanes.specs.Stocked.{NodeCells, node_at, seat, shelf, shards_viewed, objects_viewed, world_at, LaneShown, ServesLane}
-use Rattle.taos_lanes.specs.Joining.{NodePasses, ArePassesOf, JoinsAll, AreFresh, WorkIs, IsFreshStock, HasOtherWork, IsGivenStock, IsEmptied, stocks_in, IsTotalOf}
-use Rattle.taos_lanes.specs.Serving.{unseen, IsRunOf, AreCounted, journal_on, journals_of}
+use Rattle.taos_lanes.specs.Joining.{NodePasses, ArePassesOf, JoinsAll, AreFresh, IsFreshStock, IsGivenStock, IsEmptied, stocks_in, IsTotalOf}
+use Rattle.taos_lanes.specs.Serving.{unseen, IsRunOf, AreCounted, journals_of}
 use Rattle.taos_lanes.specs.Laws.{JoinedAt, ClosedServesAll}
 use Rattle.taos_lanes.proofs.Closing.{joined_are_closed}
 use Rattle.taos_lanes.proofs.Joined.{HasSeen, Knows, knows_all}
@@ -75,9 +77,9 @@ objects_unseen cells passes fresh k = viewed
 
 -- ---- runs
 
-module _ {In Out : Type 0} (left : In → Option (List ℕ)) (written : Out → Option (List ℕ)) (keys : NodeKeys) (cells : NodeCells) (limits : Limits) where
+module _ {In Out : Type 0} (telling : Telling In Out) (keys : NodeKeys) (cells : NodeCells) (limits : Limits) where
   abbrev pub Serves : LaneShown (In × Out) → LaneShown (In × Out) → Type 0
-  Serves = ServesLane left written keys cells limits
+  Serves = ServesLane telling keys cells limits
 
   abbrev pub run_of : (before after : LaneShown (In × Out)) → Serves before after → LaneRun (node_at keys cells) limits.frames
   run_of before after s = record {
@@ -121,7 +123,7 @@ module _ {In Out : Type 0} (left : In → Option (List ℕ)) (written : Out → 
   runs_fresh (old ∷ olds) (before ∷ befores) [] g z = absurd z
 
   -- each is what its lane did
-  run_is : (old before after new : LaneShown (In × Out)) → IsGivenStock cells old before → (s : Serves before after) → IsEmptied after new → IsRunOf left written limits.connections old new (run_of before after s)
+  run_is : (old before after new : LaneShown (In × Out)) → IsGivenStock cells old before → (s : Serves before after) → IsEmptied after new → IsRunOf telling limits old new (run_of before after s)
   run_is old before after new g s e =
       let fresh : IsFreshStock cells s.old = subst (IsFreshStock cells) (same_stock before.work g.work.0 s.old g.work.1 s.had) g.work.2 in
       record {
@@ -129,13 +131,13 @@ module _ {In Out : Type 0} (left : In → Option (List ℕ)) (written : Out → 
         first = λ k. world_of (g.same.clock k) (g.same.faults k) (shards_unseen cells.shards s.old.passes fresh.shards_fresh k) (objects_unseen cells.objects s.old.racked fresh.objects_fresh k);
         clock = sym e.same.clock;
         faults = sym e.same.faults;
-        through = subst (λ (d : DoorSeen (In × Out) × DoorSeen (In × Out)). GoesThrough left written limits.connections d.0 d.1 (s.new.tally.door_failed ≡ true) s.serves.visits)
+        through = subst (λ (d : DoorSeen (In × Out) × DoorSeen (In × Out)). GoesThrough telling limits.connections d.0 d.1 (s.new.tally.door_failed ≡ true) s.serves.visits)
             (λ k. (g.same.door k, sym e.same.door k)) s.serves.through;
         cause = subst (λ (d : DoorSeen (In × Out) × DoorSeen (In × Out)). HasDoorCause s.new.tally.door_failed d.0.faults d.1.faults) (λ k. (g.same.door k, sym e.same.door k)) s.serves.cause;
       }
 
   pub runs_are : (olds befores afters news : List (LaneShown (In × Out))) → AllZip (IsGivenStock cells) olds befores → (z : AllZip Serves befores afters) → AllZip IsEmptied afters news →
-      Each3 (IsRunOf left written limits.connections) olds news (runs_of befores afters z)
+      Each3 (IsRunOf telling limits) olds news (runs_of befores afters z)
   runs_are [] [] [] [] g z e = tt
   runs_are (old ∷ olds) (before ∷ befores) (after ∷ afters) (new ∷ news) g z e = (run_is old before after new g.0 z.0 e.0, runs_are olds befores afters news g.1 z.1 e.1)
   runs_are [] [] [] (new ∷ news) g z e = absurd e
@@ -186,59 +188,61 @@ module _ {In Out : Type 0} (left : In → Option (List ℕ)) (written : Out → 
 
 -- ---- closed cells
 
--- where a new cell was closed, its pass has each place as its own, once
-abbrev ShardClosedAt : Option KnownShard → Option ShardSeen → Type 0
-ShardClosedAt None None = Unit {0}
-ShardClosedAt (Some p) (Some s) = (s.journal ≡ p.seen) × HasEach 0 (length p.seen) p.own
-ShardClosedAt _ _ = ⊥
+module _ {S F E : Type 0} (fixed : S → F) (journal : S → List E) where
+  -- where a new cell was closed, its pass has each place as its own, once
+  abbrev ClosedAt : Option (Known F E) → Option S → Type 0
+  ClosedAt None None = Unit {0}
+  ClosedAt (Some p) (Some s) = (journal s ≡ p.seen) × HasEach 0 (length p.seen) p.own
+  ClosedAt _ _ = ⊥
 
-shard_closed : (cells : List ShardCell) (passes : List KnownShard) (shards : List ShardSeen) → All (λ (c : ShardCell). c.opening ≡ []) cells → AreShardsClosed cells passes shards →
-    (i : ℕ) → ShardClosedAt (slice_get passes i) (slice_get shards i)
-shard_closed [] [] [] new closed i = tt
-shard_closed (c ∷ cells) (p ∷ passes) (s ∷ shards) new closed zero =
-    (closed.0.its_journal, subst (λ (l : List Entry). HasEach (length l) (length p.seen) p.own) (All-head (λ (x : ShardCell). x.opening ≡ []) c cells new) closed.0.own)
-shard_closed (c ∷ cells) (p ∷ passes) (s ∷ shards) new closed (suc i) = shard_closed cells passes shards (All-tail (λ (x : ShardCell). x.opening ≡ []) c cells new) closed.1 i
-shard_closed _ _ _ new closed i = absurd closed
+  -- what closed cells give
+  abbrev AreClosedAs : List (Cell F E) → List (Known F E) → List S → Type 0
+  AreClosedAs cells passes values = Each3 (λ c p s. IsClosed c p (fixed s) (journal s)) cells passes values
+
+  closed_at : (cells : List (Cell F E)) (passes : List (Known F E)) (values : List S) → All (λ (c : Cell F E). c.opening ≡ []) cells → AreClosedAs cells passes values →
+      (i : ℕ) → ClosedAt (slice_get passes i) (slice_get values i)
+  closed_at [] [] [] new closed i = tt
+  closed_at (c ∷ cells) (p ∷ passes) (s ∷ values) new closed zero =
+      (closed.0.its_journal, subst (λ (l : List E). HasEach (length l) (length p.seen) p.own) (All-head (λ (x : Cell F E). x.opening ≡ []) c cells new) closed.0.own)
+  closed_at (c ∷ cells) (p ∷ passes) (s ∷ values) new closed (suc i) = closed_at cells passes values (All-tail (λ (x : Cell F E). x.opening ≡ []) c cells new) closed.1 i
+  closed_at _ _ _ new closed i = absurd closed
+
+  -- what never changes of them is that of the cells
+  closed_same : (cells : List (Cell F E)) (passes : List (Known F E)) (values : List S) → AreClosedAs cells passes values → map fixed values ≡ map (λ (c : Cell F E). c.fixed) cells
+  closed_same [] [] [] closed = refl
+  closed_same (c ∷ cells) (p ∷ passes) (s ∷ values) closed = λ k. closed.0.its_fixed k ∷ closed_same cells passes values closed.1 k
+  closed_same _ _ _ closed = absurd closed
 
 none_each : HasEach 0 0 []
 none_each place = sym (once_within-none 0 place)
 
-shard_own : (p : Option KnownShard) (s : Option ShardSeen) → ShardClosedAt p s → (alone.journal_of s ≡ journal_of p) × HasEach 0 (length (alone.journal_of s)) (places_of p)
+-- what is told of a shard that was closed, and of an object
+abbrev plan_of : ShardSeen → Plan
+plan_of s = s.plan
+
+abbrev journal_in : ShardSeen → List Entry
+journal_in s = s.journal
+
+abbrev journal_told : ObjectSeen → List ObjectEntry
+journal_told o = o.journal
+
+shard_own : (p : Option KnownShard) (s : Option ShardSeen) → ClosedAt plan_of journal_in p s → (alone.journal_of s ≡ journal_of p) × HasEach 0 (length (alone.journal_of s)) (places_of p)
 shard_own None None c = (refl, none_each)
 shard_own (Some p) (Some s) c = (c.0, subst (λ (l : List Entry). HasEach 0 (length l) p.own) (sym c.0) c.1)
 shard_own None (Some s) c = absurd c
 shard_own (Some p) None c = absurd c
 
--- the same of objects
-abbrev ObjectClosedAt : Option KnownObject → Option ObjectSeen → Type 0
-ObjectClosedAt None None = Unit {0}
-ObjectClosedAt (Some p) (Some o) = (o.journal ≡ p.seen) × HasEach 0 (length p.seen) p.own
-ObjectClosedAt _ _ = ⊥
-
-object_closed : (cells : List ObjectCell) (passes : List KnownObject) (objects : List ObjectSeen) → All (λ (c : ObjectCell). c.opening ≡ []) cells → AreObjectsClosed cells passes objects →
-    (i : ℕ) → ObjectClosedAt (slice_get passes i) (slice_get objects i)
-object_closed [] [] [] new closed i = tt
-object_closed (c ∷ cells) (p ∷ passes) (s ∷ objects) new closed zero =
-    (closed.0.its_journal, subst (λ (l : List ObjectEntry). HasEach (length l) (length p.seen) p.own) (All-head (λ (x : ObjectCell). x.opening ≡ []) c cells new) closed.0.own)
-object_closed (c ∷ cells) (p ∷ passes) (s ∷ objects) new closed (suc i) = object_closed cells passes objects (All-tail (λ (x : ObjectCell). x.opening ≡ []) c cells new) closed.1 i
-object_closed _ _ _ new closed i = absurd closed
-
-object_own : (p : Option KnownObject) (s : Option ObjectSeen) → ObjectClosedAt p s → (lone.journal_of s ≡ journal_by p) × HasEach 0 (length (lone.journal_of s)) (places_by p)
+object_own : (p : Option KnownObject) (s : Option ObjectSeen) → ClosedAt fixed_of journal_told p s → (lone.journal_of s ≡ journal_by p) × HasEach 0 (length (lone.journal_of s)) (places_by p)
 object_own None None c = (refl, none_each)
 object_own (Some p) (Some s) c = (c.0, subst (λ (l : List ObjectEntry). HasEach 0 (length l) p.own) (sym c.0) c.1)
 object_own None (Some s) c = absurd c
 object_own (Some p) None c = absurd c
 
--- the plans, and what never changes of the objects, are those of the cells
 pub closed_plans : (cells : List ShardCell) (passes : List KnownShard) (shards : List ShardSeen) → AreShardsClosed cells passes shards → plans_in shards ≡ plans_of cells
-closed_plans [] [] [] closed = refl
-closed_plans (c ∷ cells) (p ∷ passes) (s ∷ shards) closed = λ k. closed.0.its_fixed k ∷ closed_plans cells passes shards closed.1 k
-closed_plans _ _ _ closed = absurd closed
+closed_plans = closed_same plan_of journal_in
 
 pub closed_fixed : (cells : List ObjectCell) (passes : List KnownObject) (objects : List ObjectSeen) → AreObjectsClosed cells passes objects → map fixed_of objects ≡ fixed_in cells
-closed_fixed [] [] [] closed = refl
-closed_fixed (c ∷ cells) (p ∷ passes) (o ∷ objects) closed = λ k. closed.0.its_fixed k ∷ closed_fixed cells passes objects closed.1 k
-closed_fixed _ _ _ closed = absurd closed
+closed_fixed = closed_same fixed_of journal_told
 
 -- ---- the whole
 
@@ -246,7 +250,7 @@ closed_fixed _ _ _ closed = absurd closed
 none_joined : {E : Type 0} {n : Node} {limit : ℕ} (cell : node.Cell) (journal : Journals → List E) {seen : List E} {own : List ℕ} → (seen ≡ []) × (own ≡ []) → JoinedAt {E = E} {n = n} {limit = limit} cell journal seen own []
 none_joined cell journal is = record { owned = is.1; begin = All-nil _ }
 
-module _ {In Out : Type 0} (left : In → Option (List ℕ)) (written : Out → Option (List ℕ)) (keys : NodeKeys) (cells : NodeCells) (limits : Limits)
+module _ {In Out : Type 0} (telling : Telling In Out) (keys : NodeKeys) (cells : NodeCells) (limits : Limits)
     (shards_new : All (λ (c : ShardCell). c.opening ≡ []) cells.shards) (objects_new : All (λ (c : ObjectCell). c.opening ≡ []) cells.objects)
     (kept final : NodePasses) (shards_fresh : AreFresh kept.shards) (objects_fresh : AreFresh kept.objects) (of : ArePassesOf cells final)
     (shards : List ShardSeen) (objects : List ObjectSeen) (shards_closed : AreShardsClosed cells.shards final.shards shards) (objects_closed : AreObjectsClosed cells.objects final.objects objects) where
@@ -257,11 +261,11 @@ module _ {In Out : Type 0} (left : In → Option (List ℕ)) (written : Out → 
   place_same o = ap (λ (l : List ObjectFixed). position_or_len (λ m. m == o) (numbers_of l)) (closed_fixed cells.objects final.objects objects objects_closed)
 
   shard_at : (s : ℕ) → (J.shards s ≡ journal_at (seat cells.shards final.shards) s) × HasEach 0 (length (J.shards s)) (own_at (seat cells.shards final.shards) s)
-  shard_at s = shard_own (slice_get final.shards s) (slice_get shards s) (shard_closed cells.shards final.shards shards shards_new shards_closed s)
+  shard_at s = shard_own (slice_get final.shards s) (slice_get shards s) (closed_at plan_of journal_in cells.shards final.shards shards shards_new shards_closed s)
 
   object_at : (o : ℕ) → (J.objects o ≡ seen_on (shelf cells.objects final.objects) o) × HasEach 0 (length (J.objects o)) (own_on (shelf cells.objects final.objects) o)
   object_at o =
-      let there = object_own (slice_get final.objects (place_among cells.objects o)) (slice_get objects (place_among cells.objects o)) (object_closed cells.objects final.objects objects objects_new objects_closed (place_among cells.objects o)) in
+      let there = object_own (slice_get final.objects (place_among cells.objects o)) (slice_get objects (place_among cells.objects o)) (closed_at fixed_of journal_told cells.objects final.objects objects objects_new objects_closed (place_among cells.objects o)) in
       let same : J.objects o ≡ lone.journal_of (slice_get objects (place_among cells.objects o)) = ap (λ (i : ℕ). lone.journal_of (slice_get objects i)) (place_same o) in
       (same ∙ there.0, subst (λ (l : List ObjectEntry). HasEach 0 (length l) (own_on (shelf cells.objects final.objects) o)) (sym same) there.1)
 

@@ -2,6 +2,7 @@
 use Rattle.std.proofs.Common.{◌≡◌, inl, inr, ℕ, ◌+◌, ◌≤◌, ◌<◌, Bool, true, false, List, [], ◌∷◌, ◌++◌, length, Option, None, Some, refl, sym, ap, ◌∙◌, subst, arith, length-append, append-nil, cond}
 use Rattle.std.specs.Prelude.{count_by}
 use Rattle.std.proofs.lemmas.List.Sums.{sum_by_push}
+use Rattle.frame_link.specs.declared.limits.Limits.{Limits}
 use Rattle.frame_link.specs.declared.outcome.Outcome.{Outcome}
 use Rattle.frame_link.specs.Faults.{Rose}
 use Rattle.frame_link.specs.Relay.{Said}
@@ -13,21 +14,22 @@ use Rattle.taos_monitor.specs.Cells.{Node, alone_of}
 use Rattle.taos_monitor.specs.World.{Setting, World, setting_of}
 use Rattle.taos_monitor.specs.Connection.{IsConnection}
 use Rattle.taos_lanes.specs.declared.tally.Tally.{Tally}
+use Rattle.taos_lanes.specs.Telling.{Telling, change}
 use Rattle.taos_lanes.specs.Visits as Visits
 use Rattle.taos_lanes.specs.Visits.{VisitBy, among, begun, Chain, is_broken, is_lacking}
-use Rattle.taos_lanes.specs.Doors.{DoorSeen, GaveKnown, TookKnown, AreFew, IsTold, IsOrderly, IsNoneLeft, Through, IsVisitOf}
+use Rattle.taos_lanes.specs.Doors.{DoorSeen, GaveKnown, TookKnown, AreFew, IsTold, IsNoneLeft, Through, IsVisitOf}
 use Rattle.taos_lanes.specs.Working.{LaneSeen, lane_of, IsTallyOf, ServesDoorBy, HasDoorCause}
 use Rattle.taos_lanes.proofs.Closing.{goes_on}
 use Rattle.taos_lanes.proofs.Giving.{through_goes_on}
 
 -- the connections up to now
-pub record SoFar {In Out S : Type 0} (left : In → Option (List ℕ)) (written : Out → Option (List ℕ)) (Serves : Line S → Line S → Outcome → Type 0) (limit most : ℕ)
+pub record SoFar {In Out S : Type 0} (telling : Telling In Out) (Serves : Line S → Line S → Outcome → Type 0) (limits : Limits)
     (before now : LaneSeen S (In × Out)) (tally : Tally) : Type 0 where
-  pub visits : List (VisitBy Serves limit)
+  pub visits : List (VisitBy Serves limits.frames)
   pub chain : Chain before.world visits now.world
-  pub through : Through left written before.door now.door visits
+  pub through : Through telling before.door now.door visits
   pub counted : IsTallyOf visits tally
-  pub few : length visits ≤ most
+  pub few : length visits ≤ limits.connections
   pub steady : now.door.faults ≡ before.door.faults
   pub fresh : tally.door_failed ≡ false
 
@@ -41,9 +43,9 @@ took_none : {X : Type 0} (back : Option (List X)) → TookKnown back back []
 took_none None = tt
 took_none (Some xs) = sym (append-nil xs)
 
-module _ {In Out S : Type 0} (left : In → Option (List ℕ)) (written : Out → Option (List ℕ)) (Serves : Line S → Line S → Outcome → Type 0) (limit most : ℕ) where
+module _ {In Out S : Type 0} (telling : Telling In Out) (Serves : Line S → Line S → Outcome → Type 0) (limits : Limits) where
   pub none_yet : (before : LaneSeen S (In × Out)) (tally : Tally) → tally.served ≡ 0 → tally.broken ≡ 0 → tally.lacked ≡ 0 → tally.door_failed ≡ false →
-      SoFar left written Serves limit most before before tally
+      SoFar telling Serves limits before before tally
   none_yet before tally served broken lacked fresh = record {
     visits = [];
     chain = refl;
@@ -62,23 +64,23 @@ module _ {In Out S : Type 0} (left : In → Option (List ℕ)) (written : Out �
 
   -- ---- one connection more
 
-  counts_more : (is : Outcome → Bool) (visits : List (VisitBy Serves limit)) (v : VisitBy Serves limit) →
-      count_by (λ (w : VisitBy Serves limit). is w.outcome) (visits ++ v ∷ []) ≡ count_by (λ (w : VisitBy Serves limit). is w.outcome) visits + cond (is v.outcome) 1 0
+  counts_more : (is : Outcome → Bool) (visits : List (VisitBy Serves limits.frames)) (v : VisitBy Serves limits.frames) →
+      count_by (λ (w : VisitBy Serves limits.frames). is w.outcome) (visits ++ v ∷ []) ≡ count_by (λ (w : VisitBy Serves limits.frames). is w.outcome) visits + cond (is v.outcome) 1 0
   counts_more is visits v =
-      sum_by_push (λ (w : VisitBy Serves limit). cond (is w.outcome) 1 0) visits v
+      sum_by_push (λ (w : VisitBy Serves limits.frames). cond (is w.outcome) 1 0) visits v
 
-  pub one_more : (before now after : LaneSeen S (In × Out)) (tally added : Tally) (g k : In × Out) (v : VisitBy Serves limit) →
-      SoFar left written Serves limit most before now tally →
+  pub one_more : (before now after : LaneSeen S (In × Out)) (tally added : Tally) (g k : In × Out) (v : VisitBy Serves limits.frames) →
+      SoFar telling Serves limits before now tally →
       begun v ≡ now.world → Visits.left v ≡ after.world →
       OpensKnown now.door.left after.door.left (Some g) → Counts now.door.left now.door.given after.door.given (Some g) → TakesBack now.door.back after.door.back after.door.given k →
-      IsVisitOf left written g k v → after.door.faults ≡ now.door.faults → tally.served < most →
+      IsVisitOf telling g k v → after.door.faults ≡ now.door.faults → tally.served < limits.connections →
       added.served ≡ tally.served + 1 → added.broken ≡ tally.broken + cond (is_broken v.outcome) 1 0 → added.lacked ≡ tally.lacked + cond (is_lacking v.outcome) 1 0 →
       added.door_failed ≡ tally.door_failed →
-      SoFar left written Serves limit most before after added
+      SoFar telling Serves limits before after added
   one_more before now after tally added g k v s begins ends opens counts takes is steady more served broken lacked fresh = record {
     visits = s.visits ++ v ∷ [];
     chain = subst (λ (w : S). Chain before.world (s.visits ++ v ∷ []) w) ends (goes_on before.world now.world s.visits v s.chain begins);
-    through = through_goes_on left written Serves limit before.door now.door after.door s.visits g k v s.through opens counts takes is;
+    through = through_goes_on telling Serves limits.frames before.door now.door after.door s.visits g k v s.through opens counts takes is;
     counted = record {
       served = served ∙ (ap (λ (x : ℕ). x + 1) s.counted.served ∙ sym (length-append s.visits (v ∷ [])));
       broken = broken ∙ (ap (λ (x : ℕ). x + cond (is_broken v.outcome) 1 0) s.counted.broken ∙ sym (counts_more is_broken s.visits v));
@@ -90,15 +92,15 @@ module _ {In Out S : Type 0} (left : In → Option (List ℕ)) (written : Out �
   }
 
   -- the same, by what the door answered and was given back
-  pub one_served : (before now after : LaneSeen S (In × Out)) (accepted : DoorSeen (In × Out)) (tally added : Tally) (opened : Option (In × Out)) (g k : In × Out) (v : VisitBy Serves limit) →
-      SoFar left written Serves limit most before now tally →
+  pub one_served : (before now after : LaneSeen S (In × Out)) (accepted : DoorSeen (In × Out)) (tally added : Tally) (opened : Option (In × Out)) (g k : In × Out) (v : VisitBy Serves limits.frames) →
+      SoFar telling Serves limits before now tally →
       begun v ≡ now.world → Visits.left v ≡ after.world → opened ≡ Some g →
       OpensKnown now.door.left accepted.left opened × Counts now.door.left now.door.given accepted.given opened → accepted.back ≡ now.door.back → accepted.faults ≡ now.door.faults →
       TakesBack accepted.back after.door.back accepted.given k → after.door.left ≡ accepted.left → after.door.given ≡ accepted.given → after.door.faults ≡ accepted.faults →
-      IsVisitOf left written g k v → tally.served < most →
+      IsVisitOf telling g k v → tally.served < limits.connections →
       added.served ≡ tally.served + 1 → added.broken ≡ tally.broken + cond (is_broken v.outcome) 1 0 → added.lacked ≡ tally.lacked + cond (is_lacking v.outcome) 1 0 →
       added.door_failed ≡ tally.door_failed →
-      SoFar left written Serves limit most before after added
+      SoFar telling Serves limits before after added
   one_served before now after accepted tally added opened g k v s begins ends is gives same_back steady takes same_left same_given same_faults visit more served broken lacked fresh =
       one_more before now after tally added g k v s begins ends
       (subst (λ (x : Option (List (In × Out)) × Option (In × Out)). OpensKnown now.door.left x.0 x.1) (λ i. (sym same_left i, is i)) gives.0)
@@ -125,10 +127,10 @@ told_still None after told o = absurd told
 told_still (Some xs) None told o = absurd o
 told_still (Some xs) (Some ys) told o = tt
 
-module _ {In Out S : Type 0} (left : In → Option (List ℕ)) (written : Out → Option (List ℕ)) (Serves : Line S → Line S → Outcome → Type 0) (limit most : ℕ)
-    (before now : LaneSeen S (In × Out)) (tally : Tally) (s : SoFar left written Serves limit most before now tally) where
+module _ {In Out S : Type 0} (telling : Telling In Out) (Serves : Line S → Line S → Outcome → Type 0) (limits : Limits)
+    (before now : LaneSeen S (In × Out)) (tally : Tally) (s : SoFar telling Serves limits before now tally) where
   -- so many were served
-  pub all_served : most ≤ tally.served → ServesDoorBy left written Serves limit most before now tally
+  pub all_served : limits.connections ≤ tally.served → ServesDoorBy telling Serves limits (change before now) tally
   all_served enough = record {
     visits = s.visits;
     chain = s.chain;
@@ -139,7 +141,7 @@ module _ {In Out S : Type 0} (left : In → Option (List ℕ)) (written : Out �
 
   -- the door has none
   pub none_left : (door : DoorSeen (In × Out)) → OpensKnown now.door.left door.left None → door.back ≡ now.door.back → door.given ≡ now.door.given → door.faults ≡ now.door.faults →
-      ServesDoorBy left written Serves limit most before (lane_of now.world door) tally
+      ServesDoorBy telling Serves limits (change before (lane_of now.world door)) tally
   none_left door opens back given faults = record {
     visits = s.visits;
     chain = s.chain;
@@ -170,7 +172,7 @@ module _ {In Out S : Type 0} (left : In → Option (List ℕ)) (written : Out �
   pub door_fails : (door : DoorSeen (In × Out)) (failed : Tally) → door.left ≡ now.door.left → door.back ≡ now.door.back → door.given ≡ now.door.given →
       now.door.faults ≤ door.faults → Rose now.door.faults door.faults →
       failed.served ≡ tally.served → failed.broken ≡ tally.broken → failed.lacked ≡ tally.lacked → failed.door_failed ≡ true →
-      ServesDoorBy left written Serves limit most before (lane_of now.world door) failed
+      ServesDoorBy telling Serves limits (change before (lane_of now.world door)) failed
   door_fails door failed told back given later rose served broken lacked is = record {
     visits = s.visits;
     chain = s.chain;

@@ -1,8 +1,9 @@
 -- The connections that a lane's door gave and took back, by what the door tells.
-use Rattle.std.specs.Prelude.{◌≡◌, ◌⊎◌, ℕ, ◌+◌, ◌≤◌, List, [], ◌∷◌, ◌++◌, length, Option, None, Some, ⊤}
+use Rattle.std.specs.Prelude.{◌≡◌, ◌⊎◌, ℕ, ◌≤◌, List, [], ◌∷◌, ◌++◌, length, Option, None, Some, ⊤}
 use Rattle.frame_link.specs.Doors.{OpensKnown, Counts, TakesBack}
 use Rattle.frame_link.specs.declared.outcome.Outcome.{Outcome}
 use Rattle.frame_link.specs.Served.{Line}
+use Rattle.taos_lanes.specs.Telling.{Telling}
 use Rattle.taos_lanes.specs.Visits.{VisitBy}
 
 -- of the connections that were left, where that is told, these were given, in order
@@ -54,13 +55,14 @@ pub record IsOrderly {X : Type 0} (door : DoorSeen X) : Type 0 where
   pub back : IsTold door.back
   pub few : AreFew door.back door.given
 
-module _ {In Out : Type 0} (left : In → Option (List ℕ)) (written : Out → Option (List ℕ)) {S : Type 0} {Serves : Line S → Line S → Outcome → Type 0} {limit : ℕ} where
+module _ {In Out S : Type 0} (telling : Telling In Out) {Serves : Line S → Line S → Outcome → Type 0}
+    {limit : ℕ} where
   -- what the connection came from and came to are the two ends as they were given and given back
   pub record IsVisitOf (given kept : In × Out) (v : VisitBy Serves limit) : Type 0 where
-    pub input : v.before.input ≡ left given.0
-    pub output : v.before.output ≡ written given.1
-    pub input_after : v.after.input ≡ left kept.0
-    pub output_after : v.after.output ≡ written kept.1
+    pub input : v.before.input ≡ telling.left given.0
+    pub output : v.before.output ≡ telling.written given.1
+    pub input_after : v.after.input ≡ telling.left kept.0
+    pub output_after : v.after.output ≡ telling.written kept.1
 
   -- these are the connections of what was given and given back, in order
   abbrev pub AreVisits : (given kept : List (In × Out)) → List (VisitBy Serves limit) → Type 0
@@ -87,14 +89,14 @@ module _ {In Out : Type 0} (left : In → Option (List ℕ)) (written : Out → 
     pub whole : (length visits ≡ most) ⊎ (IsNoneLeft before.left after.left ⊎ failed)
 
 -- one connection more
-abbrev pub ThroughGoesOn : {In Out S : Type 0} → (In → Option (List ℕ)) → (Out → Option (List ℕ)) →
+abbrev pub ThroughGoesOn : {In Out S : Type 0} → Telling In Out →
     (Line S → Line S → Outcome → Type 0) → ℕ → Type 0
-ThroughGoesOn {In} {Out} left written Serves limit =
+ThroughGoesOn {In} {Out} telling Serves limit =
     (before middle after : DoorSeen (In × Out))
     (visits : List (VisitBy Serves limit)) (g k : In × Out) (v : VisitBy Serves limit) →
-    Through left written before middle visits →
+    Through telling before middle visits →
     OpensKnown middle.left after.left (Some g) →
     Counts middle.left middle.given after.given (Some g) →
     TakesBack middle.back after.back after.given k →
-    IsVisitOf left written g k v →
-    Through left written before after (visits ++ v ∷ [])
+    IsVisitOf telling g k v →
+    Through telling before after (visits ++ v ∷ [])

@@ -1,5 +1,5 @@
 -- Passes of a node's cells that go to lanes and come back.
-use Rattle.std.specs.Prelude.{◌≡◌, ℕ, ◌+◌, List, [], ◌∷◌, length, filter_map, All, None, Some}
+use Rattle.std.specs.Prelude.{◌≡◌, ℕ, ◌+◌, List, [], ◌∷◌, filter_map, All, None, Some}
 use Rattle.agent_core.specs.Journals.{MayFollow}
 use Rattle.agent_shards.specs.Cells.{AreJoined}
 use Rattle.agent_shards.specs.Shards.{ShardCell, KnownShard, ArePasses}

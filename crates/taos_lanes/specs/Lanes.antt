@@ -1,5 +1,5 @@
 -- Lanes that serve connections at seats of one node's cells.
-use Rattle.std.specs.Prelude.{◌≡◌, ℕ, Bool, List, [], length, All, Option, sum_by}
+use Rattle.std.specs.Prelude.{◌≡◌, ℕ, Bool, List, [], All, Option, sum_by}
 use Rattle.std.specs.List.{flat_map}
 use Rattle.frame_link.specs.Relay.{Said}
 use Rattle.turn_cell.specs.Journal.{once_within, HasEach}

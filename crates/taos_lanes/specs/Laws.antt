@@ -1,8 +1,7 @@
 -- What the laws say of lanes.
 use Rattle.std.specs.Prelude.{◌≡◌, ℕ, List, [], ◌∷◌, ◌++◌, length, All, Option}
 use Rattle.frame_link.specs.Relay.{Said}
-use Rattle.object_core.specs.Objects.{ObjectEntry}
-use Rattle.agent_core.specs.Journals.{Entry, Begins}
+use Rattle.agent_core.specs.Journals.{Begins}
 use Rattle.turn_cell.specs.Journal.{HasEach}
 use Rattle.taos_monitor.specs.Cells.{Node, Journals, Cell, OfShard, OfObject, AreLegal}
 use Rattle.taos_monitor.specs.World.{World}

@@ -1,3 +1,4 @@
+pub mod Telling
 pub mod Visits
 pub mod Lanes
 pub mod Laws
@@ -6,5 +7,6 @@ pub mod Working
 pub mod Stocked
 pub mod Totals
 pub mod Joining
+pub mod Parts
 pub mod Serving
 pub mod Relaying

@@ -1,14 +1,15 @@
 -- Lanes whose connections a relay serves.
-use Rattle.std.specs.Prelude.{◌≡◌, ℕ, Bool, true, List, length, Option, count_by}
+use Rattle.std.specs.Prelude.{◌≡◌, ℕ, Bool, true, List, length, count_by}
 use Rattle.agent_shards.specs.Each.{Each3}
 use Rattle.frame_link.specs.declared.outcome.Outcome.{Outcome}
 use Rattle.frame_link.specs.Served.{Line, IsServed}
 use Rattle.relay_core.specs.declared.resealing.RelayTable.{RelayTable}
 use Rattle.relay_core.specs.Serving.{Answers, GivesUp}
-use Rattle.taos_lanes.specs.declared.lane.Limits.{Limits}
+use Rattle.frame_link.specs.declared.limits.Limits.{Limits}
 use Rattle.taos_lanes.specs.declared.total.Total.{Total}
 use Rattle.taos_lanes.specs.Doors.{GoesThrough}
 use Rattle.taos_lanes.specs.Stocked.{LaneShown}
+use Rattle.taos_lanes.specs.Telling.{Change, Telling, change}
 use Rattle.taos_lanes.specs.Totals.{AreCountedBy}
 use Rattle.taos_lanes.specs.Visits.{Chain, VisitBy, is_broken, is_lacking}
 use Rattle.taos_lanes.specs.Working.{HasDoorCause, ServesDoorBy, lane_of}
@@ -35,22 +36,21 @@ pub record HasOtherDoor {X : Type 0} (before after : LaneShown X) : Type 0 where
   pub work : after.work ≡ before.work
 
 -- The lane served connections of its door by this table, and counted them.
-pub record RelaysLane {In Out : Type 0} (left : In → Option (List ℕ))
-    (written : Out → Option (List ℕ)) (table : RelayTable) (limits : Limits)
-    (before after : LaneShown (In × Out)) : Type 0 where
+pub record RelaysLane {In Out : Type 0} (telling : Telling In Out) (table : RelayTable)
+    (limits : Limits) (before after : LaneShown (In × Out)) : Type 0 where
   pub same : HasOtherDoor before after
-  pub serves : ServesDoorBy left written (ServesRelayed limits.frames) limits.frames
-      limits.connections (lane_of table before.door) (lane_of table after.door) after.tally
+  pub serves : ServesDoorBy telling (ServesRelayed limits.frames) limits
+      (change (lane_of table before.door) (lane_of table after.door)) after.tally
 
 -- what a lane did from before until after: it went through its door, and each connection was served
 -- by this table, which stayed as it is
-pub record IsRelayRunOf {In Out : Type 0} (left : In → Option (List ℕ))
-    (written : Out → Option (List ℕ)) (table : RelayTable) {limit : ℕ} (most : ℕ)
-    (before after : LaneShown (In × Out)) (run : RelayRun limit) : Type 0 where
+pub record IsRelayRunOf {In Out : Type 0} (telling : Telling In Out) (table : RelayTable)
+    (limits : Limits) (before after : LaneShown (In × Out)) (run : RelayRun limits.frames) :
+    Type 0 where
   pub same : HasOtherDoor before after
   pub chain : Chain table run.visits table
-  pub through : GoesThrough left written most before.door after.door (run.door_failed ≡ true)
-      run.visits
+  pub through : GoesThrough telling limits.connections before.door after.door
+      (run.door_failed ≡ true) run.visits
   pub cause : HasDoorCause run.door_failed before.door.faults after.door.faults
 
 -- these are counted
@@ -63,9 +63,9 @@ AreRelaysCounted {limit} =
 
 -- A relay that has this table served the doors of its lanes: each connection that a door gave was
 -- answered by the table, and given back.
-pub record RelaysLanes {In Out : Type 0} (left : In → Option (List ℕ))
-    (written : Out → Option (List ℕ)) (table : RelayTable) (limits : Limits)
-    (before after : List (LaneShown (In × Out))) (total : Total) : Type 0 where
+pub record RelaysLanes {In Out : Type 0} (telling : Telling In Out) (table : RelayTable)
+    (limits : Limits) (lanes : Change (List (LaneShown (In × Out)))) (total : Total) :
+    Type 0 where
   pub runs : List (RelayRun limits.frames)
-  pub each : Each3 (IsRelayRunOf left written table limits.connections) before after runs
+  pub each : Each3 (IsRelayRunOf telling table limits) lanes.before lanes.after runs
   pub counted : AreRelaysCounted runs total

@@ -1,5 +1,5 @@
 -- What the lanes of a node did, from its opening until its cells were closed.
-use Rattle.std.specs.Prelude.{◌≡◌, ℕ, ◌==◌, true, List, [], length, map, Option, slice_get, count_by}
+use Rattle.std.specs.Prelude.{◌≡◌, ℕ, ◌==◌, true, List, [], length, map, slice_get, count_by}
 use Rattle.std.specs.List.{position_or_len}
 use Rattle.agent_core.specs.Alone.{plans_in, seen_in}
 use Rattle.agent_core.specs.Journals.{ShardSeen}
@@ -7,11 +7,13 @@ use Rattle.agent_shards.specs.Each.{Each3}
 use Rattle.object_core.specs.Objects.{ObjectEntry, ObjectSeen}
 use Rattle.object_core.specs.OneOwner.{journal_of}
 use Rattle.object_core.specs.Shelving.{fixed_of, numbers_of}
-use Rattle.taos_lanes.specs.declared.lane.Limits.{Limits}
+use Rattle.frame_link.specs.declared.limits.Limits.{Limits}
+use Rattle.taos_lanes.specs.declared.serving.Served.{Served}
 use Rattle.taos_lanes.specs.declared.total.Total.{Total}
 use Rattle.taos_lanes.specs.Doors.{GoesThrough}
 use Rattle.taos_lanes.specs.Lanes.{LaneRun, ServesAll}
 use Rattle.taos_lanes.specs.Stocked.{LaneShown}
+use Rattle.taos_lanes.specs.Telling.{Change, Telling}
 use Rattle.taos_lanes.specs.Totals.{AreCountedBy}
 use Rattle.taos_lanes.specs.Visits.{Visit, is_broken, is_lacking}
 use Rattle.taos_lanes.specs.Working.{HasDoorCause}
@@ -34,15 +36,14 @@ unseen = viewed (λ s. []) (λ s. [])
 
 -- what a lane did from before it served until after: it had seen nothing at first, and went through
 -- its door
-pub record IsRunOf {In Out : Type 0} (left : In → Option (List ℕ)) (written : Out → Option (List ℕ))
-    {n : Node} {limit : ℕ} (most : ℕ) (before after : LaneShown (In × Out)) (run : LaneRun n limit) :
-    Type 0 where
+pub record IsRunOf {In Out : Type 0} (telling : Telling In Out) {n : Node} (limits : Limits)
+    (before after : LaneShown (In × Out)) (run : LaneRun n limits.frames) : Type 0 where
   pub says : run.says ≡ before.says
   pub first : run.first ≡ world_of before.clock before.faults unseen unseen
   pub clock : run.last.clock ≡ after.clock
   pub faults : run.last.faults ≡ after.faults
-  pub through : GoesThrough left written most before.door after.door (run.door_failed ≡ true)
-      run.visits
+  pub through : GoesThrough telling limits.connections before.door after.door
+      (run.door_failed ≡ true) run.visits
   pub cause : HasDoorCause run.door_failed before.door.faults after.door.faults
 
 -- these are counted
@@ -55,14 +56,22 @@ AreCounted {n} {limit} =
     count_by (λ (v : Visit n run.says limit). is_lacking v.outcome) run.visits)
     (λ (run : LaneRun n limit). run.door_failed)
 
--- The node's lanes served all that stands in the journals of its shards and objects.
-pub record ServesNode {In Out : Type 0} (left : In → Option (List ℕ))
-    (written : Out → Option (List ℕ)) (n : Node) (limits : Limits)
-    (before after : List (LaneShown (In × Out))) (shards : List ShardSeen)
-    (objects : List ObjectSeen) (total : Total) : Type 0 where
+-- what the lanes of a node leave: the shards and objects with their journals, and what was counted
+pub record Left : Type 0 where
+  pub shards : List ShardSeen
+  pub objects : List ObjectSeen
+  pub total : Total
+
+-- the same of what the program has
+abbrev pub left_by : Served → Left
+left_by s = record { shards = s.shards.items; objects = s.objects.items; total = s.total }
+
+-- The node's lanes served all that stands in the journals of the shards and objects that they left.
+pub record ServesNode {In Out : Type 0} (telling : Telling In Out) (n : Node) (limits : Limits)
+    (lanes : Change (List (LaneShown (In × Out)))) (left : Left) : Type 0 where
   pub runs : List (LaneRun n limits.frames)
-  pub each : Each3 (IsRunOf left written limits.connections) before after runs
-  pub serves : ServesAll (journals_of shards objects) runs
-  pub plans : plans_in shards ≡ n.plans
-  pub fixed : map fixed_of objects ≡ n.objects
-  pub counted : AreCounted runs total
+  pub each : Each3 (IsRunOf telling limits) lanes.before lanes.after runs
+  pub serves : ServesAll (journals_of left.shards left.objects) runs
+  pub plans : plans_in left.shards ≡ n.plans
+  pub fixed : map fixed_of left.objects ≡ n.objects
+  pub counted : AreCounted runs left.total

@@ -7,10 +7,11 @@ use Rattle.agent_shards.specs.Objects.{ObjectCell, KnownObject, AreObjectPasses,
 use Rattle.frame_link.specs.Relay.{Said}
 use Rattle.object_core.specs.Objects.{ObjectEntry}
 use Rattle.taos_lanes.specs.declared.lane.Lane.{Lane}
-use Rattle.taos_lanes.specs.declared.lane.Limits.{Limits}
+use Rattle.frame_link.specs.declared.limits.Limits.{Limits}
 use Rattle.taos_lanes.specs.declared.lane.Stock.{Stock}
 use Rattle.taos_lanes.specs.declared.tally.Tally.{Tally}
 use Rattle.taos_lanes.specs.Doors.{DoorSeen, door_of}
+use Rattle.taos_lanes.specs.Telling.{Telling, change}
 use Rattle.taos_lanes.specs.Working.{ServesDoor, lane_of}
 use Rattle.taos_monitor.specs.declared.node_keys.NodeKeys.{NodeKeys}
 use Rattle.taos_monitor.specs.Arriving.{node_of}
@@ -102,9 +103,8 @@ shown_by readings faults says door lane = record {
 
 -- The lane served connections of its door at the cells, from what its passes had seen before to what
 -- they have seen now, with as many shares.
-pub record ServesLane {In Out : Type 0} (left : In → Option (List ℕ))
-    (written : Out → Option (List ℕ)) (keys : NodeKeys) (cells : NodeCells) (limits : Limits)
-    (before after : LaneShown (In × Out)) : Type 0 where
+pub record ServesLane {In Out : Type 0} (telling : Telling In Out) (keys : NodeKeys)
+    (cells : NodeCells) (limits : Limits) (before after : LaneShown (In × Out)) : Type 0 where
   pub old : Stock
   pub new : Stock
   pub had : before.work ≡ Some old
@@ -112,6 +112,6 @@ pub record ServesLane {In Out : Type 0} (left : In → Option (List ℕ))
   pub of : IsStockOf cells new
   pub shares : HaveSameShares old new
   pub says : after.says ≡ before.says
-  pub serves : ServesDoor left written (node_at keys cells) before.says limits.frames
-      limits.connections (lane_of (world_at cells before.clock before.faults old) before.door)
-      (lane_of (world_at cells after.clock after.faults new) after.door) new.tally
+  pub serves : ServesDoor telling (node_at keys cells) before.says limits
+      (change (lane_of (world_at cells before.clock before.faults old) before.door)
+      (lane_of (world_at cells after.clock after.faults new) after.door)) new.tally

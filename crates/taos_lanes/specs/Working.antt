@@ -1,12 +1,14 @@
 -- What a lane's worker does: connections of its door, each served at the lane's seats.
 use Rattle.std.specs.Prelude.{◌≡◌, ℕ, ◌≤◌, Bool, true, false, List, length, Option, count_by}
 use Rattle.frame_link.specs.Faults.{Rose}
+use Rattle.frame_link.specs.declared.limits.Limits.{Limits}
 use Rattle.frame_link.specs.declared.outcome.Outcome.{Outcome}
 use Rattle.frame_link.specs.Relay.{Said}
 use Rattle.frame_link.specs.Served.{Line}
 use Rattle.taos_monitor.specs.Cells.{Node}
 use Rattle.taos_monitor.specs.World.{World}
 use Rattle.taos_lanes.specs.declared.tally.Tally.{Tally}
+use Rattle.taos_lanes.specs.Telling.{Change, Telling}
 use Rattle.taos_lanes.specs.Visits.{Chain, ServesAmong, VisitBy, is_broken, is_lacking}
 use Rattle.taos_lanes.specs.Doors.{DoorSeen, GoesThrough}
 
@@ -35,17 +37,18 @@ pub record IsTallyOf {S : Type 0} {Serves : Line S → Line S → Outcome → Ty
 
 -- The lane served so many connections, or all that its door had, or the door failed; each was served
 -- so, from what the one before left, and given back.
-pub record ServesDoorBy {In Out S : Type 0} (left : In → Option (List ℕ))
-    (written : Out → Option (List ℕ)) (Serves : Line S → Line S → Outcome → Type 0)
-    (limit most : ℕ) (before after : LaneSeen S (In × Out)) (tally : Tally) : Type 0 where
-  pub visits : List (VisitBy Serves limit)
-  pub chain : Chain before.world visits after.world
-  pub through : GoesThrough left written most before.door after.door (tally.door_failed ≡ true) visits
+pub record ServesDoorBy {In Out S : Type 0} (telling : Telling In Out)
+    (Serves : Line S → Line S → Outcome → Type 0) (limits : Limits)
+    (lane : Change (LaneSeen S (In × Out))) (tally : Tally) : Type 0 where
+  pub visits : List (VisitBy Serves limits.frames)
+  pub chain : Chain lane.before.world visits lane.after.world
+  pub through : GoesThrough telling limits.connections lane.before.door lane.after.door
+      (tally.door_failed ≡ true) visits
   pub counted : IsTallyOf visits tally
-  pub cause : HasDoorCause tally.door_failed before.door.faults after.door.faults
+  pub cause : HasDoorCause tally.door_failed lane.before.door.faults lane.after.door.faults
 
 -- the same of a lane of a node
-abbrev pub ServesDoor : {In Out : Type 0} → (In → Option (List ℕ)) → (Out → Option (List ℕ)) →
-    Node → Option (ℕ → List ℕ → Said) → (limit most : ℕ) →
-    (before after : LaneSeen World (In × Out)) → Tally → Type 0
-ServesDoor left written n says limit = ServesDoorBy left written (ServesAmong n says limit) limit
+abbrev pub ServesDoor : {In Out : Type 0} → Telling In Out → Node → Option (ℕ → List ℕ → Said) →
+    Limits → Change (LaneSeen World (In × Out)) → Tally → Type 0
+ServesDoor telling n says limits =
+    ServesDoorBy telling (ServesAmong n says limits.frames) limits

@@ -47,20 +47,20 @@ pub(crate) fn join_lanes<C: Clock, R: RelayLink, D: Door>(
 ) -> Total
     requires few { length lanes.old ≤ 2 ^ 32 }
     requires passes { ArePassesOf (cells_of agent.now rack.now) (passes_of passes.old racked.old) }
-    requires stocked { All (WorkIs (IsStockOf (cells_of agent.now rack.now)))
-        (map (shown_by C.readings R.faults R.says
-        (door_by D.left D.back D.given D.faults)) lanes.old) }
-    ensures joined { JoinsAll (cells_of agent.now rack.now) (passes_of passes.old racked.old)
-        (stocks_in (map (shown_by C.readings R.faults R.says
-        (door_by D.left D.back D.given D.faults)) lanes.old)) (passes_of passes.new racked.new) }
+    requires stocked { let shown = shown_by C.readings R.faults R.says
+        (door_by D.left D.back D.given D.faults) in
+        All (WorkIs (IsStockOf (cells_of agent.now rack.now))) (map shown lanes.old) }
+    ensures joined { let shown = shown_by C.readings R.faults R.says
+        (door_by D.left D.back D.given D.faults) in
+        JoinsAll (cells_of agent.now rack.now) (passes_of passes.old racked.old)
+        (stocks_in (map shown lanes.old)) (passes_of passes.new racked.new) }
     ensures passes { ArePassesOf (cells_of agent.now rack.now) (passes_of passes.new racked.new) }
-    ensures total { IsTotalOf (stocks_in (map (shown_by C.readings R.faults R.says
-        (door_by D.left D.back D.given D.faults)) lanes.old)) result }
-    ensures emptied { AllZip IsEmptied
-        (map (shown_by C.readings R.faults R.says
-        (door_by D.left D.back D.given D.faults)) lanes.old)
-        (map (shown_by C.readings R.faults R.says
-        (door_by D.left D.back D.given D.faults)) lanes.new) }
+    ensures total { let shown = shown_by C.readings R.faults R.says
+        (door_by D.left D.back D.given D.faults) in
+        IsTotalOf (stocks_in (map shown lanes.old)) result }
+    ensures emptied { let shown = shown_by C.readings R.faults R.says
+        (door_by D.left D.back D.given D.faults) in
+        AllZip IsEmptied (map shown lanes.old) (map shown lanes.new) }
 {
     let mut total = Total::new();
     for lane in lanes.iter_mut() {

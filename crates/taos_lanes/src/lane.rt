@@ -7,15 +7,6 @@ use agent_shards::{Passes, RackPasses};
 use frame_link::{Clock, Door, RelayLink};
 use goal_search::Workbench;
 
-/// How much a lane serves at most.
-#[derive(Clone, Copy, Debug, PartialEq, Eq)]
-pub struct Limits {
-    /// Connections of its door.
-    pub connections: u64,
-    /// Frames of each.
-    pub frames: u64,
-}
-
 /// What a lane has while the workers run: its passes of each shard and of each object, its decider,
 /// and what it has counted.
 #[derive(Drop)]

@@ -5,6 +5,7 @@
 mod joining;
 mod lane;
 mod laws;
+mod parts;
 mod relaying;
 mod serving;
 mod sitting;
@@ -14,8 +15,9 @@ mod together;
 mod total;
 mod worker;
 
-pub use lane::{Lane, Limits, Stock};
+pub use lane::{Lane, Stock};
 pub use laws::{chains_go_on, closed_lanes_serve_all, joined_lanes_are_closed};
+pub use parts::NodeParts;
 pub use relaying::serve_relays;
 pub use serving::{MAX_LANES, Served, serve};
 pub use tally::Tally;

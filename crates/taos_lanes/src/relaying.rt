@@ -4,13 +4,15 @@ ghost use Rattle.std.specs.List.{AllZip};
 ghost use Rattle.std.specs.Prelude.{◌≡◌, ◌<◌, ◌≤◌, ◌^◌, length, map};
 ghost use Rattle.taos_lanes.specs.Relaying.{RelaysLane, RelaysLanes, ServesRelayed};
 ghost use Rattle.taos_lanes.specs.Stocked.{door_by, shown_by};
+ghost use Rattle.taos_lanes.specs.Telling.{change, told_by};
 ghost use Rattle.taos_lanes.specs.Totals.{IsSumOf};
+ghost use Rattle.taos_lanes.specs.declared.serving.TheConstants.{MAX_LANES};
 ghost use Rattle.taos_lanes.specs.Working.{ServesDoorBy, lane_of};
 
-use crate::lane::{Lane, Limits};
+use crate::lane::Lane;
 use crate::tally::Tally;
 use crate::total::Total;
-use frame_link::{Clock, Door, RelayLink};
+use frame_link::{Clock, Door, Limits, RelayLink};
 use relay_core::{RelayTable, serve_relay};
 use std::alloc::Global;
 use std::thread;
@@ -27,10 +29,11 @@ struct Relay<'a> {
 // Serves connections of the door, up to as many as the limits say, or until the door has none or
 // fails. Each is given back.
 fn relay_door<D: Door>(relay: &Relay<'_>, door: &mut D) -> Tally
-    ensures { ServesDoorBy D.In.left D.Out.written (ServesRelayed relay.now.limits.frames)
-        relay.now.limits.frames relay.now.limits.connections
-        (lane_of relay.now.table.now (door_by D.left D.back D.given D.faults door.old))
-        (lane_of relay.now.table.now (door_by D.left D.back D.given D.faults door.new)) result }
+    ensures { let shown = door_by D.left D.back D.given D.faults in
+        ServesDoorBy (told_by D.In.left D.Out.written)
+        (ServesRelayed relay.now.limits.frames) relay.now.limits
+        (change (lane_of relay.now.table.now (shown door.old))
+        (lane_of relay.now.table.now (shown door.new))) result }
 {
     let limits = relay.limits;
     let mut tally = Tally::new();
@@ -57,9 +60,10 @@ fn relay_door<D: Door>(relay: &Relay<'_>, door: &mut D) -> Tally
 
 // Serves connections of the lane's door, and counts them.
 fn relay_lane<C: Clock, R: RelayLink, D: Door>(relay: &Relay<'_>, lane: &mut Lane<C, R, D>)
-    ensures { RelaysLane D.In.left D.Out.written relay.now.table.now relay.now.limits
-        (shown_by C.readings R.faults R.says (door_by D.left D.back D.given D.faults) lane.old)
-        (shown_by C.readings R.faults R.says (door_by D.left D.back D.given D.faults) lane.new) }
+    ensures { let shown = shown_by C.readings R.faults R.says
+        (door_by D.left D.back D.given D.faults) in
+        RelaysLane (told_by D.In.left D.Out.written) relay.now.table.now relay.now.limits
+        (shown lane.old) (shown lane.new) }
 {
     lane.tally = relay_door(relay, &mut lane.door);
 }
@@ -71,9 +75,10 @@ fn relay_all<W: Threads + Sync, C: Clock + Send, R: RelayLink + Send, D: Door + 
     lanes: &mut [Lane<C, R, D>],
 )
     requires some { 0 < length lanes.old }
-    ensures { AllZip (RelaysLane D.In.left D.Out.written relay.now.table.now relay.now.limits)
-        (map (shown_by C.readings R.faults R.says (door_by D.left D.back D.given D.faults)) lanes.old)
-        (map (shown_by C.readings R.faults R.says (door_by D.left D.back D.given D.faults)) lanes.new) }
+    ensures { let shown = shown_by C.readings R.faults R.says
+        (door_by D.left D.back D.given D.faults) in
+        AllZip (RelaysLane (told_by D.In.left D.Out.written) relay.now.table.now
+        relay.now.limits) (map shown lanes.old) (map shown lanes.new) }
 {
     let count = lanes.len();
     thread::for_each_mut(
@@ -81,10 +86,10 @@ fn relay_all<W: Threads + Sync, C: Clock + Send, R: RelayLink + Send, D: Door + 
         lanes,
         count,
         &|_, lane: &mut Lane<C, R, D>|
-            ensures { RelaysLane D.In.left D.Out.written relay.entry.now.table.now
-                relay.entry.now.limits
-                (shown_by C.readings R.faults R.says (door_by D.left D.back D.given D.faults) lane.old)
-                (shown_by C.readings R.faults R.says (door_by D.left D.back D.given D.faults) lane.new) }
+            ensures { let shown = shown_by C.readings R.faults R.says
+                (door_by D.left D.back D.given D.faults) in
+                RelaysLane (told_by D.In.left D.Out.written) relay.entry.now.table.now
+                relay.entry.now.limits (shown lane.old) (shown lane.new) }
         { relay_lane(relay, lane) },
     );
 }
@@ -119,11 +124,11 @@ pub fn serve_relays<W: Threads + Sync, C: Clock + Send, R: RelayLink + Send, D: 
     limits: Limits,
 ) -> Total
     requires some { 0 < length lanes.old }
-    requires few { length lanes.old ≤ 16 }
-    ensures { RelaysLanes D.In.left D.Out.written table.now limits
-        (map (shown_by C.readings R.faults R.says (door_by D.left D.back D.given D.faults)) lanes.old)
-        (map (shown_by C.readings R.faults R.says (door_by D.left D.back D.given D.faults)) lanes.new)
-        result }
+    requires few { length lanes.old ≤ MAX_LANES }
+    ensures { let shown = shown_by C.readings R.faults R.says
+        (door_by D.left D.back D.given D.faults) in
+        RelaysLanes (told_by D.In.left D.Out.written) table.now limits
+        (change (map shown lanes.old) (map shown lanes.new)) result }
 {
     let relay = Relay {
         alloc,

@@ -1,32 +1,30 @@
 //! The lanes of a node, from its opening until its cells are closed.
 
 ghost use Rattle.std.specs.List.{AllZip};
-ghost use Rattle.std.specs.Prelude.{◌≡◌, ◌<◌, ◌≤◌, [], All, IfOk, None, OnErr, OnOk, length, map};
-ghost use Rattle.agent_core.specs.Alone.{plans_in};
-ghost use Rattle.agent_core.specs.Plans.{AreShards};
+ghost use Rattle.std.specs.Prelude.{◌≡◌, ◌<◌, ◌≤◌, All, IfOk, None, OnErr, OnOk, length, map};
 ghost use Rattle.agent_shards.specs.Shards.{plans_of};
-ghost use Rattle.object_core.specs.Shelving.{HaveOwnNumbers, fixed_of};
 ghost use Rattle.taos_lanes.specs.Joining.{AreKept, AreNew, HasOtherWork, IsEmptied, passes_of};
-ghost use Rattle.taos_lanes.specs.Serving.{ServesNode};
+ghost use Rattle.taos_lanes.specs.Parts.{ArePartsNew, node_in};
+ghost use Rattle.taos_lanes.specs.Serving.{ServesNode, left_by};
 ghost use Rattle.taos_lanes.specs.Stocked.{cells_of, door_by, node_at, shown_by};
-ghost use Rattle.taos_monitor.specs.Arriving.{node_of};
+ghost use Rattle.taos_lanes.specs.Telling.{change, told_by};
 ghost use Rattle.taos_monitor.specs.Planned.{ArePlanned};
 
 use crate::joining::join_lanes;
-use crate::lane::{Lane, Limits};
+use crate::lane::Lane;
 use crate::laws::closed_lanes_serve_all;
+use crate::parts::NodeParts;
 use crate::sitting::Shared;
 use crate::stocking::stock_lanes;
 use crate::together::serve_lanes;
 use crate::total::Total;
 use agent_core::Shard;
 use agent_shards::{Agent, Passes, Rack, RackPasses};
-use frame_link::{Clock, Door, RelayLink};
+use frame_link::{Clock, Door, Limits, RelayLink};
 use object_core::Object;
-use prin_term::Anchor;
 use std::alloc::{AllocError, Global};
 use std::marker::{Brand, PhantomData};
-use std::sync::{Arc, Wait};
+use std::sync::Wait;
 use std::thread::Threads;
 use taos_monitor::NodeKeys;
 
@@ -45,11 +43,9 @@ pub struct Served {
 
 // The lanes keep nothing of their work.
 fn empty<C: Clock, R: RelayLink, D: Door>(lanes: &mut [Lane<C, R, D>])
-    ensures { AllZip IsEmptied
-        (map (shown_by C.readings R.faults R.says
-        (door_by D.left D.back D.given D.faults)) lanes.old)
-        (map (shown_by C.readings R.faults R.says
-        (door_by D.left D.back D.given D.faults)) lanes.new) }
+    ensures { let shown = shown_by C.readings R.faults R.says
+        (door_by D.left D.back D.given D.faults) in
+        AllZip IsEmptied (map shown lanes.old) (map shown lanes.new) }
 {
     for lane in lanes.iter_mut() {
         lane.work = None;
@@ -67,23 +63,19 @@ fn serve_cells<W: Threads + Wait + Sync, C: Clock + Send, R: RelayLink + Send, D
     limits: Limits,
 ) -> Result<Served, AllocError>
     requires some { 0 < length lanes.old }
-    requires few { length lanes.old ≤ 16 }
+    requires few { length lanes.old ≤ MAX_LANES }
     requires kept { AreKept (cells_of shards.0 objects.0) 0 (passes_of shards.1 objects.1) }
     requires new { AreNew (cells_of shards.0 objects.0) }
     requires planned { ArePlanned keys.now.channels.entries (plans_of shards.0) }
-    ensures served { IfOk result (λ r. ServesNode D.In.left D.Out.written
+    ensures served { let shown = shown_by C.readings R.faults R.says
+        (door_by D.left D.back D.given D.faults) in
+        IfOk result (λ r. ServesNode (told_by D.In.left D.Out.written)
         (node_at keys.now (cells_of shards.0 objects.0)) limits
-        (map (shown_by C.readings R.faults R.says
-        (door_by D.left D.back D.given D.faults)) lanes.old)
-        (map (shown_by C.readings R.faults R.says
-        (door_by D.left D.back D.given D.faults)) lanes.new)
-        r.shards.items r.objects.items r.total) }
+        (change (map shown lanes.old) (map shown lanes.new)) (left_by r)) }
     ensures idle { All (λ lane. lane.work ≡ None) lanes.new }
-    ensures unserved { OnErr result (AllZip HasOtherWork
-        (map (shown_by C.readings R.faults R.says
-        (door_by D.left D.back D.given D.faults)) lanes.old)
-        (map (shown_by C.readings R.faults R.says
-        (door_by D.left D.back D.given D.faults)) lanes.new)) }
+    ensures unserved { let shown = shown_by C.readings R.faults R.says
+        (door_by D.left D.back D.given D.faults) in
+        OnErr result (AllZip HasOtherWork (map shown lanes.old) (map shown lanes.new)) }
 {
     closed_lanes_serve_all();
     let (agent, mut passes) = shards;
@@ -110,79 +102,61 @@ fn serve_cells<W: Threads + Wait + Sync, C: Clock + Send, R: RelayLink + Send, D
     })
 }
 
-// Serves the doors of all lanes at cells of these shards and objects.
+// Serves the doors of all lanes at cells of the shards and objects.
 fn serve_new<W: Threads + Wait + Sync, C: Clock + Send, R: RelayLink + Send, D: Door + Send>(
     rt: &W,
     alloc: Global,
-    keys: &NodeKeys,
-    shards: Vec<Shard>,
-    anchors: Arc<Vec<Anchor>>,
-    objects: Vec<Object>,
+    parts: NodeParts,
     lanes: &mut [Lane<C, R, D>],
     limits: Limits,
 ) -> Result<Served, AllocError>
     requires some { 0 < length lanes.old }
-    requires few { length lanes.old ≤ 16 }
-    requires shards { AreShards (plans_in shards.items) anchors.value.items }
-    requires shards_new { All (λ s. s.journal ≡ []) shards.items }
-    requires objects { HaveOwnNumbers (map fixed_of objects.items) }
-    requires objects_new { All (λ o. o.journal ≡ []) objects.items }
-    requires planned { ArePlanned keys.now.channels.entries (plans_in shards.items) }
-    ensures served { IfOk result (λ r. ServesNode D.In.left D.Out.written
-        (node_of keys.now (plans_in shards.items) (map fixed_of objects.items)) limits
-        (map (shown_by C.readings R.faults R.says
-        (door_by D.left D.back D.given D.faults)) lanes.old)
-        (map (shown_by C.readings R.faults R.says
-        (door_by D.left D.back D.given D.faults)) lanes.new)
-        r.shards.items r.objects.items r.total) }
+    requires few { length lanes.old ≤ MAX_LANES }
+    requires new { ArePartsNew parts }
+    ensures served { let shown = shown_by C.readings R.faults R.says
+        (door_by D.left D.back D.given D.faults) in
+        IfOk result (λ r. ServesNode (told_by D.In.left D.Out.written) (node_in parts) limits
+        (change (map shown lanes.old) (map shown lanes.new)) (left_by r)) }
     ensures idle { OnOk result (All (λ lane. lane.work ≡ None) lanes.new) }
-    ensures unserved { OnErr result (AllZip HasOtherWork
-        (map (shown_by C.readings R.faults R.says
-        (door_by D.left D.back D.given D.faults)) lanes.old)
-        (map (shown_by C.readings R.faults R.says
-        (door_by D.left D.back D.given D.faults)) lanes.new)) }
+    ensures unserved { let shown = shown_by C.readings R.faults R.says
+        (door_by D.left D.back D.given D.faults) in
+        OnErr result (AllZip HasOtherWork (map shown lanes.old) (map shown lanes.new)) }
 {
+    let NodeParts {
+        keys,
+        shards,
+        anchors,
+        objects,
+    } = parts;
     let opened = Agent::new(alloc, shards, anchors)?;
     let racked = Rack::new(alloc, objects)?;
-    serve_cells(rt, alloc, keys, opened, racked, lanes, limits)
+    serve_cells(rt, alloc, &keys, opened, racked, lanes, limits)
 }
 
-/// Serves the doors of all lanes at the same time, a worker a lane, until each has served as many
-/// connections as the limits say, or its door has no more or fails. All memory for the lanes is taken
-/// before the first connection; where it is refused, no door was asked. The decider of a lane takes
-/// room of its own. The lanes keep nothing of their work.
+/// Serves the doors of all lanes by the node of the parts, all at the same time, a worker a lane,
+/// until each has served as many connections as the limits say, or its door has no more or fails.
+/// All memory for the lanes is taken before the first connection; where it is refused, no door was
+/// asked. The decider of a lane takes room of its own. The lanes keep nothing of their work.
 pub fn serve<W: Threads + Wait + Sync, C: Clock + Send, R: RelayLink + Send, D: Door + Send>(
     rt: &W,
     alloc: Global,
-    keys: &NodeKeys,
-    shards: Vec<Shard>,
-    anchors: Arc<Vec<Anchor>>,
-    objects: Vec<Object>,
+    parts: NodeParts,
     lanes: &mut [Lane<C, R, D>],
     limits: Limits,
 ) -> Result<Served, AllocError>
     requires some { 0 < length lanes.old }
-    requires few { length lanes.old ≤ 16 }
-    requires shards { AreShards (plans_in shards.items) anchors.value.items }
-    requires shards_new { All (λ s. s.journal ≡ []) shards.items }
-    requires objects { HaveOwnNumbers (map fixed_of objects.items) }
-    requires objects_new { All (λ o. o.journal ≡ []) objects.items }
-    requires planned { ArePlanned keys.now.channels.entries (plans_in shards.items) }
-    ensures served { IfOk result (λ r. ServesNode D.In.left D.Out.written
-        (node_of keys.now (plans_in shards.items) (map fixed_of objects.items)) limits
-        (map (shown_by C.readings R.faults R.says
-        (door_by D.left D.back D.given D.faults)) lanes.old)
-        (map (shown_by C.readings R.faults R.says
-        (door_by D.left D.back D.given D.faults)) lanes.new)
-        r.shards.items r.objects.items r.total) }
+    requires few { length lanes.old ≤ MAX_LANES }
+    requires new { ArePartsNew parts }
+    ensures served { let shown = shown_by C.readings R.faults R.says
+        (door_by D.left D.back D.given D.faults) in
+        IfOk result (λ r. ServesNode (told_by D.In.left D.Out.written) (node_in parts) limits
+        (change (map shown lanes.old) (map shown lanes.new)) (left_by r)) }
     ensures idle { All (λ lane. lane.work ≡ None) lanes.new }
-    ensures unserved { OnErr result (AllZip HasOtherWork
-        (map (shown_by C.readings R.faults R.says
-        (door_by D.left D.back D.given D.faults)) lanes.old)
-        (map (shown_by C.readings R.faults R.says
-        (door_by D.left D.back D.given D.faults)) lanes.new)) }
+    ensures unserved { let shown = shown_by C.readings R.faults R.says
+        (door_by D.left D.back D.given D.faults) in
+        OnErr result (AllZip HasOtherWork (map shown lanes.old) (map shown lanes.new)) }
 {
-    match serve_new(rt, alloc, keys, shards, anchors, objects, lanes, limits) {
+    match serve_new(rt, alloc, parts, lanes, limits) {
         Ok(served) => Ok(served),
         Err(AllocError) => {
             empty(lanes);

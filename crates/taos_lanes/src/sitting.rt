@@ -3,12 +3,13 @@
 ghost use Rattle.std.specs.Prelude.{◌≡◌};
 ghost use Rattle.agent_shards.specs.Shards.{plans_of};
 ghost use Rattle.taos_lanes.specs.Stocked.{IsStocked, ServesLane, cells_of, door_by, shown_by};
+ghost use Rattle.taos_lanes.specs.Telling.{told_by};
 ghost use Rattle.taos_monitor.specs.Planned.{ArePlanned};
 
-use crate::lane::{Lane, Limits, Stock};
+use crate::lane::{Lane, Stock};
 use crate::worker::{Desk, serve_door};
 use agent_shards::{Agent, OfAgent, OfRack, Rack};
-use frame_link::{Clock, Door, RelayLink};
+use frame_link::{Clock, Door, Limits, RelayLink};
 use std::alloc::Global;
 use std::marker::PhantomData;
 use std::sync::Wait;
@@ -38,10 +39,11 @@ pub(crate) fn serve_lane<W: Wait + Sync, K: OfAgent, L: OfRack, C: Clock, R: Rel
     requires stocked { IsStocked
         (cells_of shared.now.agent.now shared.now.rack.now) K.shares L.shares
         lane.old.work }
-    ensures { ServesLane D.In.left D.Out.written shared.now.keys.now
+    ensures { let shown = shown_by C.readings R.faults R.says
+        (door_by D.left D.back D.given D.faults) in
+        ServesLane (told_by D.In.left D.Out.written) shared.now.keys.now
         (cells_of shared.now.agent.now shared.now.rack.now) shared.now.limits
-        (shown_by C.readings R.faults R.says (door_by D.left D.back D.given D.faults) lane.old)
-        (shown_by C.readings R.faults R.says (door_by D.left D.back D.given D.faults) lane.new) }
+        (shown lane.old) (shown lane.new) }
 {
     let Stock {
         passes,

@@ -49,18 +49,15 @@ pub(crate) fn stock_lanes<C: Clock, R: RelayLink, D: Door>(
 ) -> Result<(), AllocError>
     requires few { length lanes.old + 1 < ALL_SHARES }
     requires kept { AreKept (cells_of agent.now rack.now) 0 (passes_of passes.old racked.old) }
-    ensures stocked { OnOk result (AllZip (IsGivenStock (cells_of agent.now rack.now))
-        (map (shown_by C.readings R.faults R.says
-        (door_by D.left D.back D.given D.faults)) lanes.old)
-        (map (shown_by C.readings R.faults R.says
-        (door_by D.left D.back D.given D.faults)) lanes.new)) }
+    ensures stocked { let shown = shown_by C.readings R.faults R.says
+        (door_by D.left D.back D.given D.faults) in
+        OnOk result (AllZip (IsGivenStock (cells_of agent.now rack.now))
+        (map shown lanes.old) (map shown lanes.new)) }
     ensures kept { OnOk result (AreKept (cells_of agent.now rack.now) (length lanes.old)
         (passes_of passes.new racked.new)) }
-    ensures same { OnErr result (AllZip HasOtherWork
-        (map (shown_by C.readings R.faults R.says
-        (door_by D.left D.back D.given D.faults)) lanes.old)
-        (map (shown_by C.readings R.faults R.says
-        (door_by D.left D.back D.given D.faults)) lanes.new)) }
+    ensures same { let shown = shown_by C.readings R.faults R.says
+        (door_by D.left D.back D.given D.faults) in
+        OnErr result (AllZip HasOtherWork (map shown lanes.old) (map shown lanes.new)) }
 {
     let mut given = 0;
     for lane in lanes.iter_mut() {

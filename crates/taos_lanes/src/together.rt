@@ -4,6 +4,7 @@ ghost use Rattle.std.specs.List.{AllZip};
 ghost use Rattle.std.specs.Prelude.{◌≡◌, ◌<◌, All, length, map};
 ghost use Rattle.agent_shards.specs.Shards.{plans_of};
 ghost use Rattle.taos_lanes.specs.Stocked.{IsStocked, ServesLane, cells_of, door_by, shown_by};
+ghost use Rattle.taos_lanes.specs.Telling.{told_by};
 ghost use Rattle.taos_monitor.specs.Planned.{ArePlanned};
 
 use crate::lane::Lane;
@@ -31,12 +32,11 @@ pub(crate) fn serve_lanes<
     requires stocked { All (λ lane. IsStocked
         (cells_of shared.now.agent.now shared.now.rack.now) K.shares L.shares lane.work)
         lanes.old }
-    ensures { AllZip (ServesLane D.In.left D.Out.written shared.now.keys.now
+    ensures { let shown = shown_by C.readings R.faults R.says
+        (door_by D.left D.back D.given D.faults) in
+        AllZip (ServesLane (told_by D.In.left D.Out.written) shared.now.keys.now
         (cells_of shared.now.agent.now shared.now.rack.now) shared.now.limits)
-        (map (shown_by C.readings R.faults R.says
-        (door_by D.left D.back D.given D.faults)) lanes.old)
-        (map (shown_by C.readings R.faults R.says
-        (door_by D.left D.back D.given D.faults)) lanes.new) }
+        (map shown lanes.old) (map shown lanes.new) }
 {
     let count = lanes.len();
     thread::for_each_mut(
@@ -50,13 +50,11 @@ pub(crate) fn serve_lanes<
             requires rack { shared.now.rack.now ≡ L.cells }
             requires stocked { IsStocked (cells_of shared.now.agent.now shared.now.rack.now)
                 K.shares L.shares lane.old.work }
-            ensures { ServesLane D.In.left D.Out.written shared.entry.now.keys.now
+            ensures { let shown = shown_by C.readings R.faults R.says
+                (door_by D.left D.back D.given D.faults) in
+                ServesLane (told_by D.In.left D.Out.written) shared.entry.now.keys.now
                 (cells_of shared.entry.now.agent.now shared.entry.now.rack.now)
-                shared.entry.now.limits
-                (shown_by C.readings R.faults R.says
-                (door_by D.left D.back D.given D.faults) lane.old)
-                (shown_by C.readings R.faults R.says
-                (door_by D.left D.back D.given D.faults) lane.new) }
+                shared.entry.now.limits (shown lane.old) (shown lane.new) }
         { serve_lane(shared, lane) },
     );
 }

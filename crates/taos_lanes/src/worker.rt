@@ -3,16 +3,17 @@
 ghost use Rattle.std.specs.Prelude.{◌≡◌, None, false};
 ghost use Rattle.std.specs.Thread.{IsSync};
 ghost use Rattle.taos_lanes.specs.Doors.{door_of};
+ghost use Rattle.taos_lanes.specs.Telling.{change, told_by};
 ghost use Rattle.taos_lanes.specs.Working.{ServesDoor, lane_of};
 ghost use Rattle.taos_monitor.specs.Arriving.{node_of};
 ghost use Rattle.taos_monitor.specs.Cells.{viewed};
 ghost use Rattle.taos_monitor.specs.Planned.{ArePlanned};
 ghost use Rattle.taos_monitor.specs.World.{world_of};
 
-use crate::lane::{Lane, Limits};
+use crate::lane::Lane;
 use crate::tally::Tally;
 use agent_core::Shards;
-use frame_link::{Clock, Door, RelayLink};
+use frame_link::{Clock, Door, Limits, RelayLink};
 use object_core::Shelf;
 use std::alloc::Global;
 use std::sync::Wait;
@@ -48,10 +49,10 @@ pub(crate) fn serve_door<
     requires none_taken { H.taken desk.old.shelf ≡ None }
     requires shards_among { S.alone desk.old.shards ≡ false }
     requires objects_among { H.alone desk.old.shelf ≡ false }
-    ensures served { ServesDoor D.In.left D.Out.written
+    ensures served { ServesDoor (told_by D.In.left D.Out.written)
         (node_of keys.now (S.plans desk.old.shards) (H.objects desk.old.shelf))
-        (R.says lane.old.relay) limits.frames limits.connections
-        (lane_of (world_of (C.readings lane.old.clock) (R.faults lane.old.relay)
+        (R.says lane.old.relay) limits
+        (change (lane_of (world_of (C.readings lane.old.clock) (R.faults lane.old.relay)
         (viewed (S.seen desk.old.shards) (S.own desk.old.shards))
         (viewed (H.seen desk.old.shelf) (H.own desk.old.shelf)))
         (door_of (D.left lane.old.door) (D.back lane.old.door) (D.given lane.old.door)
@@ -60,7 +61,7 @@ pub(crate) fn serve_door<
         (viewed (S.seen desk.new.shards) (S.own desk.new.shards))
         (viewed (H.seen desk.new.shelf) (H.own desk.new.shelf)))
         (door_of (D.left lane.new.door) (D.back lane.new.door) (D.given lane.new.door)
-        (D.faults lane.new.door))) result }
+        (D.faults lane.new.door)))) result }
     ensures work { lane.new.work ≡ lane.old.work }
     ensures taken { H.taken desk.new.shelf ≡ None }
     ensures plans { S.plans desk.new.shards ≡ S.plans desk.old.shards }

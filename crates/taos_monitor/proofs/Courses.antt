@@ -78,7 +78,7 @@ module _ (keys : NodeKeys) (plans : List Plan) (objects : List ObjectFixed) (alo
     sought reading = record { request = r; certs = map shared a.certs.items; reading = reading; shard = home plans r.channel; fixed = came.object }
 
     pub ruled_to : (shards1 : Viewed Entry) (objects1 : Viewed ObjectEntry) (clock0 clock1 : Option (List ℕ)) (reading : ℕ) (bytes : List ℕ) → ShowsKnown clock0 clock1 reading →
-        Leaves r.channel r.seq key bytes (GuardedTo (standing_of plans objects alone) (seen_of shards0 objects0) (seen_of shards1 objects1) (sought reading)) →
+        Leaves r.channel r.seq (Some key) bytes (GuardedTo (standing_of plans objects alone) (seen_of shards0 objects0) (seen_of shards1 objects1) (sought reading)) →
         HandledTo (setting_of node alone says) (world_of clock0 faults0 shards0 objects0) (world_of clock1 faults1 shards1 objects1) r bytes
     ruled_to shards1 objects1 clock0 clock1 reading bytes shows left =
         let x = left.holds in

@@ -14,6 +14,7 @@ mod Dues
 mod Decisions
 mod Short
 mod Guards
+mod Drafting
 mod Courses
 mod Staying
 mod Places

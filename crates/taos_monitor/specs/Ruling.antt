@@ -125,13 +125,17 @@ IsToldBy t (verdict.Replayed last) ruled reply = IsRefusal (replies.Replayed las
 IsToldBy t (verdict.Full held) ruled reply = IsRefusal (replies.ChannelFull held) ruled reply
 IsToldBy t (verdict.JournalFull n) ruled reply = IsRefusal (shard_full t.shard n) ruled reply
 
--- the bytes of a reply of which this holds
-pub record Leaves (channel seq : ℕ) (key bytes : List ℕ) (Holds : Reply → Type 0) :
-    Type 0 where
+-- the bytes of a reply of which this holds, under the key if there is one
+pub record Leaves (channel seq : ℕ) (key : Option (List ℕ)) (bytes : List ℕ)
+    (Holds : Reply → Type 0) : Type 0 where
   pub reply : Reply
   pub holds : Holds reply
-  pub spelled : bytes ≡ spelling (sent (Some key) channel seq reply)
+  pub spelled : bytes ≡ spelling (sent key channel seq reply)
   pub short : length bytes < 2 ^ 32
+
+-- the bytes of such a reply before it is sealed
+abbrev pub Drafts : ℕ → ℕ → List ℕ → (Reply → Type 0) → Type 0
+Drafts channel seq bytes Holds = Leaves channel seq None bytes Holds
 
 -- ---- what came of the ask
 

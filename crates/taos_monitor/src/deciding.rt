@@ -15,13 +15,11 @@ ghost use Rattle.taos_monitor.specs.Arriving.{StandsFor};
 ghost use Rattle.taos_monitor.specs.Cells.{AreLegalShards, viewed};
 ghost use Rattle.taos_monitor.specs.Operations.{result_of};
 ghost use Rattle.taos_monitor.specs.Planned.{IsPlanned};
-ghost use Rattle.taos_monitor.specs.Ruling.{AskedAt, DecidedTo, HasPart, IsToldBy, Leaves, MayTell, TellsDenied, TellsGrant, ask_came, ask_seen, list_of, ruled_at, telling};
+ghost use Rattle.taos_monitor.specs.Ruling.{AskedAt, DecidedTo, Drafts, HasPart, IsToldBy, MayTell, TellsDenied, TellsGrant, ask_came, ask_seen, list_of, ruled_at, telling};
 
 use crate::arrival::Arrived;
-use crate::refusal::Refusal;
 use crate::reply::ReplyBuf;
 use agent_core::{Ask, Asked, Denial, Gate, Shards, Verdict, ask};
-use keyed_seal::Sealer;
 use object_core::{Object, Op, Ruling};
 use prin_term::Entry;
 use std::alloc::{AllocError, Global};
@@ -29,12 +27,11 @@ use std::sync::{Arc, Wait};
 use taos_calculus::Decide;
 use taos_wire::{LentGrant, LentPart, LinkSent, MAX_CITED, Reply, Request};
 
-/// A request that came to its object and to the clock: whom it is answered, at which shard it is
-/// asked, and what the clock read.
+/// A request that came to its object and to the clock: at which shard it is asked, and what the
+/// clock read.
 #[derive(Drop)]
 pub(crate) struct Came<'a> {
     pub(crate) asked: &'a Request,
-    pub(crate) sealer: &'a Sealer,
     pub(crate) shard: u32,
     pub(crate) arrived: Arrived,
     pub(crate) reading: u64,
@@ -118,10 +115,9 @@ fn ask_at_home<W: Wait + Sync, S: Shards, D: Decide, G: Gate>(
     ask(rt, alloc, shards, bench, gate, made)
 }
 
-// Leaves a denial: a part of an entry is told by itself.
-fn leave_denied(
+// Drafts a denial: a part of an entry is told by itself.
+fn draft_denied(
     out: &mut ReplyBuf,
-    sealer: &Sealer,
     asked: &Request,
     list: &[Entry],
     shard: u32,
@@ -130,7 +126,7 @@ fn leave_denied(
 )
     requires list { IsAccessList (map grant list.now) }
     requires named { HasPart (map grant list.now) denial }
-    ensures { Leaves asked.now.channel asked.now.seq sealer.now out.new
+    ensures { Drafts asked.now.channel asked.now.seq out.new
         (TellsDenied (map grant list.now) shard place denial) }
 {
     let (channel, seq) = (asked.channel, asked.seq);
@@ -143,14 +139,14 @@ fn leave_denied(
                 entry,
                 part,
             };
-            out.leave_missing(sealer, channel, seq, &missing);
+            out.draft_missing(channel, seq, &missing);
             return;
         }
         Denial::Expired { entry, digest } => LinkSent::Expired { entry, digest },
         Denial::NoEntry => LinkSent::NoEntry,
     };
     let answer = Reply::Denied { shard, place, link };
-    out.leave_sealed(sealer, channel, seq, &answer);
+    out.draft(channel, seq, &answer);
 }
 
 // What an operation gives: the content for a Read.
@@ -165,20 +161,15 @@ fn result_for<'a>(op: &Op, object: &'a Object) -> &'a [u8]
     }
 }
 
-// Leaves a grant, with what its operation gives; there is a ruling where memory was enough.
-fn leave_grant(
-    out: &mut ReplyBuf,
-    sealer: &Sealer,
-    asked: &Request,
-    grant: &LentGrant<'_>,
-) -> Option<Ruled>
+// Drafts a grant, with what its operation gives; there is a ruling where memory was enough.
+fn draft_grant(out: &mut ReplyBuf, asked: &Request, grant: &LentGrant<'_>) -> Option<Ruled>
     requires few { length grant.now.certs.now ≤ MAX_CITED }
     requires short { length grant.now.content.now < 2 ^ 16 }
-    ensures { Leaves asked.now.channel asked.now.seq sealer.now out.new
+    ensures { Drafts asked.now.channel asked.now.seq out.new
         (TellsGrant (lent_grant grant.now)
         (ruled_at grant.now.shard grant.now.place (rulings.Granted grant.now.entry)) result) }
 {
-    if out.leave_granted(sealer, asked.channel, asked.seq, grant) {
+    if out.draft_granted(asked.channel, asked.seq, grant) {
         Some(Ruled {
             shard: grant.shard,
             place: grant.place,
@@ -189,17 +180,16 @@ fn leave_grant(
     }
 }
 
-// Leaves what an ask ended with; the ruling, if there is one.
-fn leave_ended(
+// Drafts what an ask ended with; the ruling, if there is one.
+fn draft_ended(
     out: &mut ReplyBuf,
-    sealer: &Sealer,
     asked: &Request,
     object: &Object,
     shard: u32,
     ended: &Asked,
 ) -> Option<Ruled>
     requires named { MayTell (list_of object.now) ended.now.verdict }
-    ensures { Leaves asked.now.channel asked.now.seq sealer.now out.new
+    ensures { Drafts asked.now.channel asked.now.seq out.new
         (IsToldBy (telling (request asked.now) object.now shard ended.now.place ended.now.kept)
         ended.now.verdict result) }
 {
@@ -215,10 +205,10 @@ fn leave_ended(
                 certs: &cached.cites,
                 content: result_for(&asked.op, object),
             };
-            return leave_grant(out, sealer, asked, &grant);
+            return draft_grant(out, asked, &grant);
         }
         Verdict::Denied(denial) => {
-            leave_denied(out, sealer, asked, object.list(), shard, place, *denial);
+            draft_denied(out, asked, object.list(), shard, place, *denial);
             return Some(Ruled {
                 shard,
                 place,
@@ -233,11 +223,11 @@ fn leave_ended(
             length: *length,
         },
     };
-    out.leave_sealed(sealer, asked.channel, asked.seq, &answer);
+    out.draft(asked.channel, asked.seq, &answer);
     None
 }
 
-/// Asks at the shard of the channel for the object, unless its journal is full, and leaves what
+/// Asks at the shard of the channel for the object, unless its journal is full, and drafts what
 /// came of it; the ruling, if there is one.
 pub(crate) fn decide<W: Wait + Sync, S: Shards, D: Decide, G: Gate>(
     rt: &W,
@@ -256,8 +246,7 @@ pub(crate) fn decide<W: Wait + Sync, S: Shards, D: Decide, G: Gate>(
     requires limits { FitsRequest (request came.asked.now) }
     requires stands { StandsFor (request came.asked.now) came.arrived }
     requires planned { IsPlanned (S.plans shards.old) came.asked.now.channel }
-    ensures decided { Leaves came.entry.asked.now.channel came.entry.asked.now.seq
-        came.entry.sealer.now out.new
+    ensures decided { Drafts came.entry.asked.now.channel came.entry.asked.now.seq out.new
         (DecidedTo (S.plans shards.old) (S.alone shards.old)
         (viewed (S.seen shards.old) (S.own shards.old))
         (viewed (S.seen shards.new) (S.own shards.new)) (came.entry, object.now, result)) }
@@ -265,20 +254,20 @@ pub(crate) fn decide<W: Wait + Sync, S: Shards, D: Decide, G: Gate>(
     ensures plans { S.plans shards.new ≡ S.plans shards.old }
     ensures alone { S.alone shards.new ≡ S.alone shards.old }
 {
-    let (asked, sealer, shard) = (came.asked, came.sealer, came.shard);
+    let (asked, shard) = (came.asked, came.shard);
     if !object.has_room() {
         let full = Reply::JournalFull {
             which: OBJECT,
             number: asked.object,
             length: object.journal().len() as u64,
         };
-        out.leave_sealed(sealer, asked.channel, asked.seq, &full);
+        out.draft(asked.channel, asked.seq, &full);
         return None;
     }
     match ask_at_home(rt, alloc, shards, by, came, object.list()) {
-        Ok(ended) => leave_ended(out, sealer, asked, object, shard, &ended),
+        Ok(ended) => draft_ended(out, asked, object, shard, &ended),
         Err(AllocError) => {
-            out.leave_refused(sealer, asked.channel, asked.seq, Refusal::NoMemory);
+            out.draft(asked.channel, asked.seq, &Reply::NoMemory);
             None
         }
     }

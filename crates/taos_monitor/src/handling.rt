@@ -91,7 +91,6 @@ pub fn request<W: Wait + Sync, H: Shelf, S: Shards, R: RelayLink, C: Clock, D: D
     };
     let came = Came {
         asked,
-        sealer,
         shard,
         arrived,
         reading,
@@ -105,5 +104,6 @@ pub fn request<W: Wait + Sync, H: Shelf, S: Shards, R: RelayLink, C: Clock, D: D
         came,
         out,
     );
+    out.seal(sealer);
     Handled::Replied
 }

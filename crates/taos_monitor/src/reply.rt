@@ -1,10 +1,11 @@
 //! Room for a reply.
 
-ghost use Rattle.std.specs.Prelude.{◌≡◌, ◌<◌, ◌≤◌, ◌^◌, if◌then◌else◌, [], Some, length, IfOk};
-ghost use Rattle.std.specs.Option.{option_copied};
+ghost use Rattle.std.specs.Prelude.{◌≡◌, ◌<◌, ◌≤◌, ◌^◌, if◌then◌else◌, ℕ, List, [], None, Some};
+ghost use Rattle.std.specs.Prelude.{IfOk, length};
 ghost use Rattle.prin_term.specs.Refusal.{FitsLimits};
 ghost use Rattle.prin_term.specs.View.{principal};
-ghost use Rattle.taos_wire.specs.Reply.{FitsReply, NoMemory, sent, spelling, status_of, unsealed};
+ghost use Rattle.taos_wire.specs.Reply.{FitsReply, NoMemory, sent, spelling, status_of};
+ghost use Rattle.taos_wire.specs.Reply.{under_seal, unsealed};
 ghost use Rattle.taos_wire.specs.View.{lent_grant, lent_part, reply};
 ghost use Rattle.taos_monitor.specs.Refusals.{refusal};
 
@@ -14,7 +15,8 @@ use prin_term::ENTRY_NODES;
 use std::alloc::{AllocError, Global};
 use std::marker::Model;
 use taos_wire::{
-    LentGrant, LentPart, MAX_CITED, Reply, write_granted, write_missing_with, write_reply_with,
+    LentGrant, LentPart, MAX_CITED, Reply, draft_granted, draft_missing, seal_over,
+    write_reply_with,
 };
 
 /// Every reply but a grant fits this many bytes.
@@ -54,24 +56,12 @@ impl ReplyBuf {
         &self.bytes
     }
 
-    // Leaves a reply that fits the room.
-    fn leave(&mut self, sealer: Option<&Sealer>, channel: u32, seq: u64, answer: &Reply)
-        requires limits { FitsReply (reply answer.now) }
-        requires no_grant { 0 < status_of (reply answer.now) }
-        ensures reply { self.new
-            ≡ spelling (sent (option_copied sealer.entry) channel seq (reply answer.now)) }
-        ensures short { length self.new < 2 ^ 32 }
-    {
-        self.bytes.clear();
-        write_reply_with(&mut self.bytes, sealer, channel, seq, answer).unwrap();
-    }
-
     /// Leaves the reply of a refusal before the seal of the request was found right.
     pub fn leave_unsealed(&mut self, why: Refusal)
         ensures reply { self.new ≡ spelling (unsealed (refusal why)) }
         ensures short { length self.new < 2 ^ 32 }
     {
-        self.leave(None, 0, 0, &reply_of(why));
+        self.draft(0, 0, &reply_of(why));
     }
 
     /// Leaves the reply of a refusal under a key.
@@ -79,58 +69,55 @@ impl ReplyBuf {
         ensures reply { self.new ≡ spelling (sent (Some sealer.now) channel seq (refusal why)) }
         ensures short { length self.new < 2 ^ 32 }
     {
-        self.leave(Some(sealer), channel, seq, &reply_of(why));
+        self.draft(channel, seq, &reply_of(why));
+        self.seal(sealer);
     }
 
-    /// Leaves any other reply than a grant under a key.
-    pub(crate) fn leave_sealed(&mut self, sealer: &Sealer, channel: u32, seq: u64, answer: &Reply)
+    /// Leaves any reply but a grant, which fits the room, without a seal.
+    pub(crate) fn draft(&mut self, channel: u32, seq: u64, answer: &Reply)
         requires limits { FitsReply (reply answer.now) }
         requires no_grant { 0 < status_of (reply answer.now) }
-        ensures reply { self.new
-            ≡ spelling (sent (Some sealer.now) channel seq (reply answer.now)) }
-        ensures short { length self.new < 2 ^ 32 }
-    {
-        self.leave(Some(sealer), channel, seq, answer);
-    }
-
-    /// Leaves a denial that names a part of an entry, which is lent.
-    pub(crate) fn leave_missing(
-        &mut self,
-        sealer: &Sealer,
-        channel: u32,
-        seq: u64,
-        denial: &LentPart<'_>,
-    )
-        requires limits { FitsLimits ENTRY_NODES (principal denial.now.part.now) }
-        ensures reply { self.new
-            ≡ spelling (sent (Some sealer.now) channel seq (lent_part denial.now)) }
+        ensures reply { self.new ≡ spelling (sent None channel seq (reply answer.now)) }
         ensures short { length self.new < 2 ^ 32 }
     {
         self.bytes.clear();
-        write_missing_with(&mut self.bytes, sealer, channel, seq, denial).unwrap();
+        write_reply_with(&mut self.bytes, None, channel, seq, answer).unwrap();
     }
 
-    /// Leaves a grant, with what its operation gives; or the reply of want of memory. Whether it is
-    /// the grant.
-    pub(crate) fn leave_granted(
-        &mut self,
-        sealer: &Sealer,
-        channel: u32,
-        seq: u64,
-        grant: &LentGrant<'_>,
-    ) -> bool
+    /// Leaves a denial that names a part of an entry, which is lent, without a seal.
+    pub(crate) fn draft_missing(&mut self, channel: u32, seq: u64, denial: &LentPart<'_>)
+        requires limits { FitsLimits ENTRY_NODES (principal denial.now.part.now) }
+        ensures reply { self.new ≡ spelling (sent None channel seq (lent_part denial.now)) }
+        ensures short { length self.new < 2 ^ 32 }
+    {
+        self.bytes.clear();
+        draft_missing(&mut self.bytes, channel, seq, denial).unwrap();
+    }
+
+    /// Leaves a grant, with what its operation gives, or the reply of want of memory; without a
+    /// seal. Whether it is the grant.
+    pub(crate) fn draft_granted(&mut self, channel: u32, seq: u64, grant: &LentGrant<'_>) -> bool
         requires few { length grant.now.certs.now ≤ MAX_CITED }
         requires short { length grant.now.content.now < 2 ^ 16 }
-        ensures reply { self.new ≡ spelling (sent (Some sealer.now) channel seq
+        ensures reply { self.new ≡ spelling (sent None channel seq
             (if result then lent_grant grant.now else NoMemory)) }
         ensures short { length self.new < 2 ^ 32 }
     {
         self.bytes.clear();
-        let written = write_granted(&mut self.bytes, sealer, channel, seq, grant);
-        if written.is_err() {
-            self.leave_refused(sealer, channel, seq, Refusal::NoMemory);
+        if draft_granted(&mut self.bytes, channel, seq, grant).is_err() {
+            self.draft(channel, seq, &Reply::NoMemory);
             return false;
         }
         true
+    }
+
+    /// Seals what was left without a seal.
+    pub(crate) fn seal(&mut self, sealer: &Sealer)
+        requires { 32 ≤ length self.old }
+        ensures sealed { (text : List ℕ) → self.old ≡ under_seal None text
+            → self.new ≡ under_seal (Some sealer.now) text }
+        ensures length { length self.new ≡ length self.old }
+    {
+        seal_over(sealer, &mut self.bytes);
     }
 }

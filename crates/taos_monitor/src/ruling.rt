@@ -15,19 +15,19 @@ ghost use Rattle.taos_monitor.specs.AtObject.{ruled_as};
 ghost use Rattle.taos_monitor.specs.Cells.{AreLegalShards, alone_of, seen_of, viewed};
 ghost use Rattle.taos_monitor.specs.Effects.{IsDueOf, IsReady};
 ghost use Rattle.taos_monitor.specs.Planned.{IsPlanned};
-ghost use Rattle.taos_monitor.specs.Ruling.{GuardedTo, Leaves, seeking_of, standing_of};
+ghost use Rattle.taos_monitor.specs.Ruling.{Drafts, GuardedTo, seeking_of, standing_of};
 
 use crate::deciding::{Came, Deciding, Ruled, decide};
 use crate::due::{Due, due_for};
 use crate::guarding::{give_ruled, give_unruled};
 use crate::performing::perform_ruled;
-use crate::refusal::Refusal;
 use crate::reply::ReplyBuf;
 use agent_core::{Gate, Shards};
 use object_core::{ObjectEntry, Op, Shelf};
 use std::alloc::{AllocError, Global};
 use std::sync::{Arc, Wait};
 use taos_calculus::Decide;
+use taos_wire::Reply;
 
 // What memory is taken for before the object is taken: the operation's entry in its journal, and
 // what is due in the shards.
@@ -68,7 +68,7 @@ fn entry_of(op: Arc<Op>, ruled: Ruled) -> ObjectEntry
 }
 
 /// Takes the object, rules on the operation, and gives the object back; what is granted is
-/// performed. The reply is left.
+/// performed. The reply is drafted: nobody waits for the object while it is sealed.
 pub(crate) fn rule<W: Wait + Sync, H: Shelf, S: Shards, D: Decide, G: Gate>(
     rt: &W,
     alloc: Global,
@@ -89,7 +89,7 @@ pub(crate) fn rule<W: Wait + Sync, H: Shelf, S: Shards, D: Decide, G: Gate>(
     requires planned { IsPlanned (S.plans shards.old) came.asked.now.channel }
     ensures guarded { (fixed : ObjectFixed)
         → fixed_at (H.objects shelf.old) came.entry.asked.now.object ≡ Some fixed
-        → Leaves came.entry.asked.now.channel came.entry.asked.now.seq came.entry.sealer.now out.new
+        → Drafts came.entry.asked.now.channel came.entry.asked.now.seq out.new
         (GuardedTo (standing_of (S.plans shards.old) (H.objects shelf.old)
         (alone_of (S.alone shards.old) (H.alone shelf.old)))
         (seen_of (viewed (S.seen shards.old) (S.own shards.old))
@@ -102,9 +102,9 @@ pub(crate) fn rule<W: Wait + Sync, H: Shelf, S: Shards, D: Decide, G: Gate>(
     ensures plans { S.plans shards.new ≡ S.plans shards.old }
     ensures alone { S.alone shards.new ≡ S.alone shards.old }
 {
-    let (asked, sealer) = (came.asked, came.sealer);
+    let asked = came.asked;
     let Ok(ready) = ready_for(alloc, shards.count(), &came) else {
-        out.leave_refused(sealer, asked.channel, asked.seq, Refusal::NoMemory);
+        out.draft(asked.channel, asked.seq, &Reply::NoMemory);
         return;
     };
     let object = shelf.take(rt, asked.object).unwrap();
@@ -115,6 +115,6 @@ pub(crate) fn rule<W: Wait + Sync, H: Shelf, S: Shards, D: Decide, G: Gate>(
     give_ruled(shelf, object, entry_of(ready.op, ruled));
     let refused = perform_ruled(rt, alloc, shards, &asked.op, ready.due, ruled.ruling);
     if let Some(refused) = refused {
-        out.leave_sealed(sealer, asked.channel, asked.seq, &refused);
+        out.draft(asked.channel, asked.seq, &refused);
     }
 }

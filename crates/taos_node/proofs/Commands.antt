@@ -14,7 +14,7 @@ use Rattle.taos_node.specs.declared.ending.FileFault.{FileFault}
 use Rattle.taos_node.specs.declared.ending.FileFault.TheVariants as fault
 use Rattle.taos_node.specs.declared.ending.FileFault.TheVariants.{Malformed, Refused}
 use Rattle.taos_node.specs.Ending.{file_status}
-use Rattle.taos_node.specs.Files.{FaultHasCause, FileDecides, FileFails, IsNodeFile, IsRead, IsRefused, IsRelayFile, IsUnread, Meaning, Opens, OpensNode, OpensRelay, fault_of, max_file, node_means, relay_means}
+use Rattle.taos_node.specs.Files.{FaultHasCause, FileDecides, FileFails, IsNodeFile, IsRead, IsRefused, IsRelayFile, IsUnread, Meaning, Opens, OpensNode, OpensRelay, fault_of, node_means, relay_means}
 use Rattle.frame_link.specs.Streams.{Stream, stream}
 use Rattle.taos_node.specs.Command.{Link, link, touched, with_seen, first_clock, first_link}
 use Rattle.node_file.specs.declared.fault.FileCause.TheVariants.{Limit}
@@ -24,6 +24,7 @@ use Rattle.node_file.specs.declared.fault.FileFault.TheVariants.{Line, Byte}
 use Rattle.node_file.specs.OpeningFile.{Means as NodeMeans, opening_in}
 use Rattle.node_file.specs.RelayFile.{RelayFile, relay_in}
 use Rattle.node_file.proofs.Whole.{meant_again}
+use Rattle.node_file.specs.declared.limits.TheConstants.{MAX_FILE}
 use Rattle.std.proofs.lemmas.Bool.{cases_lt, lt-ltb}
 use Rattle.frame_link.proofs.Complete.{left_after, all_taken}
 use Rattle.taos_monitor.specs.World.{setting_of}
@@ -41,24 +42,24 @@ told_is file0 file1 bytes read took at_end told = all_taken bytes read file1 (su
 -- what a file means is read of its bytes, which are not too many
 pub record IsMeantBy {A : Type 0} (Means : A → List ℕ → Type 0) (means : Meaning A) : Type 0 where
   pub read : (bytes : List ℕ) (a : A) → Means a bytes → means bytes ≡ Ok a
-  pub short : (bytes : List ℕ) (a : A) → Means a bytes → length bytes ≤ max_file
+  pub short : (bytes : List ℕ) (a : A) → Means a bytes → length bytes ≤ MAX_FILE
 
-long_opening : (bytes : List ℕ) → max_file < length bytes → opening_in bytes ≡ Err (Line 0 Limit)
+long_opening : (bytes : List ℕ) → MAX_FILE < length bytes → opening_in bytes ≡ Err (Line 0 Limit)
 unfolding opening_in
-long_opening bytes long = rw (lt-ltb max_file (length bytes) long) refl
+long_opening bytes long = rw (lt-ltb MAX_FILE (length bytes) long) refl
 
-long_relay : (bytes : List ℕ) → max_file < length bytes → relay_in bytes ≡ Err (Line 0 Limit)
+long_relay : (bytes : List ℕ) → MAX_FILE < length bytes → relay_in bytes ≡ Err (Line 0 Limit)
 unfolding relay_in
-long_relay bytes long = rw (lt-ltb max_file (length bytes) long) refl
+long_relay bytes long = rw (lt-ltb MAX_FILE (length bytes) long) refl
 
-short_opening : (bytes : List ℕ) (o : Opening) → opening_in bytes ≡ Ok o → length bytes ≤ max_file
-short_opening bytes o is = elim (cases_lt max_file (length bytes)) [
+short_opening : (bytes : List ℕ) (o : Opening) → opening_in bytes ≡ Ok o → length bytes ≤ MAX_FILE
+short_opening bytes o is = elim (cases_lt MAX_FILE (length bytes)) [
   | inl long ↦ absurd (cc (is, long_opening bytes long))
   | inr short ↦ omega (arith, short)
 ]
 
-short_relay : (bytes : List ℕ) (r : RelayFile) → relay_in bytes ≡ Ok r → length bytes ≤ max_file
-short_relay bytes r is = elim (cases_lt max_file (length bytes)) [
+short_relay : (bytes : List ℕ) (r : RelayFile) → relay_in bytes ≡ Ok r → length bytes ≤ MAX_FILE
+short_relay bytes r is = elim (cases_lt MAX_FILE (length bytes)) [
   | inl long ↦ absurd (cc (is, long_relay bytes long))
   | inr short ↦ omega (arith, short)
 ]

@@ -25,14 +25,15 @@ use Rattle.taos_wire.specs.View.{text_of}
 use Rattle.taos_lanes.specs.declared.lane.Lane.{Lane}
 use Rattle.taos_lanes.specs.Doors.{AreVisits, DoorSeen, GaveKnown, GoesThrough}
 use Rattle.taos_lanes.specs.Lanes.{LaneRun}
-use Rattle.taos_lanes.specs.Serving.{IsRunOf}
+use Rattle.taos_lanes.specs.Serving.{IsRunOf, Left}
 use Rattle.taos_lanes.specs.Stocked.{LaneShown}
 use Rattle.taos_lanes.specs.Visits.{Visit, is_broken, is_lacking}
 use Rattle.taos_monitor.specs.Cells.{Node}
 use Rattle.taos_node.specs.Audit.{IsEnd}
-use Rattle.taos_node.specs.Drills.{AnswersAll, AreDrillLanes, Came, IsDrillLane, ServesDrill, Wire, drill_shown, wire}
-use Rattle.taos_node.specs.Summary.{Left}
-use Rattle.taos_node.specs.Words.{DrillWords}
+use Rattle.taos_node.specs.Drills.{AnswersAll, AreDrillLanes, Came, IsDrillLane, ServesDrill, Wire, drill_limits, drill_shown, wire, wire_told}
+use Rattle.node_words.specs.Words.{DrillWords}
+use Rattle.drill_law.specs.Requests.{FitsDrill}
+use Rattle.taos_node.proofs.DrillCounts.{LoadsAreCounted, lanes_answered, load_node, one_each}
 
 -- ---- one more lane
 
@@ -74,13 +75,6 @@ none_of : (b : Bool) (m : ℕ) → m ≡ cond b 1 0 + 0 → m ≡ 0 → b ≡ fa
 none_of true m is none = absurd (omega (arith, is, none))
 none_of false m is none = refl
 
--- what the ends of a connection tell
-abbrev in_left : Supply → Option (List ℕ)
-in_left s = Some s.left
-
-abbrev out_written : Grown → Option (List ℕ)
-out_written s = Some s.written
-
 module _ {n : Node} {limit : ℕ} where
   -- what the lanes' counts are of
   abbrev breaks : LaneRun n limit → ℕ
@@ -94,7 +88,7 @@ module _ {n : Node} {limit : ℕ} where
 
   -- the connection's input was the one that its door had
   input_is : (says : Option (ℕ → List ℕ → Said)) (v : Visit n says limit) (w : Wire) (after : Option (List Wire)) (given kept : List Wire) → GaveKnown (Some (w ∷ [])) after given →
-      AreVisits in_left out_written given kept (v ∷ []) → v.before.input ≡ Some w.0.left
+      AreVisits wire_told given kept (v ∷ []) → v.before.input ≡ Some w.0.left
   input_is says v w None given kept gave are = absurd gave
   input_is says v w (Some ys) [] [] gave are = absurd are
   input_is says v w (Some ys) [] (k ∷ kept) gave are = absurd are
@@ -113,7 +107,7 @@ module _ {n : Node} {limit : ℕ} where
       (sym same.0, is.1 ∙ ap End (ended.1 ∙ ap (λ (l : List (List ℕ)). length l) (sym same.0)))
 
   -- a lane with one connection, neither broken nor lacking memory
-  one_run : (bytes : List ℕ) (payloads : List (List ℕ)) (before after : LaneShown Wire) (run : LaneRun n limit) → Splits 65536 bytes payloads [] → IsDrillLane bytes before → IsRunOf in_left out_written 1 before after run →
+  one_run : (bytes : List ℕ) (payloads : List (List ℕ)) (before after : LaneShown Wire) (run : LaneRun n limit) → Splits 65536 bytes payloads [] → IsDrillLane bytes before → IsRunOf wire_told (one_each limit) before after run →
       serves run ≡ 1 → breaks run ≡ 0 → lacks run ≡ 0 → AnswersAll payloads run
   one_run bytes payloads before after run splits lane is one whole had = by run.visits refl
     where
@@ -121,7 +115,7 @@ module _ {n : Node} {limit : ℕ} where
       by [] are = absurd (omega (arith, ap (λ (l : List (Visit n run.says limit)). length l) are, one))
       by (v ∷ w ∷ vs) are = absurd (omega (arith, ap (λ (l : List (Visit n run.says limit)). length l) are, one))
       by (v ∷ []) are =
-          let through = subst (λ (l : List (Visit n run.says limit)). GoesThrough in_left out_written 1 before.door after.door (run.door_failed ≡ true) l) are is.through in
+          let through = subst (λ (l : List (Visit n run.says limit)). GoesThrough wire_told 1 before.door after.door (run.door_failed ≡ true) l) are is.through in
           let gave = subst (λ (d : DoorSeen Wire). GaveKnown d.left after.door.left through.through.given) lane.door through.through.gave in
           let input = input_is run.says v (wire bytes) after.door.left through.through.given through.through.kept gave through.through.are in
           let unbroken = none_of (is_broken v.outcome) (breaks run)
@@ -133,13 +127,13 @@ module _ {n : Node} {limit : ℕ} where
 
   -- ---- all lanes
 
-  no_more : (before after : List (LaneShown Wire)) (runs : List (LaneRun n limit)) → Each3 (IsRunOf in_left out_written 1) before after runs → sum_by serves runs ≤ length runs
+  no_more : (before after : List (LaneShown Wire)) (runs : List (LaneRun n limit)) → Each3 (IsRunOf wire_told (one_each limit)) before after runs → sum_by serves runs ≤ length runs
   no_more [] [] [] each = omega arith
   no_more (b ∷ before) (a ∷ after) (r ∷ runs) each = omega (arith, sum_by-cons serves r runs, each.0.through.few, no_more before after runs each.1)
   no_more _ _ _ each = absurd each
 
   module _ (seed requests lanes : ℕ) where
-    all_answered : (ks : List ℕ) (before after : List (LaneShown Wire)) (runs : List (LaneRun n limit)) → AreDrillLanes (map (drill_stream seed requests lanes) ks) before → Each3 (IsRunOf in_left out_written 1) before after runs →
+    all_answered : (ks : List ℕ) (before after : List (LaneShown Wire)) (runs : List (LaneRun n limit)) → AreDrillLanes (map (drill_stream seed requests lanes) ks) before → Each3 (IsRunOf wire_told (one_each limit)) before after runs →
         sum_by serves runs ≡ length runs → sum_by breaks runs ≡ 0 → sum_by lacks runs ≡ 0 → AllZip AnswersAll (map (λ lane. map (payload_of seed lanes) (requests_of requests lanes lane)) ks) runs
     all_answered [] [] [] [] are each one whole had = tt
     all_answered [] (b ∷ before) after runs are each one whole had = absurd are
@@ -156,11 +150,15 @@ module _ {n : Node} {limit : ℕ} where
     all_answered _ _ _ _ are each one whole had = absurd each
 
 -- what lanes counted tells that they answered the load
-pub came : (d : DrillWords) (l : Left) (s : ServesDrill d l) → l.total.served ≡ l.total.lanes → l.total.broken ≡ 0 → l.total.lacked ≡ 0 → Came d l
-came d l s served broken lacked =
+pub came : (d : DrillWords) → FitsDrill d → LoadsAreCounted → (l : Left) (s : ServesDrill d l) → l.total.served ≡ l.total.lanes → l.total.broken ≡ 0 → l.total.lacked ≡ 0 → Came d l
+came d fits law l s served broken lacked =
     let node = s.serves.serves in
     let counted = node.counted in
+    let all = all_answered d.seed d.requests d.lanes (range_with_len 0 d.lanes) s.lanes.before s.lanes.after node.runs s.are node.each (sym counted.served ∙ served ∙ counted.lanes) (sym counted.broken ∙ broken) (sym counted.lacked ∙ lacked) in
     record {
       serves = s;
-      all = all_answered d.seed d.requests d.lanes (range_with_len 0 d.lanes) s.before s.after node.runs s.lanes node.each (sym counted.served ∙ served ∙ counted.lanes) (sym counted.broken ∙ broken) (sym counted.lacked ∙ lacked);
+      all = all;
+      counts = λ memory.
+          law d s.serves.node (drill_limits d).frames fits (load_node d s.serves.node s.serves.is_node) l.shards l.objects node.runs node.plans node.fixed node.serves
+          (lanes_answered d (range_with_len 0 d.lanes) s.lanes.before s.lanes.after node.runs s.are node.each all memory);
     }

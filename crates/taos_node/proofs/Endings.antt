@@ -15,7 +15,7 @@ use Rattle.taos_node.specs.Command.{EndsWell, FileDecidesFor, IsCaused, IsStatus
 use Rattle.taos_node.specs.Drills.{DrillCauses}
 use Rattle.taos_node.specs.Ending.{audited_status, drilled_status, served_status}
 use Rattle.taos_node.specs.Files.{IsNodeFile, IsSteady, OpensNode, node_means}
-use Rattle.taos_node.specs.Words.{Audit, Check, Drill, DrillWords, Mean, Mint, Relay, Run}
+use Rattle.node_words.specs.Words.{Audit, Check, Drill, DrillWords, Mean, Mint, Relay, Run}
 use Rattle.taos_node.proofs.Commands.{decided_opened, node_files, still}
 use Rattle.taos_node.proofs.Statuses.{AllTold, all_still, frames_in, not_caused, not_one, not_two, of_command, same_counts, serving_caused, serving_told, stayed, streams_told, two_commands}
 

@@ -9,7 +9,7 @@ use Rattle.frame_link.specs.declared.outcome.Outcome.TheVariants.{End, Truncated
 use Rattle.node_file.specs.Opening.{Opening}
 use Rattle.node_file.specs.RelayFile.{RelayFile}
 use Rattle.node_file.specs.declared.fault.FileFault.TheVariants.{Line, Byte}
-use Rattle.taos_lanes.specs.declared.lane.Limits.{Limits}
+use Rattle.frame_link.specs.declared.limits.Limits.{Limits}
 use Rattle.taos_lanes.specs.Doors.{DoorSeen}
 use Rattle.taos_lanes.specs.Joining.{HasOtherWork}
 use Rattle.taos_lanes.specs.Lanes.{LaneRun}
@@ -17,9 +17,10 @@ use Rattle.taos_lanes.specs.declared.total.Total.{Total}
 use Rattle.taos_lanes.specs.Relaying.{IsRelayRunOf, RelayRun}
 use Rattle.taos_lanes.specs.Serving.{IsRunOf}
 use Rattle.taos_lanes.specs.Stocked.{LaneShown}
+use Rattle.taos_lanes.specs.Telling.{Telling, change}
 use Rattle.taos_lanes.specs.Working.{HasDoorCause}
-use Rattle.taos_node.specs.declared.check.CheckEnd.{CheckEnd}
-use Rattle.taos_node.specs.declared.check.CheckEnd.TheVariants as ends
+use Rattle.node_check.specs.declared.check.CheckEnd.{CheckEnd}
+use Rattle.node_check.specs.declared.check.CheckEnd.TheVariants as ends
 use Rattle.taos_node.specs.declared.ending.Ending.{Ending}
 use Rattle.taos_node.specs.declared.ending.Ending.TheVariants as ending
 use Rattle.taos_node.specs.declared.ending.Ending.TheVariants.{Usage, File, Served, Checked, Relayed, Minted, Lanes, RelayLanes, Audited, Drilled}
@@ -32,7 +33,7 @@ use Rattle.taos_node.specs.declared.ending.DrillEnd.{DrillEnd}
 use Rattle.taos_node.specs.declared.ending.DrillEnd.TheVariants as drills
 use Rattle.taos_node.specs.declared.ending.LanesEnd.{LanesEnd}
 use Rattle.taos_node.specs.declared.ending.LanesEnd.TheVariants as lanes
-use Rattle.taos_node.specs.declared.finding.Finding.TheVariants.{Granted, Refused as Wrong}
+use Rattle.node_check.specs.declared.finding.Finding.TheVariants.{Granted, Refused as Wrong}
 use Rattle.taos_node.specs.declared.minting.MintEnd.{MintEnd}
 use Rattle.taos_node.specs.declared.minting.MintEnd.TheVariants as made
 use Rattle.taos_node.specs.Command.{Does, FileDecidesFor, HasSameCount, HasSteadyDoor, IsCaused, IsCommand, IsStatus, ServesDoors, Runs, RunsAlone, TellsDoors, Touched}
@@ -41,7 +42,7 @@ use Rattle.taos_node.specs.Files.{FaultHasCause, FileFails, IsNodeFile, IsRelayF
 use Rattle.taos_node.specs.Lanes.{HasNoneFailed, LanesCauses, PrintsLine, ServesLanes, served, unserved}
 use Rattle.taos_node.specs.RelayLanes.{RelaysDoors}
 use Rattle.taos_node.specs.Minting.{minted_status}
-use Rattle.taos_node.specs.Words.{Audit, Check, Drill, Mean, Mint, Relay, RelayServe, Run, Serve, Task}
+use Rattle.node_words.specs.Words.{Audit, Check, Drill, Mean, Mint, Relay, RelayServe, Run, Serve, Task}
 use Rattle.taos_node.proofs.Commands.{IsMeantBy, node_files, not_refused, relay_files, still}
 use Rattle.taos_node.proofs.Statuses.{not_caused, of_command, stayed, two_commands}
 
@@ -117,8 +118,8 @@ not_nine words before after (Drilled end) r = not_nine_drill end
 not_nine words before after (Lanes end) r = absurd r
 not_nine words before after (RelayLanes end) r = absurd r
 
-module _ {In Out : Type 0} (left : In → Option (List ℕ)) (written : Out → Option (List ℕ)) (words : List (String Global)) (before after : Touched) (lanes0 lanes1 : List (LaneShown (In × Out))) where
-  alone_runs : (e : Ending) → RunsAlone words before after e → drop 1 lanes1 ≡ drop 1 lanes0 → Runs left written words before after lanes0 lanes1 e
+module _ {In Out : Type 0} (telling : Telling In Out) (words : List (String Global)) (before after : Touched) (lanes0 lanes1 : List (LaneShown (In × Out))) where
+  alone_runs : (e : Ending) → RunsAlone words before after e → drop 1 lanes1 ≡ drop 1 lanes0 → Runs telling words (change before after) (change lanes0 lanes1) e
   alone_runs Usage r others = (r, others)
   alone_runs ending.NoMemory r others = (r, others)
   alone_runs (File f) r others = (r, others)
@@ -132,11 +133,11 @@ module _ {In Out : Type 0} (left : In → Option (List ℕ)) (written : Out → 
   alone_runs (RelayLanes end) r others = absurd r
 
   -- a command that serves no lanes
-  pub alone : (e : Ending) → RunsAlone words before after e → IsStatus words before after (status_of e) → drop 1 lanes1 ≡ drop 1 lanes0 → (ServesDoors words → ⊥) → Does left written words before after lanes0 lanes1 e
+  pub alone : (e : Ending) → RunsAlone words before after e → IsStatus words before after (status_of e) → drop 1 lanes1 ≡ drop 1 lanes0 → (ServesDoors words → ⊥) → Does telling words (change before after) (change lanes0 lanes1) e
   alone e r status others none = record {
     runs = alone_runs e r others;
     status = status;
-    doors = record { caused = λ nine. absurd (not_nine words before after e r nine); told = λ serve. absurd (none serve); well = λ serve. absurd (none (inl serve)); relays_well = λ serve. absurd (none (inr serve)) };
+    tells = record { caused = λ nine. absurd (not_nine words before after e r nine); told = λ serve. absurd (none serve); well = λ serve. absurd (none (inl serve)); relays_well = λ serve. absurd (none (inr serve)) };
   }
 
 -- ---- doors that nobody asked
@@ -151,13 +152,13 @@ other_work {X} (x ∷ xs) (y ∷ ys) z = (ap (λ (d : DoorSeen X). d.faults) z.0
 other_work [] (y ∷ ys) z = absurd z
 other_work (x ∷ xs) [] z = absurd z
 
-module _ {In Out : Type 0} (left : In → Option (List ℕ)) (written : Out → Option (List ℕ)) (words : List (String Global)) (before after : Touched) (l : List (LaneShown (In × Out))) where
+module _ {In Out : Type 0} (telling : Telling In Out) (words : List (String Global)) (before after : Touched) (l : List (LaneShown (In × Out))) where
   -- memory was refused before the words were read
-  pub unread_does : RunsAlone words before after ending.NoMemory → IsStatus words before after 6 → Does left written words before after l l ending.NoMemory
+  pub unread_does : RunsAlone words before after ending.NoMemory → IsStatus words before after 6 → Does telling words (change before after) (change l l) ending.NoMemory
   unread_does r status = record {
     runs = (r, refl);
     status = status;
-    doors = record { caused = λ nine. absurd (omega (arith, nine)); told = λ serve other. same_doors l; well = λ serve bytes o told is sf so steady. inr refl; relays_well = λ serve bytes r told is sf so steady. inr refl };
+    tells = record { caused = λ nine. absurd (omega (arith, nine)); told = λ serve other. same_doors l; well = λ serve bytes o told is sf so steady. inr refl; relays_well = λ serve bytes r told is sf so steady. inr refl };
   }
 
   file_well : {A : Type 0} (Means : A → List ℕ → Type 0) (means : Meaning A) (laws : IsMeantBy Means means) (f : FileFault) → FileFails means before.file after.file f → FaultHasCause before.file after.file f →
@@ -169,11 +170,11 @@ module _ {In Out : Type 0} (left : In → Option (List ℕ)) (written : Out → 
 
   -- the file of the command that serves lanes was not served
   pub file_does : (limits : Limits) (f : FileFault) → Mean words (Serve limits) → RunsAlone words before after (File f) → IsStatus words before after (file_status f) → FileFails node_means before.file after.file f →
-      FaultHasCause before.file after.file f → Does left written words before after l l (File f)
+      FaultHasCause before.file after.file f → Does telling words (change before after) (change l l) (File f)
   file_does limits f serve r status bad cause = record {
     runs = (r, refl);
     status = status;
-    doors = record {
+    tells = record {
       caused = λ nine. absurd (not_nine_file f nine);
       told = λ is other. same_doors l;
       well = λ is bytes o told means sf so steady. file_well IsNodeFile node_means node_files f bad cause bytes o told means sf;
@@ -183,11 +184,11 @@ module _ {In Out : Type 0} (left : In → Option (List ℕ)) (written : Out → 
 
   -- nor that of the command that serves them as a relay
   pub relay_file_does : (limits : Limits) (f : FileFault) → Mean words (RelayServe limits) → RunsAlone words before after (File f) → IsStatus words before after (file_status f) → FileFails relay_means before.file after.file f →
-      FaultHasCause before.file after.file f → Does left written words before after l l (File f)
+      FaultHasCause before.file after.file f → Does telling words (change before after) (change l l) (File f)
   relay_file_does limits f relay r status bad cause = record {
     runs = (r, refl);
     status = status;
-    doors = record {
+    tells = record {
       caused = λ nine. absurd (not_nine_file f nine);
       told = λ is other. same_doors l;
       well = λ serve. two_commands words (RelayServe limits) (Serve serve.0) relay serve.1 (λ e. cc e);
@@ -305,9 +306,9 @@ module _ (before after : Touched) where
     clock = λ none. absurd (none serve);
   }
 
-module _ {In Out : Type 0} (left : In → Option (List ℕ)) (written : Out → Option (List ℕ)) (limits : Limits) (xs ys : List (LaneShown (In × Out))) where
-  pub doors_tell : (o : Opening) (words : List (String Global)) (before after : Touched) (end : LanesEnd) → Mean words (Serve limits) → ServesLanes left written o limits xs ys before.output.told after.output.told end →
-      LanesCauses before.output.faults after.output.faults end → TellsDoors words before after xs ys (lanes_status end)
+module _ {In Out : Type 0} (telling : Telling In Out) (limits : Limits) (xs ys : List (LaneShown (In × Out))) where
+  pub doors_tell : (o : Opening) (words : List (String Global)) (before after : Touched) (end : LanesEnd) → Mean words (Serve limits) → ServesLanes telling o limits (change xs ys) (change before.output.told after.output.told) end →
+      LanesCauses before.output.faults after.output.faults end → TellsDoors words (change before after) (change xs ys) (lanes_status end)
   doors_tell o words before after end serve (unserved none same kept) h =
       let six : lanes_status end ≡ 6 = ap lanes_status none in
       record {
@@ -317,7 +318,7 @@ module _ {In Out : Type 0} (left : In → Option (List ℕ)) (written : Out → 
         relays_well = λ is bytes p told means sf so steady. inr six;
       }
   doors_tell o words before after end serve (served l s p) h =
-      let run = λ (x y : LaneShown (In × Out)) (r : LaneRun s.node limits.frames) (is : IsRunOf left written limits.connections x y r). is.cause in
+      let run = λ (x y : LaneShown (In × Out)) (r : LaneRun s.node limits.frames) (is : IsRunOf telling limits x y r). is.cause in
       record {
         caused = λ nine. (inl (limits, serve), line_nine _ _ run xs ys s.serves.runs s.serves.each l.total s.serves.counted.lanes s.serves.counted.first_failed _ before.output.told after.output.told end p nine);
         told = λ is other. line_same _ _ run xs ys s.serves.runs s.serves.each l.total s.serves.counted.lanes s.serves.counted.first_failed _ before.output.told after.output.told end p other;
@@ -326,10 +327,10 @@ module _ {In Out : Type 0} (left : In → Option (List ℕ)) (written : Out → 
       }
 
   -- the same of a relay's lanes
-  pub relay_doors_tell : (r : RelayFile) (words : List (String Global)) (before after : Touched) (end : LanesEnd) → Mean words (RelayServe limits) → RelaysDoors left written r limits xs ys before.output.told after.output.told end →
-      LanesCauses before.output.faults after.output.faults end → TellsDoors words before after xs ys (lanes_status end)
+  pub relay_doors_tell : (r : RelayFile) (words : List (String Global)) (before after : Touched) (end : LanesEnd) → Mean words (RelayServe limits) → RelaysDoors telling r limits (change xs ys) (change before.output.told after.output.told) end →
+      LanesCauses before.output.faults after.output.faults end → TellsDoors words (change before after) (change xs ys) (lanes_status end)
   relay_doors_tell r words before after end relay s h =
-      let run = λ (x y : LaneShown (In × Out)) (q : RelayRun limits.frames) (is : IsRelayRunOf left written s.table limits.connections x y q). is.cause in
+      let run = λ (x y : LaneShown (In × Out)) (q : RelayRun limits.frames) (is : IsRelayRunOf telling s.table limits x y q). is.cause in
       record {
         caused = λ nine. (inr (limits, relay), line_nine _ _ run xs ys s.serves.runs s.serves.each s.total s.serves.counted.lanes s.serves.counted.first_failed _ before.output.told after.output.told end s.prints nine);
         told = λ is other. line_same _ _ run xs ys s.serves.runs s.serves.each s.total s.serves.counted.lanes s.serves.counted.first_failed _ before.output.told after.output.told end s.prints other;

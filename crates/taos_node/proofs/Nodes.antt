@@ -32,8 +32,9 @@ use Rattle.taos_monitor.specs.Arriving.{node_of}
 use Rattle.taos_monitor.specs.Cells.{Viewed, viewed, seen_of}
 use Rattle.taos_monitor.specs.Planned.{ArePlanned}
 use Rattle.taos_monitor.proofs.Keyed.{key_listed}
-use Rattle.taos_node.specs.declared.opened.NodeParts.{NodeParts}
-use Rattle.taos_node.specs.Opened.{AllFit, AreNew, IsNodeOf, its_plans, nothing_seen, numbers_of, fixed_with, new_object}
+use Rattle.taos_lanes.specs.declared.parts.NodeParts.{NodeParts}
+use Rattle.taos_lanes.specs.Parts.{ArePartsNew}
+use Rattle.taos_node.specs.Opened.{AllFit, IsNodeOf, its_plans, nothing_seen, numbers_of, fixed_with, new_object}
 
 -- ---- objects
 
@@ -184,7 +185,7 @@ objects_without limit (p ∷ plans) = All-cons (λ (o : ObjectSeen). o.journal �
 
 -- parts of an opening are new
 pub all_new : (parts : NodeParts) (node : code.Opening) (limit : ℕ) (objects : List ObjectPlan) → parts.keys.channels ≡ node.channels → parts.shards.items ≡ map new_shard (its_plans (opening node) node.channels.entries) →
-    parts.objects.items ≡ map (new_object limit) objects → AreShards (plans_in parts.shards.items) parts.anchors.value.items → HaveOwnNumbers (map fixed_of parts.objects.items) → AreNew parts
+    parts.objects.items ≡ map (new_object limit) objects → AreShards (plans_in parts.shards.items) parts.anchors.value.items → HaveOwnNumbers (map fixed_of parts.objects.items) → ArePartsNew parts
 all_new parts node limit objects same are these whole apart = record {
   shards = whole;
   shards_new = subst (λ (l : List ShardSeen). All (λ (s : ShardSeen). s.journal ≡ []) l) (sym are) (shards_without (its_plans (opening node) node.channels.entries));

@@ -8,23 +8,23 @@ use Rattle.node_file.specs.Opening.{Opening}
 use Rattle.node_file.specs.RelayFile.{RelayFile}
 use Rattle.node_file.specs.declared.fault.FileFault.TheVariants.{Line, Byte}
 use Rattle.frame_link.specs.Served.{FaultCounts, counts, IsComplete, HasCauses}
-use Rattle.taos_node.specs.declared.check.CheckEnd.{CheckEnd}
-use Rattle.taos_node.specs.declared.check.CheckEnd.TheVariants as ends
+use Rattle.node_check.specs.declared.check.CheckEnd.{CheckEnd}
+use Rattle.node_check.specs.declared.check.CheckEnd.TheVariants as ends
 use Rattle.taos_node.specs.declared.ending.FileFault.{FileFault}
 use Rattle.taos_node.specs.declared.ending.FileFault.TheVariants as fault
 use Rattle.taos_node.specs.declared.ending.FileFault.TheVariants.{Malformed, Refused}
-use Rattle.taos_node.specs.declared.finding.Finding.TheVariants.{Granted, Refused as Wrong}
-use Rattle.taos_node.specs.Words.{IsMeaning, Mean, MintWords, Task, Run, Check, Relay, Mint, Serve, RelayServe, Audit, Drill, task_of}
-use Rattle.taos_node.specs.declared.wanted.Wanted.{Wanted}
+use Rattle.node_check.specs.declared.finding.Finding.TheVariants.{Granted, Refused as Wrong}
+use Rattle.node_words.specs.Words.{IsMeaning, Mean, MintWords, Task, Run, Check, Relay, Mint, Serve, RelayServe, Audit, Drill, task_of}
+use Rattle.node_words.specs.declared.wanted.Wanted.{Wanted}
 use Rattle.taos_node.specs.Files.{FaultHasCause, FileDecides, FileFails, IsNodeFile, IsRelayFile, Meaning, OpensNode, OpensRelay, node_means, relay_means}
 use Rattle.taos_node.specs.Command.{IsCommand, FileDecidesFor, FileFailsFor, Touched, EndsWell, ChecksWell, MintsWell, IsCaused, TellsFaults, IsStatus, counts_of}
 use Rattle.taos_node.specs.Ending.{file_status, served_status, checked_status}
-use Rattle.taos_node.specs.Findings.{CheckCauses}
+use Rattle.node_check.specs.Findings.{CheckCauses}
 use Rattle.taos_node.specs.Minting.{MintCauses, minted_status}
 use Rattle.taos_node.specs.declared.minting.MintEnd.{MintEnd}
 use Rattle.taos_node.specs.declared.minting.MintEnd.TheVariants as made
 use Rattle.std.specs.Prelude.{Option, Some, None, map, string_bytes}
-use Rattle.taos_node.proofs.Meanings.{one_meaning}
+use Rattle.node_words.proofs.Meanings.{one_meaning}
 use Rattle.taos_node.proofs.Commands.{IsMeantBy, decided_opened, decided_fault, node_files, not_refused, relay_files, still}
 
 pub stayed : {P : Type 0} (a b : ℕ) → b ≡ a → a < b → P

@@ -12,13 +12,14 @@ use Rattle.taos_node.specs.declared.ending.Ending.{Ending}
 use Rattle.taos_node.specs.declared.ending.Ending.TheVariants as ending
 use Rattle.taos_node.specs.declared.ending.Ending.TheVariants.{Usage, File, Served, Checked, Relayed, Minted, Lanes, RelayLanes, Audited, Drilled}
 use Rattle.taos_node.specs.Files.{IsNodeFile, IsRelayFile, OpensNode, OpensRelay, FileFails, FileDecides, HasFailed, IsSteady, node_means, relay_means}
-use Rattle.taos_node.specs.Words.{Mean, MintWords, DrillWords, Task, Run, Check, Relay, Mint, Serve, RelayServe, Audit, Drill}
-use Rattle.taos_node.specs.declared.check.CheckEnd.{CheckEnd}
+use Rattle.node_words.specs.Words.{Mean, MintWords, DrillWords, Task, Run, Check, Relay, Mint, Serve, RelayServe, Audit, Drill}
+use Rattle.node_check.specs.declared.check.CheckEnd.{CheckEnd}
 use Rattle.taos_node.specs.Ending.{status_of}
 use Rattle.taos_node.specs.Notes.{note_of, IsNoted}
 use Rattle.taos_lanes.specs.declared.lane.Lane.{Lane}
-use Rattle.taos_lanes.specs.declared.lane.Limits.{Limits}
+use Rattle.frame_link.specs.declared.limits.Limits.{Limits}
 use Rattle.taos_lanes.specs.Stocked.{LaneShown}
+use Rattle.taos_lanes.specs.Telling.{Change, Telling, change}
 use Rattle.taos_node.specs.declared.ending.AuditEnd.{AuditEnd}
 use Rattle.taos_node.specs.declared.ending.DrillEnd.{DrillEnd}
 use Rattle.taos_node.specs.Audit.{IsAuditOf, WritesAudit}
@@ -38,7 +39,7 @@ use Rattle.taos_monitor.specs.declared.connection.TheConstants.{MAX_REQUEST}
 use Rattle.taos_monitor.specs.Connection.{IsConnection}
 use Rattle.taos_monitor.specs.World.{World, setting_of}
 use Rattle.taos_node.specs.Opened.{IsNodeOf, nothing_seen}
-use Rattle.taos_node.specs.Findings.{Checks}
+use Rattle.node_check.specs.Findings.{Checks}
 
 -- the words are a command line
 abbrev pub IsCommand : List (String Global) → Type 0
@@ -91,6 +92,10 @@ abbrev pub first_link : {C R D I O : Type 0} → (R → Option (ℕ → List ℕ
     List (Lane C R D I O) → Link
 first_link says faults [] = link None 0
 first_link says faults (lane ∷ lanes) = link (says lane.relay) (faults lane.relay)
+
+-- what was written to the output
+abbrev pub output_of : Change Touched → Change (Option (List ℕ))
+output_of t = change t.before.output.told t.after.output.told
 
 -- ---- what is done
 
@@ -222,31 +227,34 @@ RunsAlone words before after (Drilled end) =
 RunsAlone words before after (Lanes end) = ⊥
 RunsAlone words before after (RelayLanes end) = ⊥
 
-module _ {In Out : Type 0} (left : In → Option (List ℕ)) (written : Out → Option (List ℕ)) where
+module _ {In Out : Type 0} (telling : Telling In Out) where
   -- What is done, by how it ends: the lanes of a node of the file's opening, or of a relay of the file,
   -- serve their doors, and the line of what they counted is written; every other ending touches no
   -- other lane than the first.
-  abbrev pub Runs : List (String Global) → (before after : Touched) →
-      (lanes0 lanes1 : List (LaneShown (In × Out))) → Ending → Type 0
-  Runs words before after lanes0 lanes1 (Lanes end) =
-      Keeps before.input.told after.input.told × ((limits : Limits) × Mean words (Serve limits)
-      × ((o : Opening) × OpensNode before.file after.file o
-      × ServesLanes left written o limits lanes0 lanes1 before.output.told after.output.told end))
-  Runs words before after lanes0 lanes1 (RelayLanes end) =
-      Keeps before.input.told after.input.told × ((limits : Limits) × Mean words (RelayServe limits)
-      × ((r : RelayFile) × OpensRelay before.file after.file r
-      × RelaysDoors left written r limits lanes0 lanes1 before.output.told after.output.told end))
-  Runs words before after lanes0 lanes1 other =
-      RunsAlone words before after other × (drop 1 lanes1 ≡ drop 1 lanes0)
+  abbrev pub Runs : List (String Global) → Change Touched →
+      Change (List (LaneShown (In × Out))) → Ending → Type 0
+  Runs words t doors (Lanes end) =
+      Keeps t.before.input.told t.after.input.told
+      × ((limits : Limits) × Mean words (Serve limits)
+      × ((o : Opening) × OpensNode t.before.file t.after.file o
+      × ServesLanes telling o limits doors (output_of t) end))
+  Runs words t doors (RelayLanes end) =
+      Keeps t.before.input.told t.after.input.told
+      × ((limits : Limits) × Mean words (RelayServe limits)
+      × ((r : RelayFile) × OpensRelay t.before.file t.after.file r
+      × RelaysDoors telling r limits doors (output_of t) end))
+  Runs words t doors other =
+      RunsAlone words t.before t.after other × (drop 1 doors.after ≡ drop 1 doors.before)
 
   -- How it ended, with what was done: the status and the note tell that ending.
-  pub record Ends (words : List (String Global)) (before after : Touched)
-      (lanes0 lanes1 : List (LaneShown (In × Out))) (notes0 notes1 : Stream) (status : ℕ) :
+  pub record Ends (words : List (String Global)) (t : Change Touched)
+      (doors : Change (List (LaneShown (In × Out)))) (notes : Change Stream) (status : ℕ) :
       Type 0 where
     pub ending : Ending
-    pub runs : Runs words before after lanes0 lanes1 ending
+    pub runs : Runs words t doors ending
     pub tells : status ≡ status_of ending
-    pub noted : IsNoted notes0.told notes1.told notes0.faults notes1.faults (note_of ending)
+    pub noted : IsNoted notes.before.told notes.after.told notes.before.faults
+        notes.after.faults (note_of ending)
 
 -- ---- what the status tells
 
@@ -339,23 +347,24 @@ module _ {X : Type 0} where
   -- What the status tells of the lanes' doors: 9 is answered by a command that serves lanes, where
   -- a door failed, and always where a door's count rose; where nothing fails the status is 0, or 6
   -- where memory was refused.
-  pub record TellsDoors (words : List (String Global)) (before after : Touched)
-      (lanes0 lanes1 : List (LaneShown X)) (status : ℕ) : Type 0 where
-    pub caused : status ≡ 9 → ServesDoors words × (AllZip HasSteadyDoor lanes0 lanes1 → ⊥)
-    pub told : ServesDoors words → status ≢ 9 → AllZip HasSameCount lanes0 lanes1
-    pub well : IsServe words → (bytes : List ℕ) (o : Opening) → before.file.told ≡ Some bytes →
-        IsNodeFile o bytes → IsSteady before.file after.file →
-        IsSteady before.output after.output → AllZip HasSteadyDoor lanes0 lanes1 →
+  pub record TellsDoors (words : List (String Global)) (t : Change Touched)
+      (doors : Change (List (LaneShown X))) (status : ℕ) : Type 0 where
+    pub caused : status ≡ 9 →
+        ServesDoors words × (AllZip HasSteadyDoor doors.before doors.after → ⊥)
+    pub told : ServesDoors words → status ≢ 9 → AllZip HasSameCount doors.before doors.after
+    pub well : IsServe words → (bytes : List ℕ) (o : Opening) → t.before.file.told ≡ Some bytes →
+        IsNodeFile o bytes → IsSteady t.before.file t.after.file →
+        IsSteady t.before.output t.after.output → AllZip HasSteadyDoor doors.before doors.after →
         (status ≡ 0) ⊎ (status ≡ 6)
     pub relays_well : IsRelayServe words → (bytes : List ℕ) (r : RelayFile) →
-        before.file.told ≡ Some bytes → IsRelayFile r bytes → IsSteady before.file after.file →
-        IsSteady before.output after.output → AllZip HasSteadyDoor lanes0 lanes1 →
-        (status ≡ 0) ⊎ (status ≡ 6)
+        t.before.file.told ≡ Some bytes → IsRelayFile r bytes →
+        IsSteady t.before.file t.after.file → IsSteady t.before.output t.after.output →
+        AllZip HasSteadyDoor doors.before doors.after → (status ≡ 0) ⊎ (status ≡ 6)
 
 -- what a run does and tells, by how it ends
-pub record Does {In Out : Type 0} (left : In → Option (List ℕ)) (written : Out → Option (List ℕ))
-    (words : List (String Global)) (before after : Touched)
-    (lanes0 lanes1 : List (LaneShown (In × Out))) (ending : Ending) : Type 0 where
-  pub runs : Runs left written words before after lanes0 lanes1 ending
-  pub status : IsStatus words before after (status_of ending)
-  pub doors : TellsDoors words before after lanes0 lanes1 (status_of ending)
+pub record Does {In Out : Type 0} (telling : Telling In Out) (words : List (String Global))
+    (t : Change Touched) (doors : Change (List (LaneShown (In × Out)))) (ending : Ending) :
+    Type 0 where
+  pub runs : Runs telling words t doors ending
+  pub status : IsStatus words t.before t.after (status_of ending)
+  pub tells : TellsDoors words t doors (status_of ending)

@@ -1,7 +1,9 @@
 -- What a drill does: the lanes of a node that the load opens serve the load.
 use Rattle.std.specs.Prelude.{◌≡◌, ℕ, ◌<◌, List, [], ◌∷◌, ◌++◌, length, map, None, Option, Some}
 use Rattle.std.specs.Io.KnownBytes.{Appends, Keeps}
-use Rattle.std.specs.List.{AllZip, range_with_len}
+use Rattle.std.specs.List.{All, AllZip, range_with_len}
+use Rattle.drill_law.specs.Counts.{CountsLoad}
+use Rattle.drill_law.specs.Lanes.{HadMemory}
 use Rattle.frame_link.specs.declared.outcome.Outcome.TheVariants.{End}
 use Rattle.frame_link.specs.Plan.{plan_of}
 use Rattle.frame_link.specs.Faults.{Rose}
@@ -12,18 +14,20 @@ use Rattle.taos_drill.specs.declared.numbers.TheConstants.{READING}
 use Rattle.taos_drill.specs.Grown.{Grown}
 use Rattle.taos_drill.specs.Opened.{drill_opening}
 use Rattle.taos_drill.specs.Sent.{drill_streams, payload_of, requests_of}
-use Rattle.taos_lanes.specs.declared.lane.Limits.{Limits}
+use Rattle.frame_link.specs.declared.limits.Limits.{Limits}
 use Rattle.taos_lanes.specs.Doors.{DoorSeen, door_of}
 use Rattle.taos_lanes.specs.declared.lane.Lane.{Lane}
 use Rattle.taos_lanes.specs.Lanes.{LaneRun}
+use Rattle.taos_lanes.specs.Serving.{Left}
 use Rattle.taos_lanes.specs.Stocked.{LaneShown, shown_by}
+use Rattle.taos_lanes.specs.Telling.{Change, Telling, told_by}
 use Rattle.taos_lanes.specs.Visits.{Visit}
 use Rattle.taos_monitor.specs.Cells.{Node}
 use Rattle.taos_node.specs.declared.ending.DrillEnd.{DrillEnd}
 use Rattle.taos_node.specs.declared.ending.DrillEnd.TheVariants as drill
 use Rattle.taos_node.specs.Lanes.{ServesOpening}
-use Rattle.taos_node.specs.Summary.{Left, drill_line}
-use Rattle.taos_node.specs.Words.{DrillWords}
+use Rattle.taos_node.specs.Summary.{drill_line}
+use Rattle.node_words.specs.Words.{DrillWords}
 
 -- a connection of a drill: bytes in memory, and a sink that grows
 abbrev pub Wire : Type 0
@@ -33,6 +37,10 @@ Wire = Supply × Grown
 abbrev pub wire : List ℕ → Wire
 wire bytes =
     (record { left = bytes; chunks = []; plan = plan_of [] }, record { written = []; faults = 0 })
+
+-- how it is told
+abbrev pub wire_told : Telling Supply Grown
+wire_told = told_by (λ s. Some s.left) (λ s. Some s.written)
 
 -- the door has one connection, which has these bytes to read
 abbrev pub door_with : List ℕ → DoorSeen Wire
@@ -63,11 +71,10 @@ drill_shown =
 
 -- a node that the load opens served the lanes of the load, and left this
 pub record ServesDrill (d : DrillWords) (l : Left) : Type 0 where
-  pub before : List (LaneShown Wire)
-  pub after : List (LaneShown Wire)
-  pub lanes : AreDrillLanes (drill_streams d.seed d.requests d.lanes) before
-  pub serves : ServesOpening (λ (s : Supply). Some s.left) (λ (s : Grown). Some s.written)
-      (drill_opening d.seed d.requests d.lanes) (drill_limits d) before after l
+  pub lanes : Change (List (LaneShown Wire))
+  pub are : AreDrillLanes (drill_streams d.seed d.requests d.lanes) lanes.before
+  pub serves : ServesOpening wire_told (drill_opening d.seed d.requests d.lanes) (drill_limits d)
+      lanes l
 
 -- the payloads of the requests of each lane, in order
 abbrev pub load_of : DrillWords → List (List (List ℕ))
@@ -83,10 +90,18 @@ pub record AnswersAll {n : Node} {limit : ℕ} (payloads : List (List ℕ)) (run
   pub all : visit.connection.served.payloads ≡ payloads
   pub ended : visit.outcome ≡ End (length payloads)
 
--- what a drill came to, where each lane answered all its requests
+-- no reply of these lanes says that memory was refused
+abbrev pub HaveMemory : {n : Node} {limit : ℕ} → List (LaneRun n limit) → Type 0
+HaveMemory {n} {limit} runs =
+    All (λ (run : LaneRun n limit).
+    All (λ (v : Visit n run.says limit). HadMemory v) run.visits) runs
+
+-- What a drill came to, where each lane answered all its requests. Where no reply says that memory
+-- was refused, even words are grants and odd ones denials, and the entries are counted.
 pub record Came (d : DrillWords) (l : Left) : Type 0 where
   pub serves : ServesDrill d l
   pub all : AllZip AnswersAll (load_of d) serves.serves.serves.runs
+  pub counts : HaveMemory serves.serves.serves.runs → CountsLoad d l.shards l.objects
 
 -- What a drill prints, by how it ends: the line of what it came to, or a proper front of it; nothing
 -- where memory was refused.

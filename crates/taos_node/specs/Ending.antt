@@ -14,9 +14,9 @@ use Rattle.taos_node.specs.declared.ending.DrillEnd.{DrillEnd}
 use Rattle.taos_node.specs.declared.ending.DrillEnd.TheVariants as drill
 use Rattle.taos_node.specs.declared.ending.LanesEnd.{LanesEnd}
 use Rattle.taos_node.specs.declared.ending.LanesEnd.TheVariants as lanes
-use Rattle.taos_node.specs.declared.check.CheckEnd.{CheckEnd}
-use Rattle.taos_node.specs.declared.check.CheckEnd.TheVariants as ends
-use Rattle.taos_node.specs.Findings.{finding_status}
+use Rattle.node_check.specs.declared.check.CheckEnd.{CheckEnd}
+use Rattle.node_check.specs.declared.check.CheckEnd.TheVariants as ends
+use Rattle.node_check.specs.Findings.{finding_status}
 use Rattle.taos_node.specs.Minting.{minted_status}
 
 -- the exit status where the file is not served

@@ -6,6 +6,7 @@ use Rattle.frame_link.specs.Faults.{Rose}
 use Rattle.node_file.specs.declared.fault.FileFault.{FileFault as Refusal}
 use Rattle.node_file.specs.declared.fault.FileFault.TheVariants.{Line, Byte}
 use Rattle.node_file.specs.declared.fault.FileFault.TheVariants as refusals
+use Rattle.node_file.specs.declared.limits.TheConstants.{MAX_FILE}
 use Rattle.node_file.specs.Opening.{Opening}
 use Rattle.node_file.specs.OpeningFile.{Means, opening_in}
 use Rattle.node_file.specs.RelayFile.{RelayFile, relay_in}
@@ -21,13 +22,9 @@ IsSteady s0 s1 = (s1.faults ≡ s0.faults) × (s0.faults < 2 ^ 64 - 1)
 abbrev pub HasFailed : Stream → Stream → Type 0
 HasFailed s0 s1 = Rose s0.faults s1.faults
 
--- the most bytes of a file
-abbrev pub max_file : ℕ
-max_file = 4194304
-
 -- the file's bytes mean the opening of a node, and are not too many
 abbrev pub IsNodeFile : Opening → List ℕ → Type 0
-IsNodeFile o bytes = Means o bytes × (length bytes ≤ max_file)
+IsNodeFile o bytes = Means o bytes × (length bytes ≤ MAX_FILE)
 
 -- the file's bytes mean what a relay knows
 abbrev pub IsRelayFile : RelayFile → List ℕ → Type 0
@@ -48,7 +45,7 @@ relay_means = relay_in
 -- the bytes were read, and those were all, or more than there may be
 pub record IsRead (file0 file1 : Stream) (bytes : List ℕ) : Type 0 where
   pub read : Consumes file0.told file1.told bytes
-  pub whole : IsAtEnd file1.told ⊎ (max_file < length bytes)
+  pub whole : IsAtEnd file1.told ⊎ (MAX_FILE < length bytes)
 
 -- the file was read to its end, and means this
 pub record Opens {A : Type 0} (Means : A → List ℕ → Type 0) (file0 file1 : Stream) (a : A) :
@@ -100,11 +97,12 @@ FileGives {A} Means means StandsFor file0 file1 (Ok x) =
     (a : A) × Opens Means file0 file1 a × StandsFor a x
 FileGives Means means StandsFor file0 file1 (Err fault) = FileFails means file0 file1 fault
 
--- the same of a node file, and of a relay file
+-- the same of a node file
 abbrev pub NodeFileGives : {X : Type 0} → (Opening → X → Type 0) → Stream → Stream →
     Result X FileFault → Type 0
 NodeFileGives = FileGives IsNodeFile node_means
 
+-- and of a relay file
 abbrev pub RelayFileGives : {X : Type 0} → (RelayFile → X → Type 0) → Stream → Stream →
     Result X FileFault → Type 0
 RelayFileGives = FileGives IsRelayFile relay_means

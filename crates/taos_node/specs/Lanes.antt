@@ -4,16 +4,17 @@ use Rattle.std.specs.Io.KnownBytes.{Appends, Keeps}
 use Rattle.std.specs.List.{AllZip}
 use Rattle.frame_link.specs.Faults.{Rose}
 use Rattle.node_file.specs.Opening.{Opening}
-use Rattle.taos_lanes.specs.declared.lane.Limits.{Limits}
+use Rattle.frame_link.specs.declared.limits.Limits.{Limits}
 use Rattle.taos_lanes.specs.declared.total.Total.{Total}
 use Rattle.taos_lanes.specs.Joining.{HasOtherWork}
-use Rattle.taos_lanes.specs.Serving.{ServesNode}
+use Rattle.taos_lanes.specs.Serving.{Left, ServesNode}
 use Rattle.taos_lanes.specs.Stocked.{LaneShown}
+use Rattle.taos_lanes.specs.Telling.{Change, Telling}
 use Rattle.taos_monitor.specs.Cells.{Node}
 use Rattle.taos_node.specs.declared.ending.LanesEnd.{LanesEnd}
 use Rattle.taos_node.specs.declared.ending.LanesEnd.TheVariants as lanes
 use Rattle.taos_node.specs.Opened.{IsNodeOf}
-use Rattle.taos_node.specs.Summary.{Left, lanes_line}
+use Rattle.taos_node.specs.Summary.{lanes_line}
 
 -- no door failed: the first lane whose door did is none of the lanes
 abbrev pub HasNoneFailed : Total → Type 0
@@ -48,20 +49,20 @@ LanesCauses out0 out1 (lanes.DoorFault lane) = out1 ≡ out0
 LanesCauses out0 out1 lanes.WriteFault = (out0 ≤ out1) × Rose out0 out1
 LanesCauses out0 out1 lanes.NoMemory = out1 ≡ out0
 
-module _ {In Out : Type 0} (left : In → Option (List ℕ)) (written : Out → Option (List ℕ)) (o : Opening) (limits : Limits) where
+module _ {In Out : Type 0} (telling : Telling In Out) (o : Opening) (limits : Limits) where
   -- A node of the opening served the doors of its lanes, from empty journals on, and left this: each
   -- connection of each lane is answered in the journals by its own places, and each place of each is
   -- own of one connection, once.
-  pub record ServesOpening (before after : List (LaneShown (In × Out))) (l : Left) : Type 0 where
+  pub record ServesOpening (lanes : Change (List (LaneShown (In × Out)))) (l : Left) : Type 0 where
     pub node : Node
     pub is_node : IsNodeOf o node
-    pub serves : ServesNode left written node limits before after l.shards l.objects l.total
+    pub serves : ServesNode telling node limits lanes l
 
   -- what lanes did, with what is printed
-  pub data ServesLanes (before after : List (LaneShown (In × Out)))
-      (out0 out1 : Option (List ℕ)) (end : LanesEnd) : Type 0 where
+  pub data ServesLanes (doors : Change (List (LaneShown (In × Out))))
+      (out : Change (Option (List ℕ))) (end : LanesEnd) : Type 0 where
     -- memory was refused before the first connection, and no door was asked
-    unserved : end ≡ lanes.NoMemory → AllZip HasOtherWork before after → Keeps out0 out1 →
-        ServesLanes before after out0 out1 end
-    served : (l : Left) → ServesOpening before after l → Prints l out0 out1 end →
-        ServesLanes before after out0 out1 end
+    unserved : end ≡ lanes.NoMemory → AllZip HasOtherWork doors.before doors.after →
+        Keeps out.before out.after → ServesLanes doors out end
+    served : (l : Left) → ServesOpening doors l → Prints l out.before out.after end →
+        ServesLanes doors out end

@@ -1,8 +1,6 @@
 pub mod Opened
 pub mod Ending
 pub mod Notes
-pub mod Words
-pub mod Table
 pub mod Files
 pub mod Minting
 pub mod Summary
@@ -12,5 +10,3 @@ pub mod Audit
 pub mod AuditOf
 pub mod Drills
 pub mod Command
-pub mod Checking
-pub mod Findings

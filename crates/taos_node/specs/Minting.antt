@@ -10,7 +10,7 @@ use Rattle.prin_text.specs.Labels.{Labels}
 use Rattle.prin_text.specs.Meaning.{IsTextWithin}
 use Rattle.sealed_cert.specs.Seals.{OpensIssued}
 use Rattle.stmt_codec.specs.Certificates.{Certificate, IsWithinLimits}
-use Rattle.taos_node.specs.Words.{MintWords}
+use Rattle.node_words.specs.Words.{MintWords}
 use Rattle.taos_node.specs.declared.minting.MintWord.{MintWord}
 use Rattle.taos_node.specs.declared.minting.MintWord.TheVariants as word
 use Rattle.taos_node.specs.declared.minting.MintStop.{MintStop}

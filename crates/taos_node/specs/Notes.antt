@@ -19,8 +19,8 @@ use Rattle.taos_node.specs.declared.ending.DrillEnd.TheVariants as drill
 use Rattle.taos_node.specs.declared.ending.LanesEnd.{LanesEnd}
 use Rattle.taos_node.specs.declared.ending.LanesEnd.TheVariants as lanes
 use Rattle.taos_node.specs.Minting.{minted_note}
-use Rattle.taos_node.specs.declared.check.CheckEnd.{CheckEnd}
-use Rattle.taos_node.specs.declared.check.CheckEnd.TheVariants as ends
+use Rattle.node_check.specs.declared.check.CheckEnd.{CheckEnd}
+use Rattle.node_check.specs.declared.check.CheckEnd.TheVariants as ends
 
 -- a cause, as notes name it
 abbrev pub cause_text : FileCause → List ℕ

@@ -1,21 +1,17 @@
 -- The node that an opening opens.
-use Rattle.std.specs.Prelude.{◌≡◌, ℕ, List, [], All, length, map, None, Some}
+use Rattle.std.specs.Prelude.{◌≡◌, ℕ, List, [], length, map, None, Some}
 use Rattle.std.specs.List.Sorted.{IsStrictlyIncreasing}
 use Rattle.keyed_seal.specs.Keys.{Entries, key_of}
 use Rattle.object_core.specs.Objects.{ObjectPlan, ObjectSeen, object_of}
 use Rattle.object_core.specs.OneOwner.{fixed_on, seen_on, own_on, taken_from}
-use Rattle.object_core.specs.Shelving.{HaveOwnNumbers, ObjectFixed, fixed_at, fixed_of, numbers_of as object_numbers}
+use Rattle.object_core.specs.Shelving.{ObjectFixed, fixed_at, numbers_of as object_numbers}
 use Rattle.std.specs.Option.{option_map}
 use Rattle.node_file.specs.Opening.{Opening, FitsObject}
 use Rattle.agent_core.specs.Alone.{plans_in, seen_in, own_in}
-use Rattle.agent_core.specs.Journals.{ShardSeen}
 use Rattle.agent_core.specs.Opened.{plans_for}
-use Rattle.agent_core.specs.Plans.{AreShards}
 use Rattle.agent_core.specs.State.{Plan}
 use Rattle.taos_monitor.specs.Arriving.{node_of}
 use Rattle.taos_monitor.specs.Cells.{Node, Seen, seen_of, viewed}
-use Rattle.taos_monitor.specs.Planned.{ArePlanned}
-use Rattle.taos_node.specs.declared.opened.NodeParts.{NodeParts}
 use Rattle.taos_node.specs.declared.opened.OpenNode.{OpenNode}
 
 -- the numbers of channels
@@ -50,18 +46,6 @@ pub record IsNodeOf (o : Opening) (n : Node) : Type 0 where
       fixed_at n.objects number ≡ option_map (fixed_with o.limit) (object_of o.objects number)
   pub by_number : IsStrictlyIncreasing (object_numbers n.objects)
   pub plans : n.plans ≡ its_plans o n.channels
-
--- the node of these parts
-abbrev pub node_in : NodeParts → Node
-node_in n = node_of n.keys (plans_in n.shards.items) (map fixed_of n.objects.items)
-
--- the parts belong together, and no journal has an entry
-pub record AreNew (n : NodeParts) : Type 0 where
-  pub shards : AreShards (plans_in n.shards.items) n.anchors.value.items
-  pub shards_new : All (λ (s : ShardSeen). s.journal ≡ []) n.shards.items
-  pub objects : HaveOwnNumbers (map fixed_of n.objects.items)
-  pub objects_new : All (λ (o : ObjectSeen). o.journal ≡ []) n.objects.items
-  pub planned : ArePlanned n.keys.channels.entries (plans_in n.shards.items)
 
 -- journals without entries
 abbrev pub nothing_seen : Seen

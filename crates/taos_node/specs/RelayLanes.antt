@@ -3,10 +3,11 @@ use Rattle.std.specs.Prelude.{ℕ, List, Option}
 use Rattle.node_file.specs.Held.{HoldsKeys}
 use Rattle.node_file.specs.RelayFile.{RelayFile}
 use Rattle.relay_core.specs.declared.resealing.RelayTable.{RelayTable}
-use Rattle.taos_lanes.specs.declared.lane.Limits.{Limits}
+use Rattle.frame_link.specs.declared.limits.Limits.{Limits}
 use Rattle.taos_lanes.specs.declared.total.Total.{Total}
 use Rattle.taos_lanes.specs.Relaying.{RelaysLanes}
 use Rattle.taos_lanes.specs.Stocked.{LaneShown}
+use Rattle.taos_lanes.specs.Telling.{Change, Telling}
 use Rattle.taos_node.specs.declared.ending.LanesEnd.{LanesEnd}
 use Rattle.taos_node.specs.Lanes.{PrintsLine}
 use Rattle.taos_node.specs.Summary.{relays_line}
@@ -17,12 +18,11 @@ pub record IsRelayOf (r : RelayFile) (table : RelayTable) : Type 0 where
   pub nodes : HoldsKeys table.nodes r.nodes
 
 -- a relay of the file served the doors of its lanes, with what is printed
-pub record RelaysDoors {In Out : Type 0} (left : In → Option (List ℕ))
-    (written : Out → Option (List ℕ)) (r : RelayFile) (limits : Limits)
-    (before after : List (LaneShown (In × Out))) (out0 out1 : Option (List ℕ)) (end : LanesEnd) :
-    Type 0 where
+pub record RelaysDoors {In Out : Type 0} (telling : Telling In Out) (r : RelayFile)
+    (limits : Limits) (lanes : Change (List (LaneShown (In × Out))))
+    (out : Change (Option (List ℕ))) (end : LanesEnd) : Type 0 where
   pub table : RelayTable
   pub is_relay : IsRelayOf r table
   pub total : Total
-  pub serves : RelaysLanes left written table limits before after total
-  pub prints : PrintsLine total (relays_line total) out0 out1 end
+  pub serves : RelaysLanes telling table limits lanes total
+  pub prints : PrintsLine total (relays_line total) out.before out.after end

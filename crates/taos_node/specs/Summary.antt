@@ -1,19 +1,9 @@
--- What the lanes of a node leave, and the line that tells what was counted of it.
+-- The lines that tell what was counted of what the lanes of a node left.
 use Rattle.std.specs.Prelude.{ℕ, List, ◌++◌, codes, count_by, decimal, length, not, sum_by}
 use Rattle.agent_core.specs.Journals.{ShardSeen}
 use Rattle.object_core.specs.Objects.{ObjectEntry, ObjectSeen, is_grant}
-use Rattle.taos_lanes.specs.declared.serving.Served.{Served}
 use Rattle.taos_lanes.specs.declared.total.Total.{Total}
-
--- the shards and objects with their journals, and what the lanes counted
-pub record Left : Type 0 where
-  pub shards : List ShardSeen
-  pub objects : List ObjectSeen
-  pub total : Total
-
--- the same of what the program has
-abbrev pub left_by : Served → Left
-left_by s = record { shards = s.shards.items; objects = s.objects.items; total = s.total }
+use Rattle.taos_lanes.specs.Serving.{Left}
 
 -- the entries of all shards' journals
 abbrev pub entries_of : List ShardSeen → ℕ

@@ -12,7 +12,7 @@ ghost use Rattle.taos_node.specs.Audit.{AuditCauses, AuditIsComplete, TextHasCau
 ghost use Rattle.taos_node.specs.AuditOf.{all_text};
 ghost use Rattle.taos_node.specs.Command.{Audits, IsStatus, RunsAlone, first_clock, first_link, touched};
 ghost use Rattle.taos_node.specs.Ending.{status_of};
-ghost use Rattle.taos_node.specs.Words.{Audit, Mean};
+ghost use Rattle.node_words.specs.Words.{Audit, Mean};
 ghost use Rattle.taos_node.specs.Opened.{IsOpenedBy};
 
 use crate::command::{node_file_of, serve_first};

@@ -11,13 +11,14 @@ ghost use Rattle.taos_monitor.specs.Planned.{ArePlanned};
 ghost use Rattle.taos_node.specs.Ending.{status_of};
 ghost use Rattle.frame_link.specs.Streams.{Stream, stream};
 ghost use Rattle.taos_lanes.specs.Stocked.{door_by, shown_by};
+ghost use Rattle.taos_lanes.specs.Telling.{change, told_by};
+ghost use Rattle.taos_lanes.specs.declared.serving.TheConstants.{MAX_LANES};
 ghost use Rattle.taos_node.specs.Command.{Does, Link, touched, first_clock, first_link, Ends, ServesDoors, IsStatus, RunsAlone, ServesConnection, TellsDoors};
 ghost use Rattle.taos_node.specs.Files.{FileHasCause, NodeFileGives};
 ghost use Rattle.taos_node.specs.Opened.{IsOpenedBy, IsSameNode, seen_by};
-ghost use Rattle.taos_node.specs.Words.{Check, Mean};
+ghost use Rattle.node_words.specs.Words.{Check, Mean};
 
 use crate::audit::audit_by_file;
-use crate::check::check_connection;
 use crate::drill::drill_asked;
 use crate::ending::{Ending, FileFault, status_of};
 use crate::file::file_opening;
@@ -26,10 +27,10 @@ use crate::note::tell;
 use crate::opened::{OpenNode, open_node};
 use crate::relay::{mint_by_file, relay_by_file};
 use crate::relay_lanes::serve_relay_by_file;
-use crate::wanted::Wanted;
-use crate::words::wanted_of;
 use frame_link::{Clock, Door, Outcome, RelayLink, Sink, Source};
 use goal_search::Workbench;
+use node_check::check_connection;
+use node_words::{Wanted, wanted_of};
 use std::alloc::Global;
 use std::sync::Wait;
 use std::thread::Threads;
@@ -152,7 +153,7 @@ fn run<
     lanes: &mut [Lane<C, R, D>],
 ) -> Ending
     requires some { 0 < length lanes.old }
-    requires few { length lanes.old ≤ 16 }
+    requires few { length lanes.old ≤ MAX_LANES }
     ensures runs { let before = touched (stream (F.left file.old) (F.faults file.old))
         (stream (I.left input.old) (I.faults input.old))
         (stream (O.written output.old) (O.faults output.old))
@@ -161,10 +162,10 @@ fn run<
         (stream (I.left input.new) (I.faults input.new))
         (stream (O.written output.new) (O.faults output.new))
         (first_clock C.readings C.faults lanes.new) (first_link R.says R.faults lanes.new) in
-        Does D.In.left D.Out.written words.now before after
-        (map (shown_by C.readings R.faults R.says (door_by D.left D.back D.given D.faults)) lanes.old)
-        (map (shown_by C.readings R.faults R.says (door_by D.left D.back D.given D.faults)) lanes.new)
-        result }
+        let shown = shown_by C.readings R.faults R.says
+        (door_by D.left D.back D.given D.faults) in
+        Does (told_by D.In.left D.Out.written) words.now (change before after)
+        (change (map shown lanes.old) (map shown lanes.new)) result }
     ensures others { (ServesDoors words.now → ⊥) → drop 1 lanes.new ≡ drop 1 lanes.old }
 {
     let Ok(found) = wanted_of(alloc, words) else {
@@ -236,7 +237,7 @@ pub fn taos<
     lanes: &mut [Lane<C, R, D>],
 ) -> u8
     requires some { 0 < length lanes.old }
-    requires few { length lanes.old ≤ 16 }
+    requires few { length lanes.old ≤ MAX_LANES }
 
     // Every whole frame has its course in the journals of this connection alone, and the bytes that
     // are written are the replies; or each connection of each lane's door is answered in the journals
@@ -252,16 +253,14 @@ pub fn taos<
         (stream (I.left input.new) (I.faults input.new))
         (stream (O.written output.new) (O.faults output.new))
         (first_clock C.readings C.faults lanes.new) (first_link R.says R.faults lanes.new) in
-        Ends D.In.left D.Out.written words.now before after
-        (map (shown_by C.readings R.faults R.says (door_by D.left D.back D.given D.faults)) lanes.old)
-        (map (shown_by C.readings R.faults R.says (door_by D.left D.back D.given D.faults)) lanes.new)
-        (stream (N.written notes.old) (N.faults notes.old))
-        (stream (N.written notes.new) (N.faults notes.new)) result
+        let shown = shown_by C.readings R.faults R.says
+        (door_by D.left D.back D.given D.faults) in
+        let doors = change (map shown lanes.old) (map shown lanes.new) in
+        Ends (told_by D.In.left D.Out.written) words.now (change before after) doors
+        (change (stream (N.written notes.old) (N.faults notes.old))
+        (stream (N.written notes.new) (N.faults notes.new))) result
         × IsStatus words.now before after result
-        × TellsDoors words.now before after
-        (map (shown_by C.readings R.faults R.says (door_by D.left D.back D.given D.faults)) lanes.old)
-        (map (shown_by C.readings R.faults R.says (door_by D.left D.back D.given D.faults)) lanes.new)
-        result }
+        × TellsDoors words.now (change before after) doors result }
 
     // Success has no note, nor what a check refused.
     ensures silent { (result ≡ 0) ⊎ (result ≡ 11) → notes.new ≡ notes.old }

@@ -1,27 +1,28 @@
 //! The command that serves a load that is made.
 
 ghost use Rattle.std.specs.Prelude.{◌≡◌, ◌≤◌, IfOk, List, String, length, map};
-ghost use Rattle.taos_node.specs.Summary.{left_by};
+ghost use Rattle.taos_lanes.specs.Serving.{left_by};
 ghost use Rattle.taos_wire.specs.View.{text_of};
 ghost use Rattle.taos_drill.specs.declared.numbers.TheConstants.{MAX_LANES, MAX_REQUESTS};
 ghost use Rattle.taos_node.specs.Drills.{AreDrillLanes, DrillCauses, Drills, IsDrillLane, ServesDrill, drill_shown};
-ghost use Rattle.taos_node.specs.Words as task;
-ghost use Rattle.taos_node.specs.Words.{Mean, drill_words};
+ghost use Rattle.node_words.specs.Words as task;
+ghost use Rattle.node_words.specs.Words.{Mean, drill_words};
 ghost use Rattle.taos_node.specs.Command.{IsStatus, Link, RunsAlone, touched};
 ghost use Rattle.taos_node.specs.Ending.{status_of};
 ghost use Rattle.frame_link.specs.Streams.{Stream, stream};
 ghost use Rattle.std.specs.declared.alloc.Global.{Global};
 
 use crate::ending::{DrillEnd, Ending};
-use crate::opened::{NodeParts, open_parts};
+use crate::opened::open_parts;
 use crate::summary::drill_line;
-use crate::wanted::Drill;
-use frame_link::{Failed, MemClock, MemDoor, MemSource, NoRelay, Sink, pour};
+use drill_law::loads_are_counted;
+use frame_link::{Failed, Limits, MemClock, MemDoor, MemSource, NoRelay, Sink, pour};
+use node_words::Drill;
 use std::alloc::{AllocError, Global};
 use std::sync::Wait;
 use std::thread::Threads;
 use taos_drill::{DrillPlan, GrowingSink, MAX_LANES, MAX_REQUESTS, READING};
-use taos_lanes::{Lane, Limits, Served, serve};
+use taos_lanes::{Lane, Served, serve};
 
 type DrillLane = Lane<MemClock, NoRelay, MemDoor<MemSource, GrowingSink>>;
 
@@ -66,20 +67,12 @@ fn serve_load<W: Threads + Wait + Sync>(
 {
     let plan = DrillPlan::make(alloc, asked.seed, asked.requests, asked.lanes)?;
     let parts = open_parts(alloc, plan.opening)?;
-    let NodeParts {
-        keys,
-        shards,
-        anchors,
-        objects,
-    } = parts;
     let mut lanes = lanes_of(alloc, plan.streams)?;
     let limits = Limits {
         connections: 1,
         frames: asked.requests as u64,
     };
-    let served = serve(
-        rt, alloc, &keys, shards, anchors, objects, &mut lanes, limits,
-    )?;
+    let served = serve(rt, alloc, parts, &mut lanes, limits)?;
     Ok(served)
 }
 
@@ -98,6 +91,7 @@ fn drill<W: Threads + Wait + Sync, O: Sink>(
         result }
     ensures cause { DrillCauses (O.faults output.old) (O.faults output.new) result }
 {
+    loads_are_counted();
     let Ok(served) = serve_load(rt, alloc, asked) else {
         return DrillEnd::NoMemory;
     };

@@ -5,10 +5,9 @@ ghost use Rattle.taos_node.specs.declared.ending.FileFault.TheVariants as fault;
 ghost use Rattle.taos_node.specs.Minting.{minted_status};
 ghost use Rattle.taos_node.specs.Ending.{audited_status, checked_status, drilled_status, file_status, lanes_status, served_status, status_of};
 
-use crate::check::CheckEnd;
-use crate::finding::finding_status;
 use crate::minting::MintEnd;
 use frame_link::Outcome;
+use node_check::{CheckEnd, finding_status};
 use node_file::FileCause;
 use std::alloc::AllocError;
 

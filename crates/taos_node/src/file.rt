@@ -9,11 +9,10 @@ ghost use Rattle.taos_node.specs.Files.{fault_of, FileHasCause, IsRead, IsUnread
 
 use crate::ending::FileFault;
 use frame_link::{Source, fill};
-use node_file::{FileFault as Refusal, Opening, RelayFile, read_opening, read_relay_file};
+use node_file::{
+    FileFault as Refusal, MAX_FILE, Opening, RelayFile, read_opening, read_relay_file,
+};
 use std::alloc::{AllocError, Global};
-
-/// The most bytes of a file.
-pub const MAX_FILE: usize = 4_194_304;
 
 fn zeros(alloc: Global, len: usize) -> Result<Vec<u8>, AllocError>
     ensures { IfOk result (λ v. length v.items ≡ len) }

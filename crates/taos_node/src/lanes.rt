@@ -4,23 +4,26 @@ ghost use Rattle.std.specs.Prelude.{◌<◌, ◌≤◌, IfOk, List, String, leng
 ghost use Rattle.std.specs.declared.alloc.Global.{Global};
 ghost use Rattle.frame_link.specs.Streams.{Stream, stream};
 ghost use Rattle.node_file.specs.Opening.{Opening as Meaning};
+ghost use Rattle.taos_lanes.specs.Parts.{ArePartsNew, node_in};
+ghost use Rattle.taos_lanes.specs.Serving.{left_by};
 ghost use Rattle.taos_lanes.specs.Stocked.{door_by, shown_by};
+ghost use Rattle.taos_lanes.specs.Telling.{change, told_by};
+ghost use Rattle.taos_lanes.specs.declared.serving.TheConstants.{MAX_LANES};
 ghost use Rattle.taos_node.specs.Command.{Does, first_clock, first_link, touched};
 ghost use Rattle.taos_node.specs.Files.{FileHasCause, NodeFileGives};
 ghost use Rattle.taos_node.specs.Lanes.{LanesCauses, Prints, PrintsLine, ServesLanes};
-ghost use Rattle.taos_node.specs.Opened.{AreNew, IsNodeOf, node_in};
-ghost use Rattle.taos_node.specs.Summary.{left_by};
-ghost use Rattle.taos_node.specs.Words.{Mean, Serve};
+ghost use Rattle.taos_node.specs.Opened.{IsNodeOf};
+ghost use Rattle.node_words.specs.Words.{Mean, Serve};
 
 use crate::ending::{Ending, FileFault, LanesEnd};
 use crate::file::file_opening;
-use crate::opened::{NodeParts, open_parts};
+use crate::opened::open_parts;
 use crate::summary::lanes_line;
-use frame_link::{Clock, Door, Failed, RelayLink, Sink, Source, pour};
+use frame_link::{Clock, Door, Failed, Limits, RelayLink, Sink, Source, pour};
 use std::alloc::{AllocError, Global};
 use std::sync::Wait;
 use std::thread::Threads;
-use taos_lanes::{Lane, Limits, Served, Total, serve};
+use taos_lanes::{Lane, NodeParts, Served, Total, serve};
 
 /// Prints the line of what lanes counted, where no door failed and no connection ended for want of
 /// memory.
@@ -58,7 +61,7 @@ fn node_parts_of<F: Source>(alloc: Global, file: &mut F) -> Result<NodeParts, Fi
     ensures gives { NodeFileGives (λ o x. IsNodeOf o (node_in x))
         (stream (F.left file.old) (F.faults file.old))
         (stream (F.left file.new) (F.faults file.new)) result }
-    ensures new { IfOk result AreNew }
+    ensures new { IfOk result ArePartsNew }
     ensures cause { FileHasCause (stream (F.left file.old) (F.faults file.old))
         (stream (F.left file.new) (F.faults file.new)) result }
 {
@@ -83,22 +86,17 @@ fn serve_parts<
     limits: Limits,
 ) -> LanesEnd
     requires some { 0 < length lanes.old }
-    requires few { length lanes.old ≤ 16 }
-    requires new { AreNew parts }
+    requires few { length lanes.old ≤ MAX_LANES }
+    requires new { ArePartsNew parts }
     ensures serves { (o : Meaning) → IsNodeOf o (node_in parts)
-        → ServesLanes D.In.left D.Out.written o limits
-        (map (shown_by C.readings R.faults R.says (door_by D.left D.back D.given D.faults)) lanes.old)
-        (map (shown_by C.readings R.faults R.says (door_by D.left D.back D.given D.faults)) lanes.new)
-        (O.written output.old) (O.written output.new) result }
+        → let shown = shown_by C.readings R.faults R.says
+        (door_by D.left D.back D.given D.faults) in
+        ServesLanes (told_by D.In.left D.Out.written) o limits
+        (change (map shown lanes.old) (map shown lanes.new))
+        (change (O.written output.old) (O.written output.new)) result }
     ensures cause { LanesCauses (O.faults output.old) (O.faults output.new) result }
 {
-    let NodeParts {
-        keys,
-        shards,
-        anchors,
-        objects,
-    } = parts;
-    match serve(rt, alloc, &keys, shards, anchors, objects, lanes, limits) {
+    match serve(rt, alloc, parts, lanes, limits) {
         Ok(served) => print(output, &served),
         Err(AllocError) => LanesEnd::NoMemory,
     }
@@ -121,7 +119,7 @@ pub(crate) fn serve_by_file<
     limits: Limits,
 ) -> Ending
     requires some { 0 < length lanes.old }
-    requires few { length lanes.old ≤ 16 }
+    requires few { length lanes.old ≤ MAX_LANES }
     // Whatever input there is.
     ensures serves { (words : List (String Global)) (input : Stream) → Mean words (Serve limits)
         → let before = touched (stream (F.left file.old) (F.faults file.old)) input
@@ -130,10 +128,10 @@ pub(crate) fn serve_by_file<
         let after = touched (stream (F.left file.new) (F.faults file.new)) input
         (stream (O.written output.new) (O.faults output.new))
         (first_clock C.readings C.faults lanes.new) (first_link R.says R.faults lanes.new) in
-        Does D.In.left D.Out.written words before after
-        (map (shown_by C.readings R.faults R.says (door_by D.left D.back D.given D.faults)) lanes.old)
-        (map (shown_by C.readings R.faults R.says (door_by D.left D.back D.given D.faults)) lanes.new)
-        result }
+        let shown = shown_by C.readings R.faults R.says
+        (door_by D.left D.back D.given D.faults) in
+        Does (told_by D.In.left D.Out.written) words (change before after)
+        (change (map shown lanes.old) (map shown lanes.new)) result }
 {
     match node_parts_of(alloc, file) {
         Ok(parts) => Ending::Lanes(serve_parts(rt, alloc, parts, output, lanes, limits)),

@@ -8,13 +8,13 @@ ghost use Rattle.prin_text.specs.Meaning.{IsTextWithin};
 ghost use Rattle.sealed_cert.specs.Seals.{OpensIssued};
 ghost use Rattle.stmt_codec.specs.Certificates.{certificate, IsWithinLimits};
 ghost use Rattle.taos_node.specs.Minting.{AsksFor, IsBadQuote, IsMinted, IsMoment, IsNobody, IsQuoted, IsStopped, MintCauses, Mints, minted_line};
-ghost use Rattle.taos_node.specs.Words.{mint_words};
+ghost use Rattle.node_words.specs.Words.{mint_words};
 
-use crate::wanted::Mint;
 use credential_kit::{Signer, issue_body};
 use frame_link::{Failed, Sink, pour};
 use jiff::Timestamp;
 use node_file::RelayFile;
+use node_words::Mint;
 use prin_term::{Statement, Term};
 use prin_text::{Names, TextFault, read_principal};
 use std::alloc::{AllocError, Global};

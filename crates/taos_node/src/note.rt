@@ -5,12 +5,12 @@ ghost use Rattle.taos_node.specs.Ending.{status_of};
 ghost use Rattle.taos_node.specs.Minting.{minted_note, word_text};
 ghost use Rattle.taos_node.specs.Notes.{audited_note, cause_text, checked_note, drilled_note, file_note, lanes_note, served_note, note_of, IsNoted};
 
-use crate::check::CheckEnd;
 use crate::ending::{AuditEnd, DrillEnd, Ending, FileFault, LanesEnd};
 use crate::minting::{MintEnd, MintWord};
 use arrayvec::ArrayVec;
 use frame_link::{Outcome, Sink, pour};
 use itoa::Buffer;
+use node_check::CheckEnd;
 use node_file::FileCause;
 
 // A note has no more bytes than this.

@@ -13,25 +13,17 @@ ghost use Rattle.node_file.specs.Meaning.{opening, FitsByNumber};
 ghost use Rattle.node_file.specs.Opening.{Opening as Meaning};
 ghost use Rattle.node_file.specs.OpeningView.{Represents};
 ghost use Rattle.taos_monitor.specs.Planned.{ArePlanned};
-ghost use Rattle.taos_node.specs.Opened.{AllFit, AreNew, IsNodeOf, IsOpenedBy, its_plans, new_object, node_in, numbers_of};
+ghost use Rattle.taos_lanes.specs.Parts.{ArePartsNew, node_in};
+ghost use Rattle.taos_node.specs.Opened.{AllFit, IsNodeOf, IsOpenedBy, its_plans, new_object, numbers_of};
 
 use agent_core::{Lone, Shard, open_shards};
 use keyed_seal::{KeyTable, Sealer};
 use node_file::{ObjectPlans, Opening};
 use object_core::{LoneShelf, Object};
-use prin_term::Anchor;
 use std::alloc::{AllocError, Global};
 use std::sync::Arc;
+use taos_lanes::NodeParts;
 use taos_monitor::NodeKeys;
-
-/// A node's keys, its shards and its objects, before anyone steps them.
-#[derive(Drop)]
-pub(crate) struct NodeParts {
-    pub(crate) keys: NodeKeys,
-    pub(crate) shards: Vec<Shard>,
-    pub(crate) anchors: Arc<Vec<Anchor>>,
-    pub(crate) objects: Vec<Object>,
-}
 
 /// A node's keys, its objects and its shards, which nobody else steps.
 #[derive(Drop)]
@@ -82,7 +74,8 @@ fn objects_of(alloc: Global, plans: &ObjectPlans, limit: u64) -> Result<Vec<Obje
     requires { AllFit plans.now }
     ensures opened { IfOk result (λ v. v.items ≡ map (new_object limit) plans.now) }
     ensures apart { IfOk result (λ v. HaveOwnNumbers (map fixed_of v.items)) }
-    ensures by_number { IfOk result (λ v. IsStrictlyIncreasing (object_numbers (map fixed_of v.items))) }
+    ensures by_number { IfOk result (λ v.
+        IsStrictlyIncreasing (object_numbers (map fixed_of v.items))) }
 {
     // It says that no number comes twice.
     let _first = plans.at(0);
@@ -101,12 +94,13 @@ fn objects_of(alloc: Global, plans: &ObjectPlans, limit: u64) -> Result<Vec<Obje
 /// want is taken here.
 pub(crate) fn open_parts(alloc: Global, node: Opening) -> Result<NodeParts, AllocError>
     requires { FitsByNumber (opening node) }
-    ensures is_node { IfOk result (λ n. (o : Meaning) → Represents node o → IsNodeOf o (node_in n)) }
+    ensures is_node { IfOk result (λ n. (o : Meaning) → Represents node o
+        → IsNodeOf o (node_in n)) }
     ensures shards { IfOk result (λ n. n.shards.items
         ≡ map new_shard (its_plans (opening node) node.channels.entries)) }
     ensures objects { IfOk result (λ n. n.objects.items
         ≡ map (new_object node.limit) node.objects) }
-    ensures new { IfOk result AreNew }
+    ensures new { IfOk result ArePartsNew }
 {
     let shards = shards_of(alloc, &node)?;
     let objects = objects_of(alloc, &node.objects, node.limit)?;

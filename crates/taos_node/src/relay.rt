@@ -5,13 +5,13 @@ ghost use Rattle.std.specs.declared.alloc.Global.{Global};
 ghost use Rattle.frame_link.specs.Streams.{Stream, stream};
 ghost use Rattle.taos_node.specs.Ending.{status_of};
 ghost use Rattle.taos_node.specs.Command.{Link, touched, RunsAlone, IsStatus};
-ghost use Rattle.taos_node.specs.Words.{Mean, Mint, Relay, mint_words};
+ghost use Rattle.node_words.specs.Words.{Mean, Mint, Relay, mint_words};
 
 use crate::ending::Ending;
 use crate::file::file_relay;
 use crate::minting::mint;
-use crate::wanted::Mint as MintAsked;
 use frame_link::{Sink, Source};
+use node_words::Mint as MintAsked;
 use relay_core::serve_relay;
 use std::alloc::Global;
 

@@ -6,20 +6,22 @@ ghost use Rattle.frame_link.specs.Streams.{Stream, stream};
 ghost use Rattle.node_file.specs.RelayFile as meant;
 ghost use Rattle.node_file.specs.RelayView.{StandsFor};
 ghost use Rattle.taos_lanes.specs.Stocked.{door_by, shown_by};
+ghost use Rattle.taos_lanes.specs.Telling.{change, told_by};
+ghost use Rattle.taos_lanes.specs.declared.serving.TheConstants.{MAX_LANES};
 ghost use Rattle.taos_node.specs.Command.{Does, first_clock, first_link, touched};
 ghost use Rattle.taos_node.specs.Lanes.{LanesCauses};
 ghost use Rattle.taos_node.specs.RelayLanes.{RelaysDoors};
-ghost use Rattle.taos_node.specs.Words.{Mean, RelayServe};
+ghost use Rattle.node_words.specs.Words.{Mean, RelayServe};
 
 use crate::ending::{Ending, LanesEnd};
 use crate::file::file_relay;
 use crate::lanes::print_line;
 use crate::summary::relays_line;
-use frame_link::{Clock, Door, RelayLink, Sink, Source};
+use frame_link::{Clock, Door, Limits, RelayLink, Sink, Source};
 use node_file::RelayFile;
 use std::alloc::Global;
 use std::thread::Threads;
-use taos_lanes::{Lane, Limits, serve_relays};
+use taos_lanes::{Lane, serve_relays};
 
 // Serves the doors of all lanes as a relay that knows this, and prints what was counted.
 fn serve_lanes<W: Threads + Sync, O: Sink, C: Clock + Send, R: RelayLink + Send, D: Door + Send>(
@@ -31,12 +33,13 @@ fn serve_lanes<W: Threads + Sync, O: Sink, C: Clock + Send, R: RelayLink + Send,
     limits: Limits,
 ) -> LanesEnd
     requires some { 0 < length lanes.old }
-    requires few { length lanes.old ≤ 16 }
+    requires few { length lanes.old ≤ MAX_LANES }
     ensures serves { (r : meant.RelayFile) → StandsFor relay.now r
-        → RelaysDoors D.In.left D.Out.written r limits
-        (map (shown_by C.readings R.faults R.says (door_by D.left D.back D.given D.faults)) lanes.old)
-        (map (shown_by C.readings R.faults R.says (door_by D.left D.back D.given D.faults)) lanes.new)
-        (O.written output.old) (O.written output.new) result }
+        → let shown = shown_by C.readings R.faults R.says
+        (door_by D.left D.back D.given D.faults) in
+        RelaysDoors (told_by D.In.left D.Out.written) r limits
+        (change (map shown lanes.old) (map shown lanes.new))
+        (change (O.written output.old) (O.written output.new)) result }
     ensures cause { LanesCauses (O.faults output.old) (O.faults output.new) result }
 {
     let total = serve_relays(rt, alloc, &relay.table, lanes, limits);
@@ -60,7 +63,7 @@ pub(crate) fn serve_relay_by_file<
     limits: Limits,
 ) -> Ending
     requires some { 0 < length lanes.old }
-    requires few { length lanes.old ≤ 16 }
+    requires few { length lanes.old ≤ MAX_LANES }
     // Whatever input there is.
     ensures serves { (words : List (String Global)) (input : Stream)
         → Mean words (RelayServe limits)
@@ -70,10 +73,10 @@ pub(crate) fn serve_relay_by_file<
         let after = touched (stream (F.left file.new) (F.faults file.new)) input
         (stream (O.written output.new) (O.faults output.new))
         (first_clock C.readings C.faults lanes.new) (first_link R.says R.faults lanes.new) in
-        Does D.In.left D.Out.written words before after
-        (map (shown_by C.readings R.faults R.says (door_by D.left D.back D.given D.faults)) lanes.old)
-        (map (shown_by C.readings R.faults R.says (door_by D.left D.back D.given D.faults)) lanes.new)
-        result }
+        let shown = shown_by C.readings R.faults R.says
+        (door_by D.left D.back D.given D.faults) in
+        Does (told_by D.In.left D.Out.written) words (change before after)
+        (change (map shown lanes.old) (map shown lanes.new)) result }
 {
     match file_relay(alloc, file) {
         Ok(relay) => Ending::RelayLanes(serve_lanes(rt, alloc, &relay, output, lanes, limits)),

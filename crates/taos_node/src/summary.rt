@@ -3,7 +3,8 @@
 ghost use Rattle.std.specs.Prelude.{◌≡◌, ◌+◌, ◌≤◌, ◌++◌, count_by, decimal, length, map, not};
 ghost use Rattle.object_core.specs.Objects.{is_grant};
 ghost use Rattle.object_core.specs.ObjectView.{object_entry};
-ghost use Rattle.taos_node.specs.Summary.{denials_of, drill_line, entries_of, grants_of, left_by, lanes_line, relays_line};
+ghost use Rattle.taos_lanes.specs.Serving.{left_by};
+ghost use Rattle.taos_node.specs.Summary.{denials_of, drill_line, entries_of, grants_of, lanes_line, relays_line};
 
 use agent_core::Shard;
 use arrayvec::ArrayVec;
@@ -36,7 +37,8 @@ fn grants_among(journal: &[ObjectEntry]) -> usize
 }
 
 fn denials_among(journal: &[ObjectEntry]) -> usize
-    ensures value { result ≡ count_by (λ e. not (is_grant e.ruling)) (map object_entry journal.now) }
+    ensures value { result
+        ≡ count_by (λ e. not (is_grant e.ruling)) (map object_entry journal.now) }
     ensures few { result ≤ length journal.now }
 {
     let mut count = 0;

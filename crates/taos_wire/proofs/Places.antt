@@ -1,5 +1,5 @@
 -- Where a request is refused: at one of its bytes or right after the last, and never for memory.
-use Rattle.std.proofs.Common.{◌≡◌, ℕ, ◌≤◌, cond, eqb, ltb, List, length, Result, Ok, Err, sym, subst, arith, inl, inr}
+use Rattle.std.proofs.Common.{◌≡◌, ℕ, cond, eqb, ltb, List, length, Ok, Err, sym, subst, arith, inl, inr}
 use Rattle.object_core.specs.Operation.{Read, Write, SetList, Hold, Discard, Forget, Sweep}
 use Rattle.object_core.proofs.ListPlaces.{content_stays, list_stays}
 use Rattle.keyed_seal.specs.declared.tag.TheConstants.{TAG_LEN}

@@ -1,5 +1,5 @@
 -- The fields of a reply: what is read is spelled so, and the other way.
-use Rattle.std.proofs.Common.{◌≡◌, ℕ, zero, suc, ◌+◌, ◌^◌, ◌<◌, ◌≤◌, Bool, true, false, cond, eqb, List, [], ◌∷◌, ◌++◌, length, drop, Result, Ok, refl, sym, ap, subst, ◌∙◌, append_assoc, arith}
+use Rattle.std.proofs.Common.{◌≡◌, ℕ, zero, suc, ◌+◌, ◌^◌, ◌<◌, ◌≤◌, Bool, true, false, cond, eqb, List, [], ◌∷◌, ◌++◌, length, drop, Ok, refl, sym, ap, subst, ◌∙◌, append_assoc, arith}
 use Rattle.std.specs.Prelude.{All}
 use Rattle.std.specs.Int.{w16, w32, w64, to_be_bytes}
 use Rattle.std.proofs.lemmas.Bool.{eqb-true, eqb-false}
@@ -13,7 +13,7 @@ use Rattle.byte_fields.specs.Steps.{bytes_at, counted, counted_at}
 use Rattle.byte_fields.proofs.FieldLaws.{IsBytes, TakesAt, wide16}
 use Rattle.byte_fields.proofs.FieldReaders.{reads_given, reads_counted_bytes}
 use Rattle.prin_term.proofs.TermReaders.{reads_term}
-use Rattle.byte_fields.proofs.ReaderLaws.{Reads, reads_bytes, reads_followed, reads_passing, reads_made, reads_as, reads_each}
+use Rattle.byte_fields.proofs.ReaderLaws.{Reads, reads_bytes, reads_followed, reads_passing, reads_made, reads_each}
 use Rattle.byte_fields.proofs.Results.{bind_ok, ok_is}
 use Rattle.stmt_codec.specs.Certificates.{Certificate, body_spelling}
 use Rattle.taos_calculus.specs.Rules.{Line}

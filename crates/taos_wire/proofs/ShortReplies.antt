@@ -1,14 +1,13 @@
 -- How long the bytes of replies are at most.
-use Rattle.std.proofs.Common.{◌≡◌, ℕ, ◌+◌, ◌*◌, ◌<◌, ◌≤◌, ◌^◌, List, [], ◌∷◌, ◌++◌, length, map, Bool, Option, Some, None, ap, arith, length-append}
-use Rattle.std.specs.Prelude.{IfSome}
+use Rattle.std.proofs.Common.{◌≡◌, ℕ, ◌+◌, ◌*◌, ◌<◌, ◌≤◌, ◌^◌, List, [], ◌∷◌, ◌++◌, length, map, Option, ap, arith, length-append}
 use Rattle.std.specs.Int.{w16, w32, w64, to_be_bytes}
 use Rattle.std.specs.List.{flat_map}
 use Rattle.std.specs.declared.sync.Arc.{Arc}
 use Rattle.std.specs.Arc.{arc_value}
 use Rattle.std.proofs.lemmas.List.Concat.{flat_map-cons}
 use Rattle.stmt_codec.specs.declared.cert.Cert.{Cert}
-use Rattle.prin_term.specs.Principal.{Principal, Key, Name, And, Quoting, InRole, For, node_count, spelling as term_spelling}
-use Rattle.byte_fields.specs.Steps.{counted, optional}
+use Rattle.prin_term.specs.Principal.{node_count}
+use Rattle.byte_fields.specs.Steps.{counted}
 use Rattle.prin_term.specs.View.{principal}
 use Rattle.taos_calculus.specs.Tables.{lines_of}
 use Rattle.taos_wire.specs.declared.reply.LentGrant.{LentGrant}
@@ -82,8 +81,8 @@ unfolding reply_text
 small_reply key channel seq r fits lt =
     omega (arith, small_fields r fits lt, length-append (answered_bytes channel seq) (status_of r ∷ fields_of r), length-append (reply_text channel seq r) (seal_of key (reply_text channel seq r)), length-seal_of key (reply_text channel seq r))
 
-pub missing_short : (key : List ℕ) (channel seq : ℕ) (d : LentPart) → node_count (principal d.part.now) ≤ 16 → length (spelling (sent (Some key) channel seq (lent_part d))) ≤ 256
+pub missing_short : (key : Option (List ℕ)) (channel seq : ℕ) (d : LentPart) → node_count (principal d.part.now) ≤ 16 → length (spelling (sent key channel seq (lent_part d))) ≤ 256
 unfolding reply_text
 missing_short key channel seq d few =
     let r = lent_part d in
-    omega (arith, few, term_bound (principal d.part.now), length-append (reply_text channel seq r) (seal_of (Some key) (reply_text channel seq r)), length-seal_of (Some key) (reply_text channel seq r))
+    omega (arith, few, term_bound (principal d.part.now), length-append (reply_text channel seq r) (seal_of key (reply_text channel seq r)), length-seal_of key (reply_text channel seq r))

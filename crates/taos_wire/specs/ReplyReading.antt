@@ -1,5 +1,5 @@
 -- Reading a reply from left to right, with the first fault that is met.
-use Rattle.std.specs.Prelude.{ℕ, ◌+◌, Bool, ◌||◌, List, length, take, Result, Ok, Err, nat_le}
+use Rattle.std.specs.Prelude.{ℕ, ◌+◌, Bool, List, length, take, Result, Ok, Err, nat_le}
 use Rattle.std.specs.Prelude.{nat_lt, ◌==◌, if◌then◌else◌}
 use Rattle.std.specs.Int.{w16}
 use Rattle.prin_term.specs.declared.limits.TheConstants.{ENTRY_NODES}

@@ -22,9 +22,11 @@ pub use laws::{
 };
 pub use reading::read_request;
 pub use reply::{LentGrant, LentPart, LinkSent, MAX_CITED, Reply};
-pub use reply_lent::{write_granted, write_missing, write_missing_with};
+pub use reply_lent::{
+    draft_granted, draft_missing, write_granted, write_missing, write_missing_with,
+};
 pub use reply_reading::read_reply;
 pub use reply_writing::{write_reply, write_reply_with};
 pub use request::{MAX_CERTS, Request};
-pub use seal::{sealed_by, sealed_with};
+pub use seal::{seal_over, sealed_by, sealed_with};
 pub use writing::write_request;

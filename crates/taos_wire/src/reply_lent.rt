@@ -1,6 +1,7 @@
 //! Writing a reply whose parts are lent.
 
-ghost use Rattle.std.specs.Prelude.{◌+◌, ◌<◌, ◌≤◌, ◌^◌, Some, length, OnOk};
+ghost use Rattle.std.specs.Prelude.{◌+◌, ◌<◌, ◌≤◌, ◌^◌, None, Some, length, OnOk};
+ghost use Rattle.std.specs.Option.{option_copied};
 ghost use Rattle.byte_fields.specs.Appends.{Appends, Pushes};
 ghost use Rattle.prin_term.specs.Refusal.{FitsLimits};
 ghost use Rattle.prin_term.specs.View.{principal};
@@ -32,6 +33,40 @@ pub fn write_granted(
     ensures short { OnOk result
         (length (spelling (sent (Some sealer.now) channel seq (lent_grant grant.now))) < 2 ^ 26) }
 {
+    append_grant(out, Some(sealer), channel, seq, grant)
+}
+
+/// The same without a seal, for which the room is taken: `seal_over` puts it there.
+pub fn draft_granted(
+    out: &mut Vec<u8>,
+    channel: u32,
+    seq: u64,
+    grant: &LentGrant<'_>,
+) -> Result<(), AllocError>
+    requires few_certs { length grant.now.certs.now ≤ MAX_CITED }
+    requires short { length grant.now.content.now < 2 ^ 16 }
+    ensures appends { Appends out.old out.new
+        (spelling (sent None channel seq (lent_grant grant.now))) result }
+    ensures short { OnOk result
+        (length (spelling (sent None channel seq (lent_grant grant.now))) < 2 ^ 26) }
+{
+    append_grant(out, None, channel, seq, grant)
+}
+
+fn append_grant(
+    out: &mut Vec<u8>,
+    sealer: Option<&Sealer>,
+    channel: u32,
+    seq: u64,
+    grant: &LentGrant<'_>,
+) -> Result<(), AllocError>
+    requires few_certs { length grant.now.certs.now ≤ MAX_CITED }
+    requires short { length grant.now.content.now < 2 ^ 16 }
+    ensures appends { Appends out.old out.new
+        (spelling (sent (option_copied sealer.entry) channel seq (lent_grant grant.now))) result }
+    ensures short { OnOk result (length
+        (spelling (sent (option_copied sealer.entry) channel seq (lent_grant grant.now))) < 2 ^ 26) }
+{
     let len = out.len();
     let written = push_sealed_grant(out, sealer, channel, seq, grant);
     if written.is_err() {
@@ -42,7 +77,7 @@ pub fn write_granted(
 
 fn push_sealed_grant(
     out: &mut Vec<u8>,
-    sealer: &Sealer,
+    sealer: Option<&Sealer>,
     channel: u32,
     seq: u64,
     grant: &LentGrant<'_>,
@@ -50,13 +85,13 @@ fn push_sealed_grant(
     requires few_certs { length grant.now.certs.now ≤ MAX_CITED }
     requires short { length grant.now.content.now < 2 ^ 16 }
     ensures pushes { Pushes out.old out.new
-        (spelling (sent (Some sealer.now) channel seq (lent_grant grant.now))) result }
-    ensures short { OnOk result
-        (length (spelling (sent (Some sealer.now) channel seq (lent_grant grant.now))) < 2 ^ 26) }
+        (spelling (sent (option_copied sealer.entry) channel seq (lent_grant grant.now))) result }
+    ensures short { OnOk result (length
+        (spelling (sent (option_copied sealer.entry) channel seq (lent_grant grant.now))) < 2 ^ 26) }
 {
     let start = out.len();
     push_grant_text(out, channel, seq, grant)?;
-    push_seal(out, Some(sealer), start)
+    push_seal(out, sealer, start)
 }
 
 #[tactic(auto, unfolding(crate::specs::Reply::reply_text))]
@@ -119,6 +154,37 @@ pub fn write_missing_with(
     ensures short { length (spelling (sent (Some sealer.now) channel seq (lent_part denial.now)))
         ≤ 256 }
 {
+    append_part(out, Some(sealer), channel, seq, denial)
+}
+
+/// The same without a seal, for which the room is taken: `seal_over` puts it there.
+pub fn draft_missing(
+    out: &mut Vec<u8>,
+    channel: u32,
+    seq: u64,
+    denial: &LentPart<'_>,
+) -> Result<(), AllocError>
+    requires limits { FitsLimits ENTRY_NODES (principal denial.now.part.now) }
+    ensures appends { Appends out.old out.new
+        (spelling (sent None channel seq (lent_part denial.now))) result }
+    ensures short { length (spelling (sent None channel seq (lent_part denial.now))) ≤ 256 }
+{
+    append_part(out, None, channel, seq, denial)
+}
+
+fn append_part(
+    out: &mut Vec<u8>,
+    sealer: Option<&Sealer>,
+    channel: u32,
+    seq: u64,
+    denial: &LentPart<'_>,
+) -> Result<(), AllocError>
+    requires limits { FitsLimits ENTRY_NODES (principal denial.now.part.now) }
+    ensures appends { Appends out.old out.new
+        (spelling (sent (option_copied sealer.entry) channel seq (lent_part denial.now))) result }
+    ensures short { length
+        (spelling (sent (option_copied sealer.entry) channel seq (lent_part denial.now))) ≤ 256 }
+{
     let len = out.len();
     let written = push_sealed_part(out, sealer, channel, seq, denial);
     if written.is_err() {
@@ -129,17 +195,17 @@ pub fn write_missing_with(
 
 fn push_sealed_part(
     out: &mut Vec<u8>,
-    sealer: &Sealer,
+    sealer: Option<&Sealer>,
     channel: u32,
     seq: u64,
     denial: &LentPart<'_>,
 ) -> Result<(), AllocError>
     ensures { Pushes out.old out.new
-        (spelling (sent (Some sealer.now) channel seq (lent_part denial.now))) result }
+        (spelling (sent (option_copied sealer.entry) channel seq (lent_part denial.now))) result }
 {
     let start = out.len();
     push_part_text(out, channel, seq, denial)?;
-    push_seal(out, Some(sealer), start)
+    push_seal(out, sealer, start)
 }
 
 #[tactic(auto, unfolding(crate::specs::Reply::reply_text))]

@@ -1,6 +1,7 @@
 //! The seal at the end of a message.
 
-ghost use Rattle.std.specs.Prelude.{◌↔◌, IsTrue};
+ghost use Rattle.std.specs.Prelude.{◌≡◌, ◌↔◌, ◌≤◌, ℕ, IsTrue, List, None, Some, length};
+ghost use Rattle.taos_wire.specs.Reply.{under_seal};
 ghost use Rattle.taos_wire.specs.Request.{IsSealed};
 
 use keyed_seal::{Sealer, TAG_LEN};
@@ -21,4 +22,15 @@ pub fn sealed_with(sealer: &Sealer, bytes: &[u8]) -> bool
     }
     let (text, tag) = bytes.split_at(bytes.len() - TAG_LEN);
     sealer.tag_is(text, tag)
+}
+
+/// Seals a reply that was written without a seal: the tag stands where its zeros stood.
+pub fn seal_over(sealer: &Sealer, bytes: &mut [u8])
+    requires { 32 ≤ length bytes.old }
+    ensures { (text : List ℕ) → bytes.old ≡ under_seal None text
+        → bytes.new ≡ under_seal (Some sealer.now) text }
+{
+    let end = bytes.len() - TAG_LEN;
+    let tag = sealer.tag(&bytes[..end]);
+    bytes[end..].copy_from_slice(&tag);
 }

@@ -6,7 +6,9 @@ use std::alloc::{AllocError, Global};
 use std::net::{Net, TcpListener, TcpStream};
 use std::sync::Arc;
 use std::time::{Clock, Duration};
-use system_link::{Doorway, LIMIT, Stop, SystemSeconds, TcpDoor, TcpRelay, Terms};
+use system_link::{
+    Doorway, LIMIT, Stop, SystemSeconds, TcpDoor, TcpRelay, Teller, Terms, teller_of,
+};
 use taos_node::Lane;
 
 /// What the words say.
@@ -20,12 +22,14 @@ pub struct Setting<'w> {
     pub command: &'w [String],
 }
 
-/// What all lanes have: how long a peer may be silent, what stops their doors, and the relay's address.
+/// What all lanes have: how long a peer may be silent, what stops their doors, the relay's address, and
+/// what each leaves its notices by.
 #[derive(Clone, Copy)]
 pub struct Common<'a> {
     pub idle: Duration,
     pub stop: &'a Arc<Stop, Global>,
     pub relay: &'a str,
+    pub tellers: &'a [Teller],
 }
 
 /// A lane over a system: its clock, a link to the relay and a door.
@@ -37,14 +41,17 @@ fn lane_of<S: Net<Listener = TcpListener, Stream = TcpStream> + Clock + Copy + S
     alloc: Global,
     common: Common<'_>,
     doorway: Doorway,
+    teller: &Teller,
 ) -> Result<SystemLane<S>, AllocError> {
     let terms = Terms {
         clock: system,
         stop: Arc::try_clone(common.stop)?,
         idle: common.idle,
+        teller: teller_of(teller)?,
     };
     let relay = String::from_str(alloc, common.relay)?;
-    let link = TcpRelay::new(system, alloc, relay, Duration::from_secs(LIMIT));
+    let limit = Duration::from_secs(LIMIT);
+    let link = TcpRelay::new(system, alloc, relay, limit, teller_of(teller)?);
     let door = TcpDoor::new(doorway, alloc, terms);
     Ok(Lane::of(SystemSeconds::new(system), link, door))
 }
@@ -60,7 +67,8 @@ pub fn lanes_of<S: Net<Listener = TcpListener, Stream = TcpStream> + Clock + Cop
 {
     let mut lanes = Vec::new(alloc);
     for doorway in doorways {
-        lanes.push(lane_of(system, alloc, common, doorway)?)?;
+        let teller = common.tellers.get(lanes.len()).unwrap_or(&None);
+        lanes.push(lane_of(system, alloc, common, doorway, teller)?)?;
     }
     Ok(lanes)
 }

@@ -6,6 +6,7 @@ ghost use Rattle.std.specs.Prelude.{◌<◌, ◌≤◌, length, vec_len};
 mod keys;
 mod lanes;
 mod own;
+mod telling;
 mod usage;
 
 use frame_link::{Clock, Door, RelayLink, Sink, pour};
@@ -21,11 +22,12 @@ use std::sync::{Arc, Wait};
 use std::thread::Threads;
 use std::{env, io, time};
 use system_link::{
-    Deferred, Doorway, FileReading, Listener, Origin, Outbox, PIECE, Prompt, Reading, Stop,
-    Watched, Writing, addresses_of, bind_all, doorways_of, stop_at_end, tell_addresses,
+    Deferred, Doorway, FileReading, Listener, Origin, Outbox, PIECE, Prompt, Reading, Stop, Teller,
+    Telling, Watched, Writing, addresses_of, bind_all, doorways_of, stop_at_end, tell_addresses,
     tell_readers,
 };
 use taos_node::{Ending, FileFault, Lane, Outcome, status_of, taos, tell};
+use telling::{output_teller, tellers_of};
 use usage::{USAGE, VERSION};
 
 // Where fresh keys come from.
@@ -59,19 +61,20 @@ fn file_of<'a>(rt: &HostRuntime, path: &'a str) -> FileReading<'a, File, Stderr>
     }
 }
 
-// The work of a command, by these lanes.
+// The work of a command, by these lanes. What is written leaves notices by the teller.
 fn work<W: Threads + Wait + Sync, N: Sink, C: Clock + Send, R: RelayLink + Send, D: Door + Send>(
     rt: &HostRuntime,
     workers: &W,
-    alloc: Global,
     path: &str,
     command: &[String],
+    teller: Teller,
     notes: &mut N,
     lanes: &mut [Lane<C, R, D>],
 ) -> u8
     requires some { 0 < length lanes.old }
     requires few { length lanes.old ≤ 16 }
 {
+    let alloc = rt.alloc();
     let Ok(outbox) = Outbox::with_capacity(alloc, PIECE, rt.stdout()) else {
         return ended(notes, Ending::NoMemory);
     };
@@ -85,7 +88,8 @@ fn work<W: Threads + Wait + Sync, N: Sink, C: Clock + Send, R: RelayLink + Send,
     }
     let mut file = Watched::new(alloc, file, path, rt.stderr());
     let mut input = Reading::new(standard_input);
-    let mut output = Writing::new(Deferred::new(&outbox));
+    let telling = Telling::new(Deferred::new(&outbox), *rt, None, teller);
+    let mut output = Writing::new(telling);
     let status = taos(
         workers,
         alloc,
@@ -145,16 +149,15 @@ fn work_by<
     requires some { 0 < vec_len doorways }
     requires few { vec_len doorways ≤ 16 }
 {
-    let alloc = rt.alloc();
-    let Ok(mut lanes) = lanes_of(system, alloc, common, doorways) else {
+    let Ok(mut lanes) = lanes_of(system, rt.alloc(), common, doorways) else {
         return ended(notes, Ending::NoMemory);
     };
     work(
         rt,
         workers,
-        alloc,
         setting.path,
         setting.command,
+        output_teller(setting.command, common.tellers),
         notes,
         lanes.as_mut_slice(),
     )
@@ -183,12 +186,20 @@ fn listen<W: Threads + Wait + Sync, N: Sink>(
     let Ok(doorways) = doorways_of(alloc, setting.addresses, &listeners) else {
         return ended(notes, Ending::NoMemory);
     };
+    let Ok((tellers, scribe)) = tellers_of(rt, workers, own.tells, doorways.len()) else {
+        return ended(notes, Ending::NoMemory);
+    };
     let common = Common {
         idle: own.idle,
         stop: &stop,
         relay: setting.relay,
+        tellers: &tellers,
     };
-    work_by(rt, rt, workers, setting, common, doorways, notes)
+    let status = work_by(rt, rt, workers, setting, common, doorways, notes);
+    if let Some(scribe) = scribe {
+        scribe.end(workers, rt);
+    }
+    status
 }
 
 // Behind the options, the first three words are the file, where to listen and the relay; the others

@@ -6,6 +6,16 @@ use system_link::IDLE;
 // The most seconds that a peer may have between frames.
 const MAX_IDLE: u64 = 86_400;
 
+/// Which notices are written on standard error.
+#[derive(Clone, Copy, Debug, PartialEq, Eq)]
+pub enum Tells {
+    Nothing,
+    /// Those of refusals, of connections that break, and of failures of the relay.
+    Refusals,
+    /// And those of denials.
+    Denials,
+}
+
 /// What the options say, and the words behind them.
 #[derive(Drop)]
 pub struct Own<'w> {
@@ -15,6 +25,8 @@ pub struct Own<'w> {
     pub tells_addresses: bool,
     /// The end of standard input stops what serves doors.
     pub stops_at_end: bool,
+    /// What is told while it serves.
+    pub tells: Tells,
     pub words: &'w [String],
 }
 
@@ -44,6 +56,18 @@ fn take_one(own: &mut Own<'_>) -> Option<bool> {
             own.words = rest;
             Some(true)
         }
+        [option, rest @ ..] if option.as_str() == "--tell-refusals" => {
+            if own.tells == Tells::Nothing {
+                own.tells = Tells::Refusals;
+            }
+            own.words = rest;
+            Some(true)
+        }
+        [option, rest @ ..] if option.as_str() == "--tell-denials" => {
+            own.tells = Tells::Denials;
+            own.words = rest;
+            Some(true)
+        }
         [word, ..] if word.as_str().starts_with("--") => None,
         _ => Some(false),
     }
@@ -55,6 +79,7 @@ pub fn own_of(words: &[String]) -> Option<Own<'_>> {
         idle: Duration::from_secs(IDLE),
         tells_addresses: false,
         stops_at_end: false,
+        tells: Tells::Nothing,
         words,
     };
     for _ in 0..words.len() {

@@ -16,6 +16,9 @@ OPTION is one of
                     (1 to 86400; 60 without)
   --tell-addresses  tells on standard error at which addresses it listens
   --stop-at-end     the end of standard input stops what serves LISTEN
+  --tell-refusals   tells on standard error each refusal, each connection that
+                    breaks and each failure of the relay
+  --tell-denials    tells these and each denial
 
 COMMAND is one of
   run [--frames N]  answers the request frames of standard input on standard

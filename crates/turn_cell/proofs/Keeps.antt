@@ -1,14 +1,17 @@
 -- Each step keeps the rule.
-use Rattle.std.proofs.Common.{◌≡◌, ◌≢◌, ℕ, zero, suc, ◌+◌, ◌-◌, ◌%◌, ◌^◌, ◌<◌, ◌≤◌, ◌⊎◌, List, [], ◌∷◌, ◌++◌, length, get_or, set, refl, sym, ap, ◌∙◌, subst, inl, inr, ⊎_elim, arith, length-set, get_or-set_other, get_or-set_same, Option, Some, None}
+use Rattle.std.proofs.Common.{◌≡◌, ◌≢◌, ℕ, zero, suc, ◌+◌, ◌-◌, ◌%◌, ◌^◌, ◌<◌, ◌≤◌, ◌⊎◌, eqb, List, [], ◌∷◌, ◌++◌, length, get_or, set, refl, sym, ap, ◌∙◌, subst, inl, inr, ⊎_elim, arith, length-set, get_or-set_other, get_or-set_same, Option, Some, None}
 use Rattle.std.specs.List.{sum_by}
 use mathlib.Core.Logic.{dite}
 use mathlib.Core.Option.{some, none, some-injective, some-ne-none}
 use native.Mathlib.Decide.{ℕ_discrete, dec_le}
 use lib.ListN.{get_elem?}
+use Rattle.std.proofs.Math.ListN.{replicate}
 use lib.Seq.{set-get_or}
-use Rattle.atomic_table.specs.Table.{State, Me, step, keeps, takes, gives, stepped, Allows, Splits, Joins, Final, Seen}
-use Rattle.atomic_table.proofs.Lists.{at_set, at_snoc, at_longer, set_here, set_else, set_again}
+use prog.Atomic.{either}
+use Rattle.atomic_table.specs.Table.{State, Me, Act, Valid, step, keeps, takes, gives, stepped, carried_after, Allows, Splits, Joins, Final, Seen}
+use Rattle.atomic_table.proofs.Lists.{at_set, at_snoc, at_longer, set_here, set_else, set_again, exchanged}
 use Rattle.turn_cell.specs.declared.shares.TheConstants.{ALL_SHARES}
+use Rattle.turn_cell.specs.declared.steps.TheConstants.{WORDS}
 use Rattle.turn_cell.specs.declared.view.Stage.{Stage}
 use Rattle.turn_cell.specs.declared.view.Stage.TheVariants.{Idle, Waiting, Turn, Joined}
 use Rattle.turn_cell.specs.declared.view.View.{View}
@@ -82,7 +85,7 @@ module _ {V F E : Type 0} (fixed : V → F) (journal : V → List E) (allows : F
   Slot core s = IsHome fixed journal opening core s ⊎ IsAway core s
 
   -- a view changes that does not know its turn
-  slot_set : (core : List E) (s : State (Option V) (View F E)) (id : ℕ) (v w : View F E) (words : List ℕ) → get_or words 1 0 ≡ get_or s.words 1 0 → get_elem? s.views id ≡ some v → ¬ (KnowsTurn v.stage) → ¬ (KnowsTurn w.stage)
+  slot_set : (core : List E) (s : State (Option V) (View F E)) (id : ℕ) (v w : View F E) (words : List ℕ) → get_or words 9 0 ≡ get_or s.words 9 0 → get_elem? s.views id ≡ some v → ¬ (KnowsTurn v.stage) → ¬ (KnowsTurn w.stage)
       → Slot core s → Slot core (record { words = words; homes = s.homes; views = set s.views id w })
   slot_set core s id v w words same at before after t = ⊎_elim (λ (h : IsHome fixed journal opening core s). inl (record {
     value = h.value;
@@ -97,7 +100,7 @@ module _ {V F E : Type 0} (fixed : V → F) (journal : V → List E) (allows : F
         there = set_else s.views id a.turn w (λ e. before (subst KnowsTurn (ap (λ (x : View F E). x.stage) (some-injective a.holder v (sym a.there ∙ (ap (get_elem? s.views) e ∙ at)))) a.knows)) ∙ a.there;
         knows = a.knows;
         out = a.out;
-        one_turn = each_set (λ j d. AtTurn a.turn (get_or words 1 0) core j d.stage) s.views id w (not_at_turn a.turn (get_or words 1 0) id core w.stage after) (λ j d _ e. subst (λ (z : ℕ). AtTurn a.turn z core j d.stage) (sym same) (a.one_turn j d e));
+        one_turn = each_set (λ j d. AtTurn a.turn (get_or words 9 0) core j d.stage) s.views id w (not_at_turn a.turn (get_or words 9 0) id core w.stage after) (λ j d _ e. subst (λ (z : ℕ). AtTurn a.turn z core j d.stage) (sym same) (a.one_turn j d e));
       })) t
 
   slot_push : (core : List E) (s : State (Option V) (View F E)) (w : View F E) → ¬ (KnowsTurn w.stage) → Slot core s → Slot core (record { words = s.words; homes = s.homes; views = s.views ++ w ∷ [] })
@@ -114,7 +117,7 @@ module _ {V F E : Type 0} (fixed : V → F) (journal : V → List E) (allows : F
         there = at_longer s.views (w ∷ []) a.turn a.holder a.there;
         knows = a.knows;
         out = a.out;
-        one_turn = each_push (λ j d. AtTurn a.turn (get_or s.words 1 0) core j d.stage) s.views w (λ j. not_at_turn a.turn (get_or s.words 1 0) j core w.stage after) a.one_turn;
+        one_turn = each_push (λ j d. AtTurn a.turn (get_or s.words 9 0) core j d.stage) s.views w (λ j. not_at_turn a.turn (get_or s.words 9 0) j core w.stage after) a.one_turn;
       })) t
 
   few_out : (s : State (Option V) (View F E)) (r : Rule s) → r.line.out < ring
@@ -129,48 +132,56 @@ module _ {V F E : Type 0} (fixed : V → F) (journal : V → List E) (allows : F
     gone = λ none. absurd (omega arith);
   }
 
-  pub draws : (slots id : ℕ) (me : Me (Option V) (View F E)) → me.0.stage ≡ Idle → 0 < me.0.shares → Allows Rule slots id me 0 (λ n. (n + 1) % 2 ^ 64) (Draws (step slots 0 1 0 none) me)
-  draws slots id me idle some_share s r long at fits = let ticket : ℕ = get_or s.words 0 0 in let serving : ℕ = get_or s.words 1 0 in let v : View F E = me.0 in let w : View F E = at_stage (Waiting ticket) v in let n : ℕ = (ticket + 1) % ring in let two = r.two_words in
-      let same_serving : get_or (set s.words 0 n) 1 0 ≡ serving = get_or-set_other s.words 0 1 n 0 (λ e. omega arith) in
-      let new_ticket : get_or (set s.words 0 n) 0 0 ≡ n = get_or-set_same s.words 0 n 0 (omega arith) in
-      let none_held : tickets v.stage ≡ 0 = ap tickets idle in (
-        w,
-        keeps,
-        tt,
-        record {
-          core = r.core;
-          two_words = length-set s.words 0 n ∙ two;
-          line = subst (λ (z : ℕ × ℕ). IsLined z.0 z.1 (set s.views id w)) (λ i. (sym same_serving i, sym new_ticket i)) (line_drawn serving ticket s.views id v w r.line at none_held refl (few_out s r));
-          slot = slot_set r.core s id v w (set s.words 0 n) same_serving at (λ k. subst KnowsTurn idle k) (λ k. k) r.slot;
-          told = each_set (λ j d. Told r.core d) s.views id w (told_at r.core v (Waiting ticket) some_share (r.told id v at) tt) (λ j d _ e. r.told j d e);
-          shared = sum_same (λ v. v.shares) s.views id v w at refl ∙ r.shared;
-          placed = λ place. sum_same (λ v. times place v.own) s.views id v w at refl ∙ r.placed place;
-        },
-        refl,
-      )
+  -- the next ticket was drawn
+  drawn : (s : State (Option V) (View F E)) (r : Rule s) (id : ℕ) (c : List (ℕ × Option V)) (v : View F E) → get_elem? s.views id ≡ some v → v.stage ≡ Idle → 0 < v.shares
+      → Rule (stepped s 8 ((get_or s.words 8 0 + 1) % 2 ^ 64) id c (at_stage (Waiting (get_or s.words 8 0)) v) keeps)
+  drawn s r id c v at idle some_share = let ticket : ℕ = get_or s.words 8 0 in let serving : ℕ = get_or s.words 9 0 in let w : View F E = at_stage (Waiting ticket) v in let n : ℕ = (ticket + 1) % ring in let long_words = r.words in
+      let same_serving : get_or (set s.words 8 n) 9 0 ≡ serving = get_or-set_other s.words 8 9 n 0 (λ e. omega arith) in
+      let new_ticket : get_or (set s.words 8 n) 8 0 ≡ n = get_or-set_same s.words 8 n 0 (omega arith) in
+      let none_held : tickets v.stage ≡ 0 = ap tickets idle in record {
+        core = r.core;
+        words = length-set s.words 8 n ∙ long_words;
+        line = subst (λ (z : ℕ × ℕ). IsLined z.0 z.1 (set s.views id w)) (λ i. (sym same_serving i, sym new_ticket i)) (line_drawn serving ticket s.views id v w r.line at none_held refl (few_out s r));
+        slot = slot_set r.core s id v w (set s.words 8 n) same_serving at (λ k. subst KnowsTurn idle k) (λ k. k) r.slot;
+        told = each_set (λ j d. Told r.core d) s.views id w (told_at r.core v (Waiting ticket) some_share (r.told id v at) tt) (λ j d _ e. r.told j d e);
+        shared = sum_same (λ v. v.shares) s.views id v w at refl ∙ r.shared;
+        placed = λ place. sum_same (λ v. times place v.own) s.views id v w at refl ∙ r.placed place;
+      }
 
   unchanged : (s : State (Option V) (View F E)) (r : Rule s) (i id : ℕ) (c : List (ℕ × Option V)) (v : View F E) → get_elem? s.views id ≡ some v → Rule (stepped s i (get_or s.words i 0) id c v keeps)
   unchanged s r i id c v at = let a : s.words ≡ set s.words i (get_or s.words i 0) = sym (set-get_or s.words i 0) in let b : s.views ≡ set s.views id v = sym (set_again s.views id v at) in
       subst (λ (z : List ℕ × List (View F E)). Rule (record { words = z.0; homes = s.homes; views = z.1 })) (λ k. (a k, b k)) r
 
+  pub draws : (slots id old new : ℕ) (me : Me (Option V) (View F E)) → new ≡ (old + 1) % 2 ^ 64 → me.0.stage ≡ Idle → 0 < me.0.shares → Allows Rule slots id me 8 (λ n. either (eqb n old) new n) (Draws (step slots 8 old new none) me)
+  draws slots id old new me next idle some_share s r long at fits = let ticket : ℕ = get_or s.words 8 0 in
+      exchanged ticket old new (λ n. (w : View F E) × (a : Act (Option V)) × Valid s.homes me.1 a × Rule (stepped s 8 n id me.1 w a) × Draws (step slots 8 old new none) me ticket (w, carried_after me.1 a))
+      (λ hit. let w : View F E = at_stage (Waiting ticket) me.0 in (
+        w,
+        keeps,
+        tt,
+        subst (λ (n : ℕ). Rule (stepped s 8 n id me.1 w keeps)) (ap (λ (t : ℕ). (t + 1) % 2 ^ 64) hit ∙ sym next) (drawn s r id me.1 me.0 at idle some_share),
+        ((λ _. ap (λ (t : ℕ). let m : Me (Option V) (View F E) = (at_stage (Waiting t) me.0, me.1) in m) hit), λ other. absurd (other hit)),
+      ))
+      (λ miss. (me.0, keeps, tt, unchanged s r 8 id me.1 me.0 at, ((λ hit. absurd (miss hit)), λ _. refl)))
+
   -- where a view waits for the ticket that is served, the slot is at home
-  is_home : (s : State (Option V) (View F E)) (r : Rule s) (id t : ℕ) (v : View F E) → get_elem? s.views id ≡ some v → v.stage ≡ Waiting t → get_or s.words 1 0 ≡ t → IsHome fixed journal opening r.core s
+  is_home : (s : State (Option V) (View F E)) (r : Rule s) (id t : ℕ) (v : View F E) → get_elem? s.views id ≡ some v → v.stage ≡ Waiting t → get_or s.words 9 0 ≡ t → IsHome fixed journal opening r.core s
   is_home s r id t v at is turn = ⊎_elim (λ (h : IsHome fixed journal opening r.core s). h)
-      (λ (a : IsAway r.core s). let k = turn_is a.turn (get_or s.words 1 0) a.turn r.core a.holder.stage (a.one_turn a.turn a.holder a.there) a.knows in
-      let mine : Holds (get_or s.words 1 0) v.stage = subst (Holds (get_or s.words 1 0)) (sym is) (sym turn) in
-      let same : a.turn ≡ id = r.line.alone a.turn id (get_or s.words 1 0) a.holder v a.there at k.1 mine in
+      (λ (a : IsAway r.core s). let k = turn_is a.turn (get_or s.words 9 0) a.turn r.core a.holder.stage (a.one_turn a.turn a.holder a.there) a.knows in
+      let mine : Holds (get_or s.words 9 0) v.stage = subst (Holds (get_or s.words 9 0)) (sym is) (sym turn) in
+      let same : a.turn ≡ id = r.line.alone a.turn id (get_or s.words 9 0) a.holder v a.there at k.1 mine in
       let here : a.holder ≡ v = some-injective a.holder v (sym a.there ∙ (ap (get_elem? s.views) same ∙ at)) in
       absurd (subst KnowsTurn (ap (λ (x : View F E). x.stage) here ∙ is) a.knows)) r.slot
 
   -- on its turn a view takes the slot
-  taken : (s : State (Option V) (View F E)) (r : Rule s) (id t : ℕ) (v : View F E) (c : List (ℕ × Option V)) (at : get_elem? s.views id ≡ some v) → v.stage ≡ Waiting t → 0 < v.shares → get_or s.words 1 0 ≡ t
-      → (h : IsHome fixed journal opening r.core s) → Rule (stepped s 1 (get_or s.words 1 0) id c (at_stage (Turn t (journal h.value)) v) (takes 0 (Some h.value)))
-  taken s r id t v c at is has turn h = let w : View F E = at_stage (Turn t (journal h.value)) v in let serving : ℕ = get_or s.words 1 0 in let vs : List (View F E) = set s.views id w in
-      let a : s.words ≡ set s.words 1 serving = sym (set-get_or s.words 1 0) in
+  taken : (s : State (Option V) (View F E)) (r : Rule s) (id t : ℕ) (v : View F E) (c : List (ℕ × Option V)) (at : get_elem? s.views id ≡ some v) → v.stage ≡ Waiting t → 0 < v.shares → get_or s.words 9 0 ≡ t
+      → (h : IsHome fixed journal opening r.core s) → Rule (stepped s 9 (get_or s.words 9 0) id c (at_stage (Turn t (journal h.value)) v) (takes 0 (Some h.value)))
+  taken s r id t v c at is has turn h = let w : View F E = at_stage (Turn t (journal h.value)) v in let serving : ℕ = get_or s.words 9 0 in let vs : List (View F E) = set s.views id w in
+      let a : s.words ≡ set s.words 9 serving = sym (set-get_or s.words 9 0) in
       subst (λ (z : List ℕ). Rule (record { words = z; homes = set s.homes 0 none; views = vs })) a (record {
         core = r.core;
-        two_words = r.two_words;
-        line = line_same serving (get_or s.words 0 0) s.views id v w r.line at (sym (ap tickets is)) (λ u held. subst (Holds u) (sym is) held) (λ u held. subst (Holds u) is held);
+        words = r.words;
+        line = line_same serving (get_or s.words 8 0) s.views id v w r.line at (sym (ap tickets is)) (λ u held. subst (Holds u) (sym is) held) (λ u held. subst (Holds u) is held);
         slot = inr (record {
           turn = id;
           holder = w;
@@ -184,8 +195,8 @@ module _ {V F E : Type 0} (fixed : V → F) (journal : V → List E) (allows : F
         placed = λ place. sum_same (λ v. times place v.own) s.views id v w at refl ∙ r.placed place;
       })
 
-  pub looks : (slots id : ℕ) (me : Me (Option V) (View F E)) (t : ℕ) → me.0.stage ≡ Waiting t → 0 < me.0.shares → Allows Rule slots id me 1 (λ n. n) (Looks fixed journal allows (step slots 1 0 0 none) me)
-  looks slots id me t is has s r long at fits = dite (ℕ_discrete (get_or s.words 1 0) t)
+  pub looks : (slots id : ℕ) (me : Me (Option V) (View F E)) (t : ℕ) → me.0.stage ≡ Waiting t → 0 < me.0.shares → Allows Rule slots id me 9 (λ n. n) (Looks fixed journal allows (step slots 9 0 0 none) me)
+  looks slots id me t is has s r long at fits = dite (ℕ_discrete (get_or s.words 9 0) t)
       (λ turn. let h = is_home s r id t me.0 at is turn in let l = (r.told id me.0 at).live has in (
         at_stage (Turn t (journal h.value)) me.0,
         takes 0 (Some h.value),
@@ -201,7 +212,7 @@ module _ {V F E : Type 0} (fixed : V → F) (journal : V → List E) (allows : F
           λ other. absurd (other (turn ∙ same)),
         ),
       ))
-      (λ later. (me.0, keeps, tt, unchanged s r 1 id me.1 me.0 at, λ u is'. let same : t ≡ u = ap (ticket_of) (sym is ∙ is') in ((λ hit. absurd (later (hit ∙ sym same))), λ _. refl)))
+      (λ later. (me.0, keeps, tt, unchanged s r 9 id me.1 me.0 at, λ u is'. let same : t ≡ u = ap (ticket_of) (sym is ∙ is') in ((λ hit. absurd (later (hit ∙ sym same))), λ _. refl)))
 
   -- a pass with every share has seen all, and each place from the opening on is its own
   all_seen : (s : State (Option V) (View F E)) (r : Rule s) (id : ℕ) (v : View F E) → get_elem? s.views id ≡ some v → v.shares ≡ ALL_SHARES → (r.core ≡ v.seen) × ((place : ℕ) → times place v.own ≡ once_within (length (journal opening)) (length v.seen) place)
@@ -237,24 +248,24 @@ module _ {V F E : Type 0} (fixed : V → F) (journal : V → List E) (allows : F
   is_away s r id v at knows = ⊎_elim (λ (h : IsHome fixed journal opening r.core s). absurd (h.no_turn id v at knows)) (λ (a : IsAway r.core s). a) r.slot
 
   calls_at : (slots id t : ℕ) (v : View F E) (entered : List E) (value : V) → v.stage ≡ Turn t entered → 0 < v.shares → v.fixed ≡ Some (fixed value) → MayLeave allows (fixed value) entered (journal value)
-      → Allows Rule slots id (v, (0, Some value) ∷ []) 1 (λ n. (n + 1) % 2 ^ 64) (Calls journal (step slots 1 1 0 none) (v, (0, Some value) ∷ []))
+      → Allows Rule slots id (v, (0, Some value) ∷ []) 9 (λ n. (n + 1) % 2 ^ 64) (Calls journal (step slots 9 1 0 none) (v, (0, Some value) ∷ []))
   calls_at slots id t v entered value is has own_fixed may s r long at fits =
-      let serving : ℕ = get_or s.words 1 0 in let ticket : ℕ = get_or s.words 0 0 in let n : ℕ = (serving + 1) % ring in let j : List E = journal value in let w : View F E = gone_home entered j v in let two = r.two_words in
+      let serving : ℕ = get_or s.words 9 0 in let ticket : ℕ = get_or s.words 8 0 in let n : ℕ = (serving + 1) % ring in let j : List E = journal value in let w : View F E = gone_home entered j v in let long_words = r.words in
       let a = is_away s r id v at (subst KnowsTurn (sym is) tt) in
       let here = subst (AtTurn a.turn serving r.core id) is (a.one_turn id v at) in
       let l = (r.told id v at).live has in
       let same_fixed : fixed value ≡ fixed opening = some_same (fixed value) (fixed opening) (sym own_fixed ∙ l.its_fixed) in
       let grown : Grows allows (fixed opening) r.core j = subst (λ (z : F × List E). Grows allows z.0 z.1 j) (λ i. (same_fixed i, here.2 i)) (grows_leave allows (fixed value) entered j may) in
       let begins : Grows allows (fixed opening) (journal opening) j = grows_trans allows (fixed opening) (journal opening) v.seen j l.begins (grows_trans allows (fixed opening) v.seen r.core j l.grows grown) in
-      let new_serving : get_or (set s.words 1 n) 1 0 ≡ n = get_or-set_same s.words 1 n 0 (omega arith) in
-      let same_ticket : get_or (set s.words 1 n) 0 0 ≡ ticket = get_or-set_other s.words 1 0 n 0 (λ e. omega arith) in
+      let new_serving : get_or (set s.words 9 n) 9 0 ≡ n = get_or-set_same s.words 9 n 0 (omega arith) in
+      let same_ticket : get_or (set s.words 9 n) 8 0 ≡ ticket = get_or-set_other s.words 9 8 n 0 (λ e. omega arith) in
       let core_length : length entered ≡ length r.core = ap length here.2 in
       let seen_length = grows_length allows (fixed opening) v.seen r.core l.grows in
       let grown_length = grows_length allows (fixed opening) r.core j grown in
       let opening_length = grows_length allows (fixed opening) (journal opening) v.seen l.begins in
-      let kept : Rule (stepped s 1 n id ((0, Some value) ∷ []) w gives) = record {
+      let kept : Rule (stepped s 9 n id ((0, Some value) ∷ []) w gives) = record {
         core = j;
-        two_words = length-set s.words 1 n ∙ two;
+        words = length-set s.words 9 n ∙ long_words;
         line = subst (λ (z : ℕ × ℕ). IsLined z.0 z.1 (set s.views id w)) (λ i. (sym new_serving i, sym same_ticket i))
             (line_called serving ticket s.views id v w r.line at fits (ap tickets is) (subst (Holds serving) (sym is) here.1) refl (λ u h. h) (few_out s r));
         slot = inl (record {
@@ -282,7 +293,7 @@ module _ {V F E : Type 0} (fixed : V → F) (journal : V → List E) (allows : F
             let more = added_once allows (fixed value) (length (journal opening)) place entered j (omega arith) may in
             let same : once_within (length (journal opening)) (length entered) place ≡ once_within (length (journal opening)) (length r.core) place = ap (λ (z : ℕ). once_within (length (journal opening)) z place) core_length in omega arith;
       } in
-      let whole : v.shares ≡ ALL_SHARES → HasEach v.start (length j) (v.own ++ added entered j) = λ all. owns_each (stepped s 1 n id ((0, Some value) ∷ []) w gives) kept id w (set_here s.views id w (index_below s.views id v at)) all in (
+      let whole : v.shares ≡ ALL_SHARES → HasEach v.start (length j) (v.own ++ added entered j) = λ all. owns_each (stepped s 9 n id ((0, Some value) ∷ []) w gives) kept id w (set_here s.views id w (index_below s.views id v at)) all in (
         w,
         gives,
         tt,
@@ -292,17 +303,17 @@ module _ {V F E : Type 0} (fixed : V → F) (journal : V → List E) (allows : F
       )
 
   pub calls : (slots id t : ℕ) (me : Me (Option V) (View F E)) (entered : List E) (value : V) → me.0.stage ≡ Turn t entered → me.1 ≡ (0, Some value) ∷ [] → 0 < me.0.shares → me.0.fixed ≡ Some (fixed value)
-      → MayLeave allows (fixed value) entered (journal value) → Allows Rule slots id me 1 (λ n. (n + 1) % 2 ^ 64) (Calls journal (step slots 1 1 0 none) me)
-  calls slots id t me entered value is held has own_fixed may = subst (λ (c : List (ℕ × Option V)). Allows Rule slots id (me.0, c) 1 (λ n. (n + 1) % 2 ^ 64) (Calls journal (step slots 1 1 0 none) (me.0, c))) (sym held)
+      → MayLeave allows (fixed value) entered (journal value) → Allows Rule slots id me 9 (λ n. (n + 1) % 2 ^ 64) (Calls journal (step slots 9 1 0 none) me)
+  calls slots id t me entered value is held has own_fixed may = subst (λ (c : List (ℕ × Option V)). Allows Rule slots id (me.0, c) 9 (λ n. (n + 1) % 2 ^ 64) (Calls journal (step slots 9 1 0 none) (me.0, c))) (sym held)
       (calls_at slots id t me.0 entered value is has own_fixed may)
 
   pub splits : (id give : ℕ) (v : View F E) → v.stage ≡ Idle → 0 < give → give < v.shares → Splits Rule id v (keeping give v) (given give v)
   splits id give v idle least most s r at =
-      let left : View F E = keeping give v in let right : View F E = given give v in let serving : ℕ = get_or s.words 1 0 in let ticket : ℕ = get_or s.words 0 0 in let cut : List (View F E) = set s.views id left in
+      let left : View F E = keeping give v in let right : View F E = given give v in let serving : ℕ = get_or s.words 9 0 in let ticket : ℕ = get_or s.words 8 0 in let cut : List (View F E) = set s.views id left in
       let middle : State (Option V) (View F E) = record { words = s.words; homes = s.homes; views = cut } in
       let l = (r.told id v at).live (omega arith) in record {
         core = r.core;
-        two_words = r.two_words;
+        words = r.words;
         line = line_more serving ticket cut right (line_same serving ticket s.views id v left r.line at refl (λ t h. h) (λ t h. h)) refl (λ t h. h);
         slot = slot_push r.core middle right (λ k. k) (slot_set r.core s id v left s.words refl at (λ k. subst KnowsTurn idle k) (λ k. subst KnowsTurn idle k) r.slot);
         told = each_push (λ j d. Told r.core d) cut right (λ j. record {
@@ -318,13 +329,13 @@ module _ {V F E : Type 0} (fixed : V → F) (journal : V → List E) (allows : F
 
   pub joins : (id : ℕ) (v : View F E) (other : ℕ) (w : View F E) → v.stage ≡ Idle → 0 < v.shares → w.stage ≡ Idle → 0 < w.shares → Joins Rule id v other w (both v w) spent
   joins id v other w idle has idle' has' s r at apart there =
-      let b : View F E = both v w in let serving : ℕ = get_or s.words 1 0 in let ticket : ℕ = get_or s.words 0 0 in let once : List (View F E) = set s.views id b in
+      let b : View F E = both v w in let serving : ℕ = get_or s.words 9 0 in let ticket : ℕ = get_or s.words 8 0 in let once : List (View F E) = set s.views id b in
       let middle : State (Option V) (View F E) = record { words = s.words; homes = s.homes; views = once } in
       let l = (r.told id v at).live has in
       let at' : get_elem? s.views other ≡ some w = sym (set_else s.views id other b apart) ∙ there in
       let l' = (r.told other w at').live has' in record {
         core = r.core;
-        two_words = r.two_words;
+        words = r.words;
         line = line_same serving ticket once other w spent (line_same serving ticket s.views id v b r.line at (sym (ap tickets idle)) (λ t h. absurd h) (λ t h. subst (Holds t) idle h)) there (sym (ap tickets idle')) (λ t h. absurd h) (λ t h. subst (Holds t) idle' h);
         slot = slot_set r.core middle other w spent s.words refl there (λ k. subst KnowsTurn idle' k) (λ k. k) (slot_set r.core s id v b s.words refl at (λ k. subst KnowsTurn idle k) (λ k. k) r.slot);
         told = each_set (λ j d. Told r.core d) once other spent (record { live = λ h. absurd (omega arith); gone = λ _. refl }) (λ j d _ e. each_set (λ i x. Told r.core x) s.views id b (record {
@@ -344,16 +355,16 @@ module _ {V F E : Type 0} (fixed : V → F) (journal : V → List E) (allows : F
         placed = λ place. let a = sum_set (λ x. times place x.own) once other w spent there in let c = sum_set (λ x. times place x.own) s.views id v b at in let pair = times-append place v.own w.own in let d = r.placed place in omega arith;
       }
 
-  pub settles : (slots id : ℕ) (me : Me (Option V) (View F E)) (xs ys : List E) → me.0.stage ≡ Joined xs ys → 0 < me.0.shares → Allows Rule slots id me 0 (λ n. n) (Settled allows (step slots 0 0 0 none) me)
-  settles slots id me xs ys is has s r long at fits = let v : View F E = me.0 in let w : View F E = at_stage Idle v in let serving : ℕ = get_or s.words 1 0 in let ticket : ℕ = get_or s.words 0 0 in
-      let l = (r.told id v at).live has in let a : s.words ≡ set s.words 0 ticket = sym (set-get_or s.words 0 0) in
+  pub settles : (slots id : ℕ) (me : Me (Option V) (View F E)) (xs ys : List E) → me.0.stage ≡ Joined xs ys → 0 < me.0.shares → Allows Rule slots id me 8 (λ n. n) (Settled allows (step slots 8 0 0 none) me)
+  settles slots id me xs ys is has s r long at fits = let v : View F E = me.0 in let w : View F E = at_stage Idle v in let serving : ℕ = get_or s.words 9 0 in let ticket : ℕ = get_or s.words 8 0 in
+      let l = (r.told id v at).live has in let a : s.words ≡ set s.words 8 ticket = sym (set-get_or s.words 8 0) in
       let joined = subst (IsJoined (λ z. Grows allows (fixed opening) z r.core) v.seen) is l.joined in (
         w,
         keeps,
         tt,
         subst (λ (z : List ℕ). Rule (record { words = z; homes = s.homes; views = set s.views id w })) a (record {
           core = r.core;
-          two_words = r.two_words;
+          words = r.words;
           line = line_same serving ticket s.views id v w r.line at (sym (ap tickets is)) (λ t h. absurd h) (λ t h. subst (Holds t) is h);
           slot = slot_set r.core s id v w s.words refl at (λ k. subst KnowsTurn is k) (λ k. k) r.slot;
           told = each_set (λ j d. Told r.core d) s.views id w (told_at r.core v Idle has (r.told id v at) tt) (λ j d _ e. r.told j d e);
@@ -379,10 +390,10 @@ module _ {V F E : Type 0} (fixed : V → F) (journal : V → List E) (allows : F
   alone_at v d (suc j) e = absurd (some-ne-none d (sym e))
 
   -- the rule holds of a new cell
-  pub opens : Rule (record { words = 0 ∷ 0 ∷ []; homes = some (Some opening) ∷ []; views = first_view fixed journal opening ∷ [] })
+  pub opens : Rule (record { words = replicate WORDS 0; homes = some (Some opening) ∷ []; views = first_view fixed journal opening ∷ [] })
   opens = let v : View F E = first_view fixed journal opening in record {
     core = journal opening;
-    two_words = refl;
+    words = refl;
     line = record {
       out = 0;
       next = refl;

@@ -2,9 +2,11 @@
 use Rattle.std.proofs.Common.{◌≡◌, ℕ, ◌+◌, ◌%◌, ◌^◌, ◌<◌, ◌≤◌, true, List, [], ◌∷◌, ◌++◌, length, sym, ap, ◌∙◌, subst, arith, Option, Some, None, length-append}
 use mathlib.Core.Option.{none, some, some-injective}
 use lib.ListN.{get_elem?}
+use Rattle.std.proofs.Math.ListN.{replicate}
 use Rattle.std.specs.Option.{is_some}
 use Rattle.atomic_table.specs.Table.{Me, step, rest, opening, Allows, Final, Seen}
 use Rattle.turn_cell.specs.declared.shares.TheConstants.{ALL_SHARES}
+use Rattle.turn_cell.specs.declared.steps.TheConstants.{WORDS}
 use Rattle.turn_cell.specs.declared.view.Stage.TheVariants.{Idle, Waiting, Joined}
 use Rattle.turn_cell.specs.declared.view.View.{View}
 use Rattle.turn_cell.specs.Journal.{Grows, MayLeave, HasEach, times, once_within}
@@ -48,13 +50,13 @@ module _ {V F E : Type 0} (fixed : V → F) (journal : V → List E) (allows : F
         grows = h.grows;
       })
 
-  pub may_call : (opening : V) (slots id : ℕ) (m : Me (Option V) (View F E)) → MayCall fixed journal allows m → Allows (IsInvariant fixed journal allows opening) slots id m 1 (λ x. (x + 1) % 2 ^ 64) (Calls journal (step slots 1 1 0 none) m)
+  pub may_call : (opening : V) (slots id : ℕ) (m : Me (Option V) (View F E)) → MayCall fixed journal allows m → Allows (IsInvariant fixed journal allows opening) slots id m 9 (λ x. (x + 1) % 2 ^ 64) (Calls journal (step slots 9 1 0 none) m)
   may_call opening slots id m p = calls fixed journal allows opening slots id p.ticket m p.entered p.value p.stage p.slot p.live p.its_fixed p.may
 
-  pub called_home : (slots found : ℕ) (m n : Me (Option V) (View F E)) → MayCall fixed journal allows m → Calls journal (step slots 1 1 0 none) m found n → (value : V) → m.1 ≡ (0, Some value) ∷ [] → GoesHome journal (entered_of m.0.stage) value m n
+  pub called_home : (slots found : ℕ) (m n : Me (Option V) (View F E)) → MayCall fixed journal allows m → Calls journal (step slots 9 1 0 none) m found n → (value : V) → m.1 ≡ (0, Some value) ∷ [] → GoesHome journal (entered_of m.0.stage) value m n
   called_home slots found m n p told value slot = subst (λ (l : List E). GoesHome journal l value m n) (sym (ap entered_of p.stage)) (told p.ticket p.entered value p.stage slot).1
 
-  pub called_ticket : (slots found : ℕ) (m n : Me (Option V) (View F E)) → MayCall fixed journal allows m → Calls journal (step slots 1 1 0 none) m found n → found ≡ ticket_of m.0.stage
+  pub called_ticket : (slots found : ℕ) (m n : Me (Option V) (View F E)) → MayCall fixed journal allows m → Calls journal (step slots 9 1 0 none) m found n → found ≡ ticket_of m.0.stage
   called_ticket slots found m n p told = (told p.ticket p.entered p.value p.stage p.slot).0 ∙ sym (ap ticket_of p.stage)
 
   -- the value was put, so the next may be called
@@ -121,8 +123,8 @@ joined_now {V} {F} {E} m n w idle now = let e : n ≡ (both m.0 w, []) = now ∙
     (e, ap (λ (x : Me (Option V) (View F E)). x.0.stage) e, let s : n.0.shares ≡ m.0.shares + w.shares = ap (λ (x : Me (Option V) (View F E)). x.0.shares) e in let h = idle.1 in omega arith)
 
 pub opens_at : {V F E : Type 0} (fixed : V → F) (journal : V → List E) (allows : F → List E → E → Type 0) (o value : V) (items : List (Option V)) → o ≡ value → items ≡ Some value ∷ []
-    → IsInvariant fixed journal allows o (opening (0 ∷ 0 ∷ []) items (first_view fixed journal o))
-opens_at {V} {F} {E} fixed journal allows o value items same are = subst (λ (z : List (Option V)). IsInvariant fixed journal allows o (opening (0 ∷ 0 ∷ []) z (first_view fixed journal o))) (ap (λ (x : V). Some x ∷ []) same ∙ sym are) (opens fixed journal allows o)
+    → IsInvariant fixed journal allows o (opening (replicate WORDS 0) items (first_view fixed journal o))
+opens_at {V} {F} {E} fixed journal allows o value items same are = subst (λ (z : List (Option V)). IsInvariant fixed journal allows o (opening (replicate WORDS 0) z (first_view fixed journal o))) (ap (λ (x : V). Some x ∷ []) same ∙ sym are) (opens fixed journal allows o)
 
 -- what was found in the slot at the end
 pub record HasClosed {V F E : Type 0} (fixed : V → F) (journal : V → List E) (o : V) (v : View F E) (found : Option V) : Type 0 where

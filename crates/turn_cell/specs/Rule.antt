@@ -4,6 +4,7 @@ use mathlib.Core.Option.{some, none}
 use lib.ListN.{get_elem?}
 use Rattle.atomic_table.specs.Table.{State}
 use Rattle.turn_cell.specs.declared.shares.TheConstants.{ALL_SHARES}
+use Rattle.turn_cell.specs.declared.steps.TheConstants.{WORDS}
 use Rattle.turn_cell.specs.declared.view.Stage.{Stage}
 use Rattle.turn_cell.specs.declared.view.Stage.TheVariants.{Idle, Waiting, Turn, Joined}
 use Rattle.turn_cell.specs.declared.view.View.{View}
@@ -49,7 +50,7 @@ module _ {V F E : Type 0} where
     pub out : get_elem? s.homes 0 ≡ some none
     -- no other view knows its turn; its ticket is the one served, and it keeps the core's journal
     pub one_turn : (seat : ℕ) (v : View F E) → get_elem? s.views seat ≡ some v
-        → AtTurn turn (slice_index s.words 1) core seat v.stage
+        → AtTurn turn (slice_index s.words 9) core seat v.stage
 
 module _ {V F E : Type 0} (fixed : V → F) (journal : V → List E) (opening : V) where
   -- what the pass of a new cell knows
@@ -97,10 +98,11 @@ module _ {V F E : Type 0} (fixed : V → F) (journal : V → List E) (allows : F
   pub record IsInvariant (s : State (Option V) (View F E)) : Type 0 where
     -- the core's journal, the one that all threads add to
     pub core : List E
-    -- word 0 is the next ticket, word 1 the ticket that is served
-    pub two_words : length s.words ≡ 2
+    -- word 8 is the next ticket, word 9 the ticket that is served; the others are there for nothing but
+    -- their room, which keeps these apart from those of other cells
+    pub words : length s.words ≡ WORDS
     -- tickets out are the numbers from `serving` to before `ticket`, one per view that holds one
-    pub line : IsLined (slice_index s.words 1) (slice_index s.words 0) s.views
+    pub line : IsLined (slice_index s.words 9) (slice_index s.words 8) s.views
     -- the slot is away exactly while there is a view that knows its turn, and at most one does.
     -- The core's journal is what that view keeps as entered, and else the home value's
     pub slot : IsHome fixed journal opening core s ⊎ IsAway core s

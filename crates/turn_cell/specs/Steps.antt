@@ -4,15 +4,16 @@ use Rattle.std.specs.Prelude.{◌≡◌, ◌≢◌, ℕ, ◌+◌, ◌-◌, ◌<�
 use Rattle.atomic_table.specs.Seated.{TableId}
 use Rattle.atomic_table.specs.Table.{Me, Step}
 use Rattle.turn_cell.specs.declared.shares.TheConstants.{ALL_SHARES}
+use Rattle.turn_cell.specs.declared.steps.TheConstants.{WORDS}
 use Rattle.turn_cell.specs.declared.view.Stage.{Stage}
 use Rattle.turn_cell.specs.declared.view.Stage.TheVariants.{Idle, Waiting, Turn, Joined}
 use Rattle.turn_cell.specs.declared.view.View.{View}
 use Rattle.turn_cell.specs.Journal.{Grows, MayLeave, HasEach, times, longer}
 use Rattle.turn_cell.specs.Known.{Known, Entered}
 
--- the seat is of this table, which has the two words
+-- the seat is of this table, which has the words of a cell
 abbrev pub SitsAt : TableId → TableId → Type 0
-SitsAt seat table = (seat ≡ table) × (table.words ≡ 2)
+SitsAt seat table = (seat ≡ table) × (table.words ≡ WORDS)
 
 -- the places that a journal has beyond the one that was entered
 abbrev pub added : {E : Type 0} → List E → List E → List ℕ
@@ -110,10 +111,11 @@ module _ {V F E : Type 0} where
     pub least : 1 ≤ shares
     pub most : shares ≤ ALL_SHARES
 
-  -- draw: the view holds the ticket that was found
+  -- draw: the view holds the ticket that was asked for, if that was found
   abbrev pub Draws : Step (Option V) → Me (Option V) (View F E) → ℕ → Me (Option V) (View F E) →
       Type 0
-  Draws st m found n = n ≡ (at_stage (Waiting found) m.0, m.1)
+  Draws st m found n =
+      (found ≡ st.first → n ≡ (at_stage (Waiting st.first) m.0, m.1)) × (found ≢ st.first → n ≡ m)
 
   -- take: the value of the slot is in the caller's hand, and the view is as before
   pub record IsTaken (m n : Me (Option V) (View F E)) (value : V) : Type 0 where

@@ -6,30 +6,29 @@ use crate::journaled::Journaled;
 use crate::pass::{Held, Pass};
 use crate::rule::{Gift, TurnRule};
 use crate::shares::ALL_SHARES;
-use crate::steps::{bring_home, draw, join, split, try_take, wait_past};
+use crate::steps::{WORDS, bring_home, join, split, try_take};
 use crate::view::View;
+use crate::waiting::{draw_alone, wake_one};
 use atomic_table::{Refused, Table};
 use std::alloc::{AllocError, Global};
 use std::marker::{Brand, Model};
 use std::snapshot::Snapshot;
 use std::sync::Wait;
+use std::sync::atomic::AtomicU64;
 use std::thread;
 
-// How often a thread looks again at once, and then how often it lets others run first, before it
-// sleeps.
-const LOOKS: u32 = 64;
-
-const YIELDS: u32 = 64;
-
-/// A value that one pass at a time takes out, in the order in which they drew their tickets.
+/// A value that one pass at a time takes out.
 #[derive(Drop)]
 pub struct TurnCell<V: Journaled> {
     table: Table<Option<V>, View<V::Fixed, V::Entry>, Snapshot<V>, TurnRule, Global>,
+    // How many threads sleep until the cell is free, or are about to.
+    sleepers: AtomicU64,
 }
 
 impl<V: Journaled> Model for TurnCell<V> {
     ghost use Rattle.std.specs.Prelude.{◌≡◌};
     ghost use Rattle.turn_cell.specs.Known.{Cell};
+    ghost use Rattle.turn_cell.specs.declared.steps.TheConstants.{WORDS};
 
     ghost Value = { Cell V.Fixed V.Entry };
 
@@ -39,8 +38,8 @@ impl<V: Journaled> Model for TurnCell<V> {
       opening = V.journal c.table.shared.key.value;
     } };
 
-    // The table has two words and one slot.
-    ghost invariant = { λ c. (c.table.shared.table_id.words ≡ 2)
+    // The table has the words of a cell, and one slot.
+    ghost invariant = { λ c. (c.table.shared.table_id.words ≡ WORDS)
         × (c.table.shared.table_id.slots ≡ 1) };
 }
 
@@ -59,9 +58,12 @@ impl<V: Journaled> TurnCell<V> {
         let about = Snapshot::of(&value);
         let mut slots = Vec::with_capacity(alloc, 1)?;
         slots.push_reserved(Some(value));
-        match Table::new(alloc, &[0, 0], slots, &about) {
+        match Table::new(alloc, &[0; WORDS], slots, &about) {
             Ok((table, seat)) => Ok((
-                TurnCell { table },
+                TurnCell {
+                    table,
+                    sleepers: AtomicU64::new(0),
+                },
                 Pass {
                     shares: ALL_SHARES,
                     seat,
@@ -95,17 +97,12 @@ impl<V: Journaled> TurnCell<V> {
         ensures own { result.1.own ≡ pass.own }
     {
         let Pass { shares, mut seat } = pass;
-        let ticket = draw(&self.table.shared, &mut seat);
-        let mut looks = 0;
+        let ticket = draw_alone(rt, &self.table.shared, &self.sleepers, &mut seat);
         for _ in rt.forever() {
+            // Nobody had a ticket when it was drawn, so the first look takes the value.
             match try_take(&self.table.shared, &mut seat, ticket) {
                 Ok(value) => return (value, Held { shares, seat }),
-                Err(_) if looks < LOOKS => looks += 1,
-                Err(_) if looks < LOOKS + YIELDS => {
-                    looks += 1;
-                    thread::yield_now();
-                }
-                Err(serving) => wait_past(rt, &self.table.shared, serving),
+                Err(_) => thread::yield_now(),
             }
         }
         unreachable!()
@@ -125,6 +122,7 @@ impl<V: Journaled> TurnCell<V> {
     {
         let Held { shares, mut seat } = held;
         bring_home(&self.table.shared, &mut seat, value);
+        wake_one(&self.table.shared, &self.sleepers);
         Pass { shares, seat }
     }
 
@@ -195,7 +193,7 @@ impl<V: Journaled> TurnCell<V> {
         ensures own { HasEach (length self.opening) (length pass.seen) pass.own }
     {
         let Pass { shares: _, seat } = pass;
-        let TurnCell { table } = self;
+        let TurnCell { table, sleepers: _ } = self;
         let mut closed = table.close_with(seat);
         let value = closed.take(0);
         closed.free();

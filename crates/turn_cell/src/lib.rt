@@ -1,4 +1,4 @@
-//! A ticket lock round a value that keeps a journal.
+//! A lock round a value that keeps a journal; each turn has a ticket.
 //! A pass knows what it has seen of the journal and which places in it are its own.
 //! It holds shares, of which a cell has 65,536.
 #![tactic(auto)]
@@ -12,6 +12,7 @@ mod steps;
 #[cfg(test)]
 mod tests;
 mod view;
+mod waiting;
 
 pub use cell::TurnCell;
 pub use journaled::Journaled;

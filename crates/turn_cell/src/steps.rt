@@ -1,25 +1,32 @@
 //! The seven kinds of step on a cell's table, a function each, and those that come together.
-ghost use Rattle.std.specs.Prelude.{◌≡◌, ◌≢◌, ◌<◌, [], ◌∷◌, IfErr, IfOk, Some};
+ghost use Rattle.std.specs.Prelude.{◌≡◌, ◌≢◌, ◌<◌, [], ◌∷◌, IfErr, IfOk, MatchBool, Some};
 ghost use Rattle.turn_cell.specs.declared.view.Stage.TheVariants.{Waiting};
 ghost use Rattle.turn_cell.specs.Journal.{MayLeave};
 ghost use Rattle.turn_cell.specs.Steps.{GoesHome, IsAtTurn, IsIdle, IsJoinOf, IsPut, IsTaken, MayCall, SitsAt, TookOut, Turns, at_stage, entered_of, given, keeping, ticket_of};
 
 use crate::journaled::Journaled;
 use crate::rule::{Call, Division, Draw, Gift, Look, Place, Settle, Shelf, Union};
-use std::sync::Wait;
+
+// The words of a cell's table. Two are used, in its middle, so that the words of two cells never share a
+// line of a processor's cache, of 64 bytes: threads at different cells would slow each other down.
+pub const WORDS: usize = 18;
 
 // The word of the next ticket, and the word of the ticket that is served.
-const TICKET: usize = 0;
+pub const TICKET: usize = 8;
 
-const SERVING: usize = 1;
+pub const SERVING: usize = 9;
 
-pub fn draw<V: Journaled>(shelf: &Shelf<V>, seat: &mut Place<V>) -> u64
+/// Draws the ticket where it is the next. Whether it was.
+pub fn try_draw<V: Journaled>(shelf: &Shelf<V>, seat: &mut Place<V>, ticket: u64) -> bool
     requires table { SitsAt seat.old.table_id shelf.now.table_id }
     requires idle { IsIdle seat.old.me }
     ensures table { seat.new.table_id ≡ seat.old.table_id }
-    ensures drawn { seat.new.me ≡ (at_stage (Waiting result) seat.old.me.0, []) }
+    ensures drawn { MatchBool result
+        (seat.new.me ≡ (at_stage (Waiting ticket) seat.old.me.0, []))
+        (seat.new.me ≡ seat.old.me) }
 {
-    shelf.fetch_add::<Draw>(seat, TICKET, 1)
+    let found = shelf.compare_exchange::<Draw>(seat, TICKET, ticket, ticket.wrapping_add(1));
+    found == ticket
 }
 
 /// Gives the ticket that is served.
@@ -107,7 +114,7 @@ pub fn try_take<V: Journaled>(shelf: &Shelf<V>, seat: &mut Place<V>, ticket: u64
     Ok(take(shelf, seat))
 }
 
-/// Puts the value home, calls the next and wakes those who sleep.
+/// Puts the value home and calls the next.
 pub fn bring_home<V: Journaled>(shelf: &Shelf<V>, seat: &mut Place<V>, value: V)
     requires table { SitsAt seat.old.table_id shelf.now.table_id }
     requires turn { IsAtTurn seat.old.me × (0 < seat.old.me.0.shares) }
@@ -119,23 +126,5 @@ pub fn bring_home<V: Journaled>(shelf: &Shelf<V>, seat: &mut Place<V>, value: V)
         seat.old.me seat.new.me }
 {
     put(shelf, seat, value);
-    let served = call(shelf, seat);
-    wake_after(shelf, served);
-}
-
-// Wakes those who sleep, where a ticket is out that was drawn after this one.
-fn wake_after<V: Journaled>(shelf: &Shelf<V>, served: u64)
-    requires { shelf.now.table_id.words ≡ 2 }
-{
-    // Where no other is out, who draws next finds its ticket served, and does not sleep.
-    if shelf.peek(TICKET) != served.wrapping_add(1) {
-        shelf.wake_all(SERVING);
-    }
-}
-
-/// Sleeps while this ticket is served.
-pub fn wait_past<V: Journaled, W: Wait>(rt: &W, shelf: &Shelf<V>, serving: u64)
-    requires { shelf.now.table_id.words ≡ 2 }
-{
-    shelf.park(rt, SERVING, (serving % (1 << 32)) as u32);
+    call(shelf, seat);
 }

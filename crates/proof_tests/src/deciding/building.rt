@@ -1,29 +1,36 @@
 //! Terms and certificates of their words.
 
-use super::cases::{Row, Word};
-use Word::{And, For, Key, Name, Quote, Role};
+use super::cases::{Given, Row, Word};
+use Given::{Backwards, Chain, Rows};
+use Word::{And, Key, Name, Quote, Role};
 use prin_term::{Statement, Term};
 use std::alloc::Global;
 use std::sync::Arc;
 use std::test::Fail;
 use stmt_codec::{Cert, CertBody};
 
+// The last operand.
+fn popped(alloc: Global, terms: &mut Vec<Term>) -> Result<Box<Term>, Fail> {
+    let term = terms.pop().ok_or("no operand")?;
+    Ok(Box::new(alloc, term)?)
+}
+
+fn joined(word: Word, left: Box<Term>, right: Box<Term>) -> Term {
+    match word {
+        And => Term::And(left, right),
+        Quote => Term::Quote(left, right),
+        _ => Term::For(left, right),
+    }
+}
+
 fn put(alloc: Global, terms: &mut Vec<Term>, word: Word) -> Result<(), Fail> {
     let term = match word {
         Key(number) => Term::Key(number),
         Name(number) => Term::Name(number),
-        Role(number) => {
-            let base = Box::new(alloc, terms.pop().ok_or("no operand")?)?;
-            Term::AsRole(base, number)
-        }
-        And | Quote | For => {
-            let right = Box::new(alloc, terms.pop().ok_or("no operand")?)?;
-            let left = Box::new(alloc, terms.pop().ok_or("no operand")?)?;
-            match word {
-                And => Term::And(left, right),
-                Quote => Term::Quote(left, right),
-                _ => Term::For(left, right),
-            }
+        Role(number) => Term::AsRole(popped(alloc, terms)?, number),
+        _ => {
+            let right = popped(alloc, terms)?;
+            joined(word, popped(alloc, terms)?, right)
         }
     };
     terms.push(term)?;
@@ -31,7 +38,7 @@ fn put(alloc: Global, terms: &mut Vec<Term>, word: Word) -> Result<(), Fail> {
 }
 
 // The term of these words, where there are any.
-pub fn some_term(alloc: Global, words: &[Word]) -> Result<Option<Term>, Fail> {
+fn some_term(alloc: Global, words: &[Word]) -> Result<Option<Term>, Fail> {
     let mut terms = Vec::new(alloc);
     for i in 0..words.len() {
         put(alloc, &mut terms, words[i])?;
@@ -58,7 +65,7 @@ fn cert(alloc: Global, row: Row) -> Result<Arc<Cert>, Fail> {
     Ok(Arc::new(alloc, Cert::of(alloc, body)?)?)
 }
 
-pub fn certs(alloc: Global, rows: &[Row]) -> Result<Vec<Arc<Cert>>, Fail> {
+fn said(alloc: Global, rows: &[Row]) -> Result<Vec<Arc<Cert>>, Fail> {
     let mut certs = Vec::new(alloc);
     for i in 0..rows.len() {
         certs.push(cert(alloc, rows[i])?)?;
@@ -67,7 +74,7 @@ pub fn certs(alloc: Global, rows: &[Row]) -> Result<Vec<Arc<Cert>>, Fail> {
 }
 
 // Keys from 100 on, each of which hands itself over to the next.
-pub fn chain(alloc: Global, count: u32) -> Result<Vec<Arc<Cert>>, Fail> {
+fn chain(alloc: Global, count: u32) -> Result<Vec<Arc<Cert>>, Fail> {
     let mut certs = Vec::new(alloc);
     for i in 0..count {
         let key = i.wrapping_add(100);
@@ -84,4 +91,31 @@ pub fn chain(alloc: Global, count: u32) -> Result<Vec<Arc<Cert>>, Fail> {
         certs.push(Arc::new(alloc, Cert::of(alloc, body)?)?)?;
     }
     Ok(certs)
+}
+
+// The certificates, the chosen ones and the others.
+pub fn certs(alloc: Global, given: Given) -> Result<Vec<Arc<Cert>>, Fail> {
+    match given {
+        Rows(_, rows) => said(alloc, rows),
+        Chain(count) => chain(alloc, count),
+        Backwards(count) => {
+            let mut certs = chain(alloc, count)?;
+            certs.reverse();
+            Ok(certs)
+        }
+    }
+}
+
+// Which of so many are chosen.
+pub fn chosen(alloc: Global, given: Given, count: usize) -> Result<Vec<bool>, Fail> {
+    let mut rest = match given {
+        Rows(places, _) => places,
+        _ => u64::MAX,
+    };
+    let mut marks = Vec::new(alloc);
+    for _ in 0..count {
+        marks.push(rest % 2 == 1)?;
+        rest /= 2;
+    }
+    Ok(marks)
 }

@@ -16,19 +16,51 @@ use Word::{And, For, Key, Name, Quote, Role};
 // A certificate: the key of the issuer, whom it quotes, and the sides of its statement.
 pub type Row = (u32, &'static [Word], &'static [Word], &'static [Word]);
 
-// What is shown, the certificates, a key and whom it quotes, for whom it may speak, and how many
-// certificates the proof cites where it does.
+// The certificates of a question: at these places of rows, or a chain of so many keys, from the
+// first on or from the last.
+#[derive(Clone, Copy)]
+pub enum Given {
+    Rows(u64, &'static [Row]),
+    Chain(u32),
+    Backwards(u32),
+}
+
+use Given::{Backwards, Chain, Rows};
+
+// Whether a proof is answered: any, or one that cites the certificates at these places in their
+// order, also of so many lines.
+#[derive(Clone, Copy)]
+pub enum Answer {
+    Denied,
+    Granted,
+    By(u64),
+    Lines(usize, u64),
+}
+
+use Answer::{By, Denied, Granted, Lines};
+
+// What is shown, the certificates, who asks, for whom, and what is answered. A set of places has a
+// bit for each, the lowest for the first one.
 pub type Case = (
     &'static str,
-    &'static [Row],
-    u32,
+    Given,
     &'static [Word],
     &'static [Word],
-    Option<usize>,
+    Answer,
 );
+
+const ALL: u64 = u64::MAX;
+
+const NONE: Given = Rows(ALL, &[]);
 
 // The boot of a machine, a channel of its key, the login of bob, and his session; a second machine,
 // and its delegation.
+const BOOT: Row = (11, &[], &[Key(12)], &[Name(20), Role(1)]);
+
+const CHANNEL: Row = (12, &[], &[Key(15)], &[Key(12)]);
+
+const SESSION: Row = (14, &[], &[Key(15)], &[Key(14)]);
+
 const LOGIN: Row = (
     13,
     &[],
@@ -43,316 +75,413 @@ const DELEGATION: Row = (
     &[Name(21), Role(1), Name(20), Role(1), Name(30), For, For],
 );
 
-pub const DELEGATED: [Row; 7] = [
-    (11, &[], &[Key(12)], &[Name(20), Role(1)]),
-    (12, &[], &[Key(15)], &[Key(12)]),
+const LOGGED_IN: [Row; 4] = [BOOT, CHANNEL, LOGIN, SESSION];
+
+const DELEGATED: [Row; 7] = [
+    BOOT,
+    CHANNEL,
     LOGIN,
-    (14, &[], &[Key(15)], &[Key(14)]),
+    SESSION,
     (16, &[], &[Key(17)], &[Name(21), Role(1)]),
     (17, &[], &[Key(18)], &[Key(17)]),
     DELEGATION,
 ];
 
 // Each rule with a near miss, and chains of certificates.
-pub const CASES: [Case; 41] = [
-    ("same", &[], 1, &[], &[Key(1)], Some(0)),
-    ("not the same", &[], 1, &[], &[Key(2)], None),
-    ("anchor", &[], 1, &[], &[Name(10)], Some(0)),
-    ("another's anchor", &[], 1, &[], &[Name(30)], None),
+pub const CASES: &[Case] = &[
+    ("same", NONE, &[Key(1)], &[Key(1)], By(0)),
+    ("not the same", NONE, &[Key(1)], &[Key(2)], Denied),
+    ("anchor", NONE, &[Key(1)], &[Name(10)], By(0)),
+    ("another's anchor", NONE, &[Key(1)], &[Name(30)], Denied),
     (
         "said, and handed off",
-        &[(3, &[], &[Key(2)], &[Key(3)])],
-        2,
-        &[],
+        Rows(ALL, &[(3, &[], &[Key(2)], &[Key(3)])]),
+        &[Key(2)],
         &[Key(3)],
-        Some(1),
+        By(1),
     ),
     (
         "without authority",
-        &[(4, &[], &[Key(2)], &[Key(3)])],
-        2,
-        &[],
+        Rows(ALL, &[(4, &[], &[Key(2)], &[Key(3)])]),
+        &[Key(2)],
         &[Key(3)],
-        None,
+        Denied,
     ),
     (
         "chain",
-        &[(1, &[], &[Key(2)], &[Key(1)])],
-        2,
-        &[],
+        Rows(ALL, &[(1, &[], &[Key(2)], &[Key(1)])]),
+        &[Key(2)],
         &[Name(10)],
-        Some(1),
+        By(1),
     ),
     (
         "chain to another",
-        &[(1, &[], &[Key(2)], &[Key(1)])],
-        2,
-        &[],
+        Rows(ALL, &[(1, &[], &[Key(2)], &[Key(1)])]),
+        &[Key(2)],
         &[Name(30)],
-        None,
+        Denied,
     ),
     (
         "lift",
-        &[(1, &[], &[Key(2)], &[Name(10)])],
-        2,
-        &[],
+        Rows(ALL, &[(1, &[], &[Key(2)], &[Name(10)])]),
+        &[Key(2)],
         &[Name(10)],
-        Some(1),
+        By(1),
     ),
     (
         "lift by the wrong key",
-        &[(3, &[], &[Key(2)], &[Name(10)])],
-        2,
-        &[],
+        Rows(ALL, &[(3, &[], &[Key(2)], &[Name(10)])]),
+        &[Key(2)],
         &[Name(10)],
-        None,
+        Denied,
     ),
     (
         "join",
-        &[
-            (1, &[], &[Key(2)], &[Name(10), Name(30), And]),
-            (3, &[], &[Key(2)], &[Name(10), Name(30), And]),
-        ],
-        2,
-        &[],
+        Rows(
+            ALL,
+            &[
+                (1, &[], &[Key(2)], &[Name(10), Name(30), And]),
+                (3, &[], &[Key(2)], &[Name(10), Name(30), And]),
+            ],
+        ),
+        &[Key(2)],
         &[Name(10), Name(30), And],
-        Some(2),
+        By(3),
     ),
     (
         "join without the second",
-        &[
-            (1, &[], &[Key(2)], &[Name(10), Name(30), And]),
-            (1, &[], &[Key(2)], &[Name(10), Name(30), And]),
-        ],
-        2,
-        &[],
+        Rows(
+            ALL,
+            &[
+                (1, &[], &[Key(2)], &[Name(10), Name(30), And]),
+                (1, &[], &[Key(2)], &[Name(10), Name(30), And]),
+            ],
+        ),
+        &[Key(2)],
         &[Name(10), Name(30), And],
-        None,
+        Denied,
     ),
     (
         "left",
-        &[],
-        1,
-        &[Name(10), Name(30), And],
+        NONE,
+        &[Key(1), Name(10), Name(30), And, Quote],
         &[Key(1), Name(10), Quote],
-        Some(0),
+        By(0),
     ),
     (
         "left of a quoting",
-        &[],
-        1,
-        &[Name(10), Name(30), Quote],
+        NONE,
+        &[Key(1), Name(10), Name(30), Quote, Quote],
         &[Key(1), Name(10), Quote],
-        None,
+        Denied,
     ),
     (
         "right",
-        &[],
-        1,
-        &[Name(10), Name(30), And],
+        NONE,
+        &[Key(1), Name(10), Name(30), And, Quote],
         &[Key(1), Name(30), Quote],
-        Some(0),
+        By(0),
     ),
     (
         "right of a delegation",
-        &[],
-        1,
-        &[Name(10), Name(30), For],
+        NONE,
+        &[Key(1), Name(10), Name(30), For, Quote],
         &[Key(1), Name(30), Quote],
-        None,
+        Denied,
     ),
-    ("both", &[], 1, &[], &[Name(10), Name(40), And], Some(0)),
-    ("one of both", &[], 1, &[], &[Name(10), Name(30), And], None),
+    ("both", NONE, &[Key(1)], &[Name(10), Name(40), And], By(0)),
+    (
+        "one of both",
+        NONE,
+        &[Key(1)],
+        &[Name(10), Name(30), And],
+        Denied,
+    ),
     (
         "quoting",
-        &[],
-        1,
-        &[Key(3)],
+        NONE,
+        &[Key(1), Key(3), Quote],
         &[Name(10), Name(30), Quote],
-        Some(0),
+        By(0),
     ),
     (
         "quoting on one side",
-        &[],
-        1,
-        &[Key(3)],
+        NONE,
+        &[Key(1), Key(3), Quote],
         &[Name(10), Name(20), Quote],
-        None,
+        Denied,
     ),
     (
         "for",
-        &[],
-        1,
-        &[Key(1), Key(3), For],
+        NONE,
+        &[Key(1), Key(1), Key(3), For, Quote],
         &[Key(1), Name(10), Name(30), For, Quote],
-        Some(0),
+        By(0),
     ),
     (
         "for on one side",
-        &[],
-        1,
-        &[Key(1), Key(3), For],
+        NONE,
+        &[Key(1), Key(1), Key(3), For, Quote],
         &[Key(1), Name(10), Name(20), For, Quote],
-        None,
+        Denied,
     ),
-    ("role", &[], 1, &[], &[Key(1), Role(2)], Some(0)),
+    ("role", NONE, &[Key(1)], &[Key(1), Role(2)], By(0)),
     (
         "out of a role",
-        &[],
-        1,
-        &[Key(1), Role(2)],
+        NONE,
+        &[Key(1), Key(1), Role(2), Quote],
         &[Key(1), Key(1), Quote],
-        None,
+        Denied,
     ),
     (
         "under a role",
-        &[],
-        1,
-        &[Key(3), Role(1)],
+        NONE,
+        &[Key(1), Key(3), Role(1), Quote],
         &[Key(1), Name(30), Role(1), Quote],
-        Some(0),
+        By(0),
     ),
     (
         "under another role",
-        &[],
-        1,
-        &[Key(3), Role(1)],
+        NONE,
+        &[Key(1), Key(3), Role(1), Quote],
         &[Key(1), Name(30), Role(2), Quote],
-        None,
+        Denied,
     ),
     (
         "delegation",
-        &[(3, &[], &[Key(2), Key(3), Quote], &[Key(2), Key(3), For])],
-        2,
-        &[Key(3)],
+        Rows(
+            ALL,
+            &[(3, &[], &[Key(2), Key(3), Quote], &[Key(2), Key(3), For])],
+        ),
+        &[Key(2), Key(3), Quote],
         &[Key(2), Key(3), For],
-        Some(1),
+        By(1),
     ),
     (
         "delegation by the other one",
-        &[(2, &[], &[Key(2), Key(3), Quote], &[Key(2), Key(3), For])],
-        2,
-        &[Key(3)],
+        Rows(
+            ALL,
+            &[(2, &[], &[Key(2), Key(3), Quote], &[Key(2), Key(3), For])],
+        ),
+        &[Key(2), Key(3), Quote],
         &[Key(2), Key(3), For],
-        None,
+        Denied,
     ),
     (
         "delegation for free",
-        &[],
-        2,
-        &[Key(3)],
+        NONE,
+        &[Key(2), Key(3), Quote],
         &[Key(2), Key(3), For],
-        None,
+        Denied,
     ),
     (
         "an adopted role",
-        &[(3, &[], &[Key(4)], &[Name(30), Role(2)])],
-        4,
-        &[],
+        Rows(ALL, &[(3, &[], &[Key(4)], &[Name(30), Role(2)])]),
+        &[Key(4)],
         &[Name(30), Role(2)],
-        Some(1),
+        By(1),
     ),
     (
         "no more than an adopted role",
-        &[(3, &[], &[Key(4)], &[Name(30), Role(2)])],
-        4,
-        &[],
+        Rows(ALL, &[(3, &[], &[Key(4)], &[Name(30), Role(2)])]),
+        &[Key(4)],
         &[Name(30)],
-        None,
+        Denied,
     ),
     (
         "a second machine for the first one for bob",
-        &DELEGATED,
-        18,
-        &[Name(20), Role(1), Name(30), For],
+        Rows(ALL, &DELEGATED),
+        &[Key(18), Name(20), Role(1), Name(30), For, Quote],
         &[Name(21), Role(1), Name(20), Role(1), Name(30), For, For],
-        Some(7),
+        By(127),
     ),
     (
         "the second machine for itself",
-        &DELEGATED,
-        18,
+        Rows(ALL, &DELEGATED),
+        &[Key(18), Name(20), Role(1), Name(30), For, Quote],
         &[Name(20), Role(1), Name(30), For],
-        &[Name(20), Role(1), Name(30), For],
-        None,
+        Denied,
     ),
     (
         "by way of key 3 quoting alice, which nothing names",
-        &[
-            (3, &[], &[Key(2)], &[Key(3)]),
-            (1, &[], &[Name(40)], &[Name(10)]),
-        ],
-        2,
-        &[Name(40)],
+        Rows(
+            ALL,
+            &[
+                (3, &[], &[Key(2)], &[Key(3)]),
+                (1, &[], &[Name(40)], &[Name(10)]),
+            ],
+        ),
+        &[Key(2), Name(40), Quote],
         &[Name(30), Name(10), Quote],
-        Some(2),
+        By(3),
     ),
     (
         "by the word of alice and bob together, which nothing names",
-        &[
-            (1, &[], &[Key(3)], &[Key(1)]),
-            (3, &[], &[Key(2)], &[Name(10)]),
-        ],
-        2,
-        &[],
+        Rows(
+            ALL,
+            &[
+                (1, &[], &[Key(3)], &[Key(1)]),
+                (3, &[], &[Key(2)], &[Name(10)]),
+            ],
+        ),
+        &[Key(2)],
         &[Name(10)],
-        Some(2),
+        By(3),
     ),
     (
         "a quoting is not taken apart",
-        &[(1, &[], &[Key(2), Name(30), Quote], &[Name(10)])],
-        2,
-        &[],
+        Rows(ALL, &[(1, &[], &[Key(2), Name(30), Quote], &[Name(10)])]),
+        &[Key(2)],
         &[Name(10)],
-        None,
+        Denied,
     ),
     (
         "a key that quotes speaks for whom it was handed",
-        &[(1, &[], &[Key(2), Name(30), Quote], &[Name(10)])],
-        2,
-        &[Name(30)],
+        Rows(ALL, &[(1, &[], &[Key(2), Name(30), Quote], &[Name(10)])]),
+        &[Key(2), Name(30), Quote],
         &[Name(10)],
-        Some(1),
+        By(1),
     ),
     (
         "a circle that is entered",
-        &[
-            (1, &[], &[Key(2)], &[Key(1)]),
-            (2, &[], &[Key(1)], &[Key(2)]),
-        ],
-        2,
-        &[],
+        Rows(
+            ALL,
+            &[
+                (1, &[], &[Key(2)], &[Key(1)]),
+                (2, &[], &[Key(1)], &[Key(2)]),
+            ],
+        ),
+        &[Key(2)],
         &[Name(10)],
-        Some(1),
+        By(1),
     ),
     (
         "a circle that leads nowhere",
-        &[
-            (4, &[], &[Key(5)], &[Key(4)]),
-            (5, &[], &[Key(4)], &[Key(5)]),
-        ],
-        5,
-        &[],
+        Rows(
+            ALL,
+            &[
+                (4, &[], &[Key(5)], &[Key(4)]),
+                (5, &[], &[Key(4)], &[Key(5)]),
+            ],
+        ),
+        &[Key(5)],
         &[Name(30)],
-        None,
+        Denied,
     ),
     (
         "each by the word of the other",
-        &[
-            (4, &[], &[Key(5)], &[Name(50)]),
-            (5, &[], &[Key(4)], &[Name(50)]),
-        ],
-        5,
-        &[],
+        Rows(
+            ALL,
+            &[
+                (4, &[], &[Key(5)], &[Name(50)]),
+                (5, &[], &[Key(4)], &[Name(50)]),
+            ],
+        ),
+        &[Key(5)],
         &[Name(50)],
-        None,
+        Denied,
     ),
     (
         "on the list itself",
-        &[],
-        1,
-        &[Name(30)],
+        NONE,
         &[Key(1), Name(30), Quote],
-        Some(0),
+        &[Key(1), Name(30), Quote],
+        By(0),
     ),
+];
+
+// One name, by its key and by another.
+const HANDED: [Row; 2] = [
+    (3, &[], &[Key(2)], &[Name(10)]),
+    (1, &[], &[Key(2)], &[Name(10)]),
+];
+
+// Key 15, which quotes bob, asks about the machine for bob by the certificates at these places.
+macro_rules! login {
+    ($what:expr, $chosen:expr, $cites:expr) => {
+        (
+            $what,
+            Rows($chosen, &LOGGED_IN),
+            &[Key(15), Name(30), Quote],
+            &[Name(20), Role(1), Name(30), For],
+            $cites,
+        )
+    };
+}
+
+// A proof cites what it rests on, and where one of these is missing there is none.
+pub const CITING: &[Case] = &[
+    (
+        "the second hand-off",
+        Rows(3, &HANDED),
+        &[Key(2)],
+        &[Name(10)],
+        Lines(4, 2),
+    ),
+    (
+        "by the key of bob",
+        Rows(1, &HANDED),
+        &[Key(2)],
+        &[Name(10)],
+        Denied,
+    ),
+    (
+        "any small principal",
+        NONE,
+        &[Key(1), Key(3), And],
+        &[Name(10), Name(30), And],
+        By(0),
+    ),
+    login!("a login", 15, By(15)),
+    login!("without the boot", 14, Denied),
+    login!("without the channel", 13, Denied),
+    login!("without the login", 11, Denied),
+    login!("without the session", 7, Denied),
+    ("a chain", Chain(16), &[Key(116)], &[Key(100)], By(0xffff)),
+    (
+        "a chain from its end",
+        Backwards(16),
+        &[Key(116)],
+        &[Key(100)],
+        By(0xffff),
+    ),
+];
+
+// The certificates of a login come one after the other, from each of them on.
+pub const COMING: &[Case] = &[
+    login!("1", 2, Denied),
+    login!("1 2", 6, Denied),
+    login!("1 2 3", 14, Denied),
+    login!("1 2 3 0", 15, Granted),
+    login!("2", 4, Denied),
+    login!("2 3", 12, Denied),
+    login!("2 3 0", 13, Denied),
+    login!("2 3 0 1", 15, Granted),
+    login!("3", 8, Denied),
+    login!("3 0", 9, Denied),
+    login!("3 0 1", 11, Denied),
+    login!("3 0 1 2", 15, Granted),
+    login!("0", 1, Denied),
+    login!("0 1", 3, Denied),
+    login!("0 1 2", 7, Denied),
+    login!("0 1 2 3", 15, Granted),
+];
+
+// Hints alone lead to an answer, and certificates about others change nothing.
+pub const LARGE: &[Case] = &[
+    (
+        "a large question",
+        Chain(64),
+        &[Key(164), Name(30), Quote],
+        &[Key(100), Key(101), And, Name(30), Quote],
+        By(ALL),
+    ),
+    (
+        "the anchor of another",
+        Chain(64),
+        &[Key(1)],
+        &[Name(10)],
+        By(0),
+    ),
+    ("no anchor", Chain(64), &[Key(1)], &[Name(30)], Denied),
 ];

@@ -1,12 +1,12 @@
-use Rattle.std.proofs.Common.{◌≡◌, [], ◌∷◌, ◌++◌, cond, List, Option, Some, map, take, refl, sym, ap, subst, arith, ◌∙◌, ◌<◌, ◌+◌, length}
+use Rattle.std.proofs.Common.{◌≡◌, [], ◌∷◌, ◌++◌, cond, List, map, take, refl, sym, ap, subst, arith, ◌∙◌, ◌<◌, ◌+◌, length}
 use Rattle.std.specs.Prelude.{IsSome, ◌==◌}
 use Rattle.std.proofs.lemmas.Option.{same_Some}
 use Rattle.taos_lanes.specs.declared.lane.Stock.{Stock}
 use Rattle.taos_lanes.specs.declared.tally.Tally.{Tally}
-use Rattle.taos_lanes.specs.Joining.{IsEmptied, IsTotalOf, JoinsAll, WorkIs, passes_of, stocks_in}
+use Rattle.taos_lanes.specs.Joining.{IsEmptied, IsTotalOf, JoinsAll, passes_of, stocks_in}
 use Rattle.taos_lanes.specs.Stocked.{IsStockOf, cells_of, door_by, shown_by}
 use Rattle.taos_lanes.proofs.Joined.{joins_push}
-use Rattle.taos_lanes.proofs.Rows.{here_is, upto_done, upto_set}
+use Rattle.taos_lanes.proofs.Rows.{upto_done, upto_set}
 use Rattle.taos_lanes.proofs.Totals.{has_work, small_more, stocks_gone, total_more}
 use Rattle.taos_lanes.proofs.joining.join_lanes.Goals as goal
 

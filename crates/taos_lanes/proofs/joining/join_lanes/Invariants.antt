@@ -1,4 +1,4 @@
-use Rattle.std.proofs.Common.{◌≡◌, ◌≤◌, ◌*◌, ◌^◌, map, take}
+use Rattle.std.proofs.Common.{map, take}
 use Rattle.taos_lanes.specs.Joining.{ArePassesOf, IsEmptied, IsTotalOf, JoinsAll, passes_of, stocks_in}
 use Rattle.taos_lanes.specs.Stocked.{cells_of, door_by, shown_by}
 use Rattle.taos_lanes.proofs.Rows.{Upto}

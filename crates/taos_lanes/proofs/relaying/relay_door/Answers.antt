@@ -5,11 +5,11 @@ use Rattle.taos_lanes.proofs.SoFar.{none_yet, one_served, door_fails}
 use Rattle.taos_lanes.proofs.relaying.relay_door.Goals as goal
 
 pub loop-tally-init : goal.loop-tally-init
-loop-tally-init g c = none_yet _ _ _ _ _ _ _ c.new-tally.ensures.served c.new-tally.ensures.broken c.new-tally.ensures.lacked c.new-tally.ensures.door
+loop-tally-init g c = none_yet _ _ _ _ _ c.new-tally.ensures.served c.new-tally.ensures.broken c.new-tally.ensures.lacked c.new-tally.ensures.door
 
 pub returns-in_default : goal.returns-in_default
 returns-in_default g c =
-    door_fails _ _ _ _ _ _ _ _ c.loop-tally.invariant _ _ c.in_default.ensures.gives.0 c.in_default.ensures.back c.in_default.ensures.gives.1
+    door_fails _ _ _ _ _ _ c.loop-tally.invariant _ _ c.in_default.ensures.gives.0 c.in_default.ensures.back c.in_default.ensures.gives.1
     c.in_default.ensures.cause.later c.in_default.ensures.cause.failed refl refl refl refl
 
 pub loop-tally-preserved : goal.loop-tally-preserved
@@ -25,7 +25,7 @@ loop-tally-preserved g c =
       causes = it.causes;
       complete = it.complete;
     } in
-    one_served _ _ _ _ _ _ _ _ (door_of (g.D.Door.left c.accept.new.self) (g.D.Door.back c.accept.new.self) (g.D.Door.given c.accept.new.self) (g.D.Door.faults c.accept.new.self))
+    one_served _ _ _ _ _ _ (door_of (g.D.Door.left c.accept.new.self) (g.D.Door.back c.accept.new.self) (g.D.Door.given c.accept.new.self) (g.D.Door.faults c.accept.new.self))
     _ _ _ _ _ v c.loop-tally.invariant refl refl c.in-Some.is c.in-Ok.ensures.gives c.in-Ok.ensures.back c.in-Ok.ensures.cause.steady
     c.done.ensures.back c.done.ensures.left c.done.ensures.given c.done.ensures.faults
     (record { input = refl; output = refl; input_after = refl; output_after = refl }) c.loop-tally-test.true

@@ -1,4 +1,4 @@
-use Rattle.std.proofs.Common.{List, [], ◌∷◌, ◌++◌, take, ap, arith, subst, sym, cond, ◌+◌, ◌∙◌}
+use Rattle.std.proofs.Common.{[], ◌∷◌, ◌++◌, take, ap, arith, subst, sym, cond, ◌+◌, ◌∙◌}
 use Rattle.std.specs.Prelude.{◌==◌}
 use Rattle.std.proofs.lemmas.List.{take_all, take_more}
 use Rattle.taos_lanes.specs.declared.tally.Tally.{Tally}

@@ -1,4 +1,4 @@
-use Rattle.std.proofs.Common.{refl, arith, ◌<◌, ◌+◌, length}
+use Rattle.std.proofs.Common.{refl, arith, ◌<◌, length}
 use Rattle.taos_lanes.specs.Joining.{IsEmptied}
 use Rattle.taos_lanes.specs.Stocked.{door_by, shown_by}
 use Rattle.taos_lanes.proofs.Rows.{upto_done, upto_set}

@@ -1,7 +1,8 @@
-use Rattle.std.proofs.Common.{length, map, refl, sym, subst, ℕ, ◌∙◌, ◌≡◌}
+use Rattle.std.proofs.Common.{sym, subst, ℕ}
 use Rattle.std.proofs.lemmas.List.{length-map}
-use Rattle.taos_lanes.specs.Joining.{HaveAllBut, passes_of, stocks_in}
+use Rattle.taos_lanes.specs.Joining.{HaveAllBut}
 use Rattle.taos_lanes.specs.Stocked.{cells_of, door_by, shown_by}
+use Rattle.taos_lanes.specs.Telling.{told_by}
 use Rattle.taos_lanes.proofs.Ends.{all_back, idle_after, lanes_stocked, same_ends, works}
 use Rattle.taos_lanes.proofs.Runs.{all_serve, closed_fixed, closed_plans, runs_are, runs_counted, runs_fresh, runs_of, runs_seen}
 use Rattle.taos_lanes.proofs.serving.serve_cells.Goals as goal
@@ -21,19 +22,19 @@ serve_lanes-requires-clause-stocked g c κs within =
 
 pub join_lanes-total-requires-clause-stocked : goal.join_lanes-total-requires-clause-stocked
 join_lanes-total-requires-clause-stocked g c κs within =
-    works g.D.In.Source.left g.D.Out.Sink.written c.args.keys.now (cells_of c.args.shards.0 c.args.objects.0) c.args.limits _ _ c.serve_lanes.ensures
+    works (told_by g.D.In.Source.left g.D.Out.Sink.written) c.args.keys.now (cells_of c.args.shards.0 c.args.objects.0) c.args.limits _ _ c.serve_lanes.ensures
 
 pub close-requires-clause-shares : goal.close-requires-clause-shares
 close-requires-clause-shares g c =
     let f = shown_by g.C.Clock.readings g.R.RelayLink.faults g.R.RelayLink.says (door_by g.D.Door.left g.D.Door.back g.D.Door.given g.D.Door.faults) in
-    (all_back g.D.In.Source.left g.D.Out.Sink.written c.args.keys.now (cells_of c.args.shards.0 c.args.objects.0) c.args.limits _ _ _ _ _ c.in-Ok.ensures.stocked c.serve_lanes.ensures c.join_lanes-total.ensures.joined
+    (all_back (told_by g.D.In.Source.left g.D.Out.Sink.written) c.args.keys.now (cells_of c.args.shards.0 c.args.objects.0) c.args.limits _ _ _ _ _ c.in-Ok.ensures.stocked c.serve_lanes.ensures c.join_lanes-total.ensures.joined
     (subst (λ (n : ℕ). HaveAllBut n c.stock_lanes.new.passes) (sym (length-map c.args.lanes.now f)) c.in-Ok.ensures.kept.shards_left)
     (subst (λ (n : ℕ). HaveAllBut n c.stock_lanes.new.racked) (sym (length-map c.args.lanes.now f)) c.in-Ok.ensures.kept.objects_left)).0
 
 pub close-requires-2-clause-shares : goal.close-requires-2-clause-shares
 close-requires-2-clause-shares g c =
     let f = shown_by g.C.Clock.readings g.R.RelayLink.faults g.R.RelayLink.says (door_by g.D.Door.left g.D.Door.back g.D.Door.given g.D.Door.faults) in
-    (all_back g.D.In.Source.left g.D.Out.Sink.written c.args.keys.now (cells_of c.args.shards.0 c.args.objects.0) c.args.limits _ _ _ _ _ c.in-Ok.ensures.stocked c.serve_lanes.ensures c.join_lanes-total.ensures.joined
+    (all_back (told_by g.D.In.Source.left g.D.Out.Sink.written) c.args.keys.now (cells_of c.args.shards.0 c.args.objects.0) c.args.limits _ _ _ _ _ c.in-Ok.ensures.stocked c.serve_lanes.ensures c.join_lanes-total.ensures.joined
     (subst (λ (n : ℕ). HaveAllBut n c.stock_lanes.new.passes) (sym (length-map c.args.lanes.now f)) c.in-Ok.ensures.kept.shards_left)
     (subst (λ (n : ℕ). HaveAllBut n c.stock_lanes.new.racked) (sym (length-map c.args.lanes.now f)) c.in-Ok.ensures.kept.objects_left)).1
 
@@ -44,15 +45,15 @@ returns-clause-served g c =
     let z = c.serve_lanes.ensures in
     let kept = c.in-Ok.ensures.kept in
     record {
-      runs = runs_of g.D.In.Source.left g.D.Out.Sink.written c.args.keys.now cells c.args.limits _ _ z;
-      each = runs_are g.D.In.Source.left g.D.Out.Sink.written c.args.keys.now cells c.args.limits _ _ _ _ c.in-Ok.ensures.stocked z c.join_lanes-total.ensures.emptied;
-      serves = all_serve g.D.In.Source.left g.D.Out.Sink.written c.args.keys.now cells c.args.limits c.requires.new.shards c.requires.new.objects _ _ kept.shards_fresh kept.objects_fresh
+      runs = runs_of (told_by g.D.In.Source.left g.D.Out.Sink.written) c.args.keys.now cells c.args.limits _ _ z;
+      each = runs_are (told_by g.D.In.Source.left g.D.Out.Sink.written) c.args.keys.now cells c.args.limits _ _ _ _ c.in-Ok.ensures.stocked z c.join_lanes-total.ensures.emptied;
+      serves = all_serve (told_by g.D.In.Source.left g.D.Out.Sink.written) c.args.keys.now cells c.args.limits c.requires.new.shards c.requires.new.objects _ _ kept.shards_fresh kept.objects_fresh
           c.join_lanes-total.ensures.passes _ _ c.close.ensures c.close-2.ensures (c.closed_lanes_serve_all.ensures _ _) _ _
-          (runs_fresh g.D.In.Source.left g.D.Out.Sink.written c.args.keys.now cells c.args.limits _ _ _ c.in-Ok.ensures.stocked z)
-          (runs_seen g.D.In.Source.left g.D.Out.Sink.written c.args.keys.now cells c.args.limits _ _ z) c.join_lanes-total.ensures.joined;
+          (runs_fresh (told_by g.D.In.Source.left g.D.Out.Sink.written) c.args.keys.now cells c.args.limits _ _ _ c.in-Ok.ensures.stocked z)
+          (runs_seen (told_by g.D.In.Source.left g.D.Out.Sink.written) c.args.keys.now cells c.args.limits _ _ z) c.join_lanes-total.ensures.joined;
       plans = closed_plans _ _ _ c.close.ensures;
       fixed = closed_fixed _ _ _ c.close-2.ensures;
-      counted = runs_counted g.D.In.Source.left g.D.Out.Sink.written c.args.keys.now cells c.args.limits _ _ z c.join_lanes-total.result c.join_lanes-total.ensures.total;
+      counted = runs_counted (told_by g.D.In.Source.left g.D.Out.Sink.written) c.args.keys.now cells c.args.limits _ _ z c.join_lanes-total.result c.join_lanes-total.ensures.total;
     }
 
 pub returns-clause-idle : goal.returns-clause-idle

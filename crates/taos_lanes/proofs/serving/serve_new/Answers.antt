@@ -10,8 +10,9 @@ use Rattle.object_core.specs.Objects.{ObjectSeen}
 use Rattle.object_core.specs.Shelving.{ObjectFixed, fixed_of}
 use Rattle.taos_monitor.specs.Arriving.{node_of}
 use Rattle.taos_monitor.specs.Planned.{ArePlanned}
-use Rattle.taos_lanes.specs.Serving.{ServesNode}
+use Rattle.taos_lanes.specs.Serving.{ServesNode, left_by}
 use Rattle.taos_lanes.specs.Stocked.{door_by, shown_by}
+use Rattle.taos_lanes.specs.Telling.{change, told_by}
 use Rattle.taos_lanes.proofs.Opening.{opened_new, untouched}
 use Rattle.taos_lanes.proofs.Rows.{at_error}
 use Rattle.taos_lanes.proofs.serving.serve_new.Goals as goal
@@ -24,8 +25,8 @@ returns-in_err-racked-clause-unserved g c = at_error c.from_residual-in_err-rack
 
 pub serve_cells-requires-clause-kept : goal.serve_cells-requires-clause-kept
 serve_cells-requires-clause-kept g c κs within =
-    let shards = opened_new (λ (s : ShardSeen). s.plan) (λ (s : ShardSeen). s.journal) IsShardOpened (λ s x p o. o.opened) _ _ _ c.in_ok-opened.ensures.opened c.requires.shards_new in
-    let objects = opened_new fixed_of (λ (o : ObjectSeen). o.journal) IsObjectOpened (λ o x p h. h.opened) _ _ _ c.in_ok-racked.ensures.opened c.requires.objects_new in
+    let shards = opened_new (λ (s : ShardSeen). s.plan) (λ (s : ShardSeen). s.journal) IsShardOpened (λ s x p o. o.opened) _ _ _ c.in_ok-opened.ensures.opened c.requires.new.shards_new in
+    let objects = opened_new fixed_of (λ (o : ObjectSeen). o.journal) IsObjectOpened (λ o x p h. h.opened) _ _ _ c.in_ok-racked.ensures.opened c.requires.new.objects_new in
     record {
       of = record { shards = c.in_ok-opened.ensures.passes; objects = c.in_ok-racked.ensures.passes };
       shards_fresh = shards.fresh;
@@ -36,17 +37,17 @@ serve_cells-requires-clause-kept g c κs within =
 
 pub serve_cells-requires-clause-new : goal.serve_cells-requires-clause-new
 serve_cells-requires-clause-new g c κs within = record {
-  shards = (opened_new (λ (s : ShardSeen). s.plan) (λ (s : ShardSeen). s.journal) IsShardOpened (λ s x p o. o.opened) _ _ _ c.in_ok-opened.ensures.opened c.requires.shards_new).new;
-  objects = (opened_new fixed_of (λ (o : ObjectSeen). o.journal) IsObjectOpened (λ o x p h. h.opened) _ _ _ c.in_ok-racked.ensures.opened c.requires.objects_new).new;
+  shards = (opened_new (λ (s : ShardSeen). s.plan) (λ (s : ShardSeen). s.journal) IsShardOpened (λ s x p o. o.opened) _ _ _ c.in_ok-opened.ensures.opened c.requires.new.shards_new).new;
+  objects = (opened_new fixed_of (λ (o : ObjectSeen). o.journal) IsObjectOpened (λ o x p h. h.opened) _ _ _ c.in_ok-racked.ensures.opened c.requires.new.objects_new).new;
 }
 
 pub serve_cells-requires-clause-planned : goal.serve_cells-requires-clause-planned
 serve_cells-requires-clause-planned g c κs within =
-    subst (λ (l : List Plan). ArePlanned c.args.keys.now.channels.entries l) (sym (opened_plans _ _ _ c.in_ok-opened.ensures.opened)) c.requires.planned
+    subst (λ (l : List Plan). ArePlanned c.args.parts.keys.channels.entries l) (sym (opened_plans _ _ _ c.in_ok-opened.ensures.opened)) c.requires.new.planned
 
 pub returns-clause-served : goal.returns-clause-served
 returns-clause-served g c =
     let f = shown_by g.C.Clock.readings g.R.RelayLink.faults g.R.RelayLink.says (door_by g.D.Door.left g.D.Door.back g.D.Door.given g.D.Door.faults) in
-    subst (λ (x : List Plan × List ObjectFixed). IfOk c.serve_cells.result (λ r. ServesNode g.D.In.Source.left g.D.Out.Sink.written (node_of c.args.keys.now x.0 x.1) c.args.limits
-    (map f c.args.lanes.now) (map f c.serve_cells.new.lanes) r.shards.items r.objects.items r.total))
+    subst (λ (x : List Plan × List ObjectFixed). IfOk c.serve_cells.result (λ r. ServesNode (told_by g.D.In.Source.left g.D.Out.Sink.written) (node_of c.args.parts.keys x.0 x.1) c.args.limits
+    (change (map f c.args.lanes.now) (map f c.serve_cells.new.lanes)) (left_by r)))
     (λ i. (opened_plans _ _ _ c.in_ok-opened.ensures.opened i, opened_fixed _ _ _ c.in_ok-racked.ensures.opened i)) c.serve_cells.ensures.served

@@ -1,4 +1,4 @@
-use Rattle.std.proofs.Common.{List, map, refl, sym, ap, subst, arith, ◌∙◌, ◌<◌, ◌+◌, length}
+use Rattle.std.proofs.Common.{map, refl, sym, ap, subst, arith, ◌<◌, ◌+◌, length}
 use Rattle.std.specs.List.{AllZip}
 use Rattle.std.proofs.Math.Seq.{map-set_same}
 use Rattle.taos_lanes.specs.Joining.{HasOtherWork, IsGivenStock}

@@ -1,13 +1,14 @@
-use Rattle.std.proofs.Common.{refl, ◌∙◌}
+use Rattle.std.proofs.Common.{refl, subst, ◌∙◌}
+use Rattle.frame_link.specs.Doors.{OpensKnown, Counts}
 use Rattle.taos_monitor.specs.Arriving.{node_of}
 use Rattle.taos_lanes.specs.Doors.{door_of}
 use Rattle.taos_lanes.specs.Visits.{Visit}
-use Rattle.taos_lanes.proofs.SoFar.{none_yet, one_served, door_fails, settled}
+use Rattle.taos_lanes.proofs.SoFar.{none_yet, one_served, none_left, door_fails, settled}
 use Rattle.taos_lanes.proofs.worker.serve_door.Goals as goal
 
 pub loop-tally-init : goal.loop-tally-init
 loop-tally-init g c = record {
-  so_far = none_yet _ _ _ _ _ _ _ c.new-tally.ensures.served c.new-tally.ensures.broken c.new-tally.ensures.lacked c.new-tally.ensures.door;
+  so_far = none_yet _ _ _ _ _ c.new-tally.ensures.served c.new-tally.ensures.broken c.new-tally.ensures.lacked c.new-tally.ensures.door;
   work = refl;
   taken = c.requires.none_taken;
   plans = refl;
@@ -19,8 +20,16 @@ loop-tally-init g c = record {
 
 pub returns-in_default-clause-served : goal.returns-in_default-clause-served
 returns-in_default-clause-served g c =
-    door_fails _ _ _ _ _ _ _ _ c.loop-tally.invariant.so_far _ _ c.in_default.ensures.gives.0 c.in_default.ensures.back c.in_default.ensures.gives.1
+    door_fails _ _ _ _ _ _ c.loop-tally.invariant.so_far _ _ c.in_default.ensures.gives.0 c.in_default.ensures.back c.in_default.ensures.gives.1
     c.in_default.ensures.cause.later c.in_default.ensures.cause.failed refl refl refl refl
+
+pub returns-in_default-opened-clause-served : goal.returns-in_default-opened-clause-served
+returns-in_default-opened-clause-served g c =
+    let door = c.loop-tally.lane.door in
+    let after = c.accept.new.self in
+    let gives = subst (λ o. OpensKnown (g.D.Door.left door) (g.D.Door.left after) o × Counts (g.D.Door.left door) (g.D.Door.given door) (g.D.Door.given after) o) c.in_default-opened.is c.in-Ok.ensures.gives in
+    none_left _ _ _ _ _ _ c.loop-tally.invariant.so_far (door_of (g.D.Door.left after) (g.D.Door.back after) (g.D.Door.given after) (g.D.Door.faults after))
+    gives.0 c.in-Ok.ensures.back gives.1 c.in-Ok.ensures.cause.steady
 
 pub loop-tally-preserved : goal.loop-tally-preserved
 loop-tally-preserved g c =
@@ -37,7 +46,7 @@ loop-tally-preserved g c =
       complete = it.complete;
     } in
     record {
-      so_far = one_served _ _ _ _ _ _ _ _ (door_of (g.D.Door.left c.accept.new.self) (g.D.Door.back c.accept.new.self) (g.D.Door.given c.accept.new.self) (g.D.Door.faults c.accept.new.self))
+      so_far = one_served _ _ _ _ _ _ (door_of (g.D.Door.left c.accept.new.self) (g.D.Door.back c.accept.new.self) (g.D.Door.given c.accept.new.self) (g.D.Door.faults c.accept.new.self))
           _ _ _ _ _ v was.so_far refl refl c.in-Some.is c.in-Ok.ensures.gives c.in-Ok.ensures.back c.in-Ok.ensures.cause.steady
           c.done.ensures.back c.done.ensures.left c.done.ensures.given c.done.ensures.faults
           (record { input = refl; output = refl; input_after = refl; output_after = refl }) c.loop-tally-test.true

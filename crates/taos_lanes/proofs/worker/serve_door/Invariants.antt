@@ -5,14 +5,15 @@ use Rattle.taos_monitor.specs.World.{world_of}
 use Rattle.taos_lanes.specs.Doors.{door_of}
 use Rattle.taos_lanes.specs.Visits.{ServesAmong}
 use Rattle.taos_lanes.specs.Working.{lane_of}
+use Rattle.taos_lanes.specs.Telling.{told_by}
 use Rattle.taos_lanes.proofs.SoFar.{SoFar}
 use Rattle.taos_lanes.proofs.worker.serve_door.Given as goal
 
 abbrev pub invariant-loop-tally : goal.invariant-loop-tally
 invariant-loop-tally g l = record {
-  so_far : SoFar g.D.In.Source.left g.D.Out.Sink.written
+  so_far : SoFar (told_by g.D.In.Source.left g.D.Out.Sink.written)
       (ServesAmong (node_of l.keys (g.S.Shards.plans l.initial.desk.shards) (g.H.Shelf.objects l.initial.desk.shelf))
-      (g.R.RelayLink.says l.initial.lane.relay) l.limits.frames) l.limits.frames l.limits.connections
+      (g.R.RelayLink.says l.initial.lane.relay) l.limits.frames) l.limits
       (lane_of (world_of (g.C.Clock.readings l.initial.lane.clock) (g.R.RelayLink.faults l.initial.lane.relay)
       (viewed (g.S.Shards.seen l.initial.desk.shards) (g.S.Shards.own l.initial.desk.shards))
       (viewed (g.H.Shelf.seen l.initial.desk.shelf) (g.H.Shelf.own l.initial.desk.shelf)))

@@ -26,12 +26,12 @@ returns-then-not-has_room-clause-decided g c =
       reply = object_full c.args.came.asked.now.object count;
       holds = decided_full c.args.came o plans (g.S.Shards.alone c.args.shards.now) seen seen count c.requires.legal (omega (arith, c.requires.shard, c.requires.there)) full
           (sym (length-map c.journal.result.now object_entry) ∙ ap (λ l. length l) c.journal.ensures.value ∙ full);
-      spelled = c.leave_sealed.ensures.reply;
-      short = c.leave_sealed.ensures.short;
+      spelled = c.draft.ensures.reply;
+      short = c.draft.ensures.short;
     }
 
-pub leave_ended-requires : goal.leave_ended-requires
-leave_ended-requires g c =
+pub draft_ended-requires : goal.draft_ended-requires
+draft_ended-requires g c =
     let plans = g.S.Shards.plans c.args.shards.now in
     record {
       named = may_be_told c.args.came c.args.object.now plans (g.S.Shards.alone c.args.shards.now) (viewed (g.S.Shards.seen c.args.shards.now) (g.S.Shards.own c.args.shards.now))
@@ -42,12 +42,12 @@ leave_ended-requires g c =
 pub returns-in-Ok-clause-decided : goal.returns-in-Ok-clause-decided
 returns-in-Ok-clause-decided g c =
     let plans = g.S.Shards.plans c.args.shards.now in
-    let left = c.leave_ended.ensures in
+    let left = c.draft_ended.ensures in
     record {
       reply = left.reply;
       holds = decided_ended c.args.came c.args.object.now plans (g.S.Shards.alone c.args.shards.now) (viewed (g.S.Shards.seen c.args.shards.now) (g.S.Shards.own c.args.shards.now))
           (viewed (g.S.Shards.seen c.ask_at_home.new.shards) (g.S.Shards.own c.ask_at_home.new.shards)) (map grant (arc_value c.list.result.now).items) c.requires.stands c.list.ensures.value (home plans c.args.came.asked.now.channel) c.requires.shard
-          (c.if-not-has_room.ensures.0 refl) c.in-Ok.ended c.in-Ok.ensures.ended c.leave_ended.result left.reply left.holds;
+          (c.if-not-has_room.ensures.0 refl) c.in-Ok.ended c.in-Ok.ensures.ended c.draft_ended.result left.reply left.holds;
       spelled = left.spelled;
       short = left.short;
     }
@@ -60,6 +60,6 @@ returns-in-Err-clause-decided g c =
       holds = decided_lacked c.args.came c.args.object.now plans (g.S.Shards.alone c.args.shards.now) (viewed (g.S.Shards.seen c.args.shards.now) (g.S.Shards.own c.args.shards.now))
           (viewed (g.S.Shards.seen c.ask_at_home.new.shards) (g.S.Shards.own c.ask_at_home.new.shards)) (map grant (arc_value c.list.result.now).items) c.requires.stands c.list.ensures.value (home plans c.args.came.asked.now.channel) c.requires.shard
           (c.if-not-has_room.ensures.0 refl) c.in-Err.ensures.lacked;
-      spelled = c.leave_refused.ensures.reply;
-      short = c.leave_refused.ensures.short;
+      spelled = c.draft-in-Err.ensures.reply;
+      short = c.draft-in-Err.ensures.short;
     }

@@ -4,8 +4,9 @@ use Rattle.std.specs.Prelude.{IsSome}
 use Rattle.std.specs.Option.{option_copied}
 use Rattle.taos_wire.specs.View.{request as request_of, cited as shared}
 use Rattle.taos_monitor.specs.Cells.{alone_of, viewed, seen_of}
-use Rattle.taos_monitor.specs.Ruling.{Leaves, GuardedTo, standing_of}
+use Rattle.taos_monitor.specs.Ruling.{Drafts, GuardedTo, standing_of}
 use Rattle.taos_monitor.proofs.Courses.{refused_to, stopped_at_clock, ruled_to}
+use Rattle.taos_monitor.proofs.Drafting.{drafted_long, sealed_draft}
 use Rattle.taos_monitor.proofs.handling.request.Goals as goal
 
 pub returns-in-Err-clause-handled : goal.returns-in-Err-clause-handled
@@ -24,6 +25,9 @@ returns-in_default-clause-handled g c =
 pub rule-requires-clause-there : goal.rule-requires-clause-there
 rule-requires-clause-there g c κs within = subst IsSome (sym c.in-Ok.ensures.arrived.there) refl
 
+pub seal-requires : goal.seal-requires
+seal-requires g c = let came = c.in-Ok.ensures.arrived in drafted_long c.args.asked.now.channel c.args.asked.now.seq c.rule.new.out _ (c.rule.ensures.guarded came.object came.there)
+
 pub returns-clause-handled : goal.returns-clause-handled
 returns-clause-handled g c =
     let plans = g.S.Shards.plans c.args.shards.now in
@@ -36,6 +40,7 @@ returns-clause-handled g c =
     let r = request_of c.args.asked.now in
     let came = c.in-Ok.ensures.arrived in
     ruled_to c.args.keys.now plans objects alone (g.R.RelayLink.says c.args.relay.now) (g.R.RelayLink.faults c.args.relay.now) (g.R.RelayLink.faults c.arrive.new.relay) shards0 objects0 r
-    c.unwrap-sealer.result.now (sym c.sealer.ensures ∙ ap option_copied c.unwrap-sealer.ensures) _ came shards1 objects1 (g.C.Clock.readings c.args.clock.now) (g.C.Clock.readings c.now.new.self) c.in-Ok-now.reading c.rule.new.out c.in-Ok-now.ensures.reading
-    (subst (λ (n : ℕ). Leaves r.channel r.seq c.unwrap-sealer.result.now c.rule.new.out (GuardedTo (standing_of plans objects alone) (seen_of shards0 objects0) (seen_of shards1 objects1)
+    c.unwrap-sealer.result.now (sym c.sealer.ensures ∙ ap option_copied c.unwrap-sealer.ensures) _ came shards1 objects1 (g.C.Clock.readings c.args.clock.now) (g.C.Clock.readings c.now.new.self) c.in-Ok-now.reading c.seal.new.self c.in-Ok-now.ensures.reading
+    (sealed_draft r.channel r.seq c.rule.new.out _ (subst (λ (n : ℕ). Drafts r.channel r.seq c.rule.new.out (GuardedTo (standing_of plans objects alone) (seen_of shards0 objects0) (seen_of shards1 objects1)
     (record { request = r; certs = map shared c.in-Ok.arrived.certs.items; reading = c.in-Ok-now.reading; shard = r.channel % n; fixed = came.object }))) c.count.ensures.count (c.rule.ensures.guarded came.object came.there))
+    c.unwrap-sealer.result.now c.seal.new.self c.seal.ensures.sealed c.seal.ensures.length)

@@ -27,8 +27,8 @@ returns-in_default-clause-guarded g c = λ fixed at. record {
   holds = unready (g.S.Shards.plans c.args.shards.now) (g.H.Shelf.objects c.args.shelf.now) (g.S.Shards.alone c.args.shards.now) (g.H.Shelf.alone c.args.shelf.now)
       (viewed (g.S.Shards.seen c.args.shards.now) (g.S.Shards.own c.args.shards.now)) (g.H.Shelf.seen c.args.shelf.now) (g.H.Shelf.own c.args.shelf.now) c.args.came c.requires.within fixed c.requires.legal
       (omega (arith, c.requires.shard, c.count.ensures.count, c.count.ensures.some));
-  spelled = c.leave_refused.ensures.reply;
-  short = c.leave_refused.ensures.short;
+  spelled = c.draft.ensures.reply;
+  short = c.draft.ensures.short;
 }
 
 pub returns-in_default-decide-clause-guarded : goal.returns-in_default-decide-clause-guarded
@@ -98,8 +98,8 @@ returns-in-Some-refused-clause-guarded g c = λ fixed at.
           (c.perform_ruled-refused.ensures.performed (certificates c.args.came.arrived.certs.items) c.args.came.reading
           (subst (λ (o : Op). IsDueOf (g.S.Shards.plans c.decide.new.shards) o (certificates c.args.came.arrived.certs.items) c.args.came.reading c.in-Ok.ready.due) (sym (ap operation c.deref.ensures))
           (c.in-Ok.ensures.due (g.S.Shards.plans c.decide.new.shards) (ap (λ (l : List Plan). length l) c.decide.ensures.plans ∙ sym c.count.ensures.count))))));
-      spelled = c.leave_sealed.ensures.reply;
-      short = c.leave_sealed.ensures.short;
+      spelled = c.draft-in-Some-refused.ensures.reply;
+      short = c.draft-in-Some-refused.ensures.short;
     }
 
 pub returns-in_default-refused-clause-guarded : goal.returns-in_default-refused-clause-guarded

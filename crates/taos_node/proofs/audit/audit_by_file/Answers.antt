@@ -3,7 +3,7 @@ use Rattle.std.proofs.Common.{refl}
 use Rattle.std.proofs.KnownBytes.{Keeps-refl}
 use Rattle.frame_link.specs.Streams.{stream}
 use Rattle.taos_node.specs.Command.{touched, first_clock, first_link, LeavesRest}
-use Rattle.taos_node.specs.Words.{Audit}
+use Rattle.node_words.specs.Words.{Audit}
 use Rattle.taos_node.proofs.Endings.{audited}
 use Rattle.taos_node.proofs.Statuses.{unserved}
 use Rattle.taos_node.proofs.audit.audit_by_file.Goals as goal

@@ -3,7 +3,7 @@ use Rattle.std.proofs.KnownBytes.{Keeps-refl}
 use Rattle.frame_link.specs.Streams.{stream}
 use Rattle.taos_node.specs.Command.{touched, UsesNoLane, LeavesRest}
 use Rattle.taos_node.proofs.CheckCommands.{looked_over}
-use Rattle.taos_node.specs.Words.{Check}
+use Rattle.node_words.specs.Words.{Check}
 use Rattle.taos_node.proofs.Statuses.{checked, unserved}
 use Rattle.taos_node.proofs.command.check_file.Goals as goal
 

@@ -1,6 +1,7 @@
 use Rattle.std.proofs.Common.{ℕ, map, sym, subst}
 use Rattle.frame_link.specs.Streams.{stream}
 use Rattle.taos_lanes.specs.Stocked.{door_by, shown_by}
+use Rattle.taos_lanes.specs.Telling.{change}
 use Rattle.taos_node.specs.Command.{touched, first_clock, first_link, IsStatus, TellsDoors}
 use Rattle.taos_node.proofs.command.taos.Goals as goal
 
@@ -14,5 +15,5 @@ returns-clause-run g c =
     let did = c.run-ending.ensures.runs in (
       record { ending = c.run-ending.result; runs = did.runs; tells = c.status_of.ensures; noted = c.tell.ensures.told },
       subst (λ (status : ℕ). IsStatus c.args.words.now before after status) (sym c.status_of.ensures) did.status,
-      subst (λ (status : ℕ). TellsDoors c.args.words.now before after (map f c.args.lanes.now) (map f c.run-ending.new.lanes) status) (sym c.status_of.ensures) did.doors,
+      subst (λ (status : ℕ). TellsDoors c.args.words.now (change before after) (change (map f c.args.lanes.now) (map f c.run-ending.new.lanes)) status) (sym c.status_of.ensures) did.tells,
     )

@@ -3,7 +3,7 @@ use Rattle.std.proofs.Common.{refl, arith}
 use Rattle.std.proofs.KnownBytes.{Keeps-refl}
 use Rattle.frame_link.specs.Streams.{stream}
 use Rattle.taos_node.specs.Command.{touched}
-use Rattle.taos_node.specs.Words.{drill_words}
+use Rattle.node_words.specs.Words.{drill_words}
 use Rattle.taos_node.proofs.Endings.{drilled}
 use Rattle.taos_node.proofs.drill.drill_asked.Goals as goal
 

@@ -3,8 +3,9 @@ use Rattle.std.proofs.Common.{inl, map, refl}
 use Rattle.std.proofs.KnownBytes.{Keeps-refl}
 use Rattle.frame_link.specs.Streams.{stream}
 use Rattle.taos_lanes.specs.Stocked.{door_by, shown_by}
+use Rattle.taos_lanes.specs.Telling.{told_by}
 use Rattle.taos_node.specs.Command.{touched, first_clock, first_link, LeavesRest}
-use Rattle.taos_node.specs.Words.{Serve}
+use Rattle.node_words.specs.Words.{Serve}
 use Rattle.taos_node.proofs.LaneStatuses.{doors_tell, file_does, lanes_tell, not_two_lanes}
 use Rattle.taos_node.proofs.Commands.{decided_opened, node_files}
 use Rattle.taos_node.specs.Ending.{lanes_status}
@@ -26,7 +27,7 @@ returns-in-Ok g c = record {
         runs = (Keeps-refl input.told, (c.args.limits, is, (gives.0, gives.1, did)));
         status = lanes_tell before after words (Serve c.args.limits) c.serve_parts.result is tt (decided_opened IsNodeFile node_means node_files before.file after.file gives.0 (lanes_status c.serve_parts.result) gives.1 (not_two_lanes c.serve_parts.result))
             (inl (c.args.limits, is)) c.in-Ok.ensures.cause refl c.serve_parts.ensures.cause;
-        doors = doors_tell g.D.In.Source.left g.D.Out.Sink.written c.args.limits (map f c.args.lanes.now) (map f c.serve_parts.new.lanes) gives.0 words before after c.serve_parts.result is did c.serve_parts.ensures.cause;
+        tells = doors_tell (told_by g.D.In.Source.left g.D.Out.Sink.written) c.args.limits (map f c.args.lanes.now) (map f c.serve_parts.new.lanes) gives.0 words before after c.serve_parts.result is did c.serve_parts.ensures.cause;
       };
 }
 
@@ -41,6 +42,6 @@ returns-in-Err g c = record {
       let after = touched (stream (g.F.Source.left c.node_parts_of.new.file) (g.F.Source.faults c.node_parts_of.new.file)) input output clock relay in
       let rest : LeavesRest before after = record { input = Keeps-refl input.told; output = Keeps-refl output.told; lane = record { clock = Keeps-refl clock.told; link = refl } } in
       let wanted = Serve c.args.limits in
-      file_does g.D.In.Source.left g.D.Out.Sink.written words before after (map f c.args.lanes.now) c.args.limits c.in-Err.fault is ((wanted, is, c.in-Err.ensures.gives), rest)
+      file_does (told_by g.D.In.Source.left g.D.Out.Sink.written) words before after (map f c.args.lanes.now) c.args.limits c.in-Err.fault is ((wanted, is, c.in-Err.ensures.gives), rest)
       (unserved words before after wanted c.in-Err.fault is c.in-Err.ensures.cause c.in-Err.ensures.gives refl refl refl) c.in-Err.ensures.gives c.in-Err.ensures.cause;
 }

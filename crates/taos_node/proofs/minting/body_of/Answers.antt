@@ -2,7 +2,7 @@
 use Rattle.std.specs.Prelude.{option_map}
 use Rattle.std.proofs.lemmas.Result.{err_from_is_err_and}
 use Rattle.prin_term.specs.View.{principal}
-use Rattle.taos_node.specs.Words.{mint_words}
+use Rattle.node_words.specs.Words.{mint_words}
 use Rattle.taos_node.proofs.Minted.{left_stops, right_stops}
 use Rattle.taos_node.proofs.minting.body_of.Goals as goal
 

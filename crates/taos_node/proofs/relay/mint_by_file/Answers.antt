@@ -2,7 +2,7 @@ use Rattle.std.proofs.Common.{refl}
 use Rattle.std.proofs.KnownBytes.{Keeps-refl}
 use Rattle.frame_link.specs.Streams.{stream}
 use Rattle.taos_node.specs.Command.{touched, UsesNoLane, LeavesRest, labels_of}
-use Rattle.taos_node.specs.Words.{Mint, mint_words}
+use Rattle.node_words.specs.Words.{Mint, mint_words}
 use Rattle.taos_node.proofs.Minted.{same_mints}
 use Rattle.taos_node.proofs.Statuses.{minted, unserved}
 use Rattle.taos_node.proofs.relay.mint_by_file.Goals as goal

@@ -2,7 +2,7 @@ use Rattle.std.proofs.Common.{refl}
 use Rattle.std.proofs.KnownBytes.{Keeps-refl}
 use Rattle.frame_link.specs.Streams.{stream}
 use Rattle.taos_node.specs.Command.{touched, UsesNoLane, LeavesRest}
-use Rattle.taos_node.specs.Words.{Relay}
+use Rattle.node_words.specs.Words.{Relay}
 use Rattle.taos_node.proofs.Statuses.{relayed, unserved}
 use Rattle.taos_node.proofs.relay.relay_by_file.Goals as goal
 

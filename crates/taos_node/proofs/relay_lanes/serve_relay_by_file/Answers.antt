@@ -3,8 +3,9 @@ use Rattle.std.proofs.Common.{inr, map, refl}
 use Rattle.std.proofs.KnownBytes.{Keeps-refl}
 use Rattle.frame_link.specs.Streams.{stream}
 use Rattle.taos_lanes.specs.Stocked.{door_by, shown_by}
+use Rattle.taos_lanes.specs.Telling.{told_by}
 use Rattle.taos_node.specs.Command.{touched, first_clock, first_link, LeavesRest}
-use Rattle.taos_node.specs.Words.{RelayServe}
+use Rattle.node_words.specs.Words.{RelayServe}
 use Rattle.taos_node.proofs.LaneStatuses.{relay_doors_tell, relay_file_does, lanes_tell, not_two_lanes}
 use Rattle.taos_node.proofs.Commands.{decided_opened, relay_files}
 use Rattle.taos_node.specs.Ending.{lanes_status}
@@ -26,7 +27,7 @@ returns-in-Ok g c = record {
         runs = (Keeps-refl input.told, (c.args.limits, is, (gives.0, gives.1, did)));
         status = lanes_tell before after words (RelayServe c.args.limits) c.serve_lanes.result is tt (decided_opened IsRelayFile relay_means relay_files before.file after.file gives.0 (lanes_status c.serve_lanes.result) gives.1 (not_two_lanes c.serve_lanes.result))
             (inr (c.args.limits, is)) c.in-Ok.ensures.cause refl c.serve_lanes.ensures.cause;
-        doors = relay_doors_tell g.D.In.Source.left g.D.Out.Sink.written c.args.limits (map f c.args.lanes.now) (map f c.serve_lanes.new.lanes) gives.0 words before after c.serve_lanes.result is did c.serve_lanes.ensures.cause;
+        tells = relay_doors_tell (told_by g.D.In.Source.left g.D.Out.Sink.written) c.args.limits (map f c.args.lanes.now) (map f c.serve_lanes.new.lanes) gives.0 words before after c.serve_lanes.result is did c.serve_lanes.ensures.cause;
       };
 }
 
@@ -41,6 +42,6 @@ returns-in-Err g c = record {
       let after = touched (stream (g.F.Source.left c.file_relay.new.file) (g.F.Source.faults c.file_relay.new.file)) input output clock relay in
       let rest : LeavesRest before after = record { input = Keeps-refl input.told; output = Keeps-refl output.told; lane = record { clock = Keeps-refl clock.told; link = refl } } in
       let wanted = RelayServe c.args.limits in
-      relay_file_does g.D.In.Source.left g.D.Out.Sink.written words before after (map f c.args.lanes.now) c.args.limits c.in-Err.fault is ((wanted, is, c.in-Err.ensures.gives), rest)
+      relay_file_does (told_by g.D.In.Source.left g.D.Out.Sink.written) words before after (map f c.args.lanes.now) c.args.limits c.in-Err.fault is ((wanted, is, c.in-Err.ensures.gives), rest)
       (unserved words before after wanted c.in-Err.fault is c.in-Err.ensures.cause c.in-Err.ensures.gives refl refl refl) c.in-Err.ensures.gives c.in-Err.ensures.cause;
 }

@@ -1,0 +1,8 @@
+pub mod Lists
+pub mod Opened
+pub mod Turning
+pub mod Owning
+pub mod Ordering
+pub mod Knowing
+pub mod Ruling
+pub mod Counting

@@ -1,0 +1,5 @@
+pub mod Requests
+pub mod Works
+pub mod Lanes
+pub mod Counts
+pub mod Laws

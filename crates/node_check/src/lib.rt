@@ -1,0 +1,10 @@
+//! Looking over a request and its reply.
+#![tactic(auto)]
+
+mod check;
+mod checking;
+mod finding;
+
+pub use check::{CheckEnd, MAX_REPLY, check_connection, one_check};
+pub use checking::{check_frames, one_finding};
+pub use finding::{CheckWord, Finding, finding_status};

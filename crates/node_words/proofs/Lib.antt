@@ -1,0 +1,9 @@
+pub mod Made
+pub mod Options
+pub mod Rows
+pub mod Walks
+pub mod Lines
+pub mod Levels
+pub mod Meanings
+pub mod Found
+pub mod Drilled

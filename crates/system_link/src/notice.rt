@@ -1,0 +1,153 @@
+//! What went otherwise than well, as one line tells it.
+
+use crate::reply_head::{DENIED, ReplyHead};
+use jiff::Timestamp;
+use std::fmt;
+use std::net::SocketAddr;
+
+/// Why a connection ended otherwise than well.
+#[derive(Clone, Copy, Debug, PartialEq, Eq)]
+pub enum Breakage {
+    /// Between two frames, or before the first, no byte came in time.
+    Silent,
+    /// A frame was not whole in time.
+    Slow,
+    /// The stream ended inside a frame.
+    Cut,
+    /// A length word was too large.
+    Long,
+    /// Replies could not leave.
+    Untaken,
+    /// A read failed.
+    Lost,
+    /// It was ended before its peer ended it: its frames were spent, the clock failed, or memory
+    /// lacked.
+    GivenUp,
+    /// It was never served: descriptors or memory lacked.
+    TurnedAway,
+}
+
+impl Breakage {
+    /// Its word.
+    pub fn word(&self) -> &'static str {
+        match self {
+            Breakage::Silent => "silent",
+            Breakage::Slow => "slow",
+            Breakage::Cut => "cut",
+            Breakage::Long => "long",
+            Breakage::Untaken => "untaken",
+            Breakage::Lost => "lost",
+            Breakage::GivenUp => "given-up",
+            Breakage::TurnedAway => "turned-away",
+        }
+    }
+}
+
+/// What a notice is of.
+#[derive(Clone, Copy, Debug, PartialEq, Eq)]
+pub enum Happening {
+    /// A reply that is no grant.
+    Replied(ReplyHead),
+    /// A certificate that this relay did not reseal, by the code of its answer.
+    NotResealed { code: u8 },
+    /// A connection that ended otherwise than well.
+    Broken(Breakage),
+    /// The relay that was asked gave no answer.
+    RelayFailed,
+}
+
+/// One of them, when it was, and where.
+#[derive(Clone, Copy, Debug, PartialEq, Eq)]
+pub struct Notice {
+    /// The seconds since 1970, where the clock told them.
+    pub seconds: Option<u64>,
+    /// The lane, counted from 0.
+    pub lane: usize,
+    pub peer: Option<SocketAddr>,
+    pub what: Happening,
+}
+
+// A time as an instant of RFC 3339, or `-`.
+#[derive(Clone, Copy)]
+struct When(Option<u64>);
+
+impl fmt::Display for When {
+    fn fmt<W: fmt::Write>(&self, f: &mut fmt::Formatter<W>) -> fmt::Result {
+        if let Some(seconds) = self.0 {
+            if let Ok(seconds) = i64::try_from(seconds) {
+                if let Ok(time) = Timestamp::from_second(seconds) {
+                    return write!(f, "{time}");
+                }
+            }
+        }
+        f.write_str("-")
+    }
+}
+
+// The pairs of a reply behind those of the lane and the peer.
+impl fmt::Display for ReplyHead {
+    fn fmt<W: fmt::Write>(&self, f: &mut fmt::Formatter<W>) -> fmt::Result {
+        if self.names_request() {
+            let (channel, number) = (self.channel, self.number);
+            write!(f, " channel {channel} number {number}")?;
+        }
+        if let Some(channel) = self.unknown {
+            write!(f, " channel {channel}")?;
+        }
+        let status = self.status;
+        write!(f, " status {status}")?;
+        if let Some(shard) = self.shard {
+            write!(f, " shard {shard}")?;
+        }
+        if let Some(place) = self.place {
+            write!(f, " place {place}")?;
+        }
+        Ok(())
+    }
+}
+
+impl Happening {
+    // Its word.
+    fn word(&self) -> &'static str {
+        match self {
+            Happening::Replied(head) if head.status == DENIED => "denied",
+            Happening::Replied(_) | Happening::NotResealed { .. } => "refused",
+            Happening::Broken(_) => "broken",
+            Happening::RelayFailed => "relay-failed",
+        }
+    }
+}
+
+/// The line of the notice, without its line feed.
+impl fmt::Display for Notice {
+    fn fmt<W: fmt::Write>(&self, f: &mut fmt::Formatter<W>) -> fmt::Result {
+        let (time, lane) = (When(self.seconds), self.lane);
+        let word = self.what.word();
+        write!(f, "taosd: {time} {word} lane {lane}")?;
+        if let Some(peer) = self.peer {
+            write!(f, " peer {peer}")?;
+        }
+        match self.what {
+            Happening::Replied(head) => write!(f, "{head}"),
+            Happening::NotResealed { code } => write!(f, " code {code}"),
+            Happening::Broken(why) => f
+                .write_str(" cause ")
+                .and_then(|()| f.write_str(why.word())),
+            Happening::RelayFailed => Ok(()),
+        }
+    }
+}
+
+/// The line that counts the notices for which there was no line.
+#[derive(Clone, Copy, Debug, PartialEq, Eq)]
+pub struct LeftOut {
+    pub seconds: Option<u64>,
+    pub count: u64,
+}
+
+impl fmt::Display for LeftOut {
+    fn fmt<W: fmt::Write>(&self, f: &mut fmt::Formatter<W>) -> fmt::Result {
+        let (time, count) = (When(self.seconds), self.count);
+        write!(f, "taosd: {time} left-out lines {count}")
+    }
+}

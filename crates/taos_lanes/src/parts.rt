@@ -1,0 +1,18 @@
+//! What a node is opened with.
+
+use agent_core::Shard;
+use object_core::Object;
+use prin_term::Anchor;
+use std::sync::Arc;
+use taos_monitor::NodeKeys;
+
+/// A node's keys, its shards and its objects, before anyone steps them.
+#[derive(Drop)]
+pub struct NodeParts {
+    pub keys: NodeKeys,
+    /// In the order of their numbers.
+    pub shards: Vec<Shard>,
+    /// Those of each shard.
+    pub anchors: Arc<Vec<Anchor>>,
+    pub objects: Vec<Object>,
+}

@@ -1,0 +1,78 @@
+//! How a thread waits until a cell is free: it looks, then lets others run between its looks, and
+//! then sleeps.
+ghost use Rattle.std.specs.Prelude.{◌≡◌, []};
+ghost use Rattle.turn_cell.specs.declared.view.Stage.TheVariants.{Waiting};
+ghost use Rattle.turn_cell.specs.Steps.{IsIdle, SitsAt, at_stage};
+ghost use Rattle.turn_cell.specs.declared.steps.TheConstants.{WORDS};
+
+use crate::journaled::Journaled;
+use crate::rule::{Place, Shelf};
+use crate::steps::{SERVING, TICKET, try_draw};
+use std::sync::Wait;
+use std::sync::atomic::AtomicU64;
+use std::sync::atomic::Ordering::SeqCst;
+use std::thread;
+
+// How often a thread looks again at once, and then how often it lets others run first, before it
+// sleeps.
+const LOOKS: u32 = 64;
+
+const YIELDS: u32 = 64;
+
+/// Waits until nobody has a ticket, and draws the next one. No thread waits with a ticket, so none
+/// that is not running keeps those out that are.
+pub fn draw_alone<V: Journaled, W: Wait>(
+    rt: &W,
+    shelf: &Shelf<V>,
+    sleepers: &AtomicU64,
+    seat: &mut Place<V>,
+) -> u64
+    requires table { SitsAt seat.old.table_id shelf.now.table_id }
+    requires idle { IsIdle seat.old.me }
+    ensures table { seat.new.table_id ≡ seat.old.table_id }
+    ensures drawn { seat.new.me ≡ (at_stage (Waiting result) seat.old.me.0, []) }
+{
+    let mut looks = 0;
+    for _ in rt.forever() {
+        let serving = shelf.peek(SERVING);
+        if shelf.peek(TICKET) == serving && try_draw(shelf, seat, serving) {
+            return serving;
+        }
+        looks = waited(rt, shelf, sleepers, serving, looks);
+    }
+    unreachable!()
+}
+
+// Waits after so many looks at a cell that was not free, where this ticket is served. How many looks
+// count from then on.
+fn waited<V: Journaled, W: Wait>(
+    rt: &W,
+    shelf: &Shelf<V>,
+    sleepers: &AtomicU64,
+    serving: u64,
+    looks: u32,
+) -> u32
+    requires { shelf.now.table_id.words ≡ WORDS }
+{
+    if looks < LOOKS {
+        return looks + 1;
+    }
+    if looks < LOOKS + YIELDS {
+        thread::yield_now();
+        return looks + 1;
+    }
+    // It is counted before the word is looked at for the last time, so whoever leaves then sees it.
+    sleepers.fetch_add(1, SeqCst);
+    shelf.park(rt, SERVING, (serving % (1 << 32)) as u32);
+    sleepers.fetch_sub(1, SeqCst);
+    0
+}
+
+/// Wakes one of those who sleep, if there is any.
+pub fn wake_one<V: Journaled>(shelf: &Shelf<V>, sleepers: &AtomicU64)
+    requires { shelf.now.table_id.words ≡ WORDS }
+{
+    if sleepers.load(SeqCst) != 0 {
+        shelf.wake_one(SERVING);
+    }
+}
