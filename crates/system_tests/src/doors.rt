@@ -4,6 +4,7 @@ use std::io::{Read, Write};
 use std::net::{TcpListener, TcpStream};
 use std::sync::Arc;
 use std::test::*;
+use std::thread::Threads;
 use std::time::Duration;
 use std::{io, thread};
 use system_link::{
@@ -212,15 +213,23 @@ fn a_peer_that_trickles_is_given_up_behind_its_first_term(rt: HostRuntime) -> Re
     Ok(())
 }
 
-// Whether one connection is at its end once a stop is asked, and no other comes.
-fn is_stopped(door: &mut SystemDoor<'_>) -> bool {
+// Whether a connection is at its end once a stop is asked, which comes after it was given, and no other
+// comes.
+fn is_stopped<W: Threads>(
+    workers: &W,
+    alloc: Global,
+    door: &mut SystemDoor<'_>,
+    stop: &Arc<Stop, Global>,
+    listeners: &[Option<Listener>],
+) -> io::Result<bool> {
     let Ok(Some((mut input, output))) = door.accept() else {
-        return false;
+        return Ok(false);
     };
+    stop_at_end(workers, alloc, io::empty(), stop, listeners)?;
     let mut got = [0u8; 10];
     let has_ended = fill(&mut input, &mut got) == Ok(0);
     door.done(input, output);
-    has_ended && matches!(door.accept(), Ok(None))
+    Ok(has_ended && matches!(door.accept(), Ok(None)))
 }
 
 #[test]
@@ -232,9 +241,9 @@ fn the_end_of_an_input_stops_a_connection_and_its_door(rt: HostRuntime) -> Resul
     };
     let stop = Arc::new(alloc, Stop::new())?;
     let peer = TcpStream::connect(&rt, listener.local_addr()?)?;
-    stop_at_end(&rt, alloc, io::empty(), &stop, &listeners)?;
     let doorway = Doorway::Bound(Arc::try_clone(listener)?);
-    assert!(rt; is_stopped(&mut door_of(&rt, doorway, &stop, 60_000)?));
+    let mut door = door_of(&rt, doorway, &stop, 60_000)?;
+    assert!(rt; is_stopped(&rt, alloc, &mut door, &stop, &listeners)?);
     drop(peer);
     assert!(rt; matches!(listeners.pop(), Some(None)) && matches!(listeners.pop(), Some(None)));
     Ok(())
