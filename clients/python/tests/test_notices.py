@@ -35,6 +35,17 @@ LINES = 100
 SHOWN = [sealed(key_of(1), Body(1, Key(2), Name(10), 4102444800, 1), ISSUED)]
 
 
+def line_of(pipe):
+    """A line of a pipe, which may come in pieces."""
+    line = b""
+    while not line.endswith(b"\n"):
+        byte = os.read(pipe, 1)
+        if not byte:
+            break
+        line += byte
+    return line
+
+
 class Node:
     """A node of the program, or a relay, with one lane. `errors` is where its standard error goes, a pipe without it."""
 
@@ -184,7 +195,7 @@ class Notices(unittest.TestCase):
         node = Node(self.file(NODE), "--tell-denials", errors=its)
         os.close(its)
         self.addCleanup(node.process.kill)
-        node.bound(os.read(ours, 4096))
+        node.bound(line_of(ours))
         client = node.client(2)
         began = time.monotonic()
         while time.monotonic() < began + 3:
