@@ -1,19 +1,20 @@
 // Clients of a node that serves over TCP on this machine.
 //
-//     client pipelined PORT FRAMES..
+//     client pipelined PORT[,PORT..] FRAMES..
 //     client turns PORT FRAMES
 //
-// FRAMES are files of frames: be32 length, then the payload. By `pipelined` there is a connection for each file, all at once:
-// each writes its file as fast as it goes, takes the replies meanwhile, and ends its writing behind the last frame. Prints the
-// seconds from the first byte to the last reply of all, and how many bytes came back. By `turns` each frame is sent once the
-// reply to the one before has come; prints how many were sent, and the median and the 99th of 100 of the microseconds from a
-// frame to its reply.
+// FRAMES are files of frames: be32 length, then the payload. By `pipelined` there is a connection for each file, all at once, to
+// the port at its place or to the one port: each writes its file as fast as it goes, takes the replies meanwhile, and ends its
+// writing behind the last frame. Prints the seconds from the start until the first of them has all its replies, how many bytes
+// had come back to all of them by then, and how many came back in all. By `turns` each frame is sent once the reply to the one
+// before has come; prints how many were sent, and the median and the 99th of 100 of the microseconds from a frame to its reply.
 #include <arpa/inet.h>
 #include <errno.h>
 #include <fcntl.h>
 #include <netinet/tcp.h>
 #include <poll.h>
 #include <pthread.h>
+#include <stdatomic.h>
 #include <stdint.h>
 #include <stdio.h>
 #include <stdlib.h>
@@ -30,11 +31,17 @@ typedef struct {
     int stream;
     const unsigned char *frames;
     size_t size;
-    unsigned long long back;
+    // The bytes that came back, on a line of the processor's cache of their own.
+    _Alignas(128) _Atomic unsigned long long back;
     pthread_t thread;
 } Load;
 
 static pthread_barrier_t start;
+static Load loads[MOST];
+static int count;
+static double began, took;
+static unsigned long long back_by_then;
+static atomic_flag is_over = ATOMIC_FLAG_INIT;
 
 static void fail(const char *why) {
     fprintf(stderr, "client: %s: %s\n", why, strerror(errno));
@@ -56,14 +63,30 @@ static int connected(const char *port) {
     return stream;
 }
 
-static Load opened(const char *port, const char *path) {
+static void opened(Load *load, const char *port, const char *path) {
     int file = open(path, O_RDONLY);
     struct stat told;
     if (file < 0 || fstat(file, &told) != 0) fail("no file of frames");
     void *frames = mmap(NULL, (size_t)told.st_size, PROT_READ, MAP_PRIVATE | MAP_POPULATE, file, 0);
     if (frames == MAP_FAILED) fail("no memory for the frames");
     close(file);
-    return (Load){.stream = connected(port), .frames = frames, .size = (size_t)told.st_size};
+    load->stream = connected(port);
+    load->frames = frames;
+    load->size = (size_t)told.st_size;
+}
+
+// The bytes that have come back to all.
+static unsigned long long all_back(void) {
+    unsigned long long back = 0;
+    for (int i = 0; i < count; i++) back += atomic_load_explicit(&loads[i].back, memory_order_relaxed);
+    return back;
+}
+
+// What counts once the first has all its replies: from then on fewer are at work.
+static void over(void) {
+    if (atomic_flag_test_and_set(&is_over)) return;
+    took = seconds() - began;
+    back_by_then = all_back();
 }
 
 // Writes all frames and takes all replies until the node closes.
@@ -88,29 +111,28 @@ static void *pipelined(void *of) {
             ssize_t came = recv(load->stream, room, AT_ONCE, MSG_DONTWAIT | MSG_TRUNC);
             if (came < 0 && errno != EAGAIN) fail("a read failed");
             if (came == 0) break;
-            if (came > 0) load->back += (unsigned long long)came;
+            if (came > 0) atomic_fetch_add_explicit(&load->back, (unsigned long long)came, memory_order_relaxed);
         }
     }
+    over();
     free(room);
     return NULL;
 }
 
-static void all_pipelined(const char *port, char **paths, int count) {
-    static Load loads[MOST];
-    unsigned long long back = 0;
+static void all_pipelined(char *ports, char **paths) {
     if (count > MOST) fail("too many files");
     pthread_barrier_init(&start, NULL, (unsigned)count + 1);
+    char *port = strtok(ports, ",");
     for (int i = 0; i < count; i++) {
-        loads[i] = opened(port, paths[i]);
+        opened(&loads[i], port, paths[i]);
+        char *next = strtok(NULL, ",");
+        port = next ? next : port;
         if (pthread_create(&loads[i].thread, NULL, pipelined, &loads[i]) != 0) fail("no thread");
     }
+    began = seconds();
     pthread_barrier_wait(&start);
-    double began = seconds();
-    for (int i = 0; i < count; i++) {
-        pthread_join(loads[i].thread, NULL);
-        back += loads[i].back;
-    }
-    printf("%.6f %llu\n", seconds() - began, back);
+    for (int i = 0; i < count; i++) pthread_join(loads[i].thread, NULL);
+    printf("%.6f %llu %llu\n", took, back_by_then, all_back());
 }
 
 static void whole(int stream, unsigned char *into, size_t len) {
@@ -132,32 +154,34 @@ static int less(const void *one, const void *other) {
 }
 
 static void in_turn(const char *port, const char *path) {
-    Load load = opened(port, path);
+    static Load load;
+    opened(&load, port, path);
     static unsigned char reply[LONGEST];
-    size_t at = 0, count = 0, most = load.size / 4;
-    double *took = malloc(most * sizeof *took);
-    if (!took) fail("no room");
+    size_t at = 0, sent = 0, most = load.size / 4;
+    double *each = malloc(most * sizeof *each);
+    if (!each) fail("no room");
     while (at + 4 <= load.size) {
         size_t len = 4 + length_at(load.frames + at);
-        double began = seconds();
+        double since = seconds();
         if (send(load.stream, load.frames + at, len, MSG_NOSIGNAL) != (ssize_t)len) fail("a write failed");
         whole(load.stream, reply, 4);
         if (length_at(reply) > LONGEST) fail("a reply that is too long");
         whole(load.stream, reply, length_at(reply));
-        took[count++] = (seconds() - began) * 1e6;
+        each[sent++] = (seconds() - since) * 1e6;
         at += len;
     }
-    qsort(took, count, sizeof *took, less);
-    printf("%zu %.2f %.2f\n", count, took[count / 2], took[count * 99 / 100]);
+    qsort(each, sent, sizeof *each, less);
+    printf("%zu %.2f %.2f\n", sent, each[sent / 2], each[sent * 99 / 100]);
 }
 
 int main(int argc, char **argv) {
     if (argc >= 4 && strcmp(argv[1], "pipelined") == 0) {
-        all_pipelined(argv[2], argv + 3, argc - 3);
+        count = argc - 3;
+        all_pipelined(argv[2], argv + 3);
     } else if (argc == 4 && strcmp(argv[1], "turns") == 0) {
         in_turn(argv[2], argv[3]);
     } else {
-        fprintf(stderr, "usage: client pipelined PORT FRAMES.. | client turns PORT FRAMES\n");
+        fprintf(stderr, "usage: client pipelined PORT[,PORT..] FRAMES.. | client turns PORT FRAMES\n");
         return 2;
     }
     return 0;

@@ -4,12 +4,14 @@
     serve.py PROGRAM OUT [COUNT [TURNS]]
 
 OUT is a folder that has the clients and the echo server, built. COUNT (200000) is how many reads each lane is sent, pipelined,
-and TURNS (20000) how many are sent one by one. Each rate is the best of three runs, each of a node of its own, whose line has to
-count a grant for each read. Ends with 1 where one is out of its bounds.
+and TURNS (20000) how many are sent one by one. Nine rounds measure what is compared in turn, each run with a node of its own,
+whose line has to count a grant for each read; a run counts while all its lanes have reads to answer. The median of a round's
+ratios counts. Ends with 1 where one is out of its bounds.
 """
 import hmac
 import os
 import re
+import statistics
 import struct
 import subprocess
 import sys
@@ -20,7 +22,7 @@ sys.path.insert(0, os.path.join(HERE, "..", "..", "example"))
 
 from serving import Server  # noqa: E402
 
-LANES, IDLE_LANES, RUNS = 4, 16, 3
+LANES, IDLE_LANES, ROUNDS = 4, 16, 9
 SHARED = 100
 # What is wanted: of the rates of four lanes and of one, of the medians of the node and of the echo server, and of the processor
 # time of an idle node, in seconds.
@@ -83,15 +85,15 @@ class Bench:
             print(f"the node ended with status {status} and says: {line}")
         self.met = self.met and bool(right)
 
-    def seconds(self, paths):
-        """How long a node takes for these frames, on as many lanes."""
-        best = None
-        for _ in range(RUNS):
-            node = self.node(len(paths))
-            took, _ = self.client("pipelined", node.address[1], *paths)
-            self.ends(node, self.count * len(paths))
-            best = took if best is None else min(best, took)
-        return best
+    def rate(self, paths, nodes=1):
+        """Replies a second on as many lanes, of one node or of several."""
+        lanes = len(paths) // nodes
+        running = [self.node(lanes) for _ in range(nodes)]
+        ports = ",".join(node.address[1] for node in running)
+        took, back, all_back = self.client("pipelined", ports, *paths)
+        for node in running:
+            self.ends(node, self.count * lanes)
+        return len(paths) * self.count * back / all_back / took
 
     def bound(self, what, found, least=None, most=None):
         inside = (least is None or found >= least) and (most is None or found <= most)
@@ -103,9 +105,12 @@ class Bench:
         for name, target_of, least in [("shards of their own", lambda each: each, OWN_RATE),
                                        ("one shared object", lambda each: SHARED, SHARED_RATE)]:
             paths = [self.write(f"frames-{each}", frames(each, target_of(each), self.count)) for each in range(1, LANES + 1)]
-            one, all_lanes = self.count / self.seconds(paths[:1]), LANES * self.count / self.seconds(paths)
-            print(f"{name}: {one:.0f} reads a second on one lane, {all_lanes:.0f} on {LANES}", flush=True)
-            self.bound(f"{name}: {LANES} lanes against one", all_lanes / one, least=least)
+            runs = [(self.rate(paths[:1]), self.rate(paths), self.rate(paths, nodes=LANES)) for _ in range(ROUNDS)]
+            one, lanes, nodes = zip(*runs)
+            print(f"{name}: {statistics.median(one):.0f} reads a second on one lane, {statistics.median(lanes):.0f} on {LANES}; "
+                  f"{statistics.median(nodes):.0f} of {LANES} nodes with one lane each, {ratio(nodes, one):.2f} times one; "
+                  f"{LANES} lanes do {ratio(lanes, nodes):.2f} times the reads of {LANES} nodes", flush=True)
+            self.bound(f"{name}: {LANES} lanes against one", ratio(lanes, one), least=least)
 
     def latency(self):
         path = self.write("frames-turns", frames(1, 1, self.turns))
@@ -126,6 +131,11 @@ class Bench:
         spent = used(node.process.pid) - before
         self.ends(node, 0)
         self.bound(f"{IDLE_LANES} idle lanes: seconds of a processor in {IDLE_SECONDS} s", spent, most=IDLE)
+
+
+def ratio(of, to):
+    """The median of the rounds' ratios: the machine's speed is the same within a round."""
+    return statistics.median(one / other for one, other in zip(of, to))
 
 
 def used(pid):

@@ -6,6 +6,10 @@ ghost use Rattle.agent_shards.specs.Cells.{AreJoined, AreOf, AreSplit, HaveMore}
 use std::alloc::{AllocError, Global};
 use turn_cell::{Journaled, Pass, TurnCell};
 
+// Room behind the passes of a thread, for so many of 8 bytes: it writes them at each step, and threads
+// whose passes stood in one line of the cache would take it from each other.
+const SPARE: usize = 128;
+
 // So many shares of each cell, in passes of their own.
 pub(crate) fn split_all<V: Journaled + Drop>(
     alloc: Global,
@@ -20,7 +24,7 @@ pub(crate) fn split_all<V: Journaled + Drop>(
         (λ given. AreSplit shares cells.now passes.old.items passes.new.items given.items) }
     ensures unchanged { OnErr result (passes.new.items ≡ passes.old.items) }
 {
-    let mut given = Vec::with_capacity(alloc, cells.len())?;
+    let mut given = Vec::with_capacity(alloc, cells.len().saturating_add(SPARE))?;
     for cell in cells {
         let (kept, gift) = cell.split(passes.remove(0), shares);
         passes.push_reserved(kept);

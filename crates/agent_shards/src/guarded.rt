@@ -41,6 +41,11 @@ impl Journaled for Guarded {
     fn length(&self) -> u64 {
         self.object.journal().len() as u64
     }
+
+    // A turn is a ruling, longer than what of an object moves with it takes.
+    fn longest_pause() -> u32 {
+        16
+    }
 }
 
 const _: () = prove!(size_of::<Guarded>() <= 64);

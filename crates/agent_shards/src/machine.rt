@@ -43,6 +43,11 @@ impl Journaled for Machine {
     fn length(&self) -> u64 {
         self.shard.journal().len() as u64
     }
+
+    // A turn is a step, shorter than what of a shard moves with it takes.
+    fn longest_pause() -> u32 {
+        64
+    }
 }
 
 const _: () = prove!(size_of::<Machine>() <= 8);

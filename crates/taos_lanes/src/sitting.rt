@@ -8,7 +8,7 @@ ghost use Rattle.taos_monitor.specs.Planned.{ArePlanned};
 
 use crate::lane::{Lane, Stock};
 use crate::worker::{Desk, serve_door};
-use agent_shards::{Agent, OfAgent, OfRack, Rack};
+use agent_shards::{Agent, OfAgent, OfRack, Rack, take_room};
 use frame_link::{Clock, Door, Limits, RelayLink};
 use std::alloc::Global;
 use std::marker::PhantomData;
@@ -45,6 +45,7 @@ pub(crate) fn serve_lane<W: Wait + Sync, K: OfAgent, L: OfRack, C: Clock, R: Rel
         (cells_of shared.now.agent.now shared.now.rack.now) shared.now.limits
         (shown lane.old) (shown lane.new) }
 {
+    take_room(shared.alloc);
     let Stock {
         passes,
         racked,

@@ -175,10 +175,10 @@ module _ {V F E : Type 0} (fixed : V → F) (journal : V → List E) (allows : F
 
   -- on its turn a view takes the slot
   taken : (s : State (Option V) (View F E)) (r : Rule s) (id t : ℕ) (v : View F E) (c : List (ℕ × Option V)) (at : get_elem? s.views id ≡ some v) → v.stage ≡ Waiting t → 0 < v.shares → get_or s.words 9 0 ≡ t
-      → (h : IsHome fixed journal opening r.core s) → Rule (stepped s 9 (get_or s.words 9 0) id c (at_stage (Turn t (journal h.value)) v) (takes 0 (Some h.value)))
+      → (h : IsHome fixed journal opening r.core s) → Rule (stepped s 9 (get_or s.words 9 0) id c (at_stage (Turn t (journal h.value)) v) (takes 4 (Some h.value)))
   taken s r id t v c at is has turn h = let w : View F E = at_stage (Turn t (journal h.value)) v in let serving : ℕ = get_or s.words 9 0 in let vs : List (View F E) = set s.views id w in
       let a : s.words ≡ set s.words 9 serving = sym (set-get_or s.words 9 0) in
-      subst (λ (z : List ℕ). Rule (record { words = z; homes = set s.homes 0 none; views = vs })) a (record {
+      subst (λ (z : List ℕ). Rule (record { words = z; homes = set s.homes 4 none; views = vs })) a (record {
         core = r.core;
         words = r.words;
         line = line_same serving (get_or s.words 8 0) s.views id v w r.line at (sym (ap tickets is)) (λ u held. subst (Holds u) (sym is) held) (λ u held. subst (Holds u) is held);
@@ -187,7 +187,7 @@ module _ {V F E : Type 0} (fixed : V → F) (journal : V → List E) (allows : F
           holder = w;
           there = set_here s.views id w (index_below s.views id v at);
           knows = tt;
-          out = set_here s.homes 0 none (index_below s.homes 0 (some (Some h.value)) h.here);
+          out = set_here s.homes 4 none (index_below s.homes 4 (some (Some h.value)) h.here);
           one_turn = each_set (λ j d. AtTurn id serving r.core j d.stage) s.views id w (refl, sym turn, h.its_journal) (λ j d _ e. not_at_turn id serving j r.core d.stage (h.no_turn j d e));
         });
         told = each_set (λ j d. Told r.core d) s.views id w (told_at r.core v (Turn t (journal h.value)) has (r.told id v at) tt) (λ j d _ e. r.told j d e);
@@ -199,13 +199,13 @@ module _ {V F E : Type 0} (fixed : V → F) (journal : V → List E) (allows : F
   looks slots id me t is has s r long at fits = dite (ℕ_discrete (get_or s.words 9 0) t)
       (λ turn. let h = is_home s r id t me.0 at is turn in let l = (r.told id me.0 at).live has in (
         at_stage (Turn t (journal h.value)) me.0,
-        takes 0 (Some h.value),
+        takes 4 (Some h.value),
         h.here,
         taken s r id t me.0 me.1 at is has turn h,
         λ u is'. let same : t ≡ u = ap (ticket_of) (sym is ∙ is') in (
           (λ _. record {
             value = h.value;
-            after = ap (λ (z : ℕ). let m : Me (Option V) (View F E) = (at_stage (Turn z (journal h.value)) me.0, (0, Some h.value) ∷ me.1) in m) same;
+            after = ap (λ (z : ℕ). let m : Me (Option V) (View F E) = (at_stage (Turn z (journal h.value)) me.0, (4, Some h.value) ∷ me.1) in m) same;
             its_fixed = l.its_fixed ∙ ap Some (sym h.its_fixed);
             grows = subst (λ (z : F × List E). Grows allows z.0 me.0.seen z.1) (λ i. (sym h.its_fixed i, sym h.its_journal i)) l.grows;
           }),
@@ -248,7 +248,7 @@ module _ {V F E : Type 0} (fixed : V → F) (journal : V → List E) (allows : F
   is_away s r id v at knows = ⊎_elim (λ (h : IsHome fixed journal opening r.core s). absurd (h.no_turn id v at knows)) (λ (a : IsAway r.core s). a) r.slot
 
   calls_at : (slots id t : ℕ) (v : View F E) (entered : List E) (value : V) → v.stage ≡ Turn t entered → 0 < v.shares → v.fixed ≡ Some (fixed value) → MayLeave allows (fixed value) entered (journal value)
-      → Allows Rule slots id (v, (0, Some value) ∷ []) 9 (λ n. (n + 1) % 2 ^ 64) (Calls journal (step slots 9 1 0 none) (v, (0, Some value) ∷ []))
+      → Allows Rule slots id (v, (4, Some value) ∷ []) 9 (λ n. (n + 1) % 2 ^ 64) (Calls journal (step slots 9 1 0 none) (v, (4, Some value) ∷ []))
   calls_at slots id t v entered value is has own_fixed may s r long at fits =
       let serving : ℕ = get_or s.words 9 0 in let ticket : ℕ = get_or s.words 8 0 in let n : ℕ = (serving + 1) % ring in let j : List E = journal value in let w : View F E = gone_home entered j v in let long_words = r.words in
       let a = is_away s r id v at (subst KnowsTurn (sym is) tt) in
@@ -263,14 +263,14 @@ module _ {V F E : Type 0} (fixed : V → F) (journal : V → List E) (allows : F
       let seen_length = grows_length allows (fixed opening) v.seen r.core l.grows in
       let grown_length = grows_length allows (fixed opening) r.core j grown in
       let opening_length = grows_length allows (fixed opening) (journal opening) v.seen l.begins in
-      let kept : Rule (stepped s 9 n id ((0, Some value) ∷ []) w gives) = record {
+      let kept : Rule (stepped s 9 n id ((4, Some value) ∷ []) w gives) = record {
         core = j;
         words = length-set s.words 9 n ∙ long_words;
         line = subst (λ (z : ℕ × ℕ). IsLined z.0 z.1 (set s.views id w)) (λ i. (sym new_serving i, sym same_ticket i))
             (line_called serving ticket s.views id v w r.line at fits (ap tickets is) (subst (Holds serving) (sym is) here.1) refl (λ u h. h) (few_out s r));
         slot = inl (record {
           value = value;
-          here = set_here s.homes 0 (some (Some value)) (index_below s.homes 0 none a.out);
+          here = set_here s.homes 4 (some (Some value)) (index_below s.homes 4 none a.out);
           its_journal = refl;
           its_fixed = same_fixed;
           no_turn = each_set (λ i d. ¬ (KnowsTurn d.stage)) s.views id w (λ k. k) (λ i d other e k. other ((turn_is a.turn serving i r.core d.stage (a.one_turn i d e) k).0 ∙ sym here.0));
@@ -293,16 +293,16 @@ module _ {V F E : Type 0} (fixed : V → F) (journal : V → List E) (allows : F
             let more = added_once allows (fixed value) (length (journal opening)) place entered j (omega arith) may in
             let same : once_within (length (journal opening)) (length entered) place ≡ once_within (length (journal opening)) (length r.core) place = ap (λ (z : ℕ). once_within (length (journal opening)) z place) core_length in omega arith;
       } in
-      let whole : v.shares ≡ ALL_SHARES → HasEach v.start (length j) (v.own ++ added entered j) = λ all. owns_each (stepped s 9 n id ((0, Some value) ∷ []) w gives) kept id w (set_here s.views id w (index_below s.views id v at)) all in (
+      let whole : v.shares ≡ ALL_SHARES → HasEach v.start (length j) (v.own ++ added entered j) = λ all. owns_each (stepped s 9 n id ((4, Some value) ∷ []) w gives) kept id w (set_here s.views id w (index_below s.views id v at)) all in (
         w,
         gives,
         tt,
         kept,
         λ u entered' value' is' c'. let same : entered ≡ entered' = ap (entered_of) (sym is ∙ is') in let same_value : value ≡ value' = ap (value_or value) c' in
-            (sym here.1 ∙ ap ticket_of (sym is ∙ is'), subst (λ (z : List E × V). let m : Me (Option V) (View F E) = (v, (0, Some value) ∷ []) in let d : Me (Option V) (View F E) = (w, []) in GoesHome journal z.0 z.1 m d) (λ i. (same i, same_value i)) (record { after = refl; whole = whole })),
+            (sym here.1 ∙ ap ticket_of (sym is ∙ is'), subst (λ (z : List E × V). let m : Me (Option V) (View F E) = (v, (4, Some value) ∷ []) in let d : Me (Option V) (View F E) = (w, []) in GoesHome journal z.0 z.1 m d) (λ i. (same i, same_value i)) (record { after = refl; whole = whole })),
       )
 
-  pub calls : (slots id t : ℕ) (me : Me (Option V) (View F E)) (entered : List E) (value : V) → me.0.stage ≡ Turn t entered → me.1 ≡ (0, Some value) ∷ [] → 0 < me.0.shares → me.0.fixed ≡ Some (fixed value)
+  pub calls : (slots id t : ℕ) (me : Me (Option V) (View F E)) (entered : List E) (value : V) → me.0.stage ≡ Turn t entered → me.1 ≡ (4, Some value) ∷ [] → 0 < me.0.shares → me.0.fixed ≡ Some (fixed value)
       → MayLeave allows (fixed value) entered (journal value) → Allows Rule slots id me 9 (λ n. (n + 1) % 2 ^ 64) (Calls journal (step slots 9 1 0 none) me)
   calls slots id t me entered value is held has own_fixed may = subst (λ (c : List (ℕ × Option V)). Allows Rule slots id (me.0, c) 9 (λ n. (n + 1) % 2 ^ 64) (Calls journal (step slots 9 1 0 none) (me.0, c))) (sym held)
       (calls_at slots id t me.0 entered value is has own_fixed may)
@@ -390,7 +390,7 @@ module _ {V F E : Type 0} (fixed : V → F) (journal : V → List E) (allows : F
   alone_at v d (suc j) e = absurd (some-ne-none d (sym e))
 
   -- the rule holds of a new cell
-  pub opens : Rule (record { words = replicate WORDS 0; homes = some (Some opening) ∷ []; views = first_view fixed journal opening ∷ [] })
+  pub opens : Rule (record { words = replicate WORDS 0; homes = some None ∷ some None ∷ some None ∷ some None ∷ some (Some opening) ∷ some None ∷ some None ∷ some None ∷ some None ∷ []; views = first_view fixed journal opening ∷ [] })
   opens = let v : View F E = first_view fixed journal opening in record {
     core = journal opening;
     words = refl;
@@ -413,9 +413,9 @@ module _ {V F E : Type 0} (fixed : V → F) (journal : V → List E) (allows : F
 
   -- the value that is at home at the end
   pub closes : (id : ℕ) (v : View F E) (words : List ℕ) (slots : List (Option V)) → v.shares ≡ ALL_SHARES → v.stage ≡ Idle → Final (Seen Rule id v) words slots
-      → (value : V) × (get_elem? slots 0 ≡ some (Some value)) × (fixed value ≡ fixed opening) × (journal value ≡ v.seen) × ((place : ℕ) → times place v.own ≡ once_within (length (journal opening)) (length v.seen) place)
+      → (value : V) × (get_elem? slots 4 ≡ some (Some value)) × (fixed value ≡ fixed opening) × (journal value ≡ v.seen) × ((place : ℕ) → times place v.own ≡ once_within (length (journal opening)) (length v.seen) place)
   closes id v words slots all idle f = let s = f.0 in let r = f.1.0 in let at = f.1.1 in let known = all_seen s r id v at all in
-      ⊎_elim (λ (h : IsHome fixed journal opening r.core s). (h.value, f.4 0 (Some h.value) h.here, h.its_fixed, h.its_journal ∙ known.0, known.1))
+      ⊎_elim (λ (h : IsHome fixed journal opening r.core s). (h.value, f.4 4 (Some h.value) h.here, h.its_fixed, h.its_journal ∙ known.0, known.1))
       (λ (a : IsAway r.core s). absurd (dite (ℕ_discrete a.turn id)
       (λ e. subst KnowsTurn (ap (λ (x : View F E). x.stage) (some-injective a.holder v (sym a.there ∙ (ap (get_elem? s.views) e ∙ at))) ∙ idle) a.knows)
       (λ ne. subst (λ (x : View F E). KnowsTurn x.stage) ((r.told a.turn a.holder a.there).gone (let t = two_below (λ x. x.shares) s.views a.turn id a.holder v ne a.there at in let h = r.shared in omega arith)) a.knows)))

@@ -26,26 +26,26 @@ some_is : {X : Type 0} (x y : X) → Some x ≡ Some y → x ≡ y
 some_is x y e = cc
 
 -- a slot behind which there is nothing
-pub slot_rest : {X : Type 0} (l : List (ℕ × X)) (x : X) → l ≡ (0, x) ∷ [] → l ≡ (0, x) ∷ rest l
-slot_rest {X} l x e = e ∙ ap (λ (z : List (ℕ × X)). (0, x) ∷ rest z) (sym e)
+pub slot_rest : {X : Type 0} (l : List (ℕ × X)) (x : X) → l ≡ (4, x) ∷ [] → l ≡ (4, x) ∷ rest l
+slot_rest {X} l x e = e ∙ ap (λ (z : List (ℕ × X)). (4, x) ∷ rest z) (sym e)
 
-pub slot_found : {X : Type 0} (l : List (ℕ × Option X)) (value : X) (found : Option X) → l ≡ (0, Some value) ∷ [] → l ≡ (0, found) ∷ rest l → found ≡ Some value
+pub slot_found : {X : Type 0} (l : List (ℕ × Option X)) (value : X) (found : Option X) → l ≡ (4, Some value) ∷ [] → l ≡ (4, found) ∷ rest l → found ≡ Some value
 slot_found l value found e was = ap (held_or None) (sym was ∙ e)
 
-pub taken_now : {V F E : Type 0} (m n : Me (Option V) (View F E)) (had : V) (found : Option V) (value : V) → m.1 ≡ (0, Some had) ∷ [] → m.1 ≡ (0, found) ∷ rest m.1 → n ≡ (m.0, (0, None) ∷ rest m.1) → found ≡ Some value → IsTaken m n value
+pub taken_now : {V F E : Type 0} (m n : Me (Option V) (View F E)) (had : V) (found : Option V) (value : V) → m.1 ≡ (4, Some had) ∷ [] → m.1 ≡ (4, found) ∷ rest m.1 → n ≡ (m.0, (4, None) ∷ rest m.1) → found ≡ Some value → IsTaken m n value
 taken_now {V} {F} {E} m n had found value e was now is = record {
-  hand = e ∙ ap (λ (z : Option V). let l : List (ℕ × Option V) = (0, z) ∷ [] in l) (sym (slot_found m.1 had found e was) ∙ is);
-  after = now ∙ ap (λ (l : List (ℕ × Option V)). let x : Me (Option V) (View F E) = (m.0, (0, None) ∷ rest l) in x) e;
+  hand = e ∙ ap (λ (z : Option V). let l : List (ℕ × Option V) = (4, z) ∷ [] in l) (sym (slot_found m.1 had found e was) ∙ is);
+  after = now ∙ ap (λ (l : List (ℕ × Option V)). let x : Me (Option V) (View F E) = (m.0, (4, None) ∷ rest l) in x) e;
 }
 
 module _ {V F E : Type 0} (fixed : V → F) (journal : V → List E) (allows : F → List E → E → Type 0) where
-  pub has_slot : (t : ℕ) (m n : Me (Option V) (View F E)) (h : Turns fixed journal allows t m n) → m.1 ≡ [] → n.1 ≡ (0, Some h.value) ∷ []
-  has_slot t m n h empty = ap (λ (x : Me (Option V) (View F E)). x.1) h.after ∙ ap (λ (l : List (ℕ × Option V)). (0, Some h.value) ∷ l) empty
+  pub has_slot : (t : ℕ) (m n : Me (Option V) (View F E)) (h : Turns fixed journal allows t m n) → m.1 ≡ [] → n.1 ≡ (4, Some h.value) ∷ []
+  has_slot t m n h empty = ap (λ (x : Me (Option V) (View F E)). x.1) h.after ∙ ap (λ (l : List (ℕ × Option V)). (4, Some h.value) ∷ l) empty
 
   pub took : (t : ℕ) (m n n' : Me (Option V) (View F E)) (value : V) → Turns fixed journal allows t m n → m.1 ≡ [] → IsTaken n n' value → TookOut fixed journal allows t m n' value
   took t m n n' value h empty taken = let same : h.value ≡ value = some_is h.value value (ap (held_or None) (sym (has_slot t m n h empty) ∙ taken.hand)) in
       subst (TookOut fixed journal allows t m n') same (record {
-        after = taken.after ∙ ap (λ (x : Me (Option V) (View F E)). let y : Me (Option V) (View F E) = (x.0, (0, None) ∷ []) in y) h.after;
+        after = taken.after ∙ ap (λ (x : Me (Option V) (View F E)). let y : Me (Option V) (View F E) = (x.0, (4, None) ∷ []) in y) h.after;
         its_fixed = h.its_fixed;
         grows = h.grows;
       })
@@ -53,7 +53,7 @@ module _ {V F E : Type 0} (fixed : V → F) (journal : V → List E) (allows : F
   pub may_call : (opening : V) (slots id : ℕ) (m : Me (Option V) (View F E)) → MayCall fixed journal allows m → Allows (IsInvariant fixed journal allows opening) slots id m 9 (λ x. (x + 1) % 2 ^ 64) (Calls journal (step slots 9 1 0 none) m)
   may_call opening slots id m p = calls fixed journal allows opening slots id p.ticket m p.entered p.value p.stage p.slot p.live p.its_fixed p.may
 
-  pub called_home : (slots found : ℕ) (m n : Me (Option V) (View F E)) → MayCall fixed journal allows m → Calls journal (step slots 9 1 0 none) m found n → (value : V) → m.1 ≡ (0, Some value) ∷ [] → GoesHome journal (entered_of m.0.stage) value m n
+  pub called_home : (slots found : ℕ) (m n : Me (Option V) (View F E)) → MayCall fixed journal allows m → Calls journal (step slots 9 1 0 none) m found n → (value : V) → m.1 ≡ (4, Some value) ∷ [] → GoesHome journal (entered_of m.0.stage) value m n
   called_home slots found m n p told value slot = subst (λ (l : List E). GoesHome journal l value m n) (sym (ap entered_of p.stage)) (told p.ticket p.entered value p.stage slot).1
 
   pub called_ticket : (slots found : ℕ) (m n : Me (Option V) (View F E)) → MayCall fixed journal allows m → Calls journal (step slots 9 1 0 none) m found n → found ≡ ticket_of m.0.stage
@@ -91,7 +91,7 @@ module _ {V F E : Type 0} (fixed : V → F) (journal : V → List E) (allows : F
   }
 
 -- a put changes no view, so the call goes home from where the value was put
-pub home_after : {V F E : Type 0} (journal : V → List E) (m n n' : Me (Option V) (View F E)) (value : V) → IsPut m n value → ((v : V) → n.1 ≡ (0, Some v) ∷ [] → GoesHome journal (entered_of n.0.stage) v n n') → GoesHome journal (entered_of m.0.stage) value m n'
+pub home_after : {V F E : Type 0} (journal : V → List E) (m n n' : Me (Option V) (View F E)) (value : V) → IsPut m n value → ((v : V) → n.1 ≡ (4, Some v) ∷ [] → GoesHome journal (entered_of n.0.stage) v n n') → GoesHome journal (entered_of m.0.stage) value m n'
 home_after {V} {F} {E} journal m n n' value now called = let h = called value (ap (λ (x : Me (Option V) (View F E)). x.1) now) in let e : n.0 ≡ m.0 = ap (λ (x : Me (Option V) (View F E)). x.0) now in record {
   after = h.after ∙ ap (λ (v : View F E). let x : Me (Option V) (View F E) = (gone_home (entered_of v.stage) (journal value) v, []) in x) e;
   whole = λ all. subst (λ (v : View F E). HasEach v.start (length (journal value)) (v.own ++ added (entered_of v.stage) (journal value))) e (h.whole (ap (λ (v : View F E). v.shares) e ∙ all));
@@ -122,9 +122,9 @@ pub joined_now : {V F E : Type 0} (m n : Me (Option V) (View F E)) (w : View F E
 joined_now {V} {F} {E} m n w idle now = let e : n ≡ (both m.0 w, []) = now ∙ ap (λ (l : List (ℕ × Option V)). let x : Me (Option V) (View F E) = (both m.0 w, l) in x) idle.2 in
     (e, ap (λ (x : Me (Option V) (View F E)). x.0.stage) e, let s : n.0.shares ≡ m.0.shares + w.shares = ap (λ (x : Me (Option V) (View F E)). x.0.shares) e in let h = idle.1 in omega arith)
 
-pub opens_at : {V F E : Type 0} (fixed : V → F) (journal : V → List E) (allows : F → List E → E → Type 0) (o value : V) (items : List (Option V)) → o ≡ value → items ≡ Some value ∷ []
+pub opens_at : {V F E : Type 0} (fixed : V → F) (journal : V → List E) (allows : F → List E → E → Type 0) (o value : V) (items : List (Option V)) → o ≡ value → items ≡ None ∷ None ∷ None ∷ None ∷ Some value ∷ None ∷ None ∷ None ∷ None ∷ []
     → IsInvariant fixed journal allows o (opening (replicate WORDS 0) items (first_view fixed journal o))
-opens_at {V} {F} {E} fixed journal allows o value items same are = subst (λ (z : List (Option V)). IsInvariant fixed journal allows o (opening (replicate WORDS 0) z (first_view fixed journal o))) (ap (λ (x : V). Some x ∷ []) same ∙ sym are) (opens fixed journal allows o)
+opens_at {V} {F} {E} fixed journal allows o value items same are = subst (λ (z : List (Option V)). IsInvariant fixed journal allows o (opening (replicate WORDS 0) z (first_view fixed journal o))) (ap (λ (x : V). None ∷ None ∷ None ∷ None ∷ Some x ∷ None ∷ None ∷ None ∷ None ∷ []) same ∙ sym are) (opens fixed journal allows o)
 
 -- what was found in the slot at the end
 pub record HasClosed {V F E : Type 0} (fixed : V → F) (journal : V → List E) (o : V) (v : View F E) (found : Option V) : Type 0 where
@@ -134,7 +134,7 @@ pub record HasClosed {V F E : Type 0} (fixed : V → F) (journal : V → List E)
   pub its_own : (place : ℕ) → times place v.own ≡ once_within (length (journal o)) (length v.seen) place
 
 pub closes_to : {V F E : Type 0} (fixed : V → F) (journal : V → List E) (allows : F → List E → E → Type 0) (o : V) (id : ℕ) (m : Me (Option V) (View F E)) (shares : ℕ) (words : List ℕ) (slots : List (Option V)) (found : Option V)
-    → m.0.stage ≡ Idle → m.0.shares ≡ shares → shares ≡ ALL_SHARES → Final (Seen (IsInvariant fixed journal allows o) id m.0) words slots → get_elem? slots 0 ≡ some found → HasClosed fixed journal o m.0 found
+    → m.0.stage ≡ Idle → m.0.shares ≡ shares → shares ≡ ALL_SHARES → Final (Seen (IsInvariant fixed journal allows o) id m.0) words slots → get_elem? slots 4 ≡ some found → HasClosed fixed journal o m.0 found
 closes_to {V} {F} {E} fixed journal allows o id m shares words slots found idle has all f at = let t = closes fixed journal allows o id m.0 words slots (has ∙ all) idle f in
     let is : found ≡ Some t.0 = some-injective found (Some t.0) (sym at ∙ t.1) in
     let same : (value : V) → found ≡ Some value → t.0 ≡ value = λ value e. some_is t.0 value (sym is ∙ e) in record {

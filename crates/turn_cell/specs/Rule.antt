@@ -47,7 +47,7 @@ module _ {V F E : Type 0} where
     pub holder : View F E
     pub there : get_elem? s.views turn ≡ some holder
     pub knows : KnowsTurn holder.stage
-    pub out : get_elem? s.homes 0 ≡ some none
+    pub out : get_elem? s.homes 4 ≡ some none
     -- no other view knows its turn; its ticket is the one served, and it keeps the core's journal
     pub one_turn : (seat : ℕ) (v : View F E) → get_elem? s.views seat ≡ some v
         → AtTurn turn (slice_index s.words 9) core seat v.stage
@@ -68,7 +68,7 @@ module _ {V F E : Type 0} (fixed : V → F) (journal : V → List E) (opening : 
   -- whose journal is the core's
   pub record IsHome (core : List E) (s : State (Option V) (View F E)) : Type 0 where
     pub value : V
-    pub here : get_elem? s.homes 0 ≡ some (some (Some value))
+    pub here : get_elem? s.homes 4 ≡ some (some (Some value))
     pub its_journal : journal value ≡ core
     pub its_fixed : fixed value ≡ fixed opening
     pub no_turn : (seat : ℕ) (v : View F E) → get_elem? s.views seat ≡ some v →
@@ -103,7 +103,8 @@ module _ {V F E : Type 0} (fixed : V → F) (journal : V → List E) (allows : F
     pub words : length s.words ≡ WORDS
     -- tickets out are the numbers from `serving` to before `ticket`, one per view that holds one
     pub line : IsLined (slice_index s.words 9) (slice_index s.words 8) s.views
-    -- the slot is away exactly while there is a view that knows its turn, and at most one does.
+    -- slot 4, the only one that is ever taken, is away exactly while there is a view that knows its turn,
+    -- and at most one does.
     -- The core's journal is what that view keeps as entered, and else the home value's
     pub slot : IsHome fixed journal opening core s ⊎ IsAway core s
     -- what each view knows is so

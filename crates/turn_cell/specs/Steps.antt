@@ -93,7 +93,7 @@ module _ {V F E : Type 0} where
 
   -- the seat is at its turn, and its slot is empty, since the value is in the caller's hand
   abbrev pub IsAtTurn : Me (Option V) (View F E) → Type 0
-  IsAtTurn m = (t : ℕ) × (entered : List E) × (m.0.stage ≡ Turn t entered) × (m.1 ≡ (0, None) ∷ [])
+  IsAtTurn m = (t : ℕ) × (entered : List E) × (m.0.stage ≡ Turn t entered) × (m.1 ≡ (4, None) ∷ [])
 
   -- the seat of a pass. One that has all shares has as its own each place from the opening on
   pub record IsResting (shares : ℕ) (m : Me (Option V) (View F E)) : Type 0 where
@@ -119,12 +119,12 @@ module _ {V F E : Type 0} where
 
   -- take: the value of the slot is in the caller's hand, and the view is as before
   pub record IsTaken (m n : Me (Option V) (View F E)) (value : V) : Type 0 where
-    pub hand : m.1 ≡ (0, Some value) ∷ []
-    pub after : n ≡ (m.0, (0, None) ∷ [])
+    pub hand : m.1 ≡ (4, Some value) ∷ []
+    pub after : n ≡ (m.0, (4, None) ∷ [])
 
   -- put: the slot has the value again, and the view is as before
   abbrev pub IsPut : Me (Option V) (View F E) → Me (Option V) (View F E) → V → Type 0
-  IsPut m n value = n ≡ (m.0, (0, Some value) ∷ [])
+  IsPut m n value = n ≡ (m.0, (4, Some value) ∷ [])
 
 module _ {V F E : Type 0} (fixed : V → F) (journal : V → List E)
     (allows : F → List E → E → Type 0) where
@@ -132,7 +132,7 @@ module _ {V F E : Type 0} (fixed : V → F) (journal : V → List E)
   -- The view keeps its journal as entered, which grew from what was seen
   pub record Turns (t : ℕ) (m n : Me (Option V) (View F E)) : Type 0 where
     pub value : V
-    pub after : n ≡ (at_stage (Turn t (journal value)) m.0, (0, Some value) ∷ m.1)
+    pub after : n ≡ (at_stage (Turn t (journal value)) m.0, (4, Some value) ∷ m.1)
     pub its_fixed : m.0.fixed ≡ Some (fixed value)
     pub grows : Grows allows (fixed value) m.0.seen (journal value)
 
@@ -144,7 +144,7 @@ module _ {V F E : Type 0} (fixed : V → F) (journal : V → List E)
 
   -- look on its turn, then take: the value is in the caller's hand
   pub record TookOut (t : ℕ) (m n : Me (Option V) (View F E)) (value : V) : Type 0 where
-    pub after : n ≡ (at_stage (Turn t (journal value)) m.0, (0, None) ∷ [])
+    pub after : n ≡ (at_stage (Turn t (journal value)) m.0, (4, None) ∷ [])
     pub its_fixed : m.0.fixed ≡ Some (fixed value)
     pub grows : Grows allows (fixed value) m.0.seen (journal value)
 
@@ -155,7 +155,7 @@ module _ {V F E : Type 0} (fixed : V → F) (journal : V → List E)
     pub entered : List E
     pub value : V
     pub stage : m.0.stage ≡ Turn ticket entered
-    pub slot : m.1 ≡ (0, Some value) ∷ []
+    pub slot : m.1 ≡ (4, Some value) ∷ []
     pub live : 0 < m.0.shares
     pub its_fixed : m.0.fixed ≡ Some (fixed value)
     pub may : MayLeave allows (fixed value) entered (journal value)
@@ -173,7 +173,7 @@ module _ {V F E : Type 0} (journal : V → List E) where
   abbrev pub Calls : Step (Option V) → Me (Option V) (View F E) → ℕ → Me (Option V) (View F E) →
       Type 0
   Calls st m found n = (t : ℕ) (entered : List E) (value : V)
-      → m.0.stage ≡ Turn t entered → m.1 ≡ (0, Some value) ∷ []
+      → m.0.stage ≡ Turn t entered → m.1 ≡ (4, Some value) ∷ []
       → (found ≡ t) × GoesHome entered value m n
 
 module _ {V F E : Type 0} (allows : F → List E → E → Type 0) where

@@ -1,15 +1,16 @@
-ghost use Rattle.std.specs.Prelude.{◌≡◌, ℕ, ◌+◌, ◌<◌, ◌≤◌, [], ◌∷◌, ◌++◌, length, IfOk};
+ghost use Rattle.std.specs.Prelude.{◌≡◌, ℕ, ◌+◌, ◌<◌, ◌≤◌, [], ◌∷◌, ◌++◌, length, IfOk, None, Some};
 ghost use Rattle.turn_cell.specs.Journal.{Grows, HasEach, MayLeave, longer, times};
 ghost use Rattle.turn_cell.specs.Known.{IsHeldOf, IsPassOf};
 
+use crate::closing::drop_between;
 use crate::journaled::Journaled;
 use crate::pass::{Held, Pass};
 use crate::rule::{Gift, TurnRule};
 use crate::shares::ALL_SHARES;
-use crate::steps::{WORDS, bring_home, join, split, try_take};
+use crate::steps::{HOME, SLOTS, WORDS, bring_home, join, split, try_take};
 use crate::view::View;
 use crate::waiting::{draw_alone, wake_one};
-use atomic_table::{Refused, Table};
+use atomic_table::Table;
 use std::alloc::{AllocError, Global};
 use std::marker::{Brand, Model};
 use std::snapshot::Snapshot;
@@ -17,18 +18,43 @@ use std::sync::Wait;
 use std::sync::atomic::AtomicU64;
 use std::thread;
 
+// How far other things are kept from the value, in bytes: a processor that reads what stands before
+// fetches some lines of its cache ahead.
+const APART: usize = 1024;
+
+// The slots of a cell's table, with the value in the middle.
+fn slots_of<V: Drop>(alloc: Global, value: V) -> Result<Vec<Option<V>>, AllocError>
+    ensures { IfOk result (λ v. v.items ≡ None ∷ None ∷ None ∷ None ∷ Some value
+        ∷ None ∷ None ∷ None ∷ None ∷ []) }
+{
+    let mut slots = Vec::with_capacity(alloc, SLOTS)?;
+    slots.push_reserved(None);
+    slots.push_reserved(None);
+    slots.push_reserved(None);
+    slots.push_reserved(None);
+    slots.push_reserved(Some(value));
+    slots.push_reserved(None);
+    slots.push_reserved(None);
+    slots.push_reserved(None);
+    slots.push_reserved(None);
+    Ok(slots)
+}
+
 /// A value that one pass at a time takes out.
 #[derive(Drop)]
 pub struct TurnCell<V: Journaled> {
     table: Table<Option<V>, View<V::Fixed, V::Entry>, Snapshot<V>, TurnRule, Global>,
     // How many threads sleep until the cell is free, or are about to.
     sleepers: AtomicU64,
+    // Stands behind the value in memory, so that nothing else does: threads at other cells would take
+    // its line of the cache from each other.
+    _apart: Vec<u8>,
 }
 
 impl<V: Journaled> Model for TurnCell<V> {
     ghost use Rattle.std.specs.Prelude.{◌≡◌};
     ghost use Rattle.turn_cell.specs.Known.{Cell};
-    ghost use Rattle.turn_cell.specs.declared.steps.TheConstants.{WORDS};
+    ghost use Rattle.turn_cell.specs.declared.steps.TheConstants.{SLOTS, WORDS};
 
     ghost Value = { Cell V.Fixed V.Entry };
 
@@ -38,9 +64,9 @@ impl<V: Journaled> Model for TurnCell<V> {
       opening = V.journal c.table.shared.key.value;
     } };
 
-    // The table has the words of a cell, and one slot.
+    // The table has the words and the slots of a cell.
     ghost invariant = { λ c. (c.table.shared.table_id.words ≡ WORDS)
-        × (c.table.shared.table_id.slots ≡ 1) };
+        × (c.table.shared.table_id.slots ≡ SLOTS) };
 }
 
 impl<V: Journaled> TurnCell<V> {
@@ -56,21 +82,20 @@ impl<V: Journaled> TurnCell<V> {
         ensures shares { IfOk result (λ r. r.1.shares ≡ ALL_SHARES) }
     {
         let about = Snapshot::of(&value);
-        let mut slots = Vec::with_capacity(alloc, 1)?;
-        slots.push_reserved(Some(value));
-        match Table::new(alloc, &[0; WORDS], slots, &about) {
-            Ok((table, seat)) => Ok((
-                TurnCell {
-                    table,
-                    sleepers: AtomicU64::new(0),
-                },
-                Pass {
-                    shares: ALL_SHARES,
-                    seat,
-                },
-            )),
-            Err(Refused { slots: _ }) => Err(AllocError),
-        }
+        let slots = slots_of(alloc, value)?;
+        let Ok((table, seat)) = Table::new(alloc, &[0; WORDS], slots, &about) else {
+            return Err(AllocError);
+        };
+        let cell = TurnCell {
+            table,
+            sleepers: AtomicU64::new(0),
+            _apart: Vec::with_capacity(alloc, APART)?,
+        };
+        let pass = Pass {
+            shares: ALL_SHARES,
+            seat,
+        };
+        Ok((cell, pass))
     }
 
     /// The shares of the pass.
@@ -186,6 +211,8 @@ impl<V: Journaled> TurnCell<V> {
 
     /// Gives the value back, once one pass has all shares.
     pub fn close(self, pass: Pass<V>) -> V
+    where
+        V: Drop,
         requires cell { IsPassOf self pass }
         requires shares { pass.shares ≡ ALL_SHARES }
         ensures fixed { V.fixed result ≡ self.fixed }
@@ -193,9 +220,15 @@ impl<V: Journaled> TurnCell<V> {
         ensures own { HasEach (length self.opening) (length pass.seen) pass.own }
     {
         let Pass { shares: _, seat } = pass;
-        let TurnCell { table, sleepers: _ } = self;
+        let TurnCell {
+            table,
+            sleepers: _,
+            _apart: _,
+        } = self;
         let mut closed = table.close_with(seat);
-        let value = closed.take(0);
+        let value = closed.take(HOME);
+        drop_between(&mut closed, 0, HOME);
+        drop_between(&mut closed, HOME + 1, SLOTS);
         closed.free();
         value.unwrap()
     }

@@ -20,4 +20,9 @@ pub trait Journaled {
     /// The number of entries of the journal.
     fn length(&self) -> u64
         ensures { result ≡ length (journal self.now) };
+
+    /// How long a thread that finds the value taken pauses at most before it looks again, in pauses of
+    /// the processor: each look takes the cell from the processor that is in it. The shorter a turn
+    /// is beside what moves with it from one processor to another, the longer a pause pays.
+    fn longest_pause() -> u32;
 }

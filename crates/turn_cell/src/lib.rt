@@ -4,6 +4,7 @@
 #![tactic(auto)]
 
 mod cell;
+mod closing;
 mod journaled;
 mod pass;
 mod rule;

@@ -16,6 +16,11 @@ pub const TICKET: usize = 8;
 
 pub const SERVING: usize = 9;
 
+// The slots of a cell's table, and the one that holds the value: it too stands in the middle.
+pub const SLOTS: usize = 9;
+
+pub const HOME: usize = 4;
+
 /// Draws the ticket where it is the next. Whether it was.
 pub fn try_draw<V: Journaled>(shelf: &Shelf<V>, seat: &mut Place<V>, ticket: u64) -> bool
     requires table { SitsAt seat.old.table_id shelf.now.table_id }
@@ -43,11 +48,11 @@ pub fn look<V: Journaled>(shelf: &Shelf<V>, seat: &mut Place<V>, ticket: u64) ->
 
 pub fn take<V: Journaled>(shelf: &Shelf<V>, seat: &mut Place<V>) -> V
     requires table { SitsAt seat.old.table_id shelf.now.table_id }
-    requires slot { (value : V) × (seat.old.me.1 ≡ (0, Some value) ∷ []) }
+    requires slot { (value : V) × (seat.old.me.1 ≡ (HOME, Some value) ∷ []) }
     ensures table { seat.new.table_id ≡ seat.old.table_id }
     ensures taken { IsTaken seat.old.me seat.new.me result }
 {
-    shelf.exchange(seat, 0, None).unwrap()
+    shelf.exchange(seat, HOME, None).unwrap()
 }
 
 pub fn put<V: Journaled>(shelf: &Shelf<V>, seat: &mut Place<V>, value: V)
@@ -56,7 +61,7 @@ pub fn put<V: Journaled>(shelf: &Shelf<V>, seat: &mut Place<V>, value: V)
     ensures table { seat.new.table_id ≡ seat.old.table_id }
     ensures put { IsPut seat.old.me seat.new.me value }
 {
-    let taken_out = shelf.exchange(seat, 0, Some(value));
+    let taken_out = shelf.exchange(seat, HOME, Some(value));
     let None = taken_out else { unreachable!() };
 }
 
@@ -66,7 +71,7 @@ pub fn call<V: Journaled>(shelf: &Shelf<V>, seat: &mut Place<V>) -> u64
     requires put { MayCall V.fixed V.journal V.allows seat.old.me }
     ensures table { seat.new.table_id ≡ seat.old.table_id }
     ensures served { result ≡ ticket_of seat.old.me.0.stage }
-    ensures home { (value : V) → seat.old.me.1 ≡ (0, Some value) ∷ []
+    ensures home { (value : V) → seat.old.me.1 ≡ (HOME, Some value) ∷ []
         → GoesHome V.journal (entered_of seat.old.me.0.stage) value seat.old.me seat.new.me }
 {
     shelf.fetch_add::<Call>(seat, SERVING, 1)

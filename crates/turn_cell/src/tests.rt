@@ -30,6 +30,10 @@ impl Journaled for Tally {
     fn length(&self) -> u64 {
         self.log.len() as u64
     }
+
+    fn longest_pause() -> u32 {
+        16
+    }
 }
 
 impl Tally {

@@ -1,6 +1,6 @@
-//! How a thread waits until a cell is free: it looks, then lets others run between its looks, and
-//! then sleeps.
-ghost use Rattle.std.specs.Prelude.{◌≡◌, []};
+//! How a thread waits until a cell is free: it looks further and further apart, then lets others run
+//! between its looks, and then sleeps.
+ghost use Rattle.std.specs.Prelude.{◌≡◌, ◌<◌, []};
 ghost use Rattle.turn_cell.specs.declared.view.Stage.TheVariants.{Waiting};
 ghost use Rattle.turn_cell.specs.Steps.{IsIdle, SitsAt, at_stage};
 ghost use Rattle.turn_cell.specs.declared.steps.TheConstants.{WORDS};
@@ -8,16 +8,20 @@ ghost use Rattle.turn_cell.specs.declared.steps.TheConstants.{WORDS};
 use crate::journaled::Journaled;
 use crate::rule::{Place, Shelf};
 use crate::steps::{SERVING, TICKET, try_draw};
+use std::hint::spin_loop;
 use std::sync::Wait;
 use std::sync::atomic::AtomicU64;
 use std::sync::atomic::Ordering::SeqCst;
 use std::thread;
 
-// How often a thread looks again at once, and then how often it lets others run first, before it
-// sleeps.
-const LOOKS: u32 = 64;
+// How often a thread pauses before it looks again, and then how often it lets others run first, before
+// it sleeps.
+const LOOKS: u32 = 16;
 
 const YIELDS: u32 = 64;
+
+// In so many steps pauses become as long as the longest.
+const STEPS: u32 = 8;
 
 /// Waits until nobody has a ticket, and draws the next one. No thread waits with a ticket, so none
 /// that is not running keeps those out that are.
@@ -43,6 +47,19 @@ pub fn draw_alone<V: Journaled, W: Wait>(
     unreachable!()
 }
 
+// The pause after so many looks.
+fn pause_after(longest: u32, looks: u32) -> u32
+    requires { looks < LOOKS }
+{
+    (longest / STEPS).saturating_mul(looks + 1).min(longest)
+}
+
+fn pause(times: u32) {
+    for _ in 0..times {
+        spin_loop();
+    }
+}
+
 // Waits after so many looks at a cell that was not free, where this ticket is served. How many looks
 // count from then on.
 fn waited<V: Journaled, W: Wait>(
@@ -55,6 +72,7 @@ fn waited<V: Journaled, W: Wait>(
     requires { shelf.now.table_id.words ≡ WORDS }
 {
     if looks < LOOKS {
+        pause(pause_after(V::longest_pause(), looks));
         return looks + 1;
     }
     if looks < LOOKS + YIELDS {
