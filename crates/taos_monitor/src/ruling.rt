@@ -22,7 +22,7 @@ use crate::due::{Due, due_for};
 use crate::guarding::{give_ruled, give_unruled};
 use crate::performing::perform_ruled;
 use crate::reply::ReplyBuf;
-use agent_core::{Gate, Shards};
+use agent_core::{Ask, Gate, Shards};
 use object_core::{ObjectEntry, Op, Shelf};
 use std::alloc::{AllocError, Global};
 use std::sync::{Arc, Wait};
@@ -35,6 +35,12 @@ use taos_wire::Reply;
 struct Ready {
     op: Arc<Op>,
     due: Due,
+}
+
+// Takes as much memory as an Ask and gives it back, so that it is at hand when the Ask is made: then
+// nobody waits for the object while it is found.
+fn make_room(alloc: Global) {
+    let _ = Arc::new(alloc, [0u8; size_of::<Ask>()]);
 }
 
 fn ready_for(alloc: Global, count: u32, came: &Came<'_>) -> Result<Ready, AllocError>
@@ -107,6 +113,7 @@ pub(crate) fn rule<W: Wait + Sync, H: Shelf, S: Shards, D: Decide, G: Gate>(
         out.draft(asked.channel, asked.seq, &Reply::NoMemory);
         return;
     };
+    make_room(alloc);
     let object = shelf.take(rt, asked.object).unwrap();
     let Some(ruled) = decide(rt, alloc, shards, by, came, &object, out) else {
         give_unruled(shelf, object);

@@ -9,6 +9,7 @@ ghost use Rattle.agent_core.specs.declared.limits.TheConstants.{MAX_SHARDS};
 ghost use Rattle.agent_core.specs.Alone.{plans_in};
 ghost use Rattle.agent_core.specs.Opened.{new_shard};
 ghost use Rattle.agent_core.specs.Plans.{AreShards};
+ghost use Rattle.prin_term.specs.View.{grant};
 ghost use Rattle.node_file.specs.Meaning.{opening, FitsByNumber};
 ghost use Rattle.node_file.specs.Opening.{Opening as Meaning};
 ghost use Rattle.node_file.specs.OpeningView.{Represents};
@@ -20,6 +21,7 @@ use agent_core::{Lone, Shard, open_shards};
 use keyed_seal::{KeyTable, Sealer};
 use node_file::{ObjectPlans, Opening};
 use object_core::{LoneShelf, Object};
+use prin_term::Entry;
 use std::alloc::{AllocError, Global};
 use std::sync::Arc;
 use taos_lanes::NodeParts;
@@ -69,6 +71,22 @@ fn shards_of(alloc: Global, node: &Opening) -> Result<Vec<Shard>, AllocError>
     )
 }
 
+// A list of its own for an object, beside what else is the object's: who asks for it writes to the
+// count of the list's handles, and threads at different objects would do so in one line of the cache.
+fn list_of(alloc: Global, list: &[Entry]) -> Result<Arc<Vec<Entry>>, AllocError>
+    ensures { IfOk result (λ own. map grant own.value.items ≡ map grant list.now) }
+{
+    let mut entries = Vec::with_capacity(alloc, list.len())?;
+    for place in 0..list.len() {
+        let entry = &list[place];
+        entries.push(Entry {
+            rights: entry.rights,
+            who: entry.who.copy(alloc)?,
+        })?;
+    }
+    Ok(Arc::new(alloc, entries)?)
+}
+
 // The objects, each with an empty journal of at most so many entries.
 fn objects_of(alloc: Global, plans: &ObjectPlans, limit: u64) -> Result<Vec<Object>, AllocError>
     requires { AllFit plans.now }
@@ -83,7 +101,7 @@ fn objects_of(alloc: Global, plans: &ObjectPlans, limit: u64) -> Result<Vec<Obje
     let mut objects = Vec::with_capacity(alloc, count)?;
     for place in 0..count {
         if let Some(plan) = plans.at(place) {
-            let list = Arc::try_clone(&plan.list)?;
+            let list = list_of(alloc, &plan.list)?;
             objects.push(Object::new(alloc, plan.number, &plan.content, list, limit)?)?;
         }
     }

@@ -2,10 +2,7 @@
 use Rattle.std.proofs.Common.{ℕ, ◌++◌, ◌∷◌, [], List, map, sym, ap, ap₂, subst, ◌∙◌, arith}
 use Rattle.std.proofs.lemmas.List.{take_all}
 use Rattle.std.specs.List.Sorted.{IsStrictlyIncreasing}
-use Rattle.std.specs.declared.alloc.Global.{Global}
-use Rattle.std.specs.declared.vec.Vec.{Vec}
-use Rattle.prin_term.specs.declared.term.Entry.{Entry}
-use Rattle.prin_term.specs.View.{Grant, grant}
+use Rattle.prin_term.specs.View.{Grant}
 use Rattle.object_core.specs.Objects.{ObjectSeen}
 use Rattle.object_core.specs.Operation.{IsAccessList, IsContent}
 use Rattle.object_core.specs.Shelving.{HaveOwnNumbers, fixed_of, numbers_of}
@@ -21,7 +18,7 @@ new-requires-clause-content c =
 
 pub new-requires-clause-list : goal.new-requires-clause-list
 new-requires-clause-list c =
-    subst (λ (v : Vec Entry Global). IsAccessList (map grant v.items)) (sym c.in_ok-list.ensures) (plan_fits c.args.plans.now c.in-Some.ensures.sound c.requires c.loop-place.place (plan c.in-Some.plan.now) (sym c.in-Some.ensures.value)).list
+    subst IsAccessList (sym c.in_ok-list.ensures) (plan_fits c.args.plans.now c.in-Some.ensures.sound c.requires c.loop-place.place (plan c.in-Some.plan.now) (sym c.in-Some.ensures.value)).list
 
 pub loop-place-preserved : goal.loop-place-preserved
 loop-place-preserved c =
@@ -29,7 +26,7 @@ loop-place-preserved c =
     elim c.match-at.branch [
       | in-Some+in_ok-list+in_ok-new+in_ok-push w ↦
           let made = w.in_ok-new.ensures ∙ ap₂ (λ (content : List ℕ) (l : List Grant). record { plan = record { number = w.in-Some.plan.now.number; content = content; list = l }; limit = c.args.limit; journal = [] }) w.deref.ensures.value
-          (ap (λ (v : Vec Entry Global). map grant v.items) w.in_ok-list.ensures) in
+          w.in_ok-list.ensures in
           ap (λ v. v.items) w.objects-is ∙ w.in_ok-push.ensures.items ∙ ap₂ (λ (l : List ObjectSeen) (o : ObjectSeen). l ++ o ∷ []) c.loop-place.invariant made
           ∙ one_object_more c.args.limit plans c.loop-place.place (plan w.in-Some.plan.now) (sym w.in-Some.ensures.value)
       | in_default w ↦ absurd (none_within plans c.loop-place.place w.in_default.ensures.value (omega (arith, c.loop-place-test.true, c.count-count.ensures)))
