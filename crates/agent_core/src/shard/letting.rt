@@ -11,8 +11,8 @@ ghost use Rattle.agent_core.specs.Journals.{state_after};
 ghost use Rattle.agent_core.specs.Views.{entry_of, plan_of};
 
 use crate::event::ShardEntry;
+use crate::held::removal::{Removal, left_of};
 use crate::plan::ShardPlan;
-use crate::shard::removal::{Removal, left_of};
 use crate::shard::row::let_go_of;
 use crate::shard::store::{Row, Store};
 

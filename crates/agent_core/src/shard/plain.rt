@@ -11,11 +11,11 @@ use crate::event::{Event, ShardEntry};
 use crate::held::name::Names;
 use crate::held::naming::name_all;
 use crate::held::newness::new_of;
+use crate::held::removal::Removal;
 use crate::limits::MAX_COMMONS;
 use crate::plan::ShardPlan;
 use crate::shard::append::append;
 use crate::shard::letting::let_go;
-use crate::shard::removal::Removal;
 use crate::shard::store::Store;
 use crate::told::Told;
 use std::sync::Arc;
@@ -79,7 +79,14 @@ pub(crate) fn hold(
         (Holds (certificates certs.value.items)) (told.CommonsFull held) entries.new store.new) }
 {
     let none = Names::new();
-    let new = new_of(&plan.commons, entries, &none, &store.commons, &certs);
+    let new = new_of(
+        &plan.commons,
+        entries,
+        &none,
+        &store.commons,
+        &Removal::Nothing,
+        &certs,
+    );
     let held = store.commons.len();
     if held + new.len() > MAX_COMMONS {
         let held = held as u8;

@@ -8,8 +8,8 @@ ghost use Rattle.agent_core.specs.Letting.{LetsGo};
 ghost use Rattle.agent_core.specs.Views.{entry_of, plan_of};
 
 use crate::event::ShardEntry;
+use crate::held::removal::{Removal, left_of};
 use crate::plan::ShardPlan;
-use crate::shard::removal::{Removal, left_of};
 use crate::shard::store::Row;
 
 /// Where the channel's row stands.

@@ -2,7 +2,7 @@
 use Rattle.std.proofs.Common.{◌≡◌, ◌-◌, ℕ, [], ◌∷◌, map, max, refl, sym, ap, ◌∙◌, arith}
 use Rattle.agent_core.specs.declared.event.Event.TheVariants as code
 use Rattle.agent_core.specs.declared.event.ShardEntry.{ShardEntry}
-use Rattle.agent_core.specs.declared.shard.removal.Removal.TheVariants.{Ended}
+use Rattle.agent_core.specs.declared.held.removal.Removal.TheVariants.{Ended}
 use Rattle.agent_core.specs.declared.told.Told.{Told}
 use Rattle.agent_core.specs.State.{State, Expires, Plain, keeping, held_count}
 use Rattle.agent_core.specs.Journals.{state_after}

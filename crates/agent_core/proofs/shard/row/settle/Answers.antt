@@ -1,7 +1,7 @@
 -- what stays of a row that was not swept is what it stands for
 use Rattle.std.proofs.Common.{map, ◌∙◌, sym}
 use Rattle.stmt_codec.specs.View.{certificates}
-use Rattle.agent_core.specs.declared.shard.removal.Removal.TheVariants.{Ended}
+use Rattle.agent_core.specs.declared.held.removal.Removal.TheVariants.{Ended}
 use Rattle.agent_core.specs.Names.{named}
 use Rattle.agent_core.specs.Views.{entry_of, plan_of}
 use Rattle.agent_core.proofs.Rows.{left_named, left_names, row_stale}
