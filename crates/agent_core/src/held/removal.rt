@@ -3,6 +3,7 @@
 ghost use Rattle.std.specs.Prelude.{◌≡◌, ◌≤◌, filter, length, map};
 ghost use Rattle.stmt_codec.specs.Certificates.{certificate};
 ghost use Rattle.stmt_codec.specs.View.{certificates};
+ghost use Rattle.agent_core.specs.declared.held.removal.Removal.TheVariants as removal;
 ghost use Rattle.agent_core.specs.declared.limits.TheConstants.{MAX_OWN};
 ghost use Rattle.agent_core.specs.Kept.{lets_go, name_stays};
 ghost use Rattle.agent_core.specs.Names.{AreNames};
@@ -10,6 +11,7 @@ ghost use Rattle.agent_core.specs.Views.{entry_of};
 
 use crate::event::ShardEntry;
 use crate::held::name::{Names, cert_named};
+use crate::plan::ShardPlan;
 use std::sync::Arc;
 use stmt_codec::Cert;
 
@@ -21,6 +23,16 @@ pub(crate) enum Removal {
     Ended { keep: u64, moment: u64 },
     /// Those of this digest.
     Named { digest: [u8; 32] },
+}
+
+/// Lets go of what is gone by the moment.
+pub(crate) fn gone_by(plan: &ShardPlan, moment: u64) -> Removal
+    ensures { result ≡ removal.Ended plan.now.keep moment }
+{
+    Removal::Ended {
+        keep: plan.keep,
+        moment,
+    }
 }
 
 /// Whether the certificate is let go.

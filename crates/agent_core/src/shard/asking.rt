@@ -2,7 +2,6 @@
 
 ghost use Rattle.std.specs.Prelude.{◌≡◌, ◌+◌, ◌<◌, ◌≤◌, ◌++◌, length, map, Contains, IfOk, OnErr, OnOk};
 ghost use Rattle.stmt_codec.specs.View.{certificates};
-ghost use Rattle.agent_core.specs.declared.held.removal.Removal.TheVariants as removal;
 ghost use Rattle.agent_core.specs.Answers.{TakesMemory};
 ghost use Rattle.agent_core.specs.Caches.{first_hit, hit_or_miss, unlapsed};
 ghost use Rattle.agent_core.specs.Kept.{IsKept, IsStore, Tells};
@@ -15,7 +14,7 @@ ghost use Rattle.agent_core.specs.Views.{ask_of, entry_of, plan_of};
 use crate::event::{Ask, Event, ShardEntry};
 use crate::held::naming::name_all;
 use crate::held::newness::{Places, new_of};
-use crate::held::removal::{Removal, count_left, keep_left, sweep};
+use crate::held::removal::{count_left, gone_by, keep_left, sweep};
 use crate::held::snapshot::gathered;
 use crate::limits::MAX_OWN;
 use crate::plan::ShardPlan;
@@ -37,16 +36,6 @@ pub(crate) struct Look {
     pub moment: u64,
     pub held: usize,
     pub new: Places,
-}
-
-// Lets go of what is gone by the moment.
-fn gone_by(plan: &ShardPlan, moment: u64) -> Removal
-    ensures { result ≡ removal.Ended plan.now.keep moment }
-{
-    Removal::Ended {
-        keep: plan.keep,
-        moment,
-    }
 }
 
 // Looks, and changes nothing.

@@ -11,7 +11,7 @@ use crate::event::{Event, ShardEntry};
 use crate::held::name::Names;
 use crate::held::naming::name_all;
 use crate::held::newness::new_of;
-use crate::held::removal::Removal;
+use crate::held::removal::{Removal, gone_by};
 use crate::limits::MAX_COMMONS;
 use crate::plan::ShardPlan;
 use crate::shard::append::append;
@@ -53,11 +53,7 @@ pub(crate) fn expire(
         (told.Removed result) entries.new store.new }
 {
     let moment = store.clock.max(reading);
-    let removal = Removal::Ended {
-        keep: plan.keep,
-        moment,
-    };
-    let count = let_go(plan, entries, store, &removal, moment);
+    let count = let_go(plan, entries, store, &gone_by(plan, moment), moment);
     append(entries, Event::Expire(reading), Told::Removed { count });
     count
 }
