@@ -1,5 +1,5 @@
 -- An Ask whose number is new and that has room: what is told of it, and by what it is judged.
-use Rattle.std.proofs.Common.{◌≡◌, ℕ, List, ◌++◌, Option, None, Some, refl, sym, ap, ◌∙◌, subst}
+use Rattle.std.proofs.Common.{◌≡◌, ℕ, List, ◌++◌, Option, None, Some, sym, ap, ◌∙◌, subst}
 use Rattle.stmt_codec.specs.Certificates.{Certificate}
 use Rattle.agent_core.specs.Answers.{TakesMemory}
 use Rattle.agent_core.specs.Caches.{unlapsed, first_hit, hit_or_miss}

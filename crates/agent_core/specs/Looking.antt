@@ -1,5 +1,5 @@
 -- What an Ask finds.
-use Rattle.std.specs.Prelude.{◌≡◌, ℕ, ◌+◌, ◌<◌, ◌≤◌, max, List, [], ◌∷◌, ◌++◌, length, map, filter, find, slice_get, filter_map, if◌then◌else◌, Option, None, Some, All}
+use Rattle.std.specs.Prelude.{◌≡◌, ℕ, ◌+◌, ◌<◌, ◌≤◌, max, List, [], ◌∷◌, ◌++◌, length, map, find, slice_get, filter_map, if◌then◌else◌, Option, None, Some, All}
 use Rattle.std.specs.declared.alloc.Global.{Global}
 use Rattle.std.specs.declared.vec.Vec.{Vec}
 use Rattle.std.specs.declared.sync.Arc.{Arc}
@@ -14,7 +14,6 @@ use Rattle.proof_cache.specs.declared.cached.Cached.{Cached as CachedValue}
 use Rattle.agent_core.specs.declared.shard.asking.Look.{Look}
 use Rattle.agent_core.specs.declared.limits.TheConstants.{MAX_OWN}
 use Rattle.agent_core.specs.declared.event.ShardEntry.{ShardEntry}
-use Rattle.agent_core.specs.declared.held.removal.Removal.TheVariants.{Ended}
 use Rattle.agent_core.specs.declared.shard.store.Store.{Store}
 use Rattle.agent_core.specs.declared.told.Snapshot.{Snapshot}
 use Rattle.agent_core.specs.declared.told.Told.{Told}
@@ -23,8 +22,7 @@ use Rattle.agent_core.specs.declared.told.Answer.TheVariants as answer
 use Rattle.agent_core.specs.State.{Plan, State, Ask, Event, Asks, swept, brought}
 use Rattle.agent_core.specs.Caches.{first_hit, gives_right, unlapsed}
 use Rattle.agent_core.specs.Journals.{Entry, entry, cache_after, IsJudged}
-use Rattle.agent_core.specs.Kept.{name_stays, IsKept, Tells}
-use Rattle.agent_core.specs.Names.{certs_named, AreNames}
+use Rattle.agent_core.specs.Kept.{IsKept, Tells}
 use Rattle.agent_core.specs.Views.{entry_of}
 
 -- the Ask's moment, how much its channel holds then, and what the Ask brings

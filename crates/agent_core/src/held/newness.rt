@@ -39,7 +39,7 @@ pub(crate) fn is_among(
     false
 }
 
-// Whether an equal certificate stays of those that are named: equal ones go together.
+// Whether an equal one of the certificates that are named stays: equal ones go together.
 fn stays_among(
     commons: &[Arc<Cert>],
     entries: &[ShardEntry],
@@ -69,7 +69,7 @@ fn is_met(presented: &[Arc<Cert>], places: &Places, cert: &Cert) -> bool
     false
 }
 
-// Whether the certificate is neither held, of those that stay, nor met.
+// Whether the certificate is neither held after the removal nor met.
 fn is_new(
     commons: &[Arc<Cert>],
     entries: &[ShardEntry],
@@ -95,7 +95,7 @@ fn is_new(
         && !is_met(presented, places, cert)
 }
 
-/// The places of the certificates that are not held yet, of those that stay, each of them once.
+/// The places of the certificates that are not held after the removal, each of them once.
 pub(crate) fn new_of(
     commons: &[Arc<Cert>],
     entries: &[ShardEntry],

@@ -25,7 +25,7 @@ pub(crate) enum Removal {
     Named { digest: [u8; 32] },
 }
 
-/// Lets go of what is gone by the moment.
+/// The removal of what is gone by the moment.
 pub(crate) fn gone_by(plan: &ShardPlan, moment: u64) -> Removal
     ensures { result ≡ removal.Ended plan.now.keep moment }
 {

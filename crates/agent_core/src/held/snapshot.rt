@@ -14,7 +14,7 @@ use std::alloc::{AllocError, Global};
 use std::sync::Arc;
 use stmt_codec::Cert;
 
-// Appends handles to the certificates of names that stay.
+// Appends handles to the certificates of names, those that stay.
 fn push_left(
     out: &mut Vec<Arc<Cert>>,
     commons: &[Arc<Cert>],
@@ -54,8 +54,8 @@ fn push_at(
     Ok(())
 }
 
-/// The certificates that a channel holds, those that it brings, and those in common: of those that
-/// are held the ones that stay.
+/// The certificates that a channel holds after the removal, those that it brings, and those that
+/// are held in common after it.
 pub(crate) fn gathered(
     alloc: Global,
     commons: &[Arc<Cert>],

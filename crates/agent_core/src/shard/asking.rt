@@ -77,8 +77,9 @@ fn move_on(plan: &ShardPlan, entries: &[ShardEntry], store: &mut Store, moment: 
         (state_after (plan_of plan.now) (map entry_of entries.now)) store.old }
     requires later { store.old.clock ≤ moment }
     requires swept { store.old.swept ≤ length entries.now }
-    ensures store { IsStore (plan_of plan.now) (map entry_of entries.now) (swept plan.now.keep moment
-        (state_after (plan_of plan.now) (map entry_of entries.now))) store.new }
+    ensures store { IsStore (plan_of plan.now) (map entry_of entries.now)
+        (swept plan.now.keep moment (state_after (plan_of plan.now) (map entry_of entries.now)))
+        store.new }
     ensures clock { store.new.clock ≡ moment }
     ensures swept { store.new.swept ≡ length entries.now + 1 }
     ensures rows { store.new.rows ≡ store.old.rows }

@@ -1,5 +1,5 @@
 -- one more handle is one more certificate, where it stays
-use Rattle.std.proofs.Common.{◌≡◌, ◌<◌, ◌++◌, List, Bool, length, map, not, sym, ap, ◌∙◌, arith}
+use Rattle.std.proofs.Common.{◌≡◌, ◌<◌, ◌++◌, List, length, map, not, sym, ap, ◌∙◌, arith}
 use Rattle.stmt_codec.specs.declared.cert.Cert.{Cert}
 use Rattle.stmt_codec.specs.Certificates.{Certificate, certificate}
 use Rattle.stmt_codec.specs.View.{certificates}

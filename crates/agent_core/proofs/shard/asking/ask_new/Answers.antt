@@ -1,14 +1,10 @@
 -- a kept proof serves the Ask, or it is to be judged
-use Rattle.std.proofs.Common.{◌≡◌, ◌++◌, List, map, None, Some, refl, sym, ap, ◌∙◌, subst, find}
-use Rattle.std.specs.Arc.{arc_value}
-use Rattle.prin_term.specs.View.{Grant}
-use Rattle.stmt_codec.specs.View.{certificates}
-use Rattle.proof_cache.specs.Cached.{Cached, cached}
-use Rattle.proof_cache.specs.Cache.{IsCache, is_for}
-use Rattle.proof_cache.specs.declared.cached.Cached.{Cached as CachedValue}
+use Rattle.std.proofs.Common.{◌++◌, List, map, refl, sym, ap, ◌∙◌, subst}
+use Rattle.proof_cache.specs.Cached.{Cached}
+use Rattle.proof_cache.specs.Cache.{IsCache}
 use Rattle.agent_core.specs.declared.event.Ask.{Ask as AskValue}
 use Rattle.agent_core.specs.declared.told.Told.{Told}
-use Rattle.agent_core.specs.Caches.{first_hit, hit_or_miss, unlapsed, used_by}
+use Rattle.agent_core.specs.Caches.{hit_or_miss, unlapsed, used_by}
 use Rattle.agent_core.specs.Journals.{Entry, cache_after, state_after}
 use Rattle.agent_core.specs.Looking.{Serves}
 use Rattle.agent_core.specs.State.{Plan, State, Ask, brought, swept}
@@ -16,7 +12,7 @@ use Rattle.agent_core.specs.Views.{ask_of, entry_of, plan_of}
 use Rattle.agent_core.proofs.Asks.{on_err}
 use Rattle.agent_core.proofs.Journaling.{takes_follow}
 use Rattle.agent_core.proofs.KeptFew.{cache_small}
-use Rattle.agent_core.proofs.NewAsks.{judged_here, told_now, wanted_now}
+use Rattle.agent_core.proofs.NewAsks.{judged_here, wanted_now}
 use Rattle.agent_core.proofs.shard.asking.ask_new.Goals as goal
 
 pub serving-requires-clause-cache : goal.serving-requires-clause-cache

@@ -1,5 +1,5 @@
 -- what is found is what the row and the commons stand for, swept
-use Rattle.std.proofs.Common.{◌≡◌, ◌≤◌, map, ◌∙◌, sym, ap, ap₂, refl, arith, List, ◌++◌, length, get_or}
+use Rattle.std.proofs.Common.{◌≤◌, map, ◌∙◌, sym, ap, ap₂, refl, arith, List, ◌++◌, length}
 use Rattle.stmt_codec.specs.Certificates.{Certificate}
 use Rattle.stmt_codec.specs.View.{certificates}
 use Rattle.agent_core.specs.declared.held.removal.Removal.TheVariants.{Ended}

@@ -1,5 +1,5 @@
 -- what stays of a row that was not swept is what it stands for
-use Rattle.std.proofs.Common.{map, ◌∙◌, sym, ap}
+use Rattle.std.proofs.Common.{map, ◌∙◌, sym}
 use Rattle.stmt_codec.specs.View.{certificates}
 use Rattle.agent_core.specs.declared.held.removal.Removal.TheVariants.{Ended}
 use Rattle.agent_core.specs.Names.{named}
