@@ -1,6 +1,8 @@
 -- What follows from what an Ask finds.
 use Rattle.std.proofs.Common.{◌≡◌, ℕ, ◌+◌, ◌<◌, ◌≤◌, List, [], ◌∷◌, ◌++◌, length, get_or, set, filter, map, All, refl, sym, ap, ap₂, ◌∙◌, subst, arith}
 use Rattle.std.specs.List.{slice_get, filter_map}
+use Rattle.std.specs.declared.alloc.Global.{Global}
+use Rattle.std.specs.declared.vec.Vec.{Vec}
 use Rattle.std.specs.List.Sorted.{IsStrictlyIncreasing}
 use Rattle.stmt_codec.specs.Certificates.{Certificate}
 use Rattle.agent_core.specs.declared.held.name.Name.{Name}
@@ -40,27 +42,30 @@ module _ (plan : Plan) (journal : List Entry) (s : State) (store : Store) (is : 
   pub asked_now : next plan s (Asks a) ≡ asking now_state a
   asked_now = asked_at plan s a store.clock look.moment is.clock_is l.moment
 
-  -- the row of the Ask's channel
-  module _ (row : Row) (at : row ≡ get_or store.rows.items look.place row) where
+  -- the row of the Ask's channel, among rows that are still these
+  module _ (rows : Vec Row Global) (same : rows ≡ store.rows) (row : Row) (at : row ≡ get_or rows.items look.place row) where
+    row_there : row ≡ get_or store.rows.items look.place row
+    row_there = at ∙ ap (λ (v : Vec Row Global). get_or v.items look.place row) same
+
     pub row_named : AreNames plan.commons journal row.own.items
-    row_named = row_names plan journal s store is look.place a.channel row l.here at
+    row_named = row_names plan journal s store is look.place a.channel row l.here row_there
 
     pub row_stays : certs_staying plan.commons journal (Ended plan.keep look.moment) row.own.items ≡ now_state.own a.channel
-    row_stays = row_staying plan journal s store is look.moment (omega (arith, l.moment)) look.place a.channel row l.here at
+    row_stays = row_staying plan journal s store is look.moment (omega (arith, l.moment)) look.place a.channel row l.here row_there
 
     pub row_held : look.held ≡ length (filter (name_stays plan.commons journal (Ended plan.keep look.moment)) row.own.items)
     row_held =
         l.held ∙ sym (left_counted (named plan.commons journal) (Ended plan.keep look.moment) row.own.items _ refl row_named ∙ ap (λ (cs : List Certificate). length cs) row_stays)
 
   -- the Ask's row afterwards
-  module _ (e : Entry) (brings : brought_by e.event ≡ a.presented) (row row' : Row) (at : row ≡ get_or store.rows.items look.place row) (left : List Name)
+  module _ (e : Entry) (brings : brought_by e.event ≡ a.presented) (rows : Vec Row Global) (same : rows ≡ store.rows) (row row' : Row) (at : row ≡ get_or rows.items look.place row) (left : List Name)
       (stay : left ≡ filter (name_stays plan.commons journal (Ended plan.keep look.moment)) row.own.items) (stamp : ℕ) (last : row'.last ≡ a.seq) (stamped : row'.swept ≡ stamp)
       (names : row'.own.items ≡ left ++ map (name_in (length journal)) look.new.items) where
     own_are : certs_named plan.commons journal left ≡ now_state.own a.channel
-    own_are = left_named (named plan.commons journal) (Ended plan.keep look.moment) row.own.items left stay ∙ row_stays row at
+    own_are = left_named (named plan.commons journal) (Ended plan.keep look.moment) row.own.items left stay ∙ row_stays rows same row at
 
     own_names : AreNames plan.commons journal left
-    own_names = left_names (named plan.commons journal) (Ended plan.keep look.moment) row.own.items left stay (row_named row at)
+    own_names = left_names (named plan.commons journal) (Ended plan.keep look.moment) row.own.items left stay (row_named rows same row at)
 
     row_taken : IsRow (now_at plan (journal ++ e ∷ []) look.moment stamp) row' ((taking now_state a).last a.channel) ((taking now_state a).own a.channel)
     row_taken =

@@ -103,8 +103,9 @@ pub(crate) fn keep_left(
         names.old.items }
     requires count { count ≡ length (filter (name_stays (certificates commons.now)
         (map entry_of entries.now) removal.now) names.old.items) }
-    ensures { names.new.items ≡ filter (name_stays (certificates commons.now)
+    ensures names { names.new.items ≡ filter (name_stays (certificates commons.now)
         (map entry_of entries.now) removal.now) names.old.items }
+    ensures count { length names.new.items ≡ count }
 {
     if count < names.len() {
         *names = left_of(commons, entries, names, removal);

@@ -1,5 +1,5 @@
 -- what stays of the row and in common is what the state has at the moment
-use Rattle.std.proofs.Common.{◌≡◌, ◌++◌, List, IfOk, map, ap₂, subst}
+use Rattle.std.proofs.Common.{◌≡◌, ◌++◌, List, IfOk, map, refl, ap₂, subst}
 use Rattle.stmt_codec.specs.Certificates.{Certificate}
 use Rattle.stmt_codec.specs.View.{certificates}
 use Rattle.agent_core.specs.Journals.{Entry, state_after}
@@ -13,7 +13,7 @@ pub gathered-requires-clause-own : goal.gathered-requires-clause-own
 gathered-requires-clause-own c =
     rw c.deref.ensures.value
     (row_named (plan_of c.args.plan.now) (map entry_of c.args.entries.now) (state_after (plan_of c.args.plan.now) (map entry_of c.args.entries.now)) c.args.store.now c.requires.store
-    (ask_of c.args.asked.now) c.args.look.now c.requires.look c.index.result.now c.index.ensures)
+    (ask_of c.args.asked.now) c.args.look.now c.requires.look c.args.store.now.rows refl c.index.result.now c.index.ensures)
 
 pub returns : goal.returns
 returns c =
@@ -21,7 +21,7 @@ returns c =
     let journal : List Entry = map entry_of c.args.entries.now in
     let s : State = state_after plan journal in
     let found = rw (c.deref.ensures.value, c.gone_by.ensures, c.deref-2.ensures.value) at c.gathered.ensures in
-    let own = row_stays plan journal s c.args.store.now c.requires.store (ask_of c.args.asked.now) c.args.look.now c.requires.look c.index.result.now c.index.ensures in
+    let own = row_stays plan journal s c.args.store.now c.requires.store (ask_of c.args.asked.now) c.args.look.now c.requires.look c.args.store.now.rows refl c.index.result.now c.index.ensures in
     let shared = commons_staying plan journal s c.args.store.now c.requires.store c.args.look.now.moment in
     subst (λ (xs : List Certificate). IfOk c.gathered.result (λ certs. certificates certs.items ≡ xs))
     (ap₂ (λ (xs ys : List Certificate). xs ++ ys) (ap₂ (λ (xs ys : List Certificate). xs ++ ys) own c.requires.look.new_are) shared) found

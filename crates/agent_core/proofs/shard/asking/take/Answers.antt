@@ -1,11 +1,10 @@
 -- the Ask's row gets its number and what it brings
-use Rattle.std.proofs.Common.{◌≡◌, [], ◌∷◌, ◌++◌, get_or, length, map, List, refl, sym, ap, ◌∙◌, subst, arith}
+use Rattle.std.proofs.Common.{◌≡◌, [], ◌∷◌, ◌++◌, length, map, List, refl, sym, ap, ◌∙◌, subst, arith}
 use Rattle.std.specs.Vec.{with_item}
 use Rattle.std.proofs.lemmas.List.{length-map}
 use Rattle.agent_core.specs.declared.event.Ask.{Ask as AskValue}
 use Rattle.agent_core.specs.declared.event.Event.TheVariants as code
 use Rattle.agent_core.specs.declared.event.ShardEntry.{ShardEntry}
-use Rattle.agent_core.specs.declared.held.name.Name.{Name}
 use Rattle.agent_core.specs.declared.shard.store.Row.{Row}
 use Rattle.agent_core.specs.declared.shard.store.Store.{Store}
 use Rattle.agent_core.specs.State.{Plan, State, Ask, Asks, Answer, Judged, swept, taking, brought, next}
@@ -20,25 +19,15 @@ use Rattle.agent_core.proofs.shard.asking.take.Goals as goal
 
 pub keep_left-requires-clause-names : goal.keep_left-requires-clause-names
 keep_left-requires-clause-names c =
-    let at = c.index_mut-row.ensures.value ∙ ap (λ v. get_or v.items c.args.look.place c.index_mut-row.result.now) c.move_on.ensures.rows in
     rw (c.deref-3.ensures.value, c.deref-4.ensures.value)
     (row_named (plan_of c.args.plan.now) (map entry_of c.args.entries.now.items) (state_after (plan_of c.args.plan.now) (map entry_of c.args.entries.now.items)) c.args.store.now c.requires.kept.store_is (ask_of c.args.asked.value)
-    c.args.look c.requires.look c.index_mut-row.result.now at)
+    c.args.look c.requires.look c.move_on.new.store.rows c.move_on.ensures.rows c.index_mut-row.result.now c.index_mut-row.ensures.value)
 
 pub keep_left-requires-clause-count : goal.keep_left-requires-clause-count
 keep_left-requires-clause-count c =
-    let at = c.index_mut-row.ensures.value ∙ ap (λ v. get_or v.items c.args.look.place c.index_mut-row.result.now) c.move_on.ensures.rows in
     rw (c.deref-3.ensures.value, c.deref-4.ensures.value, c.gone_by.ensures)
     (row_held (plan_of c.args.plan.now) (map entry_of c.args.entries.now.items) (state_after (plan_of c.args.plan.now) (map entry_of c.args.entries.now.items)) c.args.store.now c.requires.kept.store_is (ask_of c.args.asked.value)
-    c.args.look c.requires.look c.index_mut-row.result.now at)
-
-pub name_all-requires : goal.name_all-requires
-name_all-requires c =
-    let at = c.index_mut-row.ensures.value ∙ ap (λ v. get_or v.items c.args.look.place c.index_mut-row.result.now) c.move_on.ensures.rows in
-    let left = rw (c.deref-3.ensures.value, c.deref-4.ensures.value, c.gone_by.ensures) at c.keep_left.ensures in
-    let held = row_held (plan_of c.args.plan.now) (map entry_of c.args.entries.now.items) (state_after (plan_of c.args.plan.now) (map entry_of c.args.entries.now.items)) c.args.store.now c.requires.kept.store_is (ask_of c.args.asked.value)
-    c.args.look c.requires.look c.index_mut-row.result.now at in
-    omega (arith, c.requires.fits, held, ap (λ (ns : List Name). length ns) left)
+    c.args.look c.requires.look c.move_on.new.store.rows c.move_on.ensures.rows c.index_mut-row.result.now c.index_mut-row.ensures.value)
 
 pub returns-clause-takes : goal.returns-clause-takes
 returns-clause-takes c =
@@ -54,12 +43,12 @@ returns-clause-takes c =
     let number : c.len-entry.result ≡ length journal = c.len-entry.ensures ∙ c.args.entries.now.ok.0 ∙ sym (length-map c.args.entries.now.items entry_of) in
     let nexts : next plan s (Asks a) ≡ (taking now a, Judged now.clock ((now.own a.channel ++ brought now a) ++ now.commons)) =
     asked_now plan journal s c.args.store.now c.requires.kept.store_is a c.args.look c.requires.look ∙ taken now a c.requires.judged in
-    let at = c.index_mut-row.ensures.value ∙ ap (λ v. get_or v.items c.args.look.place c.index_mut-row.result.now) c.move_on.ensures.rows in
-    let left = rw (c.deref-3.ensures.value, c.deref-4.ensures.value, c.gone_by.ensures) at c.keep_left.ensures in
+    let left = rw (c.deref-3.ensures.value, c.deref-4.ensures.value, c.gone_by.ensures) at c.keep_left.ensures.names in
     let now_is = rw c.deref-2.ensures.value at c.move_on.ensures.store in
     let stamp = rw c.deref-2.ensures.value at c.move_on.ensures.swept in
     let is : IsStore plan (journal ++ entry_of e ∷ []) (taking now a) after =
-    store_taken plan journal s c.args.store.now c.requires.kept.store_is a c.args.look c.requires.look (entry_of e) refl c.index_mut-row.result.now row at c.keep_left.new.names.items left moved.swept
+    store_taken plan journal s c.args.store.now c.requires.kept.store_is a c.args.look c.requires.look (entry_of e) refl moved.rows c.move_on.ensures.rows c.index_mut-row.result.now row c.index_mut-row.ensures.value
+    c.keep_left.new.names.items left moved.swept
     (ap (λ (x : AskValue). x.seq) c.deref.ensures) refl (c.name_all.ensures ∙ ap (λ n. c.keep_left.new.names.items ++ map (name_in n) c.args.look.new.items) number) moved after
     now_is c.requires.kept.planned.ascending c.move_on.ensures.clock refl refl refl refl refl in
     record {
