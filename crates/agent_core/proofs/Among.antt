@@ -1,11 +1,16 @@
 -- Whether a certificate is among those that names or places stand for, and which ones are new.
-use Rattle.std.proofs.Common.{◌≡◌, ℕ, zero, suc, ◌+◌, ◌<◌, Bool, true, false, cond, not, ◌||◌, ◌&&◌, add-one, List, [], ◌∷◌, ◌++◌, length, get_or, take, Option, Some, None, refl, sym, ap, ap₂, ◌∙◌, arith, append_assoc}
+use Rattle.std.proofs.Common.{◌≡◌, ℕ, zero, suc, ◌+◌, ◌<◌, Bool, true, false, cond, not, ◌||◌, ◌&&◌, add-one, List, [], ◌∷◌, ◌++◌, filter, length, get_or, take, Option, Some, None, refl, sym, ap, ap₂, ◌∙◌, arith, append_assoc}
 use Rattle.std.specs.List.{slice_get, filter_map, cons_option, list_any}
 use Rattle.std.proofs.lemmas.List.{take_more, append-nil}
 use Rattle.std.proofs.lemmas.List.Elements.{filter_map-append}
 use Rattle.std.proofs.lemmas.List.Folds.{list_any-append}
+use Rattle.std.proofs.lemmas.Map.Views.{any-filter_same}
 use Rattle.stmt_codec.specs.Certificates.{Certificate}
+use Rattle.stmt_codec.specs.Equality.{same_certificate}
+use Rattle.stmt_codec.proofs.Equal.{same_certificate-true}
+use Rattle.agent_core.specs.declared.held.removal.Removal.{Removal}
 use Rattle.agent_core.specs.Held.{among, newly}
+use Rattle.agent_core.specs.Kept.{stays}
 
 or_false : (b : Bool) → (b || false) ≡ b
 or_false true = refl
@@ -76,6 +81,10 @@ newly_more held certs news i x b at new is =
     turn : (b : Bool) → cond b news (news ++ x ∷ []) ≡ cond (not b) (news ++ x ∷ []) news
     turn true = refl
     turn false = refl
+
+-- equal certificates stay or go together
+pub among_staying : (r : Removal) (certs : List Certificate) (c : Certificate) → among (filter (stays r) certs) c ≡ (stays r c && among certs c)
+among_staying r certs c = any-filter_same (same_certificate c) (stays r) (stays r c) (λ d e. ap (stays r) (sym (same_certificate-true c d e))) certs
 
 pub not_or : (a b m : Bool) → (not a && (not b && not m)) ≡ not ((a || b) || m)
 not_or true b m = refl

@@ -7,12 +7,12 @@ use Rattle.std.proofs.lemmas.Bool.Decides.{nat_tests}
 use Rattle.std.proofs.lemmas.List.{length-set}
 use Rattle.std.proofs.lemmas.Option.{slice_get_read, slice_get_within}
 use Rattle.stmt_codec.specs.Certificates.{Certificate}
-use Rattle.agent_core.specs.declared.shard.removal.Removal.TheVariants.{Ended}
+use Rattle.agent_core.specs.declared.held.removal.Removal.TheVariants.{Ended}
 use Rattle.agent_core.specs.declared.shard.store.Row.{Row}
 use Rattle.agent_core.specs.declared.shard.store.Store.{Store}
 use Rattle.agent_core.specs.State.{Plan, State, keeping, forgetting, at_channel, held_count}
 use Rattle.agent_core.specs.Journals.{Entry}
-use Rattle.agent_core.specs.Kept.{stays, row_certs, name_stays, IsRow, IsStore, now_at}
+use Rattle.agent_core.specs.Kept.{stays, row_certs, name_stays, certs_staying, IsRow, IsStore, now_at}
 use Rattle.agent_core.specs.Names.{named, certs_named, AreNames}
 use Rattle.agent_core.proofs.Channels.{other_channel, contains_at, here_changed, there_kept, count_emptied, count_kept}
 use Rattle.agent_core.proofs.Places.{set_same, set_other}
@@ -27,6 +27,11 @@ pub row_found : (plan : Plan) (journal : List Entry) (s : State) (store : Store)
     slice_get store.rows.items place ≡ Some row
 row_found plan journal s store is place channel row here at =
     slice_get_read store.rows.items (length store.rows.items) place row refl (omega (arith, slice_get_within plan.channels place channel here, is.row_count)) at
+
+-- its names are those of certificates
+pub row_names : (plan : Plan) (journal : List Entry) (s : State) (store : Store) → IsStore plan journal s store → (place channel : ℕ) (row : Row) → slice_get plan.channels place ≡ Some channel → row ≡ get_or store.rows.items place row →
+    AreNames plan.commons journal row.own.items
+row_names plan journal s store is place channel row here at = (is.rows_are place row channel (row_found plan journal s store is place channel row here at) here).names
 
 -- ---- a row is changed, with what the state has at its channel
 
@@ -126,6 +131,17 @@ swept_later plan journal clock swept m row le =
       | inr ne ↦ ap (filter (stays (Ended plan.keep m))) (row_stale plan journal clock swept row ne) ∙
           filter_again (stays (Ended plan.keep m)) (stays (Ended plan.keep clock)) (λ c. stays_longer plan.keep clock m c le) (certs_named plan.commons journal row.own.items)
     ]
+
+-- what stays of a row and in common at a later moment is what the state has then
+module _ (plan : Plan) (journal : List Entry) (s : State) (store : Store) (is : IsStore plan journal s store) (moment : ℕ) where
+  pub row_staying : store.clock ≤ moment → (place channel : ℕ) (row : Row) → slice_get plan.channels place ≡ Some channel → row ≡ get_or store.rows.items place row →
+      certs_staying plan.commons journal (Ended plan.keep moment) row.own.items ≡ (keeping (stays (Ended plan.keep moment)) moment s).own channel
+  row_staying later place channel row here at =
+      sym (swept_later plan journal store.clock store.swept moment row later) ∙
+      ap (filter (stays (Ended plan.keep moment))) (is.rows_are place row channel (row_found plan journal s store is place channel row here at) here).own_is
+
+  pub commons_staying : certs_staying plan.commons journal (Ended plan.keep moment) store.commons.items ≡ (keeping (stays (Ended plan.keep moment)) moment s).commons
+  commons_staying = ap (filter (stays (Ended plan.keep moment))) is.commons_are
 
 module _ (plan : Plan) (journal : List Entry) (s : State) (store after : Store) (is : IsStore plan journal s store) (moment stamp : ℕ) (later : store.clock ≤ moment) (new : store.swept < stamp)
     (commons_left : after.commons.items ≡ filter (name_stays plan.commons journal (Ended plan.keep moment)) store.commons.items)

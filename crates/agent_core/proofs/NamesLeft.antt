@@ -5,7 +5,7 @@ use Rattle.std.proofs.lemmas.List.Elements.{All-head, All-tail, All-nil, All-con
 use Rattle.stmt_codec.specs.Certificates.{Certificate}
 use Rattle.agent_core.specs.declared.held.name.Name.{Name}
 use Rattle.agent_core.specs.declared.held.name.Name.TheVariants.{Common, Brought}
-use Rattle.agent_core.specs.declared.shard.removal.Removal.{Removal}
+use Rattle.agent_core.specs.declared.held.removal.Removal.{Removal}
 use Rattle.agent_core.specs.Journals.{Entry}
 use Rattle.agent_core.specs.Kept.{stays, stays_if_named}
 use Rattle.agent_core.specs.Names.{named, certs_named, AreNames, brought_by}

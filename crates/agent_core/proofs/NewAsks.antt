@@ -1,5 +1,5 @@
 -- An Ask whose number is new and that has room: what is told of it, and by what it is judged.
-use Rattle.std.proofs.Common.{◌≡◌, ℕ, List, ◌++◌, filter_map, slice_get, Option, None, Some, refl, sym, ap, ◌∙◌, subst}
+use Rattle.std.proofs.Common.{◌≡◌, ℕ, List, ◌++◌, Option, None, Some, sym, ap, ◌∙◌, subst}
 use Rattle.stmt_codec.specs.Certificates.{Certificate}
 use Rattle.agent_core.specs.Answers.{TakesMemory}
 use Rattle.agent_core.specs.Caches.{unlapsed, first_hit, hit_or_miss}
@@ -8,8 +8,7 @@ use Rattle.agent_core.specs.declared.shard.store.Store.{Store}
 use Rattle.agent_core.specs.Journals.{Entry, state_after, cache_after, told_of, told_at, IsJudged}
 use Rattle.agent_core.specs.Kept.{IsStore}
 use Rattle.agent_core.specs.Looking.{IsLook, IsTaken}
-use Rattle.agent_core.specs.Names.{certs_named}
-use Rattle.agent_core.specs.State.{Plan, State, Ask, Asks, Answer, swept}
+use Rattle.agent_core.specs.State.{Plan, State, Ask, Asks, Answer, Judged, brought, swept}
 use Rattle.agent_core.proofs.Judging.{taken}
 use Rattle.agent_core.proofs.Looks.{asked_now, judged_now}
 
@@ -19,6 +18,9 @@ memory_taken (Some e) = tt
 
 module _ (plan : Plan) (journal : List Entry) (store : Store) (is : IsStore plan journal (state_after plan journal) store) (a : Ask) (look : Look)
     (l : IsLook plan journal (state_after plan journal) store a look) (takes : IsTaken (swept plan.keep look.moment (state_after plan journal)) a) where
+  abbrev now : State
+  now = swept plan.keep look.moment (state_after plan journal)
+
   pub told_now : told_at plan journal (Asks a) ≡ hit_or_miss (first_hit (unlapsed look.moment (cache_after plan journal)) a)
   told_now =
       ap (λ (r : State × Answer). told_of (cache_after plan journal) (Asks a) r.1)
@@ -27,5 +29,5 @@ module _ (plan : Plan) (journal : List Entry) (store : Store) (is : IsStore plan
   pub wanted_now : TakesMemory (told_at plan journal (Asks a))
   wanted_now = subst TakesMemory (sym told_now) (memory_taken (first_hit (unlapsed look.moment (cache_after plan journal)) a))
 
-  pub judged_here : IsJudged plan journal a look.moment ((certs_named plan.commons journal look.own.items ++ filter_map (slice_get a.presented) look.new.items) ++ certs_named plan.commons journal look.shared.items)
-  judged_here = judged_now plan journal (state_after plan journal) store is a look l takes _ refl
+  pub judged_here : (certs : List Certificate) → certs ≡ (now.own a.channel ++ brought now a) ++ now.commons → IsJudged plan journal a look.moment certs
+  judged_here certs e = judged_now plan journal (state_after plan journal) store is a look l takes ∙ ap (Judged look.moment) (sym e)

@@ -3,7 +3,7 @@ use Rattle.std.proofs.Common.{◌≡◌, ℕ, suc, ◌+◌, ◌-◌, ◌<◌, Li
 use Rattle.std.specs.List.{slice_get}
 use Rattle.std.proofs.lemmas.List.Sums.{sum_by-cons}
 use Rattle.std.proofs.lemmas.Option.{slice_get-get_or, slice_get_within}
-use Rattle.agent_core.specs.declared.shard.removal.Removal.{Removal}
+use Rattle.agent_core.specs.declared.held.removal.Removal.{Removal}
 use Rattle.agent_core.specs.declared.shard.store.Row.{Row}
 use Rattle.agent_core.specs.declared.shard.store.Store.{Store}
 use Rattle.agent_core.specs.State.{Plan, State, keeping, held_count}

@@ -7,8 +7,8 @@ use Rattle.std.specs.List.{range_with_len}
 use Rattle.agent_core.specs.declared.held.name.Name.{Name}
 use Rattle.agent_core.specs.declared.held.name.Name.TheVariants.{Common}
 use Rattle.agent_core.specs.declared.event.ShardEntry.{ShardEntry}
-use Rattle.agent_core.specs.declared.shard.removal.Removal.{Removal}
-use Rattle.agent_core.specs.declared.shard.removal.Removal.TheVariants.{Ended, Named}
+use Rattle.agent_core.specs.declared.held.removal.Removal.{Removal}
+use Rattle.agent_core.specs.declared.held.removal.Removal.TheVariants.{Nothing, Ended, Named}
 use Rattle.agent_core.specs.declared.shard.store.Row.{Row}
 use Rattle.agent_core.specs.declared.shard.store.Store.{Store}
 use Rattle.agent_core.specs.Names.{named, certs_named, AreNames}
@@ -23,6 +23,7 @@ use Rattle.agent_core.specs.Views.{entry_of}
 
 -- whether the removal lets the certificate go
 abbrev pub lets_go : Removal → Certificate → Bool
+lets_go Nothing c = false
 lets_go (Ended keep moment) c = is_gone keep moment c
 lets_go (Named digest) c = bytes_eq (digest_of c) digest
 
@@ -38,6 +39,11 @@ stays_if_named removal (Some c) = stays removal c
 -- whether the certificate of a name stays
 abbrev pub name_stays : List Certificate → List Entry → Removal → Name → Bool
 name_stays commons journal removal name = stays_if_named removal (named commons journal name)
+
+-- the certificates of names, those that stay
+abbrev pub certs_staying : List Certificate → List Entry → Removal → List Name → List Certificate
+certs_staying commons journal removal names =
+    filter (stays removal) (certs_named commons journal names)
 
 -- a shard as its rows are read
 pub record ShardNow : Type 0 where

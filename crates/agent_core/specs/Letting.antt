@@ -1,6 +1,6 @@
 -- What it is for the code to let certificates go.
 use Rattle.std.specs.Prelude.{◌≡◌, ℕ, List, length, filter, sum_by}
-use Rattle.agent_core.specs.declared.shard.removal.Removal.{Removal}
+use Rattle.agent_core.specs.declared.held.removal.Removal.{Removal}
 use Rattle.agent_core.specs.declared.shard.store.Row.{Row}
 use Rattle.agent_core.specs.Names.{AreNames}
 use Rattle.agent_core.specs.Kept.{ShardNow, certs_of, row_certs, stays}

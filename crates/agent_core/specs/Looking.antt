@@ -1,5 +1,5 @@
 -- What an Ask finds.
-use Rattle.std.specs.Prelude.{◌≡◌, ℕ, ◌+◌, ◌<◌, ◌≤◌, max, List, [], ◌∷◌, ◌++◌, length, map, filter, find, slice_get, filter_map, if◌then◌else◌, Option, None, Some, All}
+use Rattle.std.specs.Prelude.{◌≡◌, ℕ, ◌+◌, ◌<◌, ◌≤◌, max, List, [], ◌∷◌, ◌++◌, length, map, find, slice_get, filter_map, if◌then◌else◌, Option, None, Some, All}
 use Rattle.std.specs.declared.alloc.Global.{Global}
 use Rattle.std.specs.declared.vec.Vec.{Vec}
 use Rattle.std.specs.declared.sync.Arc.{Arc}
@@ -14,7 +14,6 @@ use Rattle.proof_cache.specs.declared.cached.Cached.{Cached as CachedValue}
 use Rattle.agent_core.specs.declared.shard.asking.Look.{Look}
 use Rattle.agent_core.specs.declared.limits.TheConstants.{MAX_OWN}
 use Rattle.agent_core.specs.declared.event.ShardEntry.{ShardEntry}
-use Rattle.agent_core.specs.declared.shard.removal.Removal.TheVariants.{Ended}
 use Rattle.agent_core.specs.declared.shard.store.Store.{Store}
 use Rattle.agent_core.specs.declared.told.Snapshot.{Snapshot}
 use Rattle.agent_core.specs.declared.told.Told.{Told}
@@ -23,24 +22,18 @@ use Rattle.agent_core.specs.declared.told.Answer.TheVariants as answer
 use Rattle.agent_core.specs.State.{Plan, State, Ask, Event, Asks, swept, brought}
 use Rattle.agent_core.specs.Caches.{first_hit, gives_right, unlapsed}
 use Rattle.agent_core.specs.Journals.{Entry, entry, cache_after, IsJudged}
-use Rattle.agent_core.specs.Kept.{name_stays, IsKept, Tells}
-use Rattle.agent_core.specs.Names.{certs_named, AreNames}
+use Rattle.agent_core.specs.Kept.{IsKept, Tells}
 use Rattle.agent_core.specs.Views.{entry_of}
 
--- what the Ask's channel and the commons hold at its moment, and what it brings
+-- the Ask's moment, how much its channel holds then, and what the Ask brings
 pub record IsLook (plan : Plan) (journal : List Entry) (s : State) (store : Store) (a : Ask)
     (look : Look) : Type 0 where
   -- the place of the Ask's channel among those of the plan
   pub here : slice_get plan.channels look.place ≡ Some a.channel
   pub moment : look.moment ≡ max store.clock a.reading
-  pub own_are : certs_named plan.commons journal look.own.items
-      ≡ (swept plan.keep look.moment s).own a.channel
-  pub own_names : AreNames plan.commons journal look.own.items
-  pub shared_left : look.shared.items
-      ≡ filter (name_stays plan.commons journal (Ended plan.keep look.moment)) store.commons.items
-  pub shared_are : certs_named plan.commons journal look.shared.items
-      ≡ (swept plan.keep look.moment s).commons
-  pub shared_names : AreNames plan.commons journal look.shared.items
+  -- how many certificates of its own the channel holds then
+  pub held : look.held ≡ length ((swept plan.keep look.moment s).own a.channel)
+  pub few : look.held ≤ MAX_OWN
   -- the places of those presented certificates that the channel does not hold yet
   pub new_are : filter_map (slice_get a.presented) look.new.items
       ≡ brought (swept plan.keep look.moment s) a

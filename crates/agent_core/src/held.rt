@@ -4,4 +4,5 @@ pub(crate) mod name;
 pub(crate) mod naming;
 pub(crate) mod newness;
 pub(crate) mod presented;
+pub(crate) mod removal;
 pub(crate) mod snapshot;

@@ -18,7 +18,6 @@ mod letting;
 mod meant;
 mod plain;
 mod presenting;
-mod removal;
 mod row;
 mod serving;
 mod store;

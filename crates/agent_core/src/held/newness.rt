@@ -4,11 +4,13 @@ ghost use Rattle.std.specs.Prelude.{◌≡◌, ℕ, ◌≤◌, ◌<◌, ◌++◌
 ghost use Rattle.stmt_codec.specs.Certificates.{certificate};
 ghost use Rattle.stmt_codec.specs.View.{certificates};
 ghost use Rattle.agent_core.specs.Held.{among, newly};
+ghost use Rattle.agent_core.specs.Kept.{certs_staying};
 ghost use Rattle.agent_core.specs.Names.{certs_named, AreNames};
 ghost use Rattle.agent_core.specs.Views.{entry_of};
 
 use crate::event::ShardEntry;
 use crate::held::name::{Names, cert_named};
+use crate::held::removal::{Removal, lets_go};
 use crate::limits::MAX_PRESENTED;
 use arrayvec::ArrayVec;
 use std::sync::Arc;
@@ -37,6 +39,21 @@ pub(crate) fn is_among(
     false
 }
 
+// Whether an equal one of the certificates that are named stays: equal ones go together.
+fn stays_among(
+    commons: &[Arc<Cert>],
+    entries: &[ShardEntry],
+    names: &Names,
+    removal: &Removal,
+    cert: &Cert,
+) -> bool
+    requires { AreNames (certificates commons.now) (map entry_of entries.now) names.now.items }
+    ensures { result ≡ among (certs_staying (certificates commons.now) (map entry_of entries.now)
+        removal.now names.now.items) (certificate cert.now.body) }
+{
+    !lets_go(removal, cert) && is_among(commons, entries, names, cert)
+}
+
 // Whether an equal certificate stands at one of the places.
 fn is_met(presented: &[Arc<Cert>], places: &Places, cert: &Cert) -> bool
     requires { All (λ i. i < length presented.now) places.now.items }
@@ -52,12 +69,13 @@ fn is_met(presented: &[Arc<Cert>], places: &Places, cert: &Cert) -> bool
     false
 }
 
-// Whether the certificate is neither held nor met.
+// Whether the certificate is neither held after the removal nor met.
 fn is_new(
     commons: &[Arc<Cert>],
     entries: &[ShardEntry],
     own: &Names,
     shared: &Names,
+    removal: &Removal,
     presented: &[Arc<Cert>],
     places: &Places,
     cert: &Cert,
@@ -66,23 +84,24 @@ fn is_new(
     requires shared { AreNames (certificates commons.now) (map entry_of entries.now)
         shared.now.items }
     requires places { All (λ i. i < length presented.now) places.now.items }
-    ensures { result ≡ not (among ((certs_named (certificates commons.now)
-        (map entry_of entries.now) own.now.items
-        ++ certs_named (certificates commons.now) (map entry_of entries.now)
+    ensures { result ≡ not (among ((certs_staying (certificates commons.now)
+        (map entry_of entries.now) removal.now own.now.items
+        ++ certs_staying (certificates commons.now) (map entry_of entries.now) removal.now
         shared.now.items) ++ filter_map (slice_get (certificates presented.now)) places.now.items)
         (certificate cert.now.body)) }
 {
-    !is_among(commons, entries, own, cert)
-        && !is_among(commons, entries, shared, cert)
+    !stays_among(commons, entries, own, removal, cert)
+        && !stays_among(commons, entries, shared, removal, cert)
         && !is_met(presented, places, cert)
 }
 
-/// The places of the certificates that are not held yet, each of them once.
+/// The places of the certificates that are not held after the removal, each of them once.
 pub(crate) fn new_of(
     commons: &[Arc<Cert>],
     entries: &[ShardEntry],
     own: &Names,
     shared: &Names,
+    removal: &Removal,
     presented: &[Arc<Cert>],
 ) -> Places
     requires own { AreNames (certificates commons.now) (map entry_of entries.now) own.now.items }
@@ -90,15 +109,17 @@ pub(crate) fn new_of(
         shared.now.items }
     requires few { length presented.now ≤ 16 }
     ensures value { filter_map (slice_get (certificates presented.now)) result.items
-        ≡ newly (certs_named (certificates commons.now) (map entry_of entries.now) own.now.items
-        ++ certs_named (certificates commons.now) (map entry_of entries.now) shared.now.items)
-        (certificates presented.now) }
+        ≡ newly (certs_staying (certificates commons.now) (map entry_of entries.now) removal.now
+        own.now.items ++ certs_staying (certificates commons.now) (map entry_of entries.now)
+        removal.now shared.now.items) (certificates presented.now) }
     ensures within { All (λ i. i < length presented.now) result.items }
 {
     let mut places = Places::new();
     for place in 0..presented.len() {
         let cert = &presented[place];
-        if is_new(commons, entries, own, shared, presented, &places, cert) {
+        if is_new(
+            commons, entries, own, shared, removal, presented, &places, cert,
+        ) {
             places.push(place as u8);
         }
     }

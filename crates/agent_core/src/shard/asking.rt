@@ -1,24 +1,24 @@
 //! An Ask at a shard.
 
-ghost use Rattle.std.specs.Prelude.{◌≡◌, ◌+◌, ◌<◌, ◌≤◌, length, map, Contains, IfOk, OnErr, OnOk};
+ghost use Rattle.std.specs.Prelude.{◌≡◌, ◌+◌, ◌<◌, ◌≤◌, ◌++◌, length, map, Contains, IfOk, OnErr, OnOk};
+ghost use Rattle.stmt_codec.specs.View.{certificates};
 ghost use Rattle.agent_core.specs.Answers.{TakesMemory};
 ghost use Rattle.agent_core.specs.Caches.{first_hit, hit_or_miss, unlapsed};
 ghost use Rattle.agent_core.specs.Kept.{IsKept, IsStore, Tells};
 ghost use Rattle.agent_core.specs.Looking.{IsLook, IsTaken, Takes, Answered};
 ghost use Rattle.agent_core.specs.Plans.{IsPlan};
-ghost use Rattle.agent_core.specs.State.{Asks, Plain, asking, swept};
+ghost use Rattle.agent_core.specs.State.{Asks, Plain, asking, brought, swept};
 ghost use Rattle.agent_core.specs.Journals.{state_after, cache_after, told_at, IsMeant};
 ghost use Rattle.agent_core.specs.Views.{ask_of, entry_of, plan_of};
 
 use crate::event::{Ask, Event, ShardEntry};
-use crate::held::name::Names;
 use crate::held::naming::name_all;
 use crate::held::newness::{Places, new_of};
+use crate::held::removal::{count_left, gone_by, keep_left, sweep};
 use crate::held::snapshot::gathered;
 use crate::limits::MAX_OWN;
 use crate::plan::ShardPlan;
 use crate::shard::append::append;
-use crate::shard::removal::{Removal, left_of};
 use crate::shard::row::place_of;
 use crate::shard::serving::{bring, serving};
 use crate::shard::store::Store;
@@ -26,15 +26,15 @@ use crate::told::{Answer, Snapshot, Told};
 use proof_cache::Cache;
 use std::alloc::{AllocError, Global};
 use std::sync::Arc;
+use stmt_codec::Cert;
 
-/// What an Ask finds: its channel's row, its moment, what the channel and the commons hold then,
-/// and the places of what it brings.
+/// What an Ask finds: its channel's row, its moment, how many certificates of its own the channel
+/// holds then, and the places of what it brings.
 #[derive(Drop)]
 pub(crate) struct Look {
     pub place: usize,
     pub moment: u64,
-    pub own: Names,
-    pub shared: Names,
+    pub held: usize,
     pub new: Places,
 }
 
@@ -51,21 +51,47 @@ fn look_at(plan: &ShardPlan, entries: &[ShardEntry], store: &Store, asked: &Ask)
 {
     let place = place_of(&plan.channels, asked.channel).unwrap();
     let moment = store.clock.max(asked.reading);
-    let gone = Removal::Ended {
-        keep: plan.keep,
-        moment,
-    };
-    let row = &store.rows[place];
-    let own = left_of(&plan.commons, entries, &row.own, &gone);
-    let shared = left_of(&plan.commons, entries, &store.commons, &gone);
-    let new = new_of(&plan.commons, entries, &own, &shared, &asked.presented);
+    let gone = gone_by(plan, moment);
+    let own = &store.rows[place].own;
+    let held = count_left(&plan.commons, entries, own, &gone);
+    let new = new_of(
+        &plan.commons,
+        entries,
+        own,
+        &store.commons,
+        &gone,
+        &asked.presented,
+    );
     Look {
         place,
         moment,
-        own,
-        shared,
+        held,
         new,
     }
+}
+
+// The clock moves on to the moment, and what is gone by then is let go in common. Rows are swept
+// when they are met.
+fn move_on(plan: &ShardPlan, entries: &[ShardEntry], store: &mut Store, moment: u64)
+    requires store { IsStore (plan_of plan.now) (map entry_of entries.now)
+        (state_after (plan_of plan.now) (map entry_of entries.now)) store.old }
+    requires later { store.old.clock ≤ moment }
+    requires swept { store.old.swept ≤ length entries.now }
+    ensures store { IsStore (plan_of plan.now) (map entry_of entries.now)
+        (swept plan.now.keep moment (state_after (plan_of plan.now) (map entry_of entries.now)))
+        store.new }
+    ensures clock { store.new.clock ≡ moment }
+    ensures swept { store.new.swept ≡ length entries.now + 1 }
+    ensures rows { store.new.rows ≡ store.old.rows }
+{
+    sweep(
+        &plan.commons,
+        entries,
+        &mut store.commons,
+        &gone_by(plan, moment),
+    );
+    store.clock = moment;
+    store.swept = entries.len() as u64 + 1;
 }
 
 // Journals an Ask that leaves the state as swept.
@@ -91,9 +117,7 @@ fn refuse(
         entries.new store.new }
     ensures clock { store.new.clock ≡ look.moment }
 {
-    store.clock = look.moment;
-    store.swept = entries.len() as u64 + 1;
-    store.commons = look.shared;
+    move_on(plan, entries, store, look.moment);
     append(entries, Event::Ask(asked), told);
 }
 
@@ -113,7 +137,7 @@ fn take(
     requires look { IsLook (plan_of plan.now) (map entry_of entries.old.items)
         (state_after (plan_of plan.now) (map entry_of entries.old.items)) store.old
         (ask_of asked.value) look }
-    requires fits { length look.own.items + length look.new.items ≤ 32 }
+    requires fits { look.held + length look.new.items ≤ 32 }
     requires judged { let s = swept plan.now.keep look.moment
         (state_after (plan_of plan.now) (map entry_of entries.old.items)) in
         IsTaken s (ask_of asked.value) }
@@ -126,23 +150,54 @@ fn take(
     let Look {
         place,
         moment,
-        own,
-        shared,
+        held,
         new,
     } = look;
-    let stamp = entries.len() as u64 + 1;
     let entry = entries.len() as u32;
     let seq = asked.seq;
-    store.clock = moment;
-    store.swept = stamp;
-    store.commons = shared;
-    append(entries, Event::Ask(asked), told);
-    let mut own = own;
-    name_all(&mut own, entry, &new);
+    move_on(plan, entries, store, moment);
     let row = &mut store.rows[place];
+    keep_left(
+        &plan.commons,
+        entries,
+        &mut row.own,
+        &gone_by(plan, moment),
+        held,
+    );
+    append(entries, Event::Ask(asked), told);
+    name_all(&mut row.own, entry, &new);
     row.last = seq;
-    row.swept = stamp;
-    row.own = own;
+    row.swept = store.swept;
+}
+
+// What the Ask is judged by.
+fn judged_by(
+    alloc: Global,
+    plan: &ShardPlan,
+    entries: &[ShardEntry],
+    store: &Store,
+    asked: &Ask,
+    look: &Look,
+) -> Result<Vec<Arc<Cert>>, AllocError>
+    requires store { IsStore (plan_of plan.now) (map entry_of entries.now)
+        (state_after (plan_of plan.now) (map entry_of entries.now)) store.now }
+    requires look { IsLook (plan_of plan.now) (map entry_of entries.now)
+        (state_after (plan_of plan.now) (map entry_of entries.now)) store.now (ask_of asked.now)
+        look.now }
+    ensures { IfOk result (λ certs. let s = swept plan.now.keep look.now.moment
+        (state_after (plan_of plan.now) (map entry_of entries.now)) in certificates certs.items
+        ≡ (s.own asked.now.channel ++ brought s (ask_of asked.now)) ++ s.commons) }
+{
+    gathered(
+        alloc,
+        &plan.commons,
+        entries,
+        &store.rows[look.place].own,
+        &store.commons,
+        &gone_by(plan, look.moment),
+        &asked.presented,
+        &look.new,
+    )
 }
 
 // An Ask whose number is new and that has room: a kept proof serves it, or it is to be judged.
@@ -164,7 +219,7 @@ fn ask_new(
     requires look { IsLook (plan_of plan.now) (map entry_of entries.old.items)
         (state_after (plan_of plan.now) (map entry_of entries.old.items)) store.old
         (ask_of asked.value) look }
-    requires fits { length look.own.items + length look.new.items ≤ 32 }
+    requires fits { look.held + length look.new.items ≤ 32 }
     requires judged { let s = swept plan.now.keep look.moment
         (state_after (plan_of plan.now) (map entry_of entries.old.items)) in
         IsTaken s (ask_of asked.value) }
@@ -187,15 +242,7 @@ fn ask_new(
             Ok(Answer::Hit { entry, cached })
         }
         None => {
-            let certs = gathered(
-                alloc,
-                &plan.commons,
-                entries,
-                &look.own,
-                &look.shared,
-                &asked.presented,
-                &look.new,
-            )?;
+            let certs = judged_by(alloc, plan, entries, store, &asked, &look)?;
             cache.purge_before(moment);
             take(plan, entries, store, asked, look, Told::Miss);
             Ok(Answer::Miss(Snapshot { moment, certs }))
@@ -235,9 +282,8 @@ pub(crate) fn ask(
         refuse(plan, entries, store, asked, look, Told::Replayed { last });
         return Ok(Answer::Replayed { last });
     }
-    let held = look.own.len();
-    if held + look.new.len() > MAX_OWN {
-        let held = held as u8;
+    if look.held + look.new.len() > MAX_OWN {
+        let held = look.held as u8;
         cache.purge_before(look.moment);
         refuse(plan, entries, store, asked, look, Told::Full { held });
         return Ok(Answer::Full { held });

@@ -20,9 +20,9 @@ ghost use Rattle.agent_core.specs.Views.{entry_of, plan_of};
 use crate::event::{Event, ShardEntry};
 use crate::held::name::Names;
 use crate::held::newness::is_among;
+use crate::held::removal::{gone_by, left_of};
 use crate::plan::ShardPlan;
 use crate::shard::append::append;
-use crate::shard::removal::{Removal, left_of};
 use crate::shard::row::place_of;
 use crate::shard::store::{Row, Store};
 use crate::told::{Answer, DropCause, Told};
@@ -53,11 +53,7 @@ fn settled(plan: &ShardPlan, entries: &[ShardEntry], clock: u64, swept: u64, row
     if row.swept == swept {
         return copy_of(&row.own);
     }
-    let gone = Removal::Ended {
-        keep: plan.keep,
-        moment: clock,
-    };
-    left_of(&plan.commons, entries, &row.own, &gone)
+    left_of(&plan.commons, entries, &row.own, &gone_by(plan, clock))
 }
 
 // The channel that a subject speaks on.

@@ -11,8 +11,8 @@ ghost use Rattle.agent_core.specs.Journals.{state_after};
 ghost use Rattle.agent_core.specs.Views.{entry_of, plan_of};
 
 use crate::event::ShardEntry;
+use crate::held::removal::{Removal, sweep};
 use crate::plan::ShardPlan;
-use crate::shard::removal::{Removal, left_of};
 use crate::shard::row::let_go_of;
 use crate::shard::store::{Row, Store};
 
@@ -71,7 +71,7 @@ pub(crate) fn let_go(
 {
     let stamp = entries.len() as u64 + 1;
     let before = store.commons.len();
-    store.commons = left_of(&plan.commons, entries, &store.commons, removal);
+    sweep(&plan.commons, entries, &mut store.commons, removal);
     let common = (before - store.commons.len()) as u32;
     let own = let_go_of_rows(
         plan,

@@ -11,11 +11,11 @@ use crate::event::{Event, ShardEntry};
 use crate::held::name::Names;
 use crate::held::naming::name_all;
 use crate::held::newness::new_of;
+use crate::held::removal::{Removal, gone_by};
 use crate::limits::MAX_COMMONS;
 use crate::plan::ShardPlan;
 use crate::shard::append::append;
 use crate::shard::letting::let_go;
-use crate::shard::removal::Removal;
 use crate::shard::store::Store;
 use crate::told::Told;
 use std::sync::Arc;
@@ -53,11 +53,7 @@ pub(crate) fn expire(
         (told.Removed result) entries.new store.new }
 {
     let moment = store.clock.max(reading);
-    let removal = Removal::Ended {
-        keep: plan.keep,
-        moment,
-    };
-    let count = let_go(plan, entries, store, &removal, moment);
+    let count = let_go(plan, entries, store, &gone_by(plan, moment), moment);
     append(entries, Event::Expire(reading), Told::Removed { count });
     count
 }
@@ -79,7 +75,14 @@ pub(crate) fn hold(
         (Holds (certificates certs.value.items)) (told.CommonsFull held) entries.new store.new) }
 {
     let none = Names::new();
-    let new = new_of(&plan.commons, entries, &none, &store.commons, &certs);
+    let new = new_of(
+        &plan.commons,
+        entries,
+        &none,
+        &store.commons,
+        &Removal::Nothing,
+        &certs,
+    );
     let held = store.commons.len();
     if held + new.len() > MAX_COMMONS {
         let held = held as u8;

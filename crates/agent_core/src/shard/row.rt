@@ -8,8 +8,8 @@ ghost use Rattle.agent_core.specs.Letting.{LetsGo};
 ghost use Rattle.agent_core.specs.Views.{entry_of, plan_of};
 
 use crate::event::ShardEntry;
+use crate::held::removal::{Removal, gone_by, sweep};
 use crate::plan::ShardPlan;
-use crate::shard::removal::{Removal, left_of};
 use crate::shard::store::Row;
 
 /// Where the channel's row stands.
@@ -44,11 +44,7 @@ pub(crate) fn settle(
     if row.swept == swept {
         return;
     }
-    let gone = Removal::Ended {
-        keep: plan.keep,
-        moment: clock,
-    };
-    row.own = left_of(&plan.commons, entries, &row.own, &gone);
+    sweep(&plan.commons, entries, &mut row.own, &gone_by(plan, clock));
     row.swept = swept;
 }
 
@@ -72,7 +68,7 @@ pub(crate) fn let_go_of(
 {
     settle(plan, entries, clock, swept, row);
     let before = row.own.len();
-    row.own = left_of(&plan.commons, entries, &row.own, removal);
+    sweep(&plan.commons, entries, &mut row.own, removal);
     row.swept = stamp;
     (before - row.own.len()) as u32
 }

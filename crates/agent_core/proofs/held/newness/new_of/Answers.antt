@@ -6,7 +6,7 @@ use Rattle.stmt_codec.specs.declared.cert.Cert.{Cert}
 use Rattle.stmt_codec.specs.Certificates.{Certificate, certificate}
 use Rattle.stmt_codec.specs.View.{certificates}
 use Rattle.agent_core.specs.Held.{among}
-use Rattle.agent_core.specs.Names.{certs_named}
+use Rattle.agent_core.specs.Kept.{certs_staying}
 use Rattle.agent_core.specs.Views.{entry_of}
 use Rattle.agent_core.proofs.Among.{newly_more, found_at}
 use Rattle.denial_link.proofs.Places.{certificate_at}
@@ -15,7 +15,8 @@ use Rattle.agent_core.proofs.held.newness.new_of.Goals.{then-is_new, else-is_new
 
 pub loop-place-preserved : goal.loop-place-preserved
 loop-place-preserved c =
-    let held : List Certificate = certs_named (certificates c.args.commons.now) (map entry_of c.args.entries.now) c.args.own.now.items ++ certs_named (certificates c.args.commons.now) (map entry_of c.args.entries.now) c.args.shared.now.items in
+    let held : List Certificate = certs_staying (certificates c.args.commons.now) (map entry_of c.args.entries.now) c.args.removal.now c.args.own.now.items ++
+    certs_staying (certificates c.args.commons.now) (map entry_of c.args.entries.now) c.args.removal.now c.args.shared.now.items in
     let certs : List Certificate = certificates c.args.presented.now in
     let here : slice_get certs c.loop-place.place ≡ Some (certificate c.index-presented-place.result.value.body) = certificate_at c.args.presented.now c.loop-place.place c.index-presented-place.result c.index-presented-place.is (omega arith) in
     let news : List Certificate = filter_map (slice_get certs) c.loop-place.places.items in

@@ -2,15 +2,15 @@ use Rattle.std.proofs.Common.{◌≡◌, ◌≤◌, ◌<◌, ◌++◌, All, leng
 use Rattle.std.specs.List.{slice_get, filter_map}
 use Rattle.stmt_codec.specs.View.{certificates}
 use Rattle.agent_core.specs.Held.{newly}
-use Rattle.agent_core.specs.Names.{certs_named}
+use Rattle.agent_core.specs.Kept.{certs_staying}
 use Rattle.agent_core.specs.Views.{entry_of}
 use Rattle.agent_core.proofs.held.newness.new_of.Given as goal
 
 abbrev pub invariant-loop-place : goal.invariant-loop-place
 invariant-loop-place l = record {
   value : filter_map (slice_get (certificates l.presented)) l.places.items
-      ≡ newly (certs_named (certificates l.commons) (map entry_of l.entries) l.own.items
-      ++ certs_named (certificates l.commons) (map entry_of l.entries) l.shared.items) (take l.place (certificates l.presented));
+      ≡ newly (certs_staying (certificates l.commons) (map entry_of l.entries) l.removal l.own.items
+      ++ certs_staying (certificates l.commons) (map entry_of l.entries) l.removal l.shared.items) (take l.place (certificates l.presented));
   within : All (λ i. i < length l.presented) l.places.items;
   few : length l.places.items ≤ l.place;
 }

@@ -1,23 +1,18 @@
 -- a kept proof serves the Ask, or it is to be judged
-use Rattle.std.proofs.Common.{◌≡◌, ◌++◌, List, map, filter_map, slice_get, None, Some, refl, sym, ap, ◌∙◌, subst, find}
-use Rattle.std.specs.Arc.{arc_value}
-use Rattle.prin_term.specs.View.{Grant}
-use Rattle.stmt_codec.specs.View.{certificates}
-use Rattle.proof_cache.specs.Cached.{Cached, cached}
-use Rattle.proof_cache.specs.Cache.{IsCache, is_for}
-use Rattle.proof_cache.specs.declared.cached.Cached.{Cached as CachedValue}
+use Rattle.std.proofs.Common.{◌++◌, List, map, refl, sym, ap, ◌∙◌, subst}
+use Rattle.proof_cache.specs.Cached.{Cached}
+use Rattle.proof_cache.specs.Cache.{IsCache}
 use Rattle.agent_core.specs.declared.event.Ask.{Ask as AskValue}
 use Rattle.agent_core.specs.declared.told.Told.{Told}
-use Rattle.agent_core.specs.Caches.{first_hit, hit_or_miss, unlapsed, used_by}
+use Rattle.agent_core.specs.Caches.{hit_or_miss, unlapsed, used_by}
 use Rattle.agent_core.specs.Journals.{Entry, cache_after, state_after}
 use Rattle.agent_core.specs.Looking.{Serves}
-use Rattle.agent_core.specs.Names.{certs_named}
-use Rattle.agent_core.specs.State.{Plan, Ask}
+use Rattle.agent_core.specs.State.{Plan, State, Ask, brought, swept}
 use Rattle.agent_core.specs.Views.{ask_of, entry_of, plan_of}
 use Rattle.agent_core.proofs.Asks.{on_err}
 use Rattle.agent_core.proofs.Journaling.{takes_follow}
 use Rattle.agent_core.proofs.KeptFew.{cache_small}
-use Rattle.agent_core.proofs.NewAsks.{judged_here, told_now, wanted_now}
+use Rattle.agent_core.proofs.NewAsks.{judged_here, wanted_now}
 use Rattle.agent_core.proofs.shard.asking.ask_new.Goals as goal
 
 pub serving-requires-clause-cache : goal.serving-requires-clause-cache
@@ -39,6 +34,7 @@ returns-in-Some-clause-answered c =
     let plan : Plan = plan_of c.args.plan.now in
     let journal : List Entry = map entry_of c.args.entries.now.items in
     let a : Ask = ask_of c.args.asked.value in
+    let s : State = swept plan.keep c.args.look.moment (state_after plan journal) in
     let now = unlapsed c.args.look.moment (cache_after plan journal) in
     let served = subst (Serves now a) c.in-Some.is (subst (λ (cs : List Cached). Serves (unlapsed c.args.look.moment cs) (ask_of c.args.asked.value) c.in_ok-served.served) c.requires.cached (rw c.deref.ensures at c.in_ok-served.ensures.serves)) in
     record {
@@ -46,8 +42,8 @@ returns-in-Some-clause-answered c =
       is = refl;
       takes = c.take.ensures.takes;
       moment = c.args.look.moment;
-      certs = (certs_named plan.commons journal c.args.look.own.items ++ filter_map (slice_get a.presented) c.args.look.new.items) ++ certs_named plan.commons journal c.args.look.shared.items;
-      judged = judged_here plan journal c.args.store.now c.requires.kept.store_is a c.args.look c.requires.look c.requires.judged;
+      certs = (s.own a.channel ++ brought s a) ++ s.commons;
+      judged = judged_here plan journal c.args.store.now c.requires.kept.store_is a c.args.look c.requires.look c.requires.judged _ refl;
       grant = served.0;
       there = served.2;
       found = served.3;
@@ -73,3 +69,16 @@ pub returns-in_ok-certs-in-None-clause-cached : goal.returns-in_ok-certs-in-None
 returns-in_ok-certs-in-None-clause-cached c =
     takes_follow (plan_of c.args.plan.now) c.args.entries.now c.take-in-None.new.entries (ask_of c.args.asked.value) Told.Miss c.take-in-None.new.store c.take-in-None.ensures.takes c.args.cache.now c.purge_before.new.self c.requires.cached
     (c.purge_before.ensures ∙ ap (λ n. unlapsed n c.args.cache.now) (sym c.take-in-None.ensures.clock))
+
+pub returns-in_ok-certs-in-None-clause-answered : goal.returns-in_ok-certs-in-None-clause-answered
+returns-in_ok-certs-in-None-clause-answered c =
+    let plan : Plan = plan_of c.args.plan.now in
+    let journal : List Entry = map entry_of c.args.entries.now.items in
+    let a : Ask = ask_of c.args.asked.value in
+    record {
+      ask = a;
+      is = refl;
+      takes = c.take-in-None.ensures.takes;
+      judged = judged_here plan journal c.args.store.now c.requires.kept.store_is a c.args.look c.requires.look c.requires.judged _
+          (rw (c.deref-in-None.ensures.value, c.deref-in-None-2.ensures) at c.in_ok-certs-in-None.ensures);
+    }

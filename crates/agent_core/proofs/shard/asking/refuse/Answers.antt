@@ -1,13 +1,12 @@
 -- the state that is left is the swept one
-use Rattle.std.proofs.Common.{◌≡◌, ◌+◌, [], ◌∷◌, length, map, List, refl, ◌∙◌, arith}
+use Rattle.std.proofs.Common.{[], ◌∷◌, map, List, refl, ◌∙◌, arith}
 use Rattle.agent_core.specs.declared.event.Event.TheVariants as code
 use Rattle.agent_core.specs.declared.event.ShardEntry.{ShardEntry}
-use Rattle.agent_core.specs.declared.shard.store.Store.{Store}
 use Rattle.agent_core.specs.State.{Plan, State, Ask, Asks, swept}
 use Rattle.agent_core.specs.Journals.{Entry, state_after}
 use Rattle.agent_core.specs.Views.{ask_of, entry_of, plan_of}
 use Rattle.agent_core.proofs.Journaling.{store_more, tells_more}
-use Rattle.agent_core.proofs.Looks.{asked_now, swept_now}
+use Rattle.agent_core.proofs.Looks.{asked_now}
 use Rattle.agent_core.proofs.shard.asking.refuse.Goals as goal
 
 pub returns-clause-tells : goal.returns-clause-tells
@@ -17,11 +16,9 @@ returns-clause-tells c =
     let s : State = state_after plan journal in
     let a : Ask = ask_of c.args.asked.value in
     let e : ShardEntry = record { event = code.Ask c.args.asked; told = c.args.told } in
-    let after : Store = record { clock = c.args.look.moment; swept = c.len.result + 1; commons = c.args.look.shared; rows = c.args.store.now.rows } in
-    let long : c.len.result ≡ length c.args.entries.now.items = c.len.ensures ∙ c.args.entries.now.ok.0 in
+    let moved = rw c.deref.ensures.value at c.move_on.ensures.store in
+    let stamp = rw c.deref.ensures.value at c.move_on.ensures.swept in
     tells_more plan c.args.entries.now c.args.store.now c.requires.kept e c.append.new.entries c.requires.room c.append.ensures.added c.append.ensures.capacity
-    after (swept plan.keep c.args.look.moment s) (Asks a) refl c.requires.meant
+    c.move_on.new.store (swept plan.keep c.args.look.moment s) (Asks a) refl c.requires.meant
     (asked_now plan journal s c.args.store.now c.requires.kept.store_is a c.args.look c.requires.look ∙ c.requires.plain)
-    (store_more plan journal (entry_of e ∷ []) (swept plan.keep c.args.look.moment s) after
-    (swept_now plan journal s c.args.store.now c.requires.kept.store_is a c.args.look c.requires.look (c.len.result + 1) after (omega (arith, long, c.requires.kept.swept_within)) refl refl refl refl))
-    (omega (arith, long))
+    (store_more plan journal (entry_of e ∷ []) (swept plan.keep c.args.look.moment s) c.move_on.new.store moved) (omega (arith, stamp))

@@ -2,7 +2,7 @@
 use Rattle.std.proofs.Common.{ℕ, [], ◌∷◌, map, refl, sym, ap₂, arith}
 use Rattle.agent_core.specs.declared.event.Event.TheVariants as code
 use Rattle.agent_core.specs.declared.event.ShardEntry.{ShardEntry}
-use Rattle.agent_core.specs.declared.shard.removal.Removal.TheVariants.{Named}
+use Rattle.agent_core.specs.declared.held.removal.Removal.TheVariants.{Named}
 use Rattle.agent_core.specs.declared.told.Told.{Told}
 use Rattle.agent_core.specs.State.{State, Discards, Plain, keeping}
 use Rattle.agent_core.specs.Journals.{state_after}

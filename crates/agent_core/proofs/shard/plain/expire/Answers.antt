@@ -2,7 +2,7 @@
 use Rattle.std.proofs.Common.{◌≡◌, ◌-◌, ℕ, [], ◌∷◌, map, max, refl, sym, ap, ◌∙◌, arith}
 use Rattle.agent_core.specs.declared.event.Event.TheVariants as code
 use Rattle.agent_core.specs.declared.event.ShardEntry.{ShardEntry}
-use Rattle.agent_core.specs.declared.shard.removal.Removal.TheVariants.{Ended}
+use Rattle.agent_core.specs.declared.held.removal.Removal.TheVariants.{Ended}
 use Rattle.agent_core.specs.declared.told.Told.{Told}
 use Rattle.agent_core.specs.State.{State, Expires, Plain, keeping, held_count}
 use Rattle.agent_core.specs.Journals.{state_after}
@@ -17,9 +17,9 @@ returns c =
     let journal = map entry_of c.args.entries.now.items in
     let s : State = state_after plan journal in
     let moment : ℕ = c.max-moment.result in
-    let is = rw c.deref.ensures.value at c.let_go-count.ensures.store in
+    let is = rw (c.deref.ensures.value, c.gone_by.ensures) at c.let_go-count.ensures.store in
     let swept = rw c.deref.ensures.value at c.let_go-count.ensures.swept in
-    let count = rw c.deref.ensures.value at c.let_go-count.ensures.count in
+    let count = rw (c.deref.ensures.value, c.gone_by.ensures) at c.let_go-count.ensures.count in
     let later : max s.clock c.args.reading ≡ moment = ap (λ n. max n c.args.reading) (sym c.requires.kept.store_is.clock_is) ∙ sym c.max-moment.ensures in
     let e : ShardEntry = record { event = code.Expire c.args.reading; told = Told.Removed c.let_go-count.result } in
     tells_more plan c.args.entries.now c.args.store.now c.requires.kept e c.append.new.entries c.requires.room c.append.ensures.added c.append.ensures.capacity

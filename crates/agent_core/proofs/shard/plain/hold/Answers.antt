@@ -1,6 +1,7 @@
 -- the certificates that are new are held in common, where there is room
-use Rattle.std.proofs.Common.{◌≡◌, [], ◌∷◌, ◌++◌, length, map, refl, sym, ap, ◌∙◌, arith}
+use Rattle.std.proofs.Common.{◌≡◌, [], ◌∷◌, ◌++◌, List, length, map, refl, sym, ap, ◌∙◌, arith}
 use Rattle.std.proofs.lemmas.List.{length-map}
+use Rattle.stmt_codec.specs.Certificates.{Certificate}
 use Rattle.stmt_codec.specs.View.{certificates}
 use Rattle.agent_core.specs.declared.event.Event.TheVariants as code
 use Rattle.agent_core.specs.declared.event.ShardEntry.{ShardEntry}
@@ -9,7 +10,8 @@ use Rattle.agent_core.specs.State.{State, Holds, Plain}
 use Rattle.agent_core.specs.Journals.{state_after}
 use Rattle.agent_core.specs.Views.{entry_of, plan_of}
 use Rattle.agent_core.specs.Held.{newly}
-use Rattle.agent_core.specs.Names.{name_in}
+use Rattle.agent_core.specs.Names.{certs_named, name_in}
+use Rattle.agent_core.proofs.Rows.{nothing_goes}
 use Rattle.agent_core.proofs.Bringing.{commons_full, commons_fit, commons_held, held_more}
 use Rattle.denial_link.proofs.Places.{certificate_count}
 use Rattle.agent_core.proofs.Journaling.{store_more, tells_more}
@@ -21,7 +23,7 @@ returns-then-held-len-gt-MAX_COMMONS-clause-full c =
     let journal = map entry_of c.args.entries.now.items in
     let s : State = state_after plan journal in
     let certs = certificates c.args.certs.value.items in
-    let found = rw (c.deref.ensures.value, c.deref-2.ensures.value, c.deref-4.ensures.value, c.deref-3.ensures, c.new-none.ensures) at c.new_of-new.ensures.value in
+    let found = rw (c.deref.ensures.value, c.deref-2.ensures.value, c.deref-4.ensures.value, c.deref-3.ensures, c.new-none.ensures) at c.new_of-new.ensures.value ∙ ap (λ (held : List Certificate). newly held certs) (nothing_goes (certs_named plan.commons journal c.args.store.now.commons.items)) in
     let within = rw (c.deref-4.ensures.value, c.deref-3.ensures, sym (certificate_count c.args.certs.value.items)) at c.new_of-new.ensures.within in
     let e : ShardEntry = record { event = code.Hold c.args.certs; told = Told.CommonsFull c.len-held.result } in
     tells_more plan c.args.entries.now c.args.store.now c.requires.kept e c.append.new.entries c.requires.room c.append.ensures.added c.append.ensures.capacity
@@ -36,7 +38,7 @@ returns-clause-added c =
     let journal = map entry_of c.args.entries.now.items in
     let s : State = state_after plan journal in
     let certs = certificates c.args.certs.value.items in
-    let found = rw (c.deref.ensures.value, c.deref-2.ensures.value, c.deref-4.ensures.value, c.deref-3.ensures, c.new-none.ensures) at c.new_of-new.ensures.value in
+    let found = rw (c.deref.ensures.value, c.deref-2.ensures.value, c.deref-4.ensures.value, c.deref-3.ensures, c.new-none.ensures) at c.new_of-new.ensures.value ∙ ap (λ (held : List Certificate). newly held certs) (nothing_goes (certs_named plan.commons journal c.args.store.now.commons.items)) in
     let within = rw (c.deref-4.ensures.value, c.deref-3.ensures, sym (certificate_count c.args.certs.value.items)) at c.new_of-new.ensures.within in
     let e : ShardEntry = record { event = code.Hold c.args.certs; told = Told.Held c.len-added.result } in
     let number : c.len-entry.result ≡ length journal = c.len-entry.ensures ∙ c.args.entries.now.ok.0 ∙ sym (length-map c.args.entries.now.items entry_of) in

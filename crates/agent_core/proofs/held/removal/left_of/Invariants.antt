@@ -2,7 +2,7 @@ use Rattle.std.proofs.Common.{◌≡◌, ◌≤◌, length, filter, map, take}
 use Rattle.stmt_codec.specs.View.{certificates}
 use Rattle.agent_core.specs.Kept.{name_stays}
 use Rattle.agent_core.specs.Views.{entry_of}
-use Rattle.agent_core.proofs.shard.removal.left_of.Given as goal
+use Rattle.agent_core.proofs.held.removal.left_of.Given as goal
 
 abbrev pub invariant-loop-place : goal.invariant-loop-place
 invariant-loop-place l = record {
