@@ -73,8 +73,8 @@ fn shards_of(alloc: Global, node: &Opening) -> Result<Vec<Shard>, AllocError>
 
 // A list of its own for an object, beside what else is the object's: who asks for it writes to the
 // count of the list's handles, and threads at different objects would do so in one line of the cache.
-fn list_of(alloc: Global, list: &[Entry]) -> Result<Arc<Vec<Entry>>, AllocError>
-    ensures { IfOk result (λ own. map grant own.value.items ≡ map grant list.now) }
+fn list_of(alloc: Global, list: &Arc<Vec<Entry>>) -> Result<Arc<Vec<Entry>>, AllocError>
+    ensures { IfOk result (λ own. map grant own.value.items ≡ map grant list.now.value.items) }
 {
     let mut entries = Vec::with_capacity(alloc, list.len())?;
     for place in 0..list.len() {
