@@ -7,10 +7,11 @@ use Rattle.node_words.specs.Words.{DrillWords}
 use Rattle.taos_drill.specs.Sent.{requests_of}
 use Rattle.taos_drill.specs.Words.{is_even, word_of}
 
--- how many requests have an even word, and how many an odd one
+-- how many requests have an even word
 abbrev pub evens : DrillWords → ℕ
 evens d = count_by (λ i. is_even (word_of d.seed i)) (range_with_len 0 d.requests)
 
+-- how many requests have an odd word
 abbrev pub odds : DrillWords → ℕ
 odds d = count_by (λ i. not (is_even (word_of d.seed i))) (range_with_len 0 d.requests)
 
