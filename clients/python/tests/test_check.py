@@ -22,6 +22,8 @@ def found(request, payload, opening):
     """What is wrong first, in the words of `check`, or how many lines and certificates a grant has."""
     try:
         reply = read_reply(payload)
+        if isinstance(reply, Granted):
+            reply.proof, reply.certificates
     except Malformed:
         return "refused: reply"
     key = opening.keys[request.channel]

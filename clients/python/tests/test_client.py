@@ -8,8 +8,8 @@ import time
 import unittest
 
 from vectors import TAG, asked, key_of, payloads_of, turned, worked
-from yoritzal import (READ, Body, Broken, Channel, Client, Connection, Discard, Entry, Fate, FileNumbers, Forget, Hold, Key, Name,
-                      NotGranted, Read, Request, SetList, Sweep, TimeNumbers, Write, connect, sealed, tag)
+from yoritzal import (READ, Body, Broken, Channel, Client, Connection, Discard, Entry, Fate, FileNumbers, Forget, Hold, InUse, Key, Malformed,
+                      Name, NotGranted, Read, Request, SetList, Sweep, TimeNumbers, Write, connect, sealed, tag)
 
 GRANT, DENIAL = payloads_of(worked("An anchored read")[2])[0], payloads_of(worked("An anchored read")[3])[0]
 BODY = Body(1, Key(2), Name(10), 4102444800, 1)
@@ -105,6 +105,31 @@ class Answers(unittest.TestCase):
             self.assertEqual((answer.fate, answer.reply), (Fate.UNKNOWN, None), f"at status {fields[0]}")
             self.assertIn("nobody sealed", answer.why)
 
+    def test_a_wrong_key_is_told_as_what_it_may_be(self):
+        for payload, word in [(unsealed(b"\4"), "another key for channel 1"), (unsealed(b"\3\0\0\0\1"), "no channel 1"),
+                              (unsealed(b"\2\0\0\0\5"), "at byte 5"), (grant(1, of=2), "channel 1's key")]:
+            client, _ = told(payload)
+            self.assertIn(word, client.ask(5, Read()).why)
+
+    def test_an_answer_has_both_frames_as_they_went(self):
+        client, sent = told(grant(1))
+        answer = client.ask(5, Read())
+        self.assertEqual(answer.pair, sent.getvalue() + frame(grant(1)))
+        client, _ = told()
+        with self.assertRaises(NotGranted):
+            client.ask(5, Read()).pair
+
+    def test_a_proof_is_read_once_it_is_asked_for(self):
+        at = 28
+        text = GRANT[: at + 4] + b"\xff" + GRANT[at + 5 : -TAG]
+        client, _ = told(text + tag(key_of(1), text))
+        answer = client.ask(5, Read())
+        self.assertEqual(answer.result, b"hello")
+        with self.assertRaises(Malformed):
+            answer.reply.proof
+        with self.assertRaises(Malformed):
+            answer.reply.check(answer.request, [(1, 10)], [Entry(READ, Name(10))])
+
     def test_a_reply_to_another_number_is_not_taken(self):
         for number in (0, 2, 257):
             client, _ = told(grant(number))
@@ -164,8 +189,39 @@ class Numbers(unittest.TestCase):
     def test_a_file_keeps_them_over_a_restart(self):
         with tempfile.TemporaryDirectory() as folder:
             path = os.path.join(folder, "numbers")
-            taken = [FileNumbers(path).take() for _ in range(3)] + [FileNumbers(path, 10).take(), FileNumbers(path).take()]
-            self.assertEqual(taken, [1, 2, 3, 4, 14])
+            taken = [FileNumbers(path, 1).take() for _ in range(3)] + [FileNumbers(path, 10).take(), FileNumbers(path).take()]
+            taken.append(FileNumbers(path, 1).take())
+            self.assertEqual(taken, [1, 2, 3, 4, 14, 1014])
+
+    def test_what_is_left_of_a_block_goes_back_at_the_end(self):
+        with tempfile.TemporaryDirectory() as folder:
+            path, taken = os.path.join(folder, "numbers"), []
+            for _ in range(3):
+                with FileNumbers(path) as numbers:
+                    taken += [numbers.take(), numbers.take()]
+            self.assertEqual(taken, [1, 2, 3, 4, 5, 6])
+            numbers.close()
+            self.assertEqual(FileNumbers(path, 1).take(), 7)
+
+    def test_no_other_takes_numbers_while_a_block_is_used(self):
+        with tempfile.TemporaryDirectory() as folder:
+            path = os.path.join(folder, "numbers")
+            with FileNumbers(path) as numbers:
+                self.assertEqual(numbers.take(), 1)
+                with self.assertRaises(InUse):
+                    FileNumbers(path).take()
+            self.assertEqual(FileNumbers(path).take(), 2)
+
+    def test_after_the_last_number_there_is_none(self):
+        with tempfile.TemporaryDirectory() as folder:
+            path = os.path.join(folder, "numbers")
+            with open(path, "w", encoding="ascii") as file:
+                file.write(f"{2**64 - 2}\n")
+            for taken in ([2**64 - 1], []):
+                with FileNumbers(path) as numbers:
+                    self.assertEqual([numbers.take() for _ in taken], taken)
+                    with self.assertRaises(OverflowError):
+                        numbers.take()
 
     def test_a_number_is_on_the_disk_before_it_is_used(self):
         with tempfile.TemporaryDirectory() as folder:
@@ -185,7 +241,7 @@ class Numbers(unittest.TestCase):
     def test_threads_get_numbers_of_their_own(self):
         with tempfile.TemporaryDirectory() as folder:
             taken, path = [], os.path.join(folder, "numbers")
-            counters = [FileNumbers(path) for _ in range(4)]
+            counters = [FileNumbers(path, 1) for _ in range(4)]
             threads = [threading.Thread(target=lambda each=each: taken.extend(each.take() for _ in range(5)))
                        for each in counters]
             for thread in threads:

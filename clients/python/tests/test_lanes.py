@@ -31,6 +31,17 @@ SHOWN = [sealed(key_of(1), Body(1, Key(2), Name(10), 4102444800, 1), ISSUED)]
 HERE, PATIENCE = "127.0.0.1:0", 60
 
 
+def line_of(pipe):
+    """A line of a pipe, which may come in pieces."""
+    line = b""
+    while not line.endswith(b"\n"):
+        byte = os.read(pipe, 1)
+        if not byte:
+            break
+        line += byte
+    return line
+
+
 class Node:
     """A node with a lane for each address, each of which takes up to so many connections."""
 
@@ -38,8 +49,12 @@ class Node:
         words = ["--idle", "20", "--tell-addresses", "--stop-at-end", file, listen, relay, "serve", "--connections", str(connections)]
         pipe = subprocess.PIPE
         self.process = subprocess.Popen([PROGRAM, *words], stdin=pipe, stdout=pipe, stderr=pipe)
-        told = BOUND.match(self.process.stderr.readline())
-        self.port = told and int(told.group(1))
+        self.before, told = [], line_of(self.process.stderr.fileno())
+        # An address that can't be bound is told first.
+        while told and not BOUND.match(told):
+            self.before.append(told)
+            told = line_of(self.process.stderr.fileno())
+        self.port = told and int(BOUND.match(told).group(1))
 
     def client(self, number):
         return Client(Channel(number, key_of(number), TimeNumbers()), connect("127.0.0.1", self.port))
@@ -177,6 +192,7 @@ class Lanes(unittest.TestCase):
 
     def test_an_address_that_can_not_be_bound_is_a_fault_of_its_lane(self):
         node = self.node(f"{HERE},127.0.0.1:none")
+        self.assertEqual(node.before, [b"taosd: 127.0.0.1:none: invalid port value\n"])
         alice = node.client(1)
         self.is_granted(alice, Read())
         alice.connection.close()

@@ -9,6 +9,7 @@ import tempfile
 import time
 import unittest
 
+from test_lanes import line_of
 from vectors import key_of
 from yoritzal import ISSUED, Body, Channel, Client, Denied, Key, Name, Read, Request, TimeNumbers, connect, sealed
 
@@ -33,17 +34,6 @@ HERE, PATIENCE = "127.0.0.1:0", 60
 # More lines than that come in no second.
 LINES = 100
 SHOWN = [sealed(key_of(1), Body(1, Key(2), Name(10), 4102444800, 1), ISSUED)]
-
-
-def line_of(pipe):
-    """A line of a pipe, which may come in pieces."""
-    line = b""
-    while not line.endswith(b"\n"):
-        byte = os.read(pipe, 1)
-        if not byte:
-            break
-        line += byte
-    return line
 
 
 class Node:

@@ -1,14 +1,17 @@
 """A client of Yoritzal: requests, replies with their proofs, and the rules for clients. README.md shows its use."""
+from .aio import AsyncClient, open_client
 from .certificates import ISSUED, RELAYED, Body, body_of, opens, read_body, sealed
 from .client import Answer, Channel, Client, Fate, NotGranted
 from .connection import Broken, Connection, connect
 from .fields import Malformed
-from .numbers import FileNumbers, TimeNumbers
+from .names import Names, NoPrincipal
+from .numbers import FileNumbers, InUse, TimeNumbers
 from .proofs import Proof, ProofFault, read_proof
 from .replies import (BadSeal, CertificateRefused, ChannelFull, CommonsFull, Denied, Expired, Granted, JournalFull,
                       MalformedRequest, Missing, NoEntry, NotHeld, OutOfMemory, RelayFailed, Replayed, Reply,
                       Unbelieved, UnknownChannel, UnknownObject, believed, is_unsealed, read_reply)
 from .requests import (CONTROL, MANAGE, READ, WRITE, Discard, Entry, Forget, Hold, Operation, Read, Request, SetList,
                        Sweep, Write)
+from .sessions import Pool, Session
 from .tags import is_tag, tag
 from .terms import And, As, For, Key, Name, Quoting

@@ -1,10 +1,13 @@
 """Asking a node, by the rules for clients: what is believed, which numbers are used, and what is not known."""
+import collections
 import enum
 import threading
-from dataclasses import dataclass
+from dataclasses import dataclass, field, replace
 
+from .fields import counted
 from .replies import CommonsFull, Denied, Granted, JournalFull, NotHeld, OutOfMemory, Replayed, Unbelieved, believed
 from .requests import MANAGE, Request
+from .tags import KEY_BYTES
 
 
 class Fate(enum.Enum):
@@ -18,11 +21,21 @@ class Fate(enum.Enum):
 
 @dataclass(frozen=True)
 class Answer:
-    """A request with the sealed reply to it. Where none came `reply` is None, and `why` says what came instead."""
+    """A request with the sealed reply to it. Where none came `reply` is None, and `why` says what came instead. `sent` and
+    `came` are the payloads of both, as they went over the connection."""
 
     request: Request
     reply: object = None
     why: str = ""
+    sent: bytes = field(default=b"", repr=False, compare=False)
+    came: bytes = field(default=b"", repr=False, compare=False)
+
+    @property
+    def pair(self):
+        """The request and its reply as two frames: the input of the program's `check`."""
+        if self.reply is None:
+            raise NotGranted(self)
+        return counted(self.sent, 4) + counted(self.came, 4)
 
     @property
     def fate(self):
@@ -57,7 +70,10 @@ class Channel:
 
     def __init__(self, number, key, numbers):
         self.number, self.key, self.numbers = number, bytes(key), numbers
-        self.mutex, self.unsettled = threading.Lock(), {}
+        if len(self.key) != KEY_BYTES:
+            raise ValueError(f"a key of {len(self.key)} bytes")
+        # Requests that are not settled, in the order of their numbers.
+        self.mutex, self.unsettled = threading.Lock(), collections.deque()
 
     def __repr__(self):
         return f"Channel({self.number})"
@@ -65,30 +81,31 @@ class Channel:
     def request(self, object, operation, certificates=(), quoted=None):
         """A request with a new number. What has no spelling is refused by ValueError, and then no number is used."""
         request = Request(self.number, 0, object, operation, tuple(certificates), quoted)
-        request.payload(self.key)
+        request.spell()
         with self.mutex:
-            request = Request(self.number, self.numbers.take(), object, operation, tuple(certificates), quoted)
-            self.unsettled[request.number] = request
+            request = request.numbered(self.numbers.take())
+            self.unsettled.append(request)
         return request
 
     def may_still_come(self):
         """The requests whose frames would still be ruled on if they came now, oldest first, as far as this channel knows."""
         with self.mutex:
-            return [self.unsettled[number] for number in sorted(self.unsettled)]
+            return list(self.unsettled)
 
     def settle(self, reply):
         """Once a request is granted or denied, no lower number is."""
         if isinstance(reply, (Granted, Denied)):
             with self.mutex:
-                self.unsettled = {each: asked for each, asked in self.unsettled.items() if each > reply.number}
+                while self.unsettled and self.unsettled[0].number <= reply.number:
+                    self.unsettled.popleft()
 
 
 class Client:
-    """A channel over a connection. One thread uses it; several connections of one channel share the Channel."""
+    """A channel over a connection. One thread uses it. Once the connection `failed`, nothing is asked over it any more."""
 
     def __init__(self, channel, connection):
         self.channel, self.connection = channel, connection
-        self.waiting, self.late = {}, []
+        self.waiting, self.late, self.failed = {}, [], False
 
     def ask(self, object, operation, certificates=(), quoted=None):
         """Sends one request, and gives its answer."""
@@ -97,46 +114,51 @@ class Client:
     def send(self, requests):
         """Sends requests of the channel, all before the first reply is awaited, and gives their answers in their order.
         A reply that comes to an earlier request, whose answer was given up, is added to `late`."""
-        requests = list(requests)
-        payloads = [request.payload(self.channel.key) for request in requests]
-        self.waiting.update({request.number: request for request in requests})
-        writer = _Writer(self.connection, payloads)
-        replies, why = self._replies({request.number for request in requests})
-        why = writer.end() or why
-        return [Answer(each, replies.get(each.number), "" if each.number in replies else why) for each in requests]
+        asked = [Answer(each, sent=each.payload(self.channel.key)) for each in requests]
+        self.waiting.update({each.request.number: each for each in asked})
+        writer = _Writer(self.connection, [each.sent for each in asked])
+        answers, why = self._answers({each.request.number for each in asked})
+        fault = writer.end()
+        self.failed = self.failed or bool(fault)
+        return [answers.get(each.request.number) or replace(each, why=fault or why) for each in asked]
 
-    def _replies(self, numbers):
-        """Replies by number, and what came in place of those that are not there. A node answers each frame by one: so many
+    def _answers(self, numbers):
+        """Answers by number, and what came in place of those that are not there. A node answers each frame by one: so many
         are read, and more only where one answers an earlier request."""
-        replies, why, left = {}, "", len(numbers)
+        answers, why, left = {}, "", len(numbers)
         while left:
             try:
                 answer = self._next()
             except Unbelieved as told:
-                why, left = f"{told} ({told.told})" if told.told else str(told), left - 1
+                why, left = told.why, left - 1
                 continue
             except OSError as fault:
-                return replies, f"the connection failed: {fault}"
+                self.failed = True
+                return answers, f"the connection failed: {fault}"
             if answer is None:
-                return replies, why or "the connection ended"
+                self.failed = True
+                return answers, why or "the connection ended"
             if answer.request.number in numbers:
-                replies[answer.request.number], left = answer.reply, left - 1
+                answers[answer.request.number], left = answer, left - 1
             else:
                 self.late.append(answer)
-        return replies, why
+        return answers, why
 
     def _next(self):
-        """The next reply and the request that waits for it, or None at the end. Any other payload is refused by
-        Unbelieved."""
+        """The next answer that is believed, or None at the end. Any other payload is refused by Unbelieved."""
         payload = self.connection.receive()
-        if payload is None:
-            return None
-        reply = believed(payload, self.channel.number, self.channel.key)
-        request = self.waiting.pop(reply.number, None)
-        if request is None:
-            raise Unbelieved(f"a reply to number {reply.number}, for which nothing waits")
-        self.channel.settle(reply)
-        return Answer(request, reply)
+        return payload if payload is None else taken(self.channel, self.waiting, payload)
+
+
+def taken(channel, waiting, payload):
+    """The answer that a payload is: its request waits for it no longer. What answers none of those that wait, by their
+    numbers, is refused by Unbelieved."""
+    reply = believed(payload, channel.number, channel.key)
+    asked = waiting.pop(reply.number, None)
+    if asked is None:
+        raise Unbelieved(f"a reply to number {reply.number}, for which nothing waits")
+    channel.settle(reply)
+    return Answer(asked.request, reply, "", asked.sent, payload)
 
 
 class _Writer:

@@ -65,18 +65,26 @@ class _TcpSource:
     """Reads a socket. What is asked for next has to come in so many seconds in all, however it trickles."""
 
     def __init__(self, stream, seconds):
-        self.stream, self.seconds, self.waiting = stream, seconds, b""
+        # Of what came, what stands before `at` was taken.
+        self.stream, self.seconds, self.came, self.at = stream, seconds, b"", 0
 
     def read(self, count):
+        if len(self.came) - self.at < count:
+            self._fill(count)
+        taken = self.came[self.at : self.at + count]
+        self.at += len(taken)
+        return taken
+
+    def _fill(self, count):
+        """Waits for so many bytes, or the end."""
+        self.came, self.at = self.came[self.at :], 0
         deadline = time.monotonic() + self.seconds
-        while len(self.waiting) < count:
+        while len(self.came) < count:
             self.stream.settimeout(max(deadline - time.monotonic(), 0.001))
             piece = self.stream.recv(PIECE)
             if not piece:
                 break
-            self.waiting += piece
-        taken, self.waiting = self.waiting[:count], self.waiting[count:]
-        return taken
+            self.came += piece
 
     def close(self):
         self.stream.close()

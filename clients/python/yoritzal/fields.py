@@ -27,8 +27,10 @@ class Reader:
 
     def number(self, width, most=None):
         """A number of so many bytes, which is at most `most`."""
-        at = self.at
-        number = int.from_bytes(self.take(width), "big")
+        at, end = self.at, self.at + width
+        if end > len(self.data):
+            self.refuse("bytes are lacking", len(self.data))
+        number, self.at = int.from_bytes(self.data[at:end], "big"), end
         if most is not None and number > most:
             self.refuse(f"the number {number}", at)
         return number

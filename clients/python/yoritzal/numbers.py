@@ -8,16 +8,27 @@ import time
 LAST = 2**64 - 1
 
 
+class InUse(OSError):
+    """Another process, or another object of this one, has the numbers of the file."""
+
+
 class FileNumbers:
-    """Numbers that a file keeps, from 1. Each is on the disk before it is handed out, and a lock beside the file lets
-    several processes have one channel.
+    """Numbers that a file keeps, from 1. Each is on the disk before it is handed out.
 
-    With a `block` of more than 1 so many are kept at once, and what is left of them is lost when the program ends: then
-    no other process may use the channel, since its requests would overtake them."""
+    So many as `block` are kept at once, so that a request seldom waits for the disk. From the first one to `close` no
+    other has the file, which is refused by InUse: its requests would overtake these. What is left of a block goes back
+    by `close`, or is lost where the program ends without it. With a block of 1 several processes may have one channel;
+    each number waits for the disk then."""
 
-    def __init__(self, path, block=1):
+    def __init__(self, path, block=1000):
         self.path, self.block, self.mutex = os.path.abspath(path), block, threading.Lock()
-        self.next, self.end = 1, 1
+        self.next, self.end, self.lock = 1, 1, None
+
+    def __enter__(self):
+        return self
+
+    def __exit__(self, *fault):
+        self.close()
 
     def take(self):
         with self.mutex:
@@ -25,6 +36,16 @@ class FileNumbers:
                 self.next, self.end = self._reserve()
             self.next += 1
             return self.next - 1
+
+    def close(self):
+        """Gives back what is left of the block, and lets others have the file."""
+        with self.mutex:
+            if self.lock:
+                with self.lock:
+                    # Where no block was had, the file's number stands.
+                    if self.end > 1:
+                        self._keep(self.next - 1)
+                self.next, self.end, self.lock = 1, 1, None
 
     def _reserve(self):
         """The first number of a new block, and the first behind it."""
@@ -36,11 +57,20 @@ class FileNumbers:
             self._keep(end - 1)
             return first, end
 
-    @contextlib.contextmanager
     def _alone(self):
-        with open(self.path + ".lock", "ab") as lock:
-            fcntl.flock(lock, fcntl.LOCK_EX)
-            yield
+        """What keeps others from the file: for a single number as long as it is taken, for blocks until `close`."""
+        if self.lock:
+            return contextlib.nullcontext()
+        lock = open(self.path + ".lock", "ab")
+        try:
+            fcntl.flock(lock, fcntl.LOCK_EX if self.block == 1 else fcntl.LOCK_EX | fcntl.LOCK_NB)
+        except OSError as fault:
+            lock.close()
+            raise InUse(f"{self.path}: its numbers are in use") from fault
+        if self.block == 1:
+            return lock
+        self.lock = lock
+        return contextlib.nullcontext()
 
     def _last(self):
         """The number that the file has. An empty file is none of ours: who lost the number must not start again."""

@@ -1,9 +1,10 @@
 """Replies: what a node answers. Nothing of one is believed before its tag is found right."""
+import functools
 from dataclasses import dataclass
 
 from .certificates import read_body
 from .fields import Malformed, Reader
-from .proofs import Proof, ProofFault, read_proof
+from .proofs import ProofFault, read_proof
 from .tags import TAG_BYTES, is_tag
 from .terms import ENTRY_NODES, read_term
 
@@ -24,21 +25,32 @@ class Reply:
 @dataclass(frozen=True)
 class Granted(Reply):
     """The operation is done. `kept` tells whether the proof was made for an earlier request, `entry` which entry of the
-    object's list has the right, shard and place where the request stands in the journals; `result` is what was read."""
+    object's list has the right, shard and place where the request stands in the journals; `result` is what was read.
+    The proof and the certificates that it cites are kept as they came: each is read when it is first asked for, and one
+    that spells nothing is refused by Malformed then."""
 
     kept: bool
     entry: int
     shard: int
     place: int
-    proof: Proof
-    certificates: tuple
+    proof_bytes: bytes
+    certificates_bytes: tuple
     result: bytes
     status = 0
 
+    @functools.cached_property
+    def proof(self):
+        return read_proof(self.proof_bytes)
+
+    @functools.cached_property
+    def certificates(self):
+        return tuple(map(read_body, self.certificates_bytes))
+
     def check(self, request, anchors, entries):
-        """Refuses the grant by ProofFault where its proof does not show that the one who asked speaks for its entry, by
-        the anchors of the node's opening and the certificates that it cites. `entries` is the object's access list.
-        Nothing is looked up about seals and ends of the certificates: a reply has none, and no clock is read."""
+        """Refuses the grant by ProofFault, or Malformed where it spells nothing, if its proof does not show that the one
+        who asked speaks for its entry, by the anchors of the node's opening and the certificates that it cites. `entries`
+        is the object's access list. Nothing is looked up about seals and ends of the certificates: a reply has none, and
+        no clock is read."""
         entry = entries[self.entry] if self.entry < len(entries) else None
         if entry is None or not entry.rights & request.operation.right:
             raise ProofFault(f"entry {self.entry} does not have the right")
@@ -174,8 +186,8 @@ UNSEALED = (MalformedRequest, UnknownChannel, BadSeal)
 def _read_granted(fields, channel, number):
     kept, entry = bool(fields.number(1, most=1)), fields.number(1)
     shard, place = fields.number(4), fields.number(8)
-    proof = read_proof(fields.counted(4))
-    bodies = tuple(read_body(fields.counted(2)) for _ in range(fields.number(1, most=MAX_CITED)))
+    proof = fields.counted(4)
+    bodies = tuple(fields.counted(2) for _ in range(fields.number(1, most=MAX_CITED)))
     return Granted(channel, number, kept, entry, shard, place, proof, bodies, fields.counted(2))
 
 
@@ -210,7 +222,7 @@ def _read_fields(fields, channel, number):
 
 
 def read_reply(payload):
-    """The reply that is spelled by the payload. Its tag is not looked at."""
+    """The reply that is spelled by the payload. Its tag is not looked at, nor the proof of a grant."""
     fields = Reader(payload[:-TAG_BYTES])
     if len(payload) < TAG_BYTES or fields.number(1) != VERSION:
         fields.refuse("a reply of another version", 0)
@@ -233,15 +245,21 @@ class Unbelieved(ValueError):
         super().__init__(what)
         self.told = told
 
+    @property
+    def why(self):
+        """Both, for a person."""
+        return f"{self} ({self.told})" if self.told else str(self)
+
 
 def believed(payload, channel, key):
     """The reply under the key of this channel. Any other payload is refused by Unbelieved."""
     if len(payload) <= TAG_BYTES:
         raise Unbelieved("no reply")
     if is_unsealed(payload):
-        raise Unbelieved("a reply that nobody sealed", _told(payload))
+        told = _told(payload)
+        raise Unbelieved("a reply that nobody sealed" + _may_be(told, channel), told)
     if not is_tag(payload[-TAG_BYTES:], key, payload[:-TAG_BYTES]):
-        raise Unbelieved("another tag than that of the channel's key")
+        raise Unbelieved(f"another tag than that of channel {channel}'s key: the node has another key for it, or somebody on the way changed the reply")
     try:
         reply = read_reply(payload)
     except Malformed as fault:
@@ -249,6 +267,17 @@ def believed(payload, channel, key):
     if reply.channel != channel:
         raise Unbelieved(f"a reply to channel {reply.channel}")
     return reply
+
+
+def _may_be(told, channel):
+    """What may be the matter where an unsealed reply says so, if a node sent it."""
+    if isinstance(told, BadSeal):
+        return f": the node may have another key for channel {channel}, or somebody on the way changed the request"
+    if isinstance(told, UnknownChannel):
+        return f": the node may have no channel {told.unknown}"
+    if isinstance(told, MalformedRequest):
+        return f": the request may have been changed at byte {told.offset}, or the node reads another form"
+    return ": the node may be out of memory" if isinstance(told, OutOfMemory) else ""
 
 
 def _told(payload):

@@ -3,12 +3,14 @@ from dataclasses import dataclass, field
 
 from .certificates import quoted_field
 from .fields import counted, number
-from .tags import tagged
+from .tags import TAG_BYTES, tagged
 from .terms import ENTRY_NODES, QUOTED_NODES, Key, Quoting, term
 
 READ, WRITE, CONTROL, MANAGE = 1, 2, 4, 8
 MAX_CONTENT, MAX_ENTRIES, MAX_PRESENTED, MAX_REQUEST = 4096, 8, 16, 65536
 DIGEST_BYTES = 32
+# Version, channel and number.
+HEAD_BYTES = 13
 
 
 @dataclass(frozen=True)
@@ -120,15 +122,29 @@ class Request:
         """Who asks."""
         return Key(self.channel) if self.quoted is None else Quoting(Key(self.channel), self.quoted)
 
-    def payload(self, key):
-        """The request's bytes, under the channel's key. What has no spelling is refused by ValueError."""
+    def spell(self):
+        """Spells what stands before the number and behind it, once. What has no spelling is refused by ValueError."""
+        if "spelled" not in self.__dict__:
+            self.__dict__["spelled"] = b"\3" + number(self.channel, 4), self._asked()
+        return self.spelled
+
+    def _asked(self):
         if len(self.certificates) > MAX_PRESENTED:
             raise ValueError(f"{len(self.certificates)} certificates, more than {MAX_PRESENTED}")
-        text = b"\3" + number(self.channel, 4) + number(self.number, 8)
-        text += quoted_field(self.quoted, QUOTED_NODES)
-        text += number(self.operation.code, 1) + number(self.object, 4) + self.operation.fields()
-        text += number(len(self.certificates), 1) + b"".join(counted(each, 2) for each in self.certificates)
-        payload = tagged(key, text)
-        if len(payload) > MAX_REQUEST:
-            raise ValueError(f"a request of {len(payload)} bytes")
-        return payload
+        asked = quoted_field(self.quoted, QUOTED_NODES)
+        asked += number(self.operation.code, 1) + number(self.object, 4) + self.operation.fields()
+        asked += number(len(self.certificates), 1) + b"".join(counted(each, 2) for each in self.certificates)
+        if HEAD_BYTES + len(asked) + TAG_BYTES > MAX_REQUEST:
+            raise ValueError(f"a request of {HEAD_BYTES + len(asked) + TAG_BYTES} bytes")
+        return asked
+
+    def numbered(self, given):
+        """The same under another number."""
+        other = Request(self.channel, given, self.object, self.operation, self.certificates, self.quoted)
+        other.__dict__["spelled"] = self.spell()
+        return other
+
+    def payload(self, key):
+        """The request's bytes, under the channel's key. What has no spelling is refused by ValueError."""
+        head, asked = self.spell()
+        return tagged(key, head + number(self.number, 8) + asked)

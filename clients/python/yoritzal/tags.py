@@ -1,5 +1,4 @@
 """Tags: HMAC-SHA-256 by a key that both ends have."""
-import hashlib
 import hmac
 
 TAG_BYTES = KEY_BYTES = 32
@@ -8,7 +7,7 @@ TAG_BYTES = KEY_BYTES = 32
 def tag(key, text):
     if len(key) != KEY_BYTES:
         raise ValueError(f"a key of {len(key)} bytes")
-    return hmac.new(key, text, hashlib.sha256).digest()
+    return hmac.digest(key, text, "sha256")
 
 
 def is_tag(found, key, text):

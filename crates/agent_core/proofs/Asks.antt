@@ -51,13 +51,7 @@ on_err (Err e) p = p
 abbrev pub IsToldOfAsk : Told → Type 0
 IsToldOfAsk (Told.Replayed last) = Unit {0}
 IsToldOfAsk (Told.Full held) = Unit {0}
-IsToldOfAsk (Told.Hit entry) = ⊥
-IsToldOfAsk Told.Miss = ⊥
-IsToldOfAsk Told.Kept = ⊥
-IsToldOfAsk (Told.Dropped cause) = ⊥
-IsToldOfAsk (Told.Held added) = ⊥
-IsToldOfAsk (Told.CommonsFull held) = ⊥
-IsToldOfAsk (Told.Removed count) = ⊥
+IsToldOfAsk _ = ⊥
 
 module _ (plan : Plan) (before : List Entry) (a : Ask) where
   missed : (told : Told) (moment : ℕ) (certs : List Certificate) → IsAnswer plan before (Asks a) told (Miss moment certs) →

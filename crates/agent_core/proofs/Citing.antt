@@ -1,11 +1,11 @@
 -- What a decider's proof cites of the live certificates.
-use Rattle.std.proofs.Common.{◌≡◌, ℕ, ◌<◌, true, List, ◌∷◌, length, map, nat_lt, Option, Some, None, All, Contains, slice_get, refl, sym, ap, ap₂, ◌∙◌, subst, arith}
+use Rattle.std.proofs.Common.{◌≡◌, ℕ, ◌<◌, true, List, ◌∷◌, length, map, Option, Some, None, All, Contains, slice_get, refl, sym, ap, ap₂, ◌∙◌, subst, arith}
 use Rattle.std.specs.List.{cons_option}
 use Rattle.std.specs.Option.{option_map}
-use Rattle.std.proofs.lemmas.Bool.{ltb-true}
 use Rattle.std.proofs.lemmas.List.Elements.{All-nil, All-cons}
 use Rattle.std.proofs.lemmas.Option.{slice_get-map, slice_get-get_or, slice_get_within}
-use Rattle.stmt_codec.specs.Certificates.{Certificate}
+use Rattle.stmt_codec.specs.Certificates.{Certificate, is_live, IsLive}
+use Rattle.stmt_codec.proofs.Living.{is_live-true}
 use Rattle.prin_term.specs.declared.term.Anchor.{Anchor}
 use Rattle.prin_term.specs.Principal.{Principal}
 use Rattle.prin_term.specs.View.{Grant}
@@ -22,20 +22,20 @@ use Rattle.agent_core.specs.State.{Ask}
 pub record Cites (certs : List Certificate) (moment : ℕ) (places : List ℕ) (said : List Claim) : Type 0 where
   pub inside : All (λ i. i < length certs) places
   pub says : claims (at_places certs places) ≡ said
-  pub alive : All (λ (x : Certificate). moment < x.until) (at_places certs places)
+  pub alive : All (IsLive moment) (at_places certs places)
 
 -- one certificate more
 cites_one : (certs : List Certificate) (moment place : ℕ) (claim : Claim) (places : List ℕ) (said : List Claim) → Cites certs moment places said → (o : Option Certificate) → slice_get certs place ≡ o →
-    option_map claim_of o ≡ Some claim → option_map (λ (c : Certificate). nat_lt moment c.until) o ≡ Some true → Cites certs moment (place ∷ places) (claim ∷ said)
+    option_map claim_of o ≡ Some claim → option_map (is_live moment) o ≡ Some true → Cites certs moment (place ∷ places) (claim ∷ said)
 cites_one certs moment place claim places said rest None at says lives = absurd cc
 cites_one certs moment place claim places said rest (Some c) at says lives =
     let here : claim_of c ≡ claim = cc in
-    let live : nat_lt moment c.until ≡ true = cc in
+    let live : is_live moment c ≡ true = cc in
     let list : at_places certs (place ∷ places) ≡ c ∷ at_places certs places = ap (λ (o : Option Certificate). cons_option o (at_places certs places)) at in
     record {
       inside = All-cons (λ i. i < length certs) place places (slice_get_within certs place c at) rest.inside;
       says = ap claims list ∙ ap₂ (λ (x : Claim) (xs : List Claim). x ∷ xs) here rest.says;
-      alive = subst (All (λ (x : Certificate). moment < x.until)) (sym list) (All-cons (λ (x : Certificate). moment < x.until) c (at_places certs places) (ltb-true moment c.until live) rest.alive);
+      alive = subst (All (IsLive moment)) (sym list) (All-cons (IsLive moment) c (at_places certs places) (is_live-true moment c live) rest.alive);
     }
 
 module _ (certs : List Certificate) (moment : ℕ) where
@@ -44,13 +44,13 @@ module _ (certs : List Certificate) (moment : ℕ) where
       let p = picked-at 0 (map claim_of certs) (live_marks certs moment) has.0 place claim (slice_get-get_or (picked 0 (map claim_of certs) (live_marks certs moment)) has.0 (place, claim) has.1 ∙ ap Some has.2) in
       let e : p.number ≡ place = omega (arith, p.place_is) in
       let says : option_map claim_of (slice_get certs p.number) ≡ Some claim = sym (slice_get-map claim_of certs p.number) ∙ p.stands in
-      let lives : option_map (λ (c : Certificate). nat_lt moment c.until) (slice_get certs p.number) ≡ Some true = sym (slice_get-map (λ (c : Certificate). nat_lt moment c.until) certs p.number) ∙ p.marked in
+      let lives : option_map (is_live moment) (slice_get certs p.number) ≡ Some true = sym (slice_get-map (is_live moment) certs p.number) ∙ p.marked in
       cites_one certs moment place claim places said rest (slice_get certs place) refl
       (subst (λ i. option_map claim_of (slice_get certs i) ≡ Some claim) e says)
-      (subst (λ i. option_map (λ (c : Certificate). nat_lt moment c.until) (slice_get certs i) ≡ Some true) e lives)
+      (subst (λ i. option_map (is_live moment) (slice_get certs i) ≡ Some true) e lives)
 
   pub cited : {places : List ℕ} {said : List Claim} → AreCited (picked 0 (map claim_of certs) (live_marks certs moment)) places said → Cites certs moment places said
-  cited no_cite = record { inside = All-nil (λ i. i < length certs); says = refl; alive = All-nil (λ (x : Certificate). moment < x.until) }
+  cited no_cite = record { inside = All-nil (λ i. i < length certs); says = refl; alive = All-nil (IsLive moment) }
   cited (a_cite {place = place} {claim = claim} {places = places} {said = said} has rest) = cite_at place claim places said has (cited rest)
 
 module _ (anchors : List Anchor) (certs : List Certificate) (moment : ℕ) (a : Ask) (q : Question)
@@ -74,7 +74,7 @@ module _ (anchors : List Anchor) (certs : List Certificate) (moment : ℕ) (a : 
         places = places;
         inside = cites.inside;
         cites_are = cites_are;
-        alive = subst (All (λ (x : Certificate). moment < x.until)) (sym cites_are) cites.alive;
+        alive = subst (All (IsLive moment)) (sym cites_are) cites.alive;
         proves = subst (λ (x : Principal). Proves anchors (claims c.cites) c.proof (SpeaksFor c.subject x)) (sym who_is) four;
         tidy = subst (λ (ls : List Line). IsTidy ls places) (sym proof_is) p.tidy;
         lease_is = lease;

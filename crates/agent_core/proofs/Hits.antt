@@ -2,7 +2,7 @@
 use Rattle.std.proofs.Common.{◌≡◌, ℕ, ◌+◌, ◌<◌, ◌≤◌, ◌≢◌, max, Bool, true, false, not, ◌&&◌, ◌==◌, nat_le, nat_lt, List, [], ◌∷◌, ◌++◌, length, take, map}
 use Rattle.std.proofs.Common.{get_or, filter, find, bit_and, position, All, Contains, Option, Some, None, slice_get, zero, suc, inl, inr, refl, sym, ◌∙◌, ap, ap₂, subst, arith}
 use Rattle.std.specs.List.{list_any}
-use Rattle.std.proofs.lemmas.Bool.{cond_both, cond-true, cond-false, and_parts, lt-ltb, not-true, eqb-false, cases_Bool}
+use Rattle.std.proofs.lemmas.Bool.{cond_both, cond-true, cond-false, and_parts, not-true, eqb-false, cases_Bool}
 use Rattle.std.proofs.lemmas.Option.{slice_get-get_or, same_Some, none-some}
 use Rattle.std.proofs.lemmas.List.Elements.{All-weaker, All-map, All-head, All-tail, Contains-append_left}
 use Rattle.std.proofs.lemmas.List.Folds.{Any-from_list_any}
@@ -11,13 +11,14 @@ use Rattle.prin_term.specs.declared.term.Anchor.{Anchor}
 use Rattle.prin_term.specs.Principal.{Principal}
 use Rattle.prin_term.specs.View.{Grant}
 use Rattle.stmt_codec.specs.Certificates.{Certificate, live}
+use Rattle.stmt_codec.proofs.Living.{live-to}
 use Rattle.taos_calculus.specs.Rules.{Claim, Judgement, SpeaksFor, Derivable, Proves}
 use Rattle.taos_calculus.specs.Question.{claim_of}
 use Rattle.taos_calculus.specs.Monitor.{HasRight, MaySpeak}
 use Rattle.taos_calculus.proofs.Induction.{All-at}
 use Rattle.taos_calculus.proofs.Staying.{derives_more}
 use Rattle.denial_link.specs.Revived.{claims}
-use Rattle.denial_link.proofs.Members.{Contains-to_filter, Contains-to_map}
+use Rattle.denial_link.proofs.Members.{Contains-to_map}
 use Rattle.proof_cache.specs.Cached.{Cached}
 use Rattle.proof_cache.specs.Cache.{is_for}
 use Rattle.proof_cache.proofs.Marks.{is_kept_for}
@@ -104,9 +105,9 @@ module _ (plan : Plan) (t : State) (a : Ask) (on : channel_of a.subject ≡ Some
       subst (λ o. All (Contains (own_of t o ++ t.commons)) c.cites) (ap channel_of same ∙ on) b.held in
       let ahead : t.clock < c.lease = b.ahead in
       All-weaker (λ (d : Certificate). (c.lease ≤ d.until) × Contains (t.own a.channel ++ t.commons) d) (Contains (live (judged_certs t a) t.clock))
-      (λ d h. Contains-to_filter (λ (x : Certificate). nat_lt t.clock x.until) (judged_certs t a) d
+      (λ d h. live-to (judged_certs t a) t.clock d
       (own_more plan (t.own a.channel) (t.own a.channel ++ brought t a) t.commons (λ x i. Contains-append_left (t.own a.channel) (brought t a) x i) d h.1)
-      (lt-ltb t.clock d.until (omega (arith, h.0, ahead))))
+      (omega (arith, h.0, ahead)))
       c.cites (All-both (λ (d : Certificate). c.lease ≤ d.until) (Contains (t.own a.channel ++ t.commons)) c.cites late here)
 
   -- a backed proof that is kept for an entry with the right grants it

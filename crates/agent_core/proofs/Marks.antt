@@ -1,10 +1,10 @@
 -- A decider that was asked about the live certificates decides by what they say.
-use Rattle.std.proofs.Common.{◌≡◌, ℕ, ◌+◌, Bool, true, false, cond, List, [], ◌∷◌, map, nat_lt, Option, Some, None, MatchOption, refl, sym, ap, ◌∙◌, subst}
+use Rattle.std.proofs.Common.{◌≡◌, ℕ, ◌+◌, Bool, true, false, cond, List, [], ◌∷◌, map, Option, Some, None, MatchOption, refl, sym, ap, ◌∙◌, subst}
 use Rattle.std.proofs.lemmas.List.{length-map}
 use Rattle.prin_term.specs.declared.term.Anchor.{Anchor}
 use Rattle.prin_term.specs.Principal.{Principal}
 use Rattle.prin_term.specs.View.{Grant}
-use Rattle.stmt_codec.specs.Certificates.{Certificate, live}
+use Rattle.stmt_codec.specs.Certificates.{Certificate, is_live, live}
 use Rattle.taos_calculus.specs.Rules.{Claim}
 use Rattle.taos_calculus.specs.Monitor.{FirstEntry, Grants, MaySpeak}
 use Rattle.taos_calculus.specs.Question.{Question, question_of, claim_of, picked, IsAskable, MayAnswer}
@@ -27,15 +27,15 @@ map_if c cs false = refl
 picked_live : (at : ℕ) (certs : List Certificate) (moment : ℕ) → map (λ (x : ℕ × Claim). x.1) (picked at (map claim_of certs) (live_marks certs moment)) ≡ claims (live certs moment)
 picked_live at [] moment = refl
 picked_live at (c ∷ certs) moment =
-    picked_one at (claim_of c) (map claim_of certs) (live_marks certs moment) (claims (live certs moment)) (picked_live (at + 1) certs moment) (nat_lt moment c.until) ∙
-    map_if c (live certs moment) (nat_lt moment c.until)
+    picked_one at (claim_of c) (map claim_of certs) (live_marks certs moment) (claims (live certs moment)) (picked_live (at + 1) certs moment) (is_live moment c) ∙
+    map_if c (live certs moment) (is_live moment c)
 
 pub askable_live : (anchors : List Anchor) (certs : List Certificate) (marks : List Bool) (moment : ℕ) (subject : Principal) (list : List Grant) → IsAskable anchors certs marks subject list →
     IsAskable anchors certs (live_marks certs moment) subject list
 askable_live anchors certs marks moment subject list is = record {
   anchors_fit = is.anchors_fit;
   certs_fit = is.certs_fit;
-  chosen_fit = length-map certs (λ (c : Certificate). nat_lt moment c.until);
+  chosen_fit = length-map certs (is_live moment);
   subject_fits = is.subject_fits;
   list_fits = is.list_fits;
   entries_fit = is.entries_fit;

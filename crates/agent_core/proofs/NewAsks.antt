@@ -1,8 +1,10 @@
 -- An Ask whose number is new and that has room: what is told of it, and by what it is judged.
-use Rattle.std.proofs.Common.{◌≡◌, ℕ, List, ◌++◌, Option, None, Some, sym, ap, ◌∙◌, subst}
+use Rattle.std.proofs.Common.{◌≡◌, ℕ, List, ◌++◌, Option, None, Some, refl, sym, ap, ◌∙◌, subst}
 use Rattle.stmt_codec.specs.Certificates.{Certificate}
-use Rattle.agent_core.specs.Answers.{TakesMemory}
-use Rattle.agent_core.specs.Caches.{unlapsed, first_hit, hit_or_miss}
+use Rattle.proof_cache.specs.Cached.{Cached}
+use Rattle.agent_core.specs.declared.told.Told.{Told}
+use Rattle.agent_core.specs.Answers.{IsPlain, TakesMemory}
+use Rattle.agent_core.specs.Caches.{unlapsed, first_hit, hit_or_miss, used_by}
 use Rattle.agent_core.specs.declared.shard.asking.Look.{Look}
 use Rattle.agent_core.specs.declared.shard.store.Store.{Store}
 use Rattle.agent_core.specs.Journals.{Entry, state_after, cache_after, told_of, told_at, IsJudged}
@@ -11,6 +13,18 @@ use Rattle.agent_core.specs.Looking.{IsLook, IsTaken}
 use Rattle.agent_core.specs.State.{Plan, State, Ask, Asks, Answer, Judged, brought, swept}
 use Rattle.agent_core.proofs.Judging.{taken}
 use Rattle.agent_core.proofs.Looks.{asked_now, judged_now}
+
+-- what is told at once of an Ask brings no kept proof to the front
+pub plain_uses_none : (a : Ask) (told : Told) (cache : List Cached) → IsPlain told → used_by a told cache ≡ cache
+plain_uses_none a (Told.Replayed last) cache plain = refl
+plain_uses_none a (Told.Full held) cache plain = refl
+plain_uses_none a (Told.Hit entry) cache plain = absurd plain
+plain_uses_none a Told.Miss cache plain = refl
+plain_uses_none a Told.Kept cache plain = refl
+plain_uses_none a (Told.Dropped cause) cache plain = refl
+plain_uses_none a (Told.Held added) cache plain = refl
+plain_uses_none a (Told.CommonsFull held) cache plain = refl
+plain_uses_none a (Told.Removed count) cache plain = refl
 
 memory_taken : (o : Option ℕ) → TakesMemory (hit_or_miss o)
 memory_taken None = tt

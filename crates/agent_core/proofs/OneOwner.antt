@@ -9,11 +9,10 @@ use Rattle.std.proofs.lemmas.List.Elements.{All-set, All-more}
 use Rattle.std.proofs.lemmas.Option.{same_Some, slice_get-map, slice_get-get_or, slice_get_within}
 use Rattle.prin_term.specs.declared.term.Anchor.{Anchor}
 use Rattle.agent_core.specs.declared.told.Answer.{Answer}
-use Rattle.agent_core.specs.declared.told.Answer.TheVariants as answer
 use Rattle.agent_core.specs.State.{Plan, Event}
-use Rattle.agent_core.specs.Journals.{Entry, entry, Begins, ShardSeen, IsMeant, IsLegalJournal}
+use Rattle.agent_core.specs.Journals.{Entry, entry, Begins, ShardSeen, IsMeant, IsLegalJournal, told_at}
 use Rattle.agent_core.specs.Steps.{JournalSeen, StepAnswer, Steps, StepsTo, StepRefused}
-use Rattle.agent_core.specs.Answers.{OfAnswer, Stepped, SteppedTo, WantsMemory}
+use Rattle.agent_core.specs.Answers.{Given, Handed, Full, given_by, OfGiven, OfAnswer, Stepped, SteppedTo, TakesMemory}
 use Rattle.agent_core.specs.Plans.{AreShards}
 use Rattle.agent_core.specs.Alone.{LoneSeen, plans_in, journal_of, seen_in, own_in, places_from, lone_at, HasLegalJournal, IsLone, StepsLone}
 use Rattle.taos_calculus.proofs.Induction.{All-at}
@@ -25,30 +24,20 @@ use Rattle.agent_core.proofs.Places.{set_same, set_other}
 
 -- what follows from what holds of an answer
 module _ (H H' : StepAnswer → Type 0) (F F' : ℕ → Type 0) (handed : (x : StepAnswer) → H x → H' x) (full : (n : ℕ) → F n → F' n) where
+  of_given : (g : Given) → OfGiven H F g → OfGiven H' F' g
+  of_given (Handed x) h = handed x h
+  of_given (Full n) h = full n h
+
   pub of_answer : (r : Answer) → OfAnswer H F r → OfAnswer H' F' r
-  of_answer (answer.Replayed last) h = handed _ h
-  of_answer (answer.Full held) h = handed _ h
-  of_answer (answer.Hit e c) h = handed _ h
-  of_answer (answer.Miss snapshot) h = handed _ h
-  of_answer answer.Kept h = handed _ h
-  of_answer (answer.Dropped cause) h = handed _ h
-  of_answer (answer.Held added) h = handed _ h
-  of_answer (answer.CommonsFull held) h = handed _ h
-  of_answer (answer.Removed count) h = handed _ h
-  of_answer (answer.JournalFull n) h = full n h
+  of_answer r = of_given (given_by r)
 
 module _ (H : StepAnswer → Type 0) (F : ℕ → Type 0) (P : Type 0) (handed : (x : StepAnswer) → H x → P) (full : (n : ℕ) → F n → P) where
+  from_given : (g : Given) → OfGiven H F g → P
+  from_given (Handed x) h = handed x h
+  from_given (Full n) h = full n h
+
   pub from_answer : (r : Answer) → OfAnswer H F r → P
-  from_answer (answer.Replayed last) h = handed _ h
-  from_answer (answer.Full held) h = handed _ h
-  from_answer (answer.Hit e c) h = handed _ h
-  from_answer (answer.Miss snapshot) h = handed _ h
-  from_answer answer.Kept h = handed _ h
-  from_answer (answer.Dropped cause) h = handed _ h
-  from_answer (answer.Held added) h = handed _ h
-  from_answer (answer.CommonsFull held) h = handed _ h
-  from_answer (answer.Removed count) h = handed _ h
-  from_answer (answer.JournalFull n) h = full n h
+  from_answer r = from_given (given_by r)
 
 -- ---- the places that were added
 
@@ -235,7 +224,7 @@ module _ (l : LoneSeen) (anchors : List Anchor) (is : IsLone l.shards l.opened a
       let same = seen_other l.shards number s s' here same_plan k other in
       (same, ap (λ (j : List Entry). places_from (slice_get l.opened k) (length j)) same)
 
-  pub lone_steps : {E : Type 0} (r : Result (ℕ × Answer) E) → IfOk r (λ x. Stepped s.plan s.journal event s'.journal x.0 x.1) → OnErr r (WantsMemory s.plan s.journal event) →
+  pub lone_steps : {E : Type 0} (r : Result (ℕ × Answer) E) → IfOk r (λ x. Stepped s.plan s.journal event s'.journal x.0 x.1) → OnErr r (TakesMemory (told_at s.plan s.journal event)) →
       OnErr r (length s.journal < s.plan.limit) → OnErr r (s' ≡ s) → StepsLone l after number event r
   lone_steps (Ok x) answered wanted room unchanged = record {
     steps = λ plan at. subst (λ p. SteppedTo p (lone_at l number) (lone_at after number) event x.0 x.1)
@@ -253,8 +242,8 @@ module _ (l : LoneSeen) (anchors : List Anchor) (is : IsLone l.shards l.opened a
         steps = λ plan at. tt;
         refused = λ plan at. subst (λ shards. StepRefused plan (lone_at l number) (lone_at (record { shards = shards; opened = l.opened }) number)) (sym same)
             (record { goes_on = begins_itself (seen_in l.shards number); undisturbed = λ e. refl; legal = lone_legal l.shards is.legal number plan at; owned = refl });
-        wanted = λ plan at. subst (λ p. WantsMemory p (seen_in after.shards number) event) (plan_is l.shards number s s' here same_plan plan at)
-            (subst (λ j. WantsMemory s.plan j event) (sym seen) wanted);
+        wanted = λ plan at. subst (λ p. TakesMemory (told_at p (seen_in after.shards number) event)) (plan_is l.shards number s s' here same_plan plan at)
+            (subst (λ j. TakesMemory (told_at s.plan j event)) (sym seen) wanted);
         room = λ plan at. subst (λ p. length (seen_in after.shards number) < p.limit) (plan_is l.shards number s s' here same_plan plan at)
             (subst (λ (j : List Entry). length j < s.plan.limit) (sym seen) room);
         others = others_stay;

@@ -4,10 +4,10 @@ use Rattle.std.specs.List.{range_with_len}
 use Rattle.prin_term.specs.declared.term.Anchor.{Anchor}
 use Rattle.agent_core.specs.declared.told.Answer.{Answer}
 use Rattle.agent_core.specs.State.{Plan, Event}
-use Rattle.agent_core.specs.Answers.{SteppedTo, WantsMemory}
+use Rattle.agent_core.specs.Answers.{SteppedTo, TakesMemory}
 use Rattle.agent_core.specs.Steps.{JournalSeen, StepRefused, seen_at}
 use Rattle.agent_core.specs.Plans.{AreShards}
-use Rattle.agent_core.specs.Journals.{Entry, ShardSeen, IsLegalJournal}
+use Rattle.agent_core.specs.Journals.{Entry, ShardSeen, IsLegalJournal, told_at}
 
 -- the shards in order, and how long each journal was at first
 pub record LoneSeen : Type 0 where
@@ -71,7 +71,7 @@ pub record StepsLone {E : Type 0} (l l' : LoneSeen) (number : ℕ) (event : Even
       OnErr r (StepRefused plan (lone_at l number) (lone_at l' number))
   -- a step fails only where something is kept or handed out
   pub wanted : (plan : Plan) → HasPlanAt l number plan →
-      OnErr r (WantsMemory plan (seen_in l'.shards number) event)
+      OnErr r (TakesMemory (told_at plan (seen_in l'.shards number) event))
   -- a step fails only where the journal has room
   pub room : (plan : Plan) → HasPlanAt l number plan →
       OnErr r (length (seen_in l'.shards number) < plan.limit)

@@ -2,7 +2,7 @@
 use Rattle.std.specs.Prelude.{◌≡◌, ℕ, ◌<◌, List, length, Some, slice_get, All, Contains}
 use Rattle.prin_term.specs.declared.term.Anchor.{Anchor}
 use Rattle.prin_term.specs.View.{Grant}
-use Rattle.stmt_codec.specs.Certificates.{Certificate, live}
+use Rattle.stmt_codec.specs.Certificates.{Certificate, IsLive, live}
 use Rattle.taos_calculus.specs.Rules.{SpeaksFor, Proves}
 use Rattle.taos_calculus.specs.Monitor.{HasRight, MaySpeak}
 use Rattle.taos_calculus.specs.Tidy.{IsTidy}
@@ -28,7 +28,7 @@ pub record IsProofFor (anchors : List Anchor) (certs : List Certificate) (moment
   pub places : List ℕ
   pub inside : All (λ i. i < length certs) places
   pub cites_are : c.cites ≡ at_places certs places
-  pub alive : All (λ (x : Certificate). moment < x.until) c.cites
+  pub alive : All (IsLive moment) c.cites
   pub proves : Proves anchors (claims c.cites) c.proof (SpeaksFor c.subject c.who)
   -- nothing in the proof or among its cites is without use
   pub tidy : IsTidy c.proof places

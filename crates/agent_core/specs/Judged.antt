@@ -1,8 +1,8 @@
 -- The verdict on an Ask, by certificates and a moment.
-use Rattle.std.specs.Prelude.{ℕ, Bool, List, map, nat_lt}
+use Rattle.std.specs.Prelude.{ℕ, Bool, List, map}
 use Rattle.prin_term.specs.declared.term.Anchor.{Anchor}
 use Rattle.prin_term.specs.View.{Grant}
-use Rattle.stmt_codec.specs.Certificates.{Certificate, live}
+use Rattle.stmt_codec.specs.Certificates.{Certificate, is_live, live}
 use Rattle.taos_calculus.specs.Monitor.{FirstEntry, Grants, MaySpeak}
 use Rattle.denial_link.specs.Revived.{claims}
 use Rattle.denial_link.specs.Links.{IsFirstLink}
@@ -13,7 +13,7 @@ use Rattle.agent_core.specs.State.{Ask}
 
 -- for each certificate, whether it is live at the moment
 abbrev pub live_marks : List Certificate → ℕ → List Bool
-live_marks certs moment = map (λ (c : Certificate). nat_lt moment c.until) certs
+live_marks certs moment = map (is_live moment) certs
 
 -- what is found is the monitor's verdict: the first entry that grants; or the first link, where
 -- nothing is granted

@@ -1,5 +1,5 @@
 -- What the code keeps of a shard and what it stands for; no contract of another crate speaks of it.
-use Rattle.std.specs.Prelude.{◌≡◌, ◌≢◌, ℕ, ◌<◌, ◌≤◌, get_or, Bool, false, not, ◌==◌, if◌then◌else◌, List, [], ◌∷◌, ◌++◌, length, map, Option, None, Some, slice_get, filter, bytes_eq, vec_capacity}
+use Rattle.std.specs.Prelude.{◌≡◌, ◌≢◌, ℕ, ◌<◌, ◌≤◌, get_or, Bool, false, not, ◌==◌, if◌then◌else◌, List, [], ◌∷◌, ◌++◌, length, map, Option, None, Some, slice_get, filter, bytes_eq, vec_capacity, All}
 use Rattle.std.specs.declared.alloc.Global.{Global}
 use Rattle.std.specs.declared.vec.Vec.{Vec}
 use Rattle.stmt_codec.specs.Certificates.{Certificate, digest_of}
@@ -18,7 +18,8 @@ use Rattle.agent_core.specs.declared.told.Told.{Told}
 use Rattle.proof_cache.specs.Cached.{Cached}
 use Rattle.agent_core.specs.Caches.{who_at}
 use Rattle.agent_core.specs.State.{Plan, State, Ask, Event, Asks, Plain, is_gone, next}
-use Rattle.agent_core.specs.Journals.{Entry, entry, state_after, IsLegalJournal}
+use Rattle.agent_core.specs.Journals.{Entry, entry, state_after, cache_after, IsLegalJournal}
+use Rattle.agent_core.specs.Answers.{FitsEvent}
 use Rattle.agent_core.specs.Views.{entry_of}
 
 -- whether the removal lets the certificate go
@@ -99,6 +100,14 @@ pub record IsKept (plan : Plan) (entries : Vec ShardEntry Global) (store : Store
   pub within : length entries.items ≤ plan.limit
   -- no entry that the plan allows needs more memory
   pub room : plan.limit ≤ vec_capacity entries
+
+-- a shard: its store stands for the state after its entries, which are within the limits, and its
+-- cache has the proofs that are kept after them
+pub record IsShard (plan : Plan) (entries : Vec ShardEntry Global) (store : Store)
+    (cache : List Cached) : Type 0 where
+  pub kept : IsKept plan entries store
+  pub fits : All (λ (e : Entry). FitsEvent e.event) (map entry_of entries.items)
+  pub cached : cache ≡ cache_after plan (map entry_of entries.items)
 
 -- the event is told at once, and journaled
 pub record Tells (plan : Plan) (before : Vec ShardEntry Global) (event : Event) (told : Told)

@@ -8,7 +8,6 @@ pub mod Plans
 pub mod Opened
 pub mod Names
 pub mod Kept
-pub mod Presented
 pub mod Letting
 pub mod Looking
 pub mod Answers

@@ -7,7 +7,6 @@ use Rattle.std.specs.Arc.{arc_value}
 use Rattle.prin_term.specs.Principal.{Principal}
 use Rattle.prin_term.specs.View.{Grant}
 use Rattle.stmt_codec.specs.Certificates.{Certificate}
-use Rattle.stmt_codec.specs.View.{certificates}
 use Rattle.proof_cache.specs.Cached.{Cached, cached}
 use Rattle.proof_cache.specs.Cache.{is_for}
 use Rattle.proof_cache.specs.declared.cached.Cached.{Cached as CachedValue}
@@ -15,14 +14,14 @@ use Rattle.agent_core.specs.declared.shard.asking.Look.{Look}
 use Rattle.agent_core.specs.declared.limits.TheConstants.{MAX_OWN}
 use Rattle.agent_core.specs.declared.event.ShardEntry.{ShardEntry}
 use Rattle.agent_core.specs.declared.shard.store.Store.{Store}
-use Rattle.agent_core.specs.declared.told.Snapshot.{Snapshot}
 use Rattle.agent_core.specs.declared.told.Told.{Told}
 use Rattle.agent_core.specs.declared.told.Answer.{Answer}
-use Rattle.agent_core.specs.declared.told.Answer.TheVariants as answer
 use Rattle.agent_core.specs.State.{Plan, State, Ask, Event, Asks, swept, brought}
 use Rattle.agent_core.specs.Caches.{first_hit, gives_right, unlapsed}
 use Rattle.agent_core.specs.Journals.{Entry, entry, cache_after, IsJudged}
 use Rattle.agent_core.specs.Kept.{IsKept, Tells}
+use Rattle.agent_core.specs.Answers.{OfAnswer}
+use Rattle.agent_core.specs.Steps.{StepAnswer, Hit, Miss, Other}
 use Rattle.agent_core.specs.Views.{entry_of}
 
 -- the Ask's moment, how much its channel holds then, and what the Ask brings
@@ -62,47 +61,38 @@ Serves cache a (Some (e, c)) = (g : Grant) × (first_hit cache a ≡ Some e)
     × (slice_get a.list e ≡ Some g)
     × (find (is_for a.subject g.who) cache ≡ Some (cached (arc_value {X = CachedValue} c)))
 
--- the event is an Ask that is to be judged by what the snapshot has
-pub record Misses (plan : Plan) (before : Vec ShardEntry Global) (event : Event)
-    (snapshot : Snapshot) (after : Vec ShardEntry Global) (store : Store) : Type 0 where
+-- the event is an Ask that is to be judged at the moment by these certificates
+pub record Misses (plan : Plan) (before : Vec ShardEntry Global) (event : Event) (moment : ℕ)
+    (certs : List Certificate) (after : Vec ShardEntry Global) (store : Store) : Type 0 where
   pub ask : Ask
   pub is : event ≡ Asks ask
   pub takes : Takes plan before ask Told.Miss after store
-  pub judged : IsJudged plan (map entry_of before.items) ask snapshot.moment
-      (certificates snapshot.certs.items)
+  pub judged : IsJudged plan (map entry_of before.items) ask moment certs
 
 -- the event is an Ask that this serves: an entry, and the proof that is kept for it
-pub record Hits (plan : Plan) (before : Vec ShardEntry Global) (event : Event)
-    (hit : ℕ × Cached) (after : Vec ShardEntry Global) (store : Store) : Type 0 where
+pub record Hits (plan : Plan) (before : Vec ShardEntry Global) (event : Event) (e : ℕ)
+    (c : Cached) (after : Vec ShardEntry Global) (store : Store) : Type 0 where
   pub ask : Ask
   pub is : event ≡ Asks ask
-  pub takes : Takes plan before ask (Told.Hit hit.0) after store
+  pub takes : Takes plan before ask (Told.Hit e) after store
   pub moment : ℕ
   pub certs : List Certificate
   pub judged : IsJudged plan (map entry_of before.items) ask moment certs
   pub grant : Grant
-  pub there : slice_get ask.list hit.0 ≡ Some grant
+  pub there : slice_get ask.list e ≡ Some grant
   pub found : find (is_for ask.subject grant.who)
-      (unlapsed moment (cache_after plan (map entry_of before.items))) ≡ Some hit.1
+      (unlapsed moment (cache_after plan (map entry_of before.items))) ≡ Some c
+
+-- what holds after what is handed out or told of an event
+abbrev pub HandsOut : Plan → Vec ShardEntry Global → Event → Vec ShardEntry Global → Store →
+    StepAnswer → Type 0
+HandsOut plan before event after store (Hit e c) = Hits plan before event e c after store
+HandsOut plan before event after store (Miss moment certs) =
+    Misses plan before event moment certs after store
+HandsOut plan before event after store (Other told) = Tells plan before event told after store
 
 -- what holds after an answer to an event, at a journal that was not full
 abbrev pub Answered : Plan → Vec ShardEntry Global → Event →
     Answer → Vec ShardEntry Global → Store → Type 0
-Answered plan before event (answer.Replayed last) after store =
-    Tells plan before event (Told.Replayed last) after store
-Answered plan before event (answer.Full held) after store =
-    Tells plan before event (Told.Full held) after store
-Answered plan before event (answer.Hit e c) after store =
-    Hits plan before event (e, cached (arc_value {X = CachedValue} c)) after store
-Answered plan before event (answer.Miss snapshot) after store =
-    Misses plan before event snapshot after store
-Answered plan before event answer.Kept after store = Tells plan before event Told.Kept after store
-Answered plan before event (answer.Dropped cause) after store =
-    Tells plan before event (Told.Dropped cause) after store
-Answered plan before event (answer.Held added) after store =
-    Tells plan before event (Told.Held added) after store
-Answered plan before event (answer.CommonsFull held) after store =
-    Tells plan before event (Told.CommonsFull held) after store
-Answered plan before event (answer.Removed count) after store =
-    Tells plan before event (Told.Removed count) after store
-Answered plan before event (answer.JournalFull n) after store = ⊥
+Answered plan before event answer after store =
+    OfAnswer (HandsOut plan before event after store) (λ n. ⊥) answer

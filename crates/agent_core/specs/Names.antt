@@ -3,17 +3,14 @@ use Rattle.std.specs.Prelude.{ℕ, List, [], Option, IsSome, slice_get, option_a
 use Rattle.stmt_codec.specs.Certificates.{Certificate}
 use Rattle.agent_core.specs.declared.held.name.Name.{Name}
 use Rattle.agent_core.specs.declared.held.name.Name.TheVariants.{Common, Brought}
-use Rattle.agent_core.specs.State.{Event, Asks, Keeps, Holds, Discards, Forgets, Expires}
+use Rattle.agent_core.specs.State.{Event, Asks, Holds}
 use Rattle.agent_core.specs.Journals.{Entry}
 
 -- the certificates that an event brings
 abbrev pub brought_by : Event → List Certificate
 brought_by (Asks a) = a.presented
-brought_by (Keeps ask entry c) = []
 brought_by (Holds certs) = certs
-brought_by (Discards digest) = []
-brought_by (Forgets channel) = []
-brought_by (Expires reading) = []
+brought_by _ = []
 
 -- the certificate of a name, where there is one
 abbrev pub named : List Certificate → List Entry → Name → Option Certificate

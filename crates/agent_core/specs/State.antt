@@ -79,9 +79,8 @@ at_channel channel x f c = if c == channel then x else f c
 
 -- the state at this moment, with only the certificates that pass
 abbrev pub keeping : (Certificate → Bool) → ℕ → State → State
-keeping passes moment s = record {
+keeping passes moment s = record s {
   clock = moment;
-  last = s.last;
   own = λ c. filter passes (s.own c);
   commons = filter passes s.commons;
 }
@@ -106,11 +105,9 @@ brought s a = newly (s.own a.channel ++ s.commons) a.presented
 
 -- its number is the channel's last one, and what is presented is held from then on
 abbrev pub taking : State → Ask → State
-taking s a = record {
-  clock = s.clock;
+taking s a = record s {
   last = at_channel a.channel a.seq s.last;
   own = at_channel a.channel (s.own a.channel ++ brought s a) s.own;
-  commons = s.commons;
 }
 
 -- an Ask, at a state that was swept for it
@@ -153,10 +150,7 @@ abbrev pub holding : State → List Certificate → State × Answer
 holding s new =
     if nat_lt MAX_COMMONS (length s.commons + length new)
     then (s, Plain (Told.CommonsFull (length s.commons)))
-    else (
-      record { clock = s.clock; last = s.last; own = s.own; commons = s.commons ++ new },
-      Plain (Told.Held (length new)),
-    )
+    else (record s { commons = s.commons ++ new }, Plain (Told.Held (length new)))
 
 -- ---- what is let go
 
@@ -166,12 +160,7 @@ removing plan s t = (t, Plain (Told.Removed (held_count plan s - held_count plan
 
 -- the channel's own certificates are let go, and its last number stays
 abbrev pub forgetting : ℕ → State → State
-forgetting channel s = record {
-  clock = s.clock;
-  last = s.last;
-  own = at_channel channel [] s.own;
-  commons = s.commons;
-}
+forgetting channel s = record s { own = at_channel channel [] s.own }
 
 -- the next state, and the answer
 abbrev pub next : Plan → State → Event → State × Answer

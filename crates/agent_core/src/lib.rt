@@ -6,6 +6,7 @@ mod event;
 mod gate;
 mod held;
 mod laws;
+mod limit_laws;
 mod limits;
 mod lone;
 mod opened;
@@ -24,13 +25,12 @@ pub use laws::{
     kept_proofs_hold, legal_is_allowed, one_more_is_legal, opened_are_shards, shards_hold_few,
     steps_may_be_alone, verdicts_differ, what_is_meant_stays,
 };
-pub use limits::{
-    MAX_CHANNELS, MAX_COMMONS, MAX_JOURNAL, MAX_OWN, MAX_PRESENTED, MAX_PRESENTED_BYTES, MAX_SHARDS,
-};
+pub use limit_laws::limits_are;
+pub use limits::{MAX_CHANNELS, MAX_COMMONS, MAX_JOURNAL, MAX_OWN, MAX_PRESENTED, MAX_SHARDS};
 pub use lone::Lone;
 pub use opened::open_shards;
 pub use plan::ShardPlan;
 pub use shard::Shard;
 pub use shards::Shards;
 pub use told::{Answer, DropCause, Snapshot, Told};
-pub use whole_ask::{Decision, ask, judge, proof_for};
+pub use whole_ask::{Decision, ask, granting_entry, judge, proof_for};

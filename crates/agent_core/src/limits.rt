@@ -9,15 +9,6 @@ pub const MAX_COMMONS: usize = 32;
 /// How many certificates an event brings at most.
 pub const MAX_PRESENTED: usize = 16;
 
-/// How many bytes of memory the certificates take that a shard keeps of those that Asks present.
-pub const MAX_PRESENTED_BYTES: u64 = 33_554_432;
-
-/// How many bytes of memory a certificate takes, without the nodes of its terms.
-pub const CERT_BYTES: u64 = 320;
-
-/// How many bytes of memory a node of a term takes.
-pub const NODE_BYTES: u64 = 32;
-
 /// How many channels a shard has at most.
 pub const MAX_CHANNELS: usize = 1_024;
 

@@ -1,12 +1,11 @@
 //! The machine: events in, answers out, a journal of both.
 
-ghost use Rattle.std.specs.Prelude.{◌≡◌, ◌↔◌, IsTrue, ◌<◌, ◌≤◌, [], map, length, IfOk, OnErr};
+ghost use Rattle.std.specs.Prelude.{◌≡◌, ◌↔◌, IsTrue, ◌<◌, ◌≤◌, [], map, length, All, IfOk, OnErr};
 ghost use Rattle.agent_core.specs.Plans.{IsPlan};
 ghost use Rattle.agent_core.specs.Views.{event_of, plan_of, entry_of};
-ghost use Rattle.agent_core.specs.Journals.{IsMeant, IsLegalJournal};
-ghost use Rattle.agent_core.specs.Answers.{FitsEvent, Stepped, WantsMemory};
+ghost use Rattle.agent_core.specs.Journals.{IsMeant, IsLegalJournal, told_at};
+ghost use Rattle.agent_core.specs.Answers.{FitsEvent, Stepped, TakesMemory};
 ghost use Rattle.agent_core.specs.Kept.{AreNew, first_names};
-ghost use Rattle.agent_core.specs.Presented.{PresentsLittle};
 
 mod answering;
 mod append;
@@ -28,7 +27,6 @@ use crate::held::presented::Presented;
 use crate::plan::ShardPlan;
 use crate::shard::answering::answer_to;
 use crate::shard::meant::is_taken;
-use crate::shard::presenting::kept_event;
 use crate::shard::store::{Row, Store};
 use crate::told::Answer;
 use proof_cache::Cache;
@@ -50,7 +48,7 @@ impl Model for Shard {
     ghost use Rattle.std.specs.Coded.{codes};
     ghost use Rattle.prin_term.specs.Codes.{principal_code};
     ghost use Rattle.agent_core.specs.Journals.{ShardSeen};
-    ghost use Rattle.agent_core.specs.Presented.{IsShard};
+    ghost use Rattle.agent_core.specs.Kept.{IsShard};
     ghost use Rattle.agent_core.specs.Views.{entry_of, plan_of};
 
     ghost Value = { ShardSeen };
@@ -59,9 +57,9 @@ impl Model for Shard {
 
     ghost view = { λ s. record { plan = plan_of s.plan; journal = map entry_of s.entries.items } };
 
-    // What is kept stands for the state after the entries, which are legal and have room, and for
-    // the proofs that they keep; the certificates that Asks present are counted.
-    ghost invariant = { λ s. IsShard (plan_of s.plan) s.entries s.store s.presented s.cache };
+    // What is kept stands for the state after the entries, which are legal, within the limits and
+    // have room, and for the proofs that they keep.
+    ghost invariant = { λ s. IsShard (plan_of s.plan) s.entries s.store s.cache };
 }
 
 // The names of the plan's commons.
@@ -125,12 +123,11 @@ impl Shard {
         &self.plan
     }
 
-    /// The events and what was told of each, in their order. What Asks presented takes no more
-    /// memory than `MAX_PRESENTED_BYTES`.
+    /// The events and what was told of each, in their order.
     pub fn journal(&self) -> &[ShardEntry]
         ensures value { map entry_of result.now ≡ self.now.journal }
         ensures legal { IsLegalJournal self.now.plan self.now.journal }
-        ensures little { PresentsLittle self.now.journal }
+        ensures fits { All (λ e. FitsEvent e.event) self.now.journal }
     {
         &self.entries
     }
@@ -144,11 +141,8 @@ impl Shard {
         is_taken(&self.plan, &self.entries, event)
     }
 
-    /// Answers an event, and journals it at the place that comes with the answer. What an Ask
-    /// presents is kept: as handles to equal certificates that are kept already, and from now on the
-    /// others. Memory is refused where those would take more than `MAX_PRESENTED_BYTES`. Only an Ask
-    /// that presents certificates, or is a hit or a miss, takes memory, and a proof that is kept.
-    /// Nothing is done at a full journal.
+    /// Answers an event, and journals it at the place that comes with the answer. Only an Ask that
+    /// is a hit or a miss takes memory, and a proof that is kept. Nothing is done at a full journal.
     pub fn step(&mut self, alloc: Global, event: Event) -> Result<(u64, Answer), AllocError>
         requires meant { IsMeant self.old.plan self.old.journal (event_of event) }
         requires fits { FitsEvent (event_of event) }
@@ -156,8 +150,8 @@ impl Shard {
             self.new.journal r.0 r.1) }
         ensures plan { self.new.plan ≡ self.old.plan }
 
-        ensures wanted { OnErr result (WantsMemory self.old.plan self.old.journal
-            (event_of event)) }
+        ensures wanted { OnErr result (TakesMemory (told_at self.old.plan self.old.journal
+            (event_of event))) }
         ensures room { OnErr result (length self.old.journal < self.old.plan.limit) }
         ensures unchanged { OnErr result (self.new ≡ self.old) }
     {
@@ -165,12 +159,12 @@ impl Shard {
         if place == self.plan.limit {
             return Ok((place, Answer::JournalFull { length: place }));
         }
-        let event = kept_event(alloc, &mut self.presented, event)?;
         let answer = answer_to(
             alloc,
             &self.plan,
             &mut self.entries,
             &mut self.store,
+            &mut self.presented,
             &mut self.cache,
             event,
         )?;

@@ -1,8 +1,8 @@
 //! The shards of a node, side by side.
 
 ghost use Rattle.std.specs.Prelude.{◌≡◌, ◌≢◌, ◌<◌, ℕ, Bool, List, length, Some, slice_get, All, IfOk, OnErr};
-ghost use Rattle.agent_core.specs.Answers.{FitsEvent, SteppedTo, WantsMemory};
-ghost use Rattle.agent_core.specs.Journals.{Entry, IsMeant, IsLegalJournal};
+ghost use Rattle.agent_core.specs.Answers.{FitsEvent, SteppedTo, TakesMemory};
+ghost use Rattle.agent_core.specs.Journals.{Entry, IsMeant, IsLegalJournal, told_at};
 ghost use Rattle.agent_core.specs.Plans.{AreShards, IsPlan};
 ghost use Rattle.agent_core.specs.State.{Plan};
 ghost use Rattle.agent_core.specs.Steps.{StepRefused, seen_at};
@@ -41,8 +41,7 @@ pub trait Shards {
         ensures { AreShards (plans self.now) result.now };
 
     /// Answers an event at one shard, and journals it at the place that comes with the answer. Only
-    /// an Ask that presents certificates, or is a hit or a miss, takes memory, and a proof that is
-    /// kept. Memory is refused too where the shard would keep more of what Asks present than it may.
+    /// an Ask that is a hit or a miss takes memory, and a proof that is kept.
     fn step<W: Wait + Sync>(
         &mut self,
         rt: &W,
@@ -66,7 +65,7 @@ pub trait Shards {
             (seen_at (alone self.old) (seen self.old) (own self.old) number)
             (seen_at (alone self.old) (seen self.new) (own self.new) number)) }
         ensures wanted { (plan : Plan) → slice_get (plans self.old) number ≡ Some plan
-            → OnErr result (WantsMemory plan (seen self.new number) (event_of event)) }
+            → OnErr result (TakesMemory (told_at plan (seen self.new number) (event_of event))) }
         ensures room { (plan : Plan) → slice_get (plans self.old) number ≡ Some plan
             → OnErr result (length (seen self.new number) < plan.limit) }
 

@@ -1,5 +1,9 @@
 //! What a shard tells of an event.
 
+ghost use Rattle.std.specs.Prelude.{◌≡◌};
+ghost use Rattle.agent_core.specs.Answers.{Handed, IsPlain, given_by};
+ghost use Rattle.agent_core.specs.Steps.{Other};
+
 use proof_cache::Cached;
 use std::sync::Arc;
 use stmt_codec::Cert;
@@ -57,4 +61,24 @@ pub enum Answer {
     Removed { count: u32 },
     /// The journal has as many entries as its plan allows, and the event was none.
     JournalFull { length: u64 },
+}
+
+impl Told {
+    /// What is told as the answer.
+    pub(crate) fn answer(self) -> Answer
+        requires { IsPlain self }
+        ensures { given_by result ≡ Handed (Other self) }
+    {
+        match self {
+            Told::Replayed { last } => Answer::Replayed { last },
+            Told::Full { held } => Answer::Full { held },
+            Told::Kept => Answer::Kept,
+            Told::Dropped(cause) => Answer::Dropped(cause),
+            Told::Held { added } => Answer::Held { added },
+            Told::CommonsFull { held } => Answer::CommonsFull { held },
+            Told::Removed { count } => Answer::Removed { count },
+            // These hand something out.
+            Told::Hit { .. } | Told::Miss => unreachable!(),
+        }
+    }
 }

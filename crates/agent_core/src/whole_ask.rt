@@ -26,7 +26,7 @@ use proof_cache::Cached;
 use std::alloc::{AllocError, Global};
 use std::sync::{Arc, Wait};
 use taos_calculus::Decide;
-pub use verdict::{Decision, judge};
+pub use verdict::{Decision, granting_entry, judge};
 
 // Steps the Ask at the shard of its channel: its place, and the answer.
 fn step_at_home<W: Wait + Sync, S: Shards>(

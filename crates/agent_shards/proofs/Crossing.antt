@@ -28,6 +28,7 @@ use Rattle.object_core.specs.contracts.entry.ObjectEntry as object_entry
 use Rattle.object_core.specs.contracts.fixed.Fixed as fixed
 use Rattle.object_core.specs.contracts.object.Object as object
 use Rattle.object_core.specs.contracts.operation.Op as op
+use Rattle.object_core.proofs.rows.Row.TheSendSync as object_row
 use Rattle.object_core.proofs.ruling.Ruling.TheSendSync as ruling
 use Rattle.turn_cell.proofs.cell.TurnCell.TheSendSync as cell
 use Rattle.turn_cell.proofs.pass.Pass.TheSendSync as pass
@@ -136,7 +137,7 @@ plan_send : IsSend plan.the_row
 plan_send = declared_send plan.the_type (u32s, (u32s, (search (sendable, crosses, as_row_send, anchor.the_send, anchor.the_sync), (search (sendable, crosses, as_row_send), (search (sendable, crosses, as_row_send, cert_send, cert_sync), (u64s, (u64s, tt)))))))
 
 presented_send : IsSend presented.the_row
-presented_send = declared_send presented.the_type (search (sendable, crosses, as_row_send, cert_send, cert_sync), (u64s, (search (sendable, crosses, as_row_send), tt)))
+presented_send = declared_send presented.the_type (search (sendable, crosses, as_row_send, cert_send, cert_sync), (search (sendable, crosses, as_row_send), tt))
 
 shard_inside : IsSend shard.TheInside.the_row
 shard_inside = declared_send shard.TheInside.the_type (plan_send, (search (sendable, crosses, as_row_send, shard_entry_send), (store.the_send, (presented_send, (cache_send, tt)))))
@@ -160,7 +161,7 @@ plan_sync : IsSync plan.the_row
 plan_sync = declared_sync plan.the_type (u32y, (u32y, (search (sendable, crosses, as_row_sync, anchor.the_send, anchor.the_sync), (search (sendable, crosses, as_row_sync), (search (sendable, crosses, as_row_sync, cert_send, cert_sync), (u64y, (u64y, tt)))))))
 
 presented_sync : IsSync presented.the_row
-presented_sync = declared_sync presented.the_type (search (sendable, crosses, as_row_sync, cert_send, cert_sync), (u64y, (search (sendable, crosses, as_row_sync), tt)))
+presented_sync = declared_sync presented.the_type (search (sendable, crosses, as_row_sync, cert_send, cert_sync), (search (sendable, crosses, as_row_sync), tt))
 
 shard_within : IsSync shard.TheInside.the_row
 shard_within = declared_sync shard.TheInside.the_type (plan_sync, (search (sendable, crosses, as_row_sync, shard_entry_sync), (store.the_sync, (presented_sync, (cache_sync, tt)))))
@@ -252,7 +253,7 @@ rack_passes_send = search (sendable, rack_passes_inside)
 rack_within : IsSync rack.TheInside.the_row
 rack_within = declared_sync rack.TheInside.the_type (
   search (sendable, crosses, as_row_sync, cell.the_sync, guarded_send),
-  (search (sendable, crosses, as_row_sync), (search (sendable, crosses, as_row_sync, object_sync), tt)),
+  (search (sendable, crosses, as_row_sync, object_row.the_send, object_row.the_sync), (search (sendable, crosses, as_row_sync, object_sync), tt)),
 )
 
 pub rack_sync : IsSync rack.the_row

@@ -8,9 +8,9 @@ use Rattle.std.proofs.lemmas.List.{length-map}
 use Rattle.std.proofs.lemmas.Option.{same_Some, slice_get-map, slice_get_within}
 use Rattle.prin_term.specs.declared.term.Anchor.{Anchor}
 use Rattle.agent_core.specs.declared.told.Answer.{Answer}
-use Rattle.agent_core.specs.Answers.{Stepped, SteppedTo, WantsMemory}
+use Rattle.agent_core.specs.Answers.{Stepped, SteppedTo, TakesMemory}
 use Rattle.agent_core.specs.Alone.{plans_in}
-use Rattle.agent_core.specs.Journals.{Entry, entry, Begins, ShardSeen, IsMeant, MayFollow, IsLegalJournal}
+use Rattle.agent_core.specs.Journals.{Entry, entry, Begins, ShardSeen, IsMeant, MayFollow, IsLegalJournal, told_at}
 use Rattle.agent_core.specs.Plans.{AreShards}
 use Rattle.agent_core.specs.State.{Plan, Event}
 use Rattle.agent_core.specs.Steps.{JournalSeen, StepAnswer, Steps, StepsTo, StepRefused}
@@ -98,7 +98,7 @@ module _ (plan : Plan) (p q : KnownShard) (h : Entered Plan Entry) (m m' : Shard
   same_journal same = seen ∙ ap (λ (s : ShardSeen). s.journal) same
 
   pub cell_steps : {E : Type 0} (r : Result (ℕ × Answer) E) → IfOk r (λ x. Stepped m.plan m.journal event m'.journal x.0 x.1) → OnErr r (m' ≡ m) →
-      OnErr r (WantsMemory m.plan m.journal event) → OnErr r (length m.journal < m.plan.limit) → StepsInCell plan p q event r
+      OnErr r (TakesMemory (told_at m.plan m.journal event)) → OnErr r (length m.journal < m.plan.limit) → StepsInCell plan p q event r
   cell_steps (Ok x) answered unchanged wanted room = record {
     steps = stepped_among plan p q m.journal event grows legal kept' added' x.0 x.1 (stepped_as x answered);
     refused = tt;
@@ -108,7 +108,7 @@ module _ (plan : Plan) (p q : KnownShard) (h : Entered Plan Entry) (m m' : Shard
   cell_steps (Err e) answered unchanged wanted room = record {
     steps = tt;
     refused = stays plan p q m.journal event grows legal kept' added' (same_journal unchanged);
-    wanted = subst (λ (j : List Entry). WantsMemory plan j event) (sym (same_journal unchanged)) (subst (λ (p : Plan). WantsMemory p m.journal event) planned wanted);
+    wanted = subst (λ (j : List Entry). TakesMemory (told_at plan j event)) (sym (same_journal unchanged)) (subst (λ (p : Plan). TakesMemory (told_at p m.journal event)) planned wanted);
     room = subst (λ (j : List Entry). length j < plan.limit) (sym (same_journal unchanged)) (subst (λ (p : Plan). length m.journal < p.limit) planned room);
   }
 
@@ -219,7 +219,7 @@ module _ (cells : List ShardCell) (passes : List KnownShard) (are : ArePasses ce
       seat_steps event r s = record {
         steps = λ plan has. subst (λ (z : Plan × (JournalSeen × JournalSeen)). IfOk r (λ x. SteppedTo z.0 z.1.0 z.1.1 event x.0 x.1)) (λ k. (planned plan has k, (sym seen_then k, sym seen_now k))) s.steps;
         refused = λ plan has. subst (λ (z : Plan × (JournalSeen × JournalSeen)). OnErr r (StepRefused z.0 z.1.0 z.1.1)) (λ k. (planned plan has k, (sym seen_then k, sym seen_now k))) s.refused;
-        wanted = λ plan has. subst (λ (z : Plan × JournalSeen). OnErr r (WantsMemory z.0 z.1.journal event)) (λ k. (planned plan has k, sym seen_now k)) s.wanted;
+        wanted = λ plan has. subst (λ (z : Plan × JournalSeen). OnErr r (TakesMemory (told_at z.0 z.1.journal event))) (λ k. (planned plan has k, sym seen_now k)) s.wanted;
         room = λ plan has. subst (λ (z : Plan × JournalSeen). OnErr r (length z.1.journal < z.0.limit)) (λ k. (planned plan has k, sym seen_now k)) s.room;
         others = λ n other. let e = set_other passes number q n other in (ap journal_of e, ap places_of e);
         cells = refl;

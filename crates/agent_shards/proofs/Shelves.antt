@@ -51,13 +51,6 @@ module _ (objects : List ObjectSeen) (cells : List ObjectCell) (passes : List Kn
   pub opened_object_count : length cells ≡ length objects
   opened_object_count = each3_long IsObjectOpened objects cells passes are
 
-numbers_mapped : (objects : List ObjectSeen) → map (λ (o : ObjectSeen). o.plan.number) objects ≡ numbers_of (map fixed_of objects)
-numbers_mapped [] = refl
-numbers_mapped (o ∷ objects) = ap (λ l. o.plan.number ∷ l) (numbers_mapped objects)
-
-pub opened_numbers : (objects : List ObjectSeen) (cells : List ObjectCell) (passes : List KnownObject) (numbers : List ℕ) → AreObjectsOpened objects cells passes → numbers ≡ map (λ (o : ObjectSeen). o.plan.number) objects → numbers ≡ numbers_of (fixed_in cells)
-opened_numbers objects cells passes numbers are is = is ∙ (numbers_mapped objects ∙ ap numbers_of (sym (opened_fixed objects cells passes are)))
-
 pub split_object_passes : (shares : ℕ) (cells : List ObjectCell) (before kept given : List KnownObject) → AreObjectPasses cells before → AreSplit shares cells before kept given → AreObjectPasses cells kept × AreObjectPasses cells given
 split_object_passes shares [] [] [] [] are split = (tt, tt)
 split_object_passes shares (c ∷ cs) (p ∷ ps) (k ∷ ks) (g ∷ gs) are split =

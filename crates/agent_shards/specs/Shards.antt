@@ -2,8 +2,8 @@
 use Rattle.std.specs.Prelude.{◌≡◌, ◌≢◌, ℕ, ◌<◌, false, List, [], length, map, Option, None, Some, slice_get, Result, IfOk, OnErr}
 use Rattle.std.specs.List.{AllZip}
 use Rattle.agent_core.specs.declared.told.Answer.{Answer}
-use Rattle.agent_core.specs.Answers.{SteppedTo, WantsMemory}
-use Rattle.agent_core.specs.Journals.{Entry, ShardSeen, IsLegalJournal}
+use Rattle.agent_core.specs.Answers.{SteppedTo, TakesMemory}
+use Rattle.agent_core.specs.Journals.{Entry, ShardSeen, IsLegalJournal, told_at}
 use Rattle.agent_core.specs.State.{Plan, Event}
 use Rattle.agent_core.specs.Steps.{JournalSeen, StepRefused, seen_at}
 use Rattle.turn_cell.specs.Known.{Cell, Known, IsPassOf}
@@ -91,7 +91,7 @@ pub record StepsInCell {E : Type 0} (plan : Plan) (p q : KnownShard) (event : Ev
   -- a step that fails adds none
   pub refused : OnErr r (StepRefused plan (sight_of p) (sight_of q))
   -- it fails only where something is kept or handed out
-  pub wanted : OnErr r (WantsMemory plan q.seen event)
+  pub wanted : OnErr r (TakesMemory (told_at plan q.seen event))
   -- it fails only where the journal has room
   pub room : OnErr r (length q.seen < plan.limit)
 
@@ -107,7 +107,7 @@ pub record StepsSeat {E : Type 0} (s t : SeatSeen) (number : ℕ) (event : Event
   pub refused : (plan : Plan) → HasPlanAt s number plan →
       OnErr r (StepRefused plan (sight_at s number) (sight_at t number))
   pub wanted : (plan : Plan) → HasPlanAt s number plan →
-      OnErr r (WantsMemory plan (journal_at t number) event)
+      OnErr r (TakesMemory (told_at plan (journal_at t number) event))
   pub room : (plan : Plan) → HasPlanAt s number plan →
       OnErr r (length (journal_at t number) < plan.limit)
   pub others : (n : ℕ) → n ≢ number →

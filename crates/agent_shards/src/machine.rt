@@ -1,8 +1,8 @@
 //! A shard as the value of a turn cell.
 
 ghost use Rattle.std.specs.Prelude.{◌≡◌, ◌<◌, length, IfOk, OnErr};
-ghost use Rattle.agent_core.specs.Answers.{FitsEvent, Stepped, WantsMemory};
-ghost use Rattle.agent_core.specs.Journals.{IsLegalJournal, IsMeant, MayFollow};
+ghost use Rattle.agent_core.specs.Answers.{FitsEvent, Stepped, TakesMemory};
+ghost use Rattle.agent_core.specs.Journals.{IsLegalJournal, IsMeant, MayFollow, told_at};
 ghost use Rattle.agent_core.specs.Views.{event_of};
 
 use crate::models::{EntryModel, PlanModel};
@@ -79,8 +79,8 @@ impl Machine {
             self.new.journal r.0 r.1) }
         ensures plan { self.new.plan ≡ self.old.plan }
 
-        ensures wanted { OnErr result (WantsMemory self.old.plan self.old.journal
-            (event_of event)) }
+        ensures wanted { OnErr result (TakesMemory (told_at self.old.plan self.old.journal
+            (event_of event))) }
         ensures room { OnErr result (length self.old.journal < self.old.plan.limit) }
         ensures unchanged { OnErr result (self.new ≡ self.old) }
     {

@@ -4,7 +4,6 @@ ghost use Rattle.std.specs.Prelude.{◌≡◌, ◌≤◌, ◌<◌, ◌==◌, IfO
 ghost use Rattle.agent_shards.specs.Cells.{AreJoined, AreSplit, HaveAll, HaveMore, shares_of};
 ghost use Rattle.agent_shards.specs.Objects.{AreObjectPasses, AreObjectsClosed, AreObjectsOpened, fixed_in};
 ghost use Rattle.agent_shards.specs.Room.{HasRoom};
-ghost use Rattle.object_core.specs.Objects.{ObjectSeen};
 ghost use Rattle.object_core.specs.Shelving.{HaveOwnNumbers, fixed_of, numbers_of};
 
 use crate::cells::{join_all, split_all};
@@ -13,7 +12,7 @@ use crate::rack_passes::RackPasses;
 use crate::seated_shelf::SeatedShelf;
 use crate::shelving::{close_objects, open_objects};
 use crate::whose::OfRack;
-use object_core::Object;
+use object_core::{Object, Row, place_in, rows_of};
 use std::alloc::{AllocError, Global};
 use std::marker::{Model, PhantomData};
 use turn_cell::TurnCell;
@@ -22,8 +21,8 @@ use turn_cell::TurnCell;
 #[derive(Drop)]
 pub struct Rack {
     cells: Vec<TurnCell<Guarded>>,
-    // The number of each.
-    numbers: Vec<u32>,
+    // The number and the place of each, ascending by number.
+    rows: Vec<Row>,
     // Where the objects go when they come back.
     room: Vec<Object>,
 }
@@ -33,6 +32,7 @@ impl Model for Rack {
     ghost use Rattle.std.specs.Coded.{codes};
     ghost use Rattle.prin_term.specs.Codes.{principal_code};
     ghost use Rattle.agent_shards.specs.Objects.{ObjectCell, fixed_in};
+    ghost use Rattle.object_core.specs.Numbered.{AreAscending, AreRowsOf};
     ghost use Rattle.object_core.specs.Shelving.{HaveOwnNumbers, numbers_of};
 
     ghost Value = { List ObjectCell };
@@ -41,22 +41,11 @@ impl Model for Rack {
 
     ghost view = { λ r. r.cells.items };
 
-    // No two have one number, and there is room for all.
+    // No two have one number, each is found by it, and there is room for all.
     ghost invariant = { λ r. HaveOwnNumbers (fixed_in r.cells.items)
-        × (r.numbers.items ≡ numbers_of (fixed_in r.cells.items))
+        × AreRowsOf (numbers_of (fixed_in r.cells.items)) r.rows.items
+        × AreAscending r.rows.items
         × (r.room.items ≡ []) × (vec_len r.cells ≤ vec_capacity r.room) };
-}
-
-// The number of each object.
-fn list_numbers(alloc: Global, objects: &[Object]) -> Result<Vec<u32>, AllocError>
-    ensures { IfOk result
-        (λ v. v.items ≡ map (λ (o : ObjectSeen). o.plan.number) objects.now) }
-{
-    let mut numbers = Vec::with_capacity(alloc, objects.len())?;
-    for object in objects {
-        numbers.push(object.number())?;
-    }
-    Ok(numbers)
 }
 
 impl Rack {
@@ -67,17 +56,10 @@ impl Rack {
         ensures opened { IfOk result (λ r. AreObjectsOpened objects.items r.0 r.1) }
         ensures passes { IfOk result (λ r. AreObjectPasses r.0 r.1) }
     {
-        let numbers = list_numbers(alloc, &objects)?;
+        let rows = rows_of(alloc, &objects)?;
         let room = Vec::with_capacity(alloc, objects.len())?;
         let (cells, passes) = open_objects(alloc, objects)?;
-        Ok((
-            Rack {
-                cells,
-                numbers,
-                room,
-            },
-            RackPasses { passes },
-        ))
+        Ok((Rack { cells, rows, room }, RackPasses { passes }))
     }
 
     /// Passes with so many of the shares of each object. They have seen the same, and have no own
@@ -137,7 +119,7 @@ impl Rack {
     {
         let Rack {
             cells,
-            numbers: _,
+            rows: _,
             room,
         } = self;
         close_objects(cells, passes.passes, room)
@@ -148,7 +130,7 @@ impl Rack {
         ensures place { result ≡ position (λ n. n == number) (numbers_of (fixed_in self.now)) }
         ensures own { HaveOwnNumbers (fixed_in self.now) }
     {
-        self.numbers.iter().position(|n| *n == number)
+        place_in(&self.rows, number)
     }
 
     // The cell of one object.

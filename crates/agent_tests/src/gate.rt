@@ -1,6 +1,6 @@
 use crate::asks::{asked, one_shard};
 use agent_core::*;
-use prin_term::{Statement, Term};
+use prin_term::Term;
 use std::alloc::Global;
 use std::sync::{Arc, Wait};
 use std::test::*;
@@ -23,17 +23,8 @@ impl Gate for Counting {
 fn hand_offs(alloc: Global, first: u64, count: u64) -> Result<Vec<Arc<Cert>>, Fail> {
     let mut certs = Vec::new(alloc);
     for number in 0..count {
-        let statement = Statement {
-            left: Term::Key(2),
-            right: Term::Name(10),
-        };
-        let body = CertBody {
-            issuer: 1,
-            quoted: None,
-            statement,
-            until: 2000,
-            serial: first.wrapping_add(number),
-        };
+        let serial = first.wrapping_add(number);
+        let body = CertBody::says(1, None, Term::Key(2), Term::Name(10), 2000, serial);
         certs.push(Arc::new(alloc, Cert::of(alloc, body)?)?)?;
     }
     Ok(certs)

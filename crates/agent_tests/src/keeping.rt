@@ -1,5 +1,5 @@
 use agent_core::*;
-use prin_term::{Anchor, Entry, Statement, Term};
+use prin_term::{Anchor, Entry, Term};
 use proof_cache::{Cached, lease_of};
 use std::alloc::Global;
 use std::sync::Arc;
@@ -9,17 +9,7 @@ use taos_calculus::{Fact, Line, Node, Proof, Step};
 
 // Key 1 says that key 2 speaks for name 10.
 fn hand_off(alloc: Global) -> Result<Arc<Cert>, Fail> {
-    let statement = Statement {
-        left: Term::Key(2),
-        right: Term::Name(10),
-    };
-    let body = CertBody {
-        issuer: 1,
-        quoted: None,
-        statement,
-        until: 2000,
-        serial: 1,
-    };
+    let body = CertBody::says(1, None, Term::Key(2), Term::Name(10), 2000, 1);
     Ok(Arc::new(alloc, Cert::of(alloc, body)?)?)
 }
 

@@ -1,6 +1,6 @@
 use crate::asks::{asked, one_shard};
 use agent_core::*;
-use prin_term::{Statement, Term};
+use prin_term::Term;
 use std::alloc::{AllocError, Global};
 use std::sync::{Arc, Wait};
 use std::test::*;
@@ -33,21 +33,13 @@ fn large(alloc: Global) -> Result<Term, Fail> {
 }
 
 fn large_cert(alloc: Global, serial: u64) -> Result<Arc<Cert>, Fail> {
-    let body = CertBody {
-        issuer: 1,
-        quoted: Some(large(alloc)?),
-        statement: Statement {
-            left: large(alloc)?,
-            right: large(alloc)?,
-        },
-        until: 2000,
-        serial,
-    };
+    let quoted = Some(large(alloc)?);
+    let body = CertBody::says(1, quoted, large(alloc)?, large(alloc)?, 2000, serial);
     Ok(Arc::new(alloc, Cert::of(alloc, body)?)?)
 }
 
-// Sixteen certificates of this number's own. Each is counted as 320 bytes and 32 for each of 4 * 63
-// nodes, so all of a number's as 134,144, and 250 numbers' fit in 33,554,432 bytes.
+// Sixteen certificates of this number's own. Each takes about 320 bytes and 32 for each of 4 * 63
+// nodes, so all of a number's 134,144, and those of 251 numbers more than 32 MiB.
 fn large_certs(alloc: Global, number: u64) -> Result<Vec<Arc<Cert>>, Fail> {
     let mut certs = Vec::new(alloc);
     for place in 0..16 {
@@ -81,17 +73,16 @@ fn end_of<W: Wait + Sync>(
     }
 }
 
-// The first number and how many there are, whether they rise, and what comes of each: once no more
-// are kept, those that are kept may still be presented.
+// The first number and how many there are, whether they rise, and what comes of each.
 type Row = (u64, u64, bool, End);
 
 const ASKS: &[Row] = &[
     (1, 2, true, End::Judged),
     (3, 248, true, End::Full),
-    (251, 1, true, End::NoMemory),
+    (251, 1, true, End::Full),
     (2, 3, false, End::Replayed),
     (250, 3, false, End::Full),
-    (251, 1, true, End::NoMemory),
+    (251, 1, true, End::Full),
 ];
 
 // Whether each ask of a row ends so.
@@ -118,7 +109,7 @@ fn end_so<W: Wait + Sync>(
 }
 
 #[test]
-fn equal_certificates_are_kept_once_and_others_up_to_a_limit(rt: HostRuntime) -> Result<(), Fail> {
+fn however_much_was_presented_an_ask_is_answered(rt: HostRuntime) -> Result<(), Fail> {
     let mut shards = one_shard(rt.alloc(), 1000)?;
     let mut bench = Saturator::reserve(rt.alloc())?;
     for &row in ASKS {

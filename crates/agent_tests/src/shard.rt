@@ -1,5 +1,5 @@
 use agent_core::*;
-use prin_term::{Entry, Statement, Term};
+use prin_term::{Entry, Term};
 use std::alloc::Global;
 use std::sync::Arc;
 use std::test::*;
@@ -7,17 +7,7 @@ use stmt_codec::{Cert, CertBody};
 
 // Key 1 says that key 2 speaks for name 10, until 2000.
 fn hand_off(alloc: Global, serial: u64) -> Result<Arc<Cert>, Fail> {
-    let statement = Statement {
-        left: Term::Key(2),
-        right: Term::Name(10),
-    };
-    let body = CertBody {
-        issuer: 1,
-        quoted: None,
-        statement,
-        until: 2000,
-        serial,
-    };
+    let body = CertBody::says(1, None, Term::Key(2), Term::Name(10), 2000, serial);
     Ok(Arc::new(alloc, Cert::of(alloc, body)?)?)
 }
 
@@ -405,7 +395,8 @@ fn is_miss(shard: &mut Shard, alloc: Global, seq: u64, certs: &[Arc<Cert>]) -> R
     }
 }
 
-// The handles are one here, one among what is kept, and one in each entry.
+// The handles are one here, one among what is kept, and one in each entry; a replay's entry has the
+// asker's own.
 #[test]
 fn what_is_presented_again_is_kept_once(rt: HostRuntime) -> Result<(), Fail> {
     let mut shard = shard(rt.alloc(), 3600, 10)?;
@@ -415,10 +406,13 @@ fn what_is_presented_again_is_kept_once(rt: HostRuntime) -> Result<(), Fail> {
     assert!(rt; is_miss(&mut shard, rt.alloc(), 1, &certs)?);
     assert!(rt; is_miss(&mut shard, rt.alloc(), 2, &again)?);
     assert!(rt; !is_miss(&mut shard, rt.alloc(), 2, &again)?, "a replay");
-    assert!(rt; handles(&shard.plan().commons, 0) == Some(5), "in common");
+    assert!(rt; handles(&shard.plan().commons, 0) == Some(4), "in common");
     assert!(rt; handles(&certs, 0) == Some(1), "as one in common");
-    assert!(rt; handles(&certs, 1) == Some(5), "new");
-    assert!(rt; handles(&again, 1) == Some(1), "as before");
+    assert!(rt; handles(&certs, 1) == Some(4), "new");
+    assert!(rt;
+        handles(&again, 1) == Some(2),
+        "as before, and in the replay"
+    );
     assert!(rt; shard.journal().len() == 3);
     Ok(())
 }

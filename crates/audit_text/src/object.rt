@@ -95,7 +95,7 @@ fn push_journal(
     ensures { OnOk result (string_bytes out.new
         ≡ string_bytes out.old ++ object_text number (map object_entry journal.now)) }
 {
-    let names = Names::new(alloc);
+    let names = Names::new(alloc)?;
     for (place, entry) in journal.iter().enumerate() {
         push_entry(alloc, out, &names, number, place, entry)?;
     }

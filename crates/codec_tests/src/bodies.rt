@@ -1,6 +1,6 @@
 ghost use Rattle.std.specs.Prelude.{◌≤◌, length};
 
-use prin_term::{Statement, Term};
+use prin_term::Term;
 use std::alloc::Global;
 use std::sync::Arc;
 use std::test::*;
@@ -201,16 +201,7 @@ fn deep(alloc: Global) -> Result<Term, Fail> {
 }
 
 fn fault_of_deep(alloc: Global) -> Result<Option<CertFault>, Fail> {
-    let body = CertBody {
-        issuer: 1,
-        quoted: None,
-        statement: Statement {
-            left: deep(alloc)?,
-            right: Term::Name(2),
-        },
-        until: 1,
-        serial: 1,
-    };
+    let body = CertBody::says(1, None, deep(alloc)?, Term::Name(2), 1, 1);
     Ok(Cert::of(alloc, body).err())
 }
 

@@ -1,8 +1,9 @@
 use arrayvec::ArrayVec;
 use frame_link::{Failed, MemSink, MemSource, Outcome, RelayAnswer, RelayLink};
-use keyed_seal::KeyTable;
+use keyed_seal::{KeyTable, Sealer};
 use relay_core::*;
 use std::alloc::Global;
+use std::sync::Arc;
 use std::test::*;
 
 // Key 1 says that key 2 speaks for name 10, until 2000, with serial 1, as kind 1 under 32 bytes of
@@ -117,6 +118,33 @@ fn a_relay_in_memory_fails_at_its_list(rt: HostRuntime) -> Result<(), Fail> {
         assert!(rt; got == answer && len == count);
     }
     assert!(rt; relay.calls == 3 && relay.faults == 1);
+    Ok(())
+}
+
+#[test]
+fn bytes_that_were_opened_give_the_same_certificate(rt: HostRuntime) -> Result<(), Fail> {
+    let alloc = rt.alloc();
+    let mut relay = relay(alloc)?;
+    let mut opened = OpenedCerts::new(alloc, &Sealer::of(&[7; 32]));
+    let given = present_with(alloc, 7, &mut opened, &mut relay, &FROM_ISSUER);
+    let given = given.ok().ok_or("the relay gave none")?;
+    for _ in 0..2 {
+        let again = present_with(alloc, 7, &mut opened, &mut relay, &FROM_RELAY);
+        let again = again.ok().ok_or("it does not open")?;
+        // These two, and the one that is kept.
+        assert!(rt; Arc::strong_count(&again) == 3);
+    }
+    assert!(rt; Arc::strong_count(&given) == 2);
+
+    // One under its issuer's own seal goes to the relay again, whose second call fails.
+    let third = present_with(alloc, 7, &mut opened, &mut relay, &FROM_ISSUER);
+    assert!(rt; third.err() == Some(Unpresented::LinkFailed));
+
+    // Another tag is another certificate.
+    let mut turned = FROM_RELAY;
+    turned[64] = 102;
+    let wrong = present_with(alloc, 7, &mut opened, &mut relay, &turned);
+    assert!(rt; wrong.err() == Some(Unpresented::Refused { code: BAD_SEAL }));
     Ok(())
 }
 

@@ -1,11 +1,11 @@
 -- What the forms give together, a step of a rule at a time.
 use Rattle.std.proofs.Common.{◌≡◌, ℕ, suc, Bool, true, false, cond, List, [], ◌∷◌, slice_get, Some, refl, map, All, Contains}
-use Rattle.std.specs.Prelude.{filter, nat_lt}
-use Rattle.std.proofs.lemmas.Bool.{lt-ltb}
+use Rattle.std.specs.Prelude.{filter}
 use Rattle.std.proofs.lemmas.List.Elements.{All-nil, All-cons, All-weaker, All-contains}
 use Rattle.prin_term.specs.declared.term.Anchor.{Anchor}
 use Rattle.prin_term.specs.Principal.{Principal, Key, Name, Quoting, For}
-use Rattle.stmt_codec.specs.Certificates.{Certificate, speaker_of, live}
+use Rattle.stmt_codec.specs.Certificates.{Certificate, speaker_of, is_live, live}
+use Rattle.stmt_codec.proofs.Living.{live-is_live}
 use Rattle.taos_calculus.specs.Rules.{Judgement, SpeaksFor, Says, Derivable}
 use Rattle.taos_calculus.specs.Question.{claim_of}
 use Rattle.credential_kit.specs.Forms.{in_role, seat, channel_of, login_of, role_of, delegate_of}
@@ -51,7 +51,7 @@ module _ (anchors : List Anchor) (certs : List Certificate) (moment : ℕ) where
   says_known : (form : ℕ → ℕ → Certificate) (h : HasLive certs moment form) → Holds (Says (speaker_of (form h.until h.serial)) (form h.until h.serial).left (form h.until h.serial).right)
   says_known form h =
       let c : Certificate = form h.until h.serial in
-      let f = passes claim_of (λ (d : Certificate). nat_lt moment d.until) certs c h.there (lt-ltb moment c.until h.lives) in
+      let f = passes claim_of (is_live moment) certs c h.there (live-is_live moment c h.lives) in
       claimed anchors (claims_of (live certs moment)) f.0 (claim_of c) f.1
 
   -- a key that is anchored to a name speaks for it in each role

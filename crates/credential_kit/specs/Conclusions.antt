@@ -1,8 +1,8 @@
 -- What the forms give together, whatever other anchors and certificates there are.
-use Rattle.std.specs.Prelude.{ℕ, ◌<◌, List, map, Contains}
+use Rattle.std.specs.Prelude.{ℕ, List, map, Contains}
 use Rattle.prin_term.specs.declared.term.Anchor.{Anchor}
 use Rattle.prin_term.specs.Principal.{Principal, Key, Name, Quoting, For}
-use Rattle.stmt_codec.specs.Certificates.{Certificate, live}
+use Rattle.stmt_codec.specs.Certificates.{Certificate, IsLive, live}
 use Rattle.taos_calculus.specs.Rules.{Claim}
 use Rattle.taos_calculus.specs.Monitor.{MaySpeak}
 use Rattle.taos_calculus.specs.Question.{claim_of}
@@ -24,7 +24,7 @@ pub record HasLive
   pub until : ℕ
   pub serial : ℕ
   pub there : Contains certs (form until serial)
-  pub lives : moment < (form until serial).until
+  pub lives : IsLive moment (form until serial)
 
 -- `left => right` is derivable from the certificates that have not ended
 abbrev pub Speaks : List Anchor → List Certificate → ℕ → Principal → Principal → Type 0

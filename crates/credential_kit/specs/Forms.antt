@@ -1,8 +1,8 @@
 -- The certificates of logins, roles and delegations, a form for each call, and what the calls give.
-use Rattle.std.specs.Prelude.{◌≡◌, ℕ, List, Option, None, Some}
+use Rattle.std.specs.Prelude.{◌≡◌, ℕ, List, None, Some}
 use Rattle.keyed_seal.specs.Keys.{Entries, key_of}
 use Rattle.prin_term.specs.Principal.{Principal, Key, Name, And, Quoting, InRole, For}
-use Rattle.stmt_codec.specs.Certificates.{Certificate}
+use Rattle.stmt_codec.specs.Certificates.{Certificate, says}
 use Rattle.sealed_cert.specs.declared.kind.TheConstants.{ISSUED}
 use Rattle.sealed_cert.specs.Seals.{sealed, OpensIssued}
 use Rattle.credential_kit.specs.declared.signer.Signer.{Signer}
@@ -19,17 +19,6 @@ system machine role = record { machine = machine; role = role }
 -- a named principal in a role
 abbrev pub in_role : ℕ → ℕ → Principal
 in_role name role = InRole (Name name) role
-
--- the issuer, which may quote a principal, says that left speaks for right
-abbrev pub says : ℕ → Option Principal → Principal → Principal → ℕ → ℕ → Certificate
-says issuer quoted left right until serial = record {
-  issuer = issuer;
-  quoted = quoted;
-  left = left;
-  right = right;
-  until = until;
-  serial = serial;
-}
 
 -- the machine says that the node's key kn speaks for the machine's name w, in its system's role os
 abbrev pub boot_of : (issuer kn w os until serial : ℕ) → Certificate

@@ -4,35 +4,14 @@ ghost use Rattle.std.specs.Prelude.{◌≡◌, IfOk};
 ghost use Rattle.std.specs.Option.{option_map};
 ghost use Rattle.prin_term.specs.Principal.{Key, Quoting, For};
 ghost use Rattle.prin_term.specs.View.{principal};
-ghost use Rattle.stmt_codec.specs.Certificates.{certificate, IsWithinLimits};
-ghost use Rattle.credential_kit.specs.Forms.{says, IsIssued, in_role, logged_in, seat};
+ghost use Rattle.stmt_codec.specs.Certificates.{certificate, says, IsWithinLimits};
+ghost use Rattle.credential_kit.specs.Forms.{IsIssued, in_role, logged_in, seat};
 
 use crate::signer::Signer;
-use prin_term::{Statement, Term};
+use prin_term::Term;
 use sealed_cert::seal_issued;
 use std::alloc::{AllocError, Global};
 use stmt_codec::CertBody;
-
-// What an issuer says.
-fn body_of(
-    issuer: u32,
-    quoted: Option<Term>,
-    left: Term,
-    right: Term,
-    until: u64,
-    serial: u64,
-) -> CertBody
-    ensures { certificate result ≡ says issuer (option_map principal quoted)
-        (principal left) (principal right) until serial }
-{
-    CertBody {
-        issuer,
-        quoted,
-        statement: Statement { left, right },
-        until,
-        serial,
-    }
-}
 
 /// What a body says, under its signer's seal.
 pub fn issue_body(alloc: Global, signer: &Signer, body: &CertBody) -> Result<Vec<u8>, AllocError>
@@ -61,7 +40,7 @@ pub(crate) fn issue(
         (says signer.now.issuer (option_map principal quoted) (principal left) (principal right)
         until serial) bytes.items) }
 {
-    let body = body_of(signer.issuer, quoted, left, right, until, serial);
+    let body = CertBody::says(signer.issuer, quoted, left, right, until, serial);
     issue_body(alloc, signer, &body)
 }
 

@@ -55,15 +55,3 @@ Contains-to_filter p (y ∷ xs) x c t = by (λ h. Contains-to_filter p xs x h t)
           | inl f ↦ let g : false ≡ true = sym e ∙ ap p f ∙ t in absurd (cc)
           | inr h ↦ more h
         ]
-
-pub Contains-from_filter : {X : Type 0} (p : X → Bool) (xs : List X) (x : X) → Contains (filter p xs) x → Contains xs x × (p x ≡ true)
-Contains-from_filter p [] x c = absurd (has-nil x c)
-Contains-from_filter p (y ∷ xs) x c = by (λ h. Contains-from_filter p xs x h) (p y) refl c
-  where
-    by : (Contains (filter p xs) x → Contains xs x × (p x ≡ true)) → (b : Bool) → p y ≡ b → Contains (cond b (y ∷ filter p xs) (filter p xs)) x → Contains (y ∷ xs) x × (p x ≡ true)
-    by more true e h =
-        elim (has-cases y (filter p xs) x h) [
-          | inl f ↦ (subst (λ z. Contains (y ∷ xs) z) f (has-head y xs), ap p (sym f) ∙ e)
-          | inr g ↦ let (has, t) = more g in (has-cons y xs x has, t)
-        ]
-    by more false e h = let (has, t) = more h in (has-cons y xs x has, t)

@@ -1,15 +1,15 @@
 -- What is picked by marks says what the revived certificates say, and more of them derive more.
-use Rattle.std.proofs.Common.{◌≡◌, ◌⊎◌, ◌↔◌, inl, inr, ℕ, ◌+◌, ◌<◌, ◌≤◌, ◌∷◌, [], Bool, List, length, take, map, filter_map, nat_lt, Contains, Some, None, Option, slice_get, refl, sym, ◌∙◌, ap, subst, arith}
+use Rattle.std.proofs.Common.{◌≡◌, ◌⊎◌, ◌↔◌, inl, inr, ℕ, ◌+◌, ◌<◌, ◌≤◌, ◌∷◌, [], Bool, List, length, take, map, filter_map, Contains, Some, None, Option, slice_get, refl, sym, ◌∙◌, ap, subst, arith}
 use Rattle.std.proofs.lemmas.List.{append-nil, take_all}
 use Rattle.std.specs.List.{cons_option}
 use Rattle.std.specs.Option.{option_map, MatchOption}
-use Rattle.std.proofs.lemmas.Bool.{cases_lt, ltb-true, lt-ltb}
 use Rattle.std.proofs.lemmas.Option.{none-some, same_Some, slice_get-map, slice_get_within}
 use Rattle.std.proofs.lemmas.List.Elements.{Contains-append_left, Contains-append_right, Contains-append_cases}
 use Rattle.prin_term.specs.declared.term.Anchor.{Anchor}
 use Rattle.prin_term.specs.Principal.{Principal}
 use Rattle.prin_term.specs.View.{Grant}
-use Rattle.stmt_codec.specs.Certificates.{Certificate, live}
+use Rattle.stmt_codec.specs.Certificates.{Certificate, IsLive, live}
+use Rattle.stmt_codec.proofs.Living.{cases_live, live-from, live-to}
 use Rattle.taos_calculus.specs.Rules.{Claim}
 use Rattle.taos_calculus.specs.Rules as rules
 use Rattle.taos_calculus.specs.Monitor.{FirstEntry, Grants, HasRight, MaySpeak}
@@ -22,7 +22,7 @@ use Rattle.denial_link.specs.Needed.{IsNeeded, IsRevived}
 use Rattle.denial_link.specs.Links.{NoEntryWith, NoneBefore}
 use Rattle.denial_link.specs.declared.revive.Revival.{Revival}
 use Rattle.denial_link.specs.Revived.{claims, at_places, revived, AsksWith}
-use Rattle.denial_link.proofs.Members.{has-at, at-has, has-cons, has-head, has-cases, has-nil, Contains-to_map, Contains-from_map, Contains-take, Contains-to_filter, Contains-from_filter}
+use Rattle.denial_link.proofs.Members.{has-at, at-has, has-cons, has-head, has-cases, has-nil, Contains-to_map, Contains-from_map, Contains-take}
 
 option_map_some : {X Y : Type 0} (f : X → Y) (o : Option X) (y : Y) → option_map f o ≡ Some y → (x : X) × (o ≡ Some x) × (f x ≡ y)
 option_map_some f None y e = absurd (none-some y e)
@@ -59,7 +59,7 @@ pub record IsTaken (certs : List Certificate) (moment : ℕ) (places : List ℕ)
   pub place : ℕ
   pub cert : Certificate
   pub stands : slice_get certs place ≡ Some cert
-  pub taken : (moment < cert.until) ⊎ Contains places place
+  pub taken : IsLive moment cert ⊎ Contains places place
   pub says : claim_of cert ≡ x
 
 pub taken-revived : (certs : List Certificate) (moment : ℕ) (places : List ℕ) (x : Claim) → Contains (claims (revived certs moment places)) x → IsTaken certs moment places x
@@ -67,9 +67,9 @@ taken-revived certs moment places x h =
     let (c, has, says) = Contains-from_map claim_of (revived certs moment places) x h in
     elim (Contains-append_cases (live certs moment) (at_places certs places) c has) [
       | inl l ↦
-          let (there, lives) = Contains-from_filter (λ (b : Certificate). nat_lt moment b.until) certs c l in
+          let (there, lives) = live-from certs moment c l in
           let (i, at) = at-has certs c there in
-          record { place = i; cert = c; stands = at; taken = inl (ltb-true moment c.until lives); says = says }
+          record { place = i; cert = c; stands = at; taken = inl lives; says = says }
       | inr d ↦
           let (i, there, at) = of_place (slice_get certs) places c d in
           record { place = i; cert = c; stands = at; taken = inr there; says = says }
@@ -82,7 +82,7 @@ revived-taken certs moment places x t =
     has : Contains (revived certs moment places) t.cert
     has = elim t.taken [
       | inl lives ↦ Contains-append_left (live certs moment) (at_places certs places) t.cert
-          (Contains-to_filter (λ (b : Certificate). nat_lt moment b.until) certs t.cert (has-at certs t.place t.cert t.stands) (lt-ltb moment t.cert.until lives))
+          (live-to certs moment t.cert (has-at certs t.place t.cert t.stands) lives)
       | inr there ↦ Contains-append_right (live certs moment) (at_places certs places) t.cert (at_place_of (slice_get certs) places t.place t.cert there t.stands)
     ]
 
@@ -155,8 +155,8 @@ speaks_by_all anchors certs moment places left right d = speaks_more anchors _ _
     each x h =
         let (c, has, says) = Contains-from_map claim_of certs x h in
         let (i, at) = at-has certs c has in
-        let which : (moment < c.until) ⊎ Contains places i =
-        elim (cases_lt moment c.until) [ inl l ↦ inl l | inr le ↦ inr ((d.dead i).1 (c, at, le)) ] in
+        let which : IsLive moment c ⊎ Contains places i =
+        elim (cases_live moment c) [ inl l ↦ inl l | inr ended ↦ inr ((d.dead i).1 (c, at, ended)) ] in
         revived-taken certs moment places x (record { place = i; cert = c; stands = at; taken = which; says = says })
 
 -- what is asked by marks is asked about the live certificates and those at the places

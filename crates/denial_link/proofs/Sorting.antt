@@ -15,7 +15,7 @@ use Rattle.std.proofs.lemmas.List.Quantifiers.{all_pairs_push}
 use Rattle.std.proofs.lemmas.List.Sorted.{IsPermutation-keeps, All-permutation, Contains-permutation, sorted_far, ranks_by}
 use Rattle.std.proofs.lemmas.Option.{same_Some, slice_get_within}
 use Rattle.denial_link.proofs.Members.{Contains-from_map, Contains-to_map}
-use Rattle.stmt_codec.specs.Certificates.{Certificate, digest_of}
+use Rattle.stmt_codec.specs.Certificates.{Certificate, digest_of, IsLive}
 use Rattle.denial_link.specs.Order.{order, GoesBefore, IsDead, DeadInOrder}
 use Rattle.denial_link.specs.Keys.{Key, IsKeyOf, KeysBelow}
 
@@ -100,10 +100,10 @@ apart_permuted keys ys p h = IsPermutation-keeps keys AreApart h (λ l i j il jl
 no_key : Key
 no_key = (record { 0 = 0 }, [], 0)
 
-key_at : (certs : List Certificate) (moment : ℕ) (i : ℕ) (c : Certificate) (k : Key) → slice_get certs i ≡ Some c → c.until ≤ moment → k.2 ≡ i → k.0.0 ≡ c.until → k.1 ≡ digest_of c → IsKeyOf certs moment k
+key_at : (certs : List Certificate) (moment : ℕ) (i : ℕ) (c : Certificate) (k : Key) → slice_get certs i ≡ Some c → (IsLive moment c → ⊥) → k.2 ≡ i → k.0.0 ≡ c.until → k.1 ≡ digest_of c → IsKeyOf certs moment k
 key_at certs moment i c k s d p e g = record { cert = c; stands = ap (slice_get certs) p ∙ s; dead = d; end = e; digest = g }
 
-pub keys_push : (certs : List Certificate) (moment n : ℕ) (keys : List Key) (c : Certificate) (k : Key) → KeysBelow certs moment n keys → slice_get certs n ≡ Some c → c.until ≤ moment → k.2 ≡ n → k.0.0 ≡ c.until → k.1 ≡ digest_of c → KeysBelow certs moment (n + 1) (keys ++ k ∷ [])
+pub keys_push : (certs : List Certificate) (moment n : ℕ) (keys : List Key) (c : Certificate) (k : Key) → KeysBelow certs moment n keys → slice_get certs n ≡ Some c → (IsLive moment c → ⊥) → k.2 ≡ n → k.0.0 ≡ c.until → k.1 ≡ digest_of c → KeysBelow certs moment (n + 1) (keys ++ k ∷ [])
 keys_push certs moment n keys c k below s d p e g = record {
   sound = All-push (IsKeyOf certs moment) keys k below.sound (key_at certs moment n c k s d p e g);
   below = All-push (λ (j : Key). j.2 < n + 1) keys k (All-weaker (λ (j : Key). j.2 < n) (λ (j : Key). j.2 < n + 1) (λ j lt. omega (arith, lt)) keys below.below) (omega (arith, p));
@@ -111,14 +111,14 @@ keys_push certs moment n keys c k below s d p e g = record {
   rising = all_pairs_push (λ (i j : Key). i.2 < j.2) keys k below.rising (λ i x lt. let b : (get_or keys i x).2 < n = below.below i x lt in omega (arith, b, p));
 }
   where
-    every : (i : ℕ) (b : Certificate) → i < n + 1 → slice_get certs i ≡ Some b → b.until ≤ moment → (j : Key) × Contains (keys ++ k ∷ []) j × (j.2 ≡ i)
+    every : (i : ℕ) (b : Certificate) → i < n + 1 → slice_get certs i ≡ Some b → (IsLive moment b → ⊥) → (j : Key) × Contains (keys ++ k ∷ []) j × (j.2 ≡ i)
     every i b lt t u =
         elim (cases_lt i n) [
           | inl l ↦ let (j, has, at) = below.every i b l t u in (j, Contains-append_left keys (k ∷ []) j has, at)
           | inr l ↦ (k, Contains-push keys k, omega (arith, p, lt, l))
         ]
 
-pub keys_pass : (certs : List Certificate) (moment n : ℕ) (keys : List Key) (c : Certificate) → KeysBelow certs moment n keys → slice_get certs n ≡ Some c → moment < c.until → KeysBelow certs moment (n + 1) keys
+pub keys_pass : (certs : List Certificate) (moment n : ℕ) (keys : List Key) (c : Certificate) → KeysBelow certs moment n keys → slice_get certs n ≡ Some c → IsLive moment c → KeysBelow certs moment (n + 1) keys
 keys_pass certs moment n keys c below s live = record {
   sound = below.sound;
   below = All-weaker (λ (j : Key). j.2 < n) (λ (j : Key). j.2 < n + 1) (λ j lt. omega (arith, lt)) keys below.below;
@@ -126,15 +126,14 @@ keys_pass certs moment n keys c below s live = record {
   rising = below.rising;
 }
   where
-    every : (i : ℕ) (b : Certificate) → i < n + 1 → slice_get certs i ≡ Some b → b.until ≤ moment → (j : Key) × Contains keys j × (j.2 ≡ i)
+    every : (i : ℕ) (b : Certificate) → i < n + 1 → slice_get certs i ≡ Some b → (IsLive moment b → ⊥) → (j : Key) × Contains keys j × (j.2 ≡ i)
     every i b lt t u =
         elim (cases_lt i n) [
           | inl l ↦ below.every i b l t u
           | inr l ↦
               let at : i ≡ n = omega arith in
               let same : b ≡ c = same_Some b c (sym t ∙ ap (slice_get certs) at ∙ s) in
-              let ends : b.until ≡ c.until = ap (λ (x : Certificate). x.until) same in
-              absurd (omega (arith, ends, live, u))
+              absurd (u (subst (IsLive moment) (sym same) live))
         ]
 
 -- ---- the places in order

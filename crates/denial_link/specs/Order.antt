@@ -1,10 +1,10 @@
 -- The order in which certificates that have ended are looked at again.
-use Rattle.std.specs.Prelude.{◌≡◌, ℕ, ◌≤◌, List, Some, slice_get, Contains, AllPairs, ◌↔◌}
+use Rattle.std.specs.Prelude.{◌≡◌, ℕ, List, Some, slice_get, Contains, AllPairs, ◌↔◌}
 use Rattle.std.specs.Ordering.{nat_cmp, ordering_then}
 use Rattle.std.specs.declared.cmp.Ordering.{Ordering}
 use Rattle.std.specs.declared.cmp.Ordering.TheVariants.{Less}
 use Rattle.std.specs.Cmp.Lexicographic.{slice_cmp}
-use Rattle.stmt_codec.specs.Certificates.{Certificate, digest_of}
+use Rattle.stmt_codec.specs.Certificates.{Certificate, digest_of, IsLive}
 
 -- the certificate c at place i against d at j: the later end first, then the lesser digest, then
 -- the lesser place
@@ -22,7 +22,7 @@ GoesBefore certs i j =
 
 -- the certificate at the place has ended
 abbrev pub IsDead : List Certificate → ℕ → ℕ → Type 0
-IsDead certs moment i = (c : Certificate) × (slice_get certs i ≡ Some c) × (c.until ≤ moment)
+IsDead certs moment i = (c : Certificate) × (slice_get certs i ≡ Some c) × (IsLive moment c → ⊥)
 
 -- the places of all that have ended, each before those that the order has after it
 pub record DeadInOrder (certs : List Certificate) (moment : ℕ) (places : List ℕ) : Type 0 where

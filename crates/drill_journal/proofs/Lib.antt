@@ -5,3 +5,10 @@ pub mod Lists
 pub mod Caching
 pub mod Hitting
 pub mod Ending
+pub mod Members
+pub mod Opened
+pub mod Turning
+pub mod Ordering
+pub mod Knowing
+pub mod Ruling
+pub mod Counting

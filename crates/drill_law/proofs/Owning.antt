@@ -1,6 +1,6 @@
--- What came of all requests, by the connections that answered them: each place of each cell is own of one request.
-use Rattle.std.proofs.Common.{◌≡◌, ◌≢◌, ℕ, ◌+◌, ◌%◌, ◌<◌, Bool, true, false, cond, eqb, List, [], ◌∷◌, ◌++◌, map, Option, Some, None, refl, sym, ap, ap₂, subst, ◌∙◌, inl, inr, arith}
-use Rattle.std.specs.Prelude.{All, AllPairs, sum_by, filter}
+-- What came of all requests, by the connections that answered them.
+use Rattle.std.proofs.Common.{◌≡◌, ◌≢◌, ℕ, ◌+◌, ◌<◌, cond, eqb, List, [], ◌∷◌, ◌++◌, map, Option, Some, None, refl, sym, ap, ap₂, subst, ◌∙◌, inl, inr, arith}
+use Rattle.std.specs.Prelude.{All, AllPairs, sum_by}
 use Rattle.std.specs.List.{AllZip, flat_map, range_with_len}
 use Rattle.std.proofs.lemmas.Grind.{flat_map-append}
 use Rattle.std.proofs.lemmas.List.Elements.{All-head, All-tail, filter_map-append}
@@ -14,7 +14,7 @@ use Rattle.taos_drill.specs.declared.numbers.TheConstants.{READING}
 use Rattle.taos_drill.specs.Sent.{payload_of, requests_of}
 use Rattle.taos_lanes.specs.Lanes.{LaneRun, ServesAll, IsLaneAnswered, times_in_lane}
 use Rattle.taos_lanes.specs.Visits.{Visit, AnsweredIn, Chain, times_own}
-use Rattle.taos_monitor.specs.Cells.{Node, Journals, Cell, Place, IsAfter, number_in, numbers_in, entries_in, AreLegal}
+use Rattle.taos_monitor.specs.Cells.{Node, Journals, Cell, Place, IsAfter, number_in, numbers_in}
 use Rattle.taos_monitor.specs.Course.{Course}
 use Rattle.taos_monitor.specs.Credentials.{LinkCall}
 use Rattle.taos_monitor.specs.Handling.{Gave}
@@ -22,12 +22,12 @@ use Rattle.taos_monitor.specs.Run.{Turn, AreTurns, IsCourse, frames_of, readings
 use Rattle.taos_monitor.specs.World.{World}
 use Rattle.taos_wire.specs.Reply as replies
 use Rattle.taos_wire.specs.Reply.{Sent, spelling}
-use Rattle.turn_cell.specs.Journal.{times, HasEach}
+use Rattle.turn_cell.specs.Journal.{times}
 use Rattle.drill_law.specs.Lanes.{AnswersLane}
-use Rattle.drill_law.specs.Requests.{FitsDrill, IsLoadNode, channels_of, its_shard, load_plan}
-use Rattle.drill_law.specs.Works.{WasListed, Work, work_of, work_places, Came}
-use Rattle.drill_law.proofs.Lists.{In, in_left, in_right, in_map, all_in, in_all, in_ranged}
-use Rattle.drill_law.proofs.Turning.{turned}
+use Rattle.drill_journal.specs.Requests.{FitsDrill, IsLoadNode}
+use Rattle.drill_journal.specs.Works.{Work, work_of, work_places, In, CameBy, LaneOf, LoadWorks}
+use Rattle.drill_journal.proofs.Members.{in_left, in_right, in_map, all_in, in_all, of_lane}
+use Rattle.drill_journal.proofs.Turning.{turned}
 
 pub times-append : (place : ℕ) (xs ys : List ℕ) → times place (xs ++ ys) ≡ times place xs + times place ys
 times-append place xs ys = sum_by-append (λ q. cond (eqb q place) 1 0) xs ys
@@ -47,39 +47,12 @@ gave_one x before after (z ∷ zs) is (Some left, shows, later) y h =
 
 -- ---- one lane
 
--- what came of a request, by some list of its object
-abbrev pub CameBy : DrillWords → Node → Journals → Work → Type 0
-CameBy d n J w =
-    (list : _) × WasListed d J w.request list × Came d J (load_plan d (channels_of n) (its_shard d w.request)) w.request list w.asks w.ruling
-
 -- what came of these requests, in order
 pub record WorksOf (d : DrillWords) (n : Node) (J : Journals) (requests : List ℕ) (places : List Place) : Type 0 where
   pub works : List Work
   pub requests_are : map (λ (w : Work). w.request) works ≡ requests
   pub placed : places ≡ flat_map (work_places d) works
   pub came : (w : Work) → In w works → CameBy d n J w
-
--- what came of the requests of a lane
-pub record LaneOf (d : DrillWords) (n : Node) (J : Journals) (lane : ℕ) (works : List Work) : Type 0 where
-  pub requests_are : map (λ (w : Work). w.request) works ≡ requests_of d.requests d.lanes lane
-  pub came : (w : Work) → In w works → CameBy d n J w
-  pub ascending : AllPairs IsAfter (flat_map (work_places d) works)
-
-pub in_filter : (test : ℕ → Bool) (xs : List ℕ) (x : ℕ) → In x (filter test xs) → In x xs × (test x ≡ true)
-in_filter test [] x h = absurd h
-in_filter test (y ∷ ys) x h = by (test y) refl h (in_filter test ys x)
-  where
-    by : (b : Bool) → test y ≡ b → In x (cond b (y ∷ filter test ys) (filter test ys)) → (In x (filter test ys) → In x ys × (test x ≡ true)) → In x (y ∷ ys) × (test x ≡ true)
-    by true is (inl same) more = (inl same, ap test (sym same) ∙ is)
-    by true is (inr later) more = let r = more later in (inr r.0, r.1)
-    by false is later more = let r = more later in (inr r.0, r.1)
-
--- a request of a lane is one of all
-pub of_lane : (requests lanes lane i : ℕ) → In i (requests_of requests lanes lane) → (i < requests) × (eqb (i % lanes) lane ≡ true)
-of_lane requests lanes lane i h =
-    let r = in_filter (λ k. eqb (k % lanes) lane) (range_with_len 0 requests) i h in
-    let s = in_ranged i 0 requests r.0 in
-    (omega (arith, s.1), r.1)
 
 module _ (d : DrillWords) (fits : FitsDrill d) (n : Node) (node : IsLoadNode d n) (J : Journals) where
   heads : (i : ℕ) (is : List ℕ) (t : Turn) (turns : List Turn) → map (payload_of d.seed d.lanes) (i ∷ is) ≡ frames_of (t ∷ turns) →
@@ -171,13 +144,6 @@ module _ (d : DrillWords) (fits : FitsDrill d) (n : Node) (node : IsLoadNode d n
               ∙ (times-append place (numbers_in cell (flat_map (work_places d) here.0)) (numbers_in cell (flat_map (work_places d) (flat_map (λ (ws : List Work). ws) rest.0)))
               ∙ (ap₂ (λ (x y : ℕ). x + y) (here.2 cell place) (rest.2 cell place) ∙ sym (sum_by-cons (times_in_lane cell place) r runs)))),
         )
-
--- what came of all requests of the load, of which each place of each cell is own of one, once
-pub record LoadWorks (d : DrillWords) (n : Node) (J : Journals) : Type 0 where
-  pub lanes : List (List Work)
-  pub each : AllZip (LaneOf d n J) (range_with_len 0 d.lanes) lanes
-  pub owned : (cell : Cell) → HasEach 0 (entries_in J cell) (numbers_in cell (flat_map (work_places d) (flat_map (λ (ws : List Work). ws) lanes)))
-  pub legal : AreLegal n J
 
 pub load_works : (d : DrillWords) (fits : FitsDrill d) (n : Node) (node : IsLoadNode d n) (J : Journals) (limit : ℕ) (runs : List (LaneRun n limit)) → ServesAll J runs → AllZip (AnswersLane d) (range_with_len 0 d.lanes) runs → LoadWorks d n J
 load_works d fits n node J limit runs serves are =

@@ -1,5 +1,5 @@
 -- What the laws of drills say.
-use Rattle.std.specs.Prelude.{◌≡◌, ◌≢◌, ℕ, ◌<◌, List, All, map}
+use Rattle.std.specs.Prelude.{◌≡◌, ℕ, ◌<◌, List, map}
 use Rattle.std.specs.List.{AllZip, range_with_len}
 use Rattle.agent_core.specs.Alone.{plans_in}
 use Rattle.agent_core.specs.Journals.{ShardSeen}
@@ -7,27 +7,12 @@ use Rattle.object_core.specs.Objects.{ObjectSeen}
 use Rattle.object_core.specs.Shelving.{fixed_of}
 use Rattle.drill_journal.specs.Load.{IsLoadJournal}
 use Rattle.node_words.specs.Words.{DrillWords}
-use Rattle.taos_drill.specs.declared.numbers.TheConstants.{READING}
-use Rattle.taos_drill.specs.Sent.{payload_of}
 use Rattle.taos_lanes.specs.Lanes.{LaneRun, ServesAll}
 use Rattle.taos_lanes.specs.Serving.{journals_of}
 use Rattle.taos_monitor.specs.Cells.{Node, Journals}
-use Rattle.taos_monitor.specs.Course.{Course, Used}
-use Rattle.taos_wire.specs.Reply.{NoMemory, Sent}
-use Rattle.drill_law.specs.Counts.{CountsLoad}
+use Rattle.drill_journal.specs.Counts.{CountsLoad}
 use Rattle.drill_law.specs.Lanes.{AnswersLane}
-use Rattle.drill_law.specs.Requests.{FitsDrill, IsLoadNode, channels_of, load_plan}
-use Rattle.drill_law.specs.Works.{Turned}
-
--- a course of a request of the load, where each reading is the drill's and memory was not refused,
--- is one of these
-abbrev pub CoursesAreTurned : DrillWords → Node → Type 0
-CoursesAreTurned d n =
-    FitsDrill d → IsLoadNode d n →
-    (J : Journals) (i : ℕ) → i < d.requests → (used : Used) (sent : Sent) →
-    Course n J (payload_of d.seed d.lanes i) used sent →
-    All (λ reading. reading ≡ READING) used.readings → sent.reply ≢ NoMemory →
-    Turned d n J i used.places
+use Rattle.drill_journal.specs.Requests.{FitsDrill, IsLoadNode, channels_of, load_plan}
 
 -- where the lanes of a node answered the load, and memory was not refused, the journal of each
 -- shard is that of a load

@@ -3,13 +3,7 @@
 ghost use Rattle.std.specs.Prelude.{ℕ};
 ghost use Rattle.node_words.specs.Words.{DrillWords};
 ghost use Rattle.taos_monitor.specs.Cells.{Node};
-ghost use Rattle.drill_law.specs.Laws.{CoursesAreTurned, LoadIsCounted, ShardsHaveLoads};
-
-/// What the course of a load's request can be: a journal was full, its Ask was not judged, or it
-/// was denied or granted.
-pub fn courses_are_turned()
-    ensures { (d : DrillWords) (n : Node) → CoursesAreTurned d n }
-{}
+ghost use Rattle.drill_law.specs.Laws.{LoadIsCounted, ShardsHaveLoads};
 
 /// Where each lane answered all its requests and memory was not refused, the journals of the shards
 /// are those of a load.

@@ -3,4 +3,4 @@
 
 mod laws;
 
-pub use laws::{courses_are_turned, loads_are_counted, shards_have_loads};
+pub use laws::{loads_are_counted, shards_have_loads};

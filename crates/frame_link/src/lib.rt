@@ -4,6 +4,7 @@
 mod closed;
 mod fault_plan;
 mod frame;
+mod limit_laws;
 mod limits;
 mod mem_clock;
 mod mem_door;
@@ -17,6 +18,7 @@ mod whole;
 
 pub use closed::{ClosedDoor, NoRelay};
 pub use frame::{FrameBuf, Next, Put, SMALL_FRAME, next_frame, one_reading, put_frame};
+pub use limit_laws::limits_are;
 pub use limits::Limits;
 pub use mem_clock::MemClock;
 pub use mem_door::MemDoor;

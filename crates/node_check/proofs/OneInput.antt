@@ -11,7 +11,8 @@ use Rattle.node_file.specs.Opening.{Opening}
 use Rattle.node_check.specs.declared.finding.Finding.{Finding}
 use Rattle.node_check.specs.Checking.{Finds}
 use Rattle.frame_link.specs.declared.service.TheConstants.{MAX_PAYLOAD}
-use Rattle.node_check.specs.Findings.{IsMissing, TakesOne, TakesFrames, Shows, max_reply}
+use Rattle.node_check.specs.Findings.{IsMissing, TakesOne, TakesFrames, Shows}
+use Rattle.node_check.specs.declared.check.TheConstants.{MAX_REPLY}
 use Rattle.frame_link.proofs.Complete.{left_after, all_taken}
 use Rattle.node_check.proofs.OneFinding as law
 
@@ -48,9 +49,9 @@ one_pair : (bytes : List ℕ) (x y q p r s : Option (List ℕ)) → TakesFrames 
 one_pair bytes x y (Some q) p (Some r) s t u =
     let first = one_whole MAX_PAYLOAD bytes q r t.middle u.middle (omega arith) t.first u.first in
     let rest = left_after bytes (frame q) t.middle t.first.1 in
-    let mine = subst (λ (m : Option (List ℕ)). TakesOne max_reply m x p) rest.1 t.behind in
-    let other = subst (λ (m : Option (List ℕ)). TakesOne max_reply m y s) (sym first.1 ∙ rest.1) u.behind in
-    (ap (λ (l : List ℕ). Some l) first.0, one_frame max_reply rest.0 x y p s (omega arith) mine other)
+    let mine = subst (λ (m : Option (List ℕ)). TakesOne MAX_REPLY m x p) rest.1 t.behind in
+    let other = subst (λ (m : Option (List ℕ)). TakesOne MAX_REPLY m y s) (sym first.1 ∙ rest.1) u.behind in
+    (ap (λ (l : List ℕ). Some l) first.0, one_frame MAX_REPLY rest.0 x y p s (omega arith) mine other)
 one_pair bytes x y (Some q) p None s t u = absurd (not_both MAX_PAYLOAD bytes q t.middle y (omega arith) t.first u.0)
 one_pair bytes x y None p (Some r) s t u = absurd (not_both MAX_PAYLOAD bytes r u.middle x (omega arith) u.first t.0)
 one_pair bytes x y None p None s t u = (refl, t.1 ∙ sym u.1)

@@ -13,6 +13,7 @@ use Rattle.node_check.specs.declared.check.CheckEnd.{CheckEnd}
 use Rattle.node_check.specs.declared.check.CheckEnd.TheVariants as ends
 use Rattle.node_check.specs.declared.check.Halt.{Halt}
 use Rattle.node_check.specs.declared.check.Halt.TheVariants as halt
+use Rattle.node_check.specs.declared.check.TheConstants.{MAX_REPLY}
 use Rattle.node_check.specs.declared.finding.CheckWord.{CheckWord}
 use Rattle.node_check.specs.declared.finding.CheckWord.TheVariants as word
 use Rattle.node_check.specs.declared.finding.Finding.{Finding}
@@ -45,10 +46,6 @@ finding_status (Refused w) = 11
 
 -- ---- what is taken of the input
 
--- the most bytes of a reply
-abbrev pub max_reply : ℕ
-max_reply = 67108864
-
 -- the input ended, in a frame or before one, or the length word exceeds the limit
 abbrev pub IsMissing : Next → Type 0
 IsMissing next.End = Unit {0}
@@ -76,7 +73,7 @@ abbrev pub TakesFrames : Option (List ℕ) → Option (List ℕ) → Option (Lis
     Option (List ℕ) → Type 0
 TakesFrames before after None reply = TakesOne MAX_PAYLOAD before after None × (reply ≡ None)
 TakesFrames before after (Some payload) reply =
-    TakesBehind before payload (λ middle. TakesOne max_reply middle after reply)
+    TakesBehind before payload (λ middle. TakesOne MAX_REPLY middle after reply)
 
 -- a read failed in a frame, or memory was refused for one, once its length was read
 abbrev pub HaltsAt : ℕ → Option (List ℕ) → Option (List ℕ) → Halt → Type 0
@@ -88,7 +85,7 @@ HaltsAt limit before after halt.NoMemory =
 pub data Halts (before after : Option (List ℕ)) (why : Halt) : Type 0 where
   at_request : HaltsAt MAX_PAYLOAD before after why → Halts before after why
   at_reply : (payload : List ℕ) →
-      TakesBehind before payload (λ middle. HaltsAt max_reply middle after why) →
+      TakesBehind before payload (λ middle. HaltsAt MAX_REPLY middle after why) →
       Halts before after why
 
 -- ---- what is done

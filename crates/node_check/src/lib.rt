@@ -4,7 +4,9 @@
 mod check;
 mod checking;
 mod finding;
+mod limit_laws;
 
 pub use check::{CheckEnd, MAX_REPLY, check_connection, one_check};
 pub use checking::{check_frames, one_finding};
 pub use finding::{CheckWord, Finding, finding_status};
+pub use limit_laws::limits_are;

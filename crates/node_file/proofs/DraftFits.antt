@@ -12,18 +12,19 @@ use Rattle.byte_fields.proofs.Results.{bind_ok, chosen_ok, ok_is, with_fault_ok}
 use Rattle.prin_text.specs.Labels.{Rows}
 use Rattle.stmt_codec.specs.Certificates.{Certificate}
 use Rattle.stmt_codec.specs.Equality.{same_certificate}
-use Rattle.node_file.specs.declared.fault.FileCause.{FileCause}
-use Rattle.node_file.specs.declared.fault.FileCause.TheVariants.{Twice, Limit, NoNode, UnknownWord}
-use Rattle.node_file.specs.declared.fault.FileFault.TheVariants.{Line}
+use Rattle.file_lines.specs.declared.fault.FileCause.{FileCause}
+use Rattle.file_lines.specs.declared.fault.FileCause.TheVariants.{Twice, Limit, NoNode, UnknownWord}
+use Rattle.file_lines.specs.declared.fault.FileFault.TheVariants.{Line}
 use Rattle.node_file.specs.declared.limits.TheConstants.{MAX_SHARDS, MAX_LIMIT, MAX_CHANNELS, MAX_ANCHORS, MAX_COMMONS, MAX_ROOM}
 use Rattle.node_file.specs.declared.node_text.kind.LineKind.{LineKind}
 use Rattle.node_file.specs.declared.node_text.kind.LineKind.TheVariants as kinds
 use Rattle.node_file.specs.declared.node_text.kind.Setting.{Setting}
 use Rattle.node_file.specs.declared.node_text.kind.Setting.TheVariants as settings
 use Rattle.node_file.specs.declared.node_text.settings.Settings.{Settings}
-use Rattle.node_file.specs.Fields.{digits, granted, keyed, numbered, numbered_digits, one_number, some_or}
-use Rattle.node_file.specs.FileLines.{first_of, key_cause, text_cause, unless}
-use Rattle.node_file.specs.Lines.{lines_from, word_off}
+use Rattle.file_lines.specs.Fields.{digits, granted, if_plain, keyed, numbered, numbered_digits, one_number, some_or}
+use Rattle.file_lines.proofs.Plain.{plain_ok}
+use Rattle.file_lines.specs.FileLines.{first_of, key_cause, text_cause, unless}
+use Rattle.file_lines.specs.Lines.{lines_from, word_off}
 use Rattle.node_file.specs.NodeFile.{Draft, adds, anchors_in, channels_in, commons_in, draft_in, names_in, no_draft, node_step, objects_in, opening_said, opening_with, roles_in, roomy, settings_in, text_in}
 use Rattle.node_file.specs.NodeLines.{anchor_said, anchors_and, common_said, commons_and, commons_of, contents_and, grants_and, journal_with, keep_with, kind_of, new_within, node_with, objects_and, settings_with, shards_with}
 use Rattle.node_file.specs.Opening.{Opening, journal_room}
@@ -66,96 +67,96 @@ nothing_fits = record {
 bounded : (high m n : ℕ) → (1 ≤ m) × (m ≤ high) → (let o : Option ℕ = Some m in o) ≡ Some n → (1 ≤ n) × (n ≤ high)
 bounded high m n within e = subst (λ k. (1 ≤ k) × (k ≤ high)) (same_Some m n e) within
 
-settings_fit : (above s : Settings) (setting : Setting) (line rest : List ℕ) → SettingsFit above → settings_with above setting line rest ≡ Ok s → SettingsFit s
+settings_fit : (above s : Settings) (setting : Setting) (rest : List ℕ) → SettingsFit above → settings_with above setting rest ≡ Ok s → SettingsFit s
 unfolding node_with shards_with keep_with journal_with
-settings_fit above s settings.Node line rest fit e =
-    let x = bind_ok (keyed line rest) (λ x. unless (first_of ((is_some above.node, Twice) ∷ [])) (record above { node = Some x })) s e in
+settings_fit above s settings.Node rest fit e =
+    let x = bind_ok (keyed rest) (λ x. unless (first_of ((is_some above.node, Twice) ∷ [])) (record above { node = Some x })) s e in
     let u = unless_ok (first_of ((is_some above.node, Twice) ∷ [])) (record above { node = Some x.0 }) s x.2 in
     subst SettingsFit u.1 (record { shards = fit.shards; limit = fit.limit })
-settings_fit above s settings.Shards line rest fit e =
-    let x = bind_ok (one_number 4294967295 line rest) (λ n. new_within MAX_SHARDS (is_some above.shards) n >>= λ n. Ok (record above { shards = Some n })) s e in
+settings_fit above s settings.Shards rest fit e =
+    let x = bind_ok (one_number 4294967295 rest) (λ n. new_within MAX_SHARDS (is_some above.shards) n >>= λ n. Ok (record above { shards = Some n })) s e in
     let n = bind_ok (new_within MAX_SHARDS (is_some above.shards) x.0) (λ n. Ok (record above { shards = Some n })) s x.2 in
     let more : Settings = record above { shards = Some n.0 } in
     subst SettingsFit (ok_is FileCause more s n.2) (record { shards = λ k is. bounded MAX_SHARDS n.0 k (new_bounds MAX_SHARDS x.0 n.0 (is_some above.shards) n.1) is; limit = fit.limit })
-settings_fit above s settings.Keep line rest fit e =
-    let x = bind_ok (one_number 18446744073709551615 line rest) (λ n. new_within 31536000 (is_some above.keep) n >>= λ n. Ok (record above { keep = Some n })) s e in
+settings_fit above s settings.Keep rest fit e =
+    let x = bind_ok (one_number 18446744073709551615 rest) (λ n. new_within 31536000 (is_some above.keep) n >>= λ n. Ok (record above { keep = Some n })) s e in
     let n = bind_ok (new_within 31536000 (is_some above.keep) x.0) (λ n. Ok (record above { keep = Some n })) s x.2 in
     let more : Settings = record above { keep = Some n.0 } in
     subst SettingsFit (ok_is FileCause more s n.2) (record { shards = fit.shards; limit = fit.limit })
-settings_fit above s settings.Journal line rest fit e =
-    let x = bind_ok (one_number 18446744073709551615 line rest) (λ n. new_within MAX_LIMIT (is_some above.limit) n >>= λ n. Ok (record above { limit = Some n })) s e in
+settings_fit above s settings.Journal rest fit e =
+    let x = bind_ok (one_number 18446744073709551615 rest) (λ n. new_within MAX_LIMIT (is_some above.limit) n >>= λ n. Ok (record above { limit = Some n })) s e in
     let n = bind_ok (new_within MAX_LIMIT (is_some above.limit) x.0) (λ n. Ok (record above { limit = Some n })) s x.2 in
     let more : Settings = record above { limit = Some n.0 } in
     subst SettingsFit (ok_is FileCause more s n.2) (record { shards = fit.shards; limit = λ k is. bounded MAX_LIMIT n.0 k (new_bounds MAX_LIMIT x.0 n.0 (is_some above.limit) n.1) is })
 
 -- ---- lists
 
-texts_fit : (most : ℕ) (rows more : Rows) (line rest : List ℕ) → AreSmall rows → (numbered line rest >>= λ x. unless (text_cause most rows x.0 x.1) (rows ++ (x.0, x.1) ∷ [])) ≡ Ok more → AreSmall more
-texts_fit most rows more line rest small e =
-    let x = bind_ok (numbered line rest) (λ x. unless (text_cause most rows x.0 x.1) (rows ++ (x.0, x.1) ∷ [])) more e in
+texts_fit : (most : ℕ) (rows more : Rows) (rest : List ℕ) → AreSmall rows → (numbered rest >>= λ x. unless (text_cause most rows x.0 x.1) (rows ++ (x.0, x.1) ∷ [])) ≡ Ok more → AreSmall more
+texts_fit most rows more rest small e =
+    let x = bind_ok (numbered rest) (λ x. unless (text_cause most rows x.0 x.1) (rows ++ (x.0, x.1) ∷ [])) more e in
     let u = unless_ok (text_cause most rows x.0.0 x.0.1) (rows ++ (x.0.0, x.0.1) ∷ []) more x.2 in
-    let fits : x.0.0 < 2 ^ 32 = omega (arith, numbered_small line rest x.0 x.1) in
+    let fits : x.0.0 < 2 ^ 32 = omega (arith, numbered_small rest x.0 x.1) in
     subst AreSmall u.1 (All-push (λ (r : ℕ × List ℕ). r.0 < 2 ^ 32) rows (x.0.0, x.0.1) small fits)
 
-keys_fit : (most : ℕ) (keys more : Entries) (line rest : List ℕ) → (keyed line rest >>= λ x. unless (key_cause most keys x.0) (keys ++ (x.0, x.1) ∷ [])) ≡ Ok more → length more ≤ most
+keys_fit : (most : ℕ) (keys more : Entries) (rest : List ℕ) → (keyed rest >>= λ x. unless (key_cause most keys x.0) (keys ++ (x.0, x.1) ∷ [])) ≡ Ok more → length more ≤ most
 unfolding key_cause
-keys_fit most keys more line rest e =
-    let x = bind_ok (keyed line rest) (λ x. unless (key_cause most keys x.0) (keys ++ (x.0, x.1) ∷ [])) more e in
+keys_fit most keys more rest e =
+    let x = bind_ok (keyed rest) (λ x. unless (key_cause most keys x.0) (keys ++ (x.0, x.1) ∷ [])) more e in
     room_for most (is_some (key_of keys x.0.0)) Twice keys more (x.0.0, x.0.1) x.2
 
-anchors_fit : (names : Rows) (above more : List Anchor) (line rest : List ℕ) → (anchor_said names line rest >>= λ a. anchors_and above a) ≡ Ok more → length more ≤ MAX_ANCHORS
+anchors_fit : (names : Rows) (above more : List Anchor) (rest : List ℕ) → (anchor_said names rest >>= λ a. anchors_and above a) ≡ Ok more → length more ≤ MAX_ANCHORS
 unfolding anchors_and
-anchors_fit names above more line rest e =
-    let a = bind_ok (anchor_said names line rest) (λ a. anchors_and above a) more e in
+anchors_fit names above more rest e =
+    let a = bind_ok (anchor_said names rest) (λ a. anchors_and above a) more e in
     room_for MAX_ANCHORS (not (is_new (same_anchor a.0) above)) Twice above more a.0 a.2
 
-commons_fit : (node : Option (ℕ × List ℕ)) (above more : List Certificate) (line rest : List ℕ) → (digits line rest >>= λ bytes. commons_of node above bytes) ≡ Ok more → length more ≤ MAX_COMMONS
+commons_fit : (node : Option (ℕ × List ℕ)) (above more : List Certificate) (rest : List ℕ) → (digits rest >>= λ bytes. commons_of node above bytes) ≡ Ok more → length more ≤ MAX_COMMONS
 unfolding commons_and
-commons_fit node above more line rest e =
-    let bytes = bind_ok (digits line rest) (λ bytes. commons_of node above bytes) more e in
+commons_fit node above more rest e =
+    let bytes = bind_ok (digits rest) (λ bytes. commons_of node above bytes) more e in
     let c = bind_ok (common_said node bytes.0) (λ c. commons_and above c) more bytes.2 in
     room_for MAX_COMMONS (not (is_new (same_certificate c.0) above)) Twice above more c.0 c.2
 
 -- ---- a line
 
-pub adds_fit : (d more : Draft) (kind : LineKind) (line rest : List ℕ) → DraftFits d → adds d kind line rest ≡ Ok more → DraftFits more
-adds_fit d more (kinds.Setting setting) line rest fit e =
-    let s = with_value_ok (settings_in d) (settings_with d.settings setting line rest) more e in
-    subst DraftFits s.2 (record { settings = settings_fit d.settings s.0 setting line rest fit.settings s.1; names = fit.names; roles = fit.roles; channels = fit.channels; anchors = fit.anchors; commons = fit.commons; objects = fit.objects })
-adds_fit d more kinds.Name line rest fit e =
+pub adds_fit : (d more : Draft) (kind : LineKind) (rest : List ℕ) → DraftFits d → adds d kind rest ≡ Ok more → DraftFits more
+adds_fit d more (kinds.Setting setting) rest fit e =
+    let s = with_value_ok (settings_in d) (settings_with d.settings setting rest) more e in
+    subst DraftFits s.2 (record { settings = settings_fit d.settings s.0 setting rest fit.settings s.1; names = fit.names; roles = fit.roles; channels = fit.channels; anchors = fit.anchors; commons = fit.commons; objects = fit.objects })
+adds_fit d more kinds.Name rest fit e =
     let s = with_value_ok (names_in d) _ more e in
-    subst DraftFits s.2 (record { settings = fit.settings; names = texts_fit _ d.labels.names s.0 line rest fit.names s.1; roles = fit.roles; channels = fit.channels; anchors = fit.anchors; commons = fit.commons; objects = fit.objects })
-adds_fit d more kinds.Role line rest fit e =
+    subst DraftFits s.2 (record { settings = fit.settings; names = texts_fit _ d.labels.names s.0 rest fit.names s.1; roles = fit.roles; channels = fit.channels; anchors = fit.anchors; commons = fit.commons; objects = fit.objects })
+adds_fit d more kinds.Role rest fit e =
     let s = with_value_ok (roles_in d) _ more e in
-    subst DraftFits s.2 (record { settings = fit.settings; names = fit.names; roles = texts_fit _ d.labels.roles s.0 line rest fit.roles s.1; channels = fit.channels; anchors = fit.anchors; commons = fit.commons; objects = fit.objects })
-adds_fit d more kinds.Channel line rest fit e =
+    subst DraftFits s.2 (record { settings = fit.settings; names = fit.names; roles = texts_fit _ d.labels.roles s.0 rest fit.roles s.1; channels = fit.channels; anchors = fit.anchors; commons = fit.commons; objects = fit.objects })
+adds_fit d more kinds.Channel rest fit e =
     let s = with_value_ok (channels_in d) _ more e in
-    subst DraftFits s.2 (record { settings = fit.settings; names = fit.names; roles = fit.roles; channels = keys_fit _ d.channels s.0 line rest s.1; anchors = fit.anchors; commons = fit.commons; objects = fit.objects })
-adds_fit d more kinds.Anchor line rest fit e =
+    subst DraftFits s.2 (record { settings = fit.settings; names = fit.names; roles = fit.roles; channels = keys_fit _ d.channels s.0 rest s.1; anchors = fit.anchors; commons = fit.commons; objects = fit.objects })
+adds_fit d more kinds.Anchor rest fit e =
     let s = with_value_ok (anchors_in d) _ more e in
-    subst DraftFits s.2 (record { settings = fit.settings; names = fit.names; roles = fit.roles; channels = fit.channels; anchors = anchors_fit d.labels.names d.anchors s.0 line rest s.1; commons = fit.commons; objects = fit.objects })
-adds_fit d more kinds.Common line rest fit e =
+    subst DraftFits s.2 (record { settings = fit.settings; names = fit.names; roles = fit.roles; channels = fit.channels; anchors = anchors_fit d.labels.names d.anchors s.0 rest s.1; commons = fit.commons; objects = fit.objects })
+adds_fit d more kinds.Common rest fit e =
     let s = with_value_ok (commons_in d) _ more e in
-    subst DraftFits s.2 (record { settings = fit.settings; names = fit.names; roles = fit.roles; channels = fit.channels; anchors = fit.anchors; commons = commons_fit d.settings.node d.commons s.0 line rest s.1; objects = fit.objects })
-adds_fit d more kinds.Object line rest fit e =
-    let s = with_value_ok (objects_in d) (one_number 4294967295 line rest >>= λ n. objects_and d.objects n) more e in
-    let n = bind_ok (one_number 4294967295 line rest) (λ n. objects_and d.objects n) s.0 s.1 in
-    let small : n.0 < 2 ^ 32 = omega (arith, one_small 4294967295 n.0 line rest n.1) in
+    subst DraftFits s.2 (record { settings = fit.settings; names = fit.names; roles = fit.roles; channels = fit.channels; anchors = fit.anchors; commons = commons_fit d.settings.node d.commons s.0 rest s.1; objects = fit.objects })
+adds_fit d more kinds.Object rest fit e =
+    let s = with_value_ok (objects_in d) (one_number 4294967295 rest >>= λ n. objects_and d.objects n) more e in
+    let n = bind_ok (one_number 4294967295 rest) (λ n. objects_and d.objects n) s.0 s.1 in
+    let small : n.0 < 2 ^ 32 = omega (arith, one_small 4294967295 n.0 rest n.1) in
     subst DraftFits s.2 (record { settings = fit.settings; names = fit.names; roles = fit.roles; channels = fit.channels; anchors = fit.anchors; commons = fit.commons; objects = more_fit d.objects s.0 n.0 fit.objects small n.2 })
-adds_fit d more kinds.Content line rest fit e =
-    let s = with_value_ok (objects_in d) (numbered_digits line rest >>= λ x. contents_and d.objects x) more e in
-    let x = bind_ok (numbered_digits line rest) (λ x. contents_and d.objects x) s.0 s.1 in
-    subst DraftFits s.2 (record { settings = fit.settings; names = fit.names; roles = fit.roles; channels = fit.channels; anchors = fit.anchors; commons = fit.commons; objects = contents_fit d.objects s.0 x.0 fit.objects (numbered_digits_fit line rest x.0 x.1) x.2 })
-adds_fit d more kinds.Allow line rest fit e =
-    let s = with_value_ok (objects_in d) (granted line >>= λ x. grants_and d.labels d.objects x) more e in
-    let x = bind_ok (granted line) (λ x. grants_and d.labels d.objects x) s.0 s.1 in
-    subst DraftFits s.2 (record { settings = fit.settings; names = fit.names; roles = fit.roles; channels = fit.channels; anchors = fit.anchors; commons = fit.commons; objects = grants_fit d.labels fit.names fit.roles d.objects s.0 x.0 fit.objects (granted_fit line x.0 x.1) x.2 })
+adds_fit d more kinds.Content rest fit e =
+    let s = with_value_ok (objects_in d) (numbered_digits rest >>= λ x. contents_and d.objects x) more e in
+    let x = bind_ok (numbered_digits rest) (λ x. contents_and d.objects x) s.0 s.1 in
+    subst DraftFits s.2 (record { settings = fit.settings; names = fit.names; roles = fit.roles; channels = fit.channels; anchors = fit.anchors; commons = fit.commons; objects = contents_fit d.objects s.0 x.0 fit.objects (numbered_digits_fit rest x.0 x.1) x.2 })
+adds_fit d more kinds.Allow rest fit e =
+    let s = with_value_ok (objects_in d) (granted rest >>= λ x. grants_and d.labels d.objects x) more e in
+    let x = bind_ok (granted rest) (λ x. grants_and d.labels d.objects x) s.0 s.1 in
+    subst DraftFits s.2 (record { settings = fit.settings; names = fit.names; roles = fit.roles; channels = fit.channels; anchors = fit.anchors; commons = fit.commons; objects = grants_fit d.labels fit.names fit.roles d.objects s.0 x.0 fit.objects (granted_fit rest x.0 x.1) x.2 })
 
 step_fits : (d more : Draft) (line : List ℕ) → DraftFits d → node_step d line ≡ Ok more → DraftFits more
 unfolding node_step
 step_fits d more line fit e =
-    let k = bind_ok (some_or UnknownWord (kind_of (word_off line).0)) (λ kind. adds d kind line (word_off line).1) more e in
-    adds_fit d more k.0 line (word_off line).1 fit k.2
+    let k = bind_ok (some_or UnknownWord (kind_of (word_off line).0)) (λ kind. if_plain line (adds d kind (word_off line).1)) more e in
+    adds_fit d more k.0 (word_off line).1 fit (plain_ok line (adds d k.0 (word_off line).1) more k.2)
 
 -- ---- the whole
 

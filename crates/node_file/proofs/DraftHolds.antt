@@ -25,18 +25,19 @@ use Rattle.sealed_cert.proofs.Opened.{opened_takes}
 use Rattle.stmt_codec.specs.Certificates.{Certificate}
 use Rattle.stmt_codec.specs.Equality.{same_certificate}
 use Rattle.stmt_codec.proofs.Equal.{same_certificate-apart}
-use Rattle.node_file.specs.declared.fault.FileCause.{FileCause}
-use Rattle.node_file.specs.declared.fault.FileCause.TheVariants as causes
-use Rattle.node_file.specs.declared.fault.FileCause.TheVariants.{Limit, Twice, UnknownName, UnknownObject, UnknownWord}
+use Rattle.file_lines.specs.declared.fault.FileCause.{FileCause}
+use Rattle.file_lines.specs.declared.fault.FileCause.TheVariants as causes
+use Rattle.file_lines.specs.declared.fault.FileCause.TheVariants.{Limit, Twice, UnknownName, UnknownObject, UnknownWord}
 use Rattle.node_file.specs.declared.limits.TheConstants.{MAX_ANCHORS, MAX_COMMONS, MAX_KEEP, MAX_LIMIT, MAX_OBJECTS, MAX_SHARDS}
 use Rattle.node_file.specs.declared.node_text.kind.LineKind.{LineKind}
 use Rattle.node_file.specs.declared.node_text.kind.LineKind.TheVariants as kinds
 use Rattle.node_file.specs.declared.node_text.kind.Setting.{Setting}
 use Rattle.node_file.specs.declared.node_text.kind.Setting.TheVariants as settings
 use Rattle.node_file.specs.declared.node_text.settings.Settings.{Settings}
-use Rattle.node_file.specs.Fields.{bytes_of_digits, digits, granted, key_of_digits, keyed, number_up_to, numbered, numbered_digits, one_number, one_word, some_or}
-use Rattle.node_file.specs.FileLines.{first_of, unless}
-use Rattle.node_file.specs.Lines.{word_off}
+use Rattle.file_lines.specs.Fields.{bytes_of_digits, digits, granted, if_plain, key_of_digits, keyed, number_up_to, numbered, numbered_digits, one_number, one_word, some_or}
+use Rattle.file_lines.proofs.Plain.{plain_ok}
+use Rattle.file_lines.specs.FileLines.{first_of, unless}
+use Rattle.file_lines.specs.Lines.{word_off}
 use Rattle.node_file.specs.NodeFile.{Draft, adds, anchors_in, channels_in, commons_in, names_in, no_draft, node_step, objects_in, roles_in, settings_in}
 use Rattle.node_file.specs.NodeLines.{anchor_said, anchors_and, changed_at, changed_if, common_said, commons_and, commons_of, contents_and, grants_and, kind_of, name_said, new_within, objects_and, settings_with, who_said, with_content, with_grant}
 use Rattle.node_file.specs.NodeLines.{journal_with, keep_with, node_with, shards_with}
@@ -88,12 +89,12 @@ name_small names word n small e =
 abbrev anchor_of : ℕ → ℕ → Anchor
 anchor_of key name = record { key = key; name = name }
 
-anchor_fits : (names : Rows) (line rest : List ℕ) (a : Anchor) → AreSmall names → anchor_said names line rest ≡ Ok a → IsAnchor a
+anchor_fits : (names : Rows) (rest : List ℕ) (a : Anchor) → AreSmall names → anchor_said names rest ≡ Ok a → IsAnchor a
 unfolding anchor_said
-anchor_fits names line rest a small e =
-    let x = bind_ok (numbered line rest) (λ x. name_said names x.1 >>= λ n. Ok (anchor_of x.0 n)) a e in
+anchor_fits names rest a small e =
+    let x = bind_ok (numbered rest) (λ x. name_said names x.1 >>= λ n. Ok (anchor_of x.0 n)) a e in
     let n = bind_ok (name_said names x.0.1) (λ n. Ok (anchor_of x.0.0 n)) a x.2 in
-    subst IsAnchor (ok_is FileCause (anchor_of x.0.0 n.0) a n.2) (omega (arith, numbered_small line rest x.0 x.1), name_small names x.0.1 n.0 small n.1)
+    subst IsAnchor (ok_is FileCause (anchor_of x.0.0 n.0) a n.2) (omega (arith, numbered_small rest x.0 x.1), name_small names x.0.1 n.0 small n.1)
 
 anchors_hold : (above more : List Anchor) (a : Anchor) → Hold IsAnchor above → IsAnchor a → anchors_and above a ≡ Ok more → Hold IsAnchor more
 unfolding anchors_and
@@ -117,10 +118,10 @@ commons_hold above more c hold is e =
     let others = All-weaker (λ d. same_certificate c d ≡ false) (λ d. d ≢ c) (λ d e same. same_certificate-apart c d e (sym same)) above (is_new-All (same_certificate c) above new) in
     subst (Hold IsCommon) u.1 (All-push IsCommon above c hold.0 is, AllPairs-push (λ (c : Certificate) (d : Certificate). c ≢ d) above c hold.1 others)
 
-digits_bytes : (line rest bytes : List ℕ) → digits line rest ≡ Ok bytes → All IsByte bytes
+digits_bytes : (rest bytes : List ℕ) → digits rest ≡ Ok bytes → All IsByte bytes
 unfolding digits
-digits_bytes line rest bytes e =
-    let w = bind_ok (one_word line rest) (λ word. bytes_of_digits word) bytes e in
+digits_bytes rest bytes e =
+    let w = bind_ok (one_word rest) (λ word. bytes_of_digits word) bytes e in
     digits_are_bytes w.0 bytes w.2
 
 -- ---- the counts of objects
@@ -160,37 +161,37 @@ key_fits word key e =
     let is = decode_of-ok word key whole in
     (omega (arith, len, is.2), All-from_get_or IsByte key 0 (λ i lt. is.3 i))
 
-keyed_fits : (line rest : List ℕ) (x : ℕ × List ℕ) → keyed line rest ≡ Ok x → IsChannel x
+keyed_fits : (rest : List ℕ) (x : ℕ × List ℕ) → keyed rest ≡ Ok x → IsChannel x
 unfolding keyed
-keyed_fits line rest x e =
-    let w = bind_ok (numbered line rest) (λ x. key_of_digits x.1 >>= λ key. Ok (x.0, key)) x e in
+keyed_fits rest x e =
+    let w = bind_ok (numbered rest) (λ x. key_of_digits x.1 >>= λ key. Ok (x.0, key)) x e in
     let key = bind_ok (key_of_digits w.0.1) (λ key. Ok (w.0.0, key)) x w.2 in
-    subst IsChannel (ok_is FileCause (w.0.0, key.0) x key.2) (omega (arith, numbered_small line rest w.0 w.1), key_fits w.0.1 key.0 key.1)
+    subst IsChannel (ok_is FileCause (w.0.0, key.0) x key.2) (omega (arith, numbered_small rest w.0 w.1), key_fits w.0.1 key.0 key.1)
 
 -- what the settings say where they say it
 pub record SettingsHold (s : Settings) : Type 0 where
   pub node : (x : ℕ × List ℕ) → s.node ≡ Some x → IsChannel x
   pub keep : (n : ℕ) → s.keep ≡ Some n → (1 ≤ n) × (n ≤ MAX_KEEP)
 
-settings_hold : (above s : Settings) (setting : Setting) (line rest : List ℕ) → SettingsHold above → settings_with above setting line rest ≡ Ok s → SettingsHold s
+settings_hold : (above s : Settings) (setting : Setting) (rest : List ℕ) → SettingsHold above → settings_with above setting rest ≡ Ok s → SettingsHold s
 unfolding node_with shards_with keep_with journal_with
-settings_hold above s settings.Node line rest hold e =
-    let x = bind_ok (keyed line rest) (λ x. unless (first_of ((is_some above.node, Twice) ∷ [])) (record above { node = Some x })) s e in
+settings_hold above s settings.Node rest hold e =
+    let x = bind_ok (keyed rest) (λ x. unless (first_of ((is_some above.node, Twice) ∷ [])) (record above { node = Some x })) s e in
     let u = unless_ok (first_of ((is_some above.node, Twice) ∷ [])) (record above { node = Some x.0 }) s x.2 in
-    subst SettingsHold u.1 (record { node = λ y is. subst IsChannel (same_Some x.0 y is) (keyed_fits line rest x.0 x.1); keep = hold.keep })
-settings_hold above s settings.Shards line rest hold e =
-    let x = bind_ok (one_number 4294967295 line rest) (λ n. new_within MAX_SHARDS (is_some above.shards) n >>= λ n. Ok (record above { shards = Some n })) s e in
+    subst SettingsHold u.1 (record { node = λ y is. subst IsChannel (same_Some x.0 y is) (keyed_fits rest x.0 x.1); keep = hold.keep })
+settings_hold above s settings.Shards rest hold e =
+    let x = bind_ok (one_number 4294967295 rest) (λ n. new_within MAX_SHARDS (is_some above.shards) n >>= λ n. Ok (record above { shards = Some n })) s e in
     let n = bind_ok (new_within MAX_SHARDS (is_some above.shards) x.0) (λ n. Ok (record above { shards = Some n })) s x.2 in
     let more : Settings = record above { shards = Some n.0 } in
     subst SettingsHold (ok_is FileCause more s n.2) (record { node = hold.node; keep = hold.keep })
-settings_hold above s settings.Keep line rest hold e =
-    let x = bind_ok (one_number 18446744073709551615 line rest) (λ n. new_within MAX_KEEP (is_some above.keep) n >>= λ n. Ok (record above { keep = Some n })) s e in
+settings_hold above s settings.Keep rest hold e =
+    let x = bind_ok (one_number 18446744073709551615 rest) (λ n. new_within MAX_KEEP (is_some above.keep) n >>= λ n. Ok (record above { keep = Some n })) s e in
     let n = bind_ok (new_within MAX_KEEP (is_some above.keep) x.0) (λ n. Ok (record above { keep = Some n })) s x.2 in
     let more : Settings = record above { keep = Some n.0 } in
     subst SettingsHold (ok_is FileCause more s n.2)
     (record { node = hold.node; keep = λ k is. subst (λ m. (1 ≤ m) × (m ≤ MAX_KEEP)) (same_Some n.0 k is) (new_bounds MAX_KEEP x.0 n.0 (is_some above.keep) n.1) })
-settings_hold above s settings.Journal line rest hold e =
-    let x = bind_ok (one_number 18446744073709551615 line rest) (λ n. new_within MAX_LIMIT (is_some above.limit) n >>= λ n. Ok (record above { limit = Some n })) s e in
+settings_hold above s settings.Journal rest hold e =
+    let x = bind_ok (one_number 18446744073709551615 rest) (λ n. new_within MAX_LIMIT (is_some above.limit) n >>= λ n. Ok (record above { limit = Some n })) s e in
     let n = bind_ok (new_within MAX_LIMIT (is_some above.limit) x.0) (λ n. Ok (record above { limit = Some n })) s x.2 in
     let more : Settings = record above { limit = Some n.0 } in
     subst SettingsHold (ok_is FileCause more s n.2) (record { node = hold.node; keep = hold.keep })
@@ -216,55 +217,55 @@ nothing_holds fits = record {
   objects = omega arith;
 }
 
-module _ (d more : Draft) (line rest : List ℕ) (hold : DraftHolds d) where
-  pub adds_hold : (kind : LineKind) → adds d kind line rest ≡ Ok more → DraftHolds more
+module _ (d more : Draft) (rest : List ℕ) (hold : DraftHolds d) where
+  pub adds_hold : (kind : LineKind) → adds d kind rest ≡ Ok more → DraftHolds more
   adds_hold (kinds.Setting setting) e =
-      let s = with_value_ok (settings_in d) (settings_with d.settings setting line rest) more e in
-      let held : DraftFits (settings_in d s.0) = subst DraftFits (sym s.2) (adds_fit d more (kinds.Setting setting) line rest hold.fits e) in
-      subst DraftHolds s.2 (record { fits = held; settings = settings_hold d.settings s.0 setting line rest hold.settings s.1; anchors = hold.anchors; commons = hold.commons; objects = hold.objects })
+      let s = with_value_ok (settings_in d) (settings_with d.settings setting rest) more e in
+      let held : DraftFits (settings_in d s.0) = subst DraftFits (sym s.2) (adds_fit d more (kinds.Setting setting) rest hold.fits e) in
+      subst DraftHolds s.2 (record { fits = held; settings = settings_hold d.settings s.0 setting rest hold.settings s.1; anchors = hold.anchors; commons = hold.commons; objects = hold.objects })
   adds_hold kinds.Name e =
       let s = with_value_ok (names_in d) _ more e in
-      let held : DraftFits (names_in d s.0) = subst DraftFits (sym s.2) (adds_fit d more kinds.Name line rest hold.fits e) in
+      let held : DraftFits (names_in d s.0) = subst DraftFits (sym s.2) (adds_fit d more kinds.Name rest hold.fits e) in
       subst DraftHolds s.2 (record { fits = held; settings = hold.settings; anchors = hold.anchors; commons = hold.commons; objects = hold.objects })
   adds_hold kinds.Role e =
       let s = with_value_ok (roles_in d) _ more e in
-      let held : DraftFits (roles_in d s.0) = subst DraftFits (sym s.2) (adds_fit d more kinds.Role line rest hold.fits e) in
+      let held : DraftFits (roles_in d s.0) = subst DraftFits (sym s.2) (adds_fit d more kinds.Role rest hold.fits e) in
       subst DraftHolds s.2 (record { fits = held; settings = hold.settings; anchors = hold.anchors; commons = hold.commons; objects = hold.objects })
   adds_hold kinds.Channel e =
       let s = with_value_ok (channels_in d) _ more e in
-      let held : DraftFits (channels_in d s.0) = subst DraftFits (sym s.2) (adds_fit d more kinds.Channel line rest hold.fits e) in
+      let held : DraftFits (channels_in d s.0) = subst DraftFits (sym s.2) (adds_fit d more kinds.Channel rest hold.fits e) in
       subst DraftHolds s.2 (record { fits = held; settings = hold.settings; anchors = hold.anchors; commons = hold.commons; objects = hold.objects })
   adds_hold kinds.Anchor e =
-      let s = with_value_ok (anchors_in d) (anchor_said d.labels.names line rest >>= λ a. anchors_and d.anchors a) more e in
-      let held : DraftFits (anchors_in d s.0) = subst DraftFits (sym s.2) (adds_fit d more kinds.Anchor line rest hold.fits e) in
-      let a = bind_ok (anchor_said d.labels.names line rest) (λ a. anchors_and d.anchors a) s.0 s.1 in
+      let s = with_value_ok (anchors_in d) (anchor_said d.labels.names rest >>= λ a. anchors_and d.anchors a) more e in
+      let held : DraftFits (anchors_in d s.0) = subst DraftFits (sym s.2) (adds_fit d more kinds.Anchor rest hold.fits e) in
+      let a = bind_ok (anchor_said d.labels.names rest) (λ a. anchors_and d.anchors a) s.0 s.1 in
       subst DraftHolds s.2
-      (record { fits = held; settings = hold.settings; anchors = anchors_hold d.anchors s.0 a.0 hold.anchors (anchor_fits d.labels.names line rest a.0 hold.fits.names a.1) a.2; commons = hold.commons; objects = hold.objects })
+      (record { fits = held; settings = hold.settings; anchors = anchors_hold d.anchors s.0 a.0 hold.anchors (anchor_fits d.labels.names rest a.0 hold.fits.names a.1) a.2; commons = hold.commons; objects = hold.objects })
   adds_hold kinds.Common e =
-      let s = with_value_ok (commons_in d) (digits line rest >>= λ bytes. commons_of d.settings.node d.commons bytes) more e in
-      let held : DraftFits (commons_in d s.0) = subst DraftFits (sym s.2) (adds_fit d more kinds.Common line rest hold.fits e) in
-      let bytes = bind_ok (digits line rest) (λ bytes. commons_of d.settings.node d.commons bytes) s.0 s.1 in
+      let s = with_value_ok (commons_in d) (digits rest >>= λ bytes. commons_of d.settings.node d.commons bytes) more e in
+      let held : DraftFits (commons_in d s.0) = subst DraftFits (sym s.2) (adds_fit d more kinds.Common rest hold.fits e) in
+      let bytes = bind_ok (digits rest) (λ bytes. commons_of d.settings.node d.commons bytes) s.0 s.1 in
       let c = bind_ok (common_said d.settings.node bytes.0) (λ c. commons_and d.commons c) s.0 bytes.2 in
       subst DraftHolds s.2
-      (record { fits = held; settings = hold.settings; anchors = hold.anchors; commons = commons_hold d.commons s.0 c.0 hold.commons (common_fits d.settings.node bytes.0 c.0 (digits_bytes line rest bytes.0 bytes.1) c.1) c.2; objects = hold.objects })
+      (record { fits = held; settings = hold.settings; anchors = hold.anchors; commons = commons_hold d.commons s.0 c.0 hold.commons (common_fits d.settings.node bytes.0 c.0 (digits_bytes rest bytes.0 bytes.1) c.1) c.2; objects = hold.objects })
   adds_hold kinds.Object e =
-      let s = with_value_ok (objects_in d) (one_number 4294967295 line rest >>= λ n. objects_and d.objects n) more e in
-      let held : DraftFits (objects_in d s.0) = subst DraftFits (sym s.2) (adds_fit d more kinds.Object line rest hold.fits e) in
-      let n = bind_ok (one_number 4294967295 line rest) (λ n. objects_and d.objects n) s.0 s.1 in
+      let s = with_value_ok (objects_in d) (one_number 4294967295 rest >>= λ n. objects_and d.objects n) more e in
+      let held : DraftFits (objects_in d s.0) = subst DraftFits (sym s.2) (adds_fit d more kinds.Object rest hold.fits e) in
+      let n = bind_ok (one_number 4294967295 rest) (λ n. objects_and d.objects n) s.0 s.1 in
       subst DraftHolds s.2 (record { fits = held; settings = hold.settings; anchors = hold.anchors; commons = hold.commons; objects = objects_few d.objects s.0 n.0 n.2 })
   adds_hold kinds.Content e =
-      let s = with_value_ok (objects_in d) (numbered_digits line rest >>= λ x. contents_and d.objects x) more e in
-      let held : DraftFits (objects_in d s.0) = subst DraftFits (sym s.2) (adds_fit d more kinds.Content line rest hold.fits e) in
-      let x = bind_ok (numbered_digits line rest) (λ x. contents_and d.objects x) s.0 s.1 in
+      let s = with_value_ok (objects_in d) (numbered_digits rest >>= λ x. contents_and d.objects x) more e in
+      let held : DraftFits (objects_in d s.0) = subst DraftFits (sym s.2) (adds_fit d more kinds.Content rest hold.fits e) in
+      let x = bind_ok (numbered_digits rest) (λ x. contents_and d.objects x) s.0 s.1 in
       subst DraftHolds s.2 (record { fits = held; settings = hold.settings; anchors = hold.anchors; commons = hold.commons; objects = contents_few d.objects s.0 x.0 hold.objects x.2 })
   adds_hold kinds.Allow e =
-      let s = with_value_ok (objects_in d) (granted line >>= λ x. grants_and d.labels d.objects x) more e in
-      let held : DraftFits (objects_in d s.0) = subst DraftFits (sym s.2) (adds_fit d more kinds.Allow line rest hold.fits e) in
-      let x = bind_ok (granted line) (λ x. grants_and d.labels d.objects x) s.0 s.1 in
+      let s = with_value_ok (objects_in d) (granted rest >>= λ x. grants_and d.labels d.objects x) more e in
+      let held : DraftFits (objects_in d s.0) = subst DraftFits (sym s.2) (adds_fit d more kinds.Allow rest hold.fits e) in
+      let x = bind_ok (granted rest) (λ x. grants_and d.labels d.objects x) s.0 s.1 in
       subst DraftHolds s.2 (record { fits = held; settings = hold.settings; anchors = hold.anchors; commons = hold.commons; objects = grants_few d.labels d.objects s.0 x.0 hold.objects x.2 })
 
 pub step_holds : (d more : Draft) (line : List ℕ) → DraftHolds d → node_step d line ≡ Ok more → DraftHolds more
 unfolding node_step
 step_holds d more line hold e =
-    let k = bind_ok (some_or UnknownWord (kind_of (word_off line).0)) (λ kind. adds d kind line (word_off line).1) more e in
-    adds_hold d more line (word_off line).1 hold k.0 k.2
+    let k = bind_ok (some_or UnknownWord (kind_of (word_off line).0)) (λ kind. if_plain line (adds d kind (word_off line).1)) more e in
+    adds_hold d more (word_off line).1 hold k.0 (plain_ok line (adds d k.0 (word_off line).1) more k.2)

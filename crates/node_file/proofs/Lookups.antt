@@ -1,43 +1,32 @@
 -- Look-ups by number, in a list and in what the program keeps in its place.
-use Rattle.std.proofs.Common.{◌≡◌, ℕ, Bool, true, false, cond, eqb, not, ◌||◌, List, [], ◌∷◌, ◌++◌, Option, Some, None, Ok, Err, refl, sym, ap, ◌∙◌, arith, inl, inr, length-append}
+use Rattle.std.proofs.Common.{◌≡◌, ℕ, Bool, true, false, cond, eqb, not, List, [], ◌∷◌, ◌++◌, Option, Some, None, Ok, Err, refl, sym, ap, ◌∙◌, arith, inl, inr, length-append}
 use Rattle.std.specs.Prelude.{find}
 use Rattle.std.specs.List.{list_any}
 use Rattle.std.specs.Option.{is_some, option_map}
 use Rattle.std.specs.Int.{w32}
 use Rattle.std.proofs.lemmas.Bool.{cases_eq}
 use Rattle.std.proofs.lemmas.Bool.Decides.{nat_tests}
-use Rattle.keyed_seal.specs.Keys.{Keys, AddsKey}
+use Rattle.keyed_seal.specs.Keys.{Keys}
 use Rattle.byte_fields.specs.Steps.{number_at}
 use Rattle.byte_fields.specs.declared.fault.FormatFault.TheVariants.{Malformed}
 use Rattle.byte_fields.specs.Formats.{ended}
 use Rattle.object_core.specs.Objects.{ObjectPlan, object_of}
 use Rattle.node_file.specs.Opening.{key_of}
 use Rattle.node_file.specs.OpeningReading.{new_channel_at, new_object_at}
-use Rattle.node_file.specs.Held.{HoldsKeys}
+use Rattle.file_lines.specs.Held.{HoldsKeys}
+use Rattle.file_lines.proofs.KeyLookups.{find_here, find_past, is_some-key_of, some_by}
 use Rattle.node_file.specs.Plans.{AddsPlan, HoldsPlans}
 
 -- ---- the first that passes a test
-
-some_by : {A : Type 0} (x : A) (r : Option A) (rest : Bool) (b : Bool) → is_some r ≡ rest → is_some (cond b (Some x) r) ≡ (b || rest)
-some_by x r rest true e = refl
-some_by x r rest false e = e
 
 pub is_some-find : {A : Type 0} (test : A → Bool) (xs : List A) → is_some (find test xs) ≡ list_any test xs
 is_some-find test [] = refl
 is_some-find test (x ∷ xs) = some_by x (find test xs) (list_any test xs) (test x) (is_some-find test xs)
 
-find_past : {A : Type 0} (x : A) (r s : Option A) (b : Bool) → r ≡ s → cond b (Some x) r ≡ cond b (Some x) s
-find_past x r s true e = refl
-find_past x r s false e = e
-
 -- one more item that does not pass
 pub find-push_other : {A : Type 0} (test : A → Bool) (xs : List A) (x : A) → test x ≡ false → find test (xs ++ x ∷ []) ≡ find test xs
 find-push_other test [] x other = rw other refl
 find-push_other test (y ∷ xs) x other = find_past y (find test (xs ++ x ∷ [])) (find test xs) (test y) (find-push_other test xs x other)
-
-find_here : {A : Type 0} (y x : A) (r : Option A) (rest b : Bool) → (b || rest) ≡ false → (rest ≡ false → r ≡ Some x) → cond b (Some y) r ≡ Some x
-find_here y x r rest true e later = absurd cc
-find_here y x r rest false e later = later e
 
 -- one more item that is the first to pass
 pub find-push_here : {A : Type 0} (test : A → Bool) (xs : List A) (x : A) → list_any test xs ≡ false → test x ≡ true → find test (xs ++ x ∷ []) ≡ Some x
@@ -54,20 +43,6 @@ turned false x y = refl
 
 -- ---- channels
 
-pub is_some-key_of : (keys : List (ℕ × List ℕ)) (n : ℕ) → is_some (key_of keys n) ≡ list_any (λ (k : ℕ × List ℕ). eqb k.0 n) keys
-is_some-key_of [] n = refl
-is_some-key_of (k ∷ keys) n = some_by k.1 (key_of keys n) (list_any (λ (k : ℕ × List ℕ). eqb k.0 n) keys) (eqb k.0 n) (is_some-key_of keys n)
-
--- one more key, of another number
-pub key_of-push_other : (keys : List (ℕ × List ℕ)) (number : ℕ) (key : List ℕ) (n : ℕ) → eqb number n ≡ false → key_of (keys ++ (number, key) ∷ []) n ≡ key_of keys n
-key_of-push_other [] number key n other = rw other refl
-key_of-push_other (k ∷ keys) number key n other = find_past k.1 (key_of (keys ++ (number, key) ∷ []) n) (key_of keys n) (eqb k.0 n) (key_of-push_other keys number key n other)
-
--- one more key, the first of its number
-pub key_of-push_here : (keys : List (ℕ × List ℕ)) (number : ℕ) (key : List ℕ) (n : ℕ) → list_any (λ (k : ℕ × List ℕ). eqb k.0 n) keys ≡ false → eqb number n ≡ true → key_of (keys ++ (number, key) ∷ []) n ≡ Some key
-key_of-push_here [] number key n none here = rw here refl
-key_of-push_here (k ∷ keys) number key n none here = find_here k.1 key (key_of (keys ++ (number, key) ∷ []) n) (list_any (λ (k : ℕ × List ℕ). eqb k.0 n) keys) (eqb k.0 n) none (λ later. key_of-push_here keys number key n later here)
-
 -- the number of a channel is refused where the table has it
 pub channel_number : (bytes : List ℕ) (before : List (ℕ × List ℕ)) (at : ℕ) (table : Keys) (x : ℕ × ℕ) (b : Bool) → HoldsKeys table before → number_at (ended bytes) w32 bytes at ≡ Ok x → is_some (key_of table.entries x.0) ≡ b
     → new_channel_at bytes before at ≡ cond b (Err (Malformed at)) (Ok x)
@@ -75,20 +50,6 @@ unfolding new_channel_at
 channel_number bytes before at table x b held read is =
     let there : list_any (λ (k : ℕ × List ℕ). eqb k.0 x.0) before ≡ b = sym (is_some-key_of before x.0) ∙ ap is_some (sym (held.each x.0)) ∙ is in
     rw (read, there) (turned b (Ok x) (Err (Malformed at)))
-
-pub adds_key : (old new : Keys) (keys : List (ℕ × List ℕ)) (number : ℕ) (key : List ℕ) → HoldsKeys old keys → key_of old.entries number ≡ None → AddsKey old new number key → HoldsKeys new (keys ++ (number, key) ∷ [])
-adds_key old new keys number key held is_new adds = record {
-  each = λ n. elim (cases_eq n number) [
-    | inl same ↦
-        let none : list_any (λ (k : ℕ × List ℕ). eqb k.0 n) keys ≡ false = sym (is_some-key_of keys n) ∙ ap is_some (sym (held.each n) ∙ ap (key_of old.entries) same ∙ is_new) in
-        let here : eqb number n ≡ true = grind (arith, nat_tests, same) in
-        ap (key_of new.entries) same ∙ adds.this_key ∙ sym (key_of-push_here keys number key n none here)
-    | inr other ↦
-        let there : eqb number n ≡ false = grind (arith, nat_tests, other) in
-        adds.other_keys n other ∙ held.each n ∙ sym (key_of-push_other keys number key n there)
-  ];
-  count = omega (arith, adds.count, held.count, length-append keys ((number, key) ∷ []));
-}
 
 -- ---- objects
 

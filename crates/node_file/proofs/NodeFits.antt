@@ -22,11 +22,11 @@ use Rattle.prin_text.specs.Reading.{principal_in}
 use Rattle.prin_text.specs.Words.{rights_of}
 use Rattle.prin_text.proofs.Entered.{rights_of-ok}
 use Rattle.prin_text.proofs.Whole.{read_is_meant}
-use Rattle.node_file.specs.declared.fault.FileCause.{FileCause}
-use Rattle.node_file.specs.declared.fault.FileCause.TheVariants as causes
-use Rattle.node_file.specs.declared.fault.FileCause.TheVariants.{Twice, Limit, Rights, UnknownObject}
-use Rattle.node_file.specs.Fields.{bytes_of_digits, digits_of, granted, number_up_to, numbered, numbered_digits, some_or, two_and_rest}
-use Rattle.node_file.specs.FileLines.{first_of, unless}
+use Rattle.file_lines.specs.declared.fault.FileCause.{FileCause}
+use Rattle.file_lines.specs.declared.fault.FileCause.TheVariants as causes
+use Rattle.file_lines.specs.declared.fault.FileCause.TheVariants.{Twice, Limit, Rights, UnknownObject}
+use Rattle.file_lines.specs.Fields.{bytes_of_digits, digits_of, granted, number_up_to, numbered, numbered_digits, some_or, two_and_rest}
+use Rattle.file_lines.specs.FileLines.{first_of, unless}
 use Rattle.node_file.specs.NodeLines.{changed_at, changed_if, contents_and, empty_object, grants_and, objects_and, who_cause, who_said, with_content, with_grant}
 use Rattle.node_file.specs.Opening.{FitsObject}
 use Rattle.node_file.proofs.Changed.{has_number, object_of-changed}
@@ -150,17 +150,17 @@ module _ (labels : Labels) (names : AreSmall labels.names) (roles : AreSmall lab
 
 -- ---- what lines say
 
-pub numbered_digits_fit : (line rest : List ℕ) (x : ℕ × List ℕ) → numbered_digits line rest ≡ Ok x → All IsByte x.1
+pub numbered_digits_fit : (rest : List ℕ) (x : ℕ × List ℕ) → numbered_digits rest ≡ Ok x → All IsByte x.1
 unfolding numbered_digits
-numbered_digits_fit line rest x e =
-    let w = bind_ok (numbered line rest) (λ x. digits_of x.0 x.1) x e in
+numbered_digits_fit rest x e =
+    let w = bind_ok (numbered rest) (λ x. digits_of x.0 x.1) x e in
     let b = bind_ok (bytes_of_digits w.0.1) (λ bytes. Ok (w.0.0, bytes)) x w.2 in
     subst (λ (y : ℕ × List ℕ). All IsByte y.1) (ok_is FileCause (w.0.0, b.0) x b.2) (digits_are_bytes w.0.1 b.0 b.1)
 
-pub granted_fit : (line : List ℕ) (x : ℕ × ℕ × List ℕ) → granted line ≡ Ok x → (1 ≤ x.1) × (x.1 ≤ 15)
+pub granted_fit : (rest : List ℕ) (x : ℕ × ℕ × List ℕ) → granted rest ≡ Ok x → (1 ≤ x.1) × (x.1 ≤ 15)
 unfolding granted
-granted_fit line x e =
-    let w = bind_ok (two_and_rest line) (λ w. number_up_to 4294967295 w.0 >>= λ n. some_or Rights (rights_of w.1) >>= λ rights. Ok (n, rights, w.2)) x e in
+granted_fit rest x e =
+    let w = bind_ok (two_and_rest rest) (λ w. number_up_to 4294967295 w.0 >>= λ n. some_or Rights (rights_of w.1) >>= λ rights. Ok (n, rights, w.2)) x e in
     let n = bind_ok (number_up_to 4294967295 w.0.0) (λ n. some_or Rights (rights_of w.0.1) >>= λ rights. Ok (n, rights, w.0.2)) x w.2 in
     let r = bind_ok (some_or Rights (rights_of w.0.1)) (λ rights. Ok (n.0, rights, w.0.2)) x n.2 in
     let is = rights_of-ok w.0.1 r.0 (some_of Rights (rights_of w.0.1) r.0 r.1) in

@@ -10,51 +10,51 @@ use Rattle.object_core.specs.Objects.{ObjectPlan}
 use Rattle.prin_text.specs.Labels.{Labels, Rows}
 use Rattle.stmt_codec.specs.declared.cert.Cert.{Cert}
 use Rattle.stmt_codec.specs.Certificates.{Certificate}
-use Rattle.node_file.specs.declared.fault.FileCause.{FileCause}
-use Rattle.node_file.specs.declared.line_fault.LineFault.{LineFault}
+use Rattle.file_lines.specs.declared.fault.FileCause.{FileCause}
+use Rattle.file_lines.specs.declared.line_fault.LineFault.{LineFault}
 use Rattle.node_file.specs.declared.node_text.draft.Draft as code
 use Rattle.node_file.specs.declared.node_text.kind.LineKind.{LineKind}
 use Rattle.node_file.specs.declared.node_text.settings.Settings.{Settings}
-use Rattle.node_file.specs.Fields.{numbered}
-use Rattle.node_file.specs.Held.{HoldsKeys, HoldsRows}
-use Rattle.node_file.specs.LineView.{TakesLine}
+use Rattle.file_lines.specs.Fields.{numbered}
+use Rattle.file_lines.specs.Held.{HoldsKeys, HoldsRows}
+use Rattle.file_lines.specs.LineView.{TakesLine}
 use Rattle.node_file.specs.NodeLines.{anchor_said, anchors_and, anchors_with, commons_with}
 use Rattle.node_file.specs.NodeFile.{Draft, adds, anchors_in, channels_in, commons_in, names_in, objects_in, roles_in, settings_in}
 use Rattle.node_file.specs.NodeView.{IsDraftOf}
 use Rattle.node_file.specs.OpeningView.{common}
 use Rattle.node_file.specs.Plans.{HoldsPlans}
-use Rattle.node_file.proofs.RelayLines.{lifted}
+use Rattle.file_lines.proofs.Taken.{lifted}
 use Rattle.node_file.proofs.SamePrincipals.{same_name}
 
 after_numbered : (r : Result (ℕ × List ℕ) FileCause) (f g : ℕ × List ℕ → Result Anchor FileCause) → ((x : ℕ × List ℕ) → f x ≡ g x) → (r >>= f) ≡ (r >>= g)
 after_numbered (Ok x) f g same = same x
 after_numbered (Err e) f g same = refl
 
-same_anchor_said : (table rows : Rows) (line rest : List ℕ) → HoldsRows table rows → anchor_said table line rest ≡ anchor_said rows line rest
+same_anchor_said : (table rows : Rows) (rest : List ℕ) → HoldsRows table rows → anchor_said table rest ≡ anchor_said rows rest
 unfolding anchor_said
-same_anchor_said table rows line rest held =
-    after_numbered (numbered line rest) _ _ (λ x. ap (λ (r : Result ℕ FileCause). r >>= λ n. Ok (record { key = x.0; name = n })) (same_name table rows held x.1))
+same_anchor_said table rows rest held =
+    after_numbered (numbered rest) _ _ (λ x. ap (λ (r : Result ℕ FileCause). r >>= λ n. Ok (record { key = x.0; name = n })) (same_name table rows held x.1))
 
-module _ (table rows : Rows) (held_anchors anchors : List Anchor) (line rest : List ℕ) (r : Result Unit LineFault) (new : Vec Anchor Global) where
-  pub anchors_said : HoldsRows table rows → held_anchors ≡ anchors → TakesLine (λ v l. v.items ≡ l) r new (anchors_with table held_anchors line rest) → TakesLine (λ v l. v.items ≡ l) r new (anchors_with rows anchors line rest)
+module _ (table rows : Rows) (held_anchors anchors : List Anchor) (rest : List ℕ) (r : Result Unit LineFault) (new : Vec Anchor Global) where
+  pub anchors_said : HoldsRows table rows → held_anchors ≡ anchors → TakesLine (λ v l. v.items ≡ l) r new (anchors_with table held_anchors rest) → TakesLine (λ v l. v.items ≡ l) r new (anchors_with rows anchors rest)
   anchors_said held same takes =
-      subst (λ (l : List Anchor). TakesLine (λ v l. v.items ≡ l) r new (anchors_with rows l line rest)) same
-      (subst (λ (s : Result Anchor FileCause). TakesLine (λ v l. v.items ≡ l) r new (s >>= λ a. anchors_and held_anchors a)) (same_anchor_said table rows line rest held) takes)
+      subst (λ (l : List Anchor). TakesLine (λ v l. v.items ≡ l) r new (anchors_with rows l rest)) same
+      (subst (λ (s : Result Anchor FileCause). TakesLine (λ v l. v.items ≡ l) r new (s >>= λ a. anchors_and held_anchors a)) (same_anchor_said table rows rest held) takes)
 
-module _ (old above : Settings) (held_commons commons : List Certificate) (line rest : List ℕ) (r : Result Unit LineFault) (new : Vec (Arc Cert Global) Global) where
-  pub commons_said : old ≡ above → held_commons ≡ commons → TakesLine (λ v l. map common v.items ≡ l) r new (commons_with old.node held_commons line rest) → TakesLine (λ v l. map common v.items ≡ l) r new (commons_with above.node commons line rest)
+module _ (old above : Settings) (held_commons commons : List Certificate) (rest : List ℕ) (r : Result Unit LineFault) (new : Vec (Arc Cert Global) Global) where
+  pub commons_said : old ≡ above → held_commons ≡ commons → TakesLine (λ v l. map common v.items ≡ l) r new (commons_with old.node held_commons rest) → TakesLine (λ v l. map common v.items ≡ l) r new (commons_with above.node commons rest)
   commons_said settings same takes =
-      subst (λ (l : List Certificate). TakesLine (λ v l. map common v.items ≡ l) r new (commons_with above.node l line rest)) same
-      (subst (λ (s : Settings). TakesLine (λ v l. map common v.items ≡ l) r new (commons_with s.node held_commons line rest)) settings takes)
+      subst (λ (l : List Certificate). TakesLine (λ v l. map common v.items ≡ l) r new (commons_with above.node l rest)) same
+      (subst (λ (s : Settings). TakesLine (λ v l. map common v.items ≡ l) r new (commons_with s.node held_commons rest)) settings takes)
 
 -- ---- the draft, of which one part is another
 
 -- a line of a kind is taken
-abbrev pub Takes : code.Draft → Result Unit LineFault → Draft → LineKind → List ℕ → List ℕ → Type 0
-Takes new r above kind line rest = TakesLine IsDraftOf r new (adds above kind line rest)
+abbrev pub Takes : code.Draft → Result Unit LineFault → Draft → LineKind → List ℕ → Type 0
+Takes new r above kind rest = TakesLine IsDraftOf r new (adds above kind rest)
 
-pub of_kind : (new : code.Draft) (r : Result Unit LineFault) (above : Draft) (kind said : LineKind) (line rest : List ℕ) → kind ≡ said → Takes new r above said line rest → Takes new r above kind line rest
-of_kind new r above kind said line rest is takes = subst (λ k. Takes new r above k line rest) (sym is) takes
+pub of_kind : (new : code.Draft) (r : Result Unit LineFault) (above : Draft) (kind said : LineKind) (rest : List ℕ) → kind ≡ said → Takes new r above said rest → Takes new r above kind rest
+of_kind new r above kind said rest is takes = subst (λ k. Takes new r above k rest) (sym is) takes
 
 module _ (draft : code.Draft) (d : Draft) (s : IsDraftOf draft d) where
   pub settings_set : (t u : Settings) → t ≡ u → IsDraftOf (record draft { settings = t }) (settings_in d u)

@@ -11,10 +11,10 @@ use Rattle.byte_fields.specs.Formats.{is_within}
 use Rattle.byte_fields.proofs.FormatFields.{within_is}
 use Rattle.byte_fields.proofs.Results.{bind_ok, chosen_ok, ok_is}
 use Rattle.byte_fields.specs.Steps.{◌>>=◌, IsByte, with_value}
-use Rattle.node_file.specs.declared.fault.FileCause.{FileCause}
-use Rattle.node_file.specs.declared.fault.FileCause.TheVariants.{Twice, Limit, Number}
-use Rattle.node_file.specs.Fields.{bytes_of_digits, decoded, number_up_to, numbered, one_number, one_word, two_words}
-use Rattle.node_file.specs.FileLines.{first_of, unless}
+use Rattle.file_lines.specs.declared.fault.FileCause.{FileCause}
+use Rattle.file_lines.specs.declared.fault.FileCause.TheVariants.{Twice, Limit, Number}
+use Rattle.file_lines.specs.Fields.{bytes_of_digits, decoded, number_up_to, numbered, one_number, one_word, two_words}
+use Rattle.file_lines.specs.FileLines.{first_of, unless}
 use Rattle.node_file.specs.NodeLines.{new_within}
 use Rattle.prin_text.specs.Words.{are_digits, has_leading_zero, value_after}
 
@@ -56,16 +56,16 @@ number_small most n word e =
     small true false e same = absurd (false≢true e)
     small false b e same = absurd (false≢true e)
 
-pub one_small : (most n : ℕ) (line rest : List ℕ) → one_number most line rest ≡ Ok n → n ≤ most
+pub one_small : (most n : ℕ) (rest : List ℕ) → one_number most rest ≡ Ok n → n ≤ most
 unfolding one_number
-one_small most n line rest e =
-    let w = bind_ok (one_word line rest) (λ word. number_up_to most word) n e in
+one_small most n rest e =
+    let w = bind_ok (one_word rest) (λ word. number_up_to most word) n e in
     number_small most n w.0 w.2
 
-pub numbered_small : (line rest : List ℕ) (x : ℕ × List ℕ) → numbered line rest ≡ Ok x → x.0 ≤ 4294967295
+pub numbered_small : (rest : List ℕ) (x : ℕ × List ℕ) → numbered rest ≡ Ok x → x.0 ≤ 4294967295
 unfolding numbered
-numbered_small line rest x e =
-    let w = bind_ok (two_words line rest) (λ w. number_up_to 4294967295 w.0 >>= λ n. Ok (n, w.1)) x e in
+numbered_small rest x e =
+    let w = bind_ok (two_words rest) (λ w. number_up_to 4294967295 w.0 >>= λ n. Ok (n, w.1)) x e in
     let n = bind_ok (number_up_to 4294967295 w.0.0) (λ n. Ok (n, w.0.1)) x w.2 in
     subst (λ (y : ℕ × List ℕ). y.0 ≤ 4294967295) (ok_is FileCause (n.0, w.0.1) x n.2) (number_small 4294967295 n.0 w.0.0 n.1)
 

@@ -17,11 +17,10 @@ use Rattle.prin_text.specs.Labels.{begins_with_letter, is_digit, is_label, is_la
 use Rattle.prin_text.specs.Tokens.{is_blank}
 use Rattle.prin_text.specs.Words.{are_digits, has_leading_zero, value_after}
 use Rattle.prin_text.proofs.Decimals.{AreDigits, are_digits-from, has_leading_zero-decimal, own}
-use Rattle.node_file.specs.declared.fault.FileCause.{FileCause}
-use Rattle.node_file.specs.declared.fault.FileCause.TheVariants.{Words}
-use Rattle.node_file.specs.Fields.{bytes_of_digits, decoded, digits, key_of_digits, keyed, number_up_to, numbered, numbered_digits, one_number, one_word, two_words}
-use Rattle.node_file.specs.FilePrinting.{number_line, numbered_line}
-use Rattle.node_file.specs.Lines.{is_plain, is_plain_byte, unblanked, word_off}
+use Rattle.file_lines.specs.declared.fault.FileCause.{FileCause}
+use Rattle.file_lines.specs.declared.fault.FileCause.TheVariants.{Words}
+use Rattle.file_lines.specs.Fields.{bytes_of_digits, decoded, digits, key_of_digits, keyed, number_up_to, numbered, numbered_digits, one_number, one_word, two_words}
+use Rattle.file_lines.specs.Lines.{is_plain, is_plain_byte, unblanked, word_off}
 use Rattle.node_file.specs.Opening.{IsKey}
 use Rattle.node_file.proofs.PrintedWords.{IsWord, plain_append, word_last, word_next}
 
@@ -113,46 +112,37 @@ unfolding bytes_of_digits
 bytes_again bytes all = ap decoded (decode_of-encode_lower bytes (bytes_are bytes all))
 
 -- the one word behind the first
-module _ (word text : List ℕ) (is_word : IsWord word) (is_text : IsWord text) where
-  pub short_plain : is_plain (word ++ 32 ∷ text) ≡ true
-  short_plain = plain_append word (32 ∷ text) is_word.plain is_text.plain
+one_again : (text : List ℕ) → IsWord text → one_word (32 ∷ text) ≡ Ok text
+unfolding one_word
+one_again text is_text =
+    let some : ltb 0 (length text) ≡ true = lt-ltb 0 (length text) is_text.some in
+    ap (λ (a : List ℕ × List ℕ). cond (ltb 0 (length a.0) && ltb (length (unblanked a.1)) 1) (Ok a.0) (Err Words)) (word_last text is_text) ∙ (rw some refl)
 
-  one_again : one_word (word ++ 32 ∷ text) (32 ∷ text) ≡ Ok text
-  unfolding one_word
-  one_again =
-      let some : ltb 0 (length text) ≡ true = lt-ltb 0 (length text) is_text.some in
-      ap (λ (a : List ℕ × List ℕ). cond (is_plain (word ++ 32 ∷ text) && ltb 0 (length a.0) && ltb (length (unblanked a.1)) 1) (Ok a.0) (Err Words)) (word_last text is_text) ∙ (rw (short_plain, some) refl)
-
-pub one_number_again : (word : List ℕ) (most n : ℕ) → IsWord word → n ≤ most → n < 2 ^ 64 → one_number most (number_line word n) (32 ∷ decimal n) ≡ Ok n
+pub one_number_again : (most n : ℕ) → n ≤ most → n < 2 ^ 64 → one_number most (32 ∷ decimal n) ≡ Ok n
 unfolding one_number
-one_number_again word most n is_word le lt =
-    ap (λ r. r >>= λ w. number_up_to most w) (one_again word (decimal n) is_word (decimal_word n lt)) ∙ number_again most n le lt
+one_number_again most n le lt = ap (λ r. r >>= λ w. number_up_to most w) (one_again (decimal n) (decimal_word n lt)) ∙ number_again most n le lt
 
-pub digits_again : (word bytes : List ℕ) → IsWord word → All IsByte bytes → 0 < length bytes → digits (word ++ 32 ∷ encode_lower bytes) (32 ∷ encode_lower bytes) ≡ Ok bytes
+pub digits_again : (bytes : List ℕ) → All IsByte bytes → 0 < length bytes → digits (32 ∷ encode_lower bytes) ≡ Ok bytes
 unfolding digits
-digits_again word bytes is_word all some =
-    ap (λ r. r >>= λ w. bytes_of_digits w) (one_again word (encode_lower bytes) is_word (hex_word bytes all some)) ∙ bytes_again bytes all
+digits_again bytes all some =
+    ap (λ r. r >>= λ w. bytes_of_digits w) (one_again (encode_lower bytes) (hex_word bytes all some)) ∙ bytes_again bytes all
 
--- the words of a line of a word, a number and a text
-module _ (word text : List ℕ) (n : ℕ) (is_word : IsWord word) (is_text : IsWord text) (small : n ≤ 4294967295) where
+-- a number and a text behind the first word
+module _ (text : List ℕ) (n : ℕ) (is_text : IsWord text) (small : n ≤ 4294967295) where
   wide : n < 2 ^ 64
   wide = omega (arith, small)
 
   pub tail_plain : is_plain (decimal n ++ 32 ∷ text) ≡ true
   tail_plain = plain_append (decimal n) (32 ∷ text) (decimal_word n wide).plain is_text.plain
 
-  line_plain : is_plain (numbered_line word n text) ≡ true
-  line_plain = plain_append word (32 ∷ (decimal n ++ 32 ∷ text)) is_word.plain tail_plain
-
-  two_again : two_words (numbered_line word n text) (32 ∷ (decimal n ++ 32 ∷ text)) ≡ Ok (decimal n, text)
+  two_again : two_words (32 ∷ (decimal n ++ 32 ∷ text)) ≡ Ok (decimal n, text)
   unfolding two_words
   two_again =
       let some : ltb 0 (length text) ≡ true = lt-ltb 0 (length text) is_text.some in
-      let line = numbered_line word n text in
-      let parted : (List ℕ × List ℕ) → (List ℕ × List ℕ) → Result (List ℕ × List ℕ) FileCause = λ a b. cond (is_plain line && ltb 0 (length b.0) && ltb (length (unblanked b.1)) 1) (Ok (a.0, b.0)) (Err Words) in
-      ap (λ (a : List ℕ × List ℕ). parted a (word_off a.1)) (word_next (decimal n) text (decimal_word n wide)) ∙ ap (λ (b : List ℕ × List ℕ). parted (decimal n, 32 ∷ text) b) (word_last text is_text) ∙ (rw (line_plain, some) refl)
+      let parted : (List ℕ × List ℕ) → (List ℕ × List ℕ) → Result (List ℕ × List ℕ) FileCause = λ a b. cond (ltb 0 (length b.0) && ltb (length (unblanked b.1)) 1) (Ok (a.0, b.0)) (Err Words) in
+      ap (λ (a : List ℕ × List ℕ). parted a (word_off a.1)) (word_next (decimal n) text (decimal_word n wide)) ∙ ap (λ (b : List ℕ × List ℕ). parted (decimal n, 32 ∷ text) b) (word_last text is_text) ∙ (rw some refl)
 
-  pub numbered_again : numbered (numbered_line word n text) (32 ∷ (decimal n ++ 32 ∷ text)) ≡ Ok (n, text)
+  pub numbered_again : numbered (32 ∷ (decimal n ++ 32 ∷ text)) ≡ Ok (n, text)
   unfolding numbered
   numbered_again = rw (two_again, number_again 4294967295 n small wide) refl
 
@@ -162,13 +152,12 @@ some_key key is = omega (arith, is.0)
 pub key_word : (key : List ℕ) → IsKey key → IsWord (encode_lower key)
 key_word key is = hex_word key is.1 (some_key key is)
 
-pub keyed_again : (word key : List ℕ) (n : ℕ) → IsWord word → IsKey key → n ≤ 4294967295 → keyed (numbered_line word n (encode_lower key)) (32 ∷ (decimal n ++ 32 ∷ encode_lower key)) ≡ Ok (n, key)
+pub keyed_again : (key : List ℕ) (n : ℕ) → IsKey key → n ≤ 4294967295 → keyed (32 ∷ (decimal n ++ 32 ∷ encode_lower key)) ≡ Ok (n, key)
 unfolding keyed
-keyed_again word key n is_word is small =
-    rw (numbered_again word (encode_lower key) n is_word (key_word key is) small, key_again key is) refl
+keyed_again key n is small =
+    rw (numbered_again (encode_lower key) n (key_word key is) small, key_again key is) refl
 
-pub numbered_digits_again : (word bytes : List ℕ) (n : ℕ) → IsWord word → All IsByte bytes → 0 < length bytes → n ≤ 4294967295
-    → numbered_digits (numbered_line word n (encode_lower bytes)) (32 ∷ (decimal n ++ 32 ∷ encode_lower bytes)) ≡ Ok (n, bytes)
+pub numbered_digits_again : (bytes : List ℕ) (n : ℕ) → All IsByte bytes → 0 < length bytes → n ≤ 4294967295 → numbered_digits (32 ∷ (decimal n ++ 32 ∷ encode_lower bytes)) ≡ Ok (n, bytes)
 unfolding numbered_digits
-numbered_digits_again word bytes n is_word all some small =
-    rw (numbered_again word (encode_lower bytes) n is_word (hex_word bytes all some) small, bytes_again bytes all) refl
+numbered_digits_again bytes n all some small =
+    rw (numbered_again (encode_lower bytes) n (hex_word bytes all some) small, bytes_again bytes all) refl

@@ -1,5 +1,5 @@
 -- The printed lines of objects are taken.
-use Rattle.std.proofs.Common.{◌≡◌, ◌≢◌, ℕ, ◌<◌, ◌≤◌, Bool, true, false, cond, eqb, leb, ltb, ◌&&◌, List, [], ◌∷◌, ◌++◌, length, map, Option, None, Some, Result, Ok, Err, refl, ap, ◌∙◌, arith}
+use Rattle.std.proofs.Common.{◌≡◌, ◌≢◌, ℕ, ◌<◌, ◌≤◌, Bool, true, false, cond, eqb, leb, ltb, List, [], ◌∷◌, ◌++◌, length, map, Option, None, Some, Result, Ok, Err, refl, ap, ◌∙◌, arith}
 use Rattle.std.specs.Prelude.{All, codes}
 use Rattle.std.specs.Fmt.{decimal}
 use Rattle.std.specs.List.{flat_map}
@@ -17,22 +17,22 @@ use Rattle.prin_text.specs.Labels.{AreLabels}
 use Rattle.prin_text.specs.Printing.{principal_text, rights_text}
 use Rattle.prin_text.specs.Words.{rights_of}
 use Rattle.prin_text.proofs.Listed.{rights_again}
-use Rattle.node_file.specs.declared.fault.FileCause.{FileCause}
-use Rattle.node_file.specs.declared.fault.FileCause.TheVariants.{Rights, Words}
+use Rattle.file_lines.specs.declared.fault.FileCause.{FileCause}
+use Rattle.file_lines.specs.declared.fault.FileCause.TheVariants.{Rights, Words}
 use Rattle.node_file.specs.declared.limits.TheConstants.{MAX_OBJECTS}
 use Rattle.node_file.specs.declared.node_text.kind.LineKind.TheVariants as kinds
-use Rattle.node_file.specs.Fields.{granted, number_up_to, some_or, two_and_rest}
+use Rattle.file_lines.specs.Fields.{granted, number_up_to, some_or, two_and_rest}
 use Rattle.node_file.specs.FilePrinting.{allow_line, bytes_line, content_lines, number_line, object_lines}
-use Rattle.node_file.specs.Lines.{is_plain, unblanked, word_off}
+use Rattle.file_lines.specs.Lines.{is_plain, unblanked, word_off}
 use Rattle.node_file.specs.NodeFile.{Draft, objects_in}
 use Rattle.node_file.specs.NodeLines.{changed_at, contents_and, grants_and, objects_and, with_content, with_grant}
 use Rattle.node_file.specs.Opening.{FitsObject}
 use Rattle.node_file.proofs.PrintedFields.{decimal_word, hex_word, number_again, numbered_digits_again, one_number_again, tail_plain}
 use Rattle.node_file.proofs.PrintedParts.{each_goes, each_taken, fewer, this_one}
-use Rattle.node_file.proofs.PrintedSteps.{Goes, goes_append, Takes, takes_line, word_is}
+use Rattle.node_file.proofs.PrintedSteps.{Goes, goes_append, Takes, takes_line}
 use Rattle.node_file.proofs.PrintedTables.{AreFew}
 use Rattle.node_file.proofs.PrintedTexts.{rights_word, text_shown, who_again}
-use Rattle.node_file.proofs.PrintedWords.{IsWord, plain_append, word_first, word_next}
+use Rattle.node_file.proofs.PrintedWords.{IsWord, plain_append, word_next}
 
 -- an object, of its parts
 abbrev object : ℕ → List ℕ → List Grant → ObjectPlan
@@ -79,7 +79,7 @@ module _ (above : List ObjectPlan) (n : ℕ) (new : HaveNot n above) (room : len
   object_taken : Takes (objects_in d above) (number_line (codes "object") n) (objects_in d (above ++ object n [] [] ∷ []))
   object_taken =
       takes_line (objects_in d above) (objects_in d (above ++ object n [] [] ∷ [])) kinds.Object (decimal n) (decimal_word n (omega (arith, small))).plain
-      (ap (with_value (objects_in d)) (ap (λ r. r >>= λ n. objects_and above n) (one_number_again (codes "object") 4294967295 n (word_is kinds.Object) small (omega (arith, small))) ∙ object_free))
+      (ap (with_value (objects_in d)) (ap (λ r. r >>= λ n. objects_and above n) (one_number_again 4294967295 n small (omega (arith, small))) ∙ object_free))
 
   -- ---- the line of its content
 
@@ -92,8 +92,8 @@ module _ (above : List ObjectPlan) (n : ℕ) (new : HaveNot n above) (room : len
   content_taken : (content : List ℕ) → IsContent content → 0 < length content → Takes (objects_in d (above ++ object n [] [] ∷ [])) (bytes_line (codes "content") (n, content)) (objects_in d (above ++ object n content [] ∷ []))
   content_taken content is some =
       takes_line (objects_in d (above ++ object n [] [] ∷ [])) (objects_in d (above ++ object n content [] ∷ [])) kinds.Content (decimal n ++ 32 ∷ encode_lower content)
-      (tail_plain (codes "content") (encode_lower content) n (word_is kinds.Content) (hex_word content is.1 some) small)
-      (ap (with_value (objects_in d)) (ap (λ r. r >>= λ x. contents_and (above ++ object n [] [] ∷ []) x) (numbered_digits_again (codes "content") content n (word_is kinds.Content) is.1 some small) ∙ content_free content is.0))
+      (tail_plain (encode_lower content) n (hex_word content is.1 some) small)
+      (ap (with_value (objects_in d)) (ap (λ r. r >>= λ x. contents_and (above ++ object n [] [] ∷ []) x) (numbered_digits_again content n is.1 some small) ∙ content_free content is.0))
 
   content_goes : (content : List ℕ) → IsContent content → Goes (objects_in d (above ++ object n [] [] ∷ [])) (content_lines n content) (objects_in d (above ++ object n content [] ∷ []))
   content_goes [] is = refl
@@ -119,20 +119,16 @@ module _ (above : List ObjectPlan) (n : ℕ) (new : HaveNot n above) (room : len
       entry_plain =
           plain_append (decimal n) (32 ∷ (rights ++ 32 ∷ who)) (decimal_word n (omega (arith, small))).plain (plain_append rights (32 ∷ who) is_rights.plain (text_shown d.labels are false g.who fits.who.numbers).plain)
 
-      line_plain : is_plain line ≡ true
-      line_plain = plain_append (codes "allow") (32 ∷ (decimal n ++ 32 ∷ (rights ++ 32 ∷ who))) refl entry_plain
-
-      parted : two_and_rest line ≡ Ok (decimal n, rights, 32 ∷ who)
+      parted : two_and_rest (32 ∷ (decimal n ++ 32 ∷ (rights ++ 32 ∷ who))) ≡ Ok (decimal n, rights, 32 ∷ who)
       unfolding two_and_rest
       parted =
           let some : ltb 0 (length (unblanked who)) ≡ true = lt-ltb 0 (length (unblanked who)) (text_shown d.labels are false g.who fits.who.numbers).some in
-          let given : List ℕ × List ℕ → List ℕ × List ℕ → Result (List ℕ × List ℕ × List ℕ) FileCause = λ a b. cond (is_plain line && ltb 0 (length (unblanked b.1))) (Ok (a.0, b.0, b.1)) (Err Words) in
-          ap (λ (w : List ℕ × List ℕ). given (word_off w.1) (word_off (word_off w.1).1)) (word_first (codes "allow") (decimal n ++ 32 ∷ (rights ++ 32 ∷ who)) (word_is kinds.Allow))
-          ∙ ap (λ (a : List ℕ × List ℕ). given a (word_off a.1)) (word_next (decimal n) (rights ++ 32 ∷ who) (decimal_word n (omega (arith, small))))
+          let given : List ℕ × List ℕ → List ℕ × List ℕ → Result (List ℕ × List ℕ × List ℕ) FileCause = λ a b. cond (ltb 0 (length (unblanked b.1))) (Ok (a.0, b.0, b.1)) (Err Words) in
+          ap (λ (a : List ℕ × List ℕ). given a (word_off a.1)) (word_next (decimal n) (rights ++ 32 ∷ who) (decimal_word n (omega (arith, small))))
           ∙ ap (λ (b : List ℕ × List ℕ). given (decimal n, 32 ∷ (rights ++ 32 ∷ who)) b) (word_next rights who is_rights)
-          ∙ (rw (line_plain, some) refl)
+          ∙ (rw some refl)
 
-      granted_again : granted line ≡ Ok (n, g.rights, 32 ∷ who)
+      granted_again : granted (32 ∷ (decimal n ++ 32 ∷ (rights ++ 32 ∷ who))) ≡ Ok (n, g.rights, 32 ∷ who)
       unfolding granted
       granted_again =
           ap (λ r. r >>= λ w. number_up_to 4294967295 w.0 >>= λ n. some_or Rights (rights_of w.1) >>= λ rights. Ok (n, rights, w.2)) parted

@@ -4,15 +4,16 @@ use Rattle.std.specs.Prelude.{codes}
 use Rattle.std.specs.List.{list_all}
 use Rattle.byte_fields.specs.Steps.{◌>>=◌}
 use Rattle.prin_text.specs.Tokens.{is_blank}
-use Rattle.node_file.specs.declared.fault.FileCause.TheVariants.{UnknownWord}
+use Rattle.file_lines.specs.declared.fault.FileCause.TheVariants.{UnknownWord}
 use Rattle.node_file.specs.declared.node_text.kind.LineKind.{LineKind}
 use Rattle.node_file.specs.declared.node_text.kind.LineKind.TheVariants as kinds
 use Rattle.node_file.specs.declared.node_text.kind.Setting.TheVariants as settings
-use Rattle.node_file.specs.Fields.{some_or}
-use Rattle.node_file.specs.FileLines.{lines_make}
-use Rattle.node_file.specs.Lines.{is_plain, is_skipped}
+use Rattle.file_lines.specs.Fields.{if_plain, some_or}
+use Rattle.file_lines.specs.FileLines.{lines_make}
+use Rattle.file_lines.specs.Lines.{is_plain, is_skipped}
 use Rattle.node_file.specs.NodeFile.{Draft, adds, node_step}
 use Rattle.node_file.specs.NodeLines.{kind_of}
+use Rattle.file_lines.proofs.Plain.{plain_says}
 use Rattle.node_file.proofs.Kept.{any_step}
 use Rattle.node_file.proofs.PrintedWords.{ArePlain, IsWord, plain_append, word_first}
 
@@ -85,14 +86,16 @@ word_is kind = (begins kind).is_word
 
 -- ---- one line
 
-step_is : (d : Draft) (kind : LineKind) (tail : List ℕ) → node_step d (word_of kind ++ 32 ∷ tail) ≡ adds d kind (word_of kind ++ 32 ∷ tail) (32 ∷ tail)
+step_is : (d : Draft) (kind : LineKind) (tail : List ℕ) → is_plain (word_of kind ++ 32 ∷ tail) ≡ true → node_step d (word_of kind ++ 32 ∷ tail) ≡ adds d kind (32 ∷ tail)
 unfolding node_step
-step_is d kind tail =
+step_is d kind tail plain =
     let word = word_of kind in
     let line = word ++ 32 ∷ tail in
-    ap (λ (w : List ℕ × List ℕ). some_or UnknownWord (kind_of w.0) >>= λ kind. adds d kind line w.1) (word_first word tail (word_is kind))
-    ∙ ap (λ (k : Option LineKind). some_or UnknownWord k >>= λ kind. adds d kind line (32 ∷ tail)) (begins kind).known
+    ap (λ (w : List ℕ × List ℕ). some_or UnknownWord (kind_of w.0) >>= λ kind. if_plain line (adds d kind w.1)) (word_first word tail (word_is kind))
+    ∙ ap (λ (k : Option LineKind). some_or UnknownWord k >>= λ kind. if_plain line (adds d kind (32 ∷ tail))) (begins kind).known
+    ∙ plain_says line (adds d kind (32 ∷ tail)) plain
 
-pub takes_line : (d more : Draft) (kind : LineKind) (tail : List ℕ) → is_plain tail ≡ true → adds d kind (word_of kind ++ 32 ∷ tail) (32 ∷ tail) ≡ Ok more → Takes d (word_of kind ++ 32 ∷ tail) more
+pub takes_line : (d more : Draft) (kind : LineKind) (tail : List ℕ) → is_plain tail ≡ true → adds d kind (32 ∷ tail) ≡ Ok more → Takes d (word_of kind ++ 32 ∷ tail) more
 takes_line d more kind tail plain added =
-    record { read = (begins kind).reads tail; plain = plain_append (word_of kind) (32 ∷ tail) (word_is kind).plain plain; said = step_is d kind tail ∙ added }
+    let whole = plain_append (word_of kind) (32 ∷ tail) (word_is kind).plain plain in
+    record { read = (begins kind).reads tail; plain = whole; said = step_is d kind tail whole ∙ added }

@@ -25,14 +25,14 @@ use Rattle.sealed_cert.proofs.Opened.{opened_again}
 use Rattle.stmt_codec.specs.Certificates.{Certificate}
 use Rattle.stmt_codec.specs.Equality.{same_certificate}
 use Rattle.stmt_codec.proofs.Equal.{same_certificate-false}
-use Rattle.node_file.specs.declared.fault.FileCause.TheVariants as causes
-use Rattle.node_file.specs.declared.fault.FileCause.TheVariants.{Limit, Text, Twice, UnknownName}
+use Rattle.file_lines.specs.declared.fault.FileCause.TheVariants as causes
+use Rattle.file_lines.specs.declared.fault.FileCause.TheVariants.{Limit, Text, Twice, UnknownName}
 use Rattle.node_file.specs.declared.limits.TheConstants.{MAX_ANCHORS, MAX_CHANNELS, MAX_COMMONS}
 use Rattle.node_file.specs.declared.node_text.kind.LineKind.TheVariants as kinds
-use Rattle.node_file.specs.Fields.{number_up_to, numbered, some_or}
-use Rattle.node_file.specs.FileLines.{key_cause, keys_with, text_cause, texts_with, unless}
+use Rattle.file_lines.specs.Fields.{number_up_to, numbered, some_or}
+use Rattle.file_lines.specs.FileLines.{key_cause, keys_with, text_cause, texts_with, unless}
 use Rattle.node_file.specs.FilePrinting.{anchor_line, bytes_line, common_line, text_line}
-use Rattle.node_file.specs.Lines.{is_plain}
+use Rattle.file_lines.specs.Lines.{is_plain}
 use Rattle.node_file.specs.NodeFile.{Draft, anchors_in, channels_in, commons_in, names_in, roles_in}
 use Rattle.node_file.specs.NodeLines.{anchor_said, anchors_and, anchors_with, commons_and, commons_of, commons_with, name_said}
 use Rattle.node_file.specs.Opening.{IsAnchor, IsChannel, IsCommon}
@@ -41,7 +41,7 @@ use Rattle.node_file.proofs.OpeningFields.{same_anchor-false}
 use Rattle.node_file.proofs.PrintedBytes.{sealed_bytes}
 use Rattle.node_file.proofs.PrintedFields.{decimal_word, digits_again, hex_word, key_word, keyed_again, label_word, number_again, numbered_again, tail_plain, word_append}
 use Rattle.node_file.proofs.PrintedParts.{each_taken, fewer, key_is_new, number_is_new, text_is_new, this_one}
-use Rattle.node_file.proofs.PrintedSteps.{Goes, Takes, takes_line, word_is}
+use Rattle.node_file.proofs.PrintedSteps.{Goes, Takes, takes_line}
 use Rattle.node_file.proofs.PrintedWords.{IsWord}
 
 full : (n most : ℕ) → n < most → leb most n ≡ false
@@ -55,7 +55,7 @@ text_free most rows n text is new_number new_text room =
     let less : eqb (length rows) most ≡ false = grind (arith, nat_tests, room) in
     rw (is, new_number, new_text, less) refl
 
-module _ (word : List ℕ) (is_word : IsWord word) (most : ℕ) (above rest : Rows) (row : ℕ × List ℕ) (table : IsTable most (above ++ row ∷ rest)) where
+module _ (most : ℕ) (above rest : Rows) (row : ℕ × List ℕ) (table : IsTable most (above ++ row ∷ rest)) where
   is_row : IsRow row
   is_row = this_one IsRow above row rest table.whole
 
@@ -63,11 +63,11 @@ module _ (word : List ℕ) (is_word : IsWord word) (most : ℕ) (above rest : Ro
   number_small = omega (arith, is_row.0)
 
   pub text_plain : is_plain (decimal row.0 ++ 32 ∷ row.1) ≡ true
-  text_plain = tail_plain word row.1 row.0 is_word (label_word row.1 is_row.1) number_small
+  text_plain = tail_plain row.1 row.0 (label_word row.1 is_row.1) number_small
 
-  pub texts_again : texts_with most above (text_line word row) (32 ∷ (decimal row.0 ++ 32 ∷ row.1)) ≡ Ok (above ++ row ∷ [])
+  pub texts_again : texts_with most above (32 ∷ (decimal row.0 ++ 32 ∷ row.1)) ≡ Ok (above ++ row ∷ [])
   texts_again =
-      ap (λ r. r >>= λ x. unless (text_cause most above x.0 x.1) (above ++ (x.0, x.1) ∷ [])) (numbered_again word row.1 row.0 is_word (label_word row.1 is_row.1) number_small)
+      ap (λ r. r >>= λ x. unless (text_cause most above x.0 x.1) (above ++ (x.0, x.1) ∷ [])) (numbered_again row.1 row.0 (label_word row.1 is_row.1) number_small)
       ∙ ap (λ o. unless o (above ++ row ∷ []))
       (text_free most above row.0 row.1 is_row.1 (number_is_new above rest row table.ascending) (text_is_new above rest row table.differ) (fewer above row rest most table.within))
 
@@ -76,14 +76,14 @@ names_go d =
     each_taken (names_in d) (IsTable MAX_NAMES) (text_line (codes "name"))
     (λ above row rest table.
     takes_line (names_in d above) (names_in d (above ++ row ∷ [])) kinds.Name (decimal row.0 ++ 32 ∷ row.1)
-    (text_plain (codes "name") (word_is kinds.Name) MAX_NAMES above rest row table) (ap (with_value (names_in d)) (texts_again (codes "name") (word_is kinds.Name) MAX_NAMES above rest row table)))
+    (text_plain MAX_NAMES above rest row table) (ap (with_value (names_in d)) (texts_again MAX_NAMES above rest row table)))
 
 pub roles_go : (d : Draft) (above rest : Rows) → IsTable MAX_ROLES (above ++ rest) → Goes (roles_in d above) (map (text_line (codes "role")) rest) (roles_in d (above ++ rest))
 roles_go d =
     each_taken (roles_in d) (IsTable MAX_ROLES) (text_line (codes "role"))
     (λ above row rest table.
     takes_line (roles_in d above) (roles_in d (above ++ row ∷ [])) kinds.Role (decimal row.0 ++ 32 ∷ row.1)
-    (text_plain (codes "role") (word_is kinds.Role) MAX_ROLES above rest row table) (ap (with_value (roles_in d)) (texts_again (codes "role") (word_is kinds.Role) MAX_ROLES above rest row table)))
+    (text_plain MAX_ROLES above rest row table) (ap (with_value (roles_in d)) (texts_again MAX_ROLES above rest row table)))
 
 -- ---- lists with a limit
 
@@ -109,15 +109,15 @@ module _ (above rest : Entries) (x : ℕ × List ℕ) (are : AreFew MAX_CHANNELS
       let room : leb MAX_CHANNELS (length above) ≡ false = full (length above) MAX_CHANNELS (fewer above x rest MAX_CHANNELS are.few) in
       rw (unknown, room) refl
 
-  keys_again : keys_with MAX_CHANNELS above (bytes_line (codes "channel") x) (32 ∷ (decimal x.0 ++ 32 ∷ encode_lower x.1)) ≡ Ok (above ++ x ∷ [])
+  keys_again : keys_with MAX_CHANNELS above (32 ∷ (decimal x.0 ++ 32 ∷ encode_lower x.1)) ≡ Ok (above ++ x ∷ [])
   keys_again =
-      ap (λ r. r >>= λ x. unless (key_cause MAX_CHANNELS above x.0) (above ++ (x.0, x.1) ∷ [])) (keyed_again (codes "channel") x.1 x.0 (word_is kinds.Channel) is_channel.1 channel_small)
+      ap (λ r. r >>= λ x. unless (key_cause MAX_CHANNELS above x.0) (above ++ (x.0, x.1) ∷ [])) (keyed_again x.1 x.0 is_channel.1 channel_small)
       ∙ ap (λ o. unless o (above ++ x ∷ [])) key_free
 
   pub channel_taken : (d : Draft) → Takes (channels_in d above) (bytes_line (codes "channel") x) (channels_in d (above ++ x ∷ []))
   channel_taken d =
       takes_line (channels_in d above) (channels_in d (above ++ x ∷ [])) kinds.Channel (decimal x.0 ++ 32 ∷ encode_lower x.1)
-      (tail_plain (codes "channel") (encode_lower x.1) x.0 (word_is kinds.Channel) (key_word x.1 is_channel.1) channel_small) (ap (with_value (channels_in d)) keys_again)
+      (tail_plain (encode_lower x.1) x.0 (key_word x.1 is_channel.1) channel_small) (ap (with_value (channels_in d)) keys_again)
 
 pub channels_go : (d : Draft) (above rest : Entries) → AreFew MAX_CHANNELS IsChannel (λ c d. c.0 ≢ d.0) (above ++ rest) → Goes (channels_in d above) (map (bytes_line (codes "channel")) rest) (channels_in d (above ++ rest))
 channels_go d =
@@ -161,10 +161,10 @@ module _ (labels : Labels) (are_labels : AreLabels labels) (above rest : List An
   text_word : IsWord text
   text_word = named_word labels.names (codes "name:") a.name text name_mark is_named
 
-  anchor_again : anchor_said labels.names (anchor_line labels.names a) (32 ∷ (decimal a.key ++ 32 ∷ text)) ≡ Ok a
+  anchor_again : anchor_said labels.names (32 ∷ (decimal a.key ++ 32 ∷ text)) ≡ Ok a
   unfolding anchor_said
   anchor_again =
-      ap (λ r. r >>= λ x. name_said labels.names x.1 >>= λ n. Ok (anchor_of x.0 n)) (numbered_again (codes "anchor") text a.key (word_is kinds.Anchor) text_word anchor_small)
+      ap (λ r. r >>= λ x. name_said labels.names x.1 >>= λ n. Ok (anchor_of x.0 n)) (numbered_again text a.key text_word anchor_small)
       ∙ ap (λ r. r >>= λ n. Ok (anchor_of a.key n)) (name_again labels.names a.name text is_named)
 
   anchor_free : anchors_and above a ≡ Ok (above ++ a ∷ [])
@@ -178,8 +178,8 @@ module _ (labels : Labels) (are_labels : AreLabels labels) (above rest : List An
   pub anchor_taken : (d : Draft) → d.labels ≡ labels → Takes (anchors_in d above) (anchor_line labels.names a) (anchors_in d (above ++ a ∷ []))
   anchor_taken d same =
       takes_line (anchors_in d above) (anchors_in d (above ++ a ∷ [])) kinds.Anchor (decimal a.key ++ 32 ∷ text)
-      (tail_plain (codes "anchor") text a.key (word_is kinds.Anchor) text_word anchor_small)
-      (subst (λ (l : Labels). with_value (anchors_in d) (anchors_with l.names above (anchor_line labels.names a) (32 ∷ (decimal a.key ++ 32 ∷ text))) ≡ Ok (anchors_in d (above ++ a ∷ []))) (sym same)
+      (tail_plain text a.key text_word anchor_small)
+      (subst (λ (l : Labels). with_value (anchors_in d) (anchors_with l.names above (32 ∷ (decimal a.key ++ 32 ∷ text))) ≡ Ok (anchors_in d (above ++ a ∷ []))) (sym same)
       (ap (with_value (anchors_in d)) (ap (λ r. r >>= λ a. anchors_and above a) anchor_again ∙ anchor_free)))
 
 pub anchors_go : (labels : Labels) → AreLabels labels → (d : Draft) → d.labels ≡ labels → (above rest : List Anchor) → AreFew MAX_ANCHORS IsAnchor (λ a b. a ≢ b) (above ++ rest)
@@ -210,15 +210,15 @@ module _ (node : ℕ) (key : List ℕ) (above rest : List Certificate) (c : Cert
   common_opens : opened key bytes ≡ Ok c
   common_opens = opened_again key bytes c (record { text = refl; numbers = is_common.0; limits = is_common.1 })
 
-  commons_again : commons_with (Some (node, key)) above (common_line key c) (32 ∷ encode_lower bytes) ≡ Ok (above ++ c ∷ [])
+  commons_again : commons_with (Some (node, key)) above (32 ∷ encode_lower bytes) ≡ Ok (above ++ c ∷ [])
   commons_again =
-      ap (λ r. r >>= λ bytes. commons_of (Some (node, key)) above bytes) (digits_again (codes "common") bytes (word_is kinds.Common) (sealed_bytes key c) some_bytes)
+      ap (λ r. r >>= λ bytes. commons_of (Some (node, key)) above bytes) (digits_again bytes (sealed_bytes key c) some_bytes)
       ∙ ap (λ r. with_fault (λ _. causes.Certificate) r >>= λ c. commons_and above c) common_opens ∙ common_free
 
   pub common_taken : (d : Draft) → d.settings.node ≡ Some (node, key) → Takes (commons_in d above) (common_line key c) (commons_in d (above ++ c ∷ []))
   common_taken d said =
       takes_line (commons_in d above) (commons_in d (above ++ c ∷ [])) kinds.Common (encode_lower bytes) (hex_word bytes (sealed_bytes key c) some_bytes).plain
-      (subst (λ (o : Option (ℕ × List ℕ)). with_value (commons_in d) (commons_with o above (common_line key c) (32 ∷ encode_lower bytes)) ≡ Ok (commons_in d (above ++ c ∷ []))) (sym said)
+      (subst (λ (o : Option (ℕ × List ℕ)). with_value (commons_in d) (commons_with o above (32 ∷ encode_lower bytes)) ≡ Ok (commons_in d (above ++ c ∷ []))) (sym said)
       (ap (with_value (commons_in d)) commons_again))
 
 pub commons_go : (node : ℕ) (key : List ℕ) (d : Draft) → d.settings.node ≡ Some (node, key) → (above rest : List Certificate) → AreFew MAX_COMMONS IsCommon (λ c d. c ≢ d) (above ++ rest)

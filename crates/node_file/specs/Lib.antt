@@ -1,13 +1,8 @@
 pub mod Opening
 pub mod Plans
-pub mod Held
 pub mod OpeningReading
 pub mod OpeningView
 pub mod Meaning
-pub mod Lines
-pub mod Fields
-pub mod FileLines
-pub mod LineView
 pub mod RelayFile
 pub mod RelayView
 pub mod NodeLines

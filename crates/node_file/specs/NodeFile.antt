@@ -9,17 +9,17 @@ use Rattle.byte_fields.specs.Steps.{◌>>=◌, with_fault, with_value}
 use Rattle.prin_text.specs.Labels.{Labels, Rows}
 use Rattle.prin_text.specs.declared.limits.TheConstants.{MAX_NAMES, MAX_ROLES}
 use Rattle.stmt_codec.specs.Certificates.{Certificate}
-use Rattle.node_file.specs.declared.fault.FileCause.{FileCause}
-use Rattle.node_file.specs.declared.fault.FileCause.TheVariants.{UnknownWord, Limit, NoNode}
-use Rattle.node_file.specs.declared.fault.FileFault.{FileFault}
-use Rattle.node_file.specs.declared.fault.FileFault.TheVariants.{Line}
+use Rattle.file_lines.specs.declared.fault.FileCause.{FileCause}
+use Rattle.file_lines.specs.declared.fault.FileCause.TheVariants.{UnknownWord, Limit, NoNode}
+use Rattle.file_lines.specs.declared.fault.FileFault.{FileFault}
+use Rattle.file_lines.specs.declared.fault.FileFault.TheVariants.{Line}
 use Rattle.node_file.specs.declared.limits.TheConstants.{MAX_CHANNELS, MAX_ROOM}
 use Rattle.node_file.specs.declared.node_text.kind.LineKind.{LineKind}
 use Rattle.node_file.specs.declared.node_text.kind.LineKind.TheVariants as kinds
 use Rattle.node_file.specs.declared.node_text.settings.Settings.{Settings}
-use Rattle.node_file.specs.Fields.{some_or}
-use Rattle.node_file.specs.FileLines.{LineStep, file_makes, is_first_line, keys_with, texts_with}
-use Rattle.node_file.specs.Lines.{lines_from, word_off}
+use Rattle.file_lines.specs.Fields.{if_plain, some_or}
+use Rattle.file_lines.specs.FileLines.{LineStep, file_makes, is_first_line, keys_with, texts_with}
+use Rattle.file_lines.specs.Lines.{lines_from, word_off}
 use Rattle.node_file.specs.NodeLines.{anchors_with, commons_with, contents_with, grants_with}
 use Rattle.node_file.specs.NodeLines.{kind_of, objects_with, settings_with}
 use Rattle.node_file.specs.Opening.{Opening, journal_room, no_texts}
@@ -73,31 +73,31 @@ abbrev pub objects_in : Draft → List ObjectPlan → Draft
 objects_in above objects = record above { objects = objects }
 
 -- what a line about this adds
-abbrev pub adds : Draft → LineKind → List ℕ → List ℕ → Result Draft FileCause
-adds above (kinds.Setting setting) line rest =
-    with_value (settings_in above) (settings_with above.settings setting line rest)
-adds above kinds.Name line rest =
-    with_value (names_in above) (texts_with MAX_NAMES above.labels.names line rest)
-adds above kinds.Role line rest =
-    with_value (roles_in above) (texts_with MAX_ROLES above.labels.roles line rest)
-adds above kinds.Channel line rest =
-    with_value (channels_in above) (keys_with MAX_CHANNELS above.channels line rest)
-adds above kinds.Anchor line rest =
-    with_value (anchors_in above) (anchors_with above.labels.names above.anchors line rest)
-adds above kinds.Common line rest =
-    with_value (commons_in above) (commons_with above.settings.node above.commons line rest)
-adds above kinds.Object line rest =
-    with_value (objects_in above) (objects_with above.objects line rest)
-adds above kinds.Content line rest =
-    with_value (objects_in above) (contents_with above.objects line rest)
-adds above kinds.Allow line rest =
-    with_value (objects_in above) (grants_with above.labels above.objects line)
+abbrev pub adds : Draft → LineKind → List ℕ → Result Draft FileCause
+adds above (kinds.Setting setting) rest =
+    with_value (settings_in above) (settings_with above.settings setting rest)
+adds above kinds.Name rest =
+    with_value (names_in above) (texts_with MAX_NAMES above.labels.names rest)
+adds above kinds.Role rest =
+    with_value (roles_in above) (texts_with MAX_ROLES above.labels.roles rest)
+adds above kinds.Channel rest =
+    with_value (channels_in above) (keys_with MAX_CHANNELS above.channels rest)
+adds above kinds.Anchor rest =
+    with_value (anchors_in above) (anchors_with above.labels.names above.anchors rest)
+adds above kinds.Common rest =
+    with_value (commons_in above) (commons_with above.settings.node above.commons rest)
+adds above kinds.Object rest =
+    with_value (objects_in above) (objects_with above.objects rest)
+adds above kinds.Content rest =
+    with_value (objects_in above) (contents_with above.objects rest)
+adds above kinds.Allow rest =
+    with_value (objects_in above) (grants_with above.labels above.objects rest)
 
 -- what a line adds
 unfoldable pub node_step : LineStep Draft
 node_step above line =
     let w = word_off line in
-    some_or UnknownWord (kind_of w.0) >>= λ kind. adds above kind line w.1
+    some_or UnknownWord (kind_of w.0) >>= λ kind. if_plain line (adds above kind w.1)
 
 -- what the lines of a node file say together
 unfoldable pub draft_in : List ℕ → Result Draft FileFault

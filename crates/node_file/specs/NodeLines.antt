@@ -22,10 +22,10 @@ use Rattle.prin_text.specs.declared.fault.TextFault.TheVariants as faults
 use Rattle.sealed_cert.specs.Refusals.{opened}
 use Rattle.stmt_codec.specs.Certificates as certs
 use Rattle.stmt_codec.specs.Equality.{same_certificate}
-use Rattle.node_file.specs.declared.fault.FileCause.{FileCause}
-use Rattle.node_file.specs.declared.fault.FileCause.TheVariants as causes
-use Rattle.node_file.specs.declared.fault.FileCause.TheVariants.{NodeFirst, UnknownObject}
-use Rattle.node_file.specs.declared.fault.FileCause.TheVariants.{UnknownName, Twice, Limit}
+use Rattle.file_lines.specs.declared.fault.FileCause.{FileCause}
+use Rattle.file_lines.specs.declared.fault.FileCause.TheVariants as causes
+use Rattle.file_lines.specs.declared.fault.FileCause.TheVariants.{NodeFirst, UnknownObject}
+use Rattle.file_lines.specs.declared.fault.FileCause.TheVariants.{UnknownName, Twice, Limit}
 use Rattle.node_file.specs.declared.limits.TheConstants.{MAX_SHARDS, MAX_KEEP, MAX_LIMIT}
 use Rattle.node_file.specs.declared.limits.TheConstants.{MAX_ANCHORS, MAX_COMMONS, MAX_OBJECTS}
 use Rattle.node_file.specs.declared.node_text.kind.LineKind.{LineKind}
@@ -33,9 +33,9 @@ use Rattle.node_file.specs.declared.node_text.kind.LineKind.TheVariants as kinds
 use Rattle.node_file.specs.declared.node_text.kind.Setting.{Setting}
 use Rattle.node_file.specs.declared.node_text.kind.Setting.TheVariants as settings
 use Rattle.node_file.specs.declared.node_text.settings.Settings.{Settings}
-use Rattle.node_file.specs.Fields.{digits, granted, keyed, numbered, numbered_digits}
-use Rattle.node_file.specs.Fields.{number_up_to, one_number, some_or}
-use Rattle.node_file.specs.FileLines.{first_of, unless}
+use Rattle.file_lines.specs.Fields.{digits, granted, keyed, numbered, numbered_digits}
+use Rattle.file_lines.specs.Fields.{number_up_to, one_number, some_or}
+use Rattle.file_lines.specs.FileLines.{first_of, unless}
 use Rattle.node_file.specs.OpeningReading.{same_anchor}
 
 -- what a line with this first word is about
@@ -63,31 +63,31 @@ new_within most said n =
     unless (first_of ((said, Twice) ∷ (not (is_within 1 most n), Limit) ∷ [])) n
 
 -- the settings with the node's number and the key of its relay
-unfoldable pub node_with : Settings → List ℕ → List ℕ → Result Settings FileCause
-node_with above line rest = keyed line rest >>= λ x.
+unfoldable pub node_with : Settings → List ℕ → Result Settings FileCause
+node_with above rest = keyed rest >>= λ x.
     unless (first_of ((is_some above.node, Twice) ∷ [])) (record above { node = Some x })
 
 -- the settings with how many shards there are
-unfoldable pub shards_with : Settings → List ℕ → List ℕ → Result Settings FileCause
-shards_with above line rest = one_number 4294967295 line rest >>= λ n.
+unfoldable pub shards_with : Settings → List ℕ → Result Settings FileCause
+shards_with above rest = one_number 4294967295 rest >>= λ n.
     new_within MAX_SHARDS (is_some above.shards) n >>= λ n. Ok (record above { shards = Some n })
 
 -- the settings with the seconds that a dead certificate stays
-unfoldable pub keep_with : Settings → List ℕ → List ℕ → Result Settings FileCause
-keep_with above line rest = one_number 18446744073709551615 line rest >>= λ n.
+unfoldable pub keep_with : Settings → List ℕ → Result Settings FileCause
+keep_with above rest = one_number 18446744073709551615 rest >>= λ n.
     new_within MAX_KEEP (is_some above.keep) n >>= λ n. Ok (record above { keep = Some n })
 
 -- the settings with the entries that a journal has room for
-unfoldable pub journal_with : Settings → List ℕ → List ℕ → Result Settings FileCause
-journal_with above line rest = one_number 18446744073709551615 line rest >>= λ n.
+unfoldable pub journal_with : Settings → List ℕ → Result Settings FileCause
+journal_with above rest = one_number 18446744073709551615 rest >>= λ n.
     new_within MAX_LIMIT (is_some above.limit) n >>= λ n. Ok (record above { limit = Some n })
 
 -- the settings with what a line says of them
-abbrev pub settings_with : Settings → Setting → List ℕ → List ℕ → Result Settings FileCause
-settings_with above settings.Node line rest = node_with above line rest
-settings_with above settings.Shards line rest = shards_with above line rest
-settings_with above settings.Keep line rest = keep_with above line rest
-settings_with above settings.Journal line rest = journal_with above line rest
+abbrev pub settings_with : Settings → Setting → List ℕ → Result Settings FileCause
+settings_with above settings.Node rest = node_with above rest
+settings_with above settings.Shards rest = shards_with above rest
+settings_with above settings.Keep rest = keep_with above rest
+settings_with above settings.Journal rest = journal_with above rest
 
 -- ---- anchors
 
@@ -98,8 +98,8 @@ name_said names word =
     else some_or UnknownName (number_of names word)
 
 -- an anchor
-unfoldable pub anchor_said : Rows → List ℕ → List ℕ → Result Anchor FileCause
-anchor_said names line rest = numbered line rest >>= λ x. name_said names x.1 >>= λ n.
+unfoldable pub anchor_said : Rows → List ℕ → Result Anchor FileCause
+anchor_said names rest = numbered rest >>= λ x. name_said names x.1 >>= λ n.
     Ok (record { key = x.0; name = n })
 
 -- the anchors with one more
@@ -109,9 +109,9 @@ anchors_and above a =
     ∷ (nat_le MAX_ANCHORS (length above), Limit) ∷ [])) (above ++ a ∷ [])
 
 -- the anchors with that of a line
-abbrev pub anchors_with : Rows → List Anchor → List ℕ → List ℕ → Result (List Anchor) FileCause
-anchors_with names above line rest =
-    anchor_said names line rest >>= λ a. anchors_and above a
+abbrev pub anchors_with : Rows → List Anchor → List ℕ → Result (List Anchor) FileCause
+anchors_with names above rest =
+    anchor_said names rest >>= λ a. anchors_and above a
 
 -- ---- the certificates held in common
 
@@ -133,9 +133,9 @@ abbrev pub commons_of : Option (ℕ × List ℕ) → List certs.Certificate → 
 commons_of node above bytes = common_said node bytes >>= λ c. commons_and above c
 
 -- the certificates with that of a line
-abbrev pub commons_with : Option (ℕ × List ℕ) → List certs.Certificate → List ℕ → List ℕ →
+abbrev pub commons_with : Option (ℕ × List ℕ) → List certs.Certificate → List ℕ →
     Result (List certs.Certificate) FileCause
-commons_with node above line rest = digits line rest >>= λ bytes. commons_of node above bytes
+commons_with node above rest = digits rest >>= λ bytes. commons_of node above bytes
 
 -- ---- objects
 
@@ -150,9 +150,9 @@ objects_and above n =
     ∷ (nat_le MAX_OBJECTS (length above), Limit) ∷ [])) (above ++ empty_object n ∷ [])
 
 -- the objects with that of a line
-abbrev pub objects_with : List ObjectPlan → List ℕ → List ℕ → Result (List ObjectPlan) FileCause
-objects_with above line rest =
-    one_number 4294967295 line rest >>= λ n. objects_and above n
+abbrev pub objects_with : List ObjectPlan → List ℕ → Result (List ObjectPlan) FileCause
+objects_with above rest =
+    one_number 4294967295 rest >>= λ n. objects_and above n
 
 -- the object, changed where it has this number
 abbrev pub changed_if : ℕ → (ObjectPlan → ObjectPlan) → ObjectPlan → ObjectPlan
@@ -173,9 +173,9 @@ contents_and above x = some_or UnknownObject (object_of above x.0) >>= λ p.
     ∷ (nat_lt MAX_CONTENT (length x.1), Limit) ∷ [])) (changed_at x.0 (with_content x.1) above)
 
 -- the objects with the content that a line says
-abbrev pub contents_with : List ObjectPlan → List ℕ → List ℕ → Result (List ObjectPlan) FileCause
-contents_with above line rest =
-    numbered_digits line rest >>= λ x. contents_and above x
+abbrev pub contents_with : List ObjectPlan → List ℕ → Result (List ObjectPlan) FileCause
+contents_with above rest =
+    numbered_digits rest >>= λ x. contents_and above x
 
 -- the cause of a line for that of its principal
 abbrev pub cause_of : TextCause → FileCause
@@ -215,4 +215,4 @@ grants_and labels above x = some_or UnknownObject (object_of above x.0) >>= λ p
 
 -- the objects with the entry that a line says
 abbrev pub grants_with : Labels → List ObjectPlan → List ℕ → Result (List ObjectPlan) FileCause
-grants_with labels above line = granted line >>= λ x. grants_and labels above x
+grants_with labels above rest = granted rest >>= λ x. grants_and labels above x

@@ -2,7 +2,7 @@
 use Rattle.std.specs.Prelude.{◌≡◌, map}
 use Rattle.node_file.specs.declared.limits.TheConstants.{MAX_CHANNELS}
 use Rattle.node_file.specs.declared.node_text.draft.Draft as code
-use Rattle.node_file.specs.Held.{HoldsKeys, HoldsRows}
+use Rattle.file_lines.specs.Held.{HoldsKeys, HoldsRows}
 use Rattle.node_file.specs.NodeFile.{Draft}
 use Rattle.node_file.specs.OpeningView.{common}
 use Rattle.node_file.specs.Plans.{HoldsPlans}

@@ -1,19 +1,20 @@
 -- What a relay file means.
 use Rattle.std.specs.Prelude.{ℕ, nat_lt, bytes_eq, codes, if◌then◌else◌}
-use Rattle.std.specs.Prelude.{List, [], ◌∷◌, ◌++◌, length, Option, Result, Ok, Err}
+use Rattle.std.specs.Prelude.{List, [], length, Option, Some, None, Result, Ok, Err}
 use Rattle.keyed_seal.specs.Keys.{Entries}
-use Rattle.byte_fields.specs.Steps.{◌>>=◌}
+use Rattle.byte_fields.specs.Steps.{◌>>=◌, with_value}
 use Rattle.prin_text.specs.Labels.{Rows}
 use Rattle.prin_text.specs.declared.limits.TheConstants.{MAX_NAMES, MAX_ROLES}
-use Rattle.node_file.specs.declared.fault.FileCause.{FileCause}
-use Rattle.node_file.specs.declared.fault.FileCause.TheVariants.{UnknownWord, Limit}
-use Rattle.node_file.specs.declared.fault.FileFault.{FileFault}
-use Rattle.node_file.specs.declared.fault.FileFault.TheVariants.{Line}
+use Rattle.file_lines.specs.declared.fault.FileCause.{FileCause}
+use Rattle.file_lines.specs.declared.fault.FileCause.TheVariants.{UnknownWord, Limit}
+use Rattle.file_lines.specs.declared.fault.FileFault.{FileFault}
+use Rattle.file_lines.specs.declared.fault.FileFault.TheVariants.{Line}
 use Rattle.node_file.specs.declared.limits.TheConstants.{MAX_FILE, MAX_ISSUERS, MAX_NODES}
-use Rattle.node_file.specs.Fields.{keyed, numbered}
-use Rattle.node_file.specs.FileLines.{LineStep, file_makes, is_first_line}
-use Rattle.node_file.specs.FileLines.{key_cause, text_cause, unless}
-use Rattle.node_file.specs.Lines.{lines_from, word_off}
+use Rattle.node_file.specs.declared.relay_kind.RelayKind.{RelayKind}
+use Rattle.node_file.specs.declared.relay_kind.RelayKind.TheVariants as kinds
+use Rattle.file_lines.specs.Fields.{if_plain, some_or}
+use Rattle.file_lines.specs.FileLines.{LineStep, file_makes, is_first_line, keys_with, texts_with}
+use Rattle.file_lines.specs.Lines.{lines_from, word_off}
 
 -- what a relay knows: the keys of issuers and of nodes, and the texts of names and of roles
 pub record RelayFile : Type 0 where
@@ -26,49 +27,47 @@ pub record RelayFile : Type 0 where
 abbrev pub no_relay : RelayFile
 no_relay = record { issuers = []; nodes = []; names = []; roles = [] }
 
--- what a line of a relay file says
-pub data RelayLine : Type 0 where
-  -- the text of a name
-  NameText : (number : ℕ) → (text : List ℕ) → RelayLine
-  -- the text of a role
-  RoleText : (number : ℕ) → (text : List ℕ) → RelayLine
-  -- the key of an issuer
-  IssuerKey : (number : ℕ) → (key : List ℕ) → RelayLine
-  -- the key of a node
-  NodeKey : (number : ℕ) → (key : List ℕ) → RelayLine
+-- what a line with this first word is about
+unfoldable pub relay_kind : List ℕ → Option RelayKind
+relay_kind word =
+    if bytes_eq word (codes "name") then Some kinds.Name
+    else (if bytes_eq word (codes "role") then Some kinds.Role
+    else (if bytes_eq word (codes "issuer") then Some kinds.Issuer
+    else (if bytes_eq word (codes "node") then Some kinds.Node
+    else None)))
 
--- what the line says, by its first word
-unfoldable pub relay_line : List ℕ → Result RelayLine FileCause
-relay_line line =
-    let w = word_off line in
-    if bytes_eq w.0 (codes "name") then (numbered line w.1 >>= λ x. Ok (NameText x.0 x.1))
-    else (if bytes_eq w.0 (codes "role") then (numbered line w.1 >>= λ x. Ok (RoleText x.0 x.1))
-    else (if bytes_eq w.0 (codes "issuer") then (keyed line w.1 >>= λ x. Ok (IssuerKey x.0 x.1))
-    else (if bytes_eq w.0 (codes "node") then (keyed line w.1 >>= λ x. Ok (NodeKey x.0 x.1))
-    else Err UnknownWord)))
+-- with other texts of names
+abbrev pub names_in : RelayFile → Rows → RelayFile
+names_in above rows = record above { names = rows }
 
--- why the line is refused below these
-abbrev pub relay_cause : RelayFile → RelayLine → Option FileCause
-relay_cause above (NameText number text) = text_cause MAX_NAMES above.names number text
-relay_cause above (RoleText number text) = text_cause MAX_ROLES above.roles number text
-relay_cause above (IssuerKey number key) = key_cause MAX_ISSUERS above.issuers number
-relay_cause above (NodeKey number key) = key_cause MAX_NODES above.nodes number
+-- with other texts of roles
+abbrev pub roles_in : RelayFile → Rows → RelayFile
+roles_in above rows = record above { roles = rows }
 
--- with what the line says
-abbrev pub relay_more : RelayFile → RelayLine → RelayFile
-relay_more above (NameText number text) =
-    record above { names = above.names ++ (number, text) ∷ [] }
-relay_more above (RoleText number text) =
-    record above { roles = above.roles ++ (number, text) ∷ [] }
-relay_more above (IssuerKey number key) =
-    record above { issuers = above.issuers ++ (number, key) ∷ [] }
-relay_more above (NodeKey number key) =
-    record above { nodes = above.nodes ++ (number, key) ∷ [] }
+-- with other keys of issuers
+abbrev pub issuers_in : RelayFile → Entries → RelayFile
+issuers_in above keys = record above { issuers = keys }
+
+-- with other keys of nodes
+abbrev pub nodes_in : RelayFile → Entries → RelayFile
+nodes_in above keys = record above { nodes = keys }
+
+-- what a line about this adds
+abbrev pub relay_adds : RelayFile → RelayKind → List ℕ → Result RelayFile FileCause
+relay_adds above kinds.Name rest =
+    with_value (names_in above) (texts_with MAX_NAMES above.names rest)
+relay_adds above kinds.Role rest =
+    with_value (roles_in above) (texts_with MAX_ROLES above.roles rest)
+relay_adds above kinds.Issuer rest =
+    with_value (issuers_in above) (keys_with MAX_ISSUERS above.issuers rest)
+relay_adds above kinds.Node rest =
+    with_value (nodes_in above) (keys_with MAX_NODES above.nodes rest)
 
 -- what a line adds
 unfoldable pub relay_step : LineStep RelayFile
 relay_step above line =
-    relay_line line >>= λ says. unless (relay_cause above says) (relay_more above says)
+    let w = word_off line in
+    some_or UnknownWord (relay_kind w.0) >>= λ kind. if_plain line (relay_adds above kind w.1)
 
 -- what a relay file means, or why it is refused: one that is too long is refused at no line
 unfoldable pub relay_in : List ℕ → Result RelayFile FileFault

@@ -1,24 +1,21 @@
 //! What a node and a relay are opened with, and how it is read from a file.
 #![tactic(auto)]
 
-mod adding;
-mod fault;
-mod key_draft;
 mod laws;
+mod limit_laws;
 mod limits;
-mod line_fault;
 mod node_text;
 mod object_drafts;
 mod object_plan;
 mod object_plans;
 mod opening;
 mod relay_file;
+mod relay_kind;
 mod relay_reading;
-mod taking;
-mod text;
 
-pub use fault::{FileCause, FileFault};
-pub use laws::{one_opening, openings_are_read};
+pub use file_lines::{FileCause, FileFault};
+pub use laws::{one_opening, openings_are_read, printed_openings_are_read};
+pub use limit_laws::limits_are;
 pub use limits::{
     MAX_ANCHORS, MAX_CHANNELS, MAX_COMMONS, MAX_FILE, MAX_ISSUERS, MAX_KEEP, MAX_LIMIT, MAX_NODES,
     MAX_OBJECTS, MAX_ROOM, MAX_SHARDS,

@@ -1,23 +1,22 @@
 //! Reading a relay file.
 
-ghost use Rattle.std.specs.Prelude.{◌≡◌, Ok, Option, codes, true};
-ghost use Rattle.node_file.specs.FileLines.{first_or, is_first_line};
+ghost use Rattle.std.specs.Prelude.{◌≡◌, IfOk, Ok, Option, codes, true};
+ghost use Rattle.file_lines.specs.FileLines.{first_or, is_first_line};
 ghost use Rattle.node_file.specs.RelayFile as meant;
-ghost use Rattle.node_file.specs.RelayFile.{no_relay, relay_in, relay_step};
-ghost use Rattle.node_file.specs.LineView.{IsReadFor, TakesLine};
+ghost use Rattle.node_file.specs.RelayFile.{no_relay, relay_adds, relay_in, relay_step};
+ghost use Rattle.file_lines.specs.LineView.{IsReadFor, TakesLine};
 ghost use Rattle.node_file.specs.RelayView.{IsRelayDraft, StandsFor, StandsSoFar};
 
-use crate::fault::{FileCause, FileFault};
-use crate::key_draft::KeyDraft;
 use crate::limits::{MAX_FILE, MAX_ISSUERS, MAX_NODES};
-use crate::line_fault::LineFault;
 use crate::relay_file::RelayFile;
-use crate::taking::{take_key, take_name, take_role};
-use crate::text::line::line_at;
-use crate::text::word::{is_first_line, is_skipped, is_word, word_off};
+use crate::relay_kind::{RelayKind, relay_kind};
+use file_lines::{
+    FileCause, FileFault, KeyDraft, LineFault, is_first_line, is_plain, is_skipped, line_at,
+    take_key, take_name, take_role, word_off,
+};
 use prin_text::Names;
 use relay_core::RelayTable;
-use std::alloc::Global;
+use std::alloc::{AllocError, Global};
 
 // What the lines say so far.
 #[derive(Drop)]
@@ -28,14 +27,14 @@ struct RelayDraft {
 }
 
 // Nothing is known.
-fn empty(alloc: Global) -> RelayDraft
-    ensures { IsRelayDraft result no_relay }
+fn empty(alloc: Global) -> Result<RelayDraft, AllocError>
+    ensures { IfOk result (λ d. IsRelayDraft d no_relay) }
 {
-    RelayDraft {
+    Ok(RelayDraft {
         issuers: KeyDraft::new(alloc, MAX_ISSUERS),
         nodes: KeyDraft::new(alloc, MAX_NODES),
-        names: Names::new(alloc),
-    }
+        names: Names::new(alloc)?,
+    })
 }
 
 // The relay file that the lines say.
@@ -51,25 +50,39 @@ fn file_of(alloc: Global, draft: RelayDraft) -> Result<RelayFile, FileFault>
     })
 }
 
+// What a line about this says is added.
+fn take_kind(
+    alloc: Global,
+    file: &mut RelayDraft,
+    kind: RelayKind,
+    rest: &[u8],
+) -> Result<(), LineFault>
+    ensures takes { (above : meant.RelayFile) → IsRelayDraft file.old above
+        → TakesLine IsRelayDraft result file.new (relay_adds above kind rest.now) }
+{
+    match kind {
+        RelayKind::Name => take_name(alloc, &mut file.names, rest),
+        RelayKind::Role => take_role(alloc, &mut file.names, rest),
+        RelayKind::Issuer => take_key(&mut file.issuers, rest),
+        RelayKind::Node => take_key(&mut file.nodes, rest),
+    }
+}
+
 // What a line says is added, or nothing.
+#[tactic(auto, unfolding(crate::specs::RelayFile::relay_step))]
 fn take_line(alloc: Global, file: &mut RelayDraft, line: &[u8]) -> Result<(), LineFault>
     ensures takes { (above : meant.RelayFile) → IsRelayDraft file.old above
         → TakesLine IsRelayDraft result file.new (relay_step above line.now) }
 {
     let (word, rest) = word_off(line);
-    if is_word(word, "name") {
-        return take_name(alloc, &mut file.names, line, rest);
+    let Some(kind) = relay_kind(word) else {
+        return Err(LineFault::Refused(FileCause::UnknownWord));
+    };
+    if is_plain(line) {
+        take_kind(alloc, file, kind, rest)
+    } else {
+        Err(LineFault::Refused(FileCause::Words))
     }
-    if is_word(word, "role") {
-        return take_role(alloc, &mut file.names, line, rest);
-    }
-    if is_word(word, "issuer") {
-        return take_key(&mut file.issuers, line, rest);
-    }
-    if is_word(word, "node") {
-        return take_key(&mut file.nodes, line, rest);
-    }
-    Err(LineFault::Refused(FileCause::UnknownWord))
 }
 
 // The first line says what file it is, and each behind it adds to it.
@@ -96,7 +109,7 @@ pub fn read_relay_file(alloc: Global, bytes: &[u8]) -> Result<RelayFile, FileFau
     if bytes.len() > MAX_FILE {
         return Err(LineFault::Refused(FileCause::Limit).at(number));
     }
-    let mut file = empty(alloc);
+    let mut file = empty(alloc)?;
     let mut begun = false;
     let mut at = 0;
     while at < bytes.len() {

@@ -33,7 +33,8 @@ use Rattle.std.proofs.Math.Path.{fun_ext}
 use Rattle.node_words.proofs.Rows.{AreNew, first_of_rows, rows_for}
 use Rattle.node_words.proofs.Drilled.{AreFew, no_words, one_word, two_words, three_words, rows_of_words}
 use Rattle.node_words.proofs.Levels.{Entry, IsFound, IsSplit, has_options, has_words, drill_rows, each_command, line_found, line_split}
-use Rattle.node_words.proofs.Meanings.{IsTaken, command_of, TextMeaning, audit_there, relay_serve_there, text_value, check_there, lanes_limits, lanes_line, mint_there, is_line, same_values, meant_found, other_command, relay_there, run_there, serve_line, serve_there, served_frames}
+use Rattle.node_words.proofs.Tasks.{Running, Relaying, Minting, Serving, RelayServing, Auditing, Drilling}
+use Rattle.node_words.proofs.Meanings.{IsTaken, asked_for, TextMeaning, audit_there, relay_serve_there, text_value, check_there, lanes_limits, lanes_line, mint_there, is_line, same_values, meant_found, relay_there, run_there, serve_line, serve_there, served_frames}
 use Rattle.std.specs.List.{flat_map}
 use Rattle.std.proofs.lemmas.List.{append-nil, append_cancel_left}
 use Rattle.std.specs.Prelude.{Contains}
@@ -244,80 +245,6 @@ found_as texts c given there are new = subst (λ (w : List Text). IsFound w c.0 
 taken_as : (texts : List Text) (c : Entry) (given : List Given) → Contains commands c → texts ≡ c.0 ∷ flat_map words_of given → AreNew c.1 [] given → IsTaken texts c.0
 taken_as texts c given there are new = (rows_for given, found_as texts c given there are new)
 
--- a task of another command is not what they mean
-not_other : {P : Type 0} (texts : List Text) (command : Text) (task : Task) → IsTaken texts command → bytes_eq (command_of task) command ≡ false → TextsMean texts task → P
-not_other texts command task taken apart is = absurd (other_command texts (command_of task) command apart (meant_found texts task is) taken)
-
-only_run : (texts : List Text) → IsTaken texts (codes "run") → (task : Task) → TextsMean texts task → (n : ℕ) × ServeFrames texts (codes "run") n
-only_run texts taken (Run n) is = (n, is)
-only_run texts taken Check is = not_other texts (codes "run") Check taken refl is
-only_run texts taken (Relay n) is = not_other texts (codes "run") (Relay n) taken refl is
-only_run texts taken (Mint m) is = not_other texts (codes "run") (Mint m) taken refl is
-only_run texts taken (Serve l) is = not_other texts (codes "run") (Serve l) taken refl is
-only_run texts taken (RelayServe l) is = not_other texts (codes "run") (RelayServe l) taken refl is
-only_run texts taken (Audit n) is = not_other texts (codes "run") (Audit n) taken refl is
-only_run texts taken (Drill d) is = not_other texts (codes "run") (Drill d) taken refl is
-
-only_relay : (texts : List Text) → IsTaken texts (codes "relay") → (task : Task) → TextsMean texts task → (n : ℕ) × ServeFrames texts (codes "relay") n
-only_relay texts taken (Relay n) is = (n, is)
-only_relay texts taken (Run n) is = not_other texts (codes "relay") (Run n) taken refl is
-only_relay texts taken Check is = not_other texts (codes "relay") Check taken refl is
-only_relay texts taken (Mint m) is = not_other texts (codes "relay") (Mint m) taken refl is
-only_relay texts taken (Serve l) is = not_other texts (codes "relay") (Serve l) taken refl is
-only_relay texts taken (RelayServe l) is = not_other texts (codes "relay") (RelayServe l) taken refl is
-only_relay texts taken (Audit n) is = not_other texts (codes "relay") (Audit n) taken refl is
-only_relay texts taken (Drill d) is = not_other texts (codes "relay") (Drill d) taken refl is
-
-only_mint : (texts : List Text) → IsTaken texts (codes "mint") → (task : Task) → TextsMean texts task → (m : MintWords) × TextsMean texts (Mint m)
-only_mint texts taken (Mint m) is = (m, is)
-only_mint texts taken (Run n) is = not_other texts (codes "mint") (Run n) taken refl is
-only_mint texts taken Check is = not_other texts (codes "mint") Check taken refl is
-only_mint texts taken (Relay n) is = not_other texts (codes "mint") (Relay n) taken refl is
-only_mint texts taken (Serve l) is = not_other texts (codes "mint") (Serve l) taken refl is
-only_mint texts taken (RelayServe l) is = not_other texts (codes "mint") (RelayServe l) taken refl is
-only_mint texts taken (Audit n) is = not_other texts (codes "mint") (Audit n) taken refl is
-only_mint texts taken (Drill d) is = not_other texts (codes "mint") (Drill d) taken refl is
-
-only_serve : (texts : List Text) → IsTaken texts (codes "serve") → (task : Task) → TextsMean texts task → (limits : Limits) × ServeLanes texts (codes "serve") limits
-only_serve texts taken (Serve l) is = (l, is)
-only_serve texts taken (Run n) is = not_other texts (codes "serve") (Run n) taken refl is
-only_serve texts taken Check is = not_other texts (codes "serve") Check taken refl is
-only_serve texts taken (Relay n) is = not_other texts (codes "serve") (Relay n) taken refl is
-only_serve texts taken (Mint m) is = not_other texts (codes "serve") (Mint m) taken refl is
-only_serve texts taken (RelayServe l) is = not_other texts (codes "serve") (RelayServe l) taken refl is
-only_serve texts taken (Audit n) is = not_other texts (codes "serve") (Audit n) taken refl is
-only_serve texts taken (Drill d) is = not_other texts (codes "serve") (Drill d) taken refl is
-
-only_relay_serve : (texts : List Text) → IsTaken texts (codes "relay-serve") → (task : Task) → TextsMean texts task → (limits : Limits) × ServeLanes texts (codes "relay-serve") limits
-only_relay_serve texts taken (RelayServe l) is = (l, is)
-only_relay_serve texts taken (Run n) is = not_other texts (codes "relay-serve") (Run n) taken refl is
-only_relay_serve texts taken Check is = not_other texts (codes "relay-serve") Check taken refl is
-only_relay_serve texts taken (Relay n) is = not_other texts (codes "relay-serve") (Relay n) taken refl is
-only_relay_serve texts taken (Mint m) is = not_other texts (codes "relay-serve") (Mint m) taken refl is
-only_relay_serve texts taken (Serve l) is = not_other texts (codes "relay-serve") (Serve l) taken refl is
-only_relay_serve texts taken (Audit n) is = not_other texts (codes "relay-serve") (Audit n) taken refl is
-only_relay_serve texts taken (Drill d) is = not_other texts (codes "relay-serve") (Drill d) taken refl is
-
-only_audit : (texts : List Text) → IsTaken texts (codes "audit") → (task : Task) → TextsMean texts task → (n : ℕ) × ServeFrames texts (codes "audit") n
-only_audit texts taken (Audit n) is = (n, is)
-only_audit texts taken (Run n) is = not_other texts (codes "audit") (Run n) taken refl is
-only_audit texts taken Check is = not_other texts (codes "audit") Check taken refl is
-only_audit texts taken (Relay n) is = not_other texts (codes "audit") (Relay n) taken refl is
-only_audit texts taken (Mint m) is = not_other texts (codes "audit") (Mint m) taken refl is
-only_audit texts taken (Serve l) is = not_other texts (codes "audit") (Serve l) taken refl is
-only_audit texts taken (RelayServe l) is = not_other texts (codes "audit") (RelayServe l) taken refl is
-only_audit texts taken (Drill d) is = not_other texts (codes "audit") (Drill d) taken refl is
-
-only_drill : (texts : List Text) → IsTaken texts (codes "drill") → (task : Task) → TextsMean texts task → (d : DrillWords) × AsksDrill texts d
-only_drill texts taken (Drill d) is = (d, is)
-only_drill texts taken (Run n) is = not_other texts (codes "drill") (Run n) taken refl is
-only_drill texts taken Check is = not_other texts (codes "drill") Check taken refl is
-only_drill texts taken (Relay n) is = not_other texts (codes "drill") (Relay n) taken refl is
-only_drill texts taken (Mint m) is = not_other texts (codes "drill") (Mint m) taken refl is
-only_drill texts taken (Serve l) is = not_other texts (codes "drill") (Serve l) taken refl is
-only_drill texts taken (RelayServe l) is = not_other texts (codes "drill") (RelayServe l) taken refl is
-only_drill texts taken (Audit n) is = not_other texts (codes "drill") (Audit n) taken refl is
-
 -- what the program reads of each command's rows
 pub record IsReadAs (m : ArgMatches) (r : Option Wanted) : Type 0 where
   pub run : (rows : List Row) → subcommand_rows_of m ≡ Some (codes "run", rows) → IsServingOf (λ n. Run n) (first_of (codes "frames") rows) r
@@ -348,12 +275,12 @@ module _ (texts : List Text) (m : ArgMatches) (r : Option Wanted) (read : IsRead
 
   run_means : MeansIt (codes "run", serving_options)
   run_means given are new =
-      serving_means texts (codes "run") (λ n. Run n) given r (λ n is. is) (only_run texts (taken_as texts (codes "run", serving_options) given run_there are new)) run_there are new
+      serving_means texts (codes "run") (λ n. Run n) given r (λ n is. is) (asked_for texts Running (taken_as texts (codes "run", serving_options) given run_there are new)) run_there are new
       (subst (λ o. IsServingOf (λ n. Run n) o r) (first_of_rows (codes "frames") given) (read.run (rows_for given) (rows_found (codes "run", serving_options) given run_there are new)))
 
   relay_means : MeansIt (codes "relay", serving_options)
   relay_means given are new =
-      serving_means texts (codes "relay") (λ n. Relay n) given r (λ n is. is) (only_relay texts (taken_as texts (codes "relay", serving_options) given relay_there are new)) relay_there are new
+      serving_means texts (codes "relay") (λ n. Relay n) given r (λ n is. is) (asked_for texts Relaying (taken_as texts (codes "relay", serving_options) given relay_there are new)) relay_there are new
       (subst (λ o. IsServingOf (λ n. Relay n) o r) (first_of_rows (codes "frames") given) (read.relay (rows_for given) (rows_found (codes "relay", serving_options) given relay_there are new)))
 
   check_means : MeansIt (codes "check", [])
@@ -372,7 +299,7 @@ module _ (texts : List Text) (m : ArgMatches) (r : Option Wanted) (read : IsRead
 
   serve_means : MeansIt (codes "serve", lane_options)
   serve_means given are new =
-      lanes_mean texts (codes "serve") (λ limits. Serve limits) given r (λ limits is. is) (only_serve texts (taken_as texts (codes "serve", lane_options) given serve_there are new)) serve_there are new
+      lanes_mean texts (codes "serve") (λ limits. Serve limits) given r (λ limits is. is) (asked_for texts Serving (taken_as texts (codes "serve", lane_options) given serve_there are new)) serve_there are new
       (subst (λ f. IsLanesOf (λ limits. Serve limits) f r) (same_texts given) (read.serve (rows_for given) (rows_found (codes "serve", lane_options) given serve_there are new)))
 
   mint_means : MeansIt (codes "mint", mint_options)
@@ -383,7 +310,7 @@ module _ (texts : List Text) (m : ArgMatches) (r : Option Wanted) (read : IsRead
       is_mint None none = λ task is.
           let taken = taken_as texts (codes "mint", mint_options) given mint_there are new in
           let found = found_as texts (codes "mint", mint_options) given mint_there are new in
-          let o = only_mint texts taken task is in
+          let o = asked_for texts Minting taken task is in
           let f = law.found_line texts (codes "mint", mint_options) o.1.0 mint_there o.1.1 in
           let same : (name : Text) → value_of name o.1.0 ≡ value_of name given = same_values texts (codes "mint") (codes "mint") o.1.0 given f found in
           none o.0 (subst (λ g. GivesMint g o.0) (fun_ext same) o.1.2)
@@ -391,12 +318,12 @@ module _ (texts : List Text) (m : ArgMatches) (r : Option Wanted) (read : IsRead
 
   relay_serve_means : MeansIt (codes "relay-serve", lane_options)
   relay_serve_means given are new =
-      lanes_mean texts (codes "relay-serve") (λ limits. RelayServe limits) given r (λ limits is. is) (only_relay_serve texts (taken_as texts (codes "relay-serve", lane_options) given relay_serve_there are new)) relay_serve_there are new
+      lanes_mean texts (codes "relay-serve") (λ limits. RelayServe limits) given r (λ limits is. is) (asked_for texts RelayServing (taken_as texts (codes "relay-serve", lane_options) given relay_serve_there are new)) relay_serve_there are new
       (subst (λ f. IsLanesOf (λ limits. RelayServe limits) f r) (same_texts given) (read.relay_serve (rows_for given) (rows_found (codes "relay-serve", lane_options) given relay_serve_there are new)))
 
   audit_means : MeansIt (codes "audit", serving_options)
   audit_means given are new =
-      serving_means texts (codes "audit") (λ n. Audit n) given r (λ n is. is) (only_audit texts (taken_as texts (codes "audit", serving_options) given audit_there are new)) audit_there are new
+      serving_means texts (codes "audit") (λ n. Audit n) given r (λ n is. is) (asked_for texts Auditing (taken_as texts (codes "audit", serving_options) given audit_there are new)) audit_there are new
       (subst (λ o. IsServingOf (λ n. Audit n) o r) (first_of_rows (codes "frames") given) (read.audit (rows_for given) (rows_found (codes "audit", serving_options) given audit_there are new)))
 
   drill_means : (ws : List Text) → texts ≡ codes "drill" ∷ ws → AreFew ws → TextMeaning texts r
@@ -409,7 +336,7 @@ module _ (texts : List Text) (m : ArgMatches) (r : Option Wanted) (read : IsRead
       asked : (l : List Text) → ws ≡ l → (task : Task) → TextsMean texts task → (d : DrillWords) × AsksDrill (codes "drill" ∷ l) d
       asked l is task means =
           let taken : IsTaken texts (codes "drill") = asked_taken task means in
-          let o = only_drill texts taken task means in
+          let o = asked_for texts Drilling taken task means in
           (o.0, subst (λ t. AsksDrill t o.0) (are ∙ ap (λ (k : List Text). codes "drill" ∷ k) is) o.1)
         where
           asked_taken : (t : Task) → TextsMean texts t → IsTaken texts (codes "drill")

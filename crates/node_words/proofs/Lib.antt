@@ -7,3 +7,4 @@ pub mod Levels
 pub mod Meanings
 pub mod Found
 pub mod Drilled
+pub mod Tasks

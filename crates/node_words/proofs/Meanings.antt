@@ -13,10 +13,11 @@ use Rattle.node_words.specs.Table.{IsPlainWord, commands}
 use Rattle.frame_link.specs.declared.limits.Limits.{Limits}
 use Rattle.node_words.specs.Words.{AreConnections, AreFrames, AreOnce, Given, GivesLimits, IsCount, IsLine, IsValue, ServeFrames, ServeLanes, TextsMean, GivesMint, HasNumber, MintWords, AsksDrill, DrillWords, IsNumber, lane_options, mint_options, serving_options, task_of, value_of, words_of}
 use Rattle.node_words.specs.Words.{Task, Run, Check, Relay, Mint, Serve, RelayServe, Audit, Drill}
-use Rattle.node_words.proofs.Options.{other_text, same_text, two_texts}
+use Rattle.node_words.proofs.Options.{other_text, same_text}
 use Rattle.node_words.proofs.Rows.{AreNew, all_are_new, all_known, are_once, first_of_rows, rows_for}
 use Rattle.node_words.proofs.Drilled.{rows_of_words}
 use Rattle.node_words.proofs.Levels.{Entry, IsFound, IsTakenAs, drill_found, line_found}
+use Rattle.node_words.proofs.Tasks.{Command, Running, Checking, Relaying, Minting, Serving, RelayServing, Auditing, Drilling, Asked, asked_of, command_of, command_named, command_named-named, named, task_for}
 
 -- ---- values
 
@@ -98,17 +99,6 @@ relay_serve_there = (5, omega arith, refl)
 pub audit_there : Contains commands (codes "audit", serving_options)
 audit_there = (6, omega arith, refl)
 
--- the name of the command that is asked for
-abbrev pub command_of : Task → Text
-command_of (Run n) = codes "run"
-command_of Check = codes "check"
-command_of (Relay n) = codes "relay"
-command_of (Mint m) = codes "mint"
-command_of (Serve limits) = codes "serve"
-command_of (RelayServe limits) = codes "relay-serve"
-command_of (Audit n) = codes "audit"
-command_of (Drill d) = codes "drill"
-
 -- what means something is a line that is taken
 abbrev pub IsTaken : List Text → Text → Type 0
 IsTaken words command = (rows : List Row) × IsTakenAs words command rows
@@ -134,7 +124,7 @@ asked_drill words d (seed, requests, lanes, are, gives) = (
       (drill_found seed requests lanes (number_plain (2 ^ 64) seed d.seed (omega arith) gives.seed) (number_plain 10001 requests d.requests (omega arith) gives.requests) (number_plain 17 lanes d.lanes (omega arith) gives.lanes)),
 )
 
-pub meant_found : (words : List Text) (wanted : Task) → TextsMean words wanted → IsTaken words (command_of wanted)
+pub meant_found : (words : List Text) (wanted : Task) → TextsMean words wanted → IsTaken words (named (command_of wanted))
 meant_found words (Run n) is = (rows_for is.0, found_line words (codes "run", serving_options) is.0 run_there is.1)
 meant_found words Check is = (rows_for is.0, found_line words (codes "check", []) is.0 check_there is.1)
 meant_found words (Mint m) is = (rows_for is.0, found_line words (codes "mint", mint_options) is.0 mint_there is.1)
@@ -144,9 +134,18 @@ meant_found words (RelayServe limits) is = (rows_for is.0, found_line words (cod
 meant_found words (Audit n) is = (rows_for is.0, found_line words (codes "audit", serving_options) is.0 audit_there is.1)
 meant_found words (Drill d) is = asked_drill words d is
 
--- no words are two commands
-pub other_command : (words : List Text) (a b : Text) → bytes_eq a b ≡ false → IsTaken words a → IsTaken words b → ⊥
-other_command words a b apart x y = two_texts a b apart (same_command words a b x.0 y.0 x.1 y.1)
+-- words that are taken as a command mean nothing but a task of this command
+pub of_command : (words : List Text) (c : Command) → IsTaken words (named c) → (t : Task) → TextsMean words t → (x : Asked c) × (task_for c x ≡ t)
+of_command words c taken t is =
+    let found = meant_found words t is in
+    let names : named (command_of t) ≡ named c = same_command words (named (command_of t)) (named c) found.0 taken.0 found.1 taken.1 in
+    let same : command_of t ≡ c = sym (command_named-named (command_of t)) ∙ ap command_named names ∙ command_named-named c in
+    subst (λ (k : Command). (x : Asked k) × (task_for k x ≡ t)) same (asked_of t)
+
+pub asked_for : (words : List Text) (c : Command) → IsTaken words (named c) → (t : Task) → TextsMean words t → (x : Asked c) × TextsMean words (task_for c x)
+asked_for words c taken t is =
+    let o = of_command words c taken t is in
+    (o.0, subst (TextsMean words) (sym o.1) is)
 
 -- ---- commands that serve
 
@@ -220,9 +219,6 @@ same_lanes : (words : List Text) (command : Text) (m n : Limits) → Contains co
 same_lanes words command m n there x y =
     same_limits (λ name. value_of name x.0) m n x.2 (lanes_limits words command x.0 n there (found_line words (command, lane_options) x.0 there x.1) y)
 
-cross : (words : List Text) (a b : Task) → TextsMean words a → TextsMean words b → bytes_eq (command_of a) (command_of b) ≡ false → a ≡ b
-cross words a b x y apart = absurd (other_command words (command_of a) (command_of b) apart (meant_found words a x) (meant_found words b y))
-
 same_number : (bound : ℕ) (o : Option Text) (m n : ℕ) → bound ≤ 2 ^ 64 → HasNumber bound o m → HasNumber bound o n → m ≡ n
 same_number bound None m n small a b = absurd a
 same_number bound (Some v) m n small a b = decimal_injective m n (omega (arith, a.1, small)) (omega (arith, b.1, small)) (sym a.0 ∙ b.0)
@@ -253,74 +249,26 @@ same_drill words m n (s, r, l, are, a) (s', r', l', are', b) = by
     by : m.seed ≡ n.seed → m.requests ≡ n.requests → m.lanes ≡ n.lanes → m ≡ n
     by seed requests lanes = λ i. record { seed = seed i; requests = requests i; lanes = lanes i }
 
-pub one_meaning : (words : List Text) (a b : Task) → TextsMean words a → TextsMean words b → a ≡ b
-one_meaning words (Run m) (Run n) x y = ap (λ k. Run k) (same_serving words (codes "run") m n run_there x y)
-one_meaning words (Run m) Check x y = cross words (Run m) Check x y refl
-one_meaning words (Run m) (Relay n) x y = cross words (Run m) (Relay n) x y refl
-one_meaning words (Run m) (Mint n) x y = cross words (Run m) (Mint n) x y refl
-one_meaning words (Run m) (Serve n) x y = cross words (Run m) (Serve n) x y refl
-one_meaning words (Run m) (RelayServe n) x y = cross words (Run m) (RelayServe n) x y refl
-one_meaning words (Run m) (Audit n) x y = cross words (Run m) (Audit n) x y refl
-one_meaning words (Run m) (Drill n) x y = cross words (Run m) (Drill n) x y refl
-one_meaning words Check (Run n) x y = cross words Check (Run n) x y refl
-one_meaning words Check Check x y = refl
-one_meaning words Check (Relay n) x y = cross words Check (Relay n) x y refl
-one_meaning words Check (Mint n) x y = cross words Check (Mint n) x y refl
-one_meaning words Check (Serve n) x y = cross words Check (Serve n) x y refl
-one_meaning words Check (RelayServe n) x y = cross words Check (RelayServe n) x y refl
-one_meaning words Check (Audit n) x y = cross words Check (Audit n) x y refl
-one_meaning words Check (Drill n) x y = cross words Check (Drill n) x y refl
-one_meaning words (Relay m) (Run n) x y = cross words (Relay m) (Run n) x y refl
-one_meaning words (Relay m) Check x y = cross words (Relay m) Check x y refl
-one_meaning words (Relay m) (Relay n) x y = ap (λ k. Relay k) (same_serving words (codes "relay") m n relay_there x y)
-one_meaning words (Relay m) (Mint n) x y = cross words (Relay m) (Mint n) x y refl
-one_meaning words (Relay m) (Serve n) x y = cross words (Relay m) (Serve n) x y refl
-one_meaning words (Relay m) (RelayServe n) x y = cross words (Relay m) (RelayServe n) x y refl
-one_meaning words (Relay m) (Audit n) x y = cross words (Relay m) (Audit n) x y refl
-one_meaning words (Relay m) (Drill n) x y = cross words (Relay m) (Drill n) x y refl
-one_meaning words (Mint m) (Run n) x y = cross words (Mint m) (Run n) x y refl
-one_meaning words (Mint m) Check x y = cross words (Mint m) Check x y refl
-one_meaning words (Mint m) (Relay n) x y = cross words (Mint m) (Relay n) x y refl
-one_meaning words (Mint m) (Mint n) x y =
+same_asked : (words : List Text) (c : Command) (x y : Asked c) → TextsMean words (task_for c x) → TextsMean words (task_for c y) → x ≡ y
+same_asked words Running m n x y = same_serving words (codes "run") m n run_there x y
+same_asked words Checking m n x y = refl
+same_asked words Relaying m n x y = same_serving words (codes "relay") m n relay_there x y
+same_asked words Minting m n x y =
     let f = found_line words (codes "mint", mint_options) x.0 mint_there x.1 in
     let g = found_line words (codes "mint", mint_options) y.0 mint_there y.1 in
-    ap (λ k. Mint k) (same_mint (λ name. value_of name x.0) (λ name. value_of name y.0) m n (same_values words (codes "mint") (codes "mint") x.0 y.0 f g) x.2 y.2)
-one_meaning words (Mint m) (Serve n) x y = cross words (Mint m) (Serve n) x y refl
-one_meaning words (Mint m) (RelayServe n) x y = cross words (Mint m) (RelayServe n) x y refl
-one_meaning words (Mint m) (Audit n) x y = cross words (Mint m) (Audit n) x y refl
-one_meaning words (Mint m) (Drill n) x y = cross words (Mint m) (Drill n) x y refl
-one_meaning words (Serve m) (Run n) x y = cross words (Serve m) (Run n) x y refl
-one_meaning words (Serve m) Check x y = cross words (Serve m) Check x y refl
-one_meaning words (Serve m) (Relay n) x y = cross words (Serve m) (Relay n) x y refl
-one_meaning words (Serve m) (Mint n) x y = cross words (Serve m) (Mint n) x y refl
-one_meaning words (Serve m) (Serve n) x y = ap (λ k. Serve k) (same_lanes words (codes "serve") m n serve_there x y)
-one_meaning words (Serve m) (RelayServe n) x y = cross words (Serve m) (RelayServe n) x y refl
-one_meaning words (Serve m) (Audit n) x y = cross words (Serve m) (Audit n) x y refl
-one_meaning words (Serve m) (Drill n) x y = cross words (Serve m) (Drill n) x y refl
-one_meaning words (RelayServe m) (Run n) x y = cross words (RelayServe m) (Run n) x y refl
-one_meaning words (RelayServe m) Check x y = cross words (RelayServe m) Check x y refl
-one_meaning words (RelayServe m) (Relay n) x y = cross words (RelayServe m) (Relay n) x y refl
-one_meaning words (RelayServe m) (Mint n) x y = cross words (RelayServe m) (Mint n) x y refl
-one_meaning words (RelayServe m) (Serve n) x y = cross words (RelayServe m) (Serve n) x y refl
-one_meaning words (RelayServe m) (RelayServe n) x y = ap (λ k. RelayServe k) (same_lanes words (codes "relay-serve") m n relay_serve_there x y)
-one_meaning words (RelayServe m) (Audit n) x y = cross words (RelayServe m) (Audit n) x y refl
-one_meaning words (RelayServe m) (Drill n) x y = cross words (RelayServe m) (Drill n) x y refl
-one_meaning words (Audit m) (Run n) x y = cross words (Audit m) (Run n) x y refl
-one_meaning words (Audit m) Check x y = cross words (Audit m) Check x y refl
-one_meaning words (Audit m) (Relay n) x y = cross words (Audit m) (Relay n) x y refl
-one_meaning words (Audit m) (Mint n) x y = cross words (Audit m) (Mint n) x y refl
-one_meaning words (Audit m) (Serve n) x y = cross words (Audit m) (Serve n) x y refl
-one_meaning words (Audit m) (RelayServe n) x y = cross words (Audit m) (RelayServe n) x y refl
-one_meaning words (Audit m) (Audit n) x y = ap (λ k. Audit k) (same_serving words (codes "audit") m n audit_there x y)
-one_meaning words (Audit m) (Drill n) x y = cross words (Audit m) (Drill n) x y refl
-one_meaning words (Drill m) (Run n) x y = cross words (Drill m) (Run n) x y refl
-one_meaning words (Drill m) Check x y = cross words (Drill m) Check x y refl
-one_meaning words (Drill m) (Relay n) x y = cross words (Drill m) (Relay n) x y refl
-one_meaning words (Drill m) (Mint n) x y = cross words (Drill m) (Mint n) x y refl
-one_meaning words (Drill m) (Serve n) x y = cross words (Drill m) (Serve n) x y refl
-one_meaning words (Drill m) (RelayServe n) x y = cross words (Drill m) (RelayServe n) x y refl
-one_meaning words (Drill m) (Audit n) x y = cross words (Drill m) (Audit n) x y refl
-one_meaning words (Drill m) (Drill n) x y = ap (λ k. Drill k) (same_drill words m n x y)
+    same_mint (λ name. value_of name x.0) (λ name. value_of name y.0) m n (same_values words (codes "mint") (codes "mint") x.0 y.0 f g) x.2 y.2
+same_asked words Serving m n x y = same_lanes words (codes "serve") m n serve_there x y
+same_asked words RelayServing m n x y = same_lanes words (codes "relay-serve") m n relay_serve_there x y
+same_asked words Auditing m n x y = same_serving words (codes "audit") m n audit_there x y
+same_asked words Drilling m n x y = same_drill words m n x y
+
+pub one_meaning : (words : List Text) (a b : Task) → TextsMean words a → TextsMean words b → a ≡ b
+one_meaning words a b x y =
+    let c = command_of a in
+    let one = asked_of a in
+    let other = of_command words c (meant_found words a x) b y in
+    let same : one.0 ≡ other.0 = same_asked words c one.0 other.0 (subst (TextsMean words) (sym one.1) x) (subst (TextsMean words) (sym other.1) y) in
+    sym one.1 ∙ ap (task_for c) same ∙ other.1
 
 -- ---- what is read
 

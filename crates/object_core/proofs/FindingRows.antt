@@ -1,11 +1,11 @@
 -- The rows of numbers: how they are made, and which is found.
-use Rattle.std.proofs.Common.{◌≡◌, ◌≢◌, ℕ, zero, suc, ◌+◌, ◌<◌, ◌≤◌, false, not, cond, List, [], ◌∷◌, ◌++◌, length, map, take, get_or, Some, Result, Ok, Err, slice_get, refl, sym, ap, ap₂, subst, ◌∙◌, arith, inl, inr, ◌⊎◌}
-use Rattle.std.specs.Prelude.{AllPairs, Contains, MatchResult, ◌==◌}
-use Rattle.std.specs.List.{position_or_len}
+use Rattle.std.proofs.Common.{◌≡◌, ◌≢◌, ℕ, zero, suc, ◌+◌, ◌<◌, true, false, not, cond, Option, None, List, [], ◌∷◌, ◌++◌, length, map, take, get_or, Some, Result, Ok, Err, slice_get, refl, sym, ap, ap₂, subst, ◌∙◌, arith, inl, inr, ◌⊎◌}
+use Rattle.std.specs.Prelude.{AllPairs, Contains, MatchOption, MatchResult, ltb, ◌==◌}
+use Rattle.std.specs.List.{position, position_or_len}
 use Rattle.std.specs.List.Sorted.{IsSearchInRange, IsBinarySearchResult, IsPermutation}
 use Rattle.std.specs.Ordering.{nat_cmp}
 use Rattle.std.proofs.lemmas.Bool.{cases_lt, eq-eqb}
-use Rattle.std.proofs.lemmas.Bool.Decides.{eqb_tells}
+use Rattle.std.proofs.lemmas.Bool.Decides.{eqb_tells, nat_tests}
 use Rattle.std.proofs.lemmas.List.{get_or_default, length-map, length-take-le, map-append, map_more}
 use Rattle.std.proofs.lemmas.List.Elements.{All-append, All-cons, All-nil, All-contains, Contains-append_left, Contains-append_right}
 use Rattle.std.proofs.lemmas.List.Folds.{find_at}
@@ -123,6 +123,18 @@ module _ (ns : List ℕ) (rows : List Row) (are : AreRowsOf ns rows) (n : ℕ) w
 
   pub number_missing : LacksNumber rows n → (place : ℕ) → slice_get ns place ≡ Some n → ⊥
   number_missing lacks place is = lacks place (are.complete place n is)
+
+  -- what the rows tell of a number is its first place among all
+  pub place_told : AllPairs (λ (a : ℕ) (b : ℕ). a ≢ b) ns → (r : Option ℕ) → MatchOption r (LacksNumber rows n) (λ place. Contains rows (row n place)) → r ≡ position (λ m. m == n) ns
+  place_told apart None lacks =
+      let past = place_missing ns n (number_missing lacks) in
+      let test : ltb (length ns) (length ns) ≡ false = grind (arith, nat_tests) in
+      sym (ap (λ k. cond (ltb k (length ns)) (Some k) None) past ∙ ap (λ b. cond b (Some (length ns)) None) test)
+  place_told apart (Some place) there =
+      let at = number_there place there in
+      let within : place < length ns = slice_get_within ns place n at in
+      let test : ltb place (length ns) ≡ true = grind (arith, nat_tests, within) in
+      sym (ap (λ k. cond (ltb k (length ns)) (Some k) None) (place_found ns n place apart at) ∙ ap (λ b. cond b (Some place) None) test)
 
 -- the first object of a number stands at the first place of the number
 position_in : (n : ℕ) (fs : List ObjectFixed) → position_or_len (λ (f : ObjectFixed). f.plan.number == n) fs ≡ position_or_len (λ m. m == n) (numbers_of fs)

@@ -5,3 +5,5 @@ pub mod ListPlaces
 pub mod FindingRows
 pub mod OnShelf
 pub mod Granting
+pub mod Halves
+pub mod Operations

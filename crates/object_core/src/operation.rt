@@ -2,6 +2,7 @@
 
 ghost use Rattle.std.specs.Prelude.{◌≡◌};
 ghost use Rattle.object_core.specs.Operation as math;
+ghost use Rattle.object_core.specs.Spelling as spelling;
 ghost use Rattle.object_core.specs.View.{operation};
 
 use prin_term::Entry;
@@ -14,6 +15,9 @@ const WRITE: u8 = 2;
 const CONTROL: u8 = 4;
 
 const MANAGE: u8 = 8;
+
+/// The highest byte that names an operation; the lowest is 1.
+pub const LAST_KIND: u8 = 7;
 
 /// What is asked of an object, or at it of the node.
 #[derive(Debug, Drop)]
@@ -43,5 +47,20 @@ pub fn right_of(op: &Op) -> u8
         Op::Write(_) => WRITE,
         Op::SetList(_) => CONTROL,
         Op::Hold | Op::Discard(_) | Op::Forget(_) | Op::Sweep => MANAGE,
+    }
+}
+
+/// The byte that names an operation, in the order of `Op`.
+pub fn kind_of(op: &Op) -> u8
+    ensures { result ≡ spelling.kind_of (operation op.now) }
+{
+    match op {
+        Op::Read => 1,
+        Op::Write(_) => 2,
+        Op::SetList(_) => 3,
+        Op::Hold => 4,
+        Op::Discard(_) => 5,
+        Op::Forget(_) => 6,
+        Op::Sweep => LAST_KIND,
     }
 }

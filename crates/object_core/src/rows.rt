@@ -9,9 +9,9 @@ use std::alloc::{AllocError, Global};
 
 /// The number of an object, and its place in the list of all.
 #[derive(Clone, Copy, Debug)]
-pub(crate) struct Row {
-    pub(crate) number: u32,
-    pub(crate) place: usize,
+pub struct Row {
+    pub number: u32,
+    pub place: usize,
 }
 
 // One row an object, in the order of places.
@@ -26,8 +26,8 @@ fn list_rows(alloc: Global, objects: &[Object]) -> Result<Vec<Row>, AllocError>
     Ok(rows)
 }
 
-/// One row an object, ascending by number.
-pub(crate) fn rows_of(alloc: Global, objects: &[Object]) -> Result<Vec<Row>, AllocError>
+/// One row an object, ascending by number. All memory is taken here.
+pub fn rows_of(alloc: Global, objects: &[Object]) -> Result<Vec<Row>, AllocError>
     ensures rows { IfOk result
         (λ v. AreRowsOf (numbers_of (map fixed_of objects.now)) v.items) }
     ensures ascending { IfOk result (λ v. AreAscending v.items) }
@@ -46,8 +46,8 @@ fn find_row(rows: &[Row], number: u32) -> Result<usize, usize>
     rows.binary_search_by_key(&number, |row| row.number)
 }
 
-/// The place in a row of the number.
-pub(crate) fn place_in(rows: &[Row], number: u32) -> Option<usize>
+/// The place in a row of the number, found by halves.
+pub fn place_in(rows: &[Row], number: u32) -> Option<usize>
     requires { AreAscending rows.now }
     ensures { MatchOption result (LacksNumber rows.now number)
         (λ place. Contains rows.now (row number place)) }

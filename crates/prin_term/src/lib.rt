@@ -3,6 +3,7 @@
 
 mod fault;
 mod laws;
+mod limit_laws;
 mod limits;
 mod optional;
 mod reading;
@@ -12,6 +13,7 @@ mod writing;
 
 pub use fault::TermFault;
 pub use laws::{one_spelling, prefixes_are_short, terms_are_read};
+pub use limit_laws::limits_are;
 pub use limits::{CERT_NODES, ENTRY_NODES, MAX_DEPTH, QUOTED_NODES};
 pub use optional::{read_optional_term, write_optional_term};
 pub use reading::read_term;

@@ -4,6 +4,7 @@
 mod fault;
 mod label;
 mod laws;
+mod limit_laws;
 mod limits;
 mod list;
 mod names;
@@ -21,6 +22,7 @@ pub use laws::{
     faults_are_exact, lists_are_read, principals_are_read, printed_lists_are_read,
     printed_principals_are_read,
 };
+pub use limit_laws::limits_are;
 pub use limits::{MAX_ENTRIES, MAX_NAMES, MAX_ROLES, MAX_TEXT};
 pub use list::{print_list, read_list};
 pub use names::Names;

@@ -1,6 +1,6 @@
 //! The texts of names and of roles.
 
-ghost use Rattle.std.specs.Prelude.{◌≡◌, ◌⊎◌, [], IfErr, OnOk, OnErr, Some, None};
+ghost use Rattle.std.specs.Prelude.{◌≡◌, ◌⊎◌, [], IfErr, IfOk, IsOk, OnOk, OnErr, Some, None};
 ghost use Rattle.std.specs.Prelude.{slice_get};
 ghost use Rattle.std.specs.Option.{option_map};
 ghost use Rattle.prin_text.specs.declared.fault.NamesFault.TheVariants.{NoMemory};
@@ -10,7 +10,7 @@ use crate::fault::NamesFault;
 use crate::label::Label;
 use crate::limits::{MAX_NAMES, MAX_ROLES};
 use crate::table::Table;
-use std::alloc::Global;
+use std::alloc::{AllocError, Global};
 use std::collections::btree_map::Iter;
 use std::fmt;
 use std::marker::Model;
@@ -34,14 +34,15 @@ impl Model for Names {
 }
 
 impl Names {
-    /// No texts.
-    pub fn new(alloc: Global) -> Names
-        ensures { result ≡ record { names = []; roles = [] } }
+    /// No texts. Memory is taken for each text as it is added, and none before.
+    pub fn new(alloc: Global) -> Result<Names, AllocError>
+        ensures succeeds { IsOk result }
+        ensures empty { IfOk result (λ n. n ≡ record { names = []; roles = [] }) }
     {
-        Names {
+        Ok(Names {
             names: Table::new(alloc),
             roles: Table::new(alloc),
-        }
+        })
     }
 
     /// Gives a name a text of its own.

@@ -1,4 +1,4 @@
-use prin_term::{Anchor, Statement, Term};
+use prin_term::{Anchor, Term};
 use std::alloc::Global;
 use std::sync::Arc;
 use std::test::Fail;
@@ -212,13 +212,7 @@ const CASES: &[Case] = &[
 ];
 
 fn cert_of(alloc: Global, issuer: u32, left: Term, right: Term) -> Result<Arc<Cert>, Fail> {
-    let body = CertBody {
-        issuer,
-        quoted: None,
-        statement: Statement { left, right },
-        until: 2000,
-        serial: 1,
-    };
+    let body = CertBody::says(issuer, None, left, right, 2000, 1);
     Ok(Arc::new(alloc, Cert::of(alloc, body)?)?)
 }
 

@@ -54,7 +54,7 @@ fn certificates_may_come_one_after_the_other(rt: HostRuntime) -> Result<(), Fail
 }
 
 #[test]
-fn a_large_question_is_decided_by_hints_alone(rt: HostRuntime) -> Result<(), Fail> {
+fn a_large_question_is_decided_alike_by_both(rt: HostRuntime) -> Result<(), Fail> {
     let mut deciders = both_deciders(rt.alloc())?;
     for &case in LARGE {
         assert!(rt; is_answered(rt.alloc(), &mut deciders, case)?, "{}", case.0);

@@ -1,4 +1,4 @@
-use prin_term::{Statement, Term};
+use prin_term::Term;
 use proof_cache::*;
 use std::alloc::Global;
 use std::sync::Arc;
@@ -7,17 +7,7 @@ use stmt_codec::{Cert, CertBody};
 
 // Key 1 says that key 2 speaks for name 10.
 pub(crate) fn hand_off(alloc: Global, until: u64) -> Result<Arc<Cert>, Fail> {
-    let statement = Statement {
-        left: Term::Key(2),
-        right: Term::Name(10),
-    };
-    let body = CertBody {
-        issuer: 1,
-        quoted: None,
-        statement,
-        until,
-        serial: 1,
-    };
+    let body = CertBody::says(1, None, Term::Key(2), Term::Name(10), until, 1);
     let cert = Cert::of(alloc, body)?;
     Ok(Arc::new(alloc, cert)?)
 }

@@ -17,7 +17,7 @@ use Rattle.byte_fields.specs.declared.fault.FormatFault.TheVariants as bodies
 use Rattle.sealed_cert.specs.declared.fault.SealFault.{SealFault}
 use Rattle.sealed_cert.specs.declared.fault.SealFault.TheVariants.{Malformed, UnknownIssuer, BadSeal, WrongKind, NoMemory}
 use Rattle.sealed_cert.specs.Seals.{sealed_text, Spells, OpensIssued}
-use Rattle.sealed_cert.specs.Refusals.{seen_as, kind_at, ends_in_tag, carried, is_tagged, checked, known, opened_issued}
+use Rattle.sealed_cert.specs.Refusals.{seen_as, kind_at, ends_in_tag, body_and_tag_at, body_of_kind, is_tagged, checked, known, opened_issued}
 use Rattle.sealed_cert.proofs.Opened.{IsCarried, carried_takes, issued_takes, issued_again, front_is}
 use Rattle.sealed_cert.proofs.Apart.{relayed_is_wrong}
 use Rattle.sealed_cert.proofs.Judged.{issued_unknown, issued_bad}
@@ -59,8 +59,8 @@ tag_err bytes at f e = elim (chosen (nat_lt (length bytes - at) 32) (Err (Malfor
   | inr long ↦ subst (Early bytes) (sym (refused_err (nat_lt (at + 32) (length bytes)) (Malformed (at + 32)) f at long.1).1) tt
 ]
 
-carried_err : (bytes : List ℕ) (f : SealFault) → carried 1 2 bytes ≡ Err f → Early bytes f
-unfolding carried
+carried_err : (bytes : List ℕ) (f : SealFault) → body_of_kind 1 2 bytes ≡ Err f → Early bytes f
+unfolding body_of_kind body_and_tag_at
 carried_err bytes f e = elim (bind_err (kind_at 1 2 bytes) _ f e) [
   | inl kind ↦ kind_err bytes f kind
   | inr begin ↦ elim (bind_err (with_fault seen_as (body_at bytes begin.0)) _ f begin.2) [
@@ -106,7 +106,7 @@ judged_behind issuers bytes x f (Some key) is e went =
 
 opened_err : (issuers : Entries) (bytes : List ℕ) (f : SealFault) → IsBytes bytes → opened_issued issuers bytes ≡ Err f → Cause issuers bytes f
 unfolding opened_issued
-opened_err issuers bytes f fits e = elim (bind_err (carried 1 2 bytes) _ f e) [
+opened_err issuers bytes f fits e = elim (bind_err (body_of_kind 1 2 bytes) _ f e) [
   | inl early ↦ early_cause issuers bytes f (carried_err bytes f early)
   | inr x ↦ judged_behind issuers bytes x.0 f (key_of issuers x.0.0.issuer) (carried_takes 1 2 bytes x.0 fits x.1) refl x.2
 ]

@@ -2,3 +2,8 @@ pub mod Short
 pub mod Cases
 pub mod Asking
 pub mod ByTable
+pub mod Bodies
+pub mod Opening
+pub mod Counting
+pub mod Coming
+pub mod Keeping

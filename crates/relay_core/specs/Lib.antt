@@ -4,3 +4,6 @@ pub mod Messages
 pub mod Asked
 pub mod Links
 pub mod Serving
+pub mod Credentials
+pub mod Presenting
+pub mod Opened

@@ -11,7 +11,7 @@ use Rattle.stmt_codec.proofs.Once.{body_once}
 use Rattle.sealed_cert.specs.declared.fault.SealFault.{SealFault}
 use Rattle.sealed_cert.specs.declared.fault.SealFault.TheVariants.{Malformed, WrongKind}
 use Rattle.sealed_cert.specs.Seals.{sealed_text, sealed, IsSealed, Opens, OpensIssued}
-use Rattle.sealed_cert.specs.Refusals.{kind_at, carried, checked, opened, opened_issued}
+use Rattle.sealed_cert.specs.Refusals.{kind_at, body_and_tag_at, body_of_kind, checked, opened, opened_issued}
 use Rattle.sealed_cert.proofs.Opened.{opened_again, issued_again}
 
 pub relayed_opens : (key : List ℕ) (c : Certificate) → HasBodySpelling c → IsWithinLimits c → opened key (sealed 2 key c) ≡ Ok c
@@ -21,18 +21,18 @@ pub issued_opens : (entries : Entries) (key : List ℕ) (c : Certificate) → Ha
 issued_opens entries key c numbers limits is =
     issued_again entries (sealed 1 key c) c (record { key = key; known = is; seal = record { text = refl; numbers = numbers; limits = limits } })
 
-pub wrong_kind : (kind other : ℕ) (rest : List ℕ) → carried kind other (other ∷ rest) ≡ Err (WrongKind other)
-unfolding carried kind_at
+pub wrong_kind : (kind other : ℕ) (rest : List ℕ) → body_of_kind kind other (other ∷ rest) ≡ Err (WrongKind other)
+unfolding body_of_kind body_and_tag_at kind_at
 wrong_kind kind other rest =
     let same : (other == other) ≡ true = eq-eqb other other refl in
     rw (byte_again (Malformed 0) (other ∷ rest) rest 0 other refl, same) refl
 
 -- a refusal of what is carried is the answer
-pub relayed_refused : (key bytes : List ℕ) (f : SealFault) → carried 2 1 bytes ≡ Err f → opened key bytes ≡ Err f
+pub relayed_refused : (key bytes : List ℕ) (f : SealFault) → body_of_kind 2 1 bytes ≡ Err f → opened key bytes ≡ Err f
 unfolding opened
 relayed_refused key bytes f e = ap (λ (r : Result (Certificate × ℕ) SealFault). r >>= checked key bytes) e
 
-pub issued_refused : (entries : Entries) (bytes : List ℕ) (f : SealFault) → carried 1 2 bytes ≡ Err f → opened_issued entries bytes ≡ Err f
+pub issued_refused : (entries : Entries) (bytes : List ℕ) (f : SealFault) → body_of_kind 1 2 bytes ≡ Err f → opened_issued entries bytes ≡ Err f
 unfolding opened_issued
 issued_refused entries bytes f e = rw e refl
 

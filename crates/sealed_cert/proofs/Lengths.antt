@@ -14,7 +14,7 @@ use Rattle.stmt_codec.proofs.Cuts.{Split, whole, cut, splits}
 use Rattle.sealed_cert.specs.declared.fault.SealFault.{SealFault}
 use Rattle.sealed_cert.specs.declared.fault.SealFault.TheVariants.{Malformed}
 use Rattle.sealed_cert.specs.Seals.{sealed_text, sealed, IsSealed}
-use Rattle.sealed_cert.specs.Refusals.{kind_at, ends_in_tag, carried, opened, opened_issued}
+use Rattle.sealed_cert.specs.Refusals.{kind_at, ends_in_tag, body_and_tag_at, body_of_kind, opened, opened_issued}
 use Rattle.sealed_cert.proofs.Opened.{kind_again}
 use Rattle.sealed_cert.proofs.Apart.{relayed_refused, issued_refused}
 
@@ -32,14 +32,14 @@ tag_long bytes at more =
 pub some : (b : ℕ) (l bytes : List ℕ) → bytes ≡ b ∷ l → 1 ≤ length bytes
 some b l bytes e = omega (arith, ap length e)
 
-pub none_carried : (kind other : ℕ) → carried kind other [] ≡ Err (Malformed 0)
-unfolding carried kind_at byte_at
+pub none_carried : (kind other : ℕ) → body_of_kind kind other [] ≡ Err (Malformed 0)
+unfolding body_of_kind body_and_tag_at kind_at byte_at
 none_carried kind other = refl
 
 -- a whole body, and something else than a tag behind it
 pub tail_refused : (kind other : ℕ) (bytes left : List ℕ) (c : Certificate) (f : SealFault) → (kind == other) ≡ false → HasBodySpelling c → IsWithinLimits c → bytes ≡ kind ∷ (body_spelling c ++ left)
-    → ends_in_tag bytes (1 + length (body_spelling c)) ≡ Err f → carried kind other bytes ≡ Err f
-unfolding carried
+    → ends_in_tag bytes (1 + length (body_spelling c)) ≡ Err f → body_of_kind kind other bytes ≡ Err f
+unfolding body_of_kind body_and_tag_at
 tail_refused kind other bytes left c f differs numbers limits e tail =
     let first = kind_again kind other bytes (body_spelling c ++ left) differs e in
     let start : drop 1 bytes ≡ body_spelling c ++ left = behind bytes (kind ∷ []) (body_spelling c ++ left) 0 e in
@@ -48,15 +48,15 @@ tail_refused kind other bytes left c f differs numbers limits e tail =
 
 -- a body that ends too early
 body_refused : (kind other : ℕ) (bytes front more : List ℕ) (c : Certificate) → (kind == other) ≡ false → HasBodySpelling c → IsWithinLimits c → bytes ≡ kind ∷ front → body_spelling c ≡ front ++ more → 0 < length more
-    → carried kind other bytes ≡ Err (Malformed (length bytes))
-unfolding carried
+    → body_of_kind kind other bytes ≡ Err (Malformed (length bytes))
+unfolding body_of_kind body_and_tag_at
 body_refused kind other bytes front more c differs numbers limits e text rest =
     let first = kind_again kind other bytes front differs e in
     let start : drop 1 bytes ≡ front = behind bytes (kind ∷ []) front 0 e in
     let body = body_cut bytes more 1 c (some kind front bytes e) numbers limits (text ∙ ap (λ (l : List ℕ). l ++ more) (sym start)) rest in
     rw (first, body) refl
 
-pub carried_cut : (kind other : ℕ) (key bytes more : List ℕ) (c : Certificate) → (kind == other) ≡ false → HasBodySpelling c → IsWithinLimits c → sealed kind key c ≡ bytes ++ more → 0 < length more → carried kind other bytes ≡ Err (Malformed (length bytes))
+pub carried_cut : (kind other : ℕ) (key bytes more : List ℕ) (c : Certificate) → (kind == other) ≡ false → HasBodySpelling c → IsWithinLimits c → sealed kind key c ≡ bytes ++ more → 0 < length more → body_of_kind kind other bytes ≡ Err (Malformed (length bytes))
 carried_cut kind other key [] more c differs numbers limits e rest = none_carried kind other
 carried_cut kind other key (b ∷ front) more c differs numbers limits e rest =
     let tag : List ℕ = tag_of key (sealed_text kind c) in
@@ -69,13 +69,13 @@ carried_cut kind other key (b ∷ front) more c differs numbers limits e rest =
     shorter : (b : ℕ) (front text left more tag : List ℕ) → length tag ≡ 32 → front ≡ text ++ left → left ++ more ≡ tag → 0 < length more → length (b ∷ front) - (1 + length text) < 32
     shorter b front text left more tag len f t rest = omega (arith, len, ap length f, ap length t, length-append text left, length-append left more)
 
-    by : (tag : List ℕ) → length tag ≡ 32 → b ∷ front ≡ kind ∷ front → Split front more (body_spelling c) tag → carried kind other (b ∷ front) ≡ Err (Malformed (length (b ∷ front)))
+    by : (tag : List ℕ) → length tag ≡ 32 → b ∷ front ≡ kind ∷ front → Split front more (body_spelling c) tag → body_of_kind kind other (b ∷ front) ≡ Err (Malformed (length (b ∷ front)))
     by tag len is (whole left f t) =
         tail_refused kind other (b ∷ front) left c (Malformed (length (b ∷ front))) differs numbers limits (is ∙ ap (λ (l : List ℕ). kind ∷ l) f)
         (tag_short (b ∷ front) (1 + length (body_spelling c)) (shorter b front (body_spelling c) left more tag len f t rest))
     by tag len is (cut m t left) = body_refused kind other (b ∷ front) front m c differs numbers limits is t left
 
-pub carried_longer : (kind other : ℕ) (key bytes more : List ℕ) (c : Certificate) → (kind == other) ≡ false → IsSealed kind key bytes c → 0 < length more → carried kind other (bytes ++ more) ≡ Err (Malformed (length bytes))
+pub carried_longer : (kind other : ℕ) (key bytes more : List ℕ) (c : Certificate) → (kind == other) ≡ false → IsSealed kind key bytes c → 0 < length more → body_of_kind kind other (bytes ++ more) ≡ Err (Malformed (length bytes))
 carried_longer kind other key bytes more c differs is rest =
     let tag : List ℕ = tag_of key (sealed_text kind c) in
     let text : bytes ++ more ≡ kind ∷ (body_spelling c ++ (tag ++ more)) = ap (λ (l : List ℕ). l ++ more) is.text ∙ append_assoc (sealed_text kind c) tag more in

@@ -16,7 +16,7 @@ use Rattle.stmt_codec.proofs.Bodies.{found_at, body_again}
 use Rattle.sealed_cert.specs.declared.fault.SealFault.{SealFault}
 use Rattle.sealed_cert.specs.declared.fault.SealFault.TheVariants.{Malformed, BadSeal, WrongKind}
 use Rattle.sealed_cert.specs.Seals.{sealed_text, IsSealed, OpensIssued}
-use Rattle.sealed_cert.specs.Refusals.{seen_as, kind_at, ends_in_tag, carried, is_tagged, checked, opened, known, opened_issued}
+use Rattle.sealed_cert.specs.Refusals.{seen_as, kind_at, ends_in_tag, body_and_tag_at, body_of_kind, is_tagged, checked, opened, known, opened_issued}
 
 -- the bytes are the body of a kind, and 32 more from an offset on
 pub record IsCarried (kind : ℕ) (bytes : List ℕ) (c : Certificate) (end : ℕ) : Type 0 where
@@ -97,8 +97,8 @@ body_parts kind bytes c begin end one first is place =
 carried_parts : (kind : ℕ) (bytes : List ℕ) (c : Certificate) (end : ℕ) → HasBody kind bytes c end → length (drop end bytes) ≡ 32 → IsCarried kind bytes c end
 carried_parts kind bytes c end is len = record { text = is.text; place = is.place; tag = len; numbers = is.numbers; limits = is.limits }
 
-pub carried_takes : (kind other : ℕ) (bytes : List ℕ) (x : Certificate × ℕ) → IsBytes bytes → carried kind other bytes ≡ Ok x → IsCarried kind bytes x.0 x.1
-unfolding carried
+pub carried_takes : (kind other : ℕ) (bytes : List ℕ) (x : Certificate × ℕ) → IsBytes bytes → body_of_kind kind other bytes ≡ Ok x → IsCarried kind bytes x.0 x.1
+unfolding body_of_kind body_and_tag_at
 carried_takes kind other bytes x fits e =
     let begin = bind_ok _ _ x e in
     let body = bind_ok _ _ x begin.2 in
@@ -114,8 +114,8 @@ carried_takes kind other bytes x fits e =
     some : (b : ℕ) (l bytes : List ℕ) (begin : ℕ) → begin ≡ 1 → bytes ≡ b ∷ l → begin ≤ length bytes
     some b l bytes begin one e = omega (arith, one, ap length e)
 
-pub carried_again : (kind other : ℕ) (bytes : List ℕ) (c : Certificate) (end : ℕ) → (kind == other) ≡ false → IsCarried kind bytes c end → carried kind other bytes ≡ Ok (c, end)
-unfolding carried
+pub carried_again : (kind other : ℕ) (bytes : List ℕ) (c : Certificate) (end : ℕ) → (kind == other) ≡ false → IsCarried kind bytes c end → body_of_kind kind other bytes ≡ Ok (c, end)
+unfolding body_of_kind body_and_tag_at
 carried_again kind other bytes c end differs is =
     let rest : List ℕ = body_spelling c ++ drop end bytes in
     let first = kind_again kind other bytes rest differs is.text in
@@ -174,7 +174,7 @@ checked_again kind key bytes c is = rw (sealed_is_tagged kind key bytes c is) re
 pub opened_takes : (key bytes : List ℕ) (c : Certificate) → IsBytes bytes → opened key bytes ≡ Ok c → IsSealed 2 key bytes c
 unfolding opened
 opened_takes key bytes c fits e =
-    let x = bind_ok (carried 2 1 bytes) (checked key bytes) c e in
+    let x = bind_ok (body_of_kind 2 1 bytes) (checked key bytes) c e in
     let g = chosen_ok (is_tagged key bytes x.0.1) BadSeal x.0.0 c x.2 in
     subst (λ (d : Certificate). IsSealed 2 key bytes d) g.1 (tagged_is_sealed 2 key bytes x.0.0 x.0.1 (carried_takes 2 1 bytes x.0 fits x.1) g.0)
 

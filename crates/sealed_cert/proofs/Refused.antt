@@ -18,7 +18,7 @@ use Rattle.stmt_codec.proofs.Offsets.{never_memory}
 use Rattle.sealed_cert.specs.declared.fault.SealFault.{SealFault}
 use Rattle.sealed_cert.specs.declared.fault.SealFault.TheVariants.{Malformed, UnknownIssuer, BadSeal, WrongKind, NoMemory}
 use Rattle.sealed_cert.specs.Causes.{HasTail, IsMalformedAt, empty, no_kind, no_body, short_tag, long_tag, IsOfKind, IsRefused, IsRefusedIssued}
-use Rattle.sealed_cert.specs.Refusals.{seen_as, kind_at, ends_in_tag, carried, is_tagged, checked, known, opened, opened_issued}
+use Rattle.sealed_cert.specs.Refusals.{seen_as, kind_at, ends_in_tag, body_and_tag_at, body_of_kind, is_tagged, checked, known, opened, opened_issued}
 use Rattle.sealed_cert.specs.Seals.{sealed_text, Spells}
 use Rattle.sealed_cert.proofs.Apart.{wrong_kind, relayed_refused, issued_refused}
 use Rattle.sealed_cert.proofs.Judged.{relayed_bad, issued_unknown, issued_bad}
@@ -72,8 +72,8 @@ tag_why kind other bytes c at f is e =
           subst (Why kind other bytes) (sym g.1) (long_tag c (drop at bytes) tail (omega (arith, more, length-drop at bytes)) (ap (λ (n : ℕ). n + 32) is.place))
     ]
 
-carried_why : (kind other : ℕ) (bytes : List ℕ) (f : SealFault) → IsBytes bytes → carried kind other bytes ≡ Err f → Why kind other bytes f
-unfolding carried
+carried_why : (kind other : ℕ) (bytes : List ℕ) (f : SealFault) → IsBytes bytes → body_of_kind kind other bytes ≡ Err f → Why kind other bytes f
+unfolding body_of_kind body_and_tag_at
 carried_why kind other bytes f fits e = elim (bind_err (kind_at kind other bytes) _ f e) [
   | inl first ↦ kind_why kind other bytes f first
   | inr begin ↦
@@ -96,15 +96,15 @@ carried_why kind other bytes f fits e = elim (bind_err (kind_at kind other bytes
 
 -- ---- and each such fault comes
 
-no_kind_refused : (kind other first : ℕ) (bytes rest : List ℕ) → bytes ≡ first ∷ rest → first ≢ kind → first ≢ other → carried kind other bytes ≡ Err (Malformed 0)
-unfolding carried kind_at
+no_kind_refused : (kind other first : ℕ) (bytes rest : List ℕ) → bytes ≡ first ∷ rest → first ≢ kind → first ≢ other → body_of_kind kind other bytes ≡ Err (Malformed 0)
+unfolding body_of_kind body_and_tag_at kind_at
 no_kind_refused kind other first bytes rest e not_kind not_other =
     let a : (first == other) ≡ false = grind (arith, nat_tests, not_other) in
     let b : (first == kind) ≡ false = grind (arith, nat_tests, not_kind) in
     rw (byte_again (Malformed 0) bytes rest 0 first e, a, b) refl
 
-no_body_refused : (kind other : ℕ) (bytes rest : List ℕ) (o : ℕ) → (kind == other) ≡ false → bytes ≡ kind ∷ rest → body_at bytes 1 ≡ Err (formats.Malformed o) → carried kind other bytes ≡ Err (Malformed o)
-unfolding carried
+no_body_refused : (kind other : ℕ) (bytes rest : List ℕ) (o : ℕ) → (kind == other) ≡ false → bytes ≡ kind ∷ rest → body_at bytes 1 ≡ Err (formats.Malformed o) → body_of_kind kind other bytes ≡ Err (Malformed o)
+unfolding body_of_kind body_and_tag_at
 no_body_refused kind other bytes rest o differs e none = rw (kind_again kind other bytes rest differs e, none) refl
 
 lengths : (k : ℕ) (text tail bytes : List ℕ) → bytes ≡ (k ∷ text) ++ tail → length bytes ≡ (1 + length text) + length tail
@@ -113,8 +113,8 @@ lengths k text tail bytes e = omega (arith, ap length e, length-append (k ∷ te
 one_more : (k : ℕ) (text : List ℕ) → (1 + length text) + 32 ≡ length (k ∷ text) + 32
 one_more k text = omega arith
 
-malformed_is : (kind other : ℕ) (bytes : List ℕ) (o : ℕ) → (kind == other) ≡ false → IsMalformedAt kind other bytes o → carried kind other bytes ≡ Err (Malformed o)
-malformed_is kind other bytes o differs (empty e is) = ap (carried kind other) e ∙ none_carried kind other ∙ ap (λ (n : ℕ). Err (Malformed n)) (sym is)
+malformed_is : (kind other : ℕ) (bytes : List ℕ) (o : ℕ) → (kind == other) ≡ false → IsMalformedAt kind other bytes o → body_of_kind kind other bytes ≡ Err (Malformed o)
+malformed_is kind other bytes o differs (empty e is) = ap (body_of_kind kind other) e ∙ none_carried kind other ∙ ap (λ (n : ℕ). Err (Malformed n)) (sym is)
 malformed_is kind other bytes o differs (no_kind first rest e not_kind not_other is) = no_kind_refused kind other first bytes rest e not_kind not_other ∙ ap (λ (n : ℕ). Err (Malformed n)) (sym is)
 malformed_is kind other bytes o differs (no_body rest e none) = no_body_refused kind other bytes rest o differs e none
 malformed_is kind other bytes o differs (short_tag c tail has less is) =
@@ -149,7 +149,7 @@ relayed_early key bytes NoMemory h = absurd h
 
 pub relayed_why : (key bytes : List ℕ) (f : SealFault) → IsBytes bytes → opened key bytes ≡ Err f → IsRefused key bytes f
 unfolding opened
-relayed_why key bytes f fits e = elim (bind_err (carried 2 1 bytes) (checked key bytes) f e) [
+relayed_why key bytes f fits e = elim (bind_err (body_of_kind 2 1 bytes) (checked key bytes) f e) [
   | inl early ↦ relayed_early key bytes f (carried_why 2 1 bytes f fits early)
   | inr x ↦
       let is = carried_takes 2 1 bytes x.0 fits x.1 in
@@ -159,7 +159,7 @@ relayed_why key bytes f fits e = elim (bind_err (carried 2 1 bytes) (checked key
 
 pub relayed_is_refused : (key bytes : List ℕ) (f : SealFault) → IsRefused key bytes f → opened key bytes ≡ Err f
 relayed_is_refused key bytes (Malformed o) h = relayed_refused key bytes (Malformed o) (malformed_is 2 1 bytes o refl h)
-relayed_is_refused key bytes (WrongKind k) h = relayed_refused key bytes (WrongKind k) (ap (carried 2 1) h.1.1 ∙ wrong_kind 2 1 h.1.0 ∙ ap (λ (n : ℕ). Err (WrongKind n)) (sym h.0))
+relayed_is_refused key bytes (WrongKind k) h = relayed_refused key bytes (WrongKind k) (ap (body_of_kind 2 1) h.1.1 ∙ wrong_kind 2 1 h.1.0 ∙ ap (λ (n : ℕ). Err (WrongKind n)) (sym h.0))
 relayed_is_refused key bytes (UnknownIssuer i) h = absurd h
 relayed_is_refused key bytes BadSeal h = relayed_bad key bytes h.1 h.0 h.2 h.3
 relayed_is_refused key bytes NoMemory h = absurd h
@@ -183,14 +183,14 @@ judged entries bytes x f (Some key) is e went =
 
 pub issued_why : (entries : Entries) (bytes : List ℕ) (f : SealFault) → IsBytes bytes → opened_issued entries bytes ≡ Err f → IsRefusedIssued entries bytes f
 unfolding opened_issued
-issued_why entries bytes f fits e = elim (bind_err (carried 1 2 bytes) _ f e) [
+issued_why entries bytes f fits e = elim (bind_err (body_of_kind 1 2 bytes) _ f e) [
   | inl early ↦ issued_early entries bytes f (carried_why 1 2 bytes f fits early)
   | inr x ↦ judged entries bytes x.0 f (key_of entries x.0.0.issuer) (carried_takes 1 2 bytes x.0 fits x.1) refl x.2
 ]
 
 pub issued_is_refused : (entries : Entries) (bytes : List ℕ) (f : SealFault) → IsRefusedIssued entries bytes f → opened_issued entries bytes ≡ Err f
 issued_is_refused entries bytes (Malformed o) h = issued_refused entries bytes (Malformed o) (malformed_is 1 2 bytes o refl h)
-issued_is_refused entries bytes (WrongKind k) h = issued_refused entries bytes (WrongKind k) (ap (carried 1 2) h.1.1 ∙ wrong_kind 1 2 h.1.0 ∙ ap (λ (n : ℕ). Err (WrongKind n)) (sym h.0))
+issued_is_refused entries bytes (WrongKind k) h = issued_refused entries bytes (WrongKind k) (ap (body_of_kind 1 2) h.1.1 ∙ wrong_kind 1 2 h.1.0 ∙ ap (λ (n : ℕ). Err (WrongKind n)) (sym h.0))
 issued_is_refused entries bytes (UnknownIssuer i) h = issued_unknown entries bytes h.1 h.0 h.2 h.3 ∙ ap (λ (n : ℕ). Err (UnknownIssuer n)) (sym h.4)
 issued_is_refused entries bytes BadSeal h = issued_bad entries h.2 bytes h.1 h.0 h.3 h.4 h.5
 issued_is_refused entries bytes NoMemory h = absurd h

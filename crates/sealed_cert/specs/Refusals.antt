@@ -33,13 +33,16 @@ ends_in_tag bytes at =
     if nat_lt (length bytes - at) TAG_LEN then Err (Malformed (length bytes))
     else (if nat_lt (at + TAG_LEN) (length bytes) then Err (Malformed (at + TAG_LEN)) else Ok at)
 
--- the certificate of a kind, whatever its tag, and where its body ends; the other kind is refused
-unfoldable pub carried : ℕ → ℕ → List ℕ → Result (Certificate × ℕ) SealFault
-carried kind other bytes = do
-  begin ← kind_at kind other bytes
-  body ← with_fault seen_as (body_at bytes begin)
+-- the certificate whose body begins at an offset, whatever the tag behind it, and where that begins
+unfoldable pub body_and_tag_at : List ℕ → ℕ → Result (Certificate × ℕ) SealFault
+body_and_tag_at bytes at = do
+  body ← with_fault seen_as (body_at bytes at)
   end ← ends_in_tag bytes body.1
   Ok (body.0, end)
+
+-- the certificate of a kind, whatever its tag, and where its body ends; the other kind is refused
+unfoldable pub body_of_kind : ℕ → ℕ → List ℕ → Result (Certificate × ℕ) SealFault
+body_of_kind kind other bytes = kind_at kind other bytes >>= body_and_tag_at bytes
 
 -- the bytes from an offset on are the tag of those before it
 abbrev pub is_tagged : List ℕ → List ℕ → ℕ → Bool
@@ -51,7 +54,7 @@ checked key bytes x = if is_tagged key bytes x.1 then Ok x.0 else Err BadSeal
 
 -- what a relay's seal opens to, or the refusal
 unfoldable pub opened : List ℕ → List ℕ → Result Certificate SealFault
-opened key bytes = carried RELAYED ISSUED bytes >>= checked key bytes
+opened key bytes = body_of_kind RELAYED ISSUED bytes >>= checked key bytes
 
 -- the issuer's key, or the refusal of an issuer without one
 abbrev pub known : ℕ → Option (List ℕ) → Result (List ℕ) SealFault
@@ -61,6 +64,6 @@ known issuer None = Err (UnknownIssuer issuer)
 -- what an issuer's seal opens to, or the refusal
 unfoldable pub opened_issued : Entries → List ℕ → Result Certificate SealFault
 opened_issued entries bytes = do
-  x ← carried ISSUED RELAYED bytes
+  x ← body_of_kind ISSUED RELAYED bytes
   key ← known x.0.issuer (key_of entries x.0.issuer)
   checked key bytes x

@@ -4,6 +4,7 @@
 mod fault;
 mod kind;
 mod laws;
+mod limit_laws;
 mod opening;
 mod sealing;
 
@@ -14,5 +15,6 @@ pub use laws::{
     a_sealed_body_opens, bytes_behind_are_refused, cut_seals_are_refused, kinds_are_apart,
     one_body_opens, sealed_bytes_are_opened, spelled_bytes_are_judged,
 };
-pub use opening::{open_issued, open_issued_body, open_relayed, open_with};
-pub use sealing::{seal_issued, seal_relayed, seal_relayed_with};
+pub use limit_laws::limits_are;
+pub use opening::{body_and_tag_at, open_issued, open_issued_body, open_relayed, open_with};
+pub use sealing::{seal_after, seal_issued, seal_relayed, seal_relayed_with};

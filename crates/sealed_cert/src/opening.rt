@@ -2,10 +2,11 @@
 
 ghost use Rattle.std.specs.Prelude.{◌≡◌, ◌+◌, ◌≤◌, length, IfOk, IfErr, MatchResult};
 ghost use Rattle.byte_fields.specs.Steps.{Gives};
+ghost use Rattle.keyed_seal.specs.declared.tag.TheConstants.{TAG_LEN};
 ghost use Rattle.stmt_codec.specs.Certificates.{Certificate, certificate, body_spelling, IsBodyAt};
 ghost use Rattle.sealed_cert.specs.declared.fault.SealFault.TheVariants.{NoMemory};
 ghost use Rattle.sealed_cert.specs.Seals.{Opens, OpensIssued};
-ghost use Rattle.sealed_cert.specs.Refusals.{kind_at, ends_in_tag, carried, is_tagged};
+ghost use Rattle.sealed_cert.specs.Refusals.{kind_at, ends_in_tag, body_and_tag_at, body_of_kind, is_tagged};
 ghost use Rattle.sealed_cert.specs.Refusals.{opened, opened_issued};
 
 use crate::fault::SealFault;
@@ -39,7 +40,7 @@ fn ends_in_tag(bytes: &[u8], at: usize) -> Result<usize, SealFault>
     requires { at ≤ length bytes.now }
     ensures value { result ≡ ends_in_tag bytes.now at }
     ensures same { IfOk result (λ end. end ≡ at) }
-    ensures within { IfOk result (λ end. end ≤ length bytes.now) }
+    ensures tag { IfOk result (λ end. end + TAG_LEN ≡ length bytes.now) }
 {
     let len = bytes.len();
     if len - at < TAG_LEN {
@@ -53,19 +54,43 @@ fn ends_in_tag(bytes: &[u8], at: usize) -> Result<usize, SealFault>
     Ok(at)
 }
 
-// The body, whatever its tag, and the offset of the tag.
-#[tactic(auto, unfolding(crate::specs::Refusals::carried))]
-fn carried(alloc: Global, bytes: &[u8], kind: u8, other: u8) -> Result<(CertBody, usize), SealFault>
+/// The body that begins at an offset, and where the tag behind it begins, which ends the bytes
+/// whatever it is.
+#[tactic(auto, unfolding(crate::specs::Refusals::body_and_tag_at))]
+pub fn body_and_tag_at(
+    alloc: Global,
+    bytes: &[u8],
+    at: usize,
+) -> Result<(CertBody, usize), SealFault>
+    requires { at ≤ length bytes.now }
+    ensures spelled { IfOk result (λ x. IsBodyAt bytes.now at (certificate x.0)
+        × (x.1 ≡ at + length (body_spelling (certificate x.0)))) }
+    ensures tag { IfOk result (λ x. x.1 + TAG_LEN ≡ length bytes.now) }
+
+    ensures exact { Gives NoMemory (λ x. (certificate x.0, x.1)) result
+        (body_and_tag_at bytes.now at) }
+{
+    let (body, end) = read_bare_body(alloc, bytes, at)?;
+    let end = ends_in_tag(bytes, end)?;
+    Ok((body, end))
+}
+
+// The body of a kind, whatever its tag, and the offset of the tag.
+#[tactic(auto, unfolding(crate::specs::Refusals::body_of_kind))]
+fn body_of_kind(
+    alloc: Global,
+    bytes: &[u8],
+    kind: u8,
+    other: u8,
+) -> Result<(CertBody, usize), SealFault>
     ensures value { Gives NoMemory (λ x. (certificate x.0, x.1)) result
-        (carried kind other bytes.now) }
+        (body_of_kind kind other bytes.now) }
     ensures spelled { IfOk result (λ x. IsBodyAt bytes.now 1 (certificate x.0)
         × (x.1 ≡ 1 + length (body_spelling (certificate x.0)))) }
     ensures within { IfOk result (λ x. x.1 ≤ length bytes.now) }
 {
     let begin = kind_at(bytes, kind, other)?;
-    let (body, end) = read_bare_body(alloc, bytes, begin)?;
-    let end = ends_in_tag(bytes, end)?;
-    Ok((body, end))
+    body_and_tag_at(alloc, bytes, begin)
 }
 
 // Whether the bytes from `end` on are the tag of those before it.
@@ -85,7 +110,7 @@ fn issued(alloc: Global, table: &KeyTable, bytes: &[u8]) -> Result<(CertBody, us
         × (x.1 ≡ 1 + length (body_spelling (certificate x.0)))) }
     ensures within { IfOk result (λ x. x.1 ≤ length bytes.now) }
 {
-    let (body, end) = carried(alloc, bytes, ISSUED, RELAYED)?;
+    let (body, end) = body_of_kind(alloc, bytes, ISSUED, RELAYED)?;
     let issuer = body.issuer;
     let Some(sealer) = table.sealer(issuer) else {
         return Err(SealFault::UnknownIssuer { issuer });
@@ -106,7 +131,7 @@ fn relayed(alloc: Global, sealer: &Sealer, bytes: &[u8]) -> Result<(CertBody, us
         × (x.1 ≡ 1 + length (body_spelling (certificate x.0)))) }
     ensures within { IfOk result (λ x. x.1 ≤ length bytes.now) }
 {
-    let (body, end) = carried(alloc, bytes, RELAYED, ISSUED)?;
+    let (body, end) = body_of_kind(alloc, bytes, RELAYED, ISSUED)?;
     if is_tagged(sealer, bytes, end) {
         Ok((body, end))
     } else {

@@ -3,7 +3,7 @@
 ghost use Rattle.std.specs.Prelude.{length, drop, OnOk};
 ghost use Rattle.byte_fields.specs.Appends.{Appends, Pushes};
 ghost use Rattle.stmt_codec.specs.Certificates.{certificate, HasBodySpelling, IsWithinLimits};
-ghost use Rattle.sealed_cert.specs.Seals.{sealed, IsSealed, Opens};
+ghost use Rattle.sealed_cert.specs.Seals.{sealed, sealed_after, IsSealed, IsSealedAfter, Opens};
 
 use crate::kind::{ISSUED, RELAYED};
 use keyed_seal::Sealer;
@@ -18,7 +18,7 @@ pub fn seal_issued(out: &mut Vec<u8>, key: &[u8; 32], body: &CertBody) -> Result
     ensures opens { OnOk result (IsSealed ISSUED key.now
         (drop (length out.old.items) out.new.items) (certificate body.now)) }
 {
-    seal(out, ISSUED, &Sealer::of(key), body)
+    seal_after(out, &[ISSUED], &Sealer::of(key), body)
 }
 
 /// Appends the body under a relay's seal, whose key the relay shares with the node that it is
@@ -45,16 +45,32 @@ pub fn seal_relayed_with(
     ensures opens { OnOk result (Opens sealer.now
         (drop (length out.old.items) out.new.items) (certificate body.now)) }
 {
-    seal(out, RELAYED, sealer, body)
+    seal_after(out, &[RELAYED], sealer, body)
 }
 
-fn seal(out: &mut Vec<u8>, kind: u8, sealer: &Sealer, body: &CertBody) -> Result<(), AllocError>
+/// Appends a front, the body and the tag of both under a key. An `Err` changes nothing.
+pub fn seal_after(
+    out: &mut Vec<u8>,
+    front: &[u8],
+    sealer: &Sealer,
+    body: &CertBody,
+) -> Result<(), AllocError>
+    requires { IsWithinLimits (certificate body.now) }
     ensures appends { Appends out.old out.new
-        (sealed kind sealer.now (certificate body.now)) result }
+        (sealed_after front.now sealer.now (certificate body.now)) result }
+    ensures opens { OnOk result (IsSealedAfter front.now sealer.now
+        (drop (length out.old.items) out.new.items) (certificate body.now)) }
+{
+    seal(out, front, sealer, body)
+}
+
+fn seal(out: &mut Vec<u8>, front: &[u8], sealer: &Sealer, body: &CertBody) -> Result<(), AllocError>
+    ensures appends { Appends out.old out.new
+        (sealed_after front.now sealer.now (certificate body.now)) result }
     ensures numbers { OnOk result (HasBodySpelling (certificate body.now)) }
 {
     let len = out.len();
-    let written = push_sealed(out, kind, sealer, body);
+    let written = push_sealed(out, front, sealer, body);
     if written.is_err() {
         out.truncate(len);
     }
@@ -63,16 +79,16 @@ fn seal(out: &mut Vec<u8>, kind: u8, sealer: &Sealer, body: &CertBody) -> Result
 
 fn push_sealed(
     out: &mut Vec<u8>,
-    kind: u8,
+    front: &[u8],
     sealer: &Sealer,
     body: &CertBody,
 ) -> Result<(), AllocError>
     ensures pushes { Pushes out.old out.new
-        (sealed kind sealer.now (certificate body.now)) result }
+        (sealed_after front.now sealer.now (certificate body.now)) result }
     ensures numbers { OnOk result (HasBodySpelling (certificate body.now)) }
 {
     let len = out.len();
-    out.push(kind)?;
+    out.extend_from_slice(front)?;
     write_body(out, body)?;
     let tag = sealer.tag(&out[len..]);
     out.extend_from_slice(&tag)?;

@@ -2,7 +2,7 @@
 
 ghost use Rattle.std.specs.Prelude.{◌≤◌, IfOk, length};
 
-use prin_term::{Statement, Term};
+use prin_term::Term;
 use std::alloc::{AllocError, Global};
 use std::sync::Arc;
 use stmt_codec::{Cert, CertBody};
@@ -23,23 +23,15 @@ fn large(alloc: Global) -> Result<Term, AllocError> {
 }
 
 fn large_cert(alloc: Global, serial: u64) -> Result<Arc<Cert>, AllocError> {
-    let body = CertBody {
-        issuer: 1,
-        quoted: Some(large(alloc)?),
-        statement: Statement {
-            left: large(alloc)?,
-            right: large(alloc)?,
-        },
-        until: 2000,
-        serial,
-    };
+    let quoted = Some(large(alloc)?);
+    let body = CertBody::says(1, quoted, large(alloc)?, large(alloc)?, 2000, serial);
     // It is well formed, so only memory may lack.
     let cert = Cert::of(alloc, body).map_err(|_| AllocError)?;
     Ok(Arc::new(alloc, cert)?)
 }
 
-/// Sixteen certificates of this number's own. Each is counted as 320 bytes and 32 for each of
-/// 4 * 63 nodes, so all of a number's as 134,144, and 250 numbers' fit in 33,554,432 bytes.
+/// Sixteen certificates of this number's own. Each takes about 320 bytes and 32 for each of
+/// 4 * 63 nodes, so all of a number's 134,144, and those of 251 numbers more than 32 MiB.
 pub(crate) fn large_certs(alloc: Global, number: u64) -> Result<Vec<Arc<Cert>>, AllocError>
     ensures { IfOk result (λ certs. length certs.items ≤ 16) }
 {

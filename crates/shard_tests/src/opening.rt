@@ -8,7 +8,7 @@ ghost use Rattle.shard_tests.specs.Seats.{HasChannel};
 
 use agent_core::{Lone, Shard, open_shards};
 use object_core::Object;
-use prin_term::{Anchor, Statement, Term};
+use prin_term::{Anchor, Term};
 use std::alloc::{AllocError, Global};
 use std::sync::Arc;
 use std::test::Fail;
@@ -16,17 +16,7 @@ use stmt_codec::{Cert, CertBody};
 
 /// That key 1 says that key 2 speaks for name 10.
 pub(crate) fn hand_off(alloc: Global) -> Result<Arc<Cert>, AllocError> {
-    let statement = Statement {
-        left: Term::Key(2),
-        right: Term::Name(10),
-    };
-    let body = CertBody {
-        issuer: 1,
-        quoted: None,
-        statement,
-        until: 2000,
-        serial: 1,
-    };
+    let body = CertBody::says(1, None, Term::Key(2), Term::Name(10), 2000, 1);
     // It is well formed, so only memory may lack.
     let cert = Cert::of(alloc, body).map_err(|_| AllocError)?;
     Ok(Arc::new(alloc, cert)?)

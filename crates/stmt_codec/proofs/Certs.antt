@@ -16,12 +16,13 @@ pub is_found : {X : Type 0} (see : X → Certificate) (at : ℕ) (bytes : List �
 is_found see at bytes r le fits given =
     gives_found (λ (y : Certificate × ℕ). IsBodyAt bytes at y.0 × (y.1 ≡ at + length (body_spelling y.0))) NoMemory (λ x. (see x.0, x.1)) r (body_at bytes at) given (λ y e. found_at bytes at y le fits e)
 
+-- the value alone, of a reader that gives it with the offset after it
+pub value_of : {X Y : Type 0} (see : X → Y) (r : Result (X × ℕ) FormatFault) (y : Y × ℕ) → MatchResult r (λ x. (see x.0, x.1) ≡ y) (λ e. e ≡ NoMemory) → MatchResult r (λ x. see x.0 ≡ y.0) (λ e. e ≡ NoMemory)
+value_of {X} {Y} see (Ok x) y h = ap (λ (p : Y × ℕ). p.0) h
+value_of see (Err e) y h = h
+
 pub is_only : {X : Type 0} (see : X → Certificate) (at : ℕ) (bytes : List ℕ) (r : Result (X × ℕ) FormatFault) → at ≤ length bytes → Gives NoMemory (λ x. (see x.0, x.1)) r (body_at bytes at)
     → (c : Certificate) → IsBodyAt bytes at c → MatchResult r (λ x. see x.0 ≡ c) (λ e. e ≡ NoMemory)
-is_only {X} see at bytes r le given c is =
+is_only see at bytes r le given c is =
     let end = at + length (body_spelling c) in
-    gives_first r (c, end) (gives_only NoMemory (λ x. (see x.0, x.1)) r (body_at bytes at) (c, end) given (again_at bytes at c le is))
-  where
-    gives_first : (r : Result (X × ℕ) FormatFault) (y : Certificate × ℕ) → MatchResult r (λ x. (see x.0, x.1) ≡ y) (λ e. e ≡ NoMemory) → MatchResult r (λ x. see x.0 ≡ y.0) (λ e. e ≡ NoMemory)
-    gives_first (Ok x) y h = ap (λ (p : Certificate × ℕ). p.0) h
-    gives_first (Err e) y h = h
+    value_of see r (c, end) (gives_only NoMemory (λ x. (see x.0, x.1)) r (body_at bytes at) (c, end) given (again_at bytes at c le is))

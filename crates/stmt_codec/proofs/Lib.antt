@@ -9,6 +9,9 @@ pub mod Once
 pub mod Cuts
 pub mod Prefixes
 pub mod Members
+pub mod Living
 pub mod Equal
 pub mod BodyLengths
 pub mod Offsets
+pub mod Fillings
+pub mod Listed

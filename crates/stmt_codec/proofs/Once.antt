@@ -36,7 +36,7 @@ optional_once (Some p) (Some q) x y ho hp e =
 regrouped : (a b c d e f g r : List ℕ) → (a ++ b ++ c ++ d ++ e ++ f ++ g) ++ r ≡ a ++ (b ++ (c ++ (d ++ (e ++ (f ++ (g ++ r))))))
 regrouped a b c d e f g r = simp append_assoc
 
-pub text : (c : Certificate) (x : List ℕ) → body_spelling c ++ x ≡ 1 ∷ (to_be_bytes w32 c.issuer ++ (optional spelling c.quoted ++ (spelling c.left ++ (spelling c.right ++ (to_be_bytes w64 c.until ++ (to_be_bytes w64 c.serial ++ x))))))
+text : (c : Certificate) (x : List ℕ) → body_spelling c ++ x ≡ 1 ∷ (to_be_bytes w32 c.issuer ++ (optional spelling c.quoted ++ (spelling c.left ++ (spelling c.right ++ (to_be_bytes w64 c.until ++ (to_be_bytes w64 c.serial ++ x))))))
 text c x = regrouped (1 ∷ []) (to_be_bytes w32 c.issuer) (optional spelling c.quoted) (spelling c.left) (spelling c.right) (to_be_bytes w64 c.until) (to_be_bytes w64 c.serial) x
 
 behind_one : (x y : List ℕ) → 1 ∷ x ≡ 1 ∷ y → x ≡ y

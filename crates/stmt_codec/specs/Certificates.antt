@@ -1,6 +1,6 @@
 -- Certificates, as mathematics has them, and the one spelling of their bodies.
 use Rattle.std.specs.Prelude.{◌≡◌, ℕ, ◌<◌, ◌≤◌, ◌^◌, drop, List, [], ◌∷◌, ◌++◌, length, filter}
-use Rattle.std.specs.Prelude.{nat_lt, Option, None, Some, IfSome}
+use Rattle.std.specs.Prelude.{Bool, nat_lt, Option, None, Some, IfSome}
 use Rattle.std.specs.Option.{option_map}
 use Rattle.std.specs.Int.{w32, w64, to_be_bytes}
 use Rattle.sha2.specs.Sha256.{sha256}
@@ -35,6 +35,17 @@ certificate b = record {
   right = principal b.statement.right;
   until = b.until;
   serial = b.serial;
+}
+
+-- the issuer, which may quote a principal, says that left speaks for right
+abbrev pub says : ℕ → Option Principal → Principal → Principal → ℕ → ℕ → Certificate
+says issuer quoted left right until serial = record {
+  issuer = issuer;
+  quoted = quoted;
+  left = left;
+  right = right;
+  until = until;
+  serial = serial;
 }
 
 -- the key, or the key quoting another principal
@@ -86,6 +97,11 @@ pub record HasBodySpelling (c : Certificate) : Type 0 where
   pub until : c.until < 2 ^ 64
   pub serial : c.serial < 2 ^ 64
 
+-- it has a spelling, and is within the limits
+pub record FitsBody (c : Certificate) : Type 0 where
+  pub numbers : HasBodySpelling c
+  pub limits : IsWithinLimits c
+
 -- The bytes from the offset on begin with the spelling of this certificate, which is within the
 -- limits.
 pub record IsBodyAt (bytes : List ℕ) (at : ℕ) (c : Certificate) : Type 0 where
@@ -93,6 +109,14 @@ pub record IsBodyAt (bytes : List ℕ) (at : ℕ) (c : Certificate) : Type 0 whe
   pub numbers : HasBodySpelling c
   pub limits : IsWithinLimits c
 
--- those that have not ended at the moment, in order
+-- whether it is live at the moment
+abbrev pub is_live : ℕ → Certificate → Bool
+is_live moment c = nat_lt moment c.until
+
+-- it has not ended at the moment
+abbrev pub IsLive : ℕ → Certificate → Type 0
+IsLive moment c = moment < c.until
+
+-- those that are live at the moment, in order
 abbrev pub live : List Certificate → ℕ → List Certificate
-live certs moment = filter (λ c. nat_lt moment c.until) certs
+live certs moment = filter (is_live moment) certs

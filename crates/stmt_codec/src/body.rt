@@ -22,8 +22,31 @@ pub struct CertBody {
 
 impl CertBody {
     ghost use Rattle.std.specs.Prelude.{◌≡◌, ◌↔◌, IsTrue};
-    ghost use Rattle.stmt_codec.specs.Certificates.{certificate};
+    ghost use Rattle.std.specs.Option.{option_map};
+    ghost use Rattle.prin_term.specs.View.{principal};
+    ghost use Rattle.stmt_codec.specs.Certificates.{certificate, says};
     ghost use Rattle.stmt_codec.specs.Equality.{same_certificate};
+
+    /// That `left` speaks for `right`, as the issuer says, quoting the principal if there is one.
+    pub fn says(
+        issuer: u32,
+        quoted: Option<Term>,
+        left: Term,
+        right: Term,
+        until: u64,
+        serial: u64,
+    ) -> CertBody
+        ensures { certificate result ≡ says issuer (option_map principal quoted)
+            (principal left) (principal right) until serial }
+    {
+        CertBody {
+            issuer,
+            quoted,
+            statement: Statement { left, right },
+            until,
+            serial,
+        }
+    }
 
     /// Whether the two say the same.
     pub fn same(&self, other: &CertBody) -> bool

@@ -1,12 +1,12 @@
 //! A certificate: a body within the limits, with its speaker and its digest.
 
-ghost use Rattle.std.specs.Prelude.{◌≡◌, ◌↔◌, ◌<◌, IsTrue, IfOk, IsErrOf, Option};
+ghost use Rattle.std.specs.Prelude.{◌≡◌, ◌↔◌, IsTrue, IfOk, IsErrOf, Option};
 ghost use Rattle.std.specs.Option.{option_map};
 ghost use Rattle.prin_term.specs.View.{principal};
 ghost use Rattle.stmt_codec.specs.declared.fault.CertFault.TheVariants.{TooLarge, NoMemory};
 ghost use Rattle.stmt_codec.specs.Certificates.{certificate, key_quoting, speaker_of};
 ghost use Rattle.stmt_codec.specs.Certificates.{body_spelling, digest_of, IsSmall};
-ghost use Rattle.stmt_codec.specs.Certificates.{HasBodySpelling, IsWithinLimits};
+ghost use Rattle.stmt_codec.specs.Certificates.{HasBodySpelling, IsLive, IsWithinLimits};
 ghost use Rattle.stmt_codec.specs.Unique.{HasBodySpelling-prop, IsWithinLimits-prop, principal-set};
 
 use crate::body::CertBody;
@@ -70,7 +70,7 @@ impl Cert {
 
     /// Whether the certificate has not yet ended at the moment.
     pub fn is_live(&self, moment: u64) -> bool
-        ensures { IsTrue result ↔ (moment < self.now.body.until) }
+        ensures { IsTrue result ↔ IsLive moment (certificate self.now.body) }
     {
         moment < self.body.until
     }

@@ -15,7 +15,7 @@ use crate::body::CertBody;
 use crate::cert::Cert;
 use crate::distinct::has_few_subterms;
 use crate::fault::BodyFault;
-use byte_fields::{ended, mark_at, u32_at, u64_at};
+use byte_fields::{byte_within, ended, u32_at, u64_at};
 use prin_term::{CERT_NODES, Statement, Term, read_optional_term, read_term};
 use std::alloc::Global;
 
@@ -59,7 +59,7 @@ fn fields_of(alloc: Global, bytes: &[u8], at: usize) -> Result<(CertBody, usize)
     ensures within { IfOk result (λ x. x.1 ≤ length bytes.now) }
 {
     let short = ended(bytes);
-    let next = mark_at(bytes, at, 1, short, BodyFault::Malformed { offset: at })?;
+    let (_, next) = byte_within(bytes, at, 1, 1)?;
     let (issuer, next) = u32_at(bytes, next, short)?;
     let (quoted, next) = read_optional_term(alloc, bytes, next, CERT_NODES)?;
     let (left, next) = term_of(alloc, bytes, next)?;

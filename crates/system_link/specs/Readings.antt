@@ -1,6 +1,7 @@
 -- When a reading of the clock is believed.
-use Rattle.std.specs.Prelude.{ℕ, ◌-◌, ◌/◌, ◌≤◌}
+use Rattle.std.specs.Prelude.{ℕ, ◌-◌, ◌≡◌, ◌≤◌, ◌⊎◌}
 
--- so many nanoseconds after a reading of so many seconds, this one is ahead by a day at most
-abbrev pub IsNear : ℕ → ℕ → ℕ → Type 0
-IsNear before passed seconds = seconds - before - passed / 1_000_000_000 ≤ 86_400
+-- a reading of so many seconds, when so many have passed by the clock that never goes back, is
+-- ahead of the lead by a day at most; the first one, which has none, is believed
+abbrev pub IsBelieved : ℕ → ℕ → ℕ → Type 0
+IsBelieved held passed seconds = (held ≡ 0) ⊎ (seconds - passed - held ≤ 86_400)

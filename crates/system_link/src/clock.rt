@@ -1,16 +1,21 @@
 //! A clock over the system's.
 
-ghost use Rattle.std.specs.Prelude.{◌≡◌, ◌↔◌, ◌-◌, ◌/◌, IfOk, IfSome, IsSome, None, OnErr, true};
-ghost use Rattle.std.specs.Time.{instant_nanos, system_time_nanos};
+ghost use Rattle.std.specs.Prelude.{◌≡◌, ◌↔◌, ◌-◌, ◌/◌, ◌≤◌, IfOk, IfSome, IsSome, None, OnErr, true};
+ghost use Rattle.std.specs.Time.{system_time_nanos};
 ghost use Rattle.frame_link.specs.Faults.{HasCause};
 ghost use Rattle.frame_link.specs.Readings.{Reads};
-ghost use Rattle.system_link.specs.Readings.{IsNear};
+ghost use Rattle.system_link.specs.Readings.{IsBelieved};
 
+use crate::notice::Happening;
+use crate::notices::Teller;
 use frame_link::{Clock, Failed};
-use std::time::{Instant, SystemTime, UNIX_EPOCH};
+use std::alloc::Global;
+use std::sync::Arc;
+use std::sync::atomic::{AtomicU64, Ordering};
+use std::time::{SystemTime, UNIX_EPOCH};
 use std::{io, time};
 
-/// The seconds that a reading may be ahead of what passed since the one before.
+/// The seconds that a reading may be ahead of what the guard has for its moment.
 pub const AHEAD: u64 = 86_400;
 
 /// The whole seconds since 1970 of a reading.
@@ -23,47 +28,109 @@ pub fn seconds_of(time: SystemTime) -> u64
     }
 }
 
-/// The seconds of a reading, and when it was taken by the clock that never goes back.
+/// What the readings of all lanes are held against: the most seconds by which a believed one was
+/// ahead of the clock that never goes back. It only rises, so a lowered reading lowers nothing.
+#[derive(Drop)]
+pub struct ClockGuard {
+    // 0 before the first reading, so a lead of 0 counts as 1.
+    lead: AtomicU64,
+}
+
+impl ClockGuard {
+    /// Nothing was read yet: the first reading is believed.
+    pub fn new() -> ClockGuard {
+        ClockGuard {
+            lead: AtomicU64::new(0),
+        }
+    }
+
+    fn lead(&self) -> u64 {
+        self.lead.load(Ordering::SeqCst)
+    }
+
+    // From now on it is this at least.
+    fn raise(&self, lead: u64) {
+        let mut seen = self.lead();
+        for _ in 0..u64::MAX {
+            if seen >= lead {
+                return;
+            }
+            match self
+                .lead
+                .compare_exchange(seen, lead, Ordering::SeqCst, Ordering::SeqCst)
+            {
+                Ok(_) => return,
+                Err(other) => seen = other,
+            }
+        }
+    }
+}
+
+/// The seconds of a reading, those of the clock that never goes back, and the lead that the reading
+/// was held against.
 #[derive(Clone, Copy)]
 struct Taken {
     seconds: u64,
-    at: Instant,
+    passed: u64,
+    held: u64,
 }
 
-// Whether a reading that is taken now is believed after this one.
-fn is_near(last: Taken, seconds: u64, at: Instant) -> bool
-    ensures { (result ≡ true)
-        ↔ IsNear last.seconds (instant_nanos at - instant_nanos last.at) seconds }
+// The lead that the next reading is held against, at least.
+fn lead_behind(last: Taken) -> u64
+    ensures held { last.held ≤ result }
+    ensures read { last.seconds - last.passed ≤ result }
 {
-    let passed = at.duration_since(last.at).as_secs();
-    seconds.saturating_sub(last.seconds).saturating_sub(passed) <= AHEAD
+    last.seconds
+        .saturating_sub(last.passed)
+        .max(1)
+        .max(last.held)
 }
 
-fn take<C: time::Clock>(clock: &C) -> io::Result<Taken> {
+// Whether a reading is believed.
+fn is_believed(taken: Taken) -> bool
+    ensures { (result ≡ true) ↔ IsBelieved taken.held taken.passed taken.seconds }
+{
+    taken.held == 0
+        || taken
+            .seconds
+            .saturating_sub(taken.passed)
+            .saturating_sub(taken.held)
+            <= AHEAD
+}
+
+fn take<C: time::Clock>(clock: &C, held: u64) -> io::Result<Taken>
+    ensures { IfOk result (λ taken. taken.held ≡ held) }
+{
     let time = SystemTime::now(clock)?;
-    let at = Instant::now(clock)?;
     Ok(Taken {
         seconds: seconds_of(time),
-        at,
+        passed: clock.monotonic()?.as_secs(),
+        held,
     })
 }
 
 /// The system's clock in seconds, and how often it has failed. A reading that is ahead by more than
-/// `AHEAD` of what passed since the one before is a fault, and the one before stays.
+/// `AHEAD` of what its guard has for the moment is a fault, and the one before stays. Each fault
+/// leaves a notice.
 #[derive(Drop)]
 pub struct SystemSeconds<C> {
     clock: C,
+    guard: Arc<ClockGuard, Global>,
     last: Option<Taken>,
+    teller: Teller,
     faults: u64,
 }
 
 impl<C> SystemSeconds<C> {
-    pub fn new(clock: C) -> SystemSeconds<C>
+    /// A clock whose readings are held against those of all with the same guard.
+    pub fn new(clock: C, guard: Arc<ClockGuard, Global>, teller: Teller) -> SystemSeconds<C>
         ensures { (result.last ≡ None) × (result.faults ≡ 0) }
     {
         SystemSeconds {
             clock,
+            guard,
             last: None,
+            teller,
             faults: 0,
         }
     }
@@ -73,6 +140,27 @@ impl<C> SystemSeconds<C> {
         ensures { result ≡ self.now.faults }
     {
         self.faults
+    }
+
+    // What a reading of now is held against.
+    fn held(&self) -> u64
+        ensures { IfSome self.now.last (λ last. (last.held ≤ result)
+            × (last.seconds - last.passed ≤ result)) }
+    {
+        let lead = self.guard.lead();
+        match self.last {
+            Some(last) => lead_behind(last).max(lead),
+            None => lead,
+        }
+    }
+}
+
+impl<C: time::Clock> SystemSeconds<C> {
+    // Leaves a notice of a reading that failed.
+    fn tell_failure(&self) {
+        if let Some(notices) = &self.teller {
+            notices.tell(&self.clock, None, Happening::ClockFailed);
+        }
     }
 }
 
@@ -84,24 +172,26 @@ impl<C: time::Clock> Clock for SystemSeconds<C> {
     fn now(&mut self) -> Result<u64, Failed>
         ensures told { IfOk result (λ seconds. IsSome self.new.last
             × IfSome self.new.last (λ now. now.seconds ≡ seconds)) }
-        ensures near { IfOk result (λ seconds. IfSome self.old.last (λ last.
-            IfSome self.new.last (λ now.
-            IsNear last.seconds (instant_nanos now.at - instant_nanos last.at) seconds))) }
+        ensures near { IfOk result (λ _. IfSome self.new.last (λ now.
+            IsBelieved now.held now.passed now.seconds)) }
+        // What was read before by this clock, or held against, the next one is held against too.
+        ensures grows { IfOk result (λ _. IfSome self.old.last (λ last.
+            IfSome self.new.last (λ now. (last.held ≤ now.held)
+            × (last.seconds - last.passed ≤ now.held)))) }
         ensures kept { OnErr result (self.new.last ≡ self.old.last) }
         ensures reading { Reads None None result }
         ensures cause { HasCause self.old.faults self.new.faults result }
     {
-        if let Ok(taken) = take(&self.clock) {
-            let is_believed = match self.last {
-                Some(last) => is_near(last, taken.seconds, taken.at),
-                None => true,
-            };
-            if is_believed {
+        let held = self.held();
+        if let Ok(taken) = take(&self.clock, held) {
+            if is_believed(taken) {
+                self.guard.raise(lead_behind(taken));
                 self.last = Some(taken);
                 return Ok(taken.seconds);
             }
         }
         self.faults = self.faults.saturating_add(1);
+        self.tell_failure();
         Err(Failed)
     }
 }

@@ -113,12 +113,23 @@ impl<C: Clock + Copy> TcpDoor<C> {
         }
     }
 
+    // Waits where descriptors or memory lack. Tells it, where it was not told since they do.
+    fn pause(&self, is_told: bool) {
+        if let Some(notices) = &self.terms.teller {
+            if !is_told {
+                notices.tell(&self.terms.clock, None, Happening::Scarce);
+            }
+        }
+        thread::sleep(&self.terms.clock, Duration::from_millis(SCARCE));
+    }
+
     // The next connection of a listener. A connection that memory or descriptors lack for is
-    // closed, and the next one is waited for.
+    // closed, and the next one is taken a while later.
     fn next_of(
         &self,
         listener: &TcpListener,
     ) -> Result<Option<(PeerInput<C>, PeerOutput<C>)>, Failed> {
+        let mut is_told = false;
         for _ in 0..u64::MAX {
             let accepted = listener.accept();
             if self.terms.stop.is_asked() {
@@ -130,13 +141,15 @@ impl<C: Clock + Copy> TcpDoor<C> {
                         return Ok(Some(connection));
                     }
                     self.tell(peer, Breakage::TurnedAway);
+                    self.pause(is_told);
+                    is_told = true;
                 }
                 Err(error) => match cause_of(&error) {
                     Cause::Peer => {}
-                    Cause::Scarce => thread::sleep(
-                        &self.terms.clock,
-                        Duration::from_millis(SCARCE),
-                    ),
+                    Cause::Scarce => {
+                        self.pause(is_told);
+                        is_told = true;
+                    }
                     Cause::Listener => return Err(Failed),
                 },
             }
@@ -175,7 +188,7 @@ impl<C: Clock + Copy + Send> Door for TcpDoor<C> {
     // Whether its last replies came through no caller is told: a connection that is given back was
     // answered as it was.
     fn done(&mut self, mut input: PeerInput<C>, _output: PeerOutput<C>) {
-        let hearing = input.inner_mut().get_mut();
+        let hearing = input.inner_mut().inner_mut().get_mut();
         let (peer, why) = (hearing.peer(), hearing.close());
         if let Some(why) = why {
             self.tell(peer, why);

@@ -39,19 +39,36 @@ pub fn first_place(addresses: &[&str], place: usize) -> usize
     place
 }
 
-/// For each address its listener: at its first place, where it can be bound, and at no other.
-pub fn bind_all<R: Net<Listener = TcpListener, Stream = TcpStream>>(
+// The listener of an address. Where it can't be bound, a line tells why; one that can't be written is
+// missing.
+fn bound_at<R: Net<Listener = TcpListener, Stream = TcpStream>, E: Write>(
+    network: &R,
+    alloc: Global,
+    address: &str,
+    errors: &mut E,
+) -> Result<Option<Listener>, AllocError> {
+    match TcpListener::bind(network, address) {
+        Ok(bound) => Ok(Some(Arc::new(alloc, bound)?)),
+        Err(reason) => {
+            let _ = writeln!(errors, "taosd: {address}: {reason}");
+            Ok(None)
+        }
+    }
+}
+
+/// For each address its listener: at its first place, where it can be bound, and at no other. Each
+/// that can't be bound has a line that names it and the system's reason.
+pub fn bind_all<R: Net<Listener = TcpListener, Stream = TcpStream>, E: Write>(
     network: &R,
     alloc: Global,
     addresses: &[&str],
+    errors: &mut E,
 ) -> Result<Vec<Option<Listener>>, AllocError> {
     let mut listeners = Vec::new(alloc);
     for place in 0..addresses.len() {
         let mut listener = None;
         if first_place(addresses, place) == place {
-            if let Ok(bound) = TcpListener::bind(network, addresses[place]) {
-                listener = Some(Arc::new(alloc, bound)?);
-            }
+            listener = bound_at(network, alloc, addresses[place], errors)?;
         }
         listeners.push(listener)?;
     }

@@ -1,9 +1,9 @@
 //! What went otherwise than well, as one line tells it.
 
-use crate::reply_head::{DENIED, ReplyHead};
 use jiff::Timestamp;
 use std::fmt;
 use std::net::SocketAddr;
+use taos_wire::ReplyHead;
 
 /// Why a connection ended otherwise than well.
 #[derive(Clone, Copy, Debug, PartialEq, Eq)]
@@ -54,6 +54,10 @@ pub enum Happening {
     Broken(Breakage),
     /// The relay that was asked gave no answer.
     RelayFailed,
+    /// The clock gave no reading that is believed.
+    ClockFailed,
+    /// Descriptors or memory lack, so that a door waits before it takes the next connection.
+    Scarce,
 }
 
 /// One of them, when it was, and where.
@@ -85,21 +89,25 @@ impl fmt::Display for When {
 }
 
 // The pairs of a reply behind those of the lane and the peer.
-impl fmt::Display for ReplyHead {
+#[derive(Clone, Copy)]
+struct Pairs(ReplyHead);
+
+impl fmt::Display for Pairs {
     fn fmt<W: fmt::Write>(&self, f: &mut fmt::Formatter<W>) -> fmt::Result {
-        if self.names_request() {
-            let (channel, number) = (self.channel, self.number);
+        let head = self.0;
+        if head.names_request() {
+            let (channel, number) = (head.channel, head.number);
             write!(f, " channel {channel} number {number}")?;
         }
-        if let Some(channel) = self.unknown {
+        if let Some(channel) = head.unknown {
             write!(f, " channel {channel}")?;
         }
-        let status = self.status;
+        let status = head.status;
         write!(f, " status {status}")?;
-        if let Some(shard) = self.shard {
+        if let Some(shard) = head.shard {
             write!(f, " shard {shard}")?;
         }
-        if let Some(place) = self.place {
+        if let Some(place) = head.place {
             write!(f, " place {place}")?;
         }
         Ok(())
@@ -110,10 +118,12 @@ impl Happening {
     // Its word.
     fn word(&self) -> &'static str {
         match self {
-            Happening::Replied(head) if head.status == DENIED => "denied",
+            Happening::Replied(head) if head.is_denial() => "denied",
             Happening::Replied(_) | Happening::NotResealed { .. } => "refused",
             Happening::Broken(_) => "broken",
             Happening::RelayFailed => "relay-failed",
+            Happening::ClockFailed => "clock-failed",
+            Happening::Scarce => "scarce",
         }
     }
 }
@@ -128,12 +138,15 @@ impl fmt::Display for Notice {
             write!(f, " peer {peer}")?;
         }
         match self.what {
-            Happening::Replied(head) => write!(f, "{head}"),
+            Happening::Replied(head) => {
+                let pairs = Pairs(head);
+                write!(f, "{pairs}")
+            }
             Happening::NotResealed { code } => write!(f, " code {code}"),
             Happening::Broken(why) => f
                 .write_str(" cause ")
                 .and_then(|()| f.write_str(why.word())),
-            Happening::RelayFailed => Ok(()),
+            Happening::RelayFailed | Happening::ClockFailed | Happening::Scarce => Ok(()),
         }
     }
 }

@@ -2,15 +2,16 @@
 
 ghost use Rattle.std.specs.Prelude.{◌≡◌, ◌≤◌, IfOk, vec_len};
 
+use crate::answer::code_of;
 use crate::clock::seconds_of;
 use crate::notice::{Happening, Notice};
-use crate::reply_head::{DENIED, GRANTED, code_of, head_of};
 use rtrb::{Consumer, Producer, RingBuffer};
 use std::alloc::{AllocError, Global};
 use std::net::SocketAddr;
 use std::sync::atomic::{AtomicU64, Ordering};
 use std::sync::{Arc, Mutex};
 use std::time::{Clock, SystemTime};
+use taos_wire::{ReplyHead, head_at};
 
 /// The notices of a lane that may wait.
 pub const WAITING: usize = 64;
@@ -88,20 +89,16 @@ impl Notices {
         }
     }
 
-    // Whether a reply of this status is worth a notice.
-    fn tells_of(&self, status: u8) -> bool {
-        match status {
-            GRANTED => false,
-            DENIED => self.tells_denials,
-            _ => true,
-        }
+    // Whether a reply is worth a notice.
+    fn tells_of(&self, head: &ReplyHead) -> bool {
+        !head.is_grant() && (self.tells_denials || !head.is_denial())
     }
 
     /// Leaves a notice of a frame that is written, by the front of its payload, where that is a reply
     /// or a relay's answer which is worth one.
     pub fn tell_front<C: Clock>(&self, clock: &C, peer: Option<SocketAddr>, front: &[u8]) {
-        if let Some(head) = head_of(front) {
-            if self.tells_of(head.status) {
+        if let Some(head) = head_at(front) {
+            if self.tells_of(&head) {
                 self.tell(clock, peer, Happening::Replied(head));
             }
         }

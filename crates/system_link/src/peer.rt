@@ -8,6 +8,7 @@ use crate::notice::Breakage;
 use crate::notices::{Teller, teller_of};
 use crate::outbox::{Deferred, Outbox, PIECE};
 use crate::pace::Pace;
+use crate::rounds::{Rounded, Rounds};
 use crate::stop::Stop;
 use crate::streams::{Reading, Writing, is_cut_short};
 use crate::telling::Telling;
@@ -38,7 +39,7 @@ pub const LINGER: u64 = 1;
 const LOOK: u64 = 250;
 
 /// What comes from a peer.
-pub type PeerInput<C> = Reading<BufReader<Hearing<C>>>;
+pub type PeerInput<C> = Reading<Rounded<BufReader<Hearing<C>>>>;
 
 /// What goes to a peer.
 pub type PeerOutput<C> = Writing<Telling<Holding<C>, C>>;
@@ -254,6 +255,8 @@ pub struct Terms<C> {
     pub idle: Duration,
     /// What is left notices by.
     pub teller: Teller,
+    /// What tells the lane's link where a request ends.
+    pub rounds: Arc<Rounds, Global>,
 }
 
 // The halves of a connection that begins now.
@@ -290,5 +293,6 @@ pub(crate) fn halves<C: Clock + Copy>(
     };
     let reader = BufReader::with_capacity(alloc, PIECE, hearing)?;
     let telling = Telling::new(holding, terms.clock, Some(peer), teller);
-    Ok((Reading::new(reader), Writing::new(telling)))
+    let rounded = Rounded::new(reader, Arc::try_clone(&terms.rounds)?);
+    Ok((Reading::new(rounded), Writing::new(telling)))
 }

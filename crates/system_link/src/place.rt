@@ -2,9 +2,9 @@
 
 ghost use Rattle.std.specs.Prelude.{◌<◌, ◌≤◌, length};
 
-use crate::reply_head::HEAD;
 use arrayvec::ArrayVec;
 use frame_link::MAX_PAYLOAD;
+use taos_wire::HEAD;
 
 /// How far a stream of frames has come in the frame that it is in.
 #[derive(Clone, Copy, Debug, PartialEq, Eq)]

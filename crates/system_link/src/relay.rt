@@ -9,6 +9,7 @@ use crate::exchange::{Silence, exchange};
 use crate::line::Line;
 use crate::notice::Happening;
 use crate::notices::Teller;
+use crate::rounds::Rounds;
 use crate::streams::is_cut_short;
 use crate::term::Term;
 use arrayvec::ArrayVec;
@@ -16,26 +17,51 @@ use frame_link::{Failed, RelayAnswer, RelayLink};
 use std::alloc::Global;
 use std::io;
 use std::io::ErrorKind;
-use std::net::{Net, TcpListener, TcpStream, ToSocketAddrs};
+use std::net::{Net, SocketAddr, TcpListener, TcpStream, ToSocketAddrs};
+use std::sync::Arc;
 use std::time::{Clock, Duration};
 
-/// The seconds that a call takes at most, from its first address to the last byte of its answer.
+/// The seconds that the calls of a request take at most, from the first one's first address to the
+/// last byte of the last one's answer.
 pub const LIMIT: u64 = 5;
 
 /// The seconds behind a fault in which each call fails at once.
 pub const REST: u64 = 1;
 
-// A stream to the first of a host's addresses that answers, before the term ends.
+// The part of a time that each of so many has.
+fn share_of(left: Duration, count: usize) -> Duration {
+    let count = u32::try_from(count).unwrap_or(u32::MAX);
+    left.checked_div(count).unwrap_or(left)
+}
+
+// The addresses of a host.
+fn places_of<R: Net<Listener = TcpListener, Stream = TcpStream>>(
+    network: &R,
+    alloc: Global,
+    address: &str,
+) -> io::Result<Vec<SocketAddr>> {
+    let mut places = Vec::new(alloc);
+    for place in address.to_socket_addrs(network)? {
+        places.push(place)?;
+    }
+    Ok(places)
+}
+
+// A stream to the first of a host's addresses that answers, before the term ends. What is left of
+// it is shared among the addresses that are left.
 fn stream_to<R: Net<Listener = TcpListener, Stream = TcpStream> + Clock>(
     network: &R,
+    alloc: Global,
     address: &str,
     term: Term,
 ) -> io::Result<TcpStream> {
-    for place in address.to_socket_addrs(network)? {
+    let places = places_of(network, alloc, address)?;
+    for at in 0..places.len() {
         let Some(left) = term.left(network) else {
             return Err(io::Error::from(ErrorKind::TimedOut));
         };
-        if let Ok(stream) = TcpStream::connect_timeout(network, &place, left) {
+        let share = share_of(left, places.len() - at);
+        if let Ok(stream) = TcpStream::connect_timeout(network, &places[at], share) {
             stream.set_nodelay(true)?;
             return Ok(stream);
         }
@@ -79,17 +105,22 @@ pub struct TcpRelay<R> {
     line: Option<TcpStream>,
     // Behind a fault, until when each call fails.
     rest: Option<Term>,
+    // Until when the calls of a request may take.
+    term: Option<Term>,
+    rounds: Arc<Rounds, Global>,
     teller: Teller,
     faults: u64,
 }
 
 impl<R> TcpRelay<R> {
-    /// A link to an address `host:port`. It connects to nothing yet.
+    /// A link to an address `host:port`, whose calls of one request have this limit together. It
+    /// connects to nothing yet.
     pub fn new(
         network: R,
         alloc: Global,
         address: String,
         limit: Duration,
+        rounds: Arc<Rounds, Global>,
         teller: Teller,
     ) -> TcpRelay<R>
         ensures faults { result.faults ≡ 0 }
@@ -104,6 +135,8 @@ impl<R> TcpRelay<R> {
             limit,
             line: None,
             rest: None,
+            term: None,
+            rounds,
             teller,
             faults: 0,
         }
@@ -126,13 +159,21 @@ impl<R: Net<Listener = TcpListener, Stream = TcpStream> + Clock> TcpRelay<R> {
     }
 
     // Until when the call that begins now may take. `None` where it fails at once.
-    fn term(&self) -> Option<Term> {
+    fn term(&mut self) -> Option<Term>
+        ensures line { self.new.line ≡ self.old.line }
+        ensures place { (self.new.address ≡ self.old.address)
+            × (self.new.limit ≡ self.old.limit) }
+        ensures faults { self.new.faults ≡ self.old.faults }
+    {
         if let Some(rest) = &self.rest {
             if rest.left(&self.network).is_some() {
                 return None;
             }
         }
-        Term::after(&self.network, self.limit)
+        if self.rounds.take() || self.term.is_none() {
+            self.term = Term::after(&self.network, self.limit);
+        }
+        self.term
     }
 
     // The stream that is kept, if one is and it is of use yet. It is kept no more.
@@ -204,7 +245,7 @@ impl<R: Net<Listener = TcpListener, Stream = TcpStream> + Clock> TcpRelay<R> {
                 heard => return heard,
             }
         }
-        let Ok(stream) = stream_to(&self.network, self.address.as_str(), term) else {
+        let Ok(stream) = stream_to(&self.network, self.alloc, self.address.as_str(), term) else {
             return Err(Silence::Failed);
         };
         self.ask_on(stream, term, node, sealed, out)

@@ -8,8 +8,8 @@ use std::thread::Threads;
 use std::time::Duration;
 use std::{io, thread};
 use system_link::{
-    Doorway, Listener, Stop, TcpDoor, Terms, addresses_of, bind_all, doorways_of, first_place,
-    stop_at_end,
+    Doorway, Listener, Rounds, Stop, TcpDoor, Terms, addresses_of, bind_all, doorways_of,
+    first_place, stop_at_end,
 };
 
 // A door of the system.
@@ -27,6 +27,7 @@ fn door_of<'a>(
         stop: Arc::try_clone(stop)?,
         idle: Duration::from_millis(idle),
         teller: None,
+        rounds: Arc::new(rt.alloc(), Rounds::new())?,
     };
     Ok(TcpDoor::new(doorway, rt.alloc(), terms))
 }
@@ -122,7 +123,7 @@ fn are_served_together<D: Door>(first: &mut D, second: &mut D) -> bool {
 fn doors_at_one_address_have_connections_at_the_same_time(rt: HostRuntime) -> Result<(), Fail> {
     let alloc = rt.alloc();
     let addresses = ["127.0.0.1:0", "127.0.0.1:0"];
-    let listeners = bind_all(&rt, alloc, &addresses)?;
+    let listeners = bind_all(&rt, alloc, &addresses, &mut io::sink())?;
     let mut doorways = doorways_of(alloc, &addresses, &listeners)?;
     let (Some(Some(listener)), Some(second), Some(first)) = (
         listeners.first(),
@@ -235,7 +236,10 @@ fn is_stopped<W: Threads>(
 #[test]
 fn the_end_of_an_input_stops_a_connection_and_its_door(rt: HostRuntime) -> Result<(), Fail> {
     let alloc = rt.alloc();
-    let mut listeners = bind_all(&rt, alloc, &["127.0.0.1:0", "127.0.0.1:0", "none"])?;
+    let mut told = Vec::new(alloc);
+    let addresses = ["127.0.0.1:0", "127.0.0.1:0", "none"];
+    let mut listeners = bind_all(&rt, alloc, &addresses, &mut told)?;
+    assert!(rt; told.as_slice() == b"taosd: none: invalid socket address\n".as_slice());
     let Some(Some(listener)) = listeners.first() else {
         return Err(Fail::from(io::Error::from(io::ErrorKind::NotFound)));
     };

@@ -8,8 +8,9 @@ use std::time::{Duration, Instant};
 use std::{io, thread};
 use system_link::{
     Breakage, Happening, LINES, LeftOut, Notice, NoticeQueue, Notices, Scribe, Telling, WAITING,
-    code_of, head_of, notices_of,
+    code_of, notices_of,
 };
+use taos_wire::head_at;
 
 // The front of a reply on channel 4 to the request 7.
 const FRONT: [u8; 13] = [4, 0, 0, 0, 4, 0, 0, 0, 0, 0, 0, 0, 7];
@@ -95,14 +96,14 @@ fn a_line_has_what_its_reply_says_and_no_more(rt: HostRuntime) -> Result<(), Fai
     let alloc = rt.alloc();
     for &(is_sealed, behind, wanted) in REPLIES {
         let payload = reply_of(alloc, is_sealed, behind)?;
-        let Some(head) = head_of(&payload) else {
+        let Some(head) = head_at(&payload) else {
             return Err(Fail::from(io::Error::from(io::ErrorKind::NotFound)));
         };
         let notice = notice_of(None, Happening::Replied(head));
         assert!(rt; is_told(alloc, notice, wanted)?, "{wanted}");
     }
-    assert!(rt; head_of(&[]).is_none() && head_of(&FRONT).is_none());
-    assert!(rt; head_of(&[6, 0, 0, 0, 4, 0, 0, 0, 0, 0, 0, 0, 7, 5]).is_none());
+    assert!(rt; head_at(&[]).is_none() && head_at(&FRONT).is_none());
+    assert!(rt; head_at(&[6, 0, 0, 0, 4, 0, 0, 0, 0, 0, 0, 0, 7, 5]).is_none());
     assert!(rt;
         code_of(&[6, 3]) == Some(3) && code_of(&[6, 0, 1]) == None && code_of(&[6]) == None
     );

@@ -1,13 +1,14 @@
 use arrayvec::ArrayVec;
 use frame_link::{Failed, RelayAnswer, RelayLink};
-use std::alloc::AllocError;
-use std::io::{Read, Write};
+use std::alloc::{AllocError, Global};
+use std::io::{Empty, Read, Write};
 use std::net::{TcpListener, TcpStream};
+use std::sync::Arc;
 use std::test::*;
 use std::thread::Threads;
 use std::time::Duration;
 use std::{io, thread};
-use system_link::{LIMIT, TcpRelay};
+use system_link::{LIMIT, Rounded, Rounds, TcpRelay};
 
 // What a call answers, and how often the link has failed.
 type Told = (Result<RelayAnswer, Failed>, u64);
@@ -18,8 +19,19 @@ fn link_to<'a>(
     address: &str,
     limit: Duration,
 ) -> Result<TcpRelay<&'a HostRuntime>, AllocError> {
+    let rounds = Arc::new(rt.alloc(), Rounds::new())?;
+    link_of(rt, address, limit, rounds)
+}
+
+// The same, of a lane whose requests these are.
+fn link_of<'a>(
+    rt: &'a HostRuntime,
+    address: &str,
+    limit: Duration,
+    rounds: Arc<Rounds, Global>,
+) -> Result<TcpRelay<&'a HostRuntime>, AllocError> {
     let address = String::from_str(rt.alloc(), address)?;
-    Ok(TcpRelay::new(rt, rt.alloc(), address, limit, None))
+    Ok(TcpRelay::new(rt, rt.alloc(), address, limit, rounds, None))
 }
 
 // A listener on this machine, and its address.
@@ -167,5 +179,52 @@ fn an_address_that_is_not_reached_fails_at_each_call(rt: HostRuntime) -> Result<
         let mut relay = link_to(&rt, address, Duration::from_secs(LIMIT))?;
         assert!(rt; fails_twice(&mut relay), "at {address}");
     }
+    Ok(())
+}
+
+// Answers two questions on a connection and one on another, each a while after it came.
+fn answer_slowly(rt: &HostRuntime, listener: &TcpListener) -> io::Result<()> {
+    for count in [2, 1] {
+        let (mut stream, _) = listener.accept()?;
+        for _ in 0..count {
+            if !is_asked(&mut stream)? {
+                break;
+            }
+            thread::sleep(rt, Duration::from_millis(600));
+            let _ = stream.write_all(&[0, 0, 0, 2, 6, 2]);
+        }
+    }
+    Ok(())
+}
+
+// Whether the second call of a request has what the first one left of a second, and the first call of
+// the next has a second again.
+fn shares_limit(
+    rt: &HostRuntime,
+    relay: &mut TcpRelay<&HostRuntime>,
+    input: &mut Rounded<Empty>,
+) -> bool {
+    let first = ask(relay);
+    let second = ask(relay);
+    thread::sleep(rt, Duration::from_millis(1_200));
+    let is_next = input.read(&mut [0u8; 1]).is_ok();
+    let third = ask(relay);
+    is_next && is_refused(first, 2, 0) && is_failed(second, 1) && is_refused(third, 2, 1)
+}
+
+#[test]
+fn the_calls_of_one_request_share_its_limit(rt: HostRuntime) -> Result<(), Fail> {
+    let (listener, address) = listen(&rt)?;
+    let rounds = Arc::new(rt.alloc(), Rounds::new())?;
+    let mut input = Rounded::new(io::empty(), Arc::try_clone(&rounds)?);
+    let mut relay = link_of(&rt, address.as_str(), Duration::from_secs(1), rounds)?;
+    let (rt, listener, relay, input) = (&rt, &listener, &mut relay, &mut input);
+    let (is_shared, answered) = thread::join(
+        rt,
+        move || shares_limit(rt, relay, input),
+        move || answer_slowly(rt, listener),
+    );
+    answered?;
+    assert!(rt; is_shared);
     Ok(())
 }

@@ -1,10 +1,10 @@
-use frame_link::{Clock, Failed, Sink, Source};
+use frame_link::{Failed, Sink, Source};
 use std::alloc::Global;
 use std::fs::File;
 use std::io;
-use std::io::ErrorKind;
+use std::io::{ErrorKind, Read, Write};
 use std::test::*;
-use system_link::{FileReading, Origin, Reading, SystemSeconds, Watched, Writing};
+use system_link::{FileReading, Origin, Patient, Reading, Watched, Writing};
 
 fn fails<S: Source>(source: &mut S) -> bool {
     let mut room = [0u8; 4];
@@ -92,10 +92,47 @@ fn no_file_is_empty(rt: HostRuntime) {
     assert!(rt; is_empty(rt.alloc()));
 }
 
+// A stream that has nothing, and takes nothing, at so many calls, and then a byte.
+#[derive(Drop)]
+struct Late {
+    calls: u32,
+}
+
+impl Late {
+    fn call(&mut self) -> io::Result<usize> {
+        if self.calls == 0 {
+            return Ok(1);
+        }
+        self.calls -= 1;
+        Err(io::Error::from(ErrorKind::WouldBlock))
+    }
+}
+
+impl Read for Late {
+    fn read(&mut self, into: &mut [u8]) -> io::Result<usize> {
+        let count = self.call()?;
+        Ok(count.min(into.len()))
+    }
+}
+
+impl Write for Late {
+    fn write(&mut self, piece: &[u8]) -> io::Result<usize> {
+        let count = self.call()?;
+        Ok(count.min(piece.len()))
+    }
+
+    fn flush(&mut self) -> io::Result<()> {
+        Ok(())
+    }
+}
+
 #[test]
-fn the_clock_tells_seconds_of_this_century(rt: HostRuntime) {
-    let mut clock = SystemSeconds::new(&rt);
-    let now = clock.now().unwrap_or(0);
-    assert!(rt; now > 1_700_000_000 && now < 4_102_444_800);
-    assert!(rt; clock.faults() == 0);
+fn what_is_not_there_yet_is_waited_for(rt: HostRuntime) {
+    let mut input = Reading::new(Patient::new(Late { calls: 3 }, &rt));
+    let mut room = [0u8; 4];
+    assert!(rt; input.read(&mut room) == Ok(1) && input.faults() == 0);
+    let mut output = Writing::new(Patient::new(Late { calls: 3 }, &rt));
+    assert!(rt; output.write(&room) == Ok(1) && output.faults() == 0);
+    let mut bare = Reading::new(Late { calls: 1 });
+    assert!(rt; fails(&mut bare) && bare.faults() == 1);
 }

@@ -23,3 +23,4 @@ pub mod Numbers
 pub mod NumberedMoving
 pub mod Asking
 pub mod Offsets
+pub mod Counted

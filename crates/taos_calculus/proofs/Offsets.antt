@@ -64,7 +64,7 @@ module _ (bytes : List ℕ) where
   unfolding parts_at
   parts_tell = stays_made _ (stays_followed nodes_tell (λ nodes. lines_tell (length nodes)))
 
-  proof_tells : (at : ℕ) (f : ProofFault) → at ≤ length bytes → proof_from bytes at ≡ Err f → IsFaultIn bytes f
+  pub proof_tells : (at : ℕ) (f : ProofFault) → at ≤ length bytes → proof_from bytes at ≡ Err f → IsFaultIn bytes f
   unfolding proof_from
   proof_tells at f le e = elim (bind_err (parts_at bytes at) _ f e) [
     | inl x ↦ parts_tell.refuses at f le x

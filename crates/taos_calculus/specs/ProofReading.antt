@@ -20,6 +20,7 @@ use Rattle.taos_calculus.specs.declared.reading_lines.StepShape.TheVariants.{One
 use Rattle.taos_calculus.specs.declared.proof.TheConstants.{MAX_NODES, MAX_LINES}
 use Rattle.taos_calculus.specs.Tables.{Parts, parts_of, principals_of, lines_of}
 use Rattle.taos_calculus.specs.Canonical.{canonical_table}
+use Rattle.taos_calculus.specs.Rules.{Line as Meaning}
 
 -- a reader of some bytes, with the faults of proofs, which are those of all formats
 abbrev pub ProofReader : Type 0 → Type 0
@@ -183,3 +184,9 @@ proof_filling bytes n at = do
   text ← bytes_at (ended bytes) n bytes at
   parts ← proof_from (take (at + n) bytes) at
   Ok (parts, text.1)
+
+-- a length, and the lines of the proof that fills it
+unfoldable pub proof_at : List ℕ → ProofReader (List Meaning)
+proof_at bytes =
+    made (λ x. lines_of x.1)
+    (followed (u32_in bytes) (λ n. proof_filling bytes n))

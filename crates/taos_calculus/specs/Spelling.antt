@@ -2,6 +2,7 @@
 use Rattle.std.specs.Prelude.{ℕ, List, [], ◌∷◌, ◌++◌, length, map}
 use Rattle.std.specs.Int.{w16, w32, to_be_bytes}
 use Rattle.std.specs.List.{flat_map, position_or_len}
+use Rattle.byte_fields.specs.Steps.{counted}
 use Rattle.prin_term.specs.Principal.{Principal, Key, Name, And, Quoting, InRole, For}
 use Rattle.taos_calculus.specs.declared.line.Node.{Node}
 use Rattle.taos_calculus.specs.declared.line.Fact.{Fact}
@@ -112,3 +113,7 @@ parts_spelling parts =
 -- the one spelling of lines over principals
 unfoldable pub proof_spelling : List Meaning → List ℕ
 proof_spelling lines = parts_spelling (numbered lines)
+
+-- a proof, after its length
+unfoldable pub proof_bytes : List Meaning → List ℕ
+proof_bytes proof = counted w32 (proof_spelling proof)

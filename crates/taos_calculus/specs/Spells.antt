@@ -1,12 +1,13 @@
 -- Which bytes spell a proof.
-use Rattle.std.specs.Prelude.{◌≡◌, ◌<◌, ◌^◌, ℕ, Bool, true, false, List, All}
+use Rattle.std.specs.Prelude.{◌≡◌, ◌<◌, ◌^◌, ℕ, Bool, true, false, List, ◌++◌, drop, All}
 use Rattle.taos_calculus.specs.declared.line.Node.{Node}
 use Rattle.taos_calculus.specs.declared.line.Fact.{Fact}
 use Rattle.taos_calculus.specs.declared.line.Step.{Step}
 use Rattle.taos_calculus.specs.declared.line.Line.{Line}
 use Rattle.taos_calculus.specs.Tables.{Parts, lines_of}
 use Rattle.taos_calculus.specs.Limits.{IsProofParts}
-use Rattle.taos_calculus.specs.Spelling.{proof_spelling}
+use Rattle.taos_calculus.specs.Rules.{Line as Meaning}
+use Rattle.taos_calculus.specs.Spelling.{proof_spelling, proof_bytes}
 
 -- the number of a key, of a name or of a role fits its field
 abbrev pub NodeFits : Node → Type 0
@@ -72,3 +73,15 @@ pub record FitsProof (parts : Parts) : Type 0 where
 pub record Spells (parts : Parts) (bytes : List ℕ) : Type 0 where
   pub limits : FitsProof parts
   pub text : bytes ≡ proof_spelling (lines_of parts)
+
+-- these are the lines that some parts within the limits mean, so they have a spelling
+pub record IsProof (lines : List Meaning) : Type 0 where
+  pub parts : Parts
+  pub limits : FitsProof parts
+  pub meaning : lines_of parts ≡ lines
+
+-- the bytes from an offset on begin with these lines after their length, which are within the
+-- limits
+pub record IsProofAt (bytes : List ℕ) (at : ℕ) (lines : List Meaning) : Type 0 where
+  pub text : (rest : List ℕ) × (drop at bytes ≡ proof_bytes lines ++ rest)
+  pub limits : IsProof lines

@@ -1,14 +1,18 @@
 //! The laws of the calculus, each the contract of a function that does nothing.
 
-ghost use Rattle.std.specs.Prelude.{◌≡◌, ◌≢◌, ◌↔◌, ◌<◌, ◌++◌, [], List, ℕ, Ok, Err, length, All};
+ghost use Rattle.std.specs.Prelude.{◌≡◌, ◌≢◌, ◌↔◌, ◌+◌, ◌<◌, ◌≤◌, ◌++◌, [], List, ℕ, Ok, Err};
+ghost use Rattle.std.specs.Prelude.{length, All};
+ghost use Rattle.byte_fields.specs.Formats.{IsFaultIn};
+ghost use Rattle.byte_fields.specs.Steps.{IsByte};
+ghost use Rattle.byte_fields.specs.declared.fault.FormatFault.{FormatFault as ProofFault};
 ghost use Rattle.prin_term.specs.declared.term.Anchor.{Anchor};
 ghost use Rattle.prin_term.specs.Principal.{Principal};
 ghost use Rattle.byte_fields.specs.declared.fault.FormatFault.TheVariants.{Malformed, NoMemory};
 ghost use Rattle.taos_calculus.specs.Rules.{Judgement, Claim, Line};
 ghost use Rattle.taos_calculus.specs.Tables.{Parts, lines_of};
-ghost use Rattle.taos_calculus.specs.Spelling.{numbered, proof_spelling};
-ghost use Rattle.taos_calculus.specs.Spells.{FitsProof, Spells};
-ghost use Rattle.taos_calculus.specs.ProofReading.{proof_of};
+ghost use Rattle.taos_calculus.specs.Spelling.{numbered, proof_bytes, proof_spelling};
+ghost use Rattle.taos_calculus.specs.Spells.{FitsProof, IsProofAt, Spells};
+ghost use Rattle.taos_calculus.specs.ProofReading.{proof_at, proof_of};
 ghost use Rattle.taos_calculus.specs.Having.{HaveParts, AreAlone};
 ghost use Rattle.taos_calculus.specs.Saturation.{HasEveryFact};
 ghost use Rattle.taos_calculus.specs.Reach.{KeepsReach, KnowsReach};
@@ -79,6 +83,16 @@ pub fn proofs_are_read()
     ensures read { (bytes : List ℕ) (p : Parts) → All (λ b. b < 256) bytes
         → (proof_of bytes ≡ Ok p) ↔ Spells p bytes }
     ensures refused { (bytes : List ℕ) → proof_of bytes ≢ Err NoMemory }
+{}
+
+/// The same of a proof after its length, at an offset: what is read are its lines. Other bytes are
+/// refused at one of them or right after the last.
+pub fn counted_proofs_are_read()
+    ensures read { (bytes : List ℕ) (lines : List Line) (at end : ℕ) → at ≤ length bytes
+        → All IsByte bytes → (proof_at bytes at ≡ Ok (lines, end))
+        ↔ (IsProofAt bytes at lines × (end ≡ at + length (proof_bytes lines))) }
+    ensures refused { (bytes : List ℕ) (at : ℕ) (f : ProofFault) → at ≤ length bytes
+        → All IsByte bytes → proof_at bytes at ≡ Err f → IsFaultIn bytes f }
 {}
 
 /// No spelling begins another: one that is cut is refused at the cut, and what follows one at its

@@ -3,9 +3,10 @@
 ghost use Rattle.std.specs.Prelude.{◌≡◌, ◌≤◌, length, IfOk, MatchResult};
 ghost use Rattle.byte_fields.specs.Steps.{Gives};
 ghost use Rattle.byte_fields.specs.declared.fault.FormatFault.TheVariants.{NoMemory};
-ghost use Rattle.taos_calculus.specs.Tables.{Parts, parts_of};
+ghost use Rattle.taos_calculus.specs.Tables.{Parts, lines_of, parts_of};
 ghost use Rattle.taos_calculus.specs.Spells.{Spells};
-ghost use Rattle.taos_calculus.specs.ProofReading.{parts_at, proof_from, proof_of, proof_filling};
+ghost use Rattle.taos_calculus.specs.ProofReading.{parts_at, proof_at, proof_from, proof_of};
+ghost use Rattle.taos_calculus.specs.ProofReading.{proof_filling};
 
 use crate::fault::ProofFault;
 use crate::line::{Line, Node};
@@ -13,7 +14,7 @@ use crate::proof::Proof;
 use crate::reading_fields::ended;
 use crate::reading_lines::lines_of;
 use crate::reading_nodes::nodes_of;
-use byte_fields::slice_at;
+use byte_fields::{slice_at, u32_at};
 use std::alloc::Global;
 
 // The nodes, the lines, and the offset behind them.
@@ -76,5 +77,22 @@ pub fn read_proof_at(
 {
     let (_, end) = slice_at(bytes, at, len, ended(bytes))?;
     let proof = all_of(alloc, &bytes[..end], at)?;
+    Ok((proof, end))
+}
+
+/// The proof that is spelled at `at`, after its length, and the offset after it.
+#[tactic(auto, unfolding(crate::specs::ProofReading::proof_at))]
+pub fn read_counted_proof(
+    alloc: Global,
+    bytes: &[u8],
+    at: usize,
+) -> Result<(Proof, usize), ProofFault>
+    requires { at ≤ length bytes.now }
+    // `counted_proofs_are_read` tells what it gives.
+    ensures exact { Gives NoMemory (λ x. (lines_of x.0, x.1)) result (proof_at bytes.now at) }
+    ensures within { IfOk result (λ x. x.1 ≤ length bytes.now) }
+{
+    let (len, next) = u32_at(bytes, at, ended(bytes))?;
+    let (proof, end) = read_proof_at(alloc, bytes, next, len as usize)?;
     Ok((proof, end))
 }

@@ -1,11 +1,13 @@
 //! Writing the spelling of a proof.
 
-ghost use Rattle.std.specs.Prelude.{◌≡◌, ◌++◌, ◌∷◌, ◌<◌, ◌≤◌, ◌^◌, length};
+ghost use Rattle.std.specs.Prelude.{◌≡◌, ◌++◌, ◌∷◌, ◌+◌, ◌<◌, ◌≤◌, ◌^◌, drop, length, take};
+ghost use Rattle.std.specs.Prelude.{vec_capacity, OnOk};
 ghost use Rattle.std.specs.Int.{w16, w32, to_be_bytes};
 ghost use Rattle.std.specs.List.{flat_map};
 ghost use Rattle.byte_fields.specs.Appends.{Appends, Pushes};
 ghost use Rattle.taos_calculus.specs.Tables.{lines_of, parts_of};
-ghost use Rattle.taos_calculus.specs.Spelling.{proof_spelling, parts_spelling, node_bytes};
+ghost use Rattle.taos_calculus.specs.Spelling.{proof_bytes, proof_spelling, parts_spelling};
+ghost use Rattle.taos_calculus.specs.Spelling.{node_bytes};
 ghost use Rattle.taos_calculus.specs.Spelling.{fact_bytes, premise_bytes, line_bytes, rule_byte};
 ghost use Rattle.taos_calculus.specs.Spelling.{pair16, pair32};
 
@@ -20,6 +22,43 @@ pub fn write_proof(out: &mut Vec<u8>, proof: &Proof) -> Result<(), AllocError>
     ensures short { length (proof_spelling (lines_of proof.now)) < 2 ^ 25 }
 {
     write_parts(out, proof.nodes(), proof.lines())
+}
+
+/// Appends a proof after its length. An `Err` leaves the bytes as they were.
+pub fn write_counted_proof(out: &mut Vec<u8>, proof: &Proof) -> Result<(), AllocError>
+    ensures appends { Appends out.old out.new (proof_bytes (lines_of proof.now)) result }
+    ensures short { OnOk result (length (proof_bytes (lines_of proof.now)) < 2 ^ 25 + 4) }
+{
+    let len = out.len();
+    let written = push_counted(out, proof);
+    if written.is_err() {
+        out.truncate(len);
+    }
+    written
+}
+
+#[tactic(auto, unfolding(crate::specs::Spelling::proof_bytes))]
+fn push_counted(out: &mut Vec<u8>, proof: &Proof) -> Result<(), AllocError>
+    ensures pushes { Pushes out.old out.new (proof_bytes (lines_of proof.now)) result }
+    ensures short { OnOk result (length (proof_bytes (lines_of proof.now)) < 2 ^ 25 + 4) }
+{
+    let start = out.len();
+    out.extend_from_slice(&[0; 4])?;
+    let text = out.len();
+    write_proof(out, proof)?;
+    let len = (out.len() - text) as u32;
+    fill(out, start, &len.to_be_bytes());
+    Ok(())
+}
+
+// Writes bytes over those that stand at `start`.
+fn fill(out: &mut Vec<u8>, start: usize, bytes: &[u8])
+    requires within { start + length bytes.now ≤ length out.old.items }
+    ensures items { out.new.items ≡ take start out.old.items ++ bytes.now
+        ++ drop (start + length bytes.now) out.old.items }
+    ensures capacity { vec_capacity out.new ≡ vec_capacity out.old }
+{
+    out[start..start + bytes.len()].copy_from_slice(bytes);
 }
 
 fn write_parts(out: &mut Vec<u8>, nodes: &[Node], lines: &[Line]) -> Result<(), AllocError>

@@ -6,20 +6,13 @@ use Rattle.object_core.specs.Operation.{Read}
 use Rattle.prin_term.specs.Principal.{Key, Name}
 use Rattle.sealed_cert.specs.declared.kind.TheConstants.{RELAYED}
 use Rattle.sealed_cert.specs.Seals as seals
-use Rattle.stmt_codec.specs.Certificates.{Certificate}
+use Rattle.stmt_codec.specs.Certificates.{Certificate, says}
 use Rattle.taos_wire.specs.Request.{Request, sealed}
 use Rattle.taos_drill.specs.Words.{is_even, key_at, word_of}
 
 -- key 1000 says that the channel's key speaks for name 1
 abbrev pub drill_certificate : ℕ → Certificate
-drill_certificate channel = record {
-  issuer = 1000;
-  quoted = None;
-  left = Key channel;
-  right = Name 1;
-  until = 4294967296;
-  serial = channel;
-}
+drill_certificate channel = says 1000 None (Key channel) (Name 1) 4294967296 channel
 
 -- that certificate under the relay's seal for the node
 abbrev pub presented : ℕ → ℕ → List ℕ

@@ -10,7 +10,7 @@ ghost use Rattle.taos_drill.specs.Sent.{asked, drill_certificate, object_for};
 
 use crate::numbers::{CLOSED, ISSUER, MAX_LANES, NAME, UNTIL};
 use object_core::Op;
-use prin_term::{Statement, Term};
+use prin_term::Term;
 use sealed_cert::{RELAYED, seal_relayed};
 use std::alloc::{AllocError, Global};
 use std::sync::Arc;
@@ -29,16 +29,15 @@ pub(crate) struct Caller {
 fn body_of(channel: u32) -> CertBody
     ensures { certificate result ≡ drill_certificate channel }
 {
-    CertBody {
-        issuer: ISSUER,
-        quoted: None,
-        statement: Statement {
-            left: Term::Key(channel),
-            right: Term::Name(NAME),
-        },
-        until: UNTIL,
-        serial: u64::from(channel),
-    }
+    let serial = u64::from(channel);
+    CertBody::says(
+        ISSUER,
+        None,
+        Term::Key(channel),
+        Term::Name(NAME),
+        UNTIL,
+        serial,
+    )
 }
 
 // The object of a request: at an even word the one that the channel may read.

@@ -4,7 +4,7 @@ ghost use Rattle.std.specs.Prelude.{◌≡◌, ◌+◌, ◌≤◌, List, [], ◌
 ghost use Rattle.std.specs.Prelude.{if◌then◌else◌};
 ghost use Rattle.std.specs.List.{range_with_len};
 ghost use Rattle.prin_term.specs.View.{grant};
-ghost use Rattle.node_file.specs.Held.{HoldsKeys};
+ghost use Rattle.file_lines.specs.Held.{HoldsKeys};
 ghost use Rattle.node_file.specs.OpeningView.{Represents};
 ghost use Rattle.node_file.specs.Plans.{plan};
 ghost use Rattle.taos_drill.specs.Opened.{drill_channels, drill_objects, drill_opening};
@@ -123,7 +123,7 @@ pub(crate) fn opening_of(
         shards: SHARDS,
         keep: KEEP,
         limit: 2 * requests as u64 + 16,
-        names: Names::new(alloc),
+        names: Names::new(alloc)?,
         channels: channels_of(alloc, keys, lanes)?,
         anchors: Arc::new(alloc, vec![in alloc; issuer]?)?,
         commons: Vec::new(alloc),

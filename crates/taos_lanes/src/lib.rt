@@ -5,6 +5,7 @@
 mod joining;
 mod lane;
 mod laws;
+mod limit_laws;
 mod parts;
 mod relaying;
 mod serving;
@@ -17,6 +18,7 @@ mod worker;
 
 pub use lane::{Lane, Stock};
 pub use laws::{chains_go_on, closed_lanes_serve_all, joined_lanes_are_closed};
+pub use limit_laws::limits_are;
 pub use parts::NodeParts;
 pub use relaying::serve_relays;
 pub use serving::{MAX_LANES, Served, serve};

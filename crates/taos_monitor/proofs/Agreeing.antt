@@ -1,6 +1,7 @@
 -- Courses of one payload do not differ in their status.
 use Rattle.std.proofs.Common.{◌≡◌, ◌≢◌, ◌⊎◌, ℕ, ◌+◌, List, [], ◌∷◌, ◌++◌, length, drop, map, All, Option, None, Some, refl, sym, ap, ap₂, subst, subst₂, ◌∙◌, inl, inr, arith, length-append}
 use Rattle.std.proofs.Math.Seq.{drop-append_seam, get_or-append_seam}
+use Rattle.std.proofs.lemmas.List.{same_from_push}
 use Rattle.std.proofs.lemmas.List.Elements.{All-head, All-tail, All-append, All-cons, All-nil}
 use Rattle.std.proofs.lemmas.Option.{same_Some}
 use Rattle.keyed_seal.specs.Keys.{key_of}
@@ -21,10 +22,11 @@ use Rattle.taos_monitor.specs.AtObject.{Seeking, Own, places_at, ruled_as, told_
 use Rattle.taos_monitor.specs.Cells.{Node, home, Journals, Place, OfShard, OfObject, in_shard, in_object}
 use Rattle.taos_monitor.specs.Credentials.{LinkCall, AreOpened, IsFirstRefused, IsFirstFailed}
 use Rattle.taos_monitor.specs.Course.{Used, uses, Course, malformed, unknown_channel, bad_seal, cert_refused, relay_failed, unknown_object, ruled, unread, unopened}
-use Rattle.taos_monitor.specs.Effects.{ShardStep, step_at, its_place, shards_of, IsDone, LetsGo, IsStep, IsPerformed, through, not_held, no_room, no_place}
+use Rattle.taos_monitor.specs.Effects.{ShardStep, step_at, its_place, shards_of, IsDone, lacks_room, LetsGo, IsStep, IsPerformed, through, not_held, no_room, no_place}
 use Rattle.taos_monitor.specs.Operations.{effect_of, targets_of}
 use Rattle.taos_monitor.specs.Laws.{CoursesAgree}
 use Rattle.taos_monitor.proofs.Firsts.{opened_or_refused, opened_or_failed, refused_or_link}
+use Rattle.taos_monitor.proofs.Roomless.{never_done}
 
 -- ---- entries at one place
 
@@ -96,22 +98,22 @@ same_unruled journal own s t (inr x) (inr y) =
 data Way (op : Op) (targets : List ℕ) (steps : List ShardStep) : ℕ → Type 0 where
   went : shards_of steps ≡ targets → All (λ (s : ShardStep). IsDone s.told) steps → ((digest : List ℕ) → op ≡ Discard digest → LetsGo steps) → Way op targets steps 0
   unheld : (digest : List ℕ) → op ≡ Discard digest → shards_of steps ≡ targets → All (λ (s : ShardStep). IsDone s.told) steps → (LetsGo steps → ⊥) → Way op targets steps 13
-  roomless : (done : List ShardStep) (shard place held : ℕ) → steps ≡ done ++ step_at shard place (Told.CommonsFull held) ∷ [] → Way op targets steps 12
+  roomless : (done : List ShardStep) (shard place : ℕ) (told : Told) (reply : Reply) → lacks_room shard told ≡ Some reply → steps ≡ done ++ step_at shard place told ∷ [] → Way op targets steps (status_of reply)
   placeless : (shard : ℕ) (rest : List ℕ) → targets ≡ shards_of steps ++ shard ∷ rest → All (λ (s : ShardStep). IsDone s.told) steps → Way op targets steps 10
 
 way_of : (plans : List Plan) (J : ℕ → List Entry) (op : Op) (certs : List Certificate) (reading : ℕ) (told : Reply) (steps : List ShardStep) (refused : Option Reply) → status_of told ≡ 0 → IsPerformed plans J op (effect_of op certs reading) steps refused →
     Way op (targets_of plans op) steps (status_of (told_or refused told))
 way_of plans J op certs reading told steps refused zero (through w lets) = subst (Way op (targets_of plans op) steps) (sym zero) (went w.order w.are_done.done lets)
 way_of plans J op certs reading told steps refused zero (not_held digest is w none) = unheld digest is w.order w.are_done.done none
-way_of plans J op certs reading told steps refused zero (no_room {shard} {held} f) = roomless f.done shard f.place held f.steps_are
+way_of plans J op certs reading told steps refused zero (no_room {shard} {told = said} {reply} lacks f) = roomless f.done shard f.place said reply lacks f.steps_are
 way_of plans J op certs reading told steps refused zero (no_place {shard} f) = placeless shard f.rest f.order f.are_done.done
 
-not_done : (steps done : List ShardStep) (shard place held : ℕ) → steps ≡ done ++ step_at shard place (Told.CommonsFull held) ∷ [] → All (λ (s : ShardStep). IsDone s.told) steps → ⊥
-not_done steps done shard place held is all =
-    let last = step_at shard place (Told.CommonsFull held) in
+not_done : (steps done : List ShardStep) (shard place : ℕ) (told : Told) (reply : Reply) → lacks_room shard told ≡ Some reply → steps ≡ done ++ step_at shard place told ∷ [] → All (λ (s : ShardStep). IsDone s.told) steps → ⊥
+not_done steps done shard place told reply lacks is all =
+    let last = step_at shard place told in
     let more : length steps ≡ length done + 1 = ap (λ l. length l) is ∙ length-append done (last ∷ []) in
     let there = subst (All (λ (s : ShardStep). IsDone s.told)) is all (length done) last (omega (arith, length-append done (last ∷ []))) in
-    subst (λ (s : ShardStep). IsDone s.told) (get_or-append_seam done last [] last) there
+    never_done shard told reply lacks (subst (λ (s : ShardStep). IsDone s.told) (get_or-append_seam done last [] last) there)
 
 no_more : (shards targets : List ℕ) (shard : ℕ) (rest : List ℕ) → shards ≡ targets → targets ≡ shards ++ shard ∷ rest → ⊥
 no_more shards targets shard rest all is = absurd (omega (arith, ap (λ l. length l) all, ap (λ l. length l) is, length-append shards (shard ∷ rest)))
@@ -119,19 +121,22 @@ no_more shards targets shard rest all is = absurd (omega (arith, ap (λ l. lengt
 same_way : (op : Op) (targets : List ℕ) (steps : List ShardStep) (s t : ℕ) → Way op targets steps s → Way op targets steps t → s ≡ t
 same_way op targets steps s t (went a b c) (went d e f) = refl
 same_way op targets steps s t (went a b c) (unheld digest is d e none) = absurd (none (c digest is))
-same_way op targets steps s t (went a b c) (roomless done shard place held is) = absurd (not_done steps done shard place held is b)
+same_way op targets steps s t (went a b c) (roomless done shard place told reply lacks is) = absurd (not_done steps done shard place told reply lacks is b)
 same_way op targets steps s t (went a b c) (placeless shard rest is d) = absurd (no_more (shards_of steps) targets shard rest a is)
 same_way op targets steps s t (unheld digest is d e none) (went a b c) = absurd (none (c digest is))
 same_way op targets steps s t (unheld digest is d e none) (unheld other also f g nobody) = refl
-same_way op targets steps s t (unheld digest so d e none) (roomless done shard place held is) = absurd (not_done steps done shard place held is e)
+same_way op targets steps s t (unheld digest so d e none) (roomless done shard place told reply lacks is) = absurd (not_done steps done shard place told reply lacks is e)
 same_way op targets steps s t (unheld digest so a e none) (placeless shard rest is d) = absurd (no_more (shards_of steps) targets shard rest a is)
-same_way op targets steps s t (roomless done shard place held is) (went a b c) = absurd (not_done steps done shard place held is b)
-same_way op targets steps s t (roomless done shard place held is) (unheld digest so d e none) = absurd (not_done steps done shard place held is e)
-same_way op targets steps s t (roomless done shard place held is) (roomless all other at many so) = refl
-same_way op targets steps s t (roomless done shard place held is) (placeless other rest so d) = absurd (not_done steps done shard place held is d)
+same_way op targets steps s t (roomless done shard place told reply lacks is) (went a b c) = absurd (not_done steps done shard place told reply lacks is b)
+same_way op targets steps s t (roomless done shard place told reply lacks is) (unheld digest so d e none) = absurd (not_done steps done shard place told reply lacks is e)
+same_way op targets steps s t (roomless done shard place told reply lacks is) (roomless all other at said answer wants so) =
+    let last = (same_from_push done all (step_at shard place told) (step_at other at said) (sym is ∙ so)).1 in
+    let one = ap (λ (x : ShardStep). lacks_room x.shard x.told) last in
+    ap status_of (same_Some reply answer (sym lacks ∙ one ∙ wants))
+same_way op targets steps s t (roomless done shard place told reply lacks is) (placeless other rest so d) = absurd (not_done steps done shard place told reply lacks is d)
 same_way op targets steps s t (placeless shard rest is d) (went a b c) = absurd (no_more (shards_of steps) targets shard rest a is)
 same_way op targets steps s t (placeless shard rest is d) (unheld digest so a e none) = absurd (no_more (shards_of steps) targets shard rest a is)
-same_way op targets steps s t (placeless other rest so d) (roomless done shard place held is) = absurd (not_done steps done shard place held is d)
+same_way op targets steps s t (placeless other rest so d) (roomless done shard place told reply lacks is) = absurd (not_done steps done shard place told reply lacks is d)
 same_way op targets steps s t (placeless shard rest is d) (placeless other more so e) = refl
 
 -- steps that stand in the journals
@@ -144,8 +149,8 @@ as_entry J effect steps all k d lt = let s = all k d lt in (s.event, s.before, s
 performed_entries : (plans : List Plan) (J : ℕ → List Entry) (op : Op) (certs : List Certificate) (reading : ℕ) (steps : List ShardStep) (refused : Option Reply) → IsPerformed plans J op (effect_of op certs reading) steps refused → All (IsEntry J) steps
 performed_entries plans J op certs reading steps refused (through w lets) = as_entry J _ steps w.are_done.stand
 performed_entries plans J op certs reading steps refused (not_held digest is w none) = as_entry J _ steps w.are_done.stand
-performed_entries plans J op certs reading steps refused (no_room {shard} {held} f) =
-    let last = step_at shard f.place (Told.CommonsFull held) in
+performed_entries plans J op certs reading steps refused (no_room {shard} {told} lacks f) =
+    let last = step_at shard f.place told in
     subst (All (IsEntry J)) (sym f.steps_are)
     (All-append (IsEntry J) f.done (last ∷ []) (as_entry J _ f.done f.are_done.stand) (All-cons (IsEntry J) last [] (f.refused.event, f.refused.before, f.refused.stands) (All-nil (IsEntry J))))
 performed_entries plans J op certs reading steps refused (no_place f) = as_entry J _ steps f.are_done.stand

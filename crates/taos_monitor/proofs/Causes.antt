@@ -1,5 +1,5 @@
 -- The code of a certificate that is refused, and the faults of the link.
-use Rattle.std.proofs.Common.{◌≡◌, ℕ, ◌+◌, ◌-◌, ◌^◌, ◌<◌, ◌≤◌, List, [], ◌∷◌, subst, arith}
+use Rattle.std.proofs.Common.{◌≡◌, ℕ, ◌+◌, ◌-◌, ◌^◌, ◌<◌, ◌≤◌, List, [], ◌∷◌, refl, subst, arith}
 use Rattle.std.specs.Prelude.{Option}
 use Rattle.object_core.specs.Operation.{Op}
 use Rattle.stmt_codec.specs.Certificates.{Certificate}
@@ -15,6 +15,7 @@ use Rattle.taos_monitor.specs.Credentials.{LinkAnswer, Resealed, Refused, Lacked
 use Rattle.taos_monitor.specs.Credentials as cert
 use Rattle.taos_monitor.specs.Course.{malformed, unknown_channel, bad_seal, cert_refused, relay_failed, unknown_object, ruled, unread, unopened}
 use Rattle.taos_monitor.specs.Laws.{CodesAreKnown, FaultsAreCounted, failed_in}
+use Rattle.taos_monitor.proofs.Roomless.{other_reply}
 
 abbrev IsCode : ℕ → Type 0
 IsCode code = (1 ≤ code) × (code ≤ 6)
@@ -39,7 +40,7 @@ performed_code : (plans : List Plan) (J : ℕ → List Entry) (op : Op) (certs :
     (told ≡ CertRefused index code → ⊥) → told_or after told ≡ CertRefused index code → ⊥
 performed_code plans J op certs reading told steps after (through w lets) index code not e = not e
 performed_code plans J op certs reading told steps after (not_held digest is w none) index code not e = absurd cc
-performed_code plans J op certs reading told steps after (no_room f) index code not e = absurd cc
+performed_code plans J op certs reading told steps after (no_room {shard} {told = said} {reply} lacks f) index code not e = absurd (other_reply shard said reply (CertRefused index code) 6 lacks refl (omega arith) e)
 performed_code plans J op certs reading told steps after (no_place f) index code not e = absurd cc
 
 guarded_code : (plans : List Plan) (plan : Plan) (J : Journals) (x : Seeking) (own : Own) (reply : Reply) → IsGuarded plans plan J x own reply → (index code : ℕ) → reply ≡ CertRefused index code → ⊥

@@ -6,7 +6,7 @@ use Rattle.sealed_cert.specs.declared.kind.TheConstants.{RELAYED}
 use Rattle.stmt_codec.specs.Certificates.{Certificate, body_spelling}
 use Rattle.stmt_codec.proofs.Once.{body_once}
 use Rattle.relay_core.specs.declared.code.TheConstants.{MALFORMED, BAD_SEAL}
-use Rattle.taos_monitor.specs.declared.presented.TheConstants.{BAD_RESEAL}
+use Rattle.relay_core.specs.declared.presenting.TheConstants.{BAD_RESEAL}
 use Rattle.taos_monitor.specs.Credentials.{LinkAnswer, Resealed, Refused, Lacked, Failed, LinkCall, call, IsIssued, IsResealed, Comes, by_node, by_relay, IsRefused, malformed, bad_seal, refused, bad_reseal, AreOpened, none_more, one_more, IsFirstRefused, IsFirstFailed}
 use Rattle.taos_monitor.proofs.Arriving.{opened_count}
 use Rattle.taos_monitor.proofs.Firsts.{kinds_apart, not_issued, is_issued, spelled_so, body_and_tag, rests, right_tag}

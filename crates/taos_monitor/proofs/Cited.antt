@@ -1,6 +1,6 @@
 -- What a grant cites is few.
 use Rattle.std.proofs.Common.{◌≡◌, ℕ, suc, ◌<◌, ◌≤◌, Bool, not, cond, List, [], ◌∷◌, length, filter, get_or, Contains, Option, None, Some, slice_get, refl, sym, ap, subst, ◌∙◌, inl, inr, arith}
-use Rattle.std.specs.Prelude.{All, AllPairs, ◌≢◌, nat_lt, find, filter_map}
+use Rattle.std.specs.Prelude.{All, AllPairs, ◌≢◌, find, filter_map}
 use Rattle.std.specs.List.{cons_option}
 use Rattle.std.proofs.lemmas.Bool.{cases_Bool, cond_both, eqb-true}
 use Rattle.std.proofs.lemmas.Bool.Decides.{Decides-eqb}
@@ -11,7 +11,7 @@ use Rattle.std.proofs.lemmas.Option.{none-some, same_Some, slice_get_within, sli
 use Rattle.std.proofs.lemmas.List.Elements.{All-filter, All-head, All-tail}
 use Rattle.std.proofs.lemmas.List.Kept.{AllPairs-cons}
 use Rattle.taos_calculus.proofs.Induction.{All-at}
-use Rattle.stmt_codec.specs.Certificates.{Certificate, live}
+use Rattle.stmt_codec.specs.Certificates.{Certificate, is_live, live}
 use Rattle.denial_link.proofs.Members.{at-has, has-at, has-cases, has-cons, has-head, has-nil}
 use Rattle.proof_cache.specs.Cached.{Cached}
 use Rattle.proof_cache.specs.Cache.{has_lapsed, is_for}
@@ -120,7 +120,7 @@ kept_few plan journal a place e c sound legal h =
     let apart = found_each CitesApart (is_for a.subject h.proof.grant.who) (unlapsed h.moment kept) c all h.found in
     let few = not_more (live h.certs h.moment) c.cites apart h.proof.alive in
     let held = judges_few plan sound.few_commons h.before a h.moment h.certs h.judged in
-    omega (arith, few, shorter (λ (x : Certificate). nat_lt h.moment x.until) h.certs, held)
+    omega (arith, few, shorter (is_live h.moment) h.certs, held)
 
 -- ---- whichever
 

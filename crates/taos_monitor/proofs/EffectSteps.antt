@@ -16,7 +16,7 @@ use Rattle.agent_core.specs.declared.limits.TheConstants.{MAX_COMMONS}
 use Rattle.agent_core.specs.Held.{newly}
 use Rattle.agent_core.specs.State.{Plan, State, Event, Asks, Keeps, Holds, Discards, Forgets, Expires, Answer, Plain, holding, next}
 use Rattle.agent_core.specs.Journals.{Entry, entry, Begins, Stands, state_after, cache_after, told_of, told_at, IsMeant, IsLegalJournal}
-use Rattle.agent_core.specs.Answers.{Presents, TakesMemory, WantsMemory, SteppedTo}
+use Rattle.agent_core.specs.Answers.{TakesMemory, SteppedTo}
 use Rattle.agent_core.specs.declared.told.Answer.{Answer as ValueOfAnswer}
 use Rattle.agent_core.specs.declared.told.Answer.TheVariants as answer
 use Rattle.agent_core.specs.declared.told.DropCause.{DropCause}
@@ -36,7 +36,7 @@ use Rattle.taos_monitor.specs.declared.stepping.Went.{Went}
 use Rattle.taos_monitor.specs.declared.stepping.Went.TheVariants as how
 use Rattle.taos_monitor.specs.Cells.{in_shard, Viewed, viewed, ShardsGoOn, AreLegalShards}
 use Rattle.taos_monitor.specs.Operations.{IsEffect}
-use Rattle.taos_monitor.specs.Effects.{IsDone, removed_by, WentAs, ShardStep, step_at, its_place, LetsGo, IsStep, AreDone, WentThrough, FoundNoRoom, FoundNoPlace, SteppedBy, CanStep}
+use Rattle.taos_monitor.specs.Effects.{IsDone, WantsRoom, removed_by, WentAs, ShardStep, step_at, its_place, LetsGo, IsStep, AreDone, WentThrough, FoundNoRoom, FoundNoPlace, SteppedBy, CanStep}
 use Rattle.taos_monitor.proofs.Going.{OneGoesOn, one_place, no_places, shard_went_on, shards_twice, shards_stood, shards_begin}
 
 -- ---- what is told of an effect
@@ -101,25 +101,13 @@ holding_takes_none s new cache event =
     (λ _ none. none)
 
 -- no effect takes memory
-told_takes_none : (plan : Plan) (before : List Entry) (event : Event) → IsEffect event → TakesMemory (told_at plan before event) → ⊥
-told_takes_none plan before (Asks a) is takes = is
-told_takes_none plan before (Keeps ask entry c) is takes = is
-told_takes_none plan before (Holds certs) is takes = holding_takes_none (state_after plan before) (newly (state_after plan before).commons certs) (cache_after plan before) (Holds certs) takes
-told_takes_none plan before (Discards digest) is takes = takes
-told_takes_none plan before (Forgets channel) is takes = takes
-told_takes_none plan before (Expires reading) is takes = takes
-
-presents_none : (event : Event) → IsEffect event → Presents event → ⊥
-presents_none (Asks a) is presents = is
-presents_none (Keeps ask entry c) is presents = presents
-presents_none (Holds certs) is presents = presents
-presents_none (Discards digest) is presents = presents
-presents_none (Forgets channel) is presents = presents
-presents_none (Expires reading) is presents = presents
-
-pub takes_none : (plan : Plan) (before : List Entry) (event : Event) → IsEffect event → WantsMemory plan before event → ⊥
-takes_none plan before event is (inl presents) = presents_none event is presents
-takes_none plan before event is (inr takes) = told_takes_none plan before event is takes
+pub takes_none : (plan : Plan) (before : List Entry) (event : Event) → IsEffect event → TakesMemory (told_at plan before event) → ⊥
+takes_none plan before (Asks a) is takes = is
+takes_none plan before (Keeps ask entry c) is takes = is
+takes_none plan before (Holds certs) is takes = holding_takes_none (state_after plan before) (newly (state_after plan before).commons certs) (cache_after plan before) (Holds certs) takes
+takes_none plan before (Discards digest) is takes = takes
+takes_none plan before (Forgets channel) is takes = takes
+takes_none plan before (Expires reading) is takes = takes
 
 -- an effect is meant, whatever stands before it
 pub is_meant_effect : (plan : Plan) (before : List Entry) (event : Event) → IsEffect event → IsMeant plan before event
@@ -230,22 +218,25 @@ module _ (plans : List Plan) (alone : Bool) (old : Viewed Entry) (seen0 seen1 : 
         more : sum_by (λ (x : ShardStep). removed_by x.told) (so_far.steps ++ step_at h place told ∷ []) ≡ sum_by (λ (x : ShardStep). removed_by x.told) so_far.steps + removed_by told
         more = sum_by_push (λ (x : ShardStep). removed_by x.told) so_far.steps (step_at h place told)
 
-  -- a shard that holds too many in common
-  pub stopped_no_room : (rest : List ℕ) (place held : ℕ) → StepsTo plan earlier later event place (Other (Told.CommonsFull held)) →
-      SteppedBy plans alone old (viewed seen1 own1) (λ steps. FoundNoRoom seen1 effect (shards ++ h ∷ rest) steps h held)
-  stopped_no_room rest place held s = record {
-    steps = so_far.steps ++ step_at h place (Told.CommonsFull held) ∷ [];
-    goes_on = both_went place (Told.CommonsFull held) s;
+  -- a shard that has no room
+  pub stopped_no_room : (rest : List ℕ) (place : ℕ) (told : Told) → WantsRoom told → StepsTo plan earlier later event place (Other told) →
+      SteppedBy plans alone old (viewed seen1 own1) (λ steps. FoundNoRoom seen1 effect (shards ++ h ∷ rest) steps h told × WantsRoom told)
+  stopped_no_room rest place told lacks s = record {
+    steps = so_far.steps ++ step_at h place told ∷ [];
+    goes_on = both_went place told s;
     legal = legal_now s.steps.legal;
-    ends = record {
-      done = so_far.steps;
-      place = place;
-      rest = rest;
-      order = ap (λ (l : List ℕ). l ++ h ∷ rest) (sym so_far.through.order);
-      are_done = before_done place (Told.CommonsFull held) s;
-      steps_are = refl;
-      refused = is_step place (Told.CommonsFull held) s;
-    };
+    ends = (
+      record {
+        done = so_far.steps;
+        place = place;
+        rest = rest;
+        order = ap (λ (l : List ℕ). l ++ h ∷ rest) (sym so_far.through.order);
+        are_done = before_done place told s;
+        steps_are = refl;
+        refused = is_step place told s;
+      },
+      lacks,
+    );
   }
 
   -- a journal that is full
@@ -333,14 +324,15 @@ module _ (plans plans' : List Plan) (alone alone' : Bool) (same_plans : plans' �
       subst (λ ss. AreStepped plans alone old (viewed seen1 own1) effect ss any) next
       (one_more plans alone old seen0 seen1 own0 own1 effect (range_with_len first place) removed so_far h plan planned (event_of e) can.same others at told s done n count any tells)
 
-  pub no_room : (held count : ℕ) → place < count → WentHere (how.NoRoom held) → SteppedBy plans alone old (viewed seen1 own1) (λ steps. FoundNoRoom seen1 effect (range_with_len first count) steps h held)
-  no_room held count lt went =
-      let (plan, planned, here) = went_here (how.NoRoom held) went in
-      let (at, s) = here in
+  pub no_room : (told : Told) (count : ℕ) → place < count → WentHere (how.NoRoom told) →
+      SteppedBy plans alone old (viewed seen1 own1) (λ steps. FoundNoRoom seen1 effect (range_with_len first count) steps h told × WantsRoom told)
+  no_room told count lt went =
+      let (plan, planned, here) = went_here (how.NoRoom told) went in
+      let (at, s, lacks) = here in
       let (rest, split) = range_split first count place lt in
       let all : range_with_len first place ++ h ∷ rest ≡ range_with_len first count = ap (λ k. range_with_len first place ++ k ∷ rest) h_is ∙ sym split in
-      subst (λ ss. SteppedBy plans alone old (viewed seen1 own1) (λ steps. FoundNoRoom seen1 effect ss steps h held)) all
-      (stopped_no_room plans alone old seen0 seen1 own0 own1 effect (range_with_len first place) removed so_far h plan planned (event_of e) can.same others rest at held s)
+      subst (λ ss. SteppedBy plans alone old (viewed seen1 own1) (λ steps. FoundNoRoom seen1 effect ss steps h told × WantsRoom told)) all
+      (stopped_no_room plans alone old seen0 seen1 own0 own1 effect (range_with_len first place) removed so_far h plan planned (event_of e) can.same others rest at told lacks s)
 
   pub no_place : (n count : ℕ) → place < count → WentHere (how.Full n) → SteppedBy plans alone old (viewed seen1 own1) (λ steps. FoundNoPlace seen1 effect plans (range_with_len first count) steps h n)
   no_place n count lt went =

@@ -19,7 +19,7 @@ use Rattle.taos_monitor.specs.Asking.{IsUnruled, full, replayed, channel_full, u
 use Rattle.taos_monitor.specs.AtObject.{Seeking, Own, own_at, places_at, ruled_as, asks_for, IsGuarded, object_is_full, no_ruling, denied, granted}
 use Rattle.taos_monitor.specs.Cells.{Node, Journals, Place, in_shard, in_object}
 use Rattle.taos_monitor.specs.Course.{Used, Course, malformed, unknown_channel, bad_seal, cert_refused, relay_failed, unknown_object, ruled, unread, unopened}
-use Rattle.taos_monitor.specs.Effects.{ShardStep, step_at, its_place, shards_of, IsDone, IsStep, AreDone, WentThrough, FoundNoRoom, FoundNoPlace, IsPerformed, through, not_held, no_room, no_place}
+use Rattle.taos_monitor.specs.Effects.{ShardStep, step_at, its_place, shards_of, IsDone, lacks_room, IsStep, AreDone, WentThrough, FoundNoRoom, FoundNoPlace, IsPerformed, through, not_held, no_room, no_place}
 use Rattle.taos_monitor.specs.Operations.{IsEffect, effect_of, targets_of}
 use Rattle.taos_monitor.specs.Projected as projected
 use Rattle.taos_monitor.specs.Projected.{Effect, Stepped, GrantedEntry, if_some, changes_of, steps_of, effects_of, if_granted, grants_of, AreTaken, AreDueTo, AreProjected, none, more, EffectsAreProjected}
@@ -179,13 +179,14 @@ module _ (plans : List Plan) (J : Journals) (op : Op) (certs : List Certificate)
   all_done shards steps w =
       subst₂ Taken (append-nil (shards_of steps) ∙ w.order) (append-nil (effects_of J (map its_place steps))) (done_first steps w.are_done [] [] projected.through)
 
-  up_to_room : (shards : List ℕ) (steps : List ShardStep) (shard held : ℕ) → FoundNoRoom J.shards (effect_of op certs reading) shards steps shard held → Taken shards (effects_of J (map its_place steps))
-  up_to_room shards steps shard held f =
-      let last = step_at shard f.place (Told.CommonsFull held) in
-      let all : effects_of J (map its_place steps) ≡ effects_of J (map its_place f.done) ++ Stepped shard f.refused.event (Told.CommonsFull held) ∷ [] =
+  up_to_room : (shards : List ℕ) (steps : List ShardStep) (shard : ℕ) (told : Told) (reply : Reply) → lacks_room shard told ≡ Some reply → FoundNoRoom J.shards (effect_of op certs reading) shards steps shard told →
+      Taken shards (effects_of J (map its_place steps))
+  up_to_room shards steps shard told reply lacks f =
+      let last = step_at shard f.place told in
+      let all : effects_of J (map its_place steps) ≡ effects_of J (map its_place f.done) ++ Stepped shard f.refused.event told ∷ [] =
       ap (λ (ss : List ShardStep). effects_of J (map its_place ss)) f.steps_are ∙ ap (effects_of J) (map-append its_place f.done (last ∷ []))
       ∙ effects_both J (map its_place f.done) (its_place last ∷ []) ∙ ap (λ (es : List Effect). effects_of J (map its_place f.done) ++ es) (at_step last f.refused) in
-      subst₂ Taken (sym f.order) (sym all) (done_first f.done f.are_done (shard ∷ f.rest) (Stepped shard f.refused.event (Told.CommonsFull held) ∷ []) (projected.no_room f.refused.effect_is))
+      subst₂ Taken (sym f.order) (sym all) (done_first f.done f.are_done (shard ∷ f.rest) (Stepped shard f.refused.event told ∷ []) (projected.no_room f.refused.effect_is lacks))
 
   up_to_place : (shards : List ℕ) (steps : List ShardStep) (shard limit : ℕ) → FoundNoPlace J.shards (effect_of op certs reading) plans shards steps shard limit → Taken shards (effects_of J (map its_place steps))
   up_to_place shards steps shard limit f =
@@ -194,7 +195,7 @@ module _ (plans : List Plan) (J : Journals) (op : Op) (certs : List Certificate)
   performed_taken : (steps : List ShardStep) (refused : Option Reply) → IsPerformed plans J.shards op (effect_of op certs reading) steps refused → Taken (targets_of plans op) (effects_of J (map its_place steps))
   performed_taken steps refused (through w lets) = all_done (targets_of plans op) steps w
   performed_taken steps refused (not_held digest is w lacks) = all_done (targets_of plans op) steps w
-  performed_taken steps refused (no_room {shard} {held} f) = up_to_room (targets_of plans op) steps shard held f
+  performed_taken steps refused (no_room {shard} {told} {reply} lacks f) = up_to_room (targets_of plans op) steps shard told reply lacks f
   performed_taken steps refused (no_place {shard} {limit} f) = up_to_place (targets_of plans op) steps shard limit f
 
 -- ---- a request

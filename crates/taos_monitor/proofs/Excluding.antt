@@ -1,5 +1,5 @@
 -- What came to its object is refused for nothing before that.
-use Rattle.std.proofs.Common.{◌≡◌, ◌≢◌, ◌⊎◌, ℕ, List, Option, None, Some, refl, sym, subst, ◌∙◌, inl, inr, arith}
+use Rattle.std.proofs.Common.{◌≡◌, ◌≢◌, ◌⊎◌, ℕ, ◌<◌, ◌≤◌, List, Option, None, Some, refl, sym, subst, ◌∙◌, inl, inr, arith}
 use Rattle.std.proofs.lemmas.Option.{same_Some}
 use Rattle.keyed_seal.specs.Keys.{key_of}
 use Rattle.taos_wire.specs.Request.{Request, Spells, IsSealed}
@@ -19,32 +19,37 @@ use Rattle.taos_monitor.specs.Effects.{ShardStep, IsPerformed, through, not_held
 use Rattle.taos_monitor.specs.Operations.{effect_of}
 use Rattle.taos_monitor.specs.Laws.{ArrivalExcludes}
 use Rattle.taos_monitor.proofs.Firsts.{opened_or_refused, opened_or_failed}
+use Rattle.taos_monitor.proofs.Roomless.{room_status}
 
+-- a status of what came to its object
 abbrev IsLate : ℕ → Type 0
-IsLate s = (s ≢ 2) × (s ≢ 3) × (s ≢ 4) × (s ≢ 6) × (s ≢ 8) × (s ≢ 9)
+IsLate s = (s < 2) ⊎ ((s ≡ 5) ⊎ ((s ≡ 7) ⊎ (10 ≤ s)))
 
-late : (s : ℕ) → (s ≡ 0) ⊎ ((s ≡ 1) ⊎ ((s ≡ 5) ⊎ ((s ≡ 7) ⊎ ((s ≡ 10) ⊎ ((s ≡ 11) ⊎ ((s ≡ 12) ⊎ (s ≡ 13))))))) → IsLate s
-late s e = (λ f. omega (arith, e, f), λ f. omega (arith, e, f), λ f. omega (arith, e, f), λ f. omega (arith, e, f), λ f. omega (arith, e, f), λ f. omega (arith, e, f))
+ruling : (s : ℕ) → s < 2 → IsLate s
+ruling s less = inl less
+
+late : (s : ℕ) → 10 ≤ s → IsLate s
+late s more = inr (inr (inr more))
 
 unruled_late : (plan : Plan) (journal : List Entry) (shard : ℕ) (a : Ask) (own : List ℕ) (reply : Reply) → IsUnruled plan journal shard a own reply → IsLate (status_of reply)
-unruled_late plan journal shard a own reply (replayed t) = late 5 (inr (inr (inl refl)))
-unruled_late plan journal shard a own reply (channel_full t) = late 7 (inr (inr (inr (inl refl))))
-unruled_late plan journal shard a own reply (full at) = late 10 (inr (inr (inr (inr (inl refl)))))
-unruled_late plan journal shard a own reply (untold g) = late 11 (inr (inr (inr (inr (inr (inl refl))))))
-unruled_late plan journal shard a own reply (unanswered u) = late 11 (inr (inr (inr (inr (inr (inl refl))))))
+unruled_late plan journal shard a own reply (replayed t) = inr (inl refl)
+unruled_late plan journal shard a own reply (channel_full t) = inr (inr (inl refl))
+unruled_late plan journal shard a own reply (full at) = late 10 (omega arith)
+unruled_late plan journal shard a own reply (untold g) = late 11 (omega arith)
+unruled_late plan journal shard a own reply (unanswered u) = late 11 (omega arith)
 
 performed_late : (plans : List Plan) (J : ℕ → List Entry) (op : Op) (certs : List Certificate) (reading : ℕ) (told : Reply) (steps : List ShardStep) (refused : Option Reply) →
     IsLate (status_of told) → IsPerformed plans J op (effect_of op certs reading) steps refused → IsLate (status_of (told_or refused told))
 performed_late plans J op certs reading told steps refused is (through w lets) = is
-performed_late plans J op certs reading told steps refused is (not_held digest so w none) = late 13 (inr (inr (inr (inr (inr (inr (inr refl)))))))
-performed_late plans J op certs reading told steps refused is (no_room f) = late 12 (inr (inr (inr (inr (inr (inr (inl refl)))))))
-performed_late plans J op certs reading told steps refused is (no_place f) = late 10 (inr (inr (inr (inr (inl refl)))))
+performed_late plans J op certs reading told steps refused is (not_held digest so w none) = late 13 (omega arith)
+performed_late plans J op certs reading told steps refused is (no_room {shard} {told = said} {reply} lacks f) = let status = room_status shard said reply lacks in late (status_of reply) (omega (arith, status))
+performed_late plans J op certs reading told steps refused is (no_place f) = late 10 (omega arith)
 
 guarded_late : (plans : List Plan) (plan : Plan) (J : Journals) (x : Seeking) (own : Own) (reply : Reply) → IsGuarded plans plan J x own reply → IsLate (status_of reply)
-guarded_late plans plan J x own reply (object_is_full at) = late 10 (inr (inr (inr (inr (inl refl)))))
+guarded_late plans plan J x own reply (object_is_full at) = late 10 (omega arith)
 guarded_late plans plan J x own reply (no_ruling {own = asks} before b u) = unruled_late plan (J.shards x.shard) x.shard _ asks reply u
-guarded_late plans plan J x own reply (denied before s d tells) = late 1 (inr (inl refl))
-guarded_late plans plan J x own reply (granted {steps} {refused} before s g p out) = performed_late plans J.shards x.request.op x.certs x.reading _ steps refused (late 0 (inl refl)) p
+guarded_late plans plan J x own reply (denied before s d tells) = ruling 1 (omega arith)
+guarded_late plans plan J x own reply (granted {steps} {refused} before s g p out) = performed_late plans J.shards x.request.op x.certs x.reading _ steps refused (ruling 0 (omega arith)) p
 
 -- a refusal of what was presented, or of the object's number
 abbrev IsPresented : ℕ → Type 0
@@ -88,7 +93,7 @@ arrival_excludes n J payload used sent t (relay_failed {r} {key} {calls = by} {i
 arrival_excludes n J payload used sent t (unknown_object {r} {key} {calls = by} {certs} opened none) =
     absurd (nothing_there t.object (sym none ∙ subst (λ (x : Request). fixed_at n.objects x.object ≡ Some t.object) (sym (same_request n payload t r opened.asked.spelled)) t.arrived.there))
 arrival_excludes n J payload used sent t (ruled {own} {reply} came reading plan planned is) =
-    let (a, b, c, e, f, g) = guarded_late n.plans plan J _ own reply is in
-    (a, b, c, λ same. (e, f, g))
+    let late = guarded_late n.plans plan J _ own reply is in
+    (λ e. omega (arith, late, e), λ e. omega (arith, late, e), λ e. omega (arith, late, e), λ same. (λ e. omega (arith, late, e), λ e. omega (arith, late, e), λ e. omega (arith, late, e)))
 arrival_excludes n J payload used sent t unread = (λ e. cc, λ e. cc, λ e. cc, λ same. (λ e. cc, λ e. cc, λ e. cc))
 arrival_excludes n J payload used sent t (unopened asked interrupted) = (λ e. cc, λ e. cc, λ e. cc, λ same. (λ e. cc, λ e. cc, λ e. cc))

@@ -1,10 +1,10 @@
 -- A journal that a turn found full has no place of a later one.
-use Rattle.std.proofs.Common.{◌≡◌, ◌≢◌, ℕ, ◌<◌, ◌≤◌, Bool, true, false, List, [], ◌∷◌, ◌++◌, length, map, get_or, slice_get, All, AllPairs, Contains, Option, Some, sym, ap, subst, subst₂, ◌∙◌, arith, inl, inr, append_assoc, length-append}
+use Rattle.std.proofs.Common.{◌≡◌, ◌≢◌, ℕ, ◌<◌, ◌≤◌, Bool, true, false, List, [], ◌∷◌, ◌++◌, length, map, get_or, slice_get, All, AllPairs, Contains, Option, Some, refl, sym, ap, subst, subst₂, ◌∙◌, arith, inl, inr, append_assoc, length-append}
 use Rattle.std.proofs.lemmas.List.Elements.{All-nil, All-cons, All-head, All-tail, All-append, All-contains, filter_map-append}
 use Rattle.std.proofs.lemmas.List.Quantifiers.{all_pairs_push}
 use Rattle.std.proofs.lemmas.Option.{same_Some, get_or_from_slice_get, slice_get_within}
 use Rattle.taos_wire.specs.Reply as replies
-use Rattle.taos_wire.specs.Reply.{Reply, Granted, Sent}
+use Rattle.taos_wire.specs.Reply.{Reply, Granted, Sent, status_of}
 use Rattle.object_core.specs.Objects.{ObjectEntry}
 use Rattle.object_core.specs.Operation.{Op}
 use Rattle.object_core.specs.declared.ruling.Ruling.TheVariants as rulings
@@ -26,6 +26,7 @@ use Rattle.taos_monitor.specs.Run.{Turn, IsCourse, IsMade, WasMade, FoundFull, I
 use Rattle.taos_monitor.specs.Laws.{NoEntryAfterFull}
 use Rattle.taos_monitor.proofs.Going.{numbers_here}
 use Rattle.taos_monitor.proofs.Places.{stands_at, was_there, numbers_all, ruling_place, the_only}
+use Rattle.taos_monitor.proofs.Roomless.{other_reply, room_status}
 use Rattle.taos_monitor.proofs.Short.{short}
 
 -- ---- what status 10, and a grant without a place for its proof, say of the journal
@@ -111,23 +112,28 @@ module _ (n : Node) (J : Journals) (h : ℕ) (plan : Plan) (planned : HasPlan n 
   grant_first place e c kept settled own (was_dropped {keep} g t) q rest one = head_is place q (keep ∷ rest) [] one
   grant_first place e c kept settled own (had_no_room g at) q rest one = head_is place q rest [] one
 
+-- what was made is told by a grant
+made_grants : (s : ℕ) (reply : Reply) → IsMade s reply → status_of reply ≡ 0
+made_grants s (Granted false entry shard place proof cites content) made = refl
+made_grants s _ made = absurd made
+
 module _ (n : Node) (J : Journals) (op : Op) (certs : List Certificate) (reading : ℕ) (told : Reply) where
   performed_full : (steps : List ShardStep) (refused : Option Reply) → IsPerformed n.plans J.shards op (effect_of op certs reading) steps refused → (s limit : ℕ) → (told ≡ shard_full s limit → ⊥) → told_or refused told ≡ shard_full s limit → IsFull n J (OfShard s)
   performed_full steps refused (through w lets) s limit not e = absurd (not e)
   performed_full steps refused (not_held digest is w none) s limit not e = absurd cc
-  performed_full steps refused (no_room f) s limit not e = absurd cc
+  performed_full steps refused (no_room {shard} {told = said} {reply} lacks f) s limit not e = absurd (other_reply shard said reply (shard_full s limit) 10 lacks refl (omega arith) e)
   performed_full steps refused (no_place {shard} {limit = l} f) s limit not e = subst (λ (k : ℕ). IsFull n J (OfShard k)) (same_number shard s l limit e) (f.plan, f.planned, f.full)
 
   performed_object : (steps : List ShardStep) (refused : Option Reply) → IsPerformed n.plans J.shards op (effect_of op certs reading) steps refused → (o limit : ℕ) → (told ≡ object_full o limit → ⊥) → told_or refused told ≡ object_full o limit → ⊥
   performed_object steps refused (through w lets) o limit not e = not e
   performed_object steps refused (not_held digest is w none) o limit not e = cc
-  performed_object steps refused (no_room f) o limit not e = cc
+  performed_object steps refused (no_room {shard} {told = said} {reply} lacks f) o limit not e = other_reply shard said reply (object_full o limit) 10 lacks refl (omega arith) e
   performed_object steps refused (no_place {shard} {limit = l} f) o limit not e = two_sorts o shard limit l (sym e)
 
   performed_made : (steps : List ShardStep) (refused : Option Reply) → IsPerformed n.plans J.shards op (effect_of op certs reading) steps refused → (s : ℕ) → IsMade s (told_or refused told) → IsMade s told
   performed_made steps refused (through w lets) s made = made
   performed_made steps refused (not_held digest is w none) s made = absurd made
-  performed_made steps refused (no_room f) s made = absurd made
+  performed_made steps refused (no_room {shard} {told = said} {reply} lacks f) s made = let granted = made_grants s reply made in let status = room_status shard said reply lacks in absurd (omega (arith, granted, status))
   performed_made steps refused (no_place f) s made = absurd made
 
 -- the numbers of the ask come first among those of its shard
@@ -274,9 +280,9 @@ steps_there J effect (s ∷ steps) all = All-cons (IsThere J) (its_place s) (map
 performed_there : (plans : List Plan) (J : Journals) (op : Op) (certs : List Certificate) (reading : ℕ) (steps : List ShardStep) (refused : Option Reply) → IsPerformed plans J.shards op (effect_of op certs reading) steps refused → AreThere J (map its_place steps)
 performed_there plans J op certs reading steps refused (through w lets) = steps_there J _ steps w.are_done.stand
 performed_there plans J op certs reading steps refused (not_held digest is w none) = steps_there J _ steps w.are_done.stand
-performed_there plans J op certs reading steps refused (no_room {shard = s} {held} f) =
+performed_there plans J op certs reading steps refused (no_room {shard = s} {told} lacks f) =
     steps_there J _ steps (subst (All (IsStep J.shards _)) (sym f.steps_are)
-    (All-append (IsStep J.shards _) f.done (step_at s f.place (Told.CommonsFull held) ∷ []) f.are_done.stand (All-cons (IsStep J.shards _) (step_at s f.place (Told.CommonsFull held)) [] f.refused (All-nil (IsStep J.shards _)))))
+    (All-append (IsStep J.shards _) f.done (step_at s f.place told ∷ []) f.are_done.stand (All-cons (IsStep J.shards _) (step_at s f.place told) [] f.refused (All-nil (IsStep J.shards _)))))
 performed_there plans J op certs reading steps refused (no_place f) = steps_there J _ steps f.are_done.stand
 
 places_there : (J : Journals) (x : Seeking) (asks ruling : List ℕ) (steps : List ShardStep) → AreIn (J.shards x.shard) asks → AreThere J (map (in_object x.request.object) ruling) → AreThere J (map its_place steps) → AreThere J (places_at x (own_at asks ruling steps))

@@ -21,28 +21,14 @@ module _ (P : Cached → Type 0) where
       All-append P (filter (is_for subject who) cache) (filter (λ c. not (is_for subject who c)) cache) (All-filter (is_for subject who) P cache all) (each_left (is_for subject who) cache all)
 
   each_used : (a : Ask) (told : Told) (cache : List Cached) → All P cache → All P (used_by a told cache)
-  each_used a (Told.Replayed last) cache all = all
-  each_used a (Told.Full held) cache all = all
   each_used a (Told.Hit entry) cache all = each_in_front a.subject (who_at a.list entry) cache all
-  each_used a Told.Miss cache all = all
-  each_used a Told.Kept cache all = all
-  each_used a (Told.Dropped cause) cache all = all
-  each_used a (Told.Held added) cache all = all
-  each_used a (Told.CommonsFull held) cache all = all
-  each_used a (Told.Removed count) cache all = all
+  each_used a _ cache all = all
 
   each_kept : (c : Cached) (told : Told) (cache : List Cached) → P c → All P cache → All P (kept_by c told cache)
-  each_kept c (Told.Replayed last) cache p all = all
-  each_kept c (Told.Full held) cache p all = all
-  each_kept c (Told.Hit entry) cache p all = all
-  each_kept c Told.Miss cache p all = all
   each_kept c Told.Kept cache p all =
       let others = filter (λ x. not (is_for c.subject c.who x)) cache in
       All-cons P c (take (64 - 1) others) p (All-take P (64 - 1) others (each_left (is_for c.subject c.who) cache all))
-  each_kept c (Told.Dropped cause) cache p all = all
-  each_kept c (Told.Held added) cache p all = all
-  each_kept c (Told.CommonsFull held) cache p all = all
-  each_kept c (Told.Removed count) cache p all = all
+  each_kept c _ cache p all = all
 
   -- it holds of the proof that the event is to keep, if it is to keep one
   abbrev Brings : Event → Type 0

@@ -1,5 +1,3 @@
-mod Bodies
-mod Opening
 mod Presenting
 mod Arriving
 mod Going
@@ -10,6 +8,7 @@ mod Telling
 mod AtHome
 mod EffectSteps
 mod Performed
+mod Roomless
 mod Dues
 mod Decisions
 mod Short

@@ -153,11 +153,7 @@ module _ (plans : List Plan) (plan : Plan) (x : Seeking) (K : Journals) where
       ((e : ℕ) × (c : Cached) × MissBy plan (K.shards x.shard) the_ask e × (choice ≡ Some c) × Granting (add_shard K x.shard (entry (Asks the_ask) Told.Miss)) place false e c J reply)
       ⊎ ((told : LinkSent) × DeniedBy plan (K.shards x.shard) the_ask told
       × Leaves (add_object (add_shard K x.shard (entry (Asks the_ask) Told.Miss)) x.request.object (ruled_as x.shard place x.request.op rulings.Denied)) (replies.Denied x.shard place told) J reply)
-  ByAsk place Told.Kept J reply choice = ⊥
-  ByAsk place (Told.Dropped cause) J reply choice = ⊥
-  ByAsk place (Told.Held added) J reply choice = ⊥
-  ByAsk place (Told.CommonsFull held) J reply choice = ⊥
-  ByAsk place (Told.Removed count) J reply choice = ⊥
+  ByAsk place _ J reply choice = ⊥
 
   pub record Asked (J : Journals) (reply : Reply) (choice : Option Cached) : Type 0 where
     pub room : length (K.shards x.shard) < plan.limit
@@ -214,11 +210,7 @@ module _ (plans : List Plan) (plan : Plan) (x : Seeking) (K : Journals) where
     asks_alike place Told.Miss choice chosen same (inr (told, none, u)) (inl (e, c, miss, is, v)) = absurd (not_both plan (K.shards x.shard) the_ask e told miss none)
     asks_alike place Told.Miss choice chosen same (inr (s, none, u)) (inr (t, never, v)) =
         (u.0 ∙ sym v.0, u.1 ∙ ap (λ (l : LinkSent). replies.Denied x.shard place l) (same_denial plan (K.shards x.shard) the_ask s t none never) ∙ sym v.1)
-    asks_alike place Told.Kept choice chosen same u v = absurd u
-    asks_alike place (Told.Dropped cause) choice chosen same u v = absurd u
-    asks_alike place (Told.Held added) choice chosen same u v = absurd u
-    asks_alike place (Told.CommonsFull held) choice chosen same u v = absurd u
-    asks_alike place (Told.Removed count) choice chosen same u v = absurd u
+    asks_alike place _ choice chosen same u v = absurd u
 
     asked_alike : (choice chosen : Option Cached) → SameChoice choice chosen → Asked J reply choice → Asked L other chosen → Same
     asked_alike choice chosen same u v =

@@ -1,9 +1,10 @@
 -- What came of an operation in the shards, by how its steps ended.
-use Rattle.std.proofs.Common.{ℕ, Bool, List, Option, Some, None, sym, subst}
+use Rattle.std.proofs.Common.{◌≡◌, ℕ, Bool, List, Option, Some, None, sym, subst}
+use Rattle.std.specs.Prelude.{IsSome}
 use Rattle.object_core.specs.Operation.{Op}
 use Rattle.stmt_codec.specs.Certificates.{Certificate}
-use Rattle.taos_wire.specs.Reply as replies
 use Rattle.taos_wire.specs.Reply.{Reply}
+use Rattle.agent_core.specs.declared.told.Told.{Told}
 use Rattle.agent_core.specs.State.{Plan}
 use Rattle.agent_core.specs.Journals.{Entry}
 use Rattle.taos_monitor.specs.declared.due.Due.{Due}
@@ -12,7 +13,7 @@ use Rattle.taos_monitor.specs.declared.performing.Effected.TheVariants as effect
 use Rattle.taos_monitor.specs.Cells.{Viewed}
 use Rattle.taos_monitor.specs.Asking.{shard_full}
 use Rattle.taos_monitor.specs.Operations.{effect_of, targets_of}
-use Rattle.taos_monitor.specs.Effects.{ShardStep, EndAs, IsPerformed, through, not_held, no_room, no_place, TellsHeld, SteppedBy, effect_due, shards_due, IsDueOf}
+use Rattle.taos_monitor.specs.Effects.{ShardStep, EndAs, FoundNoRoom, lacks_room, IsPerformed, through, not_held, no_room, no_place, TellsHeld, SteppedBy, effect_due, shards_due, IsDueOf}
 
 module _ (plans : List Plan) (alone : Bool) (old new : Viewed Entry) where
   stepped_as : (E F : List ShardStep → Type 0) → ((steps : List ShardStep) → E steps → F steps) → SteppedBy plans alone old new E → SteppedBy plans alone old new F
@@ -37,8 +38,14 @@ module _ (plans : List Plan) (alone : Bool) (old new : Viewed Entry) where
         subst (λ r. Performed (Some r)) (sym said)
         (stepped_as _ _ (λ steps ends. not_held digest is ends.0 (λ lets. none (ends.1.1 lets))) (as_due (effected.Through removed) ended))
 
-    pub stopped_by_room : (shard held : ℕ) → Ended (effected.NoRoom shard held) → Performed (Some (replies.CommonsFull held shard))
-    stopped_by_room shard held ended = stepped_as _ _ (λ steps ends. no_room ends) (as_due (effected.NoRoom shard held) ended)
+    refused_so : (shard : ℕ) (told : Told) (steps : List ShardStep) (answer : Option Reply) → answer ≡ lacks_room shard told → IsSome answer → FoundNoRoom new.seen (effect_of op certs reading) (targets_of plans op) steps shard told →
+        IsPerformed plans new.seen op (effect_of op certs reading) steps answer
+    refused_so shard told steps None is some found = absurd cc
+    refused_so shard told steps (Some reply) is some found = no_room (sym is) found
+
+    pub stopped_by_room : (shard : ℕ) (told : Told) (answer : Option Reply) → answer ≡ lacks_room shard told → Ended (effected.NoRoom shard told) → Performed answer
+    stopped_by_room shard told answer is ended =
+        stepped_as _ _ (λ steps ends. refused_so shard told steps answer is (subst IsSome (sym is) (ends.1 shard)) ends.0) (as_due (effected.NoRoom shard told) ended)
 
     pub stopped_by_limit : (shard limit : ℕ) → Ended (effected.Full shard limit) → Performed (Some (shard_full shard limit))
     stopped_by_limit shard limit ended = stepped_as _ _ (λ steps ends. no_place ends) (as_due (effected.Full shard limit) ended)

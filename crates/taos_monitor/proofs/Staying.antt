@@ -3,6 +3,7 @@ use Rattle.std.proofs.Common.{◌≡◌, ℕ, ◌≤◌, List, length, Option, S
 use Rattle.object_core.specs.Operation.{Op}
 use Rattle.stmt_codec.specs.Certificates.{Certificate}
 use Rattle.taos_wire.specs.Reply.{Reply, Sent}
+use Rattle.agent_core.specs.declared.told.Told.{Told}
 use Rattle.agent_core.specs.State.{Plan, Ask, Event}
 use Rattle.agent_core.specs.Journals.{Entry, Begins, IsLegalJournal}
 use Rattle.agent_core.specs.Asked.{Unanswered}
@@ -40,8 +41,8 @@ module _ (plans : List Plan) (J K : ℕ → List Entry) (goes : (s : ℕ) → Be
   went_stays : (steps : List ShardStep) → WentThrough J effect shards steps → WentThrough K effect shards steps
   went_stays steps w = record { order = w.order; are_done = steps_stay J K effect steps goes w.are_done }
 
-  no_room_stays : (steps : List ShardStep) (shard held : ℕ) → FoundNoRoom J effect shards steps shard held → FoundNoRoom K effect shards steps shard held
-  no_room_stays steps shard held f = record {
+  no_room_stays : (steps : List ShardStep) (shard : ℕ) (told : Told) → FoundNoRoom J effect shards steps shard told → FoundNoRoom K effect shards steps shard told
+  no_room_stays steps shard told f = record {
     done = f.done;
     place = f.place;
     rest = f.rest;
@@ -66,7 +67,7 @@ module _ (plans : List Plan) (J K : ℕ → List Entry) (goes : (s : ℕ) → Be
   performed_stays : (steps : List ShardStep) (refused : Option Reply) → IsPerformed plans J op (effect_of op certs reading) steps refused → IsPerformed plans K op (effect_of op certs reading) steps refused
   performed_stays steps refused (through w lets) = through (went_stays plans J K goes legal _ _ steps w) lets
   performed_stays steps refused (not_held digest is w none) = not_held digest is (went_stays plans J K goes legal _ _ steps w) none
-  performed_stays steps refused (no_room {shard = s} {held} f) = no_room (no_room_stays plans J K goes legal _ _ steps s held f)
+  performed_stays steps refused (no_room {shard = s} {told} lacks f) = no_room lacks (no_room_stays plans J K goes legal _ _ steps s told f)
   performed_stays steps refused (no_place {shard = s} {limit} f) = no_place (no_place_stays plans J K goes legal _ _ steps s limit f)
 
 -- ---- the whole

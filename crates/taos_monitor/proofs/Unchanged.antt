@@ -25,6 +25,7 @@ use Rattle.taos_monitor.proofs.Ascending.{all_rest, numbers_ascend}
 use Rattle.taos_monitor.proofs.Effecting.{effects_more, grants_both, shard_grants, step_grants, grant_at, course_projects}
 use Rattle.taos_monitor.proofs.Going.{no_object_numbers, numbers_object}
 use Rattle.taos_monitor.proofs.Places.{numbers_all}
+use Rattle.taos_monitor.proofs.Roomless.{other_reply, room_status}
 
 latest_of_both : {X : Type 0} (x : X) (xs ys : List X) → latest x (xs ++ ys) ≡ latest (latest x xs) ys
 latest_of_both x [] ys = refl
@@ -175,19 +176,19 @@ module _ (plans : List Plan) (J : ℕ → List Entry) (op : Op) (certs : List Ce
   not_denied : (steps : List ShardStep) (refused : Option Reply) → IsPerformed plans J op (effect_of op certs reading) steps refused → status_of (told_or refused told) ≡ 1 → ⊥
   not_denied steps refused (through w lets) one = let e : status_of told ≡ 1 = one in absurd (omega (arith, zero, e))
   not_denied steps refused (not_held digest is w lacks) one = let e : 13 ≡ 1 = one in absurd (omega (arith, e))
-  not_denied steps refused (no_room f) one = let e : 12 ≡ 1 = one in absurd (omega (arith, e))
+  not_denied steps refused (no_room {shard} {told = said} {reply} lacks f) one = let e : status_of reply ≡ 1 = one in absurd (omega (arith, e, room_status shard said reply lacks))
   not_denied steps refused (no_place f) one = let e : 10 ≡ 1 = one in absurd (omega (arith, e))
 
   performed_tells : (steps : List ShardStep) (refused : Option Reply) → IsPerformed plans J op (effect_of op certs reading) steps refused → status_of (told_or refused told) ≢ 0 → status_of (told_or refused told) ≢ 10 → status_of (told_or refused told) ≢ 12 → status_of (told_or refused told) ≢ 13 → ⊥
   performed_tells steps refused (through w lets) given full room held = given zero
   performed_tells steps refused (not_held digest is w lacks) given full room held = held refl
-  performed_tells steps refused (no_room f) given full room held = room refl
+  performed_tells steps refused (no_room {shard} {told = said} {reply} lacks f) given full room held = room (room_status shard said reply lacks)
   performed_tells steps refused (no_place f) given full room held = full refl
 
   performed_not_full : (steps : List ShardStep) (refused : Option Reply) → IsPerformed plans J op (effect_of op certs reading) steps refused → (o limit : ℕ) → told_or refused told ≡ object_full o limit → ⊥
   performed_not_full steps refused (through w lets) o limit is = let e : status_of told ≡ 10 = ap status_of is in absurd (omega (arith, zero, e))
   performed_not_full steps refused (not_held digest same w lacks) o limit is = let e : 13 ≡ 10 = ap status_of is in absurd (omega (arith, e))
-  performed_not_full steps refused (no_room f) o limit is = let e : 12 ≡ 10 = ap status_of is in absurd (omega (arith, e))
+  performed_not_full steps refused (no_room {shard} {told = said} {reply} lacks f) o limit is = other_reply shard said reply (object_full o limit) 10 lacks refl (omega arith) is
   performed_not_full steps refused (no_place {shard} {limit = l} f) o limit is = other_sort shard l o limit is
     where
       other_sort : (s l o m : ℕ) → shard_full s l ≡ object_full o m → ⊥

@@ -1,5 +1,5 @@
 -- A grant and a denial are verdicts.
-use Rattle.std.proofs.Common.{◌≡◌, ℕ, Bool, List, Option, subst₂}
+use Rattle.std.proofs.Common.{◌≡◌, ℕ, Bool, List, Option, refl, subst₂, arith}
 use Rattle.stmt_codec.specs.Certificates.{Certificate}
 use Rattle.taos_calculus.specs.Rules.{Line}
 use Rattle.denial_link.specs.declared.link.Link.{Link}
@@ -20,6 +20,7 @@ use Rattle.taos_monitor.specs.Course.{Used, Course, malformed, unknown_channel, 
 use Rattle.taos_monitor.specs.Effects.{ShardStep, IsPerformed, through, not_held, no_room, no_place}
 use Rattle.taos_monitor.specs.Operations.{effect_of}
 use Rattle.taos_monitor.specs.Verdicts.{HasVerdict, RepliesAreVerdicts}
+use Rattle.taos_monitor.proofs.Roomless.{other_reply}
 
 same_granted : (k l : Bool) (d e h s p q : ℕ) (x y : List Line) (c b : List Certificate) (m n : List ℕ) → replies.Granted k d h p x c m ≡ replies.Granted l e s q y b n → (h ≡ s) × (p ≡ q)
 same_granted k l d e h s p q x y c b m n same = (cc, cc)
@@ -58,13 +59,14 @@ module _ (plans : List Plan) (J : ℕ → List Entry) (op : Op) (certs : List Ce
       told_or refused told ≡ replies.Granted kept entry shard place proof cites content → told ≡ replies.Granted kept entry shard place proof cites content
   performed_granted steps refused (through w lets) kept entry shard place proof cites content e = e
   performed_granted steps refused (not_held digest is w none) kept entry shard place proof cites content e = absurd cc
-  performed_granted steps refused (no_room f) kept entry shard place proof cites content e = absurd cc
+  performed_granted steps refused (no_room {shard = h} {told = said} {reply} lacks f) kept entry shard place proof cites content e =
+      absurd (other_reply h said reply (replies.Granted kept entry shard place proof cites content) 0 lacks refl (omega arith) e)
   performed_granted steps refused (no_place f) kept entry shard place proof cites content e = absurd cc
 
   performed_not_denied : (steps : List ShardStep) (refused : Option Reply) → IsPerformed plans J op (effect_of op certs reading) steps refused → (shard place : ℕ) (link : LinkSent) → (told ≡ replies.Denied shard place link → ⊥) → told_or refused told ≡ replies.Denied shard place link → ⊥
   performed_not_denied steps refused (through w lets) shard place link not e = not e
   performed_not_denied steps refused (not_held digest is w none) shard place link not e = cc
-  performed_not_denied steps refused (no_room f) shard place link not e = cc
+  performed_not_denied steps refused (no_room {shard = h} {told = said} {reply} lacks f) shard place link not e = other_reply h said reply (replies.Denied shard place link) 1 lacks refl (omega arith) e
   performed_not_denied steps refused (no_place f) shard place link not e = cc
 
 module _ (n : Node) (J : Journals) (plan : Plan) (x : Seeking) (planned : HasPlan n x.shard plan) (shard place : ℕ) where

@@ -18,48 +18,39 @@ use Rattle.agent_core.proofs.Asks.{standing}
 use Rattle.taos_monitor.specs.Cells.{Journals, Place, in_shard, AreLegalShards}
 use Rattle.taos_monitor.specs.Asking.{shard_full}
 use Rattle.taos_monitor.specs.Operations.{effect_of, targets_of}
-use Rattle.taos_monitor.specs.Effects.{ShardStep, step_at, its_place, shards_of, IsDone, LetsGo, IsStep, IsPerformed, through, not_held, no_room, no_place}
+use Rattle.taos_monitor.specs.Effects.{ShardStep, step_at, its_place, shards_of, IsDone, lacks_room, LetsGo, IsStep, IsPerformed, through, not_held, no_room, no_place}
 use Rattle.taos_monitor.proofs.Growing.{Grows, grown_none, add_shard, shard_next, shard_on}
+use Rattle.taos_monitor.proofs.Roomless.{never_done}
 
 -- ---- a walk
 
--- where it ended: it went through; a shard had no room in common; or none for an entry
-pub data Stop : Type 0 where
-  Gone : Stop
-  Roomless : ℕ → ℕ → Stop
-  Placeless : ℕ → ℕ → Stop
+-- the step was done, and then came this
+abbrev pub Did : ℕ → Journals → List ShardStep → (Journals → List ShardStep → Type 0) → Event → Told → Type 0
+Did s K steps Then event told = IsDone told × (rest : List ShardStep) × Then (add_shard K s (entry event told)) rest × (steps ≡ step_at s (length (K.shards s)) told ∷ rest)
 
--- what holds where the step was done, and where there was no room in common
-abbrev pub ByTold : Told → Type 0 → (ℕ → Type 0) → Type 0
-ByTold (Told.Held added) Done Full = Done
-ByTold (Told.Removed count) Done Full = Done
-ByTold (Told.CommonsFull held) Done Full = Full held
-ByTold (Told.Replayed last) Done Full = ⊥
-ByTold (Told.Full held) Done Full = ⊥
-ByTold (Told.Hit e) Done Full = ⊥
-ByTold Told.Miss Done Full = ⊥
-ByTold Told.Kept Done Full = ⊥
-ByTold (Told.Dropped cause) Done Full = ⊥
+-- there was no room for what the event brings, and nothing came: the reply says so
+abbrev pub Lacked : Journals → ℕ → Journals → List ShardStep → Option Reply → Event → Told → Type 0
+Lacked J s K steps stop event told =
+    (reply : Reply) × (lacks_room s told ≡ Some reply) × (J ≡ add_shard K s (entry event told)) × (steps ≡ step_at s (length (K.shards s)) told ∷ []) × (stop ≡ Some reply)
 
 module _ (J : Journals) (effect : Option Event) where
-  -- a shard was stepped, and then came this
-  pub record Took (plan : Plan) (s : ℕ) (K : Journals) (steps : List ShardStep) (stop : Stop) (Then : Journals → List ShardStep → Type 0) : Type 0 where
+  -- a shard was stepped: the walk goes on, or this reply ends it
+  pub record Took (plan : Plan) (s : ℕ) (K : Journals) (steps : List ShardStep) (stop : Option Reply) (Then : Journals → List ShardStep → Type 0) : Type 0 where
     pub room : length (K.shards s) < plan.limit
     pub event : Event
     pub effect_is : effect ≡ Some event
     pub told : Told
     pub tells : told ≡ told_at plan (K.shards s) event
-    pub ends : ByTold told ((rest : List ShardStep) × Then (add_shard K s (entry event told)) rest × (steps ≡ step_at s (length (K.shards s)) told ∷ rest))
-        (λ held. (J ≡ add_shard K s (entry event told)) × (steps ≡ step_at s (length (K.shards s)) told ∷ []) × (stop ≡ Roomless s held))
+    pub ends : Did s K steps Then event told ⊎ Lacked J s K steps stop event told
 
   -- a shard had no room for an entry
-  abbrev pub Stuck : Plan → ℕ → Journals → List ShardStep → Stop → Type 0
-  Stuck plan s K steps stop = (length (K.shards s) ≡ plan.limit) × (J ≡ K) × (steps ≡ []) × (stop ≡ Placeless s plan.limit)
+  abbrev pub Stuck : Plan → ℕ → Journals → List ShardStep → Option Reply → Type 0
+  Stuck plan s K steps stop = (length (K.shards s) ≡ plan.limit) × (J ≡ K) × (steps ≡ []) × (stop ≡ Some (shard_full s plan.limit))
 
   module _ (plans : List Plan) where
-    -- the shards were stepped, in order, from these journals on
-    abbrev pub Walk : List ℕ → Journals → List ShardStep → Stop → Type 0
-    Walk [] K steps stop = (J ≡ K) × (steps ≡ []) × (stop ≡ Gone)
+    -- the shards were stepped, in order, from these journals on, all of them or up to one that ended it by a reply
+    abbrev pub Walk : List ℕ → Journals → List ShardStep → Option Reply → Type 0
+    Walk [] K steps stop = (J ≡ K) × (steps ≡ []) × (stop ≡ None)
     Walk (s ∷ ts) K steps stop = (plan : Plan) × (slice_get plans s ≡ Some plan) × (Stuck plan s K steps stop ⊎ Took plan s K steps stop (λ M rest. Walk ts M rest stop))
 
 -- ---- two walks
@@ -68,10 +59,10 @@ same_event : (effect : Option Event) (e f : Event) → effect ≡ Some e → eff
 same_event effect e f x y = same_Some e f (sym x ∙ y)
 
 -- two walks end alike
-abbrev Ends : Journals → Journals → List ShardStep → List ShardStep → Stop → Stop → Type 0
+abbrev Ends : Journals → Journals → List ShardStep → List ShardStep → Option Reply → Option Reply → Type 0
 Ends J L a b p q = (J ≡ L) × (a ≡ b) × (p ≡ q)
 
-module _ (J L : Journals) (effect : Option Event) (a b : List ShardStep) (p q : Stop) (plan : Plan) (s : ℕ) (K : Journals) where
+module _ (J L : Journals) (effect : Option Event) (a b : List ShardStep) (p q : Option Reply) (plan : Plan) (s : ℕ) (K : Journals) where
   stuck_or_took : {Then : Journals → List ShardStep → Type 0} → Stuck J effect plan s K a p → Took L effect plan s K b q Then → ⊥
   stuck_or_took x y = omega (arith, x.0, y.room)
 
@@ -79,37 +70,26 @@ module _ (J L : Journals) (effect : Option Event) (a b : List ShardStep) (p q : 
   took_or_stuck x y = omega (arith, y.0, x.room)
 
   module _ (Then Other : Journals → List ShardStep → Type 0) (later : (M : Journals) (c d : List ShardStep) → Then M c → Other M d → (J ≡ L) × (c ≡ d) × (p ≡ q)) where
-    abbrev Done : (Journals → List ShardStep → Type 0) → List ShardStep → Event → Told → Type 0
-    Done Next steps event told = (rest : List ShardStep) × Next (add_shard K s (entry event told)) rest × (steps ≡ step_at s (length (K.shards s)) told ∷ rest)
-
-    abbrev Full : Journals → List ShardStep → Stop → Event → Told → ℕ → Type 0
-    Full I steps stop event told held = (I ≡ add_shard K s (entry event told)) × (steps ≡ step_at s (length (K.shards s)) told ∷ []) × (stop ≡ Roomless s held)
-
-    done_alike : (event : Event) (told : Told) → Done Then a event told → Done Other b event told → Ends J L a b p q
+    done_alike : (event : Event) (told : Told) → Did s K a Then event told → Did s K b Other event told → Ends J L a b p q
     done_alike event told x y =
-        let r = later (add_shard K s (entry event told)) x.0 y.0 x.1 y.1 in
-        (r.0, x.2 ∙ ap (λ (l : List ShardStep). step_at s (length (K.shards s)) told ∷ l) r.1 ∙ sym y.2, r.2)
+        let r = later (add_shard K s (entry event told)) x.1 y.1 x.2 y.2 in
+        (r.0, x.3 ∙ ap (λ (l : List ShardStep). step_at s (length (K.shards s)) told ∷ l) r.1 ∙ sym y.3, r.2)
 
-    told_alike : (event : Event) (told : Told) → ByTold told (Done Then a event told) (Full J a p event told) → ByTold told (Done Other b event told) (Full L b q event told) → Ends J L a b p q
-    told_alike event (Told.Held added) x y = done_alike event (Told.Held added) x y
-    told_alike event (Told.Removed count) x y = done_alike event (Told.Removed count) x y
-    told_alike event (Told.CommonsFull held) x y = (x.0 ∙ sym y.0, x.1 ∙ sym y.1, x.2 ∙ sym y.2)
-    told_alike event (Told.Replayed last) x y = absurd x
-    told_alike event (Told.Full held) x y = absurd x
-    told_alike event (Told.Hit e) x y = absurd x
-    told_alike event Told.Miss x y = absurd x
-    told_alike event Told.Kept x y = absurd x
-    told_alike event (Told.Dropped cause) x y = absurd x
+    told_alike : (event : Event) (told : Told) → Did s K a Then event told ⊎ Lacked J s K a p event told → Did s K b Other event told ⊎ Lacked L s K b q event told → Ends J L a b p q
+    told_alike event told (inl x) (inl y) = done_alike event told x y
+    told_alike event told (inl x) (inr y) = absurd (never_done s told y.0 y.1 x.0)
+    told_alike event told (inr x) (inl y) = absurd (never_done s told x.0 x.1 y.0)
+    told_alike event told (inr x) (inr y) = (x.2 ∙ sym y.2, x.3 ∙ sym y.3, x.4 ∙ sym x.1 ∙ y.1 ∙ sym y.4)
 
     took_alike : Took J effect plan s K a p Then → Took L effect plan s K b q Other → Ends J L a b p q
     took_alike x y =
         let event : y.event ≡ x.event = same_event effect y.event x.event y.effect_is x.effect_is in
         let told : y.told ≡ x.told = y.tells ∙ ap (told_at plan (K.shards s)) event ∙ sym x.tells in
-        let ends = subst (λ (e : Event). ByTold y.told (Done Other b e y.told) (Full L b q e y.told)) event y.ends in
-        told_alike x.event x.told x.ends (subst (λ (t : Told). ByTold t (Done Other b x.event t) (Full L b q x.event t)) told ends)
+        let ends = subst (λ (e : Event). Did s K b Other e y.told ⊎ Lacked L s K b q e y.told) event y.ends in
+        told_alike x.event x.told x.ends (subst (λ (t : Told). Did s K b Other x.event t ⊎ Lacked L s K b q x.event t) told ends)
 
 module _ (J L : Journals) (effect : Option Event) (plans : List Plan) where
-  pub walks_agree : (ts : List ℕ) (K : Journals) (a b : List ShardStep) (p q : Stop) → Walk J effect plans ts K a p → Walk L effect plans ts K b q → Ends J L a b p q
+  pub walks_agree : (ts : List ℕ) (K : Journals) (a b : List ShardStep) (p q : Option Reply) → Walk J effect plans ts K a p → Walk L effect plans ts K b q → Ends J L a b p q
   walks_agree [] K a b p q x y = (x.0 ∙ sym y.0, x.1 ∙ sym y.1, x.2 ∙ sym y.2)
   walks_agree (s ∷ ts) K a b p q (plan, at, x) (other, there, y) =
       sides (λ M c d u v. walks_agree ts M c d p q u v) x (subst (λ (o : Plan). Stuck L effect o s K b q ⊎ Took L effect o s K b q (λ M rest. Walk L effect plans ts M rest q)) (same_Some other plan (sym there ∙ at)) y)
@@ -132,22 +112,10 @@ All-at : {X : Type 0} (P : X → Type 0) (front : List X) (x : X) (rest : List X
 All-at P [] x rest all = All-head P x rest all
 All-at P (y ∷ front) x rest all = All-at P front x rest (All-tail P y (front ++ x ∷ rest) all)
 
-by_done : (told : Told) (Done : Type 0) (Full : ℕ → Type 0) → IsDone told → Done → ByTold told Done Full
-by_done (Told.Held added) Done Full is x = x
-by_done (Told.Removed count) Done Full is x = x
-by_done (Told.CommonsFull held) Done Full is x = absurd is
-by_done (Told.Replayed last) Done Full is x = absurd is
-by_done (Told.Full held) Done Full is x = absurd is
-by_done (Told.Hit e) Done Full is x = absurd is
-by_done Told.Miss Done Full is x = absurd is
-by_done Told.Kept Done Full is x = absurd is
-by_done (Told.Dropped cause) Done Full is x = absurd is
-
 module _ (J : Journals) (effect : Option Event) (plans : List Plan) (legal : AreLegalShards plans J.shards) where
   -- one step, and then what comes
-  one_taken : (d : ShardStep) (K : Journals) (ps : List Place) (steps : List ShardStep) (stop : Stop) (Then : Journals → List ShardStep → Type 0) (plan : Plan) → slice_get plans d.shard ≡ Some plan → (s : IsStep J.shards effect d) → Grows K J (its_place d ∷ ps) →
-      (d.place ≡ length (K.shards d.shard) → ByTold d.told ((rest : List ShardStep) × Then (add_shard K d.shard (entry s.event d.told)) rest × (steps ≡ step_at d.shard (length (K.shards d.shard)) d.told ∷ rest))
-      (λ held. (J ≡ add_shard K d.shard (entry s.event d.told)) × (steps ≡ step_at d.shard (length (K.shards d.shard)) d.told ∷ []) × (stop ≡ Roomless d.shard held))) →
+  one_taken : (d : ShardStep) (K : Journals) (ps : List Place) (steps : List ShardStep) (stop : Option Reply) (Then : Journals → List ShardStep → Type 0) (plan : Plan) → slice_get plans d.shard ≡ Some plan → (s : IsStep J.shards effect d) → Grows K J (its_place d ∷ ps) →
+      (d.place ≡ length (K.shards d.shard) → Did d.shard K steps Then s.event d.told ⊎ Lacked J d.shard K steps stop s.event d.told) →
       Took J effect plan d.shard K steps stop Then
   one_taken d K ps steps stop Then plan planned s g ends =
       let next = shard_next K J ps d.shard d.place s.before (entry s.event d.told) g s.stands in
@@ -164,7 +132,7 @@ module _ (J : Journals) (effect : Option Event) (plans : List Plan) (legal : Are
   step_on : (d : ShardStep) (K : Journals) (ps : List Place) (s : IsStep J.shards effect d) → Grows K J (its_place d ∷ ps) → Grows (add_shard K d.shard (entry s.event d.told)) J ps
   step_on d K ps s g = shard_on K J ps d.shard d.place s.before (entry s.event d.told) g s.stands
 
-  walk_on : (done : List ShardStep) (K : Journals) (more : List ℕ) (ps : List Place) (tail : List ShardStep) (stop : Stop) → All (IsStep J.shards effect) done → All (λ (s : ShardStep). IsDone s.told) done → All (λ (s : ℕ). s < length plans) (shards_of done) →
+  walk_on : (done : List ShardStep) (K : Journals) (more : List ℕ) (ps : List Place) (tail : List ShardStep) (stop : Option Reply) → All (IsStep J.shards effect) done → All (λ (s : ShardStep). IsDone s.told) done → All (λ (s : ℕ). s < length plans) (shards_of done) →
       Grows K J (map its_place done ++ ps) → ((M : Journals) → Grows M J ps → Walk J effect plans more M tail stop) → Walk J effect plans (shards_of done ++ more) K (done ++ tail) stop
   walk_on [] K more ps tail stop stand all there g behind = behind K g
   walk_on (d ∷ done) K more ps tail stop stand all there g behind =
@@ -175,7 +143,7 @@ module _ (J : Journals) (effect : Option Event) (plans : List Plan) (legal : Are
         plan,
         planned,
         inr (one_taken d K (map its_place done ++ ps) (d ∷ done ++ tail) stop (λ M l. Walk J effect plans (shards_of done ++ more) M l stop) plan planned s g
-            (λ at. by_done d.told _ _ (All-head (λ (t : ShardStep). IsDone t.told) d done all) (done ++ tail, rest, ap (λ (p : ℕ). step_at d.shard p d.told ∷ done ++ tail) at))),
+            (λ at. inl (All-head (λ (t : ShardStep). IsDone t.told) d done all, done ++ tail, rest, ap (λ (p : ℕ). step_at d.shard p d.told ∷ done ++ tail) at))),
       )
 
   -- the shards that are to be stepped are there
@@ -183,34 +151,34 @@ module _ (J : Journals) (effect : Option Event) (plans : List Plan) (legal : Are
     front_there : (front rest : List ℕ) → targets ≡ front ++ rest → All (λ (s : ℕ). s < length plans) front
     front_there front rest is = All-front (λ (s : ℕ). s < length plans) front rest (subst (All (λ (s : ℕ). s < length plans)) is there)
 
-    walk_through : shards_of steps ≡ targets → All (IsStep J.shards effect) steps → All (λ (s : ShardStep). IsDone s.told) steps → Walk J effect plans targets K steps Gone
+    walk_through : shards_of steps ≡ targets → All (IsStep J.shards effect) steps → All (λ (s : ShardStep). IsDone s.told) steps → Walk J effect plans targets K steps None
     walk_through order stand all =
-        subst (λ (ts : List ℕ). Walk J effect plans ts K steps Gone) (append-nil (shards_of steps) ∙ order)
-        (subst (λ (l : List ShardStep). Walk J effect plans (shards_of steps ++ []) K l Gone) (append-nil steps)
-        (walk_on steps K [] [] [] Gone stand all (subst (All (λ (s : ℕ). s < length plans)) (sym order) there) (subst (Grows K J) (sym (append-nil (map its_place steps))) g) (λ M h. (grown_none M J h, refl, refl))))
+        subst (λ (ts : List ℕ). Walk J effect plans ts K steps None) (append-nil (shards_of steps) ∙ order)
+        (subst (λ (l : List ShardStep). Walk J effect plans (shards_of steps ++ []) K l None) (append-nil steps)
+        (walk_on steps K [] [] [] None stand all (subst (All (λ (s : ℕ). s < length plans)) (sym order) there) (subst (Grows K J) (sym (append-nil (map its_place steps))) g) (λ M h. (grown_none M J h, refl, refl))))
 
     walk_stuck : (shard : ℕ) (rest : List ℕ) (plan : Plan) → targets ≡ shards_of steps ++ shard ∷ rest → slice_get plans shard ≡ Some plan → length (J.shards shard) ≡ plan.limit → All (IsStep J.shards effect) steps → All (λ (s : ShardStep). IsDone s.told) steps →
-        Walk J effect plans targets K steps (Placeless shard plan.limit)
+        Walk J effect plans targets K steps (Some (shard_full shard plan.limit))
     walk_stuck shard rest plan order planned full stand all =
-        subst (λ (ts : List ℕ). Walk J effect plans ts K steps (Placeless shard plan.limit)) (sym order)
-        (subst (λ (l : List ShardStep). Walk J effect plans (shards_of steps ++ shard ∷ rest) K l (Placeless shard plan.limit)) (append-nil steps)
-        (walk_on steps K (shard ∷ rest) [] [] (Placeless shard plan.limit) stand all (front_there (shards_of steps) (shard ∷ rest) order) (subst (Grows K J) (sym (append-nil (map its_place steps))) g)
+        subst (λ (ts : List ℕ). Walk J effect plans ts K steps (Some (shard_full shard plan.limit))) (sym order)
+        (subst (λ (l : List ShardStep). Walk J effect plans (shards_of steps ++ shard ∷ rest) K l (Some (shard_full shard plan.limit))) (append-nil steps)
+        (walk_on steps K (shard ∷ rest) [] [] (Some (shard_full shard plan.limit)) stand all (front_there (shards_of steps) (shard ∷ rest) order) (subst (Grows K J) (sym (append-nil (map its_place steps))) g)
         (λ M h. (plan, planned, inl (ap (λ (I : Journals). length (I.shards shard)) (sym (grown_none M J h)) ∙ full, grown_none M J h, refl, refl)))))
 
-    walk_full : (done : List ShardStep) (shard place held : ℕ) (rest : List ℕ) → targets ≡ shards_of done ++ shard ∷ rest → steps ≡ done ++ step_at shard place (Told.CommonsFull held) ∷ [] → IsStep J.shards effect (step_at shard place (Told.CommonsFull held)) →
-        All (IsStep J.shards effect) done → All (λ (s : ShardStep). IsDone s.told) done → Walk J effect plans targets K steps (Roomless shard held)
-    walk_full done shard place held rest order is s stand all =
-        let last = step_at shard place (Told.CommonsFull held) in
+    walk_full : (done : List ShardStep) (shard place : ℕ) (told : Told) (reply : Reply) (rest : List ℕ) → lacks_room shard told ≡ Some reply → targets ≡ shards_of done ++ shard ∷ rest → steps ≡ done ++ step_at shard place told ∷ [] → IsStep J.shards effect (step_at shard place told) →
+        All (IsStep J.shards effect) done → All (λ (s : ShardStep). IsDone s.told) done → Walk J effect plans targets K steps (Some reply)
+    walk_full done shard place told reply rest lacks order is s stand all =
+        let last = step_at shard place told in
         let grows : Grows K J (map its_place done ++ in_shard shard place ∷ []) = subst (Grows K J) (ap (map its_place) is ∙ map_push its_place done last) g in
         let (plan, planned) = standing plans shard (All-at (λ (t : ℕ). t < length plans) (shards_of done) shard rest (subst (All (λ (t : ℕ). t < length plans)) order there)) in
-        subst (λ (ts : List ℕ). Walk J effect plans ts K steps (Roomless shard held)) (sym order)
-        (subst (λ (l : List ShardStep). Walk J effect plans (shards_of done ++ shard ∷ rest) K l (Roomless shard held)) (sym is)
-        (walk_on done K (shard ∷ rest) (in_shard shard place ∷ []) (last ∷ []) (Roomless shard held) stand all (front_there (shards_of done) (shard ∷ rest) order) grows
+        subst (λ (ts : List ℕ). Walk J effect plans ts K steps (Some reply)) (sym order)
+        (subst (λ (l : List ShardStep). Walk J effect plans (shards_of done ++ shard ∷ rest) K l (Some reply)) (sym is)
+        (walk_on done K (shard ∷ rest) (in_shard shard place ∷ []) (last ∷ []) (Some reply) stand all (front_there (shards_of done) (shard ∷ rest) order) grows
         (λ M h. (
           plan,
           planned,
-          inr (one_taken last M [] (last ∷ []) (Roomless shard held) (λ N l. Walk J effect plans rest N l (Roomless shard held)) plan planned s h
-              (λ at. (grown_none _ J (step_on last M [] s h), ap (λ (p : ℕ). step_at shard p (Told.CommonsFull held) ∷ []) at, refl))),
+          inr (one_taken last M [] (last ∷ []) (Some reply) (λ N l. Walk J effect plans rest N l (Some reply)) plan planned s h
+              (λ at. inr (reply, lacks, grown_none _ J (step_on last M [] s h), ap (λ (p : ℕ). step_at shard p told ∷ []) at, refl))),
         ))))
 
 -- ---- by the operation
@@ -228,27 +196,25 @@ targets_there plans some (Forget channel) = All-cons (λ (s : ℕ). s < length p
 targets_there plans some Sweep = below (length plans)
 
 -- the reply in place of the grant, by where the walk ended
-abbrev pub Refuses : Op → List ShardStep → Stop → Option Reply → Type 0
-Refuses op steps Gone refused =
+abbrev pub Refuses : Op → List ShardStep → Option Reply → Option Reply → Type 0
+Refuses op steps None refused =
     ((refused ≡ None) × ((digest : List ℕ) → op ≡ Discard digest → LetsGo steps)) ⊎ ((digest : List ℕ) × (op ≡ Discard digest) × (LetsGo steps → ⊥) × (refused ≡ Some (replies.NotHeld digest)))
-Refuses op steps (Roomless shard held) refused = refused ≡ Some (replies.CommonsFull held shard)
-Refuses op steps (Placeless shard limit) refused = refused ≡ Some (shard_full shard limit)
+Refuses op steps (Some reply) refused = refused ≡ Some reply
 
 same_digest : (op : Op) (d e : List ℕ) → op ≡ Discard d → op ≡ Discard e → d ≡ e
 same_digest op d e x y = let both : Discard d ≡ Discard e = sym x ∙ y in cc
 
-refuses_agree : (op : Op) (steps : List ShardStep) (stop : Stop) (a b : Option Reply) → Refuses op steps stop a → Refuses op steps stop b → a ≡ b
-refuses_agree op steps Gone a b (inl x) (inl y) = x.0 ∙ sym y.0
-refuses_agree op steps Gone a b (inl x) (inr (d, is, none, said)) = absurd (none (x.1 d is))
-refuses_agree op steps Gone a b (inr (d, is, none, said)) (inl y) = absurd (none (y.1 d is))
-refuses_agree op steps Gone a b (inr (d, is, none, said)) (inr (e, also, never, says)) = said ∙ ap (λ (l : List ℕ). Some (replies.NotHeld l)) (same_digest op d e is also) ∙ sym says
-refuses_agree op steps (Roomless shard held) a b x y = x ∙ sym y
-refuses_agree op steps (Placeless shard limit) a b x y = x ∙ sym y
+refuses_agree : (op : Op) (steps : List ShardStep) (stop a b : Option Reply) → Refuses op steps stop a → Refuses op steps stop b → a ≡ b
+refuses_agree op steps None a b (inl x) (inl y) = x.0 ∙ sym y.0
+refuses_agree op steps None a b (inl x) (inr (d, is, none, said)) = absurd (none (x.1 d is))
+refuses_agree op steps None a b (inr (d, is, none, said)) (inl y) = absurd (none (y.1 d is))
+refuses_agree op steps None a b (inr (d, is, none, said)) (inr (e, also, never, says)) = said ∙ ap (λ (l : List ℕ). Some (replies.NotHeld l)) (same_digest op d e is also) ∙ sym says
+refuses_agree op steps (Some reply) a b x y = x ∙ sym y
 
 -- what was performed, from these journals on
 pub record Performs (plans : List Plan) (op : Op) (certs : List Certificate) (reading : ℕ) (K J : Journals) (refused : Option Reply) : Type 0 where
   pub steps : List ShardStep
-  pub stop : Stop
+  pub stop : Option Reply
   pub walk : Walk J (effect_of op certs reading) plans (targets_of plans op) K steps stop
   pub refuses : Refuses op steps stop refused
 
@@ -258,31 +224,31 @@ module _ (plans : List Plan) (op : Op) (certs : List Certificate) (reading : ℕ
       let ends = walks_agree J L (effect_of op certs reading) plans (targets_of plans op) K x.steps y.steps x.stop y.stop x.walk y.walk in (
         ends.0,
         refuses_agree op x.steps x.stop a b x.refuses
-            (subst (λ (p : Stop). Refuses op x.steps p b) (sym ends.2) (subst (λ (l : List ShardStep). Refuses op l y.stop b) (sym ends.1) y.refuses)),
+            (subst (λ (p : Option Reply). Refuses op x.steps p b) (sym ends.2) (subst (λ (l : List ShardStep). Refuses op l y.stop b) (sym ends.1) y.refuses)),
       )
 
   pub performs : (J : Journals) → AreLegalShards plans J.shards → 0 < length plans → (steps : List ShardStep) (refused : Option Reply) → Grows K J (map its_place steps) → IsPerformed plans J.shards op (effect_of op certs reading) steps refused → Performs plans op certs reading K J refused
   performs J legal some steps refused g (through w lets) = record {
     steps = steps;
-    stop = Gone;
+    stop = None;
     walk = walk_through J (effect_of op certs reading) plans legal (targets_of plans op) (targets_there plans some op) K steps g w.order w.are_done.stand w.are_done.done;
     refuses = inl (refl, lets);
   }
   performs J legal some steps refused g (not_held digest is w none) = record {
     steps = steps;
-    stop = Gone;
+    stop = None;
     walk = walk_through J (effect_of op certs reading) plans legal (targets_of plans op) (targets_there plans some op) K steps g w.order w.are_done.stand w.are_done.done;
     refuses = inr (digest, is, none, refl);
   }
-  performs J legal some steps refused g (no_room {shard} {held} f) = record {
+  performs J legal some steps refused g (no_room {shard} {told} {reply} lacks f) = record {
     steps = steps;
-    stop = Roomless shard held;
-    walk = walk_full J (effect_of op certs reading) plans legal (targets_of plans op) (targets_there plans some op) K steps g f.done shard f.place held f.rest f.order f.steps_are f.refused f.are_done.stand f.are_done.done;
+    stop = Some reply;
+    walk = walk_full J (effect_of op certs reading) plans legal (targets_of plans op) (targets_there plans some op) K steps g f.done shard f.place told reply f.rest lacks f.order f.steps_are f.refused f.are_done.stand f.are_done.done;
     refuses = refl;
   }
   performs J legal some steps refused g (no_place {shard} {limit} f) = record {
     steps = steps;
-    stop = Placeless shard f.plan.limit;
+    stop = Some (shard_full shard f.plan.limit);
     walk = walk_stuck J (effect_of op certs reading) plans legal (targets_of plans op) (targets_there plans some op) K steps g shard f.rest f.plan f.order f.planned f.full f.are_done.stand f.are_done.done;
     refuses = ap (λ (k : ℕ). Some (shard_full shard k)) f.limit_is;
   }

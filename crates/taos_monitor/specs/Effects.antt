@@ -1,5 +1,5 @@
 -- The steps of a granted operation in the shards, and how they end.
-use Rattle.std.specs.Prelude.{◌≡◌, ◌↔◌, ℕ, ◌+◌, ◌<◌, ◌≤◌, ◌^◌, Bool, IsTrue, List, [], ◌∷◌, ◌++◌, length, map, Option, None, Some, slice_get, All}
+use Rattle.std.specs.Prelude.{◌≡◌, ◌↔◌, ℕ, ◌+◌, ◌<◌, ◌≤◌, ◌^◌, Bool, IsTrue, List, [], ◌∷◌, ◌++◌, length, map, Option, None, Some, IsSome, slice_get, All}
 use Rattle.std.specs.List.{range_with_len, sum_by}
 use Rattle.std.specs.Option.{option_map}
 use Rattle.object_core.specs.Operation.{Op, Discard}
@@ -37,14 +37,23 @@ abbrev pub removed_by : Told → ℕ
 removed_by (Told.Removed count) = count
 removed_by _ = 0
 
--- how the step of an effect went, as the program says: it was done, or there was no room for more
--- certificates in common, or for an entry
+-- the reply where a shard was told this for want of room, in place of doing what the event asks
+abbrev pub lacks_room : (shard : ℕ) → Told → Option Reply
+lacks_room shard (Told.CommonsFull held) = Some (replies.CommonsFull held shard)
+lacks_room shard _ = None
+
+-- this is told for want of room
+abbrev pub WantsRoom : Told → Type 0
+WantsRoom told = (shard : ℕ) → IsSome (lacks_room shard told)
+
+-- how the step of an effect went, as the program says: it was done, or there was no room for what
+-- the event brings, or for an entry
 abbrev pub WentAs : Plan → JournalSeen → JournalSeen → Event → Went → Type 0
 WentAs plan earlier later event (went.Done removed) =
     (place : ℕ) × (told : Told) × StepsTo plan earlier later event place (Other told)
     × IsDone told × (removed ≡ removed_by told)
-WentAs plan earlier later event (went.NoRoom held) =
-    (place : ℕ) × StepsTo plan earlier later event place (Other (Told.CommonsFull held))
+WentAs plan earlier later event (went.NoRoom told) =
+    (place : ℕ) × StepsTo plan earlier later event place (Other told) × WantsRoom told
 WentAs plan earlier later event (went.Full n) =
     StepRefused plan earlier later × (length later.journal ≡ plan.limit) × (n ≡ plan.limit)
 
@@ -92,17 +101,17 @@ module _ (journals : ℕ → List Entry) (effect : Option Event) where
     pub order : shards_of steps ≡ shards
     pub are_done : AreDone steps
 
-  -- the shard of this number had no room: it holds so many in common; those before were stepped,
-  -- and those after it were not
-  pub record FoundNoRoom (shards : List ℕ) (steps : List ShardStep) (shard held : ℕ) :
+  -- the shard of this number did not do it, and was told this; those before were stepped, and
+  -- those after it were not
+  pub record FoundNoRoom (shards : List ℕ) (steps : List ShardStep) (shard : ℕ) (told : Told) :
       Type 0 where
     pub done : List ShardStep
     pub place : ℕ
     pub rest : List ℕ
     pub order : shards ≡ shards_of done ++ shard ∷ rest
     pub are_done : AreDone done
-    pub steps_are : steps ≡ done ++ step_at shard place (Told.CommonsFull held) ∷ []
-    pub refused : IsStep journals effect (step_at shard place (Told.CommonsFull held))
+    pub steps_are : steps ≡ done ++ step_at shard place told ∷ []
+    pub refused : IsStep journals effect (step_at shard place told)
 
   -- the journal of the shard of this number stands at its limit; those before were stepped, and
   -- neither it nor those after it were
@@ -120,8 +129,8 @@ module _ (journals : ℕ → List Entry) (effect : Option Event) where
   abbrev pub EndAs : List Plan → List ℕ → List ShardStep → Effected → Type 0
   EndAs plans shards steps (effected.Through removed) =
       WentThrough shards steps × (IsTrue removed ↔ LetsGo steps)
-  EndAs plans shards steps (effected.NoRoom shard held) =
-      FoundNoRoom shards steps shard held
+  EndAs plans shards steps (effected.NoRoom shard told) =
+      FoundNoRoom shards steps shard told × WantsRoom told
   EndAs plans shards steps (effected.Full shard limit) =
       FoundNoPlace plans shards steps shard limit
 
@@ -137,9 +146,10 @@ pub data IsPerformed (plans : List Plan) (journals : ℕ → List Entry) (op : O
       WentThrough journals effect (targets_of plans op) steps →
       (LetsGo steps → ⊥) →
       IsPerformed plans journals op effect steps (Some (replies.NotHeld digest))
-  no_room : {steps : List ShardStep} {shard held : ℕ} →
-      FoundNoRoom journals effect (targets_of plans op) steps shard held →
-      IsPerformed plans journals op effect steps (Some (replies.CommonsFull held shard))
+  no_room : {steps : List ShardStep} {shard : ℕ} {told : Told} {reply : Reply} →
+      lacks_room shard told ≡ Some reply →
+      FoundNoRoom journals effect (targets_of plans op) steps shard told →
+      IsPerformed plans journals op effect steps (Some reply)
   no_place : {steps : List ShardStep} {shard limit : ℕ} →
       FoundNoPlace journals effect plans (targets_of plans op) steps shard limit →
       IsPerformed plans journals op effect steps (Some (shard_full shard limit))

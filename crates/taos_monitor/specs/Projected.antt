@@ -4,12 +4,13 @@ use Rattle.std.specs.List.{flat_map}
 use Rattle.frame_link.specs.declared.outcome.Outcome.{Outcome}
 use Rattle.prin_term.specs.View.{Grant}
 use Rattle.object_core.specs.Objects.{ObjectEntry, written_by, listed_by, is_grant}
+use Rattle.taos_wire.specs.Reply.{Reply}
 use Rattle.agent_core.specs.declared.told.Told.{Told}
 use Rattle.agent_core.specs.State.{Plan, Ask, Event, Asks, Keeps, Holds, Discards, Forgets, Expires}
 use Rattle.agent_core.specs.Journals.{Entry, entry, Stands}
 use Rattle.taos_monitor.specs.Cells.{Node, Journals, Cell, OfShard, OfObject, Place}
 use Rattle.taos_monitor.specs.Course.{Used}
-use Rattle.taos_monitor.specs.Effects.{IsDone}
+use Rattle.taos_monitor.specs.Effects.{IsDone, lacks_room}
 use Rattle.taos_monitor.specs.Operations.{effect_of, targets_of}
 use Rattle.taos_monitor.specs.Run.{Answered}
 
@@ -78,16 +79,16 @@ grants_of J places = flat_map (λ (p : Place). grants_in J p.cell p.number) plac
 -- ---- what is due to a grant
 
 -- Steps by an event in these shards, in their order: each is done, up to the first shard that has no
--- room for more certificates in common and says so, or whose journal stands at its limit.
+-- room for what the event brings and says so, or whose journal stands at its limit.
 pub data AreTaken (plans : List Plan) (journals : ℕ → List Entry) (event : Option Event) :
     List ℕ → List Effect → Type 0 where
   through : AreTaken plans journals event [] []
   done : {s : ℕ} {shards : List ℕ} {e : Event} {told : Told} {later : List Effect} →
       event ≡ Some e → IsDone told → AreTaken plans journals event shards later →
       AreTaken plans journals event (s ∷ shards) (Stepped s e told ∷ later)
-  no_room : {s held : ℕ} {shards : List ℕ} {e : Event} →
-      event ≡ Some e →
-      AreTaken plans journals event (s ∷ shards) (Stepped s e (Told.CommonsFull held) ∷ [])
+  no_room : {s : ℕ} {shards : List ℕ} {e : Event} {told : Told} {reply : Reply} →
+      event ≡ Some e → lacks_room s told ≡ Some reply →
+      AreTaken plans journals event (s ∷ shards) (Stepped s e told ∷ [])
   no_place : {s : ℕ} {shards : List ℕ} (plan : Plan) →
       slice_get plans s ≡ Some plan → length (journals s) ≡ plan.limit →
       AreTaken plans journals event (s ∷ shards) []

@@ -9,7 +9,7 @@ ghost use Rattle.taos_monitor.specs.Planned.{ArePlanned};
 ghost use Rattle.taos_monitor.specs.World.{setting_of, world_of};
 
 use crate::connection::MAX_REQUEST;
-use crate::handling::{Handled, request};
+use crate::handling::{Handled, request_with};
 use crate::legal::are_legal;
 use crate::node_keys::NodeKeys;
 use crate::refusal::Refusal;
@@ -17,6 +17,7 @@ use crate::reply::ReplyBuf;
 use agent_core::{Gate, Shards};
 use frame_link::{Clock, RelayLink};
 use object_core::Shelf;
+use relay_core::OpenedCerts;
 use std::alloc::Global;
 use std::sync::Wait;
 use taos_calculus::Decide;
@@ -50,7 +51,64 @@ fn asked_of(alloc: Global, keys: &NodeKeys, payload: &[u8]) -> Result<Request, R
 }
 
 /// Answers one request from its payload to its reply, which is left in the buffer: under the
-/// channel's seal, but where the payload is no request, or not under that seal.
+/// channel's seal, but where the payload is no request, or not under that seal. What it presents is
+/// opened by what was opened before.
+pub fn answer_with<W: Wait + Sync, H: Shelf, S: Shards, R: RelayLink, C: Clock, D: Decide, G: Gate>(
+    rt: &W,
+    alloc: Global,
+    keys: &NodeKeys,
+    opened: &mut OpenedCerts,
+    shelf: &mut H,
+    shards: &mut S,
+    relay: &mut R,
+    clock: &mut C,
+    bench: &mut D,
+    gate: &mut G,
+    payload: &[u8],
+    out: &mut ReplyBuf,
+) -> Handled
+    requires short { length payload.now ≤ MAX_REQUEST }
+    requires planned { ArePlanned keys.now.channels.entries (S.plans shards.old) }
+    requires key { opened.old ≡ keys.now.relay_key }
+    requires none_taken { H.taken shelf.old ≡ None }
+    ensures answered { Answers
+        (setting_of (node_of keys.now (S.plans shards.old) (H.objects shelf.old))
+        (alone_of (S.alone shards.old) (H.alone shelf.old)) (R.says relay.old))
+        (world_of (C.readings clock.old) (R.faults relay.old)
+        (viewed (S.seen shards.old) (S.own shards.old))
+        (viewed (H.seen shelf.old) (H.own shelf.old)))
+        (world_of (C.readings clock.new) (R.faults relay.new)
+        (viewed (S.seen shards.new) (S.own shards.new))
+        (viewed (H.seen shelf.new) (H.own shelf.new))) payload.now out.new result }
+    ensures cause { HandlesCause (C.faults clock.old) (C.faults clock.new) result }
+    ensures left { LeavesReply out.old out.new result }
+
+    // What it opens by stays under the node's key.
+    ensures key { opened.new ≡ opened.old }
+
+    // No object is left taken.
+    ensures taken { H.taken shelf.new ≡ None }
+
+    // What nobody changes.
+    ensures plans { S.plans shards.new ≡ S.plans shards.old }
+    ensures alone { S.alone shards.new ≡ S.alone shards.old }
+    ensures objects { H.objects shelf.new ≡ H.objects shelf.old }
+    ensures others_take { H.alone shelf.new ≡ H.alone shelf.old }
+    ensures says { R.says relay.new ≡ R.says relay.old }
+{
+    are_legal(shelf, shards);
+    match asked_of(alloc, keys, payload) {
+        Ok(asked) => request_with(
+            rt, alloc, keys, opened, shelf, shards, relay, clock, bench, gate, &asked, out,
+        ),
+        Err(why) => {
+            out.leave_unsealed(why);
+            Handled::Replied
+        }
+    }
+}
+
+/// As `answer_with`, with nothing opened before.
 pub fn answer<W: Wait + Sync, H: Shelf, S: Shards, R: RelayLink, C: Clock, D: Decide, G: Gate>(
     rt: &W,
     alloc: Global,
@@ -89,14 +147,19 @@ pub fn answer<W: Wait + Sync, H: Shelf, S: Shards, R: RelayLink, C: Clock, D: De
     ensures others_take { H.alone shelf.new ≡ H.alone shelf.old }
     ensures says { R.says relay.new ≡ R.says relay.old }
 {
-    are_legal(shelf, shards);
-    match asked_of(alloc, keys, payload) {
-        Ok(asked) => request(
-            rt, alloc, keys, shelf, shards, relay, clock, bench, gate, &asked, out,
-        ),
-        Err(why) => {
-            out.leave_unsealed(why);
-            Handled::Replied
-        }
-    }
+    let mut opened = OpenedCerts::keeping_none(&keys.relay_key);
+    answer_with(
+        rt,
+        alloc,
+        keys,
+        &mut opened,
+        shelf,
+        shards,
+        relay,
+        clock,
+        bench,
+        gate,
+        payload,
+        out,
+    )
 }

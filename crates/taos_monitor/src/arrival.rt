@@ -12,6 +12,7 @@ use crate::refusal::Refusal;
 use frame_link::RelayLink;
 use object_core::{Shelf, right_of};
 use prin_term::Term;
+use relay_core::OpenedCerts;
 use std::alloc::Global;
 use std::sync::Arc;
 use stmt_codec::{Cert, speaker_of};
@@ -29,21 +30,24 @@ pub(crate) struct Arrived {
 pub(crate) fn arrive<H: Shelf, R: RelayLink>(
     alloc: Global,
     keys: &NodeKeys,
+    opened: &mut OpenedCerts,
     shelf: &H,
     relay: &mut R,
     asked: &Request,
 ) -> Result<Arrived, Refusal>
     requires limits { FitsRequest (request asked.now) }
     requires short { All (λ t. length t ≤ 65531) (request asked.now).certs }
+    requires key { opened.old ≡ keys.now.relay_key }
     ensures arrived { IfOk result (Arrives keys.now (H.objects shelf.now)
         (link_use (R.says relay.old) keys.now.node (R.faults relay.old) (R.faults relay.new))
         (request asked.now)) }
     ensures refused { IfErr result (NotArrives keys.now (H.objects shelf.now)
         (link_use (R.says relay.old) keys.now.node (R.faults relay.old) (R.faults relay.new))
         (request asked.now)) }
+    ensures key { opened.new ≡ opened.old }
     ensures same { R.says relay.new ≡ R.says relay.old }
 {
-    let certs = open_all(alloc, keys, relay, &asked.certs)?;
+    let certs = open_all(alloc, keys.node, opened, relay, &asked.certs)?;
     if !shelf.has(asked.object) {
         return Err(Refusal::UnknownObject {
             number: asked.object,

@@ -10,7 +10,7 @@ ghost use Rattle.taos_monitor.specs.Planned.{ArePlanned};
 ghost use Rattle.taos_monitor.specs.Serving.{StepsTo, StopsIn, state_of};
 ghost use Rattle.taos_monitor.specs.World.{setting_of, world_of};
 
-use crate::answering::answer;
+use crate::answering::answer_with;
 use crate::handling::Handled;
 use crate::legal::are_legal;
 use crate::node_keys::NodeKeys;
@@ -20,6 +20,7 @@ use frame_link::{
     Clock, Failed, FrameBuf, MAX_PAYLOAD, Outcome, RelayLink, Service, Sink, Source, serve_frames,
 };
 use object_core::Shelf;
+use relay_core::OpenedCerts;
 use std::alloc::{AllocError, Global};
 use std::sync::Wait;
 use taos_calculus::Decide;
@@ -29,10 +30,11 @@ pub const MAX_REQUEST: u32 = MAX_PAYLOAD;
 
 // What a node answers by, and the reply that stands ready.
 #[derive(Drop)]
-struct Answering<'w, 'k, 'h, 's, 'r, 'c, 'd, 'b, W, H, S, R, C, D> {
+struct Answering<'w, 'k, 'o, 'h, 's, 'r, 'c, 'd, 'b, W, H, S, R, C, D> {
     rt: &'w W,
     alloc: Global,
     keys: &'k NodeKeys,
+    opened: &'o mut OpenedCerts,
     shelf: &'h mut H,
     shards: &'s mut S,
     relay: &'r mut R,
@@ -42,7 +44,7 @@ struct Answering<'w, 'k, 'h, 's, 'r, 'c, 'd, 'b, W, H, S, R, C, D> {
 }
 
 impl<W: Wait + Sync, H: Shelf, S: Shards, R: RelayLink, C: Clock, D: Decide> Service
-    for Answering<'_, '_, '_, '_, '_, '_, '_, '_, W, H, S, R, C, D> {
+    for Answering<'_, '_, '_, '_, '_, '_, '_, '_, '_, W, H, S, R, C, D> {
     ghost answers = { λ s payload reply t. StepsTo
         (state_of (setting_of (node_of s.keys.now (S.plans s.shards.now) (H.objects s.shelf.now))
         (alone_of (S.alone s.shards.now) (H.alone s.shelf.now)) (R.says s.relay.now))
@@ -73,17 +75,18 @@ impl<W: Wait + Sync, H: Shelf, S: Shards, R: RelayLink, C: Clock, D: Decide> Ser
 
     ghost stands = { λ s. IsSync W.row
         × ArePlanned s.keys.now.channels.entries (S.plans s.shards.now)
-        × (H.taken s.shelf.now ≡ None) };
+        × (H.taken s.shelf.now ≡ None) × (s.opened.now ≡ s.keys.now.relay_key) };
 
     ghost borrows = { λ s. s.shelf.ghost_name ∷ s.shards.ghost_name ∷ s.relay.ghost_name
         ∷ s.clock.ghost_name ∷ [] };
 
     fn answer(&mut self, payload: &[u8]) -> Result<(), Failed> {
         let mut gate = FreeGate;
-        match answer(
+        match answer_with(
             self.rt,
             self.alloc,
             self.keys,
+            self.opened,
             self.shelf,
             self.shards,
             self.relay,
@@ -114,7 +117,7 @@ fn serve_by<
     I: Source,
     O: Sink,
 >(
-    service: &mut Answering<'_, '_, '_, '_, '_, '_, '_, '_, W, H, S, R, C, D>,
+    service: &mut Answering<'_, '_, '_, '_, '_, '_, '_, '_, '_, W, H, S, R, C, D>,
     buf: &mut FrameBuf,
     input: &mut I,
     output: &mut O,
@@ -123,6 +126,7 @@ fn serve_by<
     requires planned { ArePlanned service.old.keys.now.channels.entries
         (S.plans service.old.shards.now) }
     requires none_taken { H.taken service.old.shelf.now ≡ None }
+    requires key { service.old.opened.now ≡ service.old.keys.now.relay_key }
     requires legal { AreLegalIn (S.plans service.old.shards.now) (H.objects service.old.shelf.now)
         (seen_of (viewed (S.seen service.old.shards.now) (S.own service.old.shards.now))
         (viewed (H.seen service.old.shelf.now) (H.own service.old.shelf.now))).journals }
@@ -227,10 +231,12 @@ pub fn serve_connection<
     let Ok((mut buf, mut reply)) = room_of(alloc) else {
         return Outcome::NoMemory;
     };
+    let mut opened = OpenedCerts::new(alloc, &keys.relay_key);
     let mut service = Answering {
         rt,
         alloc,
         keys,
+        opened: &mut opened,
         shelf,
         shards,
         relay,

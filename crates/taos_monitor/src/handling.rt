@@ -19,6 +19,7 @@ use crate::ruling::rule;
 use agent_core::{Gate, Shards};
 use frame_link::{Clock, RelayLink};
 use object_core::Shelf;
+use relay_core::OpenedCerts;
 use std::alloc::Global;
 use std::sync::Wait;
 use taos_calculus::Decide;
@@ -34,8 +35,94 @@ pub enum Handled {
 }
 
 /// Handles one request, which was found to be under the seal of its channel's key, and leaves the
-/// sealed reply in the buffer. The moment is the clock's reading, or what the shard's clock had
+/// sealed reply in the buffer. What it presents is opened by what was opened before. The moment is the clock's reading, or what the shard's clock had
 /// come to. What is granted is performed after its ruling stands in the journal of the object.
+pub fn request_with<
+    W: Wait + Sync,
+    H: Shelf,
+    S: Shards,
+    R: RelayLink,
+    C: Clock,
+    D: Decide,
+    G: Gate,
+>(
+    rt: &W,
+    alloc: Global,
+    keys: &NodeKeys,
+    opened: &mut OpenedCerts,
+    shelf: &mut H,
+    shards: &mut S,
+    relay: &mut R,
+    clock: &mut C,
+    bench: &mut D,
+    gate: &mut G,
+    asked: &Request,
+    out: &mut ReplyBuf,
+) -> Handled
+    requires limits { FitsRequest (request_of asked.now) }
+    requires short { All (λ t. length t ≤ 65531) (request_of asked.now).certs }
+    requires keyed { IsSome (key_of keys.now.channels.entries asked.now.channel) }
+    requires planned { IsPlanned (S.plans shards.old) asked.now.channel }
+    requires key { opened.old ≡ keys.now.relay_key }
+    requires none_taken { H.taken shelf.old ≡ None }
+    ensures handled { Handles
+        (setting_of (node_of keys.now (S.plans shards.old) (H.objects shelf.old))
+        (alone_of (S.alone shards.old) (H.alone shelf.old)) (R.says relay.old))
+        (world_of (C.readings clock.old) (R.faults relay.old)
+        (viewed (S.seen shards.old) (S.own shards.old))
+        (viewed (H.seen shelf.old) (H.own shelf.old)))
+        (world_of (C.readings clock.new) (R.faults relay.new)
+        (viewed (S.seen shards.new) (S.own shards.new))
+        (viewed (H.seen shelf.new) (H.own shelf.new))) (request_of asked.now) out.new result }
+    ensures cause { HandlesCause (C.faults clock.old) (C.faults clock.new) result }
+    ensures left { LeavesReply out.old out.new result }
+
+    // What it opens by stays under the node's key.
+    ensures key { opened.new ≡ opened.old }
+
+    // No object is left taken.
+    ensures taken { H.taken shelf.new ≡ None }
+
+    // What nobody changes.
+    ensures plans { S.plans shards.new ≡ S.plans shards.old }
+    ensures alone { S.alone shards.new ≡ S.alone shards.old }
+    ensures objects { H.objects shelf.new ≡ H.objects shelf.old }
+    ensures others_take { H.alone shelf.new ≡ H.alone shelf.old }
+    ensures says { R.says relay.new ≡ R.says relay.old }
+{
+    are_legal(shelf, shards);
+    let sealer = keys.channels.sealer(asked.channel).unwrap();
+    let shard = asked.channel % shards.count();
+    let arrived = match arrive(alloc, keys, opened, shelf, relay, asked) {
+        Ok(arrived) => arrived,
+        Err(why) => {
+            out.leave_refused(sealer, asked.channel, asked.seq, why);
+            return Handled::Replied;
+        }
+    };
+    let Ok(reading) = clock.now() else {
+        return Handled::ClockFault;
+    };
+    let came = Came {
+        asked,
+        shard,
+        arrived,
+        reading,
+    };
+    rule(
+        rt,
+        alloc,
+        shelf,
+        shards,
+        Deciding { bench, gate },
+        came,
+        out,
+    );
+    out.seal(sealer);
+    Handled::Replied
+}
+
+/// As `request_with`, with nothing opened before.
 pub fn request<W: Wait + Sync, H: Shelf, S: Shards, R: RelayLink, C: Clock, D: Decide, G: Gate>(
     rt: &W,
     alloc: Global,
@@ -76,34 +163,19 @@ pub fn request<W: Wait + Sync, H: Shelf, S: Shards, R: RelayLink, C: Clock, D: D
     ensures others_take { H.alone shelf.new ≡ H.alone shelf.old }
     ensures says { R.says relay.new ≡ R.says relay.old }
 {
-    are_legal(shelf, shards);
-    let sealer = keys.channels.sealer(asked.channel).unwrap();
-    let shard = asked.channel % shards.count();
-    let arrived = match arrive(alloc, keys, shelf, relay, asked) {
-        Ok(arrived) => arrived,
-        Err(why) => {
-            out.leave_refused(sealer, asked.channel, asked.seq, why);
-            return Handled::Replied;
-        }
-    };
-    let Ok(reading) = clock.now() else {
-        return Handled::ClockFault;
-    };
-    let came = Came {
-        asked,
-        shard,
-        arrived,
-        reading,
-    };
-    rule(
+    let mut opened = OpenedCerts::keeping_none(&keys.relay_key);
+    request_with(
         rt,
         alloc,
+        keys,
+        &mut opened,
         shelf,
         shards,
-        Deciding { bench, gate },
-        came,
+        relay,
+        clock,
+        bench,
+        gate,
+        asked,
         out,
-    );
-    out.seal(sealer);
-    Handled::Replied
+    )
 }

@@ -10,6 +10,7 @@ mod guarding;
 mod handling;
 mod laws;
 mod legal;
+mod limit_laws;
 mod node_keys;
 mod performing;
 mod presented;
@@ -18,15 +19,17 @@ mod reply;
 mod ruling;
 mod stepping;
 
-pub use answering::answer;
+pub use answering::{answer, answer_with};
 pub use connection::{MAX_REQUEST, serve_connection};
-pub use handling::{Handled, request};
+pub use handling::{Handled, request, request_with};
 pub use laws::{
-    courses_exclude_each_other, courses_stay, effects_are_granted, going_on_goes_on,
-    no_grant_changes_nothing, nothing_follows_a_full_journal, one_more_is_answered,
-    refusals_have_causes, replies_are_verdicts, what_is_answered_stays,
+    a_connection_alone_is_a_function, courses_exclude_each_other, courses_stay,
+    effects_are_granted, going_on_goes_on, no_grant_changes_nothing,
+    nothing_follows_a_full_journal, one_more_is_answered, refusals_have_causes,
+    replies_are_verdicts, what_is_answered_stays,
 };
+pub use limit_laws::limits_are;
 pub use node_keys::NodeKeys;
-pub use presented::BAD_RESEAL;
 pub use refusal::Refusal;
+pub use relay_core::BAD_RESEAL;
 pub use reply::{REPLY_ROOM, ReplyBuf};

@@ -8,12 +8,12 @@ ghost use Rattle.stmt_codec.specs.Certificates.{Certificate};
 ghost use Rattle.taos_wire.specs.Reply.{FitsReply, status_of};
 ghost use Rattle.taos_wire.specs.View.{reply};
 ghost use Rattle.taos_monitor.specs.Cells.{AreLegalShards, viewed};
-ghost use Rattle.taos_monitor.specs.Effects.{EndAs, IsDueOf, IsPerformed, IsReady, PerformedAs, SteppedBy, TellsHeld, effect_due, shards_due};
+ghost use Rattle.taos_monitor.specs.Effects.{EndAs, IsDueOf, IsPerformed, IsReady, PerformedAs, SteppedBy, TellsHeld, effect_due, lacks_room, shards_due};
 ghost use Rattle.taos_monitor.specs.Operations.{effect_of};
 
 use crate::due::Due;
 use crate::stepping::{Went, step_one};
-use agent_core::Shards;
+use agent_core::{Shards, Told};
 use object_core::{Op, Ruling};
 use std::alloc::Global;
 use std::sync::Wait;
@@ -24,8 +24,8 @@ use taos_wire::Reply;
 pub(crate) enum Effected {
     /// Each was done; whether any certificate was let go.
     Through { removed: bool },
-    /// This shard would hold too many certificates in common; it holds so many.
-    NoRoom { shard: u32, held: u8 },
+    /// This shard has no room for what the event brings, and tells this.
+    NoRoom { shard: u32, told: Told },
     /// The journal of this shard has as many entries as its plan allows.
     Full { shard: u32, length: u64 },
 }
@@ -61,7 +61,7 @@ fn step_due<W: Wait + Sync, S: Shards>(rt: &W, alloc: Global, shards: &mut S, du
         let shard = first + place;
         match step_one(rt, alloc, shards, shard, event) {
             Went::Done { removed: count } => removed = is_any(removed, count),
-            Went::NoRoom { held } => return Effected::NoRoom { shard, held },
+            Went::NoRoom { told } => return Effected::NoRoom { shard, told },
             Went::Full { length } => return Effected::Full { shard, length },
         }
     }
@@ -83,6 +83,24 @@ fn not_held(op: &Op, removed: bool) -> Option<Reply>
             }
         }
         Op::Read | Op::Write(_) | Op::SetList(_) | Op::Hold | Op::Forget(_) | Op::Sweep => None,
+    }
+}
+
+// The reply where a shard was told this for want of room.
+fn no_room(shard: u32, told: Told) -> Option<Reply>
+    ensures told { option_map reply result ≡ lacks_room shard told }
+    ensures fits { IfSome result (λ r. FitsReply (reply r) × (0 < status_of (reply r))) }
+{
+    match told {
+        Told::CommonsFull { held } => Some(Reply::CommonsFull { held, shard }),
+        Told::Replayed { .. }
+        | Told::Full { .. }
+        | Told::Hit { .. }
+        | Told::Miss
+        | Told::Kept
+        | Told::Dropped(_)
+        | Told::Held { .. }
+        | Told::Removed { .. } => None,
     }
 }
 
@@ -111,7 +129,7 @@ fn perform<W: Wait + Sync, S: Shards>(
 {
     match step_due(rt, alloc, shards, due) {
         Effected::Through { removed } => not_held(op, removed),
-        Effected::NoRoom { shard, held } => Some(Reply::CommonsFull { held, shard }),
+        Effected::NoRoom { shard, told } => no_room(shard, told),
         Effected::Full { shard, length } => Some(Reply::JournalFull {
             which: SHARD,
             number: shard,

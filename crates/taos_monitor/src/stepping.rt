@@ -8,7 +8,7 @@ ghost use Rattle.agent_core.specs.Views.{event_of};
 ghost use Rattle.taos_monitor.specs.Effects.{WentAs};
 ghost use Rattle.taos_monitor.specs.Operations.{IsEffect};
 
-use agent_core::{Answer, Event, Shards};
+use agent_core::{Answer, Event, Shards, Told};
 use std::alloc::Global;
 use std::sync::Wait;
 
@@ -17,8 +17,8 @@ use std::sync::Wait;
 pub(crate) enum Went {
     /// It was done, and so many certificates were let go.
     Done { removed: u32 },
-    /// The shard would hold too many certificates in common; it holds so many.
-    NoRoom { held: u8 },
+    /// The shard has no room for what the event brings, and tells this.
+    NoRoom { told: Told },
     /// The journal has as many entries as its plan allows.
     Full { length: u64 },
 }
@@ -50,7 +50,9 @@ pub(crate) fn step_one<W: Wait + Sync, S: Shards>(
     match answer {
         Answer::Held { .. } => Went::Done { removed: 0 },
         Answer::Removed { count } => Went::Done { removed: count },
-        Answer::CommonsFull { held } => Went::NoRoom { held },
+        Answer::CommonsFull { held } => Went::NoRoom {
+            told: Told::CommonsFull { held },
+        },
         Answer::JournalFull { length } => Went::Full { length },
         // Only an Ask is told these, or a Keep.
         Answer::Replayed { .. }

@@ -17,10 +17,10 @@ use Rattle.taos_node.specs.Ending.{file_status}
 use Rattle.taos_node.specs.Files.{FaultHasCause, FileDecides, FileFails, IsNodeFile, IsRead, IsRefused, IsRelayFile, IsUnread, Meaning, Opens, OpensNode, OpensRelay, fault_of, node_means, relay_means}
 use Rattle.frame_link.specs.Streams.{Stream, stream}
 use Rattle.taos_node.specs.Command.{Link, link, touched, with_seen, first_clock, first_link}
-use Rattle.node_file.specs.declared.fault.FileCause.TheVariants.{Limit}
-use Rattle.node_file.specs.declared.fault.FileFault.{FileFault as Refusal}
-use Rattle.node_file.specs.declared.fault.FileFault.TheVariants as refusals
-use Rattle.node_file.specs.declared.fault.FileFault.TheVariants.{Line, Byte}
+use Rattle.file_lines.specs.declared.fault.FileCause.TheVariants.{Limit}
+use Rattle.file_lines.specs.declared.fault.FileFault.{FileFault as Refusal}
+use Rattle.file_lines.specs.declared.fault.FileFault.TheVariants as refusals
+use Rattle.file_lines.specs.declared.fault.FileFault.TheVariants.{Line, Byte}
 use Rattle.node_file.specs.OpeningFile.{Means as NodeMeans, opening_in}
 use Rattle.node_file.specs.RelayFile.{RelayFile, relay_in}
 use Rattle.node_file.proofs.Whole.{meant_again}

@@ -10,7 +10,7 @@ use Rattle.std.proofs.lemmas.List.FromFn.{length-range_with_len}
 use Rattle.agent_shards.specs.Each.{Each3}
 use Rattle.drill_law.specs.Lanes.{AnswersLane, HadMemory}
 use Rattle.drill_law.specs.Laws.{LoadIsCounted}
-use Rattle.drill_law.specs.Requests.{IsLoadNode}
+use Rattle.drill_journal.specs.Requests.{IsLoadNode}
 use Rattle.node_words.specs.Words.{DrillWords}
 use Rattle.object_core.specs.Shelving.{numbers_of as object_numbers}
 use Rattle.taos_drill.specs.Opened.{drill_opening}

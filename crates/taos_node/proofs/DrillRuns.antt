@@ -32,7 +32,7 @@ use Rattle.taos_monitor.specs.Cells.{Node}
 use Rattle.taos_node.specs.Audit.{IsEnd}
 use Rattle.taos_node.specs.Drills.{AnswersAll, AreDrillLanes, Came, IsDrillLane, ServesDrill, Wire, drill_limits, drill_shown, wire, wire_told}
 use Rattle.node_words.specs.Words.{DrillWords}
-use Rattle.drill_law.specs.Requests.{FitsDrill}
+use Rattle.drill_journal.specs.Requests.{FitsDrill}
 use Rattle.taos_node.proofs.DrillCounts.{LoadsAreCounted, lanes_answered, load_node, one_each}
 
 -- ---- one more lane

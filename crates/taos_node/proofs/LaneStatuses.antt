@@ -8,7 +8,7 @@ use Rattle.frame_link.specs.declared.outcome.Outcome.{Outcome}
 use Rattle.frame_link.specs.declared.outcome.Outcome.TheVariants.{End, Truncated, TooLong, ReadFault, WriteFault, ClockFault, Spent, NoMemory}
 use Rattle.node_file.specs.Opening.{Opening}
 use Rattle.node_file.specs.RelayFile.{RelayFile}
-use Rattle.node_file.specs.declared.fault.FileFault.TheVariants.{Line, Byte}
+use Rattle.file_lines.specs.declared.fault.FileFault.TheVariants.{Line, Byte}
 use Rattle.frame_link.specs.declared.limits.Limits.{Limits}
 use Rattle.taos_lanes.specs.Doors.{DoorSeen}
 use Rattle.taos_lanes.specs.Joining.{HasOtherWork}

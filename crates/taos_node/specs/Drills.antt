@@ -2,7 +2,7 @@
 use Rattle.std.specs.Prelude.{◌≡◌, ℕ, ◌<◌, List, [], ◌∷◌, ◌++◌, length, map, None, Option, Some}
 use Rattle.std.specs.Io.KnownBytes.{Appends, Keeps}
 use Rattle.std.specs.List.{All, AllZip, range_with_len}
-use Rattle.drill_law.specs.Counts.{CountsLoad}
+use Rattle.drill_journal.specs.Counts.{CountsLoad}
 use Rattle.drill_law.specs.Lanes.{HadMemory}
 use Rattle.frame_link.specs.declared.outcome.Outcome.TheVariants.{End}
 use Rattle.frame_link.specs.Plan.{plan_of}

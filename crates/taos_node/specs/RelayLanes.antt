@@ -1,6 +1,6 @@
 -- What the lanes of a relay do, and what is printed of it.
 use Rattle.std.specs.Prelude.{ℕ, List, Option}
-use Rattle.node_file.specs.Held.{HoldsKeys}
+use Rattle.file_lines.specs.Held.{HoldsKeys}
 use Rattle.node_file.specs.RelayFile.{RelayFile}
 use Rattle.relay_core.specs.declared.resealing.RelayTable.{RelayTable}
 use Rattle.frame_link.specs.declared.limits.Limits.{Limits}

@@ -49,7 +49,7 @@ fn fault_of(refusal: Refusal) -> FileFault
 }
 
 /// The opening of a node that a file means.
-pub(crate) fn file_opening<F: Source>(alloc: Global, file: &mut F) -> Result<Opening, FileFault>
+pub fn file_opening<F: Source>(alloc: Global, file: &mut F) -> Result<Opening, FileFault>
     ensures gives { NodeFileGives (λ o x. Represents x o)
         (stream (F.left file.old) (F.faults file.old))
         (stream (F.left file.new) (F.faults file.new)) result }

@@ -17,6 +17,7 @@ mod summary;
 
 pub use command::taos;
 pub use ending::{AuditEnd, DrillEnd, Ending, FileFault, LanesEnd, status_of};
+pub use file::file_opening;
 pub use frame_link::{Limits, Outcome};
 pub use minting::{MintEnd, MintWord};
 pub use node_check::{

@@ -15,7 +15,7 @@ use frame_link::{Failed, Sink, pour};
 use jiff::Timestamp;
 use node_file::RelayFile;
 use node_words::Mint;
-use prin_term::{Statement, Term};
+use prin_term::Term;
 use prin_text::{Names, TextFault, read_principal};
 use std::alloc::{AllocError, Global};
 use stmt_codec::{Cert, CertBody, CertFault};
@@ -125,13 +125,7 @@ fn body_of(alloc: Global, names: &Names, mint: &Mint<'_>) -> Result<CertBody, Mi
     let quoted = quoted_of(alloc, names, mint.quoted)?;
     let left = principal_of(alloc, names, mint.left, MintWord::Left)?;
     let right = principal_of(alloc, names, mint.right, MintWord::Right)?;
-    Ok(CertBody {
-        issuer: mint.issuer,
-        quoted,
-        statement: Statement { left, right },
-        until,
-        serial: mint.serial,
-    })
+    Ok(CertBody::says(mint.issuer, quoted, left, right, until, mint.serial))
 }
 
 // The certificate of a body under its issuer's seal, where it is within the limits.

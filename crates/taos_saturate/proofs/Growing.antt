@@ -3,8 +3,6 @@ use Rattle.std.proofs.Common.{◌≡◌, ◌+◌, ◌<◌, ◌≤◌, [], ◌∷
 use Rattle.std.specs.Prelude.{vec_capacity}
 use Rattle.taos_calculus.specs.declared.line.Line.{Line}
 use Rattle.term_pool.specs.declared.found.Found.{Found}
-use Rattle.taos_saturate.specs.declared.marks.Marks.{Marks}
-use Rattle.term_pool.specs.declared.parents.Parents.{Parents}
 use Rattle.taos_saturate.specs.declared.saturation.Saturation.{Saturation}
 use Rattle.taos_calculus.specs.Numbered.{Gives, facts_at}
 use Rattle.term_pool.proofs.Keeping.{each_gives-more}
@@ -12,7 +10,7 @@ use Rattle.term_pool.specs.Finding.{IsFound, room}
 use Rattle.taos_saturate.specs.Saturating.{IsReady, IsSound, claims_in, IsNew, IsGrown}
 
 abbrev pub with_found : Saturation → Found → Saturation
-with_found s f = record { nodes = s.nodes; anchors = s.anchors; cited = s.cited; found = f; marks = s.marks; parents = s.parents }
+with_found s f = record { nodes = s.nodes; anchors = s.anchors; cited = s.cited; found = f }
 
 pub ready_with : (s : Saturation) (f : Found) → IsReady s → IsFound f → f.width ≡ s.found.width →
     f.statements ≡ s.found.statements → IsReady (with_found s f)
@@ -52,28 +50,6 @@ grown_by s f l ready sound new found width statements lines less held kept = (
 pub grown_none : (s : Saturation) → IsReady s → IsSound s → IsGrown s s
 grown_none s ready sound = record {
   ready = ready;
-  sound = sound;
-  table = record { nodes = refl; anchors = refl; cited = refl };
-  statements = refl;
-  room_left = le_refl (room s.found);
-  lines_kept = le_refl (vec_capacity s.found.lines);
-  numbers_kept = le_refl (vec_capacity s.found.numbers);
-}
-
--- the marks and the parents are of no account
-pub grown_hints : (s : Saturation) (marks : Marks) (parents : Parents) → IsReady s → IsSound s →
-    IsGrown s record { nodes = s.nodes; anchors = s.anchors; cited = s.cited; found = s.found; marks = marks; parents = parents }
-grown_hints s marks parents ready sound = record {
-  ready = record {
-    found = ready.found;
-    width_is = ready.width_is;
-    nodes_fit = ready.nodes_fit;
-    table = ready.table;
-    anchors_fit = ready.anchors_fit;
-    cited_fit = ready.cited_fit;
-    statements_in = ready.statements_in;
-    cited_in = ready.cited_in;
-  };
   sound = sound;
   table = record { nodes = refl; anchors = refl; cited = refl };
   statements = refl;

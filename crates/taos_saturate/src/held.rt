@@ -11,14 +11,13 @@ ghost use Rattle.taos_saturate.specs.Held.{IsReserved, IsGathered, IsHeld, seen}
 ghost use Rattle.term_pool.specs.Claims.{ArePlacesApart};
 
 use crate::gather::{keep_anchors, state_all, take_certs, take_list, take_term};
-use crate::marks::Marks;
 use crate::saturation::Saturation;
 use prin_term::{Anchor, Entry, Term};
 use std::alloc::{AllocError, Global};
 use std::sync::Arc;
 use stmt_codec::Cert;
 use taos_calculus::{MAX_ANCHORS, MAX_CERTS, MAX_ENTRIES, MAX_LINES, MAX_NODES, Taken};
-use term_pool::{Found, Parents, take_proof};
+use term_pool::{Found, take_proof};
 
 /// The saturated table, with the numbers of who asks and of who is on the list.
 #[derive(Drop)]
@@ -26,8 +25,6 @@ pub struct Held {
     pub table: Saturation,
     pub subject: u16,
     pub list: Vec<u16>,
-    /// How many lines no hint led to.
-    pub missed: u32,
 }
 
 impl Held {
@@ -50,14 +47,11 @@ impl Held {
             anchors,
             cited,
             found,
-            marks: Marks::reserve(alloc)?,
-            parents: Parents::reserve(alloc)?,
         };
         Ok(Held {
             table,
             subject: 0,
             list,
-            missed: 0,
         })
     }
 
@@ -117,7 +111,7 @@ impl Held {
         ensures seen_is { seen self.new ≡ seen self.old }
     {
         self.table.found.restart(self.table.nodes.len());
-        self.missed = self.table.saturate();
+        self.table.saturate();
     }
 
     /// Asks about the certificates at whose place `chosen` is true.

@@ -101,8 +101,8 @@ impl Saturation {
         None
     }
 
-    // A new fact about who says the statement at this place: this one, or one for whom it speaks.
-    fn new_about(&self, who: u16, place: usize) -> Option<Line>
+    /// A new fact about who says the statement at this place: this one, or one for whom it speaks.
+    pub fn new_about(&self, who: u16, place: usize) -> Option<Line>
         requires ready { IsReady self.now }
         requires who_in { IsNumber self.now who }
         requires place_in { place < length self.now.found.statements.items }
@@ -152,9 +152,9 @@ impl Saturation {
         None
     }
 
-    // A new fact by a chain that begins with this line. A line that comes by a chain itself needs
-    // no look, since what follows through it follows through the lines that it comes from.
-    fn new_by_line(&self, number: usize) -> Option<Line>
+    /// A new fact by a chain that begins with this line. A line that comes by a chain itself needs
+    /// no look, since what follows through it follows through the lines that it comes from.
+    pub fn new_by_line(&self, number: usize) -> Option<Line>
         requires ready { IsReady self.now }
         requires number_in { number < length self.now.found.lines.items }
         ensures { MatchOption result (LineFull self.now number) (IsNew self.now) }

@@ -5,20 +5,17 @@ ghost use Rattle.taos_calculus.specs.declared.line.Fact.{Fact};
 ghost use Rattle.taos_calculus.specs.Tables.{OperandsBelow};
 ghost use Rattle.taos_saturate.specs.Saturating.{facts_of, IsReady, IsNumber};
 
-use crate::marks::Marks;
 use prin_term::Anchor;
 use taos_calculus::{Fact, Node};
-use term_pool::{Cited, Found, Parents};
+use term_pool::{Cited, Found};
 
-/// The table, and the facts that were found. The marks and the parents tell where to look for more.
+/// The table, and the facts that were found.
 #[derive(Drop)]
 pub struct Saturation {
     pub nodes: Vec<Node>,
     pub anchors: Vec<Anchor>,
     pub cited: Vec<Cited>,
     pub found: Found,
-    pub marks: Marks,
-    pub parents: Parents,
 }
 
 impl Saturation {

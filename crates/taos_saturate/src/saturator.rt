@@ -80,12 +80,6 @@ impl Saturator {
         Ok(Saturator { held })
     }
 
-    /// How many lines of what was asked last no hint led to: none, unless a hint is lost. They were
-    /// found by a look over all pairs, which is slow.
-    pub fn missed(&self) -> u32 {
-        self.held.missed
-    }
-
     // Whether `left => right` is among the facts.
     fn knows(&self, left: &Term, right: &Term) -> bool
         requires left_in { IsTermOf self.now (principal left.now) }

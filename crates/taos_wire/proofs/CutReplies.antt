@@ -5,13 +5,13 @@ use Rattle.std.specs.Int.{w16, w32, w64}
 use Rattle.byte_fields.proofs.Cuts.{Cuts, cuts_followed, cuts_passing, cuts_made, cuts_given, cuts_if, cuts_counted, cuts_byte, cuts_bytes, cuts_number, cuts_counted_bytes}
 use Rattle.prin_term.proofs.TermCuts.{cuts_term}
 use Rattle.byte_fields.proofs.FieldLaws.{IsBytes, bytes_are}
-use Rattle.taos_calculus.proofs.CutProofs as proofs
+use Rattle.taos_calculus.proofs.Counted.{proof_cut}
 use Rattle.byte_fields.specs.declared.fault.FormatFault.TheVariants as faults
 use Rattle.byte_fields.specs.Formats.{ended, u8_in, u32_in, u64_in}
 use Rattle.prin_term.specs.TermFields.{seen_as}
 use Rattle.byte_fields.specs.Steps.{IsByte}
 use Rattle.taos_wire.specs.Reply.{Reply, Malformed, UnknownChannel, BadSeal, Replayed, ChannelFull, RelayFailed, UnknownObject, NoMemory, NotHeld, NoEntry, SpellsReply}
-use Rattle.taos_wire.specs.ReplyReading.{answered_at, place_at, proof_at, cert_at, cited_at, granted_at, named_at, link_at, denied_at, fields_at, status_at, reply_at, reply_of}
+use Rattle.taos_wire.specs.ReplyReading.{answered_at, place_at, cert_at, cited_at, granted_at, named_at, link_at, denied_at, fields_at, status_at, reply_at, reply_of}
 use Rattle.taos_wire.proofs.CutRequests.{tag_cut}
 use Rattle.taos_wire.proofs.Fillings.{filling_cut}
 use Rattle.taos_wire.proofs.ReplyLaws.{Tagged, tagged, reply_in}
@@ -34,10 +34,6 @@ module _ (front more : List ℕ) (ok : IsBytes (front ++ more)) where
   unfolding place_at
   place_cut = cuts_followed word_cut (λ _. long_cut)
 
-  proof_cut : Cuts front (ended front) (proof_at front) (proof_at (front ++ more))
-  unfolding proof_at
-  proof_cut = cuts_made _ (cuts_followed word_cut (λ n. proofs.filling_cut front more n))
-
   cert_cut : Cuts front (ended front) (cert_at front) (cert_at (front ++ more))
   unfolding cert_at
   cert_cut = cuts_made _ (cuts_followed (cuts_number (ended front) (ended (front ++ more)) front more w16) (λ n. filling_cut front more n))
@@ -52,7 +48,7 @@ module _ (front more : List ℕ) (ok : IsBytes (front ++ more)) where
       cuts_made _ (cuts_followed (cuts_passing _ faults.Malformed byte_cut)
       (λ _. cuts_followed byte_cut
       (λ _. cuts_followed place_cut
-      (λ _. cuts_followed proof_cut
+      (λ _. cuts_followed (proof_cut front more)
       (λ _. cuts_followed cited_cut
       (λ _. cuts_counted_bytes (ended front) (ended (front ++ more)) front more w16))))))
 

@@ -1,20 +1,19 @@
 -- A spelling that is cut is refused where it was cut.
-use Rattle.std.proofs.Common.{◌≡◌, ℕ, ◌+◌, ◌<◌, eqb, List, [], ◌++◌, length, Err, refl, sym, ap, ◌∙◌, append-nil, arith, inl, inr, length-append}
+use Rattle.std.proofs.Common.{◌≡◌, ℕ, ◌+◌, ◌<◌, List, [], ◌++◌, length, Err, refl, sym, ap, ◌∙◌, append-nil, arith, inl, inr, length-append}
 use Rattle.std.specs.Prelude.{All}
 use Rattle.std.specs.Int.{w16, w32, w64}
 use Rattle.keyed_seal.specs.declared.tag.TheConstants.{TAG_LEN}
-use Rattle.object_core.specs.Operation.{Read, Write, SetList, Hold, Discard, Forget, Sweep}
-use Rattle.object_core.proofs.ListCuts.{cuts_content, cuts_list}
+use Rattle.object_core.proofs.Operations.{cuts_fields}
 use Rattle.byte_fields.specs.declared.fault.FormatFault.TheVariants.{Malformed}
 use Rattle.prin_term.specs.declared.limits.TheConstants.{QUOTED_NODES}
 use Rattle.byte_fields.specs.Formats.{ended, u8_in}
 use Rattle.prin_term.specs.TermFields.{seen_as, optional_term_in}
 use Rattle.byte_fields.specs.Steps.{IsByte}
-use Rattle.byte_fields.proofs.Cuts.{Cuts, cuts_followed, cuts_passing, cuts_made, cuts_given, cuts_if, cuts_counted, cuts_byte, cuts_bytes, cuts_number, cuts_counted_bytes, cuts_optional}
+use Rattle.byte_fields.proofs.Cuts.{Cuts, cuts_followed, cuts_passing, cuts_made, cuts_counted, cuts_byte, cuts_bytes, cuts_number, cuts_counted_bytes, cuts_optional}
 use Rattle.prin_term.proofs.TermCuts.{cuts_term}
 use Rattle.byte_fields.proofs.FieldLaws.{IsBytes, bytes_are}
 use Rattle.taos_wire.specs.Request.{Request, request_text, Spells}
-use Rattle.taos_wire.specs.RequestReading.{origin_at, fields_at, asked_at, cert_at, certs_at, tag_at, request_at, request_of}
+use Rattle.taos_wire.specs.RequestReading.{origin_at, asked_at, cert_at, certs_at, tag_at, request_at, request_of}
 use Rattle.taos_wire.proofs.RequestLaws.{Tagged, request_in}
 
 module _ (front more : List ℕ) (ok : IsBytes (front ++ more)) where
@@ -30,22 +29,11 @@ module _ (front more : List ℕ) (ok : IsBytes (front ++ more)) where
   quoted_cut : Cuts front (ended front) (optional_term_in QUOTED_NODES front) (optional_term_in QUOTED_NODES (front ++ more))
   quoted_cut = cuts_optional (ended front) (ended (front ++ more)) front more Malformed _ _ (cuts_term seen_as _ front more ok)
 
-  fields_cut : (kind : ℕ) → Cuts front (ended front) (fields_at front kind) (fields_at (front ++ more) kind)
-  unfolding fields_at
-  fields_cut kind =
-      cuts_if (eqb kind 1) _ _ _ _ (cuts_given front (ended front) Read)
-      (cuts_if (eqb kind 2) _ _ _ _ (cuts_made Write (cuts_content front more ok))
-      (cuts_if (eqb kind 3) _ _ _ _ (cuts_made SetList (cuts_list front more ok))
-      (cuts_if (eqb kind 4) _ _ _ _ (cuts_given front (ended front) Hold)
-      (cuts_if (eqb kind 5) _ _ _ _ (cuts_made Discard (cuts_bytes (ended front) (ended (front ++ more)) front more 32))
-      (cuts_if (eqb kind 6) _ _ _ _ (cuts_made Forget (cuts_number (ended front) (ended (front ++ more)) front more w32))
-      (cuts_given front (ended front) Sweep))))))
-
   asked_cut : Cuts front (ended front) (asked_at front) (asked_at (front ++ more))
   unfolding asked_at
   asked_cut =
       cuts_made _ (cuts_followed (cuts_passing _ Malformed byte_cut)
-      (λ kind. cuts_followed (cuts_number (ended front) (ended (front ++ more)) front more w32) (λ _. fields_cut kind)))
+      (λ kind. cuts_followed (cuts_number (ended front) (ended (front ++ more)) front more w32) (λ _. cuts_fields front more ok kind)))
 
   certs_cut : Cuts front (ended front) (certs_at front) (certs_at (front ++ more))
   unfolding certs_at cert_at

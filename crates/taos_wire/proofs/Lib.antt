@@ -9,5 +9,5 @@ pub mod Fillings
 pub mod ReplyFields
 pub mod ReplyLaws
 pub mod CutReplies
-pub mod ProofPlaces
 pub mod ReplyPlaces
+pub mod Heads

@@ -1,7 +1,7 @@
 -- Where a request is refused: at one of its bytes or right after the last, and never for memory.
-use Rattle.std.proofs.Common.{◌≡◌, ℕ, cond, eqb, ltb, List, length, Ok, Err, sym, subst, arith, inl, inr}
-use Rattle.object_core.specs.Operation.{Read, Write, SetList, Hold, Discard, Forget, Sweep}
-use Rattle.object_core.proofs.ListPlaces.{content_stays, list_stays}
+use Rattle.std.proofs.Common.{◌≡◌, ℕ, cond, ltb, List, length, Ok, Err, sym, subst, arith, inl, inr}
+use Rattle.object_core.specs.declared.operation.TheConstants.{LAST_KIND}
+use Rattle.object_core.proofs.Operations.{fields_stay}
 use Rattle.keyed_seal.specs.declared.tag.TheConstants.{TAG_LEN}
 use Rattle.byte_fields.specs.declared.fault.FormatFault.{FormatFault as WireFault}
 use Rattle.byte_fields.specs.declared.fault.FormatFault.TheVariants.{Malformed}
@@ -10,8 +10,8 @@ use Rattle.byte_fields.proofs.FieldLaws.{IsBytes}
 use Rattle.byte_fields.proofs.FormatPlaces.{here, u8_stays, u32_stays, u64_stays, within_stays, text_stays, counted16_stays}
 use Rattle.prin_term.proofs.TermPlaces.{optional_term_stays}
 use Rattle.byte_fields.proofs.Results.{bind_err, refused_err}
-use Rattle.byte_fields.proofs.Staying.{Stays, stays_followed, stays_made, stays_given, stays_if, stays_counted}
-use Rattle.taos_wire.specs.RequestReading.{origin_at, fields_at, asked_at, cert_at, certs_at, tag_at, request_at, request_of}
+use Rattle.byte_fields.proofs.Staying.{Stays, stays_followed, stays_made, stays_counted}
+use Rattle.taos_wire.specs.RequestReading.{origin_at, asked_at, cert_at, certs_at, tag_at, request_at, request_of}
 
 module _ (bytes : List ℕ) where
   origin_stays : Stays bytes (IsFaultIn bytes) (origin_at bytes)
@@ -27,20 +27,9 @@ module _ (bytes : List ℕ) where
   tag_stays = text_stays bytes TAG_LEN
 
 module _ (bytes : List ℕ) (ok : IsBytes bytes) where
-  fields_stay : (kind : ℕ) → Stays bytes (IsFaultIn bytes) (fields_at bytes kind)
-  unfolding fields_at
-  fields_stay kind =
-      stays_if (eqb kind 1) _ _ (stays_given bytes Read)
-      (stays_if (eqb kind 2) _ _ (stays_made Write (content_stays bytes))
-      (stays_if (eqb kind 3) _ _ (stays_made SetList (list_stays bytes ok))
-      (stays_if (eqb kind 4) _ _ (stays_given bytes Hold)
-      (stays_if (eqb kind 5) _ _ (stays_made Discard (text_stays bytes 32))
-      (stays_if (eqb kind 6) _ _ (stays_made Forget (u32_stays bytes))
-      (stays_given bytes Sweep))))))
-
   asked_stays : Stays bytes (IsFaultIn bytes) (asked_at bytes)
   unfolding asked_at
-  asked_stays = stays_made _ (stays_followed (within_stays bytes 1 7) (λ kind. stays_followed (u32_stays bytes) (λ _. fields_stay kind)))
+  asked_stays = stays_made _ (stays_followed (within_stays bytes 1 LAST_KIND) (λ kind. stays_followed (u32_stays bytes) (λ _. fields_stay bytes ok kind)))
 
   request_stays : Stays bytes (IsFaultIn bytes) (request_at bytes)
   unfolding request_at

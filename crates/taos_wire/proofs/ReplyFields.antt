@@ -1,73 +1,37 @@
 -- The fields of a reply: what is read is spelled so, and the other way.
-use Rattle.std.proofs.Common.{◌≡◌, ℕ, zero, suc, ◌+◌, ◌^◌, ◌<◌, ◌≤◌, Bool, true, false, cond, eqb, List, [], ◌∷◌, ◌++◌, length, drop, Ok, refl, sym, ap, subst, ◌∙◌, append_assoc, arith}
+use Rattle.std.proofs.Common.{◌≡◌, ℕ, zero, suc, ◌+◌, ◌^◌, ◌<◌, ◌≤◌, Bool, true, false, eqb, List, [], ◌∷◌, ◌++◌, length, drop, Ok, refl, sym, ap, subst, ◌∙◌, append_assoc, arith}
 use Rattle.std.specs.Prelude.{All}
 use Rattle.std.specs.Int.{w16, w32, w64, to_be_bytes}
 use Rattle.std.proofs.lemmas.Bool.{eqb-true, eqb-false}
 use Rattle.std.proofs.lemmas.Bool.Decides.{nat_tests}
 use Rattle.object_core.specs.Operation.{IsDigest}
+use Rattle.object_core.proofs.Halves.{Takes, takes_if, takes_made, takes_given, again_made, again_given}
 use Rattle.prin_term.specs.declared.limits.TheConstants.{ENTRY_NODES}
 use Rattle.prin_term.specs.Principal.{Principal, spelling as term_spelling}
 use Rattle.byte_fields.specs.Readers.{given, made, followed}
 use Rattle.prin_term.specs.Refusal.{FitsLimits}
 use Rattle.byte_fields.specs.Steps.{bytes_at, counted, counted_at}
-use Rattle.byte_fields.proofs.FieldLaws.{IsBytes, TakesAt, wide16}
-use Rattle.byte_fields.proofs.FieldReaders.{reads_given, reads_counted_bytes}
+use Rattle.byte_fields.proofs.FieldLaws.{wide16}
+use Rattle.byte_fields.proofs.FieldReaders.{reads_counted_bytes}
 use Rattle.prin_term.proofs.TermReaders.{reads_term}
 use Rattle.byte_fields.proofs.ReaderLaws.{Reads, reads_bytes, reads_followed, reads_passing, reads_made, reads_each}
-use Rattle.byte_fields.proofs.Results.{bind_ok, ok_is}
 use Rattle.stmt_codec.specs.Certificates.{Certificate, body_spelling}
 use Rattle.taos_calculus.specs.Rules.{Line}
-use Rattle.taos_calculus.specs.Spelling.{numbered, proof_spelling}
-use Rattle.taos_calculus.specs.Spells.{FitsProof}
-use Rattle.taos_calculus.specs.Tables.{Parts, lines_of}
-use Rattle.taos_calculus.proofs.ProofLaws as proofs
-use Rattle.taos_calculus.proofs.Short.{parts_short}
-use Rattle.taos_calculus.proofs.Spelled.{numbered-lines_of, spelling_is}
-use Rattle.byte_fields.specs.declared.fault.FormatFault.{FormatFault as WireFault}
+use Rattle.taos_calculus.specs.ProofReading.{proof_at}
+use Rattle.taos_calculus.specs.Spelling.{proof_bytes}
+use Rattle.taos_calculus.specs.Spells.{IsProof}
+use Rattle.taos_calculus.proofs.Counted.{reads_proof}
 use Rattle.byte_fields.specs.declared.fault.FormatFault.TheVariants as faults
 use Rattle.taos_wire.specs.declared.reply.TheConstants.{MAX_CITED}
 use Rattle.byte_fields.specs.Formats.{FormatReader, ended, u8_in, u32_in, u64_in, within}
 use Rattle.prin_term.specs.TermFields.{seen_as, term_in}
 use Rattle.taos_wire.specs.Reply.{Reply, Granted, Denied, Malformed, UnknownChannel, BadSeal, Replayed, CertRefused, ChannelFull, RelayFailed, UnknownObject, JournalFull, NoMemory, CommonsFull}
-use Rattle.taos_wire.specs.Reply.{NotHeld, LinkSent, Expired, Missing, NoEntry, flag, link_bytes, cert_bytes, cited_bytes, proof_bytes, status_of, fields_of, answered_bytes, IsProof}
+use Rattle.taos_wire.specs.Reply.{NotHeld, LinkSent, Expired, Missing, NoEntry, flag, link_bytes, cert_bytes, cited_bytes, status_of, fields_of, answered_bytes}
 use Rattle.taos_wire.specs.Reply.{FitsCited, FitsLink, FitsReply, FitsGranted}
-use Rattle.taos_wire.specs.ReplyReading.{answered_at, place_at, proof_at, cert_at, cited_at, granted_at, named_at, link_at, denied_at, is_status, fields_at, status_at}
+use Rattle.taos_wire.specs.ReplyReading.{answered_at, place_at, cert_at, cited_at, granted_at, named_at, link_at, denied_at, is_status, fields_at, status_at}
 use Rattle.taos_wire.proofs.Fillings.{reads_filling}
 use Rattle.byte_fields.proofs.FormatFields.{reads_u8, reads_u16, reads_u32, reads_u64, reads_u8_in}
 use Rattle.stmt_codec.proofs.BodyLengths.{short_body}
-
--- ---- readers, by halves
-
--- what a reader takes is what it spells
-abbrev pub Takes : {A : Type 0} → List ℕ → FormatReader A → (A → List ℕ) → (A → Type 0) → Type 0
-Takes {A} bytes r spell Fits = IsBytes bytes → (at : ℕ) (x : A × ℕ) → at ≤ length bytes → r at ≡ Ok x → TakesAt bytes at (spell x.0) x.1 × Fits x.0
-
-takes_if : {A : Type 0} (bytes : List ℕ) (test : Bool) (first second : FormatReader A) (spell : A → List ℕ) (Fits : A → Type 0) → (test ≡ true → Takes bytes first spell Fits) → (test ≡ false → Takes bytes second spell Fits)
-    → Takes bytes (λ at. cond test (first at) (second at)) spell Fits
-takes_if bytes true first second spell Fits holds fails = holds refl
-takes_if bytes false first second spell Fits holds fails = fails refl
-
-takes_made : {A B : Type 0} {bytes : List ℕ} {r : FormatReader A} {sa : A → List ℕ} {Fa : A → Type 0} (f : A → B) (spell : B → List ℕ) (Fits : B → Type 0) → Reads bytes r sa Fa → ((a : A) → Fa a → Fits (f a) × (sa a ≡ spell (f a))) → Takes bytes (made f r) spell Fits
-takes_made {A} {B} {bytes} {r} {sa} {Fa} f spell Fits reads forth ok at x le e =
-    let a = bind_ok (r at) (λ a. Ok (f a.0, a.1)) x e in
-    let t = reads.takes ok at a.0 le a.1 in
-    let to = forth a.0.0 t.1 in
-    let whole : B × ℕ = (f a.0.0, a.0.1) in
-    subst (λ (y : B × ℕ). TakesAt bytes at (spell y.0) y.1 × Fits y.0) (ok_is WireFault whole x a.2) (subst (λ (l : List ℕ). TakesAt bytes at l a.0.1) to.1 t.0, to.0)
-
-takes_given : {B : Type 0} (bytes : List ℕ) (b : B) (spell : B → List ℕ) (Fits : B → Type 0) → spell b ≡ [] → Fits b → Takes bytes (given b) spell Fits
-takes_given {B} bytes b spell Fits none fits ok at x le e =
-    let reads : Reads {E = WireFault} bytes (given b) (λ _. []) (λ y. y ≡ b) = reads_given bytes b in
-    let t = reads.takes ok at x le e in
-    let same : spell x.0 ≡ [] = ap spell t.1 ∙ none in
-    (subst (λ (l : List ℕ). TakesAt bytes at l x.1) (sym same) t.0, subst Fits (sym t.1) fits)
-
--- what is spelled is read, as another value
-again_made : {A B : Type 0} {bytes : List ℕ} {r : FormatReader A} {sa : A → List ℕ} {Fa : A → Type 0} (f : A → B) → Reads bytes r sa Fa → (at : ℕ) (a : A) (rest : List ℕ) → Fa a → drop at bytes ≡ sa a ++ rest → made f r at ≡ Ok (f a, at + length (sa a))
-again_made f reads at a rest fits e = rw (reads.again at a rest fits e) refl
-
-again_given : {B : Type 0} (b : B) (at : ℕ) → given {E = WireFault} b at ≡ Ok (b, at + 0)
-again_given b at = let place : at + 0 ≡ at = omega arith in rw place refl
 
 -- ---- a link
 
@@ -117,24 +81,12 @@ granted_grouped : (k entry shard place : ℕ) (proof : List Line) (certs : List 
     ≡ k ∷ entry ∷ to_be_bytes w32 shard ++ to_be_bytes w64 place ++ proof_bytes proof ++ cited_bytes certs ++ counted w16 result
 granted_grouped k entry shard place proof certs result = grouped (k ∷ entry ∷ to_be_bytes w32 shard) (to_be_bytes w64 place) (proof_bytes proof) (cited_bytes certs) (counted w16 result)
 
--- ---- the parts of a proof
-
-numbered_fits : (lines : List Line) → IsProof lines → FitsProof (numbered lines) × (lines_of (numbered lines) ≡ lines)
-numbered_fits lines is =
-    let same : numbered lines ≡ is.parts = ap numbered (sym is.meaning) ∙ numbered-lines_of is.parts is.limits.proof.canonical in
-    (subst FitsProof (sym same) is.limits, ap lines_of same ∙ is.meaning)
-
-proof_short : (parts : Parts) → FitsProof parts → length (proof_spelling (lines_of parts)) < 2 ^ 25
-proof_short parts fits =
-    subst (λ (l : List ℕ). length l < 2 ^ 25) (spelling_is parts parts.nodes parts.lines fits.proof.canonical refl refl)
-    (parts_short parts.nodes parts.lines fits.proof.nodes_fit fits.proof.lines_fit)
-
 -- ---- statuses
 
 abbrev IsOf : ℕ → Reply → Type 0
 IsOf status r = FitsReply r × (status_of r ≡ status)
 
-status_stands : (r : Reply) → (status_of r < 256) × (is_status (status_of r) ≡ true)
+pub status_stands : (r : Reply) → (status_of r < 256) × (is_status (status_of r) ≡ true)
 status_stands (Granted kept entry shard place proof certs result) = (omega arith, refl)
 status_stands (Denied shard place l) = (omega arith, refl)
 status_stands (Malformed offset) = (omega arith, refl)
@@ -166,17 +118,6 @@ module _ (bytes : List ℕ) where
   reads_place = reads_followed (reads_u32 bytes) (λ _ _. reads_u64 bytes)
 
   -- ---- a grant
-
-  reads_proof : Reads bytes (proof_at bytes) proof_bytes IsProof
-  unfolding proof_at proof_bytes
-  reads_proof =
-      reads_made (λ (x : ℕ × Parts). lines_of x.1) (λ (lines : List Line). (length (proof_spelling lines), numbered lines)) proof_bytes IsProof
-      (reads_followed (reads_u32 bytes) (λ n _. proofs.reads_filling bytes n))
-      (λ x is. (record { parts = x.1; limits = is.1.0; meaning = refl }, ap (λ (k : ℕ). to_be_bytes w32 k ++ proof_spelling (lines_of x.1)) (sym is.1.1)))
-      (λ lines is.
-      let n = numbered_fits lines is in
-      let short : length (proof_spelling lines) < 2 ^ 25 = subst (λ (l : List Line). length (proof_spelling l) < 2 ^ 25) n.1 (proof_short (numbered lines) n.0) in
-      ((omega (arith, short), (n.0, ap (λ (l : List Line). length (proof_spelling l)) n.1)), ap (λ (l : List Line). to_be_bytes w32 (length (proof_spelling lines)) ++ proof_spelling l) (sym n.1), n.1))
 
   reads_cert : Reads bytes (cert_at bytes) cert_bytes FitsCited
   unfolding cert_at cert_bytes
@@ -214,7 +155,7 @@ module _ (bytes : List ℕ) where
       reads_followed (reads_u8_in bytes 0 1 (omega arith))
       (λ _ _. reads_followed (reads_u8 bytes)
       (λ _ _. reads_followed reads_place
-      (λ _ _. reads_followed reads_proof
+      (λ _ _. reads_followed (reads_proof bytes)
       (λ _ _. reads_followed reads_cited
       (λ _ _. reads_counted_bytes (ended bytes) w16 (2 ^ 16) wide16 bytes)))))
 

@@ -7,40 +7,20 @@ use Rattle.byte_fields.specs.Steps.{◌>>=◌, bytes_at}
 use Rattle.byte_fields.proofs.FieldLaws.{IsBytes, IsBytes-take}
 use Rattle.byte_fields.proofs.FormatPlaces.{here, u8_stays, u16_stays, u32_stays, u64_stays, within_stays, text_stays, counted16_stays}
 use Rattle.prin_term.proofs.TermPlaces.{term_in_stays}
-use Rattle.byte_fields.proofs.Results.{bind_ok, bind_err, ok_is, refused_ok, refused_err}
+use Rattle.byte_fields.proofs.Results.{bind_ok, bind_err, refused_ok, refused_err}
 use Rattle.byte_fields.proofs.Staying.{Stays, stays_followed, stays_passing, stays_made, stays_given, stays_if, stays_counted}
 use Rattle.stmt_codec.specs.Certificates.{Certificate}
 use Rattle.stmt_codec.specs.Reading.{body_at}
 use Rattle.stmt_codec.proofs.Offsets.{body_stays}
-use Rattle.taos_calculus.specs.ProofReading.{proof_from, proof_filling}
-use Rattle.taos_calculus.specs.Tables.{Parts}
+use Rattle.taos_calculus.proofs.Counted.{proof_stays}
 use Rattle.taos_wire.specs.Reply.{Malformed, UnknownChannel, BadSeal, Replayed, ChannelFull, RelayFailed, UnknownObject, NoMemory, NotHeld, NoEntry}
-use Rattle.taos_wire.specs.ReplyReading.{answered_at, place_at, proof_at, body_filling, cert_at, cited_at, granted_at, named_at, link_at, denied_at, fields_at, status_at, reply_at, reply_of}
+use Rattle.taos_wire.specs.ReplyReading.{answered_at, place_at, body_filling, cert_at, cited_at, granted_at, named_at, link_at, denied_at, fields_at, status_at, reply_at, reply_of}
 use Rattle.taos_wire.proofs.Fillings.{begins_within_front, in_front}
 use Rattle.taos_wire.proofs.Places.{tag_stays}
-use Rattle.taos_wire.proofs.ProofPlaces.{proof_refused}
 
 -- ---- what fills a part of the bytes
 
 module _ (bytes : List ℕ) (n : ℕ) where
-  proof_fills : Stays bytes (IsFaultIn bytes) (proof_filling bytes n)
-  unfolding proof_filling
-  proof_fills = record {
-    ends = λ at x le e.
-        let a = bind_ok (bytes_at (ended bytes) n bytes at) (λ text. proof_from (take (at + n) bytes) at >>= λ parts. Ok (parts, text.1)) x e in
-        let b = bind_ok (proof_from (take (at + n) bytes) at) (λ parts. Ok (parts, a.0.1)) x a.2 in
-        let made : Parts × ℕ = (b.0, a.0.1) in
-        subst (λ (y : Parts × ℕ). y.1 ≤ length bytes) (ok_is WireFault made x b.2) ((text_stays bytes n).ends at a.0 le a.1);
-    refuses = λ at f le e.
-        elim (bind_err (bytes_at (ended bytes) n bytes at) (λ text. proof_from (take (at + n) bytes) at >>= λ parts. Ok (parts, text.1)) f e) [
-          | inl none ↦ (text_stays bytes n).refuses at f le none
-          | inr a ↦ elim (bind_err (proof_from (take (at + n) bytes) at) (λ parts. Ok (parts, a.0.1)) f a.2) [
-            | inl none ↦ in_front bytes at n le a.0 a.1 f (proof_refused (take (at + n) bytes) at f (begins_within_front bytes at n le a.0 a.1) none)
-            | inr b ↦ absurd (cc (b.2))
-          ]
-        ];
-  }
-
   body_fills : IsBytes bytes → Stays bytes (IsFaultIn bytes) (body_filling bytes n)
   unfolding body_filling
   body_fills ok = record {
@@ -77,10 +57,6 @@ module _ (bytes : List ℕ) (ok : IsBytes bytes) where
   unfolding place_at
   place_stays = stays_followed (u32_stays bytes) (λ _. u64_stays bytes)
 
-  proof_stays : Stays bytes (IsFaultIn bytes) (proof_at bytes)
-  unfolding proof_at
-  proof_stays = stays_made _ (stays_followed (u32_stays bytes) (λ n. proof_fills bytes n))
-
   cert_stays : Stays bytes (IsFaultIn bytes) (cert_at bytes)
   unfolding cert_at
   cert_stays = stays_made _ (stays_followed (u16_stays bytes) (λ n. body_fills bytes n ok))
@@ -95,7 +71,7 @@ module _ (bytes : List ℕ) (ok : IsBytes bytes) where
       stays_made _ (stays_followed (within_stays bytes 0 1)
       (λ _. stays_followed (u8_stays bytes)
       (λ _. stays_followed place_stays
-      (λ _. stays_followed proof_stays
+      (λ _. stays_followed (proof_stays bytes)
       (λ _. stays_followed cited_stays
       (λ _. counted16_stays bytes))))))
 

@@ -16,7 +16,8 @@ use Rattle.byte_fields.proofs.Results.{bind_ok, ok_is, refused_ok, gives_found, 
 use Rattle.byte_fields.specs.declared.fault.FormatFault.{FormatFault as WireFault}
 use Rattle.byte_fields.specs.declared.fault.FormatFault.TheVariants.{Malformed, NoMemory}
 use Rattle.taos_wire.specs.declared.request.Request as code
-use Rattle.taos_wire.specs.Request.{Request, request_text, FitsRequest, kind_of, op_fields, certs_bytes, IsTag, Spells, sealed}
+use Rattle.object_core.specs.Spelling.{kind_of, op_fields}
+use Rattle.taos_wire.specs.Request.{Request, request_text, FitsRequest, certs_bytes, IsTag, Spells, sealed}
 use Rattle.taos_wire.specs.RequestReading.{request_at, request_of}
 use Rattle.taos_wire.specs.View.{request}
 use Rattle.taos_wire.proofs.Operations.{reads_origin, reads_asked, reads_certs, reads_tag}

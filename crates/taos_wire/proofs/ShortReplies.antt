@@ -9,11 +9,12 @@ use Rattle.stmt_codec.specs.declared.cert.Cert.{Cert}
 use Rattle.prin_term.specs.Principal.{node_count}
 use Rattle.byte_fields.specs.Steps.{counted}
 use Rattle.prin_term.specs.View.{principal}
+use Rattle.taos_calculus.specs.Spelling.{proof_bytes}
 use Rattle.taos_calculus.specs.Tables.{lines_of}
 use Rattle.taos_wire.specs.declared.reply.LentGrant.{LentGrant}
 use Rattle.taos_wire.specs.declared.reply.LentPart.{LentPart}
 use Rattle.taos_wire.specs.Reply.{Reply, Granted, Denied, Malformed, UnknownChannel, BadSeal, Replayed, CertRefused, ChannelFull, RelayFailed, UnknownObject, JournalFull, NoMemory, CommonsFull}
-use Rattle.taos_wire.specs.Reply.{NotHeld, LinkSent, Expired, Missing, NoEntry, FitsReply, FitsLink, link_bytes, flag, cert_bytes, cited_bytes, proof_bytes, status_of, fields_of}
+use Rattle.taos_wire.specs.Reply.{NotHeld, LinkSent, Expired, Missing, NoEntry, FitsReply, FitsLink, link_bytes, flag, cert_bytes, cited_bytes, status_of, fields_of}
 use Rattle.taos_wire.specs.Reply.{answered_bytes, reply_text, seal_of, sent, spelling}
 use Rattle.taos_wire.specs.View.{cited, lent_grant, lent_part}
 use Rattle.taos_wire.proofs.Seals.{length-seal_of}

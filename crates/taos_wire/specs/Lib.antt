@@ -3,3 +3,4 @@ pub mod View
 pub mod RequestReading
 pub mod Reply
 pub mod ReplyReading
+pub mod Heads

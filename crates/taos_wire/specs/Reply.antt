@@ -12,9 +12,8 @@ use Rattle.byte_fields.specs.Steps.{IsByte, counted}
 use Rattle.stmt_codec.specs.Certificates.{Certificate, body_spelling, HasBodySpelling}
 use Rattle.stmt_codec.specs.Certificates.{IsWithinLimits}
 use Rattle.taos_calculus.specs.Rules.{Line}
-use Rattle.taos_calculus.specs.Spelling.{proof_spelling}
-use Rattle.taos_calculus.specs.Spells.{FitsProof}
-use Rattle.taos_calculus.specs.Tables.{Parts, lines_of}
+use Rattle.taos_calculus.specs.Spelling.{proof_bytes}
+use Rattle.taos_calculus.specs.Spells.{IsProof}
 use Rattle.taos_wire.specs.declared.reply.TheConstants.{MAX_CITED}
 use Rattle.taos_wire.specs.Request.{Request, IsTag}
 
@@ -79,10 +78,6 @@ cert_bytes c = counted w16 (body_spelling c)
 abbrev pub cited_bytes : List Certificate → List ℕ
 cited_bytes certs = length certs ∷ flat_map cert_bytes certs
 
--- a proof, after its length
-unfoldable pub proof_bytes : List Line → List ℕ
-proof_bytes proof = counted w32 (proof_spelling proof)
-
 -- the byte that names what kind of reply it is
 abbrev pub status_of : Reply → ℕ
 status_of (Granted kept entry shard place proof certs result) = 0
@@ -129,12 +124,6 @@ unfoldable pub reply_text : ℕ → ℕ → Reply → List ℕ
 reply_text channel seq r = answered_bytes channel seq ++ status_of r ∷ fields_of r
 
 -- ---- limits
-
--- these are the lines that some parts within the limits mean, so they have a spelling
-pub record IsProof (lines : List Line) : Type 0 where
-  pub parts : Parts
-  pub limits : FitsProof parts
-  pub meaning : lines_of parts ≡ lines
 
 -- the certificate's numbers fit their fields, and it is within the limits
 pub record FitsCited (c : Certificate) : Type 0 where

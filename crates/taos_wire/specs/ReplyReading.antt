@@ -7,9 +7,7 @@ use Rattle.byte_fields.specs.Readers.{followed, passing, made, given, counted}
 use Rattle.byte_fields.specs.Steps.{◌>>=◌, bytes_at, counted_at}
 use Rattle.stmt_codec.specs.Certificates.{Certificate}
 use Rattle.stmt_codec.specs.Reading.{body_at}
-use Rattle.taos_calculus.specs.ProofReading.{proof_filling}
-use Rattle.taos_calculus.specs.Rules.{Line}
-use Rattle.taos_calculus.specs.Tables.{lines_of}
+use Rattle.taos_calculus.specs.ProofReading.{proof_at}
 use Rattle.byte_fields.specs.declared.fault.FormatFault.{FormatFault as WireFault}
 use Rattle.byte_fields.specs.declared.fault.FormatFault.TheVariants as faults
 use Rattle.taos_wire.specs.declared.reply.TheConstants.{MAX_CITED}
@@ -34,12 +32,6 @@ unfoldable pub place_at : List ℕ → FormatReader (ℕ × ℕ)
 place_at bytes = followed (u32_in bytes) (λ _. u64_in bytes)
 
 -- ---- a grant
-
--- a length, and a proof that fills it
-unfoldable pub proof_at : List ℕ → FormatReader (List Line)
-proof_at bytes =
-    made (λ x. lines_of x.1)
-    (followed (u32_in bytes) (λ n. proof_filling bytes n))
 
 -- so many bytes stand there, and spell a body; faults are told by their offsets in all of the bytes
 unfoldable pub body_filling : List ℕ → ℕ → FormatReader Certificate

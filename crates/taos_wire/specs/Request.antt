@@ -1,14 +1,13 @@
 -- Requests as values, and the bytes of each.
-use Rattle.std.specs.Prelude.{◌≡◌, ℕ, ◌≤◌, ◌<◌, ◌^◌, List, [], ◌∷◌, ◌++◌, length, All, Option}
+use Rattle.std.specs.Prelude.{◌≡◌, ℕ, ◌≤◌, ◌<◌, ◌^◌, List, ◌∷◌, ◌++◌, length, All, Option}
 use Rattle.std.specs.Prelude.{IfSome, Some}
 use Rattle.std.specs.List.{flat_map}
 use Rattle.std.specs.Int.{w16, w32, w64, to_be_bytes}
 use Rattle.keyed_seal.specs.Keys.{Entries, key_of}
 use Rattle.keyed_seal.specs.declared.tag.TheConstants.{TAG_LEN}
 use Rattle.keyed_seal.specs.Tag.{tag_of}
-use Rattle.object_core.specs.Operation.{Op, Read, Write, SetList, Hold, Discard, Forget, Sweep}
-use Rattle.object_core.specs.Operation.{FitsOperation}
-use Rattle.object_core.specs.Spelling.{content_bytes, list_bytes}
+use Rattle.object_core.specs.Operation.{Op, FitsOperation}
+use Rattle.object_core.specs.Spelling.{kind_of, op_fields}
 use Rattle.prin_term.specs.declared.limits.TheConstants.{QUOTED_NODES}
 use Rattle.prin_term.specs.Principal.{Principal, spelling}
 use Rattle.prin_term.specs.Refusal.{FitsLimits}
@@ -32,26 +31,6 @@ abbrev pub subject_of : Request → Principal
 subject_of r = key_quoting r.channel r.quoted
 
 -- ---- bytes
-
--- the byte that names an operation
-abbrev pub kind_of : Op → ℕ
-kind_of Read = 1
-kind_of (Write content) = 2
-kind_of (SetList list) = 3
-kind_of Hold = 4
-kind_of (Discard digest) = 5
-kind_of (Forget channel) = 6
-kind_of Sweep = 7
-
--- what an operation says besides its name
-abbrev pub op_fields : Op → List ℕ
-op_fields Read = []
-op_fields (Write content) = content_bytes content
-op_fields (SetList list) = list_bytes list
-op_fields Hold = []
-op_fields (Discard digest) = digest
-op_fields (Forget channel) = to_be_bytes w32 channel
-op_fields Sweep = []
 
 -- the certificates after their count, each after its length
 abbrev pub certs_bytes : List (List ℕ) → List ℕ

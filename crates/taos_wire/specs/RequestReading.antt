@@ -1,11 +1,11 @@
 -- Reading a request from left to right, with the first fault that is met.
-use Rattle.std.specs.Prelude.{ℕ, List, length, Result, Ok, Err, nat_lt, ◌==◌, if◌then◌else◌}
+use Rattle.std.specs.Prelude.{ℕ, List, length, Result, Ok, Err, nat_lt, if◌then◌else◌}
 use Rattle.std.specs.Int.{w16}
 use Rattle.keyed_seal.specs.declared.tag.TheConstants.{TAG_LEN}
-use Rattle.object_core.specs.Operation.{Op, Read, Write, SetList, Hold, Discard, Forget, Sweep}
-use Rattle.object_core.specs.Reading.{content_at, list_at}
+use Rattle.object_core.specs.Operation.{Op}
+use Rattle.object_core.specs.Reading.{kind_at, fields_at}
 use Rattle.prin_term.specs.declared.limits.TheConstants.{QUOTED_NODES}
-use Rattle.byte_fields.specs.Readers.{followed, made, given, counted}
+use Rattle.byte_fields.specs.Readers.{followed, made, counted}
 use Rattle.byte_fields.specs.Steps.{◌>>=◌, bytes_at, counted_at}
 use Rattle.byte_fields.specs.declared.fault.FormatFault.{FormatFault as WireFault}
 use Rattle.byte_fields.specs.declared.fault.FormatFault.TheVariants.{Malformed}
@@ -25,22 +25,11 @@ origin_at bytes =
 
 -- ---- what is asked
 
--- the fields of the operation that a byte names
-unfoldable pub fields_at : List ℕ → ℕ → FormatReader Op
-fields_at bytes kind at =
-    if kind == 1 then given Read at
-    else (if kind == 2 then made Write (content_at bytes) at
-    else (if kind == 3 then made SetList (list_at bytes) at
-    else (if kind == 4 then given Hold at
-    else (if kind == 5 then made Discard (bytes_at (ended bytes) 32 bytes) at
-    else (if kind == 6 then made Forget (u32_in bytes) at
-    else given Sweep at)))))
-
 -- the operation's name, the object, and the operation's fields
 unfoldable pub asked_at : List ℕ → FormatReader (ℕ × Op)
 asked_at bytes =
     made (λ x. x.1)
-    (followed (within 1 7 (u8_in bytes))
+    (followed (kind_at bytes)
     (λ kind. followed (u32_in bytes) (λ _. fields_at bytes kind)))
 
 -- ---- certificates

@@ -4,10 +4,12 @@
 
 mod fault;
 mod laws;
+mod limit_laws;
 mod reading;
 mod reply;
 mod reply_grant;
 mod reply_granting;
+mod reply_head;
 mod reply_lent;
 mod reply_reading;
 mod reply_writing;
@@ -20,8 +22,10 @@ pub use laws::{
     no_proper_prefix, no_reply_begins_another, one_reply, one_request, replies_are_read,
     reply_is_read, requests_are_read, written_is_read,
 };
+pub use limit_laws::limits_are;
 pub use reading::read_request;
 pub use reply::{LentGrant, LentPart, LinkSent, MAX_CITED, Reply};
+pub use reply_head::{HEAD, ReplyHead, head_at};
 pub use reply_lent::{
     draft_granted, draft_missing, write_granted, write_missing, write_missing_with,
 };

@@ -8,17 +8,15 @@ ghost use Rattle.byte_fields.specs.declared.fault.FormatFault.TheVariants.{NoMem
 ghost use Rattle.byte_fields.specs.Formats.{IsPlaceIn};
 ghost use Rattle.taos_wire.specs.Request as math;
 ghost use Rattle.taos_wire.specs.Request.{Spells};
-ghost use Rattle.taos_wire.specs.RequestReading.{origin_at, fields_at, asked_at, cert_at};
-ghost use Rattle.taos_wire.specs.RequestReading.{certs_at, request_at, request_of};
+ghost use Rattle.taos_wire.specs.RequestReading.{origin_at, asked_at, cert_at, certs_at};
+ghost use Rattle.taos_wire.specs.RequestReading.{request_at, request_of};
 ghost use Rattle.taos_wire.specs.View.{request, text_of};
 
 use crate::fault::WireFault;
 use crate::request::{MAX_CERTS, Request};
-use byte_fields::{
-    array_at, byte_within, count_up_to, counted16_at, ended, slice_at, u32_at, u64_at,
-};
+use byte_fields::{byte_within, count_up_to, counted16_at, ended, slice_at, u32_at, u64_at};
 use keyed_seal::TAG_LEN;
-use object_core::{Op, read_content, read_list};
+use object_core::{Op, read_fields, read_kind};
 use prin_term::{QUOTED_NODES, read_optional_term};
 use std::alloc::Global;
 use std::sync::Arc;
@@ -36,37 +34,6 @@ fn origin_of(bytes: &[u8], at: usize) -> Result<(u32, u64, usize), WireFault>
     Ok((channel, seq, next))
 }
 
-// The operation of a kind, with its fields.
-#[tactic(auto, unfolding(crate::specs::RequestReading::fields_at))]
-fn fields_of(alloc: Global, bytes: &[u8], at: usize, kind: u8) -> Result<(Op, usize), WireFault>
-    requires { at ≤ length bytes.now }
-    ensures value { Gives NoMemory (λ x. (operation x.0, x.1)) result
-        (fields_at bytes.now kind at) }
-    ensures within { IfOk result (λ x. x.1 ≤ length bytes.now) }
-{
-    match kind {
-        1 => Ok((Op::Read, at)),
-        2 => {
-            let (content, next) = read_content(alloc, bytes, at)?;
-            Ok((Op::Write(content), next))
-        }
-        3 => {
-            let (list, next) = read_list(alloc, bytes, at)?;
-            Ok((Op::SetList(Arc::new(alloc, list)?), next))
-        }
-        4 => Ok((Op::Hold, at)),
-        5 => {
-            let (digest, next) = array_at::<32, _>(bytes, at, ended(bytes))?;
-            Ok((Op::Discard(digest), next))
-        }
-        6 => {
-            let (channel, next) = u32_at(bytes, at, ended(bytes))?;
-            Ok((Op::Forget(channel), next))
-        }
-        _ => Ok((Op::Sweep, at)),
-    }
-}
-
 // The object, and the operation.
 #[tactic(auto, unfolding(crate::specs::RequestReading::asked_at))]
 fn asked_of(alloc: Global, bytes: &[u8], at: usize) -> Result<(u32, Op, usize), WireFault>
@@ -75,9 +42,9 @@ fn asked_of(alloc: Global, bytes: &[u8], at: usize) -> Result<(u32, Op, usize), 
         (asked_at bytes.now at) }
     ensures within { IfOk result (λ x. x.2 ≤ length bytes.now) }
 {
-    let (kind, next) = byte_within(bytes, at, 1, 7)?;
+    let (kind, next) = read_kind(bytes, at)?;
     let (object, next) = u32_at(bytes, next, ended(bytes))?;
-    let (op, next) = fields_of(alloc, bytes, next, kind)?;
+    let (op, next) = read_fields(alloc, bytes, next, kind)?;
     Ok((object, op, next))
 }
 

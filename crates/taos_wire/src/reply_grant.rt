@@ -4,31 +4,18 @@ ghost use Rattle.std.specs.Prelude.{◌≡◌, ◌≤◌, ◌==◌, [], length, 
 ghost use Rattle.byte_fields.specs.Readers.{items_behind};
 ghost use Rattle.byte_fields.specs.Steps.{Gives};
 ghost use Rattle.stmt_codec.specs.Certificates.{certificate};
-ghost use Rattle.taos_calculus.specs.Tables.{lines_of};
 ghost use Rattle.byte_fields.specs.declared.fault.FormatFault.TheVariants.{NoMemory};
 ghost use Rattle.taos_wire.specs.ReplyReading.{body_filling, cert_at, cited_at, granted_at};
-ghost use Rattle.taos_wire.specs.ReplyReading.{proof_at};
 ghost use Rattle.taos_wire.specs.View.{cited, reply};
 
 use crate::fault::WireFault;
 use crate::reply::{MAX_CITED, Reply};
 use crate::reply_reading::place_of;
-use byte_fields::{byte_within, count_up_to, counted16_at, ended, slice_at, u8_at, u16_at, u32_at};
+use byte_fields::{byte_within, count_up_to, counted16_at, ended, slice_at, u8_at, u16_at};
 use std::alloc::Global;
 use std::sync::Arc;
 use stmt_codec::{Cert, read_body};
-use taos_calculus::{Proof, read_proof_at};
-
-// A length, and a proof that fills it.
-#[tactic(auto, unfolding(crate::specs::ReplyReading::proof_at))]
-fn proof_of(alloc: Global, bytes: &[u8], at: usize) -> Result<(Proof, usize), WireFault>
-    requires { at ≤ length bytes.now }
-    ensures value { Gives NoMemory (λ x. (lines_of x.0, x.1)) result (proof_at bytes.now at) }
-    ensures within { IfOk result (λ x. x.1 ≤ length bytes.now) }
-{
-    let (len, next) = u32_at(bytes, at, ended(bytes))?;
-    Ok(read_proof_at(alloc, bytes, next, len as usize)?)
-}
+use taos_calculus::read_counted_proof;
 
 // The certificate whose body fills so many bytes.
 #[tactic(auto, unfolding(crate::specs::ReplyReading::body_filling))]
@@ -104,7 +91,7 @@ pub(crate) fn granted_of(
     let (flag, next) = byte_within(bytes, at, 0, 1)?;
     let (entry, next) = u8_at(bytes, next, ended(bytes))?;
     let (shard, place, next) = place_of(bytes, next)?;
-    let (proof, next) = proof_of(alloc, bytes, next)?;
+    let (proof, next) = read_counted_proof(alloc, bytes, next)?;
     let (certs, next) = cited_of(alloc, bytes, next)?;
     let (content, next) = counted16_at(bytes, next, ended(bytes))?;
     let reply = Reply::Granted {

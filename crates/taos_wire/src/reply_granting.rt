@@ -6,8 +6,7 @@ ghost use Rattle.std.specs.Int.{w32, w64, to_be_bytes};
 ghost use Rattle.std.specs.List.{flat_map};
 ghost use Rattle.byte_fields.specs.Appends.{Pushes};
 ghost use Rattle.stmt_codec.specs.Certificates.{certificate};
-ghost use Rattle.taos_calculus.specs.Tables.{lines_of};
-ghost use Rattle.taos_wire.specs.Reply.{cert_bytes, cited_bytes, fields_of, flag, proof_bytes};
+ghost use Rattle.taos_wire.specs.Reply.{cert_bytes, cited_bytes, fields_of, flag};
 ghost use Rattle.taos_wire.specs.View.{cited, lent_grant};
 
 use crate::reply::{LentGrant, MAX_CITED};
@@ -16,7 +15,7 @@ use crate::writing::push_counted;
 use std::alloc::AllocError;
 use std::sync::Arc;
 use stmt_codec::{Cert, write_body};
-use taos_calculus::{Proof, write_proof};
+use taos_calculus::write_counted_proof;
 
 fn flag_of(kept: bool) -> u8
     ensures { result ≡ flag kept }
@@ -33,7 +32,7 @@ pub(crate) fn push_granted(out: &mut Vec<u8>, grant: &LentGrant<'_>) -> Result<(
         (length (fields_of (lent_grant grant.now)) < 2 ^ 25 + 2 ^ 17 + 2 ^ 16) }
 {
     push_told(out, grant)?;
-    push_proof(out, grant.proof)?;
+    write_counted_proof(out, grant.proof)?;
     push_cited(out, grant.certs)?;
     push_counted(out, grant.content)
 }
@@ -55,21 +54,6 @@ fn fill(out: &mut Vec<u8>, start: usize, bytes: &[u8])
     ensures capacity { vec_capacity out.new ≡ vec_capacity out.old }
 {
     out[start..start + bytes.len()].copy_from_slice(bytes);
-}
-
-// A proof behind its length.
-#[tactic(auto, unfolding(crate::specs::Reply::proof_bytes))]
-fn push_proof(out: &mut Vec<u8>, proof: &Proof) -> Result<(), AllocError>
-    ensures pushes { Pushes out.old out.new (proof_bytes (lines_of proof.now)) result }
-    ensures short { OnOk result (length (proof_bytes (lines_of proof.now)) < 2 ^ 25 + 4) }
-{
-    let start = out.len();
-    out.extend_from_slice(&[0; 4])?;
-    let text = out.len();
-    write_proof(out, proof)?;
-    let len = (out.len() - text) as u32;
-    fill(out, start, &len.to_be_bytes());
-    Ok(())
 }
 
 // Certificates behind their count.

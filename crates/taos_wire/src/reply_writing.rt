@@ -16,12 +16,14 @@ use keyed_seal::Sealer;
 use prin_term::{Term, write_term};
 use std::alloc::AllocError;
 
-// The version of a reply.
-const VERSION: u8 = 4;
+/// The version of a reply.
+pub const VERSION: u8 = 4;
 
-pub(crate) const GRANTED: u8 = 0;
+/// The status of a grant.
+pub const GRANTED: u8 = 0;
 
-pub(crate) const DENIED: u8 = 1;
+/// The status of a denial.
+pub const DENIED: u8 = 1;
 
 const MISSING: u8 = 2;
 

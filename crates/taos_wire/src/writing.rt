@@ -10,12 +10,13 @@ ghost use Rattle.object_core.specs.View.{operation};
 ghost use Rattle.byte_fields.specs.Appends.{Appends, Pushes};
 ghost use Rattle.byte_fields.specs.Steps.{counted};
 ghost use Rattle.prin_term.specs.View.{principal};
-ghost use Rattle.taos_wire.specs.Request.{FitsRequest, IsCertText, asked_bytes, certs_bytes, kind_of, op_fields, origin_bytes, request_text, sealed};
+ghost use Rattle.taos_wire.specs.Request.{FitsRequest, IsCertText, asked_bytes, certs_bytes};
+ghost use Rattle.taos_wire.specs.Request.{origin_bytes, request_text, sealed};
 ghost use Rattle.taos_wire.specs.View.{request, text_of};
 
 use crate::request::Request;
 use keyed_seal::hmac;
-use object_core::{Op, write_list};
+use object_core::{Op, kind_of, write_fields};
 use prin_term::{Term, write_optional_term};
 use std::alloc::AllocError;
 
@@ -86,21 +87,6 @@ fn push_origin(
     write_optional_term(out, quoted)
 }
 
-// The byte that names an operation.
-fn kind_of(op: &Op) -> u8
-    ensures { result ≡ kind_of (operation op.now) }
-{
-    match op {
-        Op::Read => 1,
-        Op::Write(_) => 2,
-        Op::SetList(_) => 3,
-        Op::Hold => 4,
-        Op::Discard(_) => 5,
-        Op::Forget(_) => 6,
-        Op::Sweep => 7,
-    }
-}
-
 // The operation's name, the object, and the operation's fields.
 fn push_asked(out: &mut Vec<u8>, object: u32, op: &Op) -> Result<(), AllocError>
     requires limits { FitsOperation (operation op.now) }
@@ -108,20 +94,7 @@ fn push_asked(out: &mut Vec<u8>, object: u32, op: &Op) -> Result<(), AllocError>
 {
     out.push(kind_of(op))?;
     out.extend_from_slice(&object.to_be_bytes())?;
-    push_fields(out, op)
-}
-
-fn push_fields(out: &mut Vec<u8>, op: &Op) -> Result<(), AllocError>
-    requires limits { FitsOperation (operation op.now) }
-    ensures { Pushes out.old out.new (op_fields (operation op.now)) result }
-{
-    match op {
-        Op::Write(content) => push_counted(out, content),
-        Op::SetList(list) => write_list(out, list),
-        Op::Discard(digest) => out.extend_from_slice(digest),
-        Op::Forget(channel) => out.extend_from_slice(&channel.to_be_bytes()),
-        Op::Read | Op::Hold | Op::Sweep => Ok(()),
-    }
+    write_fields(out, op)
 }
 
 // Bytes behind their length.

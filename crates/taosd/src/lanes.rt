@@ -7,9 +7,10 @@ use std::net::{Net, TcpListener, TcpStream};
 use std::sync::Arc;
 use std::time::{Clock, Duration};
 use system_link::{
-    Doorway, LIMIT, Stop, SystemSeconds, TcpDoor, TcpRelay, Teller, Terms, teller_of,
+    ClockGuard, Doorway, LIMIT, Rounds, Stop, SystemSeconds, TcpDoor, TcpRelay, Teller, Terms,
+    teller_of,
 };
-use taos_node::Lane;
+use taos_node::{Lane, Wanted};
 
 /// What the words say.
 #[derive(Drop)]
@@ -20,16 +21,21 @@ pub struct Setting<'w> {
     /// The relay's address. `-` is none, so a link to it fails at each call.
     pub relay: &'w str,
     pub command: &'w [String],
+    /// What the command asks for.
+    pub wanted: Wanted<'w>,
 }
 
-/// What all lanes have: how long a peer may be silent, what stops their doors, the relay's address, and
-/// what each leaves its notices by.
+/// What all lanes have: how long a peer may be silent, what stops their doors, what readings of the
+/// clock are held against, the relay's address, and what each leaves its notices by.
 #[derive(Clone, Copy)]
 pub struct Common<'a> {
     pub idle: Duration,
     pub stop: &'a Arc<Stop, Global>,
+    pub guard: &'a Arc<ClockGuard, Global>,
     pub relay: &'a str,
     pub tellers: &'a [Teller],
+    /// What tells the first lane's link where a request ends.
+    pub first_rounds: &'a Arc<Rounds, Global>,
 }
 
 /// A lane over a system: its clock, a link to the relay and a door.
@@ -41,6 +47,7 @@ fn lane_of<S: Net<Listener = TcpListener, Stream = TcpStream> + Clock + Copy + S
     alloc: Global,
     common: Common<'_>,
     doorway: Doorway,
+    rounds: Arc<Rounds, Global>,
     teller: &Teller,
 ) -> Result<SystemLane<S>, AllocError> {
     let terms = Terms {
@@ -48,12 +55,15 @@ fn lane_of<S: Net<Listener = TcpListener, Stream = TcpStream> + Clock + Copy + S
         stop: Arc::try_clone(common.stop)?,
         idle: common.idle,
         teller: teller_of(teller)?,
+        rounds: Arc::try_clone(&rounds)?,
     };
     let relay = String::from_str(alloc, common.relay)?;
     let limit = Duration::from_secs(LIMIT);
-    let link = TcpRelay::new(system, alloc, relay, limit, teller_of(teller)?);
+    let link = TcpRelay::new(system, alloc, relay, limit, rounds, teller_of(teller)?);
     let door = TcpDoor::new(doorway, alloc, terms);
-    Ok(Lane::of(SystemSeconds::new(system), link, door))
+    let guard = Arc::try_clone(common.guard)?;
+    let clock = SystemSeconds::new(system, guard, teller_of(teller)?);
+    Ok(Lane::of(clock, link, door))
 }
 
 /// A lane for each door.
@@ -68,7 +78,11 @@ pub fn lanes_of<S: Net<Listener = TcpListener, Stream = TcpStream> + Clock + Cop
     let mut lanes = Vec::new(alloc);
     for doorway in doorways {
         let teller = common.tellers.get(lanes.len()).unwrap_or(&None);
-        lanes.push(lane_of(system, alloc, common, doorway, teller)?)?;
+        let rounds = match lanes.is_empty() {
+            true => Arc::try_clone(common.first_rounds)?,
+            false => Arc::new(alloc, Rounds::new())?,
+        };
+        lanes.push(lane_of(system, alloc, common, doorway, rounds, teller)?)?;
     }
     Ok(lanes)
 }

@@ -6,6 +6,7 @@ ghost use Rattle.std.specs.Prelude.{◌<◌, ◌≤◌, length, vec_len};
 mod keys;
 mod lanes;
 mod own;
+mod print;
 mod telling;
 mod usage;
 
@@ -13,22 +14,30 @@ use frame_link::{Clock, Door, RelayLink, Sink, pour};
 use keys::fresh_key;
 use lanes::{Common, Setting, lanes_of};
 use own::{Own, own_of};
-use std::alloc::Global;
+use print::text_of;
+use std::alloc::{AllocError, Global};
 use std::fs::File;
-use std::io::{BufReader, ErrorKind, Stderr};
+use std::io::{BufReader, ErrorKind, Stderr, Write};
 use std::net::{Net, TcpListener, TcpStream};
 use std::process::ExitCode;
 use std::sync::{Arc, Wait};
 use std::thread::Threads;
+use std::time::Duration;
 use std::{env, io, time};
 use system_link::{
-    Deferred, Doorway, FileReading, Listener, Origin, Outbox, PIECE, Prompt, Reading, Stop, Teller,
-    Telling, Watched, Writing, addresses_of, bind_all, doorways_of, stop_at_end, tell_addresses,
-    tell_readers,
+    ClockGuard, Deferred, Doorway, FileReading, IDLE, Listener, Origin, Outbox, PIECE, Patient,
+    Prompt, Reading, Rounded, Rounds, Scribe, Stop, Teller, Telling, Watched, Writing,
+    addresses_of, bind_all, doorways_of, stop_at_end, tell_addresses, tell_readers,
 };
-use taos_node::{Ending, FileFault, Lane, Outcome, status_of, taos, tell};
+use taos_node::{
+    Ending, FileFault, Lane, LanesEnd, Outcome, Wanted, file_opening, status_of, taos, tell,
+    wanted_of,
+};
 use telling::{output_teller, tellers_of};
 use usage::{USAGE, VERSION};
+
+// The status of a `check` that refuses a reply.
+const REFUSED: u8 = 11;
 
 // Where fresh keys come from.
 const RANDOM: &str = "/dev/urandom";
@@ -61,25 +70,27 @@ fn file_of<'a>(rt: &HostRuntime, path: &'a str) -> FileReading<'a, File, Stderr>
     }
 }
 
-// The work of a command, by these lanes. What is written leaves notices by the teller.
+// The work of a command, by these lanes. What is read and written is of the first.
 fn work<W: Threads + Wait + Sync, N: Sink, C: Clock + Send, R: RelayLink + Send, D: Door + Send>(
     rt: &HostRuntime,
     workers: &W,
-    path: &str,
-    command: &[String],
-    teller: Teller,
+    setting: &Setting<'_>,
+    common: Common<'_>,
     notes: &mut N,
     lanes: &mut [Lane<C, R, D>],
 ) -> u8
     requires some { 0 < length lanes.old }
     requires few { length lanes.old ≤ 16 }
 {
-    let alloc = rt.alloc();
-    let Ok(outbox) = Outbox::with_capacity(alloc, PIECE, rt.stdout()) else {
+    let (alloc, path) = (rt.alloc(), setting.path);
+    let Ok(outbox) = Outbox::with_capacity(alloc, PIECE, Patient::new(rt.stdout(), *rt)) else {
         return ended(notes, Ending::NoMemory);
     };
-    let prompt = Prompt::new(rt.stdin(), &outbox);
-    let Ok(standard_input) = BufReader::with_capacity(alloc, PIECE, prompt) else {
+    let prompt = Prompt::new(Patient::new(rt.stdin(), *rt), &outbox);
+    let (Ok(standard_input), Ok(rounds)) = (
+        BufReader::with_capacity(alloc, PIECE, prompt),
+        Arc::try_clone(common.first_rounds),
+    ) else {
         return ended(notes, Ending::NoMemory);
     };
     let file = file_of(rt, path);
@@ -87,13 +98,14 @@ fn work<W: Threads + Wait + Sync, N: Sink, C: Clock + Send, R: RelayLink + Send,
         tell_readers(&mut rt.stderr(), path, open);
     }
     let mut file = Watched::new(alloc, file, path, rt.stderr());
-    let mut input = Reading::new(standard_input);
+    let mut input = Reading::new(Rounded::new(standard_input, rounds));
+    let teller = output_teller(setting.wanted, common.tellers);
     let telling = Telling::new(Deferred::new(&outbox), *rt, None, teller);
     let mut output = Writing::new(telling);
     let status = taos(
         workers,
         alloc,
-        command,
+        setting.command,
         &mut file,
         &mut input,
         &mut output,
@@ -101,35 +113,64 @@ fn work<W: Threads + Wait + Sync, N: Sink, C: Clock + Send, R: RelayLink + Send,
         lanes,
     );
     match outbox.leave() {
-        false if status == 0 => ended(notes, Ending::Served(Outcome::WriteFault)),
+        false if status == 0 || status == REFUSED => {
+            ended(notes, Ending::Served(Outcome::WriteFault))
+        }
         _ => status,
     }
 }
 
 // Whether a command serves the connections of doors, and leaves standard input alone.
-fn serves_doors(command: &[String]) -> bool {
-    match command {
-        [word, ..] => matches!(word.as_str(), "serve" | "relay-serve"),
-        [] => false,
-    }
+fn serves_doors(wanted: Wanted<'_>) -> bool {
+    matches!(wanted, Wanted::Serve(_) | Wanted::RelayServe(_))
 }
 
-// Tells the addresses, and lets the end of standard input stop the doors, where that is wanted.
-fn prepare<W: Threads>(
+// What all lanes stand on.
+#[derive(Drop)]
+struct Ground {
+    listeners: Vec<Option<Listener>>,
+    stop: Arc<Stop, Global>,
+    guard: Arc<ClockGuard, Global>,
+    first_rounds: Arc<Rounds, Global>,
+    tellers: Vec<Teller>,
+    scribe: Option<Scribe>,
+}
+
+// Listens, tells the addresses, and lets the end of standard input stop the doors, where that is wanted.
+fn begin<W: Threads>(
     rt: &HostRuntime,
     workers: &W,
     own: &Own<'_>,
-    command: &[String],
-    stop: &Arc<Stop, Global>,
-    listeners: &[Option<Listener>],
-) -> io::Result<()> {
+    setting: &Setting<'_>,
+) -> io::Result<Ground> {
+    let (alloc, addresses) = (rt.alloc(), setting.addresses);
+    let listeners = bind_all(rt, alloc, addresses, &mut rt.stderr())?;
+    let stop = Arc::new(alloc, Stop::new())?;
+    let (tellers, scribe) = tellers_of(rt, workers, own.tells, addresses.len().max(1))?;
+    if own.stops_at_end && serves_doors(setting.wanted) {
+        let input = Patient::new(rt.stdin(), *rt);
+        stop_at_end(workers, alloc, input, &stop, &listeners)?;
+    }
     if own.tells_addresses {
-        tell_addresses(&mut rt.stderr(), listeners);
+        tell_addresses(&mut rt.stderr(), &listeners);
     }
-    if own.stops_at_end && serves_doors(command) {
-        stop_at_end(workers, rt.alloc(), rt.stdin(), stop, listeners)?;
+    Ok(Ground {
+        listeners,
+        stop,
+        guard: Arc::new(alloc, ClockGuard::new())?,
+        first_rounds: Arc::new(alloc, Rounds::new())?,
+        tellers,
+        scribe,
+    })
+}
+
+// Tells why nothing was begun.
+fn not_begun<N: Sink>(rt: &HostRuntime, notes: &mut N, reason: &io::Error) -> u8 {
+    if reason.kind() == ErrorKind::OutOfMemory {
+        return ended(notes, Ending::NoMemory);
     }
-    Ok(())
+    let _ = writeln!(rt.stderr(), "taosd: not begun: {reason}");
+    status_of(Ending::Lanes(LanesEnd::DoorFault { lane: 0 }))
 }
 
 // The lanes of these doors over a system, and the work of the command by them.
@@ -152,18 +193,11 @@ fn work_by<
     let Ok(mut lanes) = lanes_of(system, rt.alloc(), common, doorways) else {
         return ended(notes, Ending::NoMemory);
     };
-    work(
-        rt,
-        workers,
-        setting.path,
-        setting.command,
-        output_teller(setting.command, common.tellers),
-        notes,
-        lanes.as_mut_slice(),
-    )
+    work(rt, workers, setting, common, notes, lanes.as_mut_slice())
 }
 
-// A lane for each address, and the work of the command by them.
+// A lane for each address, and the work of the command by them. Where nothing is served, there is one,
+// whose door has ended.
 fn listen<W: Threads + Wait + Sync, N: Sink>(
     rt: &HostRuntime,
     workers: &W,
@@ -173,27 +207,28 @@ fn listen<W: Threads + Wait + Sync, N: Sink>(
 ) -> u8
     requires few { length setting.now.addresses.now ≤ 16 }
 {
-    let alloc = rt.alloc();
-    let (Ok(listeners), Ok(stop)) = (
-        bind_all(rt, alloc, setting.addresses),
-        Arc::new(alloc, Stop::new()),
-    ) else {
-        return ended(notes, Ending::NoMemory);
+    let ground = match begin(rt, workers, own, setting) {
+        Ok(ground) => ground,
+        Err(reason) => return not_begun(rt, notes, &reason),
     };
-    if prepare(rt, workers, own, setting.command, &stop, &listeners).is_err() {
-        return ended(notes, Ending::NoMemory);
-    }
-    let Ok(doorways) = doorways_of(alloc, setting.addresses, &listeners) else {
-        return ended(notes, Ending::NoMemory);
-    };
-    let Ok((tellers, scribe)) = tellers_of(rt, workers, own.tells, doorways.len()) else {
+    let Ground {
+        listeners,
+        stop,
+        guard,
+        first_rounds,
+        tellers,
+        scribe,
+    } = ground;
+    let Ok(doorways) = doorways_of(rt.alloc(), setting.addresses, &listeners) else {
         return ended(notes, Ending::NoMemory);
     };
     let common = Common {
-        idle: own.idle,
+        idle: own.idle.unwrap_or(Duration::from_secs(IDLE)),
         stop: &stop,
+        guard: &guard,
         relay: setting.relay,
         tellers: &tellers,
+        first_rounds: &first_rounds,
     };
     let status = work_by(rt, rt, workers, setting, common, doorways, notes);
     if let Some(scribe) = scribe {
@@ -216,17 +251,27 @@ fn run<W: Threads + Wait + Sync, N: Sink>(
     let [path, listening, relay, command @ ..] = own.words else {
         return ended(notes, Ending::Usage);
     };
-    let Some(addresses) = addresses_of(listening.as_str()) else {
+    let Some(mut addresses) = addresses_of(listening.as_str()) else {
         return ended(notes, Ending::Usage);
     };
-    if command.is_empty() {
-        return ended(notes, Ending::Usage);
+    let wanted = match wanted_of(rt.alloc(), command) {
+        Ok(Some(wanted)) => wanted,
+        Ok(None) => return ended(notes, Ending::Usage),
+        Err(AllocError) => return ended(notes, Ending::NoMemory),
+    };
+    // What serves no door binds nothing.
+    if !serves_doors(wanted) {
+        addresses.clear();
     }
     let setting = Setting {
-        path: path.as_str(),
+        path: match wanted {
+            Wanted::Drill(_) => "-",
+            _ => path.as_str(),
+        },
         addresses: addresses.as_slice(),
         relay: relay.as_str(),
         command,
+        wanted,
     };
     listen(rt, workers, &own, &setting, notes)
 }
@@ -248,6 +293,17 @@ fn show_key<N: Sink>(rt: &HostRuntime, notes: &mut N) -> u8 {
     }
 }
 
+// Prints what a node file means.
+fn show_file<N: Sink>(rt: &HostRuntime, path: &str, notes: &mut N) -> u8 {
+    match file_opening(rt.alloc(), &mut file_of(rt, path)) {
+        Ok(opening) => match text_of(rt.alloc(), &opening) {
+            Ok(text) => show(rt, text.as_str().as_bytes(), notes),
+            Err(_) => ended(notes, Ending::NoMemory),
+        },
+        Err(fault) => ended(notes, Ending::File(fault)),
+    }
+}
+
 // The words that ask the program itself for something; all others are of the node.
 fn answer<W: Threads + Wait + Sync, N: Sink>(
     rt: &HostRuntime,
@@ -266,6 +322,7 @@ fn answer<W: Threads + Wait + Sync, N: Sink>(
             "--key" => show_key(rt, notes),
             _ => ended(notes, Ending::Usage),
         },
+        [word, path] if word.as_str() == "--print" => show_file(rt, path.as_str(), notes),
         _ => run(rt, workers, words, notes),
     }
 }

@@ -1,7 +1,6 @@
 //! The program's own options, before its first three words.
 
 use std::time::Duration;
-use system_link::IDLE;
 
 // The most seconds that a peer may have between frames.
 const MAX_IDLE: u64 = 86_400;
@@ -19,8 +18,8 @@ pub enum Tells {
 /// What the options say, and the words behind them.
 #[derive(Drop)]
 pub struct Own<'w> {
-    /// How long a peer may take between frames.
-    pub idle: Duration,
+    /// How long a peer may take between frames, where that is said.
+    pub idle: Option<Duration>,
     /// The addresses where the program listens are told.
     pub tells_addresses: bool,
     /// The end of standard input stops what serves doors.
@@ -30,10 +29,13 @@ pub struct Own<'w> {
     pub words: &'w [String],
 }
 
-// How many seconds a word says, from 1 to a day's.
+// How many seconds a word says, from 1 to a day's, written as all numbers are.
 fn seconds_of(word: &str) -> Option<u64> {
+    if word.starts_with('+') || word.starts_with('0') {
+        return None;
+    }
     match word.parse::<u64>() {
-        Ok(seconds) if seconds >= 1 && seconds <= MAX_IDLE => Some(seconds),
+        Ok(seconds) if seconds <= MAX_IDLE => Some(seconds),
         _ => None,
     }
 }
@@ -41,8 +43,8 @@ fn seconds_of(word: &str) -> Option<u64> {
 // The first option taken in, and whether there was one. `None` where it is none of the program's.
 fn take_one(own: &mut Own<'_>) -> Option<bool> {
     match own.words {
-        [option, seconds, rest @ ..] if option.as_str() == "--idle" => {
-            own.idle = Duration::from_secs(seconds_of(seconds.as_str())?);
+        [option, seconds, rest @ ..] if option.as_str() == "--idle" && own.idle.is_none() => {
+            own.idle = Some(Duration::from_secs(seconds_of(seconds.as_str())?));
             own.words = rest;
             Some(true)
         }
@@ -76,7 +78,7 @@ fn take_one(own: &mut Own<'_>) -> Option<bool> {
 /// Reads the options that stand before the other words. `None` where one is none of the program's.
 pub fn own_of(words: &[String]) -> Option<Own<'_>> {
     let mut own = Own {
-        idle: Duration::from_secs(IDLE),
+        idle: None,
         tells_addresses: false,
         stops_at_end: false,
         tells: Tells::Nothing,

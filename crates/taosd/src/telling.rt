@@ -5,6 +5,7 @@ use std::io;
 use std::sync::Arc;
 use std::thread::Threads;
 use system_link::{Scribe, Teller, notices_of, teller_of};
+use taos_node::Wanted;
 
 /// What so many lanes leave their notices by, and what writes them on standard error. Where none are
 /// wanted there is none of either.
@@ -30,11 +31,8 @@ pub fn tellers_of<W: Threads>(
 }
 
 /// What the standard output leaves notices by: as the first lane, where the command writes frames to it.
-pub fn output_teller(command: &[String], tellers: &[Teller]) -> Teller {
-    let writes_frames = match command {
-        [word, ..] => matches!(word.as_str(), "run" | "relay"),
-        [] => false,
-    };
+pub fn output_teller(wanted: Wanted<'_>, tellers: &[Teller]) -> Teller {
+    let writes_frames = matches!(wanted, Wanted::Run { .. } | Wanted::Relay { .. });
     match tellers.first() {
         Some(teller) if writes_frames => teller_of(teller).unwrap_or(None),
         _ => None,

@@ -3,6 +3,7 @@
 /// How it is used.
 pub const USAGE: &[u8] = b"\
 taosd [OPTION..] FILE LISTEN RELAY COMMAND
+taosd --print FILE
 taosd --help | --version | --key
 
 FILE    the path of a node file, or for relay, relay-serve and mint of a relay
@@ -17,7 +18,7 @@ OPTION is one of
   --tell-addresses  tells on standard error at which addresses it listens
   --stop-at-end     the end of standard input stops what serves LISTEN
   --tell-refusals   tells on standard error each refusal, each connection that
-                    breaks and each failure of the relay
+                    breaks and each failure of the relay or the clock
   --tell-denials    tells these and each denial
 
 COMMAND is one of
@@ -51,6 +52,8 @@ COMMAND is one of
 P is a principal such as key:2, alice or '(ws1 as taos) and key:14', by the
 texts of FILE; TIME an instant such as 2030-01-31T12:00:00Z.
 
+--print    prints the text of what a node file means, in either form; it has
+           the keys
 --help     prints this text
 --version  prints the program's version
 --key      prints a fresh key: 64 hex digits, from /dev/urandom

@@ -8,7 +8,7 @@ const ROLES: &[(u32, &str)] = &[(2, "reader"), (1, "taos")];
 
 // A table of these names.
 fn named(alloc: Global, rows: &[(u32, &str)]) -> Result<Names, Fail> {
-    let mut names = Names::new(alloc);
+    let mut names = Names::new(alloc)?;
     for &(number, text) in rows {
         names.add_name(alloc, number, text)?;
     }
@@ -149,7 +149,7 @@ fn add_numbered_role(alloc: Global, names: &mut Names, number: u32) -> Result<()
 
 // As many names as there may be, n0 and so on.
 fn full_names(alloc: Global) -> Result<Names, Fail> {
-    let mut names = Names::new(alloc);
+    let mut names = Names::new(alloc)?;
     for number in 0..MAX_NAMES {
         add_numbered_name(alloc, &mut names, number)?;
     }

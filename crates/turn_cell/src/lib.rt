@@ -6,6 +6,7 @@
 mod cell;
 mod closing;
 mod journaled;
+mod limit_laws;
 mod pass;
 mod rule;
 mod shares;
@@ -17,5 +18,6 @@ mod waiting;
 
 pub use cell::TurnCell;
 pub use journaled::Journaled;
+pub use limit_laws::limits_are;
 pub use pass::{Held, Pass};
 pub use shares::ALL_SHARES;

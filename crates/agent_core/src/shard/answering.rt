@@ -8,6 +8,7 @@ ghost use Rattle.agent_core.specs.Looking.{Answered};
 ghost use Rattle.agent_core.specs.Views.{entry_of, event_of, plan_of};
 
 use crate::event::{Event, ShardEntry};
+use crate::held::presented::Presented;
 use crate::plan::ShardPlan;
 use crate::shard::asking::ask;
 use crate::shard::forgetting::forget;
@@ -24,6 +25,7 @@ pub(crate) fn answer_to(
     plan: &ShardPlan,
     entries: &mut Vec<ShardEntry>,
     store: &mut Store,
+    presented: &mut Presented,
     cache: &mut Cache,
     event: Event,
 ) -> Result<Answer, AllocError>
@@ -43,28 +45,26 @@ pub(crate) fn answer_to(
         (map entry_of entries.old.items) (event_of event))) }
 {
     match event {
-        Event::Ask(asked) => ask(alloc, plan, entries, store, cache, asked),
+        Event::Ask(asked) => ask(alloc, plan, entries, store, presented, cache, asked),
         Event::Keep { ask, entry, cached } => {
-            keep(plan, entries, store, cache, ask, entry, cached)
+            let told = keep(plan, entries, store, cache, ask, entry, cached)?;
+            Ok(told.answer())
         }
-        Event::Hold(certs) => match hold(plan, entries, store, certs) {
-            Ok(added) => Ok(Answer::Held { added }),
-            Err(held) => Ok(Answer::CommonsFull { held }),
-        },
+        Event::Hold(certs) => Ok(hold(plan, entries, store, certs).answer()),
         Event::Discard(digest) => {
-            let count = discard(plan, entries, store, digest);
+            let told = discard(plan, entries, store, digest);
             cache.purge_cert(&digest);
-            Ok(Answer::Removed { count })
+            Ok(told.answer())
         }
         Event::Forget(channel) => {
-            let count = forget(plan, entries, store, channel);
+            let told = forget(plan, entries, store, channel);
             cache.purge_channel(channel);
-            Ok(Answer::Removed { count })
+            Ok(told.answer())
         }
         Event::Expire(reading) => {
-            let count = expire(plan, entries, store, reading);
+            let told = expire(plan, entries, store, reading);
             cache.purge_before(store.clock);
-            Ok(Answer::Removed { count })
+            Ok(told.answer())
         }
     }
 }

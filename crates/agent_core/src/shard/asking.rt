@@ -2,9 +2,9 @@
 
 ghost use Rattle.std.specs.Prelude.{◌≡◌, ◌+◌, ◌<◌, ◌≤◌, ◌++◌, length, map, Contains, IfOk, OnErr, OnOk};
 ghost use Rattle.stmt_codec.specs.View.{certificates};
-ghost use Rattle.agent_core.specs.Answers.{TakesMemory};
+ghost use Rattle.agent_core.specs.Answers.{IsPlain, TakesMemory};
 ghost use Rattle.agent_core.specs.Caches.{first_hit, hit_or_miss, unlapsed};
-ghost use Rattle.agent_core.specs.Kept.{IsKept, IsStore, Tells};
+ghost use Rattle.agent_core.specs.Kept.{IsKept, IsStore};
 ghost use Rattle.agent_core.specs.Looking.{IsLook, IsTaken, Takes, Answered};
 ghost use Rattle.agent_core.specs.Plans.{IsPlan};
 ghost use Rattle.agent_core.specs.State.{Asks, Plain, asking, brought, swept};
@@ -14,11 +14,13 @@ ghost use Rattle.agent_core.specs.Views.{ask_of, entry_of, plan_of};
 use crate::event::{Ask, Event, ShardEntry};
 use crate::held::naming::name_all;
 use crate::held::newness::{Places, new_of};
+use crate::held::presented::Presented;
 use crate::held::removal::{count_left, gone_by, keep_left, sweep};
 use crate::held::snapshot::gathered;
 use crate::limits::MAX_OWN;
 use crate::plan::ShardPlan;
 use crate::shard::append::append;
+use crate::shard::presenting::kept_ask;
 use crate::shard::row::place_of;
 use crate::shard::serving::{bring, serving};
 use crate::shard::store::Store;
@@ -94,15 +96,16 @@ fn move_on(plan: &ShardPlan, entries: &[ShardEntry], store: &mut Store, moment: 
     store.swept = entries.len() as u64 + 1;
 }
 
-// Journals an Ask that leaves the state as swept.
+// Journals an Ask that leaves the state as swept, and answers what is told of it.
 fn refuse(
     plan: &ShardPlan,
     entries: &mut Vec<ShardEntry>,
     store: &mut Store,
+    cache: &mut Cache,
     asked: Arc<Ask>,
     look: Look,
     told: Told,
-)
+) -> Answer
     requires kept { IsKept (plan_of plan.now) entries.old store.old }
     requires room { length entries.old.items < plan.now.limit }
     requires meant { IsMeant (plan_of plan.now) (map entry_of entries.old.items)
@@ -113,12 +116,16 @@ fn refuse(
     requires plain { let s = swept plan.now.keep look.moment
         (state_after (plan_of plan.now) (map entry_of entries.old.items)) in
         asking s (ask_of asked.value) ≡ (s, Plain told) }
-    ensures tells { Tells (plan_of plan.now) entries.old (Asks (ask_of asked.value)) told
+    requires at_once { IsPlain told }
+    requires cached { cache.old ≡ cache_after (plan_of plan.now) (map entry_of entries.old.items) }
+    ensures answered { Answered (plan_of plan.now) entries.old (Asks (ask_of asked.value)) result
         entries.new store.new }
-    ensures clock { store.new.clock ≡ look.moment }
+    ensures cached { cache.new ≡ cache_after (plan_of plan.now) (map entry_of entries.new.items) }
 {
+    cache.purge_before(look.moment);
     move_on(plan, entries, store, look.moment);
     append(entries, Event::Ask(asked), told);
+    told.answer()
 }
 
 // Journals an Ask that a kept proof serves or that is to be judged, and holds what it brings.
@@ -250,12 +257,13 @@ fn ask_new(
     }
 }
 
-/// Asks.
+/// Asks. What is presented is kept where the Ask is a hit or a miss.
 pub(crate) fn ask(
     alloc: Global,
     plan: &ShardPlan,
     entries: &mut Vec<ShardEntry>,
     store: &mut Store,
+    presented: &mut Presented,
     cache: &mut Cache,
     asked: Arc<Ask>,
 ) -> Result<Answer, AllocError>
@@ -278,15 +286,14 @@ pub(crate) fn ask(
     let look = look_at(plan, entries, store, &asked);
     let last = store.rows[look.place].last;
     if asked.seq <= last {
-        cache.purge_before(look.moment);
-        refuse(plan, entries, store, asked, look, Told::Replayed { last });
-        return Ok(Answer::Replayed { last });
+        let told = Told::Replayed { last };
+        return Ok(refuse(plan, entries, store, cache, asked, look, told));
     }
     if look.held + look.new.len() > MAX_OWN {
         let held = look.held as u8;
-        cache.purge_before(look.moment);
-        refuse(plan, entries, store, asked, look, Told::Full { held });
-        return Ok(Answer::Full { held });
+        let told = Told::Full { held };
+        return Ok(refuse(plan, entries, store, cache, asked, look, told));
     }
-    ask_new(alloc, plan, entries, store, cache, asked, look)
+    let kept = kept_ask(alloc, presented, asked)?;
+    ask_new(alloc, plan, entries, store, cache, kept, look)
 }

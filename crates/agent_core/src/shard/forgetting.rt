@@ -1,7 +1,7 @@
 //! A channel's own certificates are let go.
 
 ghost use Rattle.std.specs.Prelude.{◌≡◌, ◌-◌, ◌<◌, [], length, map};
-ghost use Rattle.agent_core.specs.declared.told.Told.TheVariants as told;
+ghost use Rattle.agent_core.specs.Answers.{IsPlain};
 ghost use Rattle.agent_core.specs.Kept.{IsKept, IsStore, Tells, row_certs, now_at};
 ghost use Rattle.agent_core.specs.Names.{AreNames};
 ghost use Rattle.agent_core.specs.Plans.{IsPlan};
@@ -61,19 +61,21 @@ fn let_go_of_channel(
     }
 }
 
-/// Lets go of a channel's own certificates, and says how many those were.
+/// Lets go of a channel's own certificates, and tells how many those were.
 pub(crate) fn forget(
     plan: &ShardPlan,
     entries: &mut Vec<ShardEntry>,
     store: &mut Store,
     channel: u32,
-) -> u32
+) -> Told
     requires kept { IsKept (plan_of plan.now) entries.old store.old }
     requires room { length entries.old.items < plan.now.limit }
-    ensures { Tells (plan_of plan.now) entries.old (Forgets channel)
-        (told.Removed result) entries.new store.new }
+    ensures tells { Tells (plan_of plan.now) entries.old (Forgets channel) result entries.new
+        store.new }
+    ensures plain { IsPlain result }
 {
     let count = let_go_of_channel(plan, entries, store, channel);
-    append(entries, Event::Forget(channel), Told::Removed { count });
-    count
+    let told = Told::Removed { count };
+    append(entries, Event::Forget(channel), told);
+    told
 }

@@ -10,8 +10,8 @@ ghost use Rattle.agent_core.specs.declared.told.Told.TheVariants as told;
 ghost use Rattle.agent_core.specs.Held.{among};
 ghost use Rattle.agent_core.specs.Held as math;
 ghost use Rattle.agent_core.specs.Journals.{cache_after, state_after, told_at, IsKeepable};
-ghost use Rattle.agent_core.specs.Kept.{IsKept, IsStore, now_at, row_certs, told_against};
-ghost use Rattle.agent_core.specs.Looking.{Answered};
+ghost use Rattle.agent_core.specs.Kept.{IsKept, IsStore, Tells, now_at, row_certs, told_against};
+ghost use Rattle.agent_core.specs.Answers.{IsPlain};
 ghost use Rattle.agent_core.specs.Names.{certs_named, AreNames};
 ghost use Rattle.agent_core.specs.Plans.{IsPlan};
 ghost use Rattle.agent_core.specs.State.{Keeps, first_missing, own_of, settled_by};
@@ -25,7 +25,7 @@ use crate::plan::ShardPlan;
 use crate::shard::append::append;
 use crate::shard::row::place_of;
 use crate::shard::store::{Row, Store};
-use crate::told::{Answer, DropCause, Told};
+use crate::told::{DropCause, Told};
 use prin_term::Term;
 use proof_cache::{Cache, Cached};
 use std::alloc::AllocError;
@@ -176,14 +176,15 @@ pub(crate) fn keep(
     ask: u64,
     entry: u8,
     proof: Arc<Cached>,
-) -> Result<Answer, AllocError>
+) -> Result<Told, AllocError>
     requires kept { IsKept (plan_of plan.now) entries.old store.now }
     requires room { length entries.old.items < plan.now.limit }
     requires meant { IsKeepable (plan_of plan.now) (map entry_of entries.old.items) ask entry
         (cached proof.value) }
     requires cached { cache.old ≡ cache_after (plan_of plan.now) (map entry_of entries.old.items) }
-    ensures answered { IfOk result (λ answer. Answered (plan_of plan.now) entries.old
-        (Keeps ask entry (cached proof.value)) answer entries.new store.now) }
+    ensures tells { IfOk result (λ told. Tells (plan_of plan.now) entries.old
+        (Keeps ask entry (cached proof.value)) told entries.new store.now) }
+    ensures plain { IfOk result IsPlain }
     ensures cached { OnOk result
         (cache.new ≡ cache_after (plan_of plan.now) (map entry_of entries.new.items)) }
     ensures unchanged { OnErr result ((entries.new ≡ entries.old) × (cache.new ≡ cache.old)) }
@@ -196,8 +197,9 @@ pub(crate) fn keep(
             entry,
             cached: proof,
         };
-        append(entries, event, Told::Dropped(cause));
-        return Ok(Answer::Dropped(cause));
+        let told = Told::Dropped(cause);
+        append(entries, event, told);
+        return Ok(told);
     }
     let handle = Arc::try_clone(&proof)?;
     let event = Event::Keep {
@@ -207,5 +209,5 @@ pub(crate) fn keep(
     };
     append(entries, event, Told::Kept);
     cache.keep(handle);
-    Ok(Answer::Kept)
+    Ok(Told::Kept)
 }

@@ -1,8 +1,8 @@
 //! Events that take no memory: what is held in common, and what is let go.
 
-ghost use Rattle.std.specs.Prelude.{◌≡◌, ◌+◌, ◌≤◌, ◌<◌, ◌++◌, length, map, [], IfOk, IfErr};
+ghost use Rattle.std.specs.Prelude.{◌≡◌, ◌+◌, ◌≤◌, ◌<◌, ◌++◌, length, map, []};
 ghost use Rattle.stmt_codec.specs.View.{certificates};
-ghost use Rattle.agent_core.specs.declared.told.Told.TheVariants as told;
+ghost use Rattle.agent_core.specs.Answers.{IsPlain};
 ghost use Rattle.agent_core.specs.Kept.{IsKept, Tells};
 ghost use Rattle.agent_core.specs.State.{Holds, Discards, Forgets, Expires};
 ghost use Rattle.agent_core.specs.Views.{plan_of};
@@ -21,58 +21,61 @@ use crate::told::Told;
 use std::sync::Arc;
 use stmt_codec::Cert;
 
-/// Lets go of the certificates of a digest, and says how many those were.
+/// Lets go of the certificates of a digest, and tells how many those were.
 pub(crate) fn discard(
     plan: &ShardPlan,
     entries: &mut Vec<ShardEntry>,
     store: &mut Store,
     digest: [u8; 32],
-) -> u32
+) -> Told
     requires kept { IsKept (plan_of plan.now) entries.old store.old }
     requires room { length entries.old.items < plan.now.limit }
-    ensures { Tells (plan_of plan.now) entries.old (Discards digest)
-        (told.Removed result) entries.new store.new }
+    ensures tells { Tells (plan_of plan.now) entries.old (Discards digest) result entries.new
+        store.new }
+    ensures plain { IsPlain result }
 {
     let removal = Removal::Named { digest };
     let moment = store.clock;
     let count = let_go(plan, entries, store, &removal, moment);
-    append(entries, Event::Discard(digest), Told::Removed { count });
-    count
+    let told = Told::Removed { count };
+    append(entries, Event::Discard(digest), told);
+    told
 }
 
-/// Lets go of the certificates that are gone by the reading, and says how many those were.
+/// Lets go of the certificates that are gone by the reading, and tells how many those were.
 pub(crate) fn expire(
     plan: &ShardPlan,
     entries: &mut Vec<ShardEntry>,
     store: &mut Store,
     reading: u64,
-) -> u32
+) -> Told
     requires kept { IsKept (plan_of plan.now) entries.old store.old }
     requires room { length entries.old.items < plan.now.limit }
-    ensures { Tells (plan_of plan.now) entries.old (Expires reading)
-        (told.Removed result) entries.new store.new }
+    ensures tells { Tells (plan_of plan.now) entries.old (Expires reading) result entries.new
+        store.new }
+    ensures plain { IsPlain result }
 {
     let moment = store.clock.max(reading);
     let count = let_go(plan, entries, store, &gone_by(plan, moment), moment);
-    append(entries, Event::Expire(reading), Told::Removed { count });
-    count
+    let told = Told::Removed { count };
+    append(entries, Event::Expire(reading), told);
+    told
 }
 
-/// Holds certificates in common, and says how many are new; or, where there would be too many, how
+/// Holds certificates in common, and tells how many are new; or, where there would be too many, how
 /// many there are.
 pub(crate) fn hold(
     plan: &ShardPlan,
     entries: &mut Vec<ShardEntry>,
     store: &mut Store,
     certs: Arc<Vec<Arc<Cert>>>,
-) -> Result<u8, u8>
+) -> Told
     requires kept { IsKept (plan_of plan.now) entries.old store.old }
     requires room { length entries.old.items < plan.now.limit }
     requires few { length certs.value.items ≤ 16 }
-    ensures added { IfOk result (λ added. Tells (plan_of plan.now) entries.old
-        (Holds (certificates certs.value.items)) (told.Held added) entries.new store.new) }
-    ensures full { IfErr result (λ held. Tells (plan_of plan.now) entries.old
-        (Holds (certificates certs.value.items)) (told.CommonsFull held) entries.new store.new) }
+    ensures tells { Tells (plan_of plan.now) entries.old (Holds (certificates certs.value.items))
+        result entries.new store.new }
+    ensures plain { IsPlain result }
 {
     let none = Names::new();
     let new = new_of(
@@ -85,13 +88,14 @@ pub(crate) fn hold(
     );
     let held = store.commons.len();
     if held + new.len() > MAX_COMMONS {
-        let held = held as u8;
-        append(entries, Event::Hold(certs), Told::CommonsFull { held });
-        return Err(held);
+        let told = Told::CommonsFull { held: held as u8 };
+        append(entries, Event::Hold(certs), told);
+        return told;
     }
     let added = new.len() as u8;
+    let told = Told::Held { added };
     let entry = entries.len() as u32;
-    append(entries, Event::Hold(certs), Told::Held { added });
+    append(entries, Event::Hold(certs), told);
     name_all(&mut store.commons, entry, &new);
-    Ok(added)
+    told
 }

@@ -64,6 +64,44 @@ fn first_granted<D: Decide>(
     first_derivable(bench, subject, list, right)
 }
 
+/// The first entry of an Ask's list with the right for whom its subject speaks, by the live
+/// certificates of what it was handed out: judged without a link. Takes no memory.
+pub fn granting_entry<D: Decide>(
+    bench: &mut D,
+    anchors: &[Anchor],
+    snapshot: &Snapshot,
+    asked: &Ask,
+) -> Option<u8>
+    requires { IsAskable anchors.now (certificates snapshot.now.certs.items)
+        (replicate (length snapshot.now.certs.items) true) (principal asked.now.subject)
+        (map grant asked.now.list.value.items) }
+    ensures found { MatchOption result
+        (NoEntryWith (map grant asked.now.list.value.items) asked.now.right
+        (λ e. MaySpeak anchors.now
+        (claims (live (certificates snapshot.now.certs.items) snapshot.now.moment))
+        (principal asked.now.subject) e.who))
+        (λ k. (e : Grant) × FirstEntry (map grant asked.now.list.value.items) asked.now.right
+        (λ g. MaySpeak anchors.now
+        (claims (live (certificates snapshot.now.certs.items) snapshot.now.moment))
+        (principal asked.now.subject) g.who) k e) }
+
+    // The decider stays asked about the live certificates.
+    ensures asked { D.question bench.new ≡ question_of anchors.now
+        (certificates snapshot.now.certs.items)
+        (live_marks (certificates snapshot.now.certs.items) snapshot.now.moment)
+        (principal asked.now.subject) (map grant asked.now.list.value.items) }
+{
+    first_granted(
+        bench,
+        anchors,
+        &snapshot.certs,
+        snapshot.moment,
+        &asked.subject,
+        &asked.list,
+        asked.right,
+    )
+}
+
 // Whether none has ended.
 fn are_live(certs: &[Arc<Cert>], moment: u64) -> bool
     ensures { IsTrue result

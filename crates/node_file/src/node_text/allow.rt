@@ -1,18 +1,17 @@
 //! The access lists of a node file.
 
-ghost use Rattle.std.specs.Prelude.{◌≡◌, List};
+ghost use Rattle.std.specs.Prelude.{◌≡◌, IsTrue, List};
 ghost use Rattle.object_core.specs.Objects.{ObjectPlan as Plan};
 ghost use Rattle.prin_term.specs.View.{principal};
 ghost use Rattle.prin_text.specs.Labels.{Labels};
-ghost use Rattle.node_file.specs.Held.{HoldsRows};
-ghost use Rattle.node_file.specs.LineView.{GivesLine, TakesLine};
+ghost use Rattle.file_lines.specs.Held.{HoldsRows};
+ghost use Rattle.file_lines.specs.Lines.{is_plain};
+ghost use Rattle.file_lines.specs.LineView.{GivesLine, TakesLine};
 ghost use Rattle.node_file.specs.NodeLines.{cause_of, grants_and, grants_with, who_said};
 ghost use Rattle.node_file.specs.Plans.{HoldsPlans};
 
-use crate::fault::FileCause;
-use crate::line_fault::LineFault;
 use crate::object_drafts::ObjectDrafts;
-use crate::text::field::granted;
+use file_lines::{FileCause, LineFault, granted};
 use object_core::MAX_ENTRIES;
 use prin_term::{ENTRY_NODES, Entry, Term};
 use prin_text::{Names, TextCause, TextFault, read_principal};
@@ -79,13 +78,14 @@ pub(super) fn take_allow(
     alloc: Global,
     names: &Names,
     objects: &mut ObjectDrafts,
-    line: &[u8],
+    rest: &[u8],
 ) -> Result<(), LineFault>
+    requires { IsTrue (is_plain rest.now) }
     ensures takes { (labels : Labels) (above : List Plan) → HoldsRows names.now.names labels.names
         → HoldsRows names.now.roles labels.roles → HoldsPlans objects.old above
-        → TakesLine HoldsPlans result objects.new (grants_with labels above line.now) }
+        → TakesLine HoldsPlans result objects.new (grants_with labels above rest.now) }
 {
-    match granted(line) {
+    match granted(rest) {
         Ok((number, rights, text)) => add_entry(alloc, names, objects, number, rights, text),
         Err(cause) => Err(LineFault::Refused(cause)),
     }

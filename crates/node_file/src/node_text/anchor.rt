@@ -1,15 +1,12 @@
 //! The anchors of a node file.
 
 ghost use Rattle.std.specs.Prelude.{◌≡◌, ◌≤◌, IsTrue, length};
-ghost use Rattle.node_file.specs.LineView.{TakesLine};
+ghost use Rattle.file_lines.specs.LineView.{TakesLine};
 ghost use Rattle.node_file.specs.NodeLines.{anchor_said, anchors_and, anchors_with, name_said};
 ghost use Rattle.prin_text.specs.Words.{begins};
 
-use crate::fault::FileCause;
 use crate::limits::MAX_ANCHORS;
-use crate::line_fault::LineFault;
-use crate::text::field::numbered;
-use crate::text::number::number_up_to;
+use file_lines::{FileCause, LineFault, number_up_to, numbered};
 use prin_term::Anchor;
 use prin_text::Names;
 
@@ -36,10 +33,10 @@ fn name_said(names: &Names, word: &[u8]) -> Result<u32, FileCause>
 }
 
 #[tactic(auto, unfolding(crate::specs::NodeLines::anchor_said))]
-fn anchor_said(names: &Names, line: &[u8], rest: &[u8]) -> Result<Anchor, FileCause>
-    ensures { result ≡ anchor_said names.now.names line.now rest.now }
+fn anchor_said(names: &Names, rest: &[u8]) -> Result<Anchor, FileCause>
+    ensures { result ≡ anchor_said names.now.names rest.now }
 {
-    let (key, word) = numbered(line, rest)?;
+    let (key, word) = numbered(rest)?;
     let name = name_said(names, word)?;
     Ok(Anchor { key, name })
 }
@@ -63,13 +60,12 @@ fn add_anchor(anchors: &mut Vec<Anchor>, anchor: Anchor) -> Result<(), LineFault
 pub(super) fn take_anchor(
     names: &Names,
     anchors: &mut Vec<Anchor>,
-    line: &[u8],
     rest: &[u8],
 ) -> Result<(), LineFault>
     ensures { TakesLine (λ v l. v.items ≡ l) result anchors.new
-        (anchors_with names.now.names anchors.old.items line.now rest.now) }
+        (anchors_with names.now.names anchors.old.items rest.now) }
 {
-    match anchor_said(names, line, rest) {
+    match anchor_said(names, rest) {
         Ok(anchor) => add_anchor(anchors, anchor),
         Err(cause) => Err(LineFault::Refused(cause)),
     }

@@ -2,16 +2,14 @@
 
 ghost use Rattle.std.specs.Prelude.{◌≡◌, map};
 ghost use Rattle.std.specs.Option.{option_map};
-ghost use Rattle.node_file.specs.LineView.{GivesLine, TakesLine};
+ghost use Rattle.file_lines.specs.LineView.{GivesLine, TakesLine};
 ghost use Rattle.node_file.specs.NodeLines.{common_said, commons_and, commons_of, commons_with};
 ghost use Rattle.node_file.specs.OpeningView.{common};
 ghost use Rattle.stmt_codec.specs.Certificates.{certificate};
 
-use crate::fault::FileCause;
 use crate::limits::MAX_COMMONS;
-use crate::line_fault::LineFault;
 use crate::opening::common::is_among;
-use crate::text::field::digits;
+use file_lines::{FileCause, LineFault, digits};
 use keyed_seal::Sealer;
 use sealed_cert::{SealFault, open_with};
 use std::alloc::Global;
@@ -73,13 +71,12 @@ pub(super) fn take_common(
     alloc: Global,
     node: &Option<(u32, [u8; 32])>,
     commons: &mut Vec<Arc<Cert>>,
-    line: &[u8],
     rest: &[u8],
 ) -> Result<(), LineFault>
     ensures { TakesLine (λ v l. map common v.items ≡ l) result commons.new
-        (commons_with node.now (map common commons.old.items) line.now rest.now) }
+        (commons_with node.now (map common commons.old.items) rest.now) }
 {
-    match digits(alloc, line, rest) {
+    match digits(alloc, rest) {
         Ok(bytes) => add_opened(alloc, node, commons, &bytes),
         Err(fault) => Err(fault),
     }

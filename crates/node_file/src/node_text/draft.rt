@@ -1,20 +1,18 @@
 //! What the lines of a node file say so far.
 
 ghost use Rattle.std.specs.Prelude.{IfOk};
-ghost use Rattle.node_file.specs.LineView.{IsSaidFor};
+ghost use Rattle.file_lines.specs.LineView.{IsSaidFor};
 ghost use Rattle.node_file.specs.NodeFile as meant;
 ghost use Rattle.node_file.specs.NodeFile.{no_draft, opening_said, opening_with};
 ghost use Rattle.node_file.specs.NodeView.{IsDraftOf};
 ghost use Rattle.node_file.specs.OpeningView.{Represents};
 
-use crate::fault::FileCause;
-use crate::key_draft::KeyDraft;
 use crate::limits::MAX_CHANNELS;
-use crate::line_fault::LineFault;
 use crate::node_text::settings::Settings;
 use crate::object_drafts::ObjectDrafts;
 use crate::opening::Opening;
 use crate::opening::reading::has_room;
+use file_lines::{FileCause, KeyDraft, LineFault};
 use prin_term::Anchor;
 use prin_text::Names;
 use std::alloc::{AllocError, Global};
@@ -33,22 +31,22 @@ pub(super) struct Draft {
 }
 
 // No line says anything.
-pub(super) fn empty(alloc: Global) -> Draft
-    ensures { IsDraftOf result no_draft }
+pub(super) fn empty(alloc: Global) -> Result<Draft, AllocError>
+    ensures { IfOk result (λ d. IsDraftOf d no_draft) }
 {
-    Draft {
+    Ok(Draft {
         settings: Settings {
             node: None,
             shards: None,
             keep: None,
             limit: None,
         },
-        names: Names::new(alloc),
+        names: Names::new(alloc)?,
         channels: KeyDraft::new(alloc, MAX_CHANNELS as usize),
         anchors: Vec::new(alloc),
         commons: Vec::new(alloc),
         objects: ObjectDrafts::new(alloc),
-    }
+    })
 }
 
 // The opening of a node of this number, with this key of its relay.

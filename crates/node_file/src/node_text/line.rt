@@ -1,15 +1,14 @@
 //! Taking the lines of a node file.
 
-ghost use Rattle.std.specs.Prelude.{◌≡◌, Option, codes, true};
-ghost use Rattle.node_file.specs.FileLines.{first_or, is_first_line};
-ghost use Rattle.node_file.specs.LineView.{SoFar, TakesLine};
+ghost use Rattle.std.specs.Prelude.{◌≡◌, IsTrue, Option, codes, true};
+ghost use Rattle.file_lines.specs.FileLines.{first_or, is_first_line};
+ghost use Rattle.file_lines.specs.Lines.{is_plain};
+ghost use Rattle.file_lines.specs.LineView.{SoFar, TakesLine};
 ghost use Rattle.node_file.specs.NodeFile as meant;
 ghost use Rattle.node_file.specs.NodeFile.{adds, no_draft, node_step};
 ghost use Rattle.node_file.specs.NodeLines.{settings_with};
 ghost use Rattle.node_file.specs.NodeView.{IsDraftOf};
 
-use crate::fault::FileCause;
-use crate::line_fault::LineFault;
 use crate::node_text::allow::take_allow;
 use crate::node_text::anchor::take_anchor;
 use crate::node_text::common::take_common;
@@ -17,21 +16,17 @@ use crate::node_text::draft::Draft;
 use crate::node_text::kind::{LineKind, Setting, kind_of};
 use crate::node_text::object::{take_content, take_object};
 use crate::node_text::settings::{Settings, settings_with};
-use crate::taking::{take_key, take_name, take_role};
-use crate::text::word::{is_first_line, word_off};
+use file_lines::{
+    FileCause, LineFault, is_first_line, is_plain, take_key, take_name, take_role, word_off,
+};
 use std::alloc::Global;
 
 // Sets what the line says.
-fn take_setting(
-    settings: &mut Settings,
-    setting: Setting,
-    line: &[u8],
-    rest: &[u8],
-) -> Result<(), LineFault>
+fn take_setting(settings: &mut Settings, setting: Setting, rest: &[u8]) -> Result<(), LineFault>
     ensures { TakesLine (λ s t. s ≡ t) result settings.new
-        (settings_with settings.old setting line.now rest.now) }
+        (settings_with settings.old setting rest.now) }
 {
-    match settings_with(*settings, setting, line, rest) {
+    match settings_with(*settings, setting, rest) {
         Ok(more) => {
             *settings = more;
             Ok(())
@@ -41,28 +36,21 @@ fn take_setting(
 }
 
 // What a line about this says is added.
-fn take_kind(
-    alloc: Global,
-    draft: &mut Draft,
-    kind: LineKind,
-    line: &[u8],
-    rest: &[u8],
-) -> Result<(), LineFault>
+fn take_kind(alloc: Global, draft: &mut Draft, kind: LineKind, rest: &[u8]) -> Result<(), LineFault>
+    requires { IsTrue (is_plain rest.now) }
     ensures takes { (above : meant.Draft) → IsDraftOf draft.old above
-        → TakesLine IsDraftOf result draft.new (adds above kind line.now rest.now) }
+        → TakesLine IsDraftOf result draft.new (adds above kind rest.now) }
 {
     match kind {
-        LineKind::Setting(setting) => take_setting(&mut draft.settings, setting, line, rest),
-        LineKind::Name => take_name(alloc, &mut draft.names, line, rest),
-        LineKind::Role => take_role(alloc, &mut draft.names, line, rest),
-        LineKind::Channel => take_key(&mut draft.channels, line, rest),
-        LineKind::Anchor => take_anchor(&draft.names, &mut draft.anchors, line, rest),
-        LineKind::Common => {
-            take_common(alloc, &draft.settings.node, &mut draft.commons, line, rest)
-        }
-        LineKind::Object => take_object(alloc, &mut draft.objects, line, rest),
-        LineKind::Content => take_content(alloc, &mut draft.objects, line, rest),
-        LineKind::Allow => take_allow(alloc, &draft.names, &mut draft.objects, line),
+        LineKind::Setting(setting) => take_setting(&mut draft.settings, setting, rest),
+        LineKind::Name => take_name(alloc, &mut draft.names, rest),
+        LineKind::Role => take_role(alloc, &mut draft.names, rest),
+        LineKind::Channel => take_key(&mut draft.channels, rest),
+        LineKind::Anchor => take_anchor(&draft.names, &mut draft.anchors, rest),
+        LineKind::Common => take_common(alloc, &draft.settings.node, &mut draft.commons, rest),
+        LineKind::Object => take_object(alloc, &mut draft.objects, rest),
+        LineKind::Content => take_content(alloc, &mut draft.objects, rest),
+        LineKind::Allow => take_allow(alloc, &draft.names, &mut draft.objects, rest),
     }
 }
 
@@ -73,9 +61,13 @@ fn take_line(alloc: Global, draft: &mut Draft, line: &[u8]) -> Result<(), LineFa
         → TakesLine IsDraftOf result draft.new (node_step above line.now) }
 {
     let (word, rest) = word_off(line);
-    match kind_of(word) {
-        Some(kind) => take_kind(alloc, draft, kind, line, rest),
-        None => Err(LineFault::Refused(FileCause::UnknownWord)),
+    let Some(kind) = kind_of(word) else {
+        return Err(LineFault::Refused(FileCause::UnknownWord));
+    };
+    if is_plain(line) {
+        take_kind(alloc, draft, kind, rest)
+    } else {
+        Err(LineFault::Refused(FileCause::Words))
     }
 }
 

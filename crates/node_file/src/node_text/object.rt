@@ -2,16 +2,14 @@
 
 ghost use Rattle.std.specs.Prelude.{◌≡◌, ℕ, List};
 ghost use Rattle.object_core.specs.Objects.{ObjectPlan as Plan};
-ghost use Rattle.node_file.specs.LineView.{TakesLine};
+ghost use Rattle.file_lines.specs.LineView.{TakesLine};
 ghost use Rattle.node_file.specs.NodeLines.{contents_and, contents_with, empty_object};
 ghost use Rattle.node_file.specs.NodeLines.{objects_and, objects_with};
 ghost use Rattle.node_file.specs.Plans.{HoldsPlans, drafted};
 
-use crate::fault::FileCause;
 use crate::limits::MAX_OBJECTS;
-use crate::line_fault::LineFault;
 use crate::object_drafts::{ObjectDraft, ObjectDrafts};
-use crate::text::field::{numbered_digits, one_number};
+use file_lines::{FileCause, LineFault, numbered_digits, one_number};
 use object_core::MAX_CONTENT;
 use std::alloc::Global;
 
@@ -44,13 +42,12 @@ fn add_object(alloc: Global, objects: &mut ObjectDrafts, number: u32) -> Result<
 pub(super) fn take_object(
     alloc: Global,
     objects: &mut ObjectDrafts,
-    line: &[u8],
     rest: &[u8],
 ) -> Result<(), LineFault>
     ensures takes { (above : List Plan) → HoldsPlans objects.old above
-        → TakesLine HoldsPlans result objects.new (objects_with above line.now rest.now) }
+        → TakesLine HoldsPlans result objects.new (objects_with above rest.now) }
 {
-    match one_number(line, rest, u32::MAX as u64) {
+    match one_number(rest, u32::MAX as u64) {
         Ok(number) => add_object(alloc, objects, number as u32),
         Err(cause) => Err(LineFault::Refused(cause)),
     }
@@ -79,13 +76,12 @@ fn add_content(objects: &mut ObjectDrafts, number: u32, content: Vec<u8>) -> Res
 pub(super) fn take_content(
     alloc: Global,
     objects: &mut ObjectDrafts,
-    line: &[u8],
     rest: &[u8],
 ) -> Result<(), LineFault>
     ensures takes { (above : List Plan) → HoldsPlans objects.old above
-        → TakesLine HoldsPlans result objects.new (contents_with above line.now rest.now) }
+        → TakesLine HoldsPlans result objects.new (contents_with above rest.now) }
 {
-    match numbered_digits(alloc, line, rest) {
+    match numbered_digits(alloc, rest) {
         Ok((number, content)) => add_content(objects, number, content),
         Err(fault) => Err(fault),
     }

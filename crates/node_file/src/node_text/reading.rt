@@ -1,20 +1,17 @@
 //! Reading a node's opening from a text.
 
 ghost use Rattle.std.specs.Prelude.{◌≡◌, ◌≤◌, length};
-ghost use Rattle.node_file.specs.Lines.{lines_from};
-ghost use Rattle.node_file.specs.LineView.{IsReadFor};
+ghost use Rattle.file_lines.specs.Lines.{lines_from};
+ghost use Rattle.file_lines.specs.LineView.{IsReadFor};
 ghost use Rattle.node_file.specs.NodeFile.{draft_in, text_in};
 ghost use Rattle.node_file.specs.NodeView.{IsDraftOf};
 ghost use Rattle.node_file.specs.OpeningView.{IsReadAs};
 ghost use Rattle.node_file.specs.declared.limits.TheConstants.{MAX_FILE};
 
-use crate::fault::{FileCause, FileFault};
-use crate::line_fault::LineFault;
 use crate::node_text::draft::{Draft, empty, opening_said};
 use crate::node_text::line::take_any;
 use crate::opening::Opening;
-use crate::text::line::line_at;
-use crate::text::word::is_skipped;
+use file_lines::{FileCause, FileFault, LineFault, is_skipped, line_at};
 use std::alloc::Global;
 
 // What the lines say together, and how many there are.
@@ -24,7 +21,7 @@ fn draft_of(alloc: Global, bytes: &[u8]) -> Result<(Draft, u32), FileFault>
         (draft_in bytes.now) }
 {
     let mut number = 0;
-    let mut draft = empty(alloc);
+    let mut draft = empty(alloc)?;
     let mut begun = false;
     let mut at = 0;
     while at < bytes.len() {

@@ -4,10 +4,9 @@ ghost use Rattle.std.specs.Prelude.{◌≡◌, ◌≤◌, IfOk};
 ghost use Rattle.node_file.specs.NodeLines.{journal_with, keep_with, new_within, node_with};
 ghost use Rattle.node_file.specs.NodeLines.{settings_with, shards_with};
 
-use crate::fault::FileCause;
 use crate::limits::{MAX_KEEP, MAX_LIMIT, MAX_SHARDS};
 use crate::node_text::kind::Setting;
-use crate::text::field::{keyed, one_number};
+use file_lines::{FileCause, keyed, one_number};
 
 // What the lines said: the node's number with the key of its relay, how many shards there are, the
 // seconds that a dead certificate stays, and the entries that a journal has room for.
@@ -36,10 +35,10 @@ fn new_within(most: u64, said: bool, number: u64) -> Result<u64, FileCause>
 }
 
 #[tactic(auto, unfolding(crate::specs::NodeLines::node_with))]
-fn node_with(above: Settings, line: &[u8], rest: &[u8]) -> Result<Settings, FileCause>
-    ensures { result ≡ node_with above line.now rest.now }
+fn node_with(above: Settings, rest: &[u8]) -> Result<Settings, FileCause>
+    ensures { result ≡ node_with above rest.now }
 {
-    let said = keyed(line, rest)?;
+    let said = keyed(rest)?;
     if above.node.is_some() {
         return Err(FileCause::Twice);
     }
@@ -49,10 +48,10 @@ fn node_with(above: Settings, line: &[u8], rest: &[u8]) -> Result<Settings, File
 }
 
 #[tactic(auto, unfolding(crate::specs::NodeLines::shards_with))]
-fn shards_with(above: Settings, line: &[u8], rest: &[u8]) -> Result<Settings, FileCause>
-    ensures { result ≡ shards_with above line.now rest.now }
+fn shards_with(above: Settings, rest: &[u8]) -> Result<Settings, FileCause>
+    ensures { result ≡ shards_with above rest.now }
 {
-    let number = one_number(line, rest, u32::MAX as u64)?;
+    let number = one_number(rest, u32::MAX as u64)?;
     let shards = new_within(MAX_SHARDS as u64, above.shards.is_some(), number)?;
     let mut more = above;
     more.shards = Some(shards as u32);
@@ -60,10 +59,10 @@ fn shards_with(above: Settings, line: &[u8], rest: &[u8]) -> Result<Settings, Fi
 }
 
 #[tactic(auto, unfolding(crate::specs::NodeLines::keep_with))]
-fn keep_with(above: Settings, line: &[u8], rest: &[u8]) -> Result<Settings, FileCause>
-    ensures { result ≡ keep_with above line.now rest.now }
+fn keep_with(above: Settings, rest: &[u8]) -> Result<Settings, FileCause>
+    ensures { result ≡ keep_with above rest.now }
 {
-    let number = one_number(line, rest, u64::MAX)?;
+    let number = one_number(rest, u64::MAX)?;
     let keep = new_within(MAX_KEEP, above.keep.is_some(), number)?;
     let mut more = above;
     more.keep = Some(keep);
@@ -71,10 +70,10 @@ fn keep_with(above: Settings, line: &[u8], rest: &[u8]) -> Result<Settings, File
 }
 
 #[tactic(auto, unfolding(crate::specs::NodeLines::journal_with))]
-fn journal_with(above: Settings, line: &[u8], rest: &[u8]) -> Result<Settings, FileCause>
-    ensures { result ≡ journal_with above line.now rest.now }
+fn journal_with(above: Settings, rest: &[u8]) -> Result<Settings, FileCause>
+    ensures { result ≡ journal_with above rest.now }
 {
-    let number = one_number(line, rest, u64::MAX)?;
+    let number = one_number(rest, u64::MAX)?;
     let limit = new_within(MAX_LIMIT, above.limit.is_some(), number)?;
     let mut more = above;
     more.limit = Some(limit);
@@ -85,15 +84,14 @@ fn journal_with(above: Settings, line: &[u8], rest: &[u8]) -> Result<Settings, F
 pub(super) fn settings_with(
     above: Settings,
     setting: Setting,
-    line: &[u8],
     rest: &[u8],
 ) -> Result<Settings, FileCause>
-    ensures { result ≡ settings_with above setting line.now rest.now }
+    ensures { result ≡ settings_with above setting rest.now }
 {
     match setting {
-        Setting::Node => node_with(above, line, rest),
-        Setting::Shards => shards_with(above, line, rest),
-        Setting::Keep => keep_with(above, line, rest),
-        Setting::Journal => journal_with(above, line, rest),
+        Setting::Node => node_with(above, rest),
+        Setting::Shards => shards_with(above, rest),
+        Setting::Keep => keep_with(above, rest),
+        Setting::Journal => journal_with(above, rest),
     }
 }

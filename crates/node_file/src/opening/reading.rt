@@ -1,16 +1,18 @@
 //! Reading a node's opening from a file.
 
 ghost use Rattle.std.specs.Prelude.{◌≡◌, ◌≤◌, length, nat_le, IfOk, MatchResult};
-ghost use Rattle.node_file.specs.declared.fault.FileFault.TheVariants.{NoMemory};
+ghost use Rattle.file_lines.specs.declared.fault.FileFault.TheVariants.{NoMemory};
 ghost use Rattle.node_file.specs.declared.limits.TheConstants.{MAX_FILE};
 ghost use Rattle.node_file.specs.Meaning.{opening, FitsByNumber};
-ghost use Rattle.node_file.specs.Opening.{Opening as Meaning, journal_room};
+ghost use Rattle.node_file.specs.Opening.{FitsOpening, Opening as Meaning, journal_room};
 ghost use Rattle.node_file.specs.OpeningFile.{Means, is_binary, opening_in};
 ghost use Rattle.node_file.specs.OpeningReading.{at_byte, fields_at, opening_of};
 ghost use Rattle.node_file.specs.OpeningView.{Agrees, IsReadAs, Represents, WithEnd};
+ghost use Rattle.node_file.specs.Plans.{AreByNumber};
 ghost use Rattle.byte_fields.specs.Steps.{with_fault};
+ghost use Rattle.keyed_seal.specs.Keys.{IsKeyTable};
+ghost use Rattle.prin_text.specs.Labels.{AreLabels};
 
-use crate::fault::{FileCause, FileFault};
 use crate::limits::{MAX_FILE, MAX_ROOM};
 use crate::node_text::text_of;
 use crate::opening::Opening;
@@ -19,6 +21,7 @@ use crate::opening::head::head_of;
 use crate::opening::object::objects_of;
 use crate::opening::table::{anchors_of, channels_of};
 use byte_fields::{FormatFault, ended};
+use file_lines::{FileCause, FileFault};
 use prin_text::Names;
 use std::alloc::Global;
 
@@ -33,7 +36,7 @@ fn fields_of(alloc: Global, bytes: &[u8]) -> Result<(Opening, usize), FormatFaul
     let (anchors, next) = anchors_of(alloc, bytes, next)?;
     let (commons, next) = commons_of(alloc, bytes, next, &head.relay_key)?;
     let (objects, next) = objects_of(alloc, bytes, next)?;
-    let names = Names::new(alloc);
+    let names = Names::new(alloc)?;
     let relay_key = head.relay_key;
     let opening = Opening {
         node: head.node,
@@ -99,6 +102,29 @@ fn is_binary(bytes: &[u8]) -> bool
     }
 }
 
+// The opening that a file means which is not too long.
+fn opening_in(alloc: Global, bytes: &[u8]) -> Result<Opening, FileFault>
+    requires { length bytes.now ≤ MAX_FILE }
+    ensures { IsReadAs result (opening_in bytes.now) }
+{
+    if is_binary(bytes) {
+        binary_of(alloc, bytes)
+    } else {
+        text_of(alloc, bytes)
+    }
+}
+
+// Its tables are in order, as their types keep them.
+fn are_in_order(opening: &Opening)
+    ensures channels { IsKeyTable opening.now.channels }
+    ensures names { AreLabels opening.now.names }
+    ensures objects { AreByNumber opening.now.objects }
+{
+    opening.channels.count();
+    opening.names.name_at(0);
+    opening.objects.count();
+}
+
 /// The opening that a file means: in the binary form where its first byte is 0, as a text
 /// otherwise. Memory is taken for what the opening holds; where it is refused, the fault is
 /// `NoMemory`.
@@ -108,7 +134,8 @@ pub fn read_opening(alloc: Global, bytes: &[u8]) -> Result<Opening, FileFault>
     // What is meant is read, unless memory runs out.
     ensures only { (o : Meaning) → Means o bytes.now → length bytes.now ≤ MAX_FILE
         → MatchResult result (λ x. Represents x o) (λ f. f ≡ NoMemory) }
-    // What is looked up in what is read is within the limits.
+    // What is read is within the limits in whole, its channels, names, roles and objects by number.
+    ensures whole { IfOk result (λ x. FitsOpening (opening x)) }
     ensures fits { IfOk result (λ x. FitsByNumber (opening x)) }
     // Which fault it is.
     ensures exact { IsReadAs result (opening_in bytes.now) }
@@ -119,9 +146,11 @@ pub fn read_opening(alloc: Global, bytes: &[u8]) -> Result<Opening, FileFault>
             cause: FileCause::Limit,
         });
     }
-    if is_binary(bytes) {
-        binary_of(alloc, bytes)
-    } else {
-        text_of(alloc, bytes)
+    match opening_in(alloc, bytes) {
+        Ok(opening) => {
+            are_in_order(&opening);
+            Ok(opening)
+        }
+        Err(fault) => Err(fault),
     }
 }

@@ -153,7 +153,7 @@ pub fn both_deciders(alloc: Global) -> Result<Deciders, Fail> {
     })
 }
 
-// Whether both answer so, and hints led to each line of the plain one.
+// Whether both answer so.
 pub fn ask(
     alloc: Global,
     deciders: &mut Deciders,
@@ -187,5 +187,5 @@ pub fn ask(
         who,
         answer,
     )?;
-    Ok(plain && bench && deciders.plain.missed() == 0)
+    Ok(plain && bench)
 }

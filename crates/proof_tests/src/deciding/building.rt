@@ -3,7 +3,7 @@
 use super::cases::{Given, Row, Word};
 use Given::{Backwards, Chain, Rows};
 use Word::{And, Key, Name, Quote, Role};
-use prin_term::{Statement, Term};
+use prin_term::Term;
 use std::alloc::Global;
 use std::sync::Arc;
 use std::test::Fail;
@@ -52,16 +52,9 @@ pub fn term(alloc: Global, words: &[Word]) -> Result<Term, Fail> {
 
 fn cert(alloc: Global, row: Row) -> Result<Arc<Cert>, Fail> {
     let (issuer, quoted, left, right) = row;
-    let body = CertBody {
-        issuer,
-        quoted: some_term(alloc, quoted)?,
-        statement: Statement {
-            left: term(alloc, left)?,
-            right: term(alloc, right)?,
-        },
-        until: 5000,
-        serial: 1,
-    };
+    let quoted = some_term(alloc, quoted)?;
+    let (left, right) = (term(alloc, left)?, term(alloc, right)?);
+    let body = CertBody::says(issuer, quoted, left, right, 5000, 1);
     Ok(Arc::new(alloc, Cert::of(alloc, body)?)?)
 }
 
@@ -78,16 +71,8 @@ fn chain(alloc: Global, count: u32) -> Result<Vec<Arc<Cert>>, Fail> {
     let mut certs = Vec::new(alloc);
     for i in 0..count {
         let key = i.wrapping_add(100);
-        let body = CertBody {
-            issuer: key,
-            quoted: None,
-            statement: Statement {
-                left: Term::Key(key.wrapping_add(1)),
-                right: Term::Key(key),
-            },
-            until: 5000,
-            serial: 1,
-        };
+        let next = Term::Key(key.wrapping_add(1));
+        let body = CertBody::says(key, None, next, Term::Key(key), 5000, 1);
         certs.push(Arc::new(alloc, Cert::of(alloc, body)?)?)?;
     }
     Ok(certs)

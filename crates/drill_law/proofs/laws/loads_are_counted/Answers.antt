@@ -1,4 +1,4 @@
-use Rattle.drill_journal.proofs.Hitting.{asks_judged, first_misses, later_hit, reader_not_denied}
+use Rattle.drill_journal.proofs.Counting as journals
 use Rattle.drill_law.proofs.Counting.{counted}
 use Rattle.drill_law.proofs.Owning.{load_works}
 use Rattle.drill_law.proofs.laws.loads_are_counted.Goals as goal
@@ -7,4 +7,5 @@ use Rattle.taos_lanes.specs.Serving.{journals_of}
 -- the works of the lanes, and what they count
 pub returns : goal.returns
 returns c d n limit fits node shards objects runs plans fixed serves are =
-    counted d fits n node shards objects plans fixed (load_works d fits n node (journals_of shards objects) limit runs serves are) asks_judged reader_not_denied first_misses later_hit
+    let J = journals_of shards objects in
+    counted d n node shards objects plans fixed (journals.counted d fits n node J (load_works d fits n node J limit runs serves are))

@@ -1,4 +1,4 @@
-use Rattle.drill_law.proofs.Knowing.{load_journal}
+use Rattle.drill_journal.proofs.Knowing.{load_journal}
 use Rattle.drill_law.proofs.Owning.{load_works}
 use Rattle.drill_law.proofs.laws.shards_have_loads.Goals as goal
 

@@ -22,7 +22,7 @@ returns-in_err-certs-clause-refused g c =
     let says = g.R.RelayLink.says c.args.relay.now in
     let r = request c.args.asked.now in
     let f = c.in_err-certs.field-0.0 in
-    let stops = subst (λ (l : List (Vec ℕ Global)). AllStop c.args.keys.now.relay_key (link_use says c.args.keys.now.node (g.R.RelayLink.faults c.args.relay.now) (g.R.RelayLink.faults c.open_all.new.relay)) (map text_of l) f) c.deref.ensures.value c.in_err-certs.ensures.stopped in
+    let stops = subst (λ (k : List ℕ). AllStop k (link_use says c.args.keys.now.node (g.R.RelayLink.faults c.args.relay.now) (g.R.RelayLink.faults c.open_all.new.relay)) (map text_of c.args.asked.now.certs.items) f) c.requires.key (subst (λ (l : List (Vec ℕ Global)). AllStop c.args.opened.now (link_use says c.args.keys.now.node (g.R.RelayLink.faults c.args.relay.now) (g.R.RelayLink.faults c.open_all.new.relay)) (map text_of l) f) c.deref.ensures.value c.in_err-certs.ensures.stopped) in
     rw (p.1, p.2) (record {
       calls = stops.calls;
       linked = stops.linked;
@@ -33,10 +33,10 @@ pub returns-then-not-has-clause-refused : goal.returns-then-not-has-clause-refus
 returns-then-not-has-clause-refused g c =
     let says = g.R.RelayLink.says c.args.relay.now in
     let r = request c.args.asked.now in
-    let came = subst (λ (l : List (Vec ℕ Global)). AllCome c.args.keys.now.relay_key
+    let came = subst (λ (k : List ℕ). AllCome k (link_use says c.args.keys.now.node (g.R.RelayLink.faults c.args.relay.now) (g.R.RelayLink.faults c.open_all.new.relay)) (map text_of c.args.asked.now.certs.items) (map shared c.in_ok-certs.certs.items)) c.requires.key (subst (λ (l : List (Vec ℕ Global)). AllCome c.args.opened.now
     (link_use says c.args.keys.now.node (g.R.RelayLink.faults c.args.relay.now)
     (g.R.RelayLink.faults c.open_all.new.relay)) (map text_of l)
-    (map shared c.in_ok-certs.certs.items)) c.deref.ensures.value c.in_ok-certs.ensures.came in
+    (map shared c.in_ok-certs.certs.items)) c.deref.ensures.value c.in_ok-certs.ensures.came) in
     record {
       calls = came.calls;
       linked = quiet_linked says c.args.keys.now.node (g.R.RelayLink.faults c.args.relay.now) (g.R.RelayLink.faults c.open_all.new.relay) came.calls came.quiet;
@@ -49,10 +49,10 @@ returns-in_err-speaker_of-clause-refused g c =
     let p = err_from_is_err_and c.from_residual-in_err-speaker_of.result c.from_residual-in_err-speaker_of.ensures.1 in
     let says = g.R.RelayLink.says c.args.relay.now in
     let r = request c.args.asked.now in
-    let came = subst (λ (l : List (Vec ℕ Global)). AllCome c.args.keys.now.relay_key
+    let came = subst (λ (k : List ℕ). AllCome k (link_use says c.args.keys.now.node (g.R.RelayLink.faults c.args.relay.now) (g.R.RelayLink.faults c.open_all.new.relay)) (map text_of c.args.asked.now.certs.items) (map shared c.in_ok-certs.certs.items)) c.requires.key (subst (λ (l : List (Vec ℕ Global)). AllCome c.args.opened.now
     (link_use says c.args.keys.now.node (g.R.RelayLink.faults c.args.relay.now)
     (g.R.RelayLink.faults c.open_all.new.relay)) (map text_of l)
-    (map shared c.in_ok-certs.certs.items)) c.deref.ensures.value c.in_ok-certs.ensures.came in
+    (map shared c.in_ok-certs.certs.items)) c.deref.ensures.value c.in_ok-certs.ensures.came) in
     rw (p.1, p.2) (record {
       calls = came.calls;
       linked = quiet_linked says c.args.keys.now.node (g.R.RelayLink.faults c.args.relay.now) (g.R.RelayLink.faults c.open_all.new.relay) came.calls came.quiet;
@@ -63,10 +63,10 @@ pub returns-clause-arrived : goal.returns-clause-arrived
 returns-clause-arrived g c =
     let says = g.R.RelayLink.says c.args.relay.now in
     let r = request c.args.asked.now in
-    let came = subst (λ (l : List (Vec ℕ Global)). AllCome c.args.keys.now.relay_key
+    let came = subst (λ (k : List ℕ). AllCome k (link_use says c.args.keys.now.node (g.R.RelayLink.faults c.args.relay.now) (g.R.RelayLink.faults c.open_all.new.relay)) (map text_of c.args.asked.now.certs.items) (map shared c.in_ok-certs.certs.items)) c.requires.key (subst (λ (l : List (Vec ℕ Global)). AllCome c.args.opened.now
     (link_use says c.args.keys.now.node (g.R.RelayLink.faults c.args.relay.now)
     (g.R.RelayLink.faults c.open_all.new.relay)) (map text_of l)
-    (map shared c.in_ok-certs.certs.items)) c.deref.ensures.value c.in_ok-certs.ensures.came in
+    (map shared c.in_ok-certs.certs.items)) c.deref.ensures.value c.in_ok-certs.ensures.came) in
     let object = some_of (fixed_at (g.H.Shelf.objects c.args.shelf.now) r.object) (c.if-not-has.ensures.there.0 refl) in
     record {
       calls = came.calls;

@@ -15,7 +15,7 @@ returns-in-Through-clause-performed g c = λ certs reading due.
 pub returns-in-NoRoom-clause-performed : goal.returns-in-NoRoom-clause-performed
 returns-in-NoRoom-clause-performed g c = λ certs reading due.
     stopped_by_room (g.S.Shards.plans c.args.shards.now) (g.S.Shards.alone c.args.shards.now) (viewed (g.S.Shards.seen c.args.shards.now) (g.S.Shards.own c.args.shards.now))
-    (viewed (g.S.Shards.seen c.step_due.new.shards) (g.S.Shards.own c.step_due.new.shards)) (operation c.args.op.now) certs reading c.args.due due c.in-NoRoom.shard c.in-NoRoom.held c.in-NoRoom.ensures.ends
+    (viewed (g.S.Shards.seen c.step_due.new.shards) (g.S.Shards.own c.step_due.new.shards)) (operation c.args.op.now) certs reading c.args.due due c.in-NoRoom.shard c.in-NoRoom.told (option_map reply c.no_room.result) c.no_room.ensures.told c.in-NoRoom.ensures.ends
 
 pub returns-in-Full-clause-performed : goal.returns-in-Full-clause-performed
 returns-in-Full-clause-performed g c = λ certs reading due.

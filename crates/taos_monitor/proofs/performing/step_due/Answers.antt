@@ -35,7 +35,7 @@ returns-in-NoRoom-clause-ends g c =
     no_room (g.S.Shards.plans c.args.shards.now) (g.S.Shards.plans c.loop-place.shards) (g.S.Shards.alone c.args.shards.now) (g.S.Shards.alone c.loop-place.shards) inv.plans inv.alone
     (viewed (g.S.Shards.seen c.args.shards.now) (g.S.Shards.own c.args.shards.now)) (g.S.Shards.seen c.loop-place.shards) (g.S.Shards.seen c.step_one.new.shards) (g.S.Shards.own c.loop-place.shards) (g.S.Shards.own c.step_one.new.shards)
     (effect_due c.args.due) c.args.due.first c.loop-place.place c.loop-place.removed inv.stepped (c.args.due.first + c.loop-place.place) refl (omega (arith, c.requires.ready.within, c.loop-place-test.true, c.len-count.ensures))
-    c.unwrap-event.result can c.step_one.ensures.others c.in-NoRoom.held (length c.args.due.events.items) (omega (arith, c.loop-place-test.true, c.len-count.ensures)) c.in-NoRoom.ensures.went
+    c.unwrap-event.result can c.step_one.ensures.others c.in-NoRoom.told (length c.args.due.events.items) (omega (arith, c.loop-place-test.true, c.len-count.ensures)) c.in-NoRoom.ensures.went
 
 pub returns-in-Full-clause-ends : goal.returns-in-Full-clause-ends
 returns-in-Full-clause-ends g c =

@@ -6,19 +6,20 @@ use Rattle.std.proofs.lemmas.List.{get_or-map, length-map}
 use Rattle.std.proofs.lemmas.Result.{err_from_is_err_and}
 use Rattle.stmt_codec.specs.declared.cert.Cert.{Cert}
 use Rattle.frame_link.specs.Relay.{Said}
+use Rattle.relay_core.specs.Presenting.{OneComes, OneStops}
 use Rattle.taos_wire.specs.View.{text_of, cited as shared}
 use Rattle.taos_monitor.specs.Credentials.{link_use, none_more}
-use Rattle.taos_monitor.specs.Presenting.{AllCome, OneComes, OneStops}
+use Rattle.taos_monitor.specs.Presenting.{AllCome, AllStop}
 use Rattle.taos_monitor.proofs.Presenting.{none_called, stops_here, first_stopped, one_more_comes, interrupted}
 use Rattle.taos_monitor.proofs.presented.open_all.Goals as goal
 
 pub loop-place-init : goal.loop-place-init
 loop-place-init g c =
     rw c.new-certs.ensures.items
-    (record { calls = []; opened = none_more; quiet = none_called (g.R.RelayLink.says c.args.relay.now) c.args.keys.now.node (g.R.RelayLink.faults c.args.relay.now) }, refl)
+    (record { calls = []; opened = none_more; quiet = none_called (g.R.RelayLink.says c.args.relay.now) c.args.node (g.R.RelayLink.faults c.args.relay.now) }, refl, refl)
 
-pub come-requires : goal.come-requires
-come-requires g c =
+pub present_with-requires : goal.present_with-requires
+present_with-requires g c =
     let texts = c.args.texts.now in
     let d = c.index-texts-place.result in
     let lt = c.loop-place-test.true in
@@ -26,39 +27,42 @@ come-requires g c =
     let text = get_or-map text_of texts c.loop-place.place d [] lt ∙ ap text_of (sym c.index-texts-place.is) ∙ sym c.deref.ensures.value in
     record { short = omega (arith, within, ap length text) }
 
-pub returns-in_err-come-clause-stopped : goal.returns-in_err-come-clause-stopped
-returns-in_err-come-clause-stopped g c =
+pub returns-in-Err-clause-stopped : goal.returns-in-Err-clause-stopped
+returns-in-Err-clause-stopped g c =
+    let says = g.R.RelayLink.says c.args.relay.now in
+    let key = c.args.opened.now in
+    let node = c.args.node in
+    let n = g.R.RelayLink.faults c.args.relay.now in
+    let middle = g.R.RelayLink.faults c.loop-place.relay in
+    let now = g.R.RelayLink.faults c.present_with.new.link in
+    let texts = c.args.texts.now in
+    let place = c.loop-place.place in
+    let d = c.index-texts-place.result in
+    let f = c.in-Err.why in
+    let text = ap text_of (sym c.index-texts-place.is) ∙ sym c.deref.ensures.value in
+    let why = subst (λ (k : List ℕ). OneStops k (link_use says node middle now) (text_of (get_or texts place d)) f) c.loop-place.invariant.2
+    (subst (λ (s : Option (ℕ → List ℕ → Said)). OneStops c.loop-place.opened (link_use s node middle now) (text_of (get_or texts place d)) f) c.loop-place.invariant.1
+    (subst (λ (t : List ℕ). OneStops c.loop-place.opened (link_use (g.R.RelayLink.says c.loop-place.relay) node middle now) t f) (sym text) c.in-Err.ensures.stopped)) in
+    subst (AllStop key (link_use says node n now) (map text_of texts)) (sym c.refused_at.ensures)
+    (first_stopped key texts place d c.loop-place-test.true says node n middle now (map shared c.loop-place.certs.items) f c.loop-place.invariant.0 why)
+
+pub returns-in_err-push-in-Ok-clause-stopped : goal.returns-in_err-push-in-Ok-clause-stopped
+returns-in_err-push-in-Ok-clause-stopped g c =
     let p = err_from_is_err_and c.from_residual.result c.from_residual.ensures.1 in
     let says = g.R.RelayLink.says c.args.relay.now in
-    let key = c.args.keys.now.relay_key in
-    let node = c.args.keys.now.node in
+    let key = c.args.opened.now in
+    let node = c.args.node in
     let middle = g.R.RelayLink.faults c.loop-place.relay in
-    let now = g.R.RelayLink.faults c.come.new.relay in
+    let now = g.R.RelayLink.faults c.present_with.new.link in
     let texts = c.args.texts.now in
     let place = c.loop-place.place in
     let d = c.index-texts-place.result in
-    let f = c.in_err-come.field-0.0 in
-    let text = ap text_of (sym c.index-texts-place.is) ∙ sym c.deref.ensures.value in
-    let why = subst (λ (s : Option (ℕ → List ℕ → Said)). OneStops key (link_use s node middle now) place (text_of (get_or texts place d)) f) c.loop-place.invariant.1
-    (subst (λ (t : List ℕ). OneStops key (link_use (g.R.RelayLink.says c.loop-place.relay) node middle now) place t f) (sym text) c.in_err-come.ensures.stopped) in
-    rw (p.1, p.2) (first_stopped key texts place d c.loop-place-test.true says node (g.R.RelayLink.faults c.args.relay.now) middle now (map shared c.loop-place.certs.items) f c.loop-place.invariant.0 why)
-
-pub returns-in_err-push-clause-stopped : goal.returns-in_err-push-clause-stopped
-returns-in_err-push-clause-stopped g c =
-    let p = err_from_is_err_and c.from_residual-in_err-push.result c.from_residual-in_err-push.ensures.1 in
-    let says = g.R.RelayLink.says c.args.relay.now in
-    let key = c.args.keys.now.relay_key in
-    let node = c.args.keys.now.node in
-    let middle = g.R.RelayLink.faults c.loop-place.relay in
-    let now = g.R.RelayLink.faults c.come.new.relay in
-    let texts = c.args.texts.now in
-    let place = c.loop-place.place in
-    let d = c.index-texts-place.result in
-    let cert = c.in_ok-come.field-0 in
+    let cert = c.in-Ok.cert in
     let text = ap text_of (sym c.index-texts-place.is) ∙ sym c.deref.ensures.value in
     let came = c.loop-place.invariant.0 in
-    let one = subst (λ (s : Option (ℕ → List ℕ → Said)). OneComes key (link_use s node middle now) (text_of (get_or texts place d)) (shared cert)) c.loop-place.invariant.1
-    (subst (λ (t : List ℕ). OneComes key (link_use (g.R.RelayLink.says c.loop-place.relay) node middle now) t (shared cert)) (sym text) c.in_ok-come.ensures.came) in
+    let one = subst (λ (k : List ℕ). OneComes k (link_use says node middle now) (text_of (get_or texts place d)) (shared cert)) c.loop-place.invariant.2
+    (subst (λ (s : Option (ℕ → List ℕ → Said)). OneComes c.loop-place.opened (link_use s node middle now) (text_of (get_or texts place d)) (shared cert)) c.loop-place.invariant.1
+    (subst (λ (t : List ℕ). OneComes c.loop-place.opened (link_use (g.R.RelayLink.says c.loop-place.relay) node middle now) t (shared cert)) (sym text) c.in-Ok.ensures.came)) in
     rw (p.1, p.2)
     (interrupted key says node (g.R.RelayLink.faults c.args.relay.now) middle now place (map text_of texts) (text_of (get_or texts place d)) came.calls one.calls (shared cert)
     (stops_here key texts place d c.loop-place-test.true came.calls (map shared c.loop-place.certs.items) came.opened) came.quiet one.comes one.quiet)
@@ -66,19 +70,21 @@ returns-in_err-push-clause-stopped g c =
 pub loop-place-preserved : goal.loop-place-preserved
 loop-place-preserved g c =
     let says = g.R.RelayLink.says c.args.relay.now in
-    let key = c.args.keys.now.relay_key in
-    let node = c.args.keys.now.node in
+    let key = c.args.opened.now in
+    let node = c.args.node in
     let n = g.R.RelayLink.faults c.args.relay.now in
     let middle = g.R.RelayLink.faults c.loop-place.relay in
-    let now = g.R.RelayLink.faults c.come.new.relay in
+    let now = g.R.RelayLink.faults c.present_with.new.link in
     let texts = c.args.texts.now in
     let place = c.loop-place.place in
     let d = c.index-texts-place.result in
-    let cert = c.in_ok-come.field-0 in
+    let cert = c.in-Ok.cert in
     let text = ap text_of (sym c.index-texts-place.is) ∙ sym c.deref.ensures.value in
-    let one = subst (λ (s : Option (ℕ → List ℕ → Said)). OneComes key (link_use s node middle now) (text_of (get_or texts place d)) (shared cert)) c.loop-place.invariant.1
-    (subst (λ (t : List ℕ). OneComes key (link_use (g.R.RelayLink.says c.loop-place.relay) node middle now) t (shared cert)) (sym text) c.in_ok-come.ensures.came) in (
-      subst (λ (l : List (Arc Cert Global)). AllCome key (link_use says node n now) (map text_of (take (place + 1) texts)) (map shared l)) (sym c.in_ok-push.ensures.items)
+    let one = subst (λ (k : List ℕ). OneComes k (link_use says node middle now) (text_of (get_or texts place d)) (shared cert)) c.loop-place.invariant.2
+    (subst (λ (s : Option (ℕ → List ℕ → Said)). OneComes c.loop-place.opened (link_use s node middle now) (text_of (get_or texts place d)) (shared cert)) c.loop-place.invariant.1
+    (subst (λ (t : List ℕ). OneComes c.loop-place.opened (link_use (g.R.RelayLink.says c.loop-place.relay) node middle now) t (shared cert)) (sym text) c.in-Ok.ensures.came)) in (
+      subst (λ (l : List (Arc Cert Global)). AllCome key (link_use says node n now) (map text_of (take (place + 1) texts)) (map shared l)) (sym c.in_ok-push-in-Ok.ensures.items)
           (one_more_comes key texts place d c.loop-place-test.true says node n middle now c.loop-place.certs.items cert c.loop-place.invariant.0 one),
-      c.come.ensures.same ∙ c.loop-place.invariant.1,
+      c.present_with.ensures.same ∙ c.loop-place.invariant.1,
+      c.present_with.ensures.key ∙ c.loop-place.invariant.2,
     )

@@ -1,7 +1,8 @@
 -- an effect is told neither what an Ask is told nor what a Keep is
 use Rattle.std.proofs.Common.{subst}
 use Rattle.std.specs.Prelude.{OnErr}
-use Rattle.agent_core.specs.Answers.{WantsMemory}
+use Rattle.agent_core.specs.Answers.{TakesMemory}
+use Rattle.agent_core.specs.Journals.{told_at}
 use Rattle.agent_core.specs.Views.{event_of}
 use Rattle.agent_core.proofs.Asks.{standing}
 use Rattle.taos_monitor.proofs.EffectSteps.{never_asked, takes_none}
@@ -11,7 +12,7 @@ pub unreachable-requires : goal.unreachable-requires
 unreachable-requires g c =
     let (plan, at) = standing (g.S.Shards.plans c.args.shards.now) c.args.number c.requires.there in
     takes_none plan (g.S.Shards.seen c.step.new.self c.args.number) (event_of c.args.event) c.requires.effect
-    (subst (λ r. OnErr r (WantsMemory plan (g.S.Shards.seen c.step.new.self c.args.number) (event_of c.args.event))) c.in_default.is (c.step.ensures.wanted plan at))
+    (subst (λ r. OnErr r (TakesMemory (told_at plan (g.S.Shards.seen c.step.new.self c.args.number) (event_of c.args.event)))) c.in_default.is (c.step.ensures.wanted plan at))
 
 pub unreachable-requires-in-Replayed : goal.unreachable-requires-in-Replayed
 unreachable-requires-in-Replayed g c =

@@ -1,13 +1,11 @@
 -- the invariant has it
-use Rattle.std.proofs.Common.{subst}
-use Rattle.agent_core.specs.Journals.{ShardSeen, IsLegalJournal}
-use Rattle.agent_core.specs.Presented.{PresentsLittle}
-use Rattle.agent_core.proofs.TakingIn.{presents_little}
+use Rattle.std.proofs.Common.{All, subst}
+use Rattle.agent_core.specs.Answers.{FitsEvent}
+use Rattle.agent_core.specs.Journals.{Entry, ShardSeen, IsLegalJournal}
 use Rattle.agent_core.proofs.shard.Shard.journal.Goals as goal
 
 pub returns-clause-legal : goal.returns-clause-legal
 returns-clause-legal c = subst (λ (v : ShardSeen). IsLegalJournal v.plan v.journal) c.self.view_is c.self.invariant.kept.legal
 
-pub returns-clause-little : goal.returns-clause-little
-returns-clause-little c =
-    subst (λ (v : ShardSeen). PresentsLittle v.journal) c.self.view_is (presents_little c.self.inside.presented _ c.self.invariant.counted c.self.invariant.held)
+pub returns-clause-fits : goal.returns-clause-fits
+returns-clause-fits c = subst (λ (v : ShardSeen). All (λ (e : Entry). FitsEvent e.event) v.journal) c.self.view_is c.self.invariant.fits

@@ -1,10 +1,9 @@
 -- what is kept at opening stands for the opening state
-use Rattle.std.proofs.Common.{◌∙◌, All, Contains, List, map, sym, ap, refl, subst}
+use Rattle.std.proofs.Common.{◌∙◌, All, List, map, sym, ap, refl, subst}
 use Rattle.agent_core.specs.declared.event.ShardEntry.{ShardEntry}
 use Rattle.std.proofs.lemmas.List.Elements.{All-nil}
-use Rattle.stmt_codec.specs.View.{certificates}
 use Rattle.agent_core.specs.Journals.{Entry, cache_after}
-use Rattle.agent_core.specs.Presented.{ArePresented, presented_by}
+use Rattle.agent_core.specs.Answers.{FitsEvent}
 use Rattle.agent_core.specs.declared.shard.store.Store.{Store}
 use Rattle.agent_core.specs.Kept.{AreNew, first_names}
 use Rattle.agent_core.specs.Views.{entry_of, plan_of}
@@ -19,8 +18,7 @@ invariant_of-result c =
       kept = opened_kept (plan_of c.args.plan) c.in_ok-entries.entries store c.requires c.in_ok-entries.ensures.items c.in_ok-entries.ensures.capacity refl refl
           (c.names_of.ensures ∙ ap first_names (c.len-2.ensures ∙ c.args.plan.commons.ok.0 ∙ sym (certificate_count c.args.plan.commons.items)))
           (subst (AreNew c.in_ok-rows.rows.items) (c.len.ensures ∙ c.args.plan.channels.ok.0) c.in_ok-rows.ensures);
-      counted = c.in_ok-presented.ensures;
-      held = subst (λ (es : List ShardEntry). ArePresented (certificates c.in_ok-presented.presented.certs.items) (map entry_of es)) (sym c.in_ok-entries.ensures.items)
-          (All-nil (λ (e : Entry). All (Contains (certificates c.in_ok-presented.presented.certs.items)) (presented_by e.event)));
+      fits = subst (λ (es : List ShardEntry). All (λ (e : Entry). FitsEvent e.event) (map entry_of es)) (sym c.in_ok-entries.ensures.items)
+          (All-nil (λ (e : Entry). FitsEvent e.event));
       cached = c.in_ok-cache.ensures ∙ sym (ap (λ (es : List ShardEntry). cache_after (plan_of c.args.plan) (map entry_of es)) c.in_ok-entries.ensures.items);
     }

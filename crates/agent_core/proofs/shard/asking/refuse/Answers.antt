@@ -1,16 +1,20 @@
 -- the state that is left is the swept one
-use Rattle.std.proofs.Common.{[], ◌∷◌, map, List, refl, ◌∙◌, arith}
+use Rattle.std.proofs.Common.{[], ◌∷◌, map, List, refl, sym, ap, ◌∙◌, arith}
 use Rattle.agent_core.specs.declared.event.Event.TheVariants as code
 use Rattle.agent_core.specs.declared.event.ShardEntry.{ShardEntry}
+use Rattle.agent_core.specs.Caches.{unlapsed}
+use Rattle.agent_core.specs.Kept.{Tells}
 use Rattle.agent_core.specs.State.{Plan, State, Ask, Asks, swept}
 use Rattle.agent_core.specs.Journals.{Entry, state_after}
 use Rattle.agent_core.specs.Views.{ask_of, entry_of, plan_of}
-use Rattle.agent_core.proofs.Journaling.{store_more, tells_more}
+use Rattle.agent_core.proofs.Journaling.{store_more, tells_follow, tells_more}
+use Rattle.agent_core.proofs.NewAsks.{plain_uses_none}
 use Rattle.agent_core.proofs.Looks.{asked_now}
+use Rattle.agent_core.proofs.Stepping.{told_answered}
 use Rattle.agent_core.proofs.shard.asking.refuse.Goals as goal
 
-pub returns-clause-tells : goal.returns-clause-tells
-returns-clause-tells c =
+told_here : (c : goal.After-answer) → Tells (plan_of c.args.plan.now) c.args.entries.now (Asks (ask_of c.args.asked.value)) c.args.told c.append.new.entries c.move_on.new.store
+told_here c =
     let plan : Plan = plan_of c.args.plan.now in
     let journal : List Entry = map entry_of c.args.entries.now.items in
     let s : State = state_after plan journal in
@@ -22,3 +26,12 @@ returns-clause-tells c =
     c.move_on.new.store (swept plan.keep c.args.look.moment s) (Asks a) refl c.requires.meant
     (asked_now plan journal s c.args.store.now c.requires.kept.store_is a c.args.look c.requires.look ∙ c.requires.plain)
     (store_more plan journal (entry_of e ∷ []) (swept plan.keep c.args.look.moment s) c.move_on.new.store moved) (omega (arith, stamp))
+
+pub returns-clause-answered : goal.returns-clause-answered
+returns-clause-answered c = told_answered c.answer.result c.answer.ensures (told_here c)
+
+pub returns-clause-cached : goal.returns-clause-cached
+returns-clause-cached c =
+    tells_follow (plan_of c.args.plan.now) c.args.entries.now c.append.new.entries (Asks (ask_of c.args.asked.value)) c.args.told c.move_on.new.store (told_here c) c.args.cache.now c.purge_before.new.self c.requires.cached
+    (c.purge_before.ensures ∙ ap (λ n. unlapsed n c.args.cache.now) (sym c.move_on.ensures.clock) ∙
+    sym (plain_uses_none (ask_of c.args.asked.value) c.args.told (unlapsed c.move_on.new.store.clock c.args.cache.now) c.requires.at_once))

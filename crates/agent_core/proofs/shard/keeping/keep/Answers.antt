@@ -30,15 +30,15 @@ dropped c =
     let told = rw (c.deref.ensures.value, c.deref-2.ensures) at c.in-Some.ensures in
     keep_tells plan c.args.entries.now c.args.store.now c.requires.kept c.requires.room c.args.ask c.args.entry c.args.proof c.requires.meant (Told.Dropped c.in-Some.cause) c.append.new.entries c.append.ensures.added c.append.ensures.capacity told
 
-pub returns-in-Some-clause-answered : goal.returns-in-Some-clause-answered
-returns-in-Some-clause-answered c = dropped c
+pub returns-in-Some-clause-tells : goal.returns-in-Some-clause-tells
+returns-in-Some-clause-tells c = dropped c
 
 pub returns-in-Some-clause-cached : goal.returns-in-Some-clause-cached
 returns-in-Some-clause-cached c =
     tells_follow (plan_of c.args.plan.now) c.args.entries.now c.append.new.entries (Keeps c.args.ask c.args.entry (cached (arc_value {X = CachedValue} c.args.proof))) (Told.Dropped c.in-Some.cause) c.args.store.now (dropped c) c.args.cache.now c.args.cache.now c.requires.cached refl
 
-pub returns-clause-answered : goal.returns-clause-answered
-returns-clause-answered c =
+pub returns-clause-tells : goal.returns-clause-tells
+returns-clause-tells c =
     let plan : Plan = plan_of c.args.plan.now in
     let told = rw (c.deref.ensures.value, c.deref-2.ensures) at c.in_default.ensures in
     keep_tells plan c.args.entries.now c.args.store.now c.requires.kept c.requires.room c.args.ask c.args.entry c.args.proof c.requires.meant Told.Kept c.append-2.new.entries c.append-2.ensures.added c.append-2.ensures.capacity told

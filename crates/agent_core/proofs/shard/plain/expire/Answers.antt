@@ -11,8 +11,8 @@ use Rattle.agent_core.specs.Views.{entry_of, plan_of}
 use Rattle.agent_core.proofs.Journaling.{store_more, tells_more}
 use Rattle.agent_core.proofs.shard.plain.expire.Goals as goal
 
-pub returns : goal.returns
-returns c =
+pub returns-clause-tells : goal.returns-clause-tells
+returns-clause-tells c =
     let plan = plan_of c.args.plan.now in
     let journal = map entry_of c.args.entries.now.items in
     let s : State = state_after plan journal in

@@ -17,8 +17,8 @@ use Rattle.denial_link.proofs.Places.{certificate_count}
 use Rattle.agent_core.proofs.Journaling.{store_more, tells_more}
 use Rattle.agent_core.proofs.shard.plain.hold.Goals as goal
 
-pub returns-then-held-len-gt-MAX_COMMONS-clause-full : goal.returns-then-held-len-gt-MAX_COMMONS-clause-full
-returns-then-held-len-gt-MAX_COMMONS-clause-full c =
+pub returns-then-held-len-gt-MAX_COMMONS-clause-tells : goal.returns-then-held-len-gt-MAX_COMMONS-clause-tells
+returns-then-held-len-gt-MAX_COMMONS-clause-tells c =
     let plan = plan_of c.args.plan.now in
     let journal = map entry_of c.args.entries.now.items in
     let s : State = state_after plan journal in
@@ -32,8 +32,8 @@ returns-then-held-len-gt-MAX_COMMONS-clause-full c =
     ap (λ n. (s, Plain (Told.CommonsFull n))) (sym c.len-held.ensures.value))
     (store_more plan journal (entry_of e ∷ []) s c.args.store.now c.requires.kept.store_is) (omega (arith, c.requires.kept.swept_within))
 
-pub returns-clause-added : goal.returns-clause-added
-returns-clause-added c =
+pub returns-clause-tells : goal.returns-clause-tells
+returns-clause-tells c =
     let plan = plan_of c.args.plan.now in
     let journal = map entry_of c.args.entries.now.items in
     let s : State = state_after plan journal in

@@ -4,7 +4,7 @@ use Rattle.node_file.specs.Opening.{Opening, no_texts}
 use Rattle.node_file.specs.OpeningReading.{anchors_at}
 use Rattle.node_file.specs.OpeningView.{common}
 use Rattle.prin_text.specs.Labels.{Labels}
-use Rattle.node_file.proofs.Rows.{no_rows}
+use Rattle.file_lines.proofs.Rows.{no_rows}
 use Rattle.node_file.proofs.Whole.{fields_are}
 use Rattle.node_file.proofs.opening.reading.fields_of.Goals as goal
 
@@ -40,8 +40,8 @@ returns-clause-value c =
           shards = refl;
           keep = refl;
           limit = refl;
-          names = no_rows _ (ap (λ (l : Labels). l.names) c.new-names.ensures);
-          roles = no_rows _ (ap (λ (l : Labels). l.roles) c.new-names.ensures);
+          names = no_rows _ (ap (λ (l : Labels). l.names) c.in_ok-names.ensures.empty);
+          roles = no_rows _ (ap (λ (l : Labels). l.roles) c.in_ok-names.ensures.empty);
           channels = cs.2.0;
           anchors = refl;
           commons = refl;

@@ -4,26 +4,16 @@ use Rattle.term_pool.specs.Finding.{statement_of}
 use Rattle.taos_saturate.proofs.Holding.{ready_new, cells_few}
 use Rattle.taos_saturate.proofs.held.Held.settle.Goals as goal
 
-pub saturate-self-requires-clause-ready : goal.saturate-self-requires-clause-ready
-saturate-self-requires-clause-ready c =
+pub saturate-requires-clause-ready : goal.saturate-requires-clause-ready
+saturate-requires-clause-ready c =
     ready_new c.args.self.now c.requires.gathered c.restart.new.self c.restart.ensures.found
     (omega (arith, c.restart.ensures.width, c.len.ensures, c.args.self.now.table.nodes.ok.0)) c.restart.ensures.statements
 
-pub saturate-self-requires-clause-statements_fit : goal.saturate-self-requires-clause-statements_fit
-saturate-self-requires-clause-statements_fit c =
-    omega (
-      arith,
-      ap (λ v. length v.items) c.restart.ensures.statements,
-      ap length c.requires.gathered.stated,
-      length-map c.args.self.now.table.cited.items statement_of,
-      c.requires.gathered.few_cited,
-    )
-
 pub returns-clause-held : goal.returns-clause-held
 returns-clause-held c =
-    let g = c.saturate-self.ensures.grown in
-    let wide : c.saturate-self.new.self.found.width ≤ 1296 = omega (arith, g.ready.width_is, ap (λ v. length v.items) g.table.nodes, c.requires.gathered.few) in
-    let stated : length c.saturate-self.new.self.found.statements.items ≤ 64 =
+    let g = c.saturate.ensures.grown in
+    let wide : c.saturate.new.self.found.width ≤ 1296 = omega (arith, g.ready.width_is, ap (λ v. length v.items) g.table.nodes, c.requires.gathered.few) in
+    let stated : length c.saturate.new.self.found.statements.items ≤ 64 =
     omega (
       arith,
       ap (λ v. length v.items) g.statements,
@@ -42,7 +32,7 @@ returns-clause-held c =
         lines = omega (arith, c.requires.reserved.lines, c.restart.ensures.lines_kept, g.lines_kept);
         list = c.requires.reserved.list;
       };
-      good = record { ready = g.ready; sound = g.sound; full = c.saturate-self.ensures.full };
+      good = record { ready = g.ready; sound = g.sound; full = c.saturate.ensures.full };
       few_nodes = rw g.table.nodes c.requires.gathered.few;
       few_cells = cells_few _ _ _ g.ready.found.index.sized wide stated;
       few_cited = rw g.table.cited c.requires.gathered.few_cited;

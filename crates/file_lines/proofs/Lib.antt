@@ -1,0 +1,10 @@
+pub mod LineLaws
+pub mod WordLaws
+pub mod Plain
+pub mod KeyLookups
+pub mod Added
+pub mod Gathered
+pub mod Rows
+pub mod Taken
+pub mod Begun
+pub mod FileRead

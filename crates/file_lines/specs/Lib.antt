@@ -1,0 +1,5 @@
+pub mod Lines
+pub mod Fields
+pub mod FileLines
+pub mod LineView
+pub mod Held

@@ -1,6 +1,0 @@
-//! Files as texts.
-
-pub(crate) mod field;
-pub(crate) mod line;
-pub(crate) mod number;
-pub(crate) mod word;

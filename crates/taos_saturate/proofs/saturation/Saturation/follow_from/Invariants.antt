@@ -1,5 +1,0 @@
-use Rattle.taos_saturate.specs.Saturating.{IsGrown}
-use Rattle.taos_saturate.proofs.saturation.Saturation.follow_from.Given as goal
-
-abbrev pub invariant-loop-k : goal.invariant-loop-k
-invariant-loop-k l = IsGrown l.fn.self l.self

@@ -1,0 +1,5 @@
+use Rattle.taos_saturate.specs.Saturating.{IsGrown}
+use Rattle.taos_saturate.proofs.saturation.Saturation.tell_statement.Given as goal
+
+abbrev pub invariant-loop-k : goal.invariant-loop-k
+invariant-loop-k l = IsGrown l.fn.self l.self
