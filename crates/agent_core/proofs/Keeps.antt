@@ -53,15 +53,15 @@ none_missing : (o : Option Certificate) → None ≡ option_map digest_of o → 
 none_missing None h = refl
 none_missing (Some x) h = absurd (none-some (digest_of x) h)
 
-module _ (s : State) (c : Cached) (own shared : List Certificate) (own_is : own ≡ own_of s (channel_of c.subject)) (shared_is : shared ≡ s.commons) where
-  first_is : find (λ x. not (among (own ++ shared) x)) c.cites ≡ first_missing s c
-  first_is = ap₂ (λ (xs ys : List Certificate). find (λ x. not (among (xs ++ ys) x)) c.cites) own_is shared_is
+-- what is held for the proof's subject are its channel's own certificates and the shared ones
+pub first_is : (s : State) (c : Cached) (own shared : List Certificate) → own ≡ own_of s (channel_of c.subject) → shared ≡ s.commons →
+    find (λ x. not (among (own ++ shared) x)) c.cites ≡ first_missing s c
+first_is s c own shared own_is shared_is = ap₂ (λ (xs ys : List Certificate). find (λ x. not (among (xs ++ ys) x)) c.cites) own_is shared_is
 
-  pub against_missing : (digest : List ℕ) → Some digest ≡ option_map digest_of (find (λ x. not (among (own ++ shared) x)) c.cites) →
-      Told.Dropped (DropCause.NotHeld digest) ≡ settled_by (first_missing s c) s.clock c.lease
-  against_missing digest h = settled_missing (first_missing s c) digest s.clock c.lease (h ∙ ap (option_map digest_of) first_is)
+pub against_missing : (s : State) (c : Cached) (digest : List ℕ) → Some digest ≡ option_map digest_of (first_missing s c) →
+    Told.Dropped (DropCause.NotHeld digest) ≡ settled_by (first_missing s c) s.clock c.lease
+against_missing s c digest h = settled_missing (first_missing s c) digest s.clock c.lease h
 
-  pub against_lease : (told : Told) (clock : ℕ) → None ≡ option_map digest_of (find (λ x. not (among (own ++ shared) x)) c.cites) → clock ≡ s.clock → told ≡ settled_by None clock c.lease →
-      told ≡ settled_by (first_missing s c) s.clock c.lease
-  against_lease told clock h same is =
-      is ∙ ap₂ (λ (o : Option Certificate) n. settled_by o n c.lease) (sym (none_missing (first_missing s c) (h ∙ ap (option_map digest_of) first_is))) same
+pub against_lease : (s : State) (c : Cached) (told : Told) (clock : ℕ) → None ≡ option_map digest_of (first_missing s c) → clock ≡ s.clock → told ≡ settled_by None clock c.lease →
+    told ≡ settled_by (first_missing s c) s.clock c.lease
+against_lease s c told clock h same is = is ∙ ap₂ (λ (o : Option Certificate) n. settled_by o n c.lease) (sym (none_missing (first_missing s c) h)) same

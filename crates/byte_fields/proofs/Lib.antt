@@ -8,3 +8,6 @@ pub mod FormatFields
 pub mod Cuts
 pub mod Staying
 pub mod FormatPlaces
+pub mod Forms
+pub mod FindingRows
+pub mod RowPlaces

@@ -2,3 +2,5 @@ pub mod Steps
 pub mod Appends
 pub mod Readers
 pub mod Formats
+pub mod Rows
+pub mod RowLaws

@@ -11,7 +11,7 @@ use Rattle.std.proofs.lemmas.Bool.Decides.{nat_tests, eqb_tells}
 use Rattle.std.proofs.lemmas.Cmp.{ranked}
 use Rattle.std.proofs.lemmas.Map.Keys.{sorted_head, sorted_tail}
 use Rattle.std.proofs.lemmas.Iterator.Adapters.{option_map_id}
-use Rattle.number_rows.specs.Rows.{value_of}
+use Rattle.byte_fields.specs.Rows.{value_of}
 use Rattle.keyed_seal.specs.Keys.{AddsKey, Entries, Keys, key_of}
 use Rattle.file_lines.specs.Held.{HoldsKeys}
 

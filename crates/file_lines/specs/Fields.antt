@@ -21,6 +21,15 @@ two_words rest =
     if nat_lt 0 (length b.0) && nat_lt (length (unblanked b.1)) 1
     then Ok (a.0, b.0) else Err Words
 
+-- three words, and no more
+unfoldable pub three_words : List ℕ → Result (List ℕ × List ℕ × List ℕ) FileCause
+three_words rest =
+    let a = word_off rest in
+    let b = word_off a.1 in
+    let c = word_off b.1 in
+    if nat_lt 0 (length c.0) && nat_lt (length (unblanked c.1)) 1
+    then Ok (a.0, b.0, c.0) else Err Words
+
 -- one word, and no more
 unfoldable pub one_word : List ℕ → Result (List ℕ) FileCause
 one_word rest =
@@ -62,6 +71,12 @@ numbered rest =
 -- a number of 32 bits and a key
 unfoldable pub keyed : List ℕ → Result (ℕ × List ℕ) FileCause
 keyed rest = numbered rest >>= λ x. key_of_digits x.1 >>= λ key. Ok (x.0, key)
+
+-- two numbers of 32 bits and a key
+unfoldable pub two_numbers_and_key : List ℕ → Result (ℕ × ℕ × List ℕ) FileCause
+two_numbers_and_key rest =
+    three_words rest >>= λ w. number_up_to 4294967295 w.0 >>= λ m.
+    number_up_to 4294967295 w.1 >>= λ n. key_of_digits w.2 >>= λ key. Ok (m, n, key)
 
 -- the bytes of hex digits, of either case
 unfoldable pub bytes_of_digits : List ℕ → Result (List ℕ) FileCause

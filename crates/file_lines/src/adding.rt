@@ -15,8 +15,8 @@ use prin_text::{Names, NamesFault};
 use std::alloc::Global;
 use std::str::from_utf8;
 
-// Gives a number a key, where there is room for one more.
-pub(crate) fn add_key(table: &mut KeyDraft, number: u32, key: [u8; 32]) -> Result<(), LineFault>
+/// Gives a number a key, where there is room for one more.
+pub fn add_key(table: &mut KeyDraft, number: u32, key: [u8; 32]) -> Result<(), LineFault>
     ensures takes { (keys : Entries) → HoldsKeys table.old keys
         → TakesLine HoldsKeys result table.new
         (unless (key_cause table.old.room keys number) (keys ++ (number, key) ∷ [])) }

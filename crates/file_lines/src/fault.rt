@@ -22,6 +22,8 @@ pub enum FileCause {
     Hex,
     /// The word is none of rights.
     Rights,
+    /// No domain above has the number, or both numbers are one.
+    UnknownDomain,
     /// A certificate stands before the node's own line.
     NodeFirst,
     /// No object above has the number.
@@ -51,6 +53,7 @@ impl fmt::Display for FileCause {
             FileCause::Number => "number",
             FileCause::Hex => "hex",
             FileCause::Rights => "rights",
+            FileCause::UnknownDomain => "unknown domain",
             FileCause::NodeFirst => "node first",
             FileCause::UnknownObject => "unknown object",
             FileCause::UnknownName => "unknown name",

@@ -3,7 +3,8 @@
 ghost use Rattle.std.specs.Prelude.{◌≡◌, ◌≤◌, IfOk, IsTrue};
 ghost use Rattle.file_lines.specs.Fields.{digits, digits_of, granted, keyed, numbered};
 ghost use Rattle.file_lines.specs.Fields.{numbered_digits};
-ghost use Rattle.file_lines.specs.Fields.{one_number, one_word, two_and_rest, two_words};
+ghost use Rattle.file_lines.specs.Fields.{one_number, one_word, three_words, two_and_rest};
+ghost use Rattle.file_lines.specs.Fields.{two_numbers_and_key, two_words};
 ghost use Rattle.file_lines.specs.Lines.{is_plain};
 ghost use Rattle.file_lines.specs.LineView.{GivesLine};
 ghost use Rattle.byte_fields.specs.Steps.{with_value};
@@ -43,6 +44,21 @@ fn two_words(rest: &[u8]) -> Result<(&[u8], &[u8]), FileCause>
     }
 }
 
+// Three words, and no more.
+#[tactic(auto, unfolding(crate::specs::Fields::three_words))]
+fn three_words(rest: &[u8]) -> Result<(&[u8], &[u8], &[u8]), FileCause>
+    ensures { with_value (λ w. (w.0.now, w.1.now, w.2.now)) result ≡ three_words rest.now }
+{
+    let (first, rest) = word_off(rest);
+    let (second, rest) = word_off(rest);
+    let (third, rest) = word_off(rest);
+    if !third.is_empty() && unblanked(rest).is_empty() {
+        Ok((first, second, third))
+    } else {
+        Err(FileCause::Words)
+    }
+}
+
 /// A number, and the word behind it.
 #[tactic(auto, unfolding(crate::specs::Fields::numbered))]
 pub fn numbered(rest: &[u8]) -> Result<(u32, &[u8]), FileCause>
@@ -60,6 +76,17 @@ pub fn keyed(rest: &[u8]) -> Result<(u32, [u8; 32]), FileCause>
 {
     let (number, digits) = numbered(rest)?;
     Ok((number, key_of_digits(digits)?))
+}
+
+/// Two numbers, and the key behind them.
+#[tactic(auto, unfolding(crate::specs::Fields::two_numbers_and_key))]
+pub fn two_numbers_and_key(rest: &[u8]) -> Result<(u32, u32, [u8; 32]), FileCause>
+    ensures { result ≡ two_numbers_and_key rest.now }
+{
+    let (first, second, digits) = three_words(rest)?;
+    let first = number_up_to(first, u32::MAX as u64)?;
+    let second = number_up_to(second, u32::MAX as u64)?;
+    Ok((first as u32, second as u32, key_of_digits(digits)?))
 }
 
 /// A number up to the most.

@@ -6,15 +6,22 @@ mod adding;
 mod fault;
 mod field;
 mod key_draft;
+mod limit_laws;
+mod limits;
 mod line;
 mod line_fault;
 mod number;
 mod taking;
 mod word;
 
+pub use adding::add_key;
 pub use fault::{FileCause, FileFault};
-pub use field::{digits, granted, keyed, numbered, numbered_digits, one_number};
+pub use field::{
+    digits, granted, keyed, numbered, numbered_digits, one_number, two_numbers_and_key,
+};
 pub use key_draft::KeyDraft;
+pub use limit_laws::limits_are;
+pub use limits::MAX_FILE;
 pub use line::line_at;
 pub use line_fault::LineFault;
 pub use number::number_up_to;

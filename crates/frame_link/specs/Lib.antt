@@ -12,3 +12,4 @@ pub mod Store
 pub mod Times
 pub mod Hall
 pub mod Served
+pub mod Exchange

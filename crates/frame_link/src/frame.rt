@@ -1,6 +1,6 @@
 //! Frames over a source and a sink: four bytes of length, and that many bytes.
 
-ghost use Rattle.std.specs.Prelude.{◌≡◌, ◌≢◌, ◌+◌, ◌<◌, ◌≤◌, ◌^◌, [], List, ℕ, All, length, take, IfOk, IfErr, OnErr, MatchResult};
+ghost use Rattle.std.specs.Prelude.{◌≡◌, ◌≢◌, ◌+◌, ◌<◌, ◌≤◌, ◌^◌, ◌++◌, [], List, ℕ, All, length, take, IfOk, IfErr, OnErr, MatchResult};
 ghost use Rattle.std.specs.Int.{w32, to_be_bytes};
 ghost use Rattle.frame_link.specs.declared.frame.Next.TheVariants.{Frame};
 ghost use Rattle.frame_link.specs.Frames.{frame, Splits};
@@ -118,6 +118,15 @@ impl FrameBuf {
     {
         &self.room[..self.len]
     }
+
+    /// Lays a payload of two parts.
+    pub fn lay(&mut self, head: &[u8], rest: &[u8])
+        requires { length head.now + length rest.now ≤ self.old.limit }
+        ensures payload { self.new.payload ≡ head.now ++ rest.now }
+        ensures limit { self.new.limit ≡ self.old.limit }
+    {
+        self.len = lay_parts(&mut self.room, head, rest);
+    }
 }
 
 /// Takes the next frame from a source, and no byte past it. Where no frame came the buffer is
@@ -140,6 +149,19 @@ pub fn next_frame<S: Source>(source: &mut S, buf: &mut FrameBuf) -> Next
     }
 }
 
+// Lays two parts at the front of the room, and says how long they are together.
+fn lay_parts(room: &mut [u8], head: &[u8], rest: &[u8]) -> usize
+    requires { length head.now + length rest.now ≤ length room.old }
+    ensures within { result ≤ length room.new }
+    ensures same_room { length room.new ≡ length room.old }
+    ensures parts { take result room.new ≡ head.now ++ rest.now }
+{
+    let end = head.len() + rest.len();
+    room[..head.len()].copy_from_slice(head);
+    room[head.len()..end].copy_from_slice(rest);
+    end
+}
+
 // Lays a frame at the front of the room, and says how long it is.
 fn lay_frame(room: &mut [u8], payload: &[u8]) -> usize
     requires fits { 4 + length payload.now ≤ length room.old }
@@ -147,10 +169,7 @@ fn lay_frame(room: &mut [u8], payload: &[u8]) -> usize
     ensures within { result ≤ length room.new }
     ensures frame { take result room.new ≡ frame payload.now }
 {
-    let end = 4 + payload.len();
-    room[..4].copy_from_slice(&(payload.len() as u32).to_be_bytes());
-    room[4..end].copy_from_slice(payload);
-    end
+    lay_parts(room, &(payload.len() as u32).to_be_bytes(), payload)
 }
 
 // Writes a frame in one piece.

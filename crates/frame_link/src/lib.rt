@@ -2,6 +2,7 @@
 #![tactic(auto)]
 
 mod closed;
+mod exchange;
 mod fault_plan;
 mod frame;
 mod limit_laws;
@@ -17,6 +18,7 @@ mod serving;
 mod whole;
 
 pub use closed::{ClosedDoor, NoRelay};
+pub use exchange::exchange_frames;
 pub use frame::{FrameBuf, Next, Put, SMALL_FRAME, next_frame, one_reading, put_frame};
 pub use limit_laws::limits_are;
 pub use limits::Limits;

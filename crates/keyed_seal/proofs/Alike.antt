@@ -2,7 +2,7 @@
 use Rattle.std.proofs.Common.{◌≡◌, ℕ, zero, suc, ◌<◌, List, [], ◌∷◌, length, Some, None, refl, arith}
 use Rattle.std.proofs.lemmas.Bool.Decides.{nat_tests}
 use Rattle.keyed_seal.specs.Keys.{Entries, key_of, number_at, IsAscending}
-use Rattle.number_rows.proofs.Finding.{value_of-absent}
+use Rattle.byte_fields.proofs.FindingRows.{value_of-absent}
 
 ascending-tail : (x : ℕ × List ℕ) (l : Entries) → IsAscending (x ∷ l) → IsAscending l
 ascending-tail x l ascending i j lt in_range = omega (arith, ascending (suc i) (suc j) (omega arith) (omega arith))

@@ -3,7 +3,7 @@ use Rattle.std.proofs.Common.{◌≡◌, ℕ, ◌<◌, List, [], ◌∷◌, leng
 use Rattle.std.specs.List.{insert}
 use Rattle.std.proofs.lemmas.List.Edits.{length-insert}
 use Rattle.std.proofs.lemmas.List.Elements.{All-append, All-cons, All-drop, All-take}
-use Rattle.number_rows.proofs.Places as places
+use Rattle.byte_fields.proofs.RowPlaces as places
 use Rattle.keyed_seal.specs.Keys.{AddsKey, Entries, Keys, IsEntry, IsGapFor, IsKeyTable}
 
 -- what a search for a number answers

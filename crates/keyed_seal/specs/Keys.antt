@@ -1,7 +1,7 @@
 -- Key tables: pairs of a number and a key, ascending by number, and room for so many.
 use Rattle.std.specs.Prelude.{◌≡◌, ◌≢◌, ℕ, ◌+◌, ◌^◌, ◌<◌, ◌≤◌, All, List, [], length}
 use Rattle.std.specs.Prelude.{Option, Some, None}
-use Rattle.number_rows.specs.Rows as rows
+use Rattle.byte_fields.specs.Rows as rows
 
 -- numbers, each with its key
 abbrev pub Entries : Type 0

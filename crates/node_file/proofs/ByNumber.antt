@@ -5,8 +5,8 @@ use Rattle.std.specs.Ordering.{nat_cmp}
 use Rattle.std.proofs.lemmas.List.{get_or-map, length-map}
 use Rattle.std.proofs.lemmas.List.Elements.{All-nil}
 use Rattle.node_file.specs.declared.object_plan.ObjectPlan as code
-use Rattle.number_rows.specs.Rows as rows
-use Rattle.number_rows.proofs.Places.{search_ends, never_fall, value_of-at, value_of-in_gap}
+use Rattle.byte_fields.specs.Rows as rows
+use Rattle.byte_fields.proofs.RowPlaces.{search_ends, never_fall, value_of-at, value_of-in_gap}
 use Rattle.object_core.specs.Objects.{ObjectPlan, object_of}
 use Rattle.node_file.specs.Opening.{no_texts}
 use Rattle.node_file.specs.Plans as plans

@@ -7,7 +7,7 @@ use Rattle.std.specs.Option.{IsSome, option_copied_mut, option_map}
 use Rattle.std.specs.Ordering.{nat_cmp}
 use Rattle.std.proofs.lemmas.List.{length-map, map-append}
 use Rattle.std.proofs.lemmas.Map.Keys.{below_from_sorted}
-use Rattle.number_rows.specs.Rows.{value_of}
+use Rattle.byte_fields.specs.Rows.{value_of}
 use Rattle.object_core.specs.Objects.{ObjectPlan, object_of}
 use Rattle.node_file.specs.declared.object_drafts.ObjectDraft.{ObjectDraft}
 use Rattle.prin_term.specs.declared.term.Entry.{Entry}

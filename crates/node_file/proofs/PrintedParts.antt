@@ -8,7 +8,7 @@ use Rattle.std.proofs.lemmas.List.{get_or_append_left}
 use Rattle.std.proofs.lemmas.List.Elements.{All-head, All-tail}
 use Rattle.keyed_seal.specs.Keys.{Entries, key_of}
 use Rattle.prin_text.specs.Labels.{IsAscending, Rows, TextsDiffer, number_at, number_of, text_of}
-use Rattle.number_rows.proofs.Finding.{value_of-absent}
+use Rattle.byte_fields.proofs.FindingRows.{value_of-absent}
 use Rattle.prin_text.proofs.Texts.{absent_below, same_text, texts_tell}
 use Rattle.node_file.specs.NodeFile.{Draft}
 use Rattle.node_file.proofs.PrintedSteps.{Goes, Takes, goes_append}

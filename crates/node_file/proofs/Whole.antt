@@ -14,7 +14,8 @@ use Rattle.node_file.specs.declared.limits.TheConstants.{MAX_FILE}
 use Rattle.node_file.specs.declared.opening.head.Head.{Head}
 use Rattle.object_core.specs.Objects.{ObjectPlan}
 use Rattle.node_file.specs.Opening.{Opening, no_texts}
-use Rattle.node_file.specs.OpeningReading.{IsFaultIn, head_at, channels_at, anchors_at, commons_at, objects_at, fields_at, at_byte, opening_of}
+use Rattle.byte_fields.specs.Formats.{IsFaultIn}
+use Rattle.node_file.specs.OpeningReading.{head_at, channels_at, anchors_at, commons_at, objects_at, fields_at, at_byte, opening_of}
 use Rattle.node_file.specs.NodeFile.{text_in}
 use Rattle.node_file.specs.OpeningFile.{Means, is_binary, opening_in}
 use Rattle.node_file.specs.OpeningView.{IsReadAs, Represents}

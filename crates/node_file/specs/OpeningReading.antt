@@ -1,5 +1,5 @@
 -- Reading an opening from left to right, with the first fault that is met.
-use Rattle.std.specs.Prelude.{ℕ, ◌≤◌, Bool, ◌&&◌, List, length, Result, Ok, Err, nat_le, nat_lt}
+use Rattle.std.specs.Prelude.{ℕ, Bool, ◌&&◌, List, length, Result, Ok, Err, nat_le, nat_lt}
 use Rattle.std.specs.Prelude.{◌==◌, if◌then◌else◌}
 use Rattle.keyed_seal.specs.Keys.{Entries}
 use Rattle.object_core.specs.Reading.{content_at, list_at}
@@ -21,11 +21,6 @@ use Rattle.file_lines.specs.declared.fault.FileFault.TheVariants as files
 use Rattle.node_file.specs.declared.opening.head.Head.{Head}
 use Rattle.object_core.specs.Objects.{ObjectPlan}
 use Rattle.node_file.specs.Opening.{Opening, journal_room, no_texts}
-
--- the fault's place is one of the bytes, or right after the last, and it is not out of memory
-abbrev pub IsFaultIn : List ℕ → FormatFault → Type 0
-IsFaultIn bytes (Malformed o) = o ≤ length bytes
-IsFaultIn bytes NoMemory = ⊥
 
 -- a key of 32 bytes
 abbrev pub key_in : List ℕ → FormatReader (List ℕ)

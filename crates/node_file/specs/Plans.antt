@@ -3,7 +3,7 @@ use Rattle.std.specs.Prelude.{◌≡◌, ◌≢◌, ℕ, ◌+◌, List, [], leng
 use Rattle.std.specs.Option.{option_map}
 use Rattle.std.specs.Arc.{arc_value}
 use Rattle.prin_term.specs.View.{grant}
-use Rattle.number_rows.specs.Rows as rows
+use Rattle.byte_fields.specs.Rows as rows
 use Rattle.node_file.specs.declared.object_drafts.ObjectDraft.{ObjectDraft}
 use Rattle.node_file.specs.declared.object_plan.ObjectPlan as code
 use Rattle.object_core.specs.Objects.{ObjectPlan, object_of}

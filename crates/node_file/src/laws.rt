@@ -1,12 +1,13 @@
 //! Laws of openings, stated as contracts of functions that do nothing.
 
 ghost use Rattle.std.specs.Prelude.{◌≡◌, ◌↔◌, ℕ, List, All, Ok, Err};
+ghost use Rattle.byte_fields.specs.Formats.{IsFaultIn};
 ghost use Rattle.byte_fields.specs.Steps.{IsByte};
 ghost use Rattle.byte_fields.specs.declared.fault.FormatFault.{FormatFault};
 ghost use Rattle.node_file.specs.FilePrinting.{opening_text};
 ghost use Rattle.node_file.specs.Opening.{FitsOpening, Opening, Spells};
 ghost use Rattle.node_file.specs.OpeningFile.{opening_in};
-ghost use Rattle.node_file.specs.OpeningReading.{IsFaultIn, opening_of};
+ghost use Rattle.node_file.specs.OpeningReading.{opening_of};
 
 /// No bytes spell two openings.
 pub fn one_opening()

@@ -1,7 +1,7 @@
 //! The limits of openings and of files.
 
 /// The most bytes of a file.
-pub const MAX_FILE: usize = 4_194_304;
+pub const MAX_FILE: usize = file_lines::MAX_FILE;
 /// The most shards.
 pub const MAX_SHARDS: u32 = 64;
 /// The longest time in seconds that a dead certificate stays.
@@ -11,7 +11,7 @@ pub const MAX_LIMIT: u64 = 1_048_576;
 /// The most channels.
 pub const MAX_CHANNELS: u16 = 1_024;
 /// The most anchors.
-pub const MAX_ANCHORS: u8 = 64;
+pub const MAX_ANCHORS: u8 = prin_term::MAX_ANCHORS;
 /// The most certificates that are held in common.
 pub const MAX_COMMONS: u8 = 32;
 /// The most objects.

@@ -1,4 +1,4 @@
--- Which words behind `drill` `clap` takes: plain words, three at most.
+-- Which words behind `drill` `clap` takes: three at most, that may be values.
 use Rattle.std.proofs.Common.{◌≡◌, ℕ, Bool, false, List, [], ◌∷◌, Option, Some, None, refl, sym, ap, ap₂, subst, ◌∙◌, codes}
 use Rattle.std.specs.Prelude.{cond}
 use Rattle.std.specs.List.{All, fold}
@@ -12,8 +12,9 @@ use Rattle.clap.specs.Faults.{bundle_fault, flag_word_fault, step_fault, turn_fa
 use Rattle.clap.specs.declared.error.kind.ErrorKind.TheVariants as kind
 use Rattle.clap.specs.declared.parser.matches.ValueSource.TheVariants.{CommandLine}
 use Rattle.clap.proofs.OnLiterals.{clap_on_literals}
-use Rattle.node_words.specs.Table.{IsOfTable, IsPlainWord, base_app, drill_app, word_rule, plain, option, alone, joined}
-use Rattle.node_words.proofs.Lines.{from, goes, names, stops}
+use Rattle.node_words.specs.Table.{IsOfTable, base_app, drill_app, word_rule, plain, option, alone, joined}
+use Rattle.node_words.specs.Words.{IsValue}
+use Rattle.node_words.proofs.Lines.{from, goes, read_alone, read_joined, stops}
 use Rattle.node_words.proofs.Walks.{IsRest, Reads, is_rest}
 
 -- the command, once it is built
@@ -58,13 +59,13 @@ module _ (p : ℕ) (h : Held) (w : Text) where
   unfolding clap_on_literals
   option_turn name v r = ap₂ (fault_at p h w) r.dashes r.long
 
-  -- so a word that is taken is plain
-  is_plain : (ws : List Text) → IsOfTable w → from drill_leaf (stands h p) (w ∷ ws) ≡ [] → IsPlainWord w
-  is_plain ws (plain is) none = is
-  is_plain ws (option name has (alone is)) none =
-      absurd (stops drill_leaf (stands h p) w ws kind.UnknownArgument (option_turn name None (subst (λ y. Reads y name None) (sym is) (names name has).bare)) none)
-  is_plain ws (option name has (joined v is)) none =
-      absurd (stops drill_leaf (stands h p) w ws kind.UnknownArgument (option_turn name (Some v) (subst (λ y. Reads y name (Some v)) (sym is) ((names name has).whole v))) none)
+  -- so a word that is taken may be a value
+  is_value : (ws : List Text) → IsOfTable w → from drill_leaf (stands h p) (w ∷ ws) ≡ [] → IsValue w
+  is_value ws (plain is) none = is
+  is_value ws (option name has (alone is)) none =
+      absurd (stops drill_leaf (stands h p) w ws kind.UnknownArgument (option_turn name None (read_alone w name has is)) none)
+  is_value ws (option name has (joined v is is_one)) none =
+      absurd (stops drill_leaf (stands h p) w ws kind.UnknownArgument (option_turn name (Some v) (read_joined w name v has is)) none)
 
 -- ---- three words
 
@@ -92,32 +93,32 @@ rows_of_words (a ∷ []) = row_of_word (codes "seed") a ∷ []
 rows_of_words (a ∷ b ∷ []) = row_of_word (codes "seed") a ∷ row_of_word (codes "requests") b ∷ []
 rows_of_words (a ∷ b ∷ c ∷ ws) = row_of_word (codes "seed") a ∷ row_of_word (codes "requests") b ∷ row_of_word (codes "lanes") c ∷ []
 
-first_turn : (a : Text) → IsPlainWord a → turn_fault drill_leaf [] (stands nothing_held 1) a ≡ []
+first_turn : (a : Text) → IsValue a → turn_fault drill_leaf [] (stands nothing_held 1) a ≡ []
 unfolding clap_on_literals
 first_turn a is = plain_turn 1 nothing_held a (is_rest a is)
 
-first_next : (a : Text) → IsPlainWord a → walked drill_leaf.rules [] (stands nothing_held 1) a ≡ stands (held_one a) 2
+first_next : (a : Text) → IsValue a → walked drill_leaf.rules [] (stands nothing_held 1) a ≡ stands (held_one a) 2
 unfolding clap_on_literals
 first_next a is = plain_next 1 nothing_held a (is_rest a is)
 
-second_turn : (a b : Text) → IsPlainWord b → turn_fault drill_leaf [] (stands (held_one a) 2) b ≡ []
+second_turn : (a b : Text) → IsValue b → turn_fault drill_leaf [] (stands (held_one a) 2) b ≡ []
 unfolding clap_on_literals
 second_turn a b is = plain_turn 2 (held_one a) b (is_rest b is)
 
-second_next : (a b : Text) → IsPlainWord b → walked drill_leaf.rules [] (stands (held_one a) 2) b ≡ stands (held_two a b) 3
+second_next : (a b : Text) → IsValue b → walked drill_leaf.rules [] (stands (held_one a) 2) b ≡ stands (held_two a b) 3
 unfolding clap_on_literals
 second_next a b is = plain_next 2 (held_one a) b (is_rest b is)
 
-third_turn : (a b c : Text) → IsPlainWord c → turn_fault drill_leaf [] (stands (held_two a b) 3) c ≡ []
+third_turn : (a b c : Text) → IsValue c → turn_fault drill_leaf [] (stands (held_two a b) 3) c ≡ []
 unfolding clap_on_literals
 third_turn a b c is = plain_turn 3 (held_two a b) c (is_rest c is)
 
-third_next : (a b c : Text) → IsPlainWord c → walked drill_leaf.rules [] (stands (held_two a b) 3) c ≡ stands (held_three a b c) 4
+third_next : (a b c : Text) → IsValue c → walked drill_leaf.rules [] (stands (held_two a b) 3) c ≡ stands (held_three a b c) 4
 unfolding clap_on_literals
 third_next a b c is = plain_next 3 (held_two a b) c (is_rest c is)
 
 -- a fourth word is refused
-fourth_turn : (a b c w : Text) → IsPlainWord w → turn_fault drill_leaf [] (stands (held_three a b c) 4) w ≡ kind.UnknownArgument ∷ []
+fourth_turn : (a b c w : Text) → IsValue w → turn_fault drill_leaf [] (stands (held_three a b c) 4) w ≡ kind.UnknownArgument ∷ []
 unfolding clap_on_literals
 fourth_turn a b c w is = plain_turn 4 (held_three a b c) w (is_rest w is)
 
@@ -126,7 +127,7 @@ unfolding clap_on_literals
 ends_three a b c = refl
 
 -- three words are taken
-pub drill_pass : (a b c : Text) → IsPlainWord a → IsPlainWord b → IsPlainWord c → from drill_leaf (stands nothing_held 1) (a ∷ b ∷ c ∷ []) ≡ []
+pub drill_pass : (a b c : Text) → IsValue a → IsValue b → IsValue c → from drill_leaf (stands nothing_held 1) (a ∷ b ∷ c ∷ []) ≡ []
 drill_pass a b c pa pb pc =
     goes drill_leaf (stands nothing_held 1) a (b ∷ c ∷ []) (stands (held_one a) 2) (first_turn a pa) (first_next a pa)
     ∙ (goes drill_leaf (stands (held_one a) 2) b (c ∷ []) (stands (held_two a b) 3) (second_turn a b pb) (second_next a b pb)
@@ -135,24 +136,24 @@ drill_pass a b c pa pb pc =
 
 -- ---- words that are taken
 
--- three plain words at most
+-- three words at most
 pub data AreFew (ws : List Text) : Type 0 where
   no_words : ws ≡ [] → AreFew ws
-  one_word : (a : Text) → IsPlainWord a → ws ≡ a ∷ [] → AreFew ws
-  two_words : (a b : Text) → IsPlainWord a → IsPlainWord b → ws ≡ a ∷ b ∷ [] → AreFew ws
-  three_words : (a b c : Text) → IsPlainWord a → IsPlainWord b → IsPlainWord c → ws ≡ a ∷ b ∷ c ∷ [] → AreFew ws
+  one_word : (a : Text) → IsValue a → ws ≡ a ∷ [] → AreFew ws
+  two_words : (a b : Text) → IsValue a → IsValue b → ws ≡ a ∷ b ∷ [] → AreFew ws
+  three_words : (a b c : Text) → IsValue a → IsValue b → IsValue c → ws ≡ a ∷ b ∷ c ∷ [] → AreFew ws
 
 -- the rows that a walk leaves which goes on from here
 abbrev rows_from : Walk → List Text → List Row
 rows_from k ws = finished drill_leaf.rules (fold (walked drill_leaf.rules []) k ws).held
 
-rows_one : (a : Text) → IsPlainWord a → (ws : List Text) → rows_after drill_leaf.rules [] (a ∷ ws) ≡ rows_from (stands (held_one a) 2) ws
+rows_one : (a : Text) → IsValue a → (ws : List Text) → rows_after drill_leaf.rules [] (a ∷ ws) ≡ rows_from (stands (held_one a) 2) ws
 rows_one a pa ws = ap (λ k. rows_from k ws) (first_next a pa)
 
-rows_two : (a b : Text) → IsPlainWord a → IsPlainWord b → (ws : List Text) → rows_after drill_leaf.rules [] (a ∷ b ∷ ws) ≡ rows_from (stands (held_two a b) 3) ws
+rows_two : (a b : Text) → IsValue a → IsValue b → (ws : List Text) → rows_after drill_leaf.rules [] (a ∷ b ∷ ws) ≡ rows_from (stands (held_two a b) 3) ws
 rows_two a b pa pb ws = rows_one a pa (b ∷ ws) ∙ ap (λ k. rows_from k ws) (second_next a b pb)
 
-rows_three : (a b c : Text) → IsPlainWord a → IsPlainWord b → IsPlainWord c → (ws : List Text) → rows_after drill_leaf.rules [] (a ∷ b ∷ c ∷ ws) ≡ rows_from (stands (held_three a b c) 4) ws
+rows_three : (a b c : Text) → IsValue a → IsValue b → IsValue c → (ws : List Text) → rows_after drill_leaf.rules [] (a ∷ b ∷ c ∷ ws) ≡ rows_from (stands (held_three a b c) 4) ws
 rows_three a b c pa pb pc ws = rows_two a b pa pb (c ∷ ws) ∙ ap (λ k. rows_from k ws) (third_next a b c pc)
 
 -- what is found in words that are taken
@@ -165,25 +166,25 @@ few_rows ws (three_words a b c pa pb pc is) = subst (λ l. rows_after drill_leaf
 no_fourth : (a b c : Text) (ws : List Text) → All IsOfTable ws → from drill_leaf (stands (held_three a b c) 4) ws ≡ [] → ws ≡ []
 no_fourth a b c [] all taken = refl
 no_fourth a b c (w ∷ ws) all taken =
-    let is = is_plain 4 (held_three a b c) w ws (All-head IsOfTable w ws all) taken in
+    let is = is_value 4 (held_three a b c) w ws (All-head IsOfTable w ws all) taken in
     absurd (stops drill_leaf (stands (held_three a b c) 4) w ws kind.UnknownArgument (fourth_turn a b c w is) taken)
 
-behind_two : (a b : Text) → IsPlainWord a → IsPlainWord b → (ws : List Text) → All IsOfTable ws → from drill_leaf (stands (held_two a b) 3) ws ≡ [] → AreFew (a ∷ b ∷ ws)
+behind_two : (a b : Text) → IsValue a → IsValue b → (ws : List Text) → All IsOfTable ws → from drill_leaf (stands (held_two a b) 3) ws ≡ [] → AreFew (a ∷ b ∷ ws)
 behind_two a b pa pb [] all taken = two_words a b pa pb refl
 behind_two a b pa pb (c ∷ ws) all taken =
-    let pc = is_plain 3 (held_two a b) c ws (All-head IsOfTable c ws all) taken in
+    let pc = is_value 3 (held_two a b) c ws (All-head IsOfTable c ws all) taken in
     let rest = sym (goes drill_leaf (stands (held_two a b) 3) c ws (stands (held_three a b c) 4) (third_turn a b c pc) (third_next a b c pc)) ∙ taken in
     three_words a b c pa pb pc (ap (λ (l : List Text). a ∷ b ∷ c ∷ l) (no_fourth a b c ws (All-tail IsOfTable c ws all) rest))
 
-behind_one : (a : Text) → IsPlainWord a → (ws : List Text) → All IsOfTable ws → from drill_leaf (stands (held_one a) 2) ws ≡ [] → AreFew (a ∷ ws)
+behind_one : (a : Text) → IsValue a → (ws : List Text) → All IsOfTable ws → from drill_leaf (stands (held_one a) 2) ws ≡ [] → AreFew (a ∷ ws)
 behind_one a pa [] all taken = one_word a pa refl
 behind_one a pa (b ∷ ws) all taken =
-    let pb = is_plain 2 (held_one a) b ws (All-head IsOfTable b ws all) taken in
+    let pb = is_value 2 (held_one a) b ws (All-head IsOfTable b ws all) taken in
     behind_two a b pa pb ws (All-tail IsOfTable b ws all) (sym (goes drill_leaf (stands (held_one a) 2) b ws (stands (held_two a b) 3) (second_turn a b pb) (second_next a b pb)) ∙ taken)
 
 -- words that have no fault are few
 pub drill_split : (ws : List Text) → All IsOfTable ws → from drill_leaf (stands nothing_held 1) ws ≡ [] → AreFew ws
 drill_split [] all taken = no_words refl
 drill_split (a ∷ ws) all taken =
-    let pa = is_plain 1 nothing_held a ws (All-head IsOfTable a ws all) taken in
+    let pa = is_value 1 nothing_held a ws (All-head IsOfTable a ws all) taken in
     behind_one a pa ws (All-tail IsOfTable a ws all) (sym (goes drill_leaf (stands nothing_held 1) a ws (stands (held_one a) 2) (first_turn a pa) (first_next a pa)) ∙ taken)

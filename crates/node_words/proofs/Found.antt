@@ -1,5 +1,5 @@
 -- What is read of words.
-use Rattle.std.proofs.Common.{append_assoc, ◌≡◌, ℕ, zero, suc, ◌<◌, ◌≤◌, Bool, false, List, [], ◌∷◌, ◌++◌, ◌+◌, get_or, length, Option, Some, None, Result, Ok, Err, refl, sym, ap, subst, ◌∙◌, codes, arith, inl, inr, IsTrue, ◌^◌}
+use Rattle.std.proofs.Common.{append_assoc, ◌≡◌, ℕ, zero, suc, ◌<◌, ◌≤◌, Bool, List, [], ◌∷◌, ◌++◌, ◌+◌, drop, length, Option, Some, None, Result, Ok, Err, refl, sym, ap, subst, ◌∙◌, codes, arith, inl, inr, IsTrue, ◌^◌}
 use Rattle.std.specs.Option.{option_map}
 use Rattle.std.specs.Borrow.{Bor}
 use Rattle.std.specs.Str.Parse.{ParsesUnsigned}
@@ -7,34 +7,29 @@ use Rattle.std.proofs.lemmas.Fmt.{decimal_injective, parse-decimal}
 use Rattle.clap.specs.Words.{Row, Text, first_of, first_value, rows_of}
 use Rattle.clap.specs.declared.parser.matches.Found.{Found}
 use Rattle.clap.proofs.WalkLemmas.{first_value-rows}
-use Rattle.std.specs.Prelude.{nat_eq}
-use Rattle.std.specs.Str.{bytes_eq}
-use Rattle.std.proofs.lemmas.Bool.Decides.{Decides-eqb}
 use Rattle.std.specs.List.{All, slice_index_or}
 use Rattle.std.proofs.lemmas.Bool.{cases_lt}
 use Rattle.std.proofs.lemmas.List.{get_or_default}
 use Rattle.std.specs.Prelude.{map, string_bytes, String}
 use Rattle.std.specs.declared.alloc.Global.{Global}
 use Rattle.std.proofs.lemmas.List.Elements.{All-head, All-tail, All-cons}
-use Rattle.std.proofs.lemmas.Option.{same_Some}
-use Rattle.clap.specs.Words.{HasMatchesOf, fault_of, kind_of, subcommand_of, subcommand_rows_of}
+use Rattle.std.specs.Box.{box_value}
+use Rattle.clap.specs.declared.parser.matches.ArgMatches.TheViews.{out-ArgMatches, out-SubCommand}
+use Rattle.clap.specs.Words.{HasMatchesOf, fault_of, found_of, kind_of, subcommand_name_of, subcommand_of, subcommand_rows_of}
 use Rattle.clap.specs.Kinds.{HasKind, Kinds}
 use Rattle.clap.specs.declared.error.Error.{Error}
 use Rattle.clap.specs.declared.error.kind.ErrorKind.TheVariants as kind
 use Rattle.clap.specs.declared.parser.matches.ArgMatches.{ArgMatches}
 use Rattle.node_words.specs.declared.wanted.Wanted.{Wanted}
-use Rattle.frame_link.specs.declared.limits.Limits.{Limits}
-use Rattle.node_words.specs.Words.{Given, HasNumber, IsMeaning, IsNumber, IsValue, Mean, ServeFrames, ServeLanes, TextsMean, GivesMint, MintWords, AsksDrill, DrillWords, lane_options, mint_options, serving_options, task_of, value_of, words_of}
-use Rattle.node_words.specs.Words.{Task, Run, Check, Relay, Mint, Serve, RelayServe, Audit, Drill}
-use Rattle.node_words.specs.Table.{IsOfTable, IsOption, IsOptionOf, IsPlainWord, IsDrillOf, IsLanesOf, IsMintOf, IsServingOf, ReadsDrill, all_options, commands, taos_app, plain, option, alone, joined}
+use Rattle.node_words.specs.Words.{AsksDrill, Command, DrillWords, Drilling, Given, Gives, GivesDrill, HasNumber, IsMeaning, IsNumber, IsValue, Mean, Task, TextsMean, drill_names, named, options_of, text_at, words_of}
+use Rattle.node_words.specs.Table.{IsOfTable, IsOption, IsOptionOf, IsReadAs, all_options, taos_app, plain, option, alone, joined}
 use Rattle.node_words.proofs.Made.{taos_is_simple}
 use Rattle.node_words.proofs.Meanings as law
 use Rattle.std.proofs.Math.Path.{fun_ext}
 use Rattle.node_words.proofs.Rows.{AreNew, first_of_rows, rows_for}
 use Rattle.node_words.proofs.Drilled.{AreFew, no_words, one_word, two_words, three_words, rows_of_words}
-use Rattle.node_words.proofs.Levels.{Entry, IsFound, IsSplit, has_options, has_words, drill_rows, each_command, line_found, line_split}
-use Rattle.node_words.proofs.Tasks.{Running, Relaying, Minting, Serving, RelayServing, Auditing, Drilling}
-use Rattle.node_words.proofs.Meanings.{IsTaken, asked_for, TextMeaning, audit_there, relay_serve_there, text_value, check_there, lanes_limits, lanes_line, mint_there, is_line, same_values, meant_found, relay_there, run_there, serve_line, serve_there, served_frames}
+use Rattle.node_words.proofs.Levels.{IsFound, IsSplit, TakesOptions, has_options, has_words, drill_rows, line_found, line_split}
+use Rattle.node_words.proofs.Meanings.{IsTaken, TextMeaning, asked_for, is_line, meant_found, same_texts, texts_in}
 use Rattle.std.specs.List.{flat_map}
 use Rattle.std.proofs.lemmas.List.{append-nil, append_cancel_left}
 use Rattle.std.specs.Prelude.{Contains}
@@ -70,20 +65,10 @@ pub narrower : (o : Option Text) (n : ℕ) → HasNumber (2 ^ 64) o n → n < 2 
 narrower None n is small = absurd is
 narrower (Some text) n is small = (is.0, small)
 
--- the text of a number may be a value
-pub number_value : (o : Option Text) (n : ℕ) → HasNumber (2 ^ 64) o n → (v : Text) → o ≡ Some v → IsValue v
-number_value None n is v e = absurd is
-number_value (Some text) n is v e = subst IsValue (same_Some text v e) (text_value text n is.0 is.1)
-
 -- a number is below a larger bound too
 pub below_more : (small large : ℕ) → small ≤ large → (o : Option Text) (n : ℕ) → HasNumber small o n → HasNumber large o n
 below_more small large le None n is = absurd is
 below_more small large le (Some text) n is = (is.0, omega (arith, is.1, le))
-
--- a text is one number
-pub same_number : (o : Option Text) (bound m n : ℕ) → bound ≤ 2 ^ 64 → HasNumber bound o m → HasNumber bound o n → m ≡ n
-same_number None bound m n small a b = absurd a
-same_number (Some text) bound m n small a b = decimal_injective m n (omega (arith, a.1, small)) (omega (arith, b.1, small)) (sym a.0 ∙ b.0)
 
 -- so it is no number below a bound where it is one at that bound or above
 pub not_below : (o : Option Text) (bound m n : ℕ) → HasNumber (2 ^ 32) o m → bound ≤ m → HasNumber bound o n → ⊥
@@ -96,43 +81,22 @@ not_below (Some text) bound m n a over b =
 pub none_narrower : (o : Option Text) → ((n : ℕ) → HasNumber (2 ^ 64) o n → ⊥) → (n : ℕ) → HasNumber (2 ^ 32) o n → ⊥
 none_narrower o none n is = none n (wider o n is)
 
--- a text that is needed is there, and is what every text there is
-pub needed_here : {text : Option Text} (there : Option Text) (v : Text) → text ≡ there → (text ≡ Some v) × IsValue v → (there ≡ Some v) × ((w : Text) → there ≡ Some w → IsValue w)
-needed_here there v same is =
-    let here : there ≡ Some v = sym same ∙ is.0 in
-    (here, λ w e. subst IsValue (same_Some v w (sym here ∙ e)) is.1)
-
--- what holds of each option of `mint` holds of all
-pub each_option : (P : Text → Type 0) → P (codes "issuer") → P (codes "serial") → P (codes "until") → P (codes "quoted") → P (codes "left") → P (codes "right") → (name : Text) → Contains mint_options name → P name
-each_option P issuer serial until quoted left right name (zero, within, is) = subst P is issuer
-each_option P issuer serial until quoted left right name (suc zero, within, is) = subst P is serial
-each_option P issuer serial until quoted left right name (suc (suc zero), within, is) = subst P is until
-each_option P issuer serial until quoted left right name (suc (suc (suc zero)), within, is) = subst P is quoted
-each_option P issuer serial until quoted left right name (suc (suc (suc (suc zero))), within, is) = subst P is left
-each_option P issuer serial until quoted left right name (suc (suc (suc (suc (suc zero)))), within, is) = subst P is right
-each_option P issuer serial until quoted left right name (suc (suc (suc (suc (suc (suc k))))), within, is) = absurd (omega (arith, within))
-
 -- ---- the words of an option
 
--- the name ends here: nothing follows, or `=` (61) does
+-- the name ends here: nothing follows, or `=` (61) and what may be a value
 abbrev pub EndsName : Text → Type 0
 EndsName [] = Unit {0}
-EndsName (x ∷ rest) = x ≡ 61
+EndsName (x ∷ rest) = (x ≡ 61) × IsValue rest
 
--- an option begins with two dashes
-pub has_dashes : (w name : Text) → IsOption w name → (text : Text) × (w ≡ codes "--" ++ text)
-has_dashes w name (alone e) = (name, e)
-has_dashes w name (joined v e) = (name ++ codes "=" ++ v, e)
-
--- behind them stands its name, which ends there
+-- behind two dashes stands its name, which ends there
 pub behind_dashes : (w text name : Text) → w ≡ codes "--" ++ text → IsOption w name → (rest : Text) × (text ≡ name ++ rest) × EndsName rest
 behind_dashes w text name is (alone e) = ([], append_cancel_left (codes "--") text name (sym is ∙ e) ∙ sym (append-nil name), tt)
-behind_dashes w text name is (joined v e) = (61 ∷ v, append_cancel_left (codes "--") text (name ++ codes "=" ++ v) (sym is ∙ e) ∙ append_assoc name (codes "=") v, refl)
+behind_dashes w text name is (joined v e value) = (61 ∷ v, append_cancel_left (codes "--") text (name ++ codes "=" ++ v) (sym is ∙ e) ∙ append_assoc name (codes "=") v, (refl, value))
 
 pub is_named : (w text name rest : Text) → w ≡ codes "--" ++ text → text ≡ name ++ rest → EndsName rest → IsOption w name
 is_named w text name [] is named ends = alone (is ∙ ap (λ (t : Text). codes "--" ++ t) (named ∙ append-nil name))
 is_named w text name (x ∷ v) is named ends =
-    joined v (is ∙ ap (λ (t : Text). codes "--" ++ t) (named ∙ ap (λ (y : ℕ). name ++ y ∷ v) ends ∙ sym (append_assoc name (codes "=") v)))
+    joined v (is ∙ ap (λ (t : Text). codes "--" ++ t) (named ∙ ap (λ (y : ℕ). name ++ y ∷ v) ends.0 ∙ sym (append_assoc name (codes "=") v))) ends.1
 
 -- an option whose name is there ends it
 pub ends_name : (w text name rest : Text) → w ≡ codes "--" ++ text → text ≡ name ++ rest → IsOption w name → EndsName rest
@@ -140,14 +104,15 @@ ends_name w text name rest is named o =
     let b = behind_dashes w text name is o in
     subst EndsName (append_cancel_left name b.0 rest (sym b.1 ∙ named)) b.2
 
--- what has no bytes ends a name, and what has begins with `=` where it does
+-- what has no bytes ends a name
 pub none_ends : (rest : Text) → length rest < 1 → EndsName rest
 none_ends [] none = tt
 none_ends (x ∷ rest) none = absurd (omega (arith, none))
 
-pub first_ends : (rest : Text) → 0 < length rest → (IsTrue (nat_eq (slice_index_or rest 0 0) 61) → EndsName rest) × (EndsName rest → IsTrue (nat_eq (slice_index_or rest 0 0) 61))
-first_ends [] some = absurd (omega (arith, some))
-first_ends (x ∷ rest) some = (λ yes. (Decides-eqb x 61).0 yes, λ is. (Decides-eqb x 61).1 is)
+-- behind `=` stands what may be a value
+pub value_ends : (rest : Text) → 0 < length rest → slice_index_or rest 0 0 ≡ 61 → (IsValue (drop 1 rest) → EndsName rest) × (EndsName rest → IsValue (drop 1 rest))
+value_ends [] some is = absurd (omega (arith, some))
+value_ends (x ∷ rest) some is = (λ value. (is, value), λ ends. ends.1)
 
 -- no option of the name where that does not follow the dashes
 pub not_named : (w text name : Text) → w ≡ codes "--" ++ text → ((rest : Text) → text ≡ name ++ rest → ⊥) → IsOption w name → ⊥
@@ -180,7 +145,7 @@ pub none_at_all : (w : Text) (names : List (Bor Text)) (i : ℕ) → length name
 none_at_all w names i all none o = none o.1.0 o.0 (omega (arith, o.1.1, all, texts_count names)) o.1.2 o.2
 
 -- a word of the table is plain, or one of the options
-pub of_known : (w : Text) (b : Bool) → (IsPlainWord w → ⊥) → (IsTrue b → IsOptionOf all_options w) × (IsOptionOf all_options w → IsTrue b) → (IsTrue b → IsOfTable w) × (IsOfTable w → IsTrue b)
+pub of_known : (w : Text) (b : Bool) → (IsValue w → ⊥) → (IsTrue b → IsOptionOf all_options w) × (IsOptionOf all_options w → IsTrue b) → (IsTrue b → IsOfTable w) × (IsOfTable w → IsTrue b)
 of_known w b dashed tells = (λ told. let o = tells.0 told in option o.0 o.1 o.2, from)
   where
     from : IsOfTable w → IsTrue b
@@ -218,116 +183,47 @@ refused_meaning words e wanted has other is = other (among_none e (fault_of taos
 
 -- ---- what was found
 
-serving_means : (texts : List Text) (command : Text) (serves : ℕ → Task) (given : List Given) (r : Option Wanted) → ((n : ℕ) → ServeFrames texts command n → TextsMean texts (serves n)) →
-    ((wanted : Task) → TextsMean texts wanted → (n : ℕ) × ServeFrames texts command n) → Contains commands (command, serving_options) →
-    texts ≡ command ∷ flat_map words_of given → AreNew serving_options [] given → IsServingOf serves (value_of (codes "frames") given) r → TextMeaning texts r
-serving_means texts command serves given (Some wanted) means only there are new is =
-    subst (TextsMean texts) (sym is.1) (means is.0 (serve_line texts command given is.0 are new is.2))
-serving_means texts command serves given None means only there are new none = λ wanted is.
-    let f = subst (λ (w : List Text). IsFound w command given) (sym are) (line_found (command, serving_options) there given new) in
-    let o = only wanted is in
-    none o.0 (served_frames texts command given o.0 there f o.1)
+names_in : {A : Type 0} (o : Option A) (f : A → Text × List Row) → option_map (λ x. (f x).0) o ≡ option_map (λ (p : Text × List Row). p.0) (option_map f o)
+names_in None f = refl
+names_in (Some x) f = refl
 
-lanes_mean : (texts : List Text) (command : Text) (serves : Limits → Task) (given : List Given) (r : Option Wanted) → ((limits : Limits) → ServeLanes texts command limits → TextsMean texts (serves limits)) →
-    ((wanted : Task) → TextsMean texts wanted → (limits : Limits) × ServeLanes texts command limits) → Contains commands (command, lane_options) →
-    texts ≡ command ∷ flat_map words_of given → AreNew lane_options [] given → IsLanesOf serves (λ name. value_of name given) r → TextMeaning texts r
-lanes_mean texts command serves given (Some wanted) means only there are new is =
-    subst (TextsMean texts) (sym is.1) (means is.0 (lanes_line texts command given is.0 are new is.2))
-lanes_mean texts command serves given None means only there are new none = λ wanted is.
-    let f = subst (λ (w : List Text). IsFound w command given) (sym are) (line_found (command, lane_options) there given new) in
-    let o = only wanted is in
-    none o.0 (lanes_limits texts command given o.0 there f o.1)
+-- a subcommand's name is that beside its rows
+pub named_by_rows : (m : ArgMatches) → subcommand_name_of m ≡ option_map (λ (p : Text × List Row). p.0) (subcommand_rows_of m)
+named_by_rows m = names_in (out-ArgMatches m).subcommand (λ b. ((out-SubCommand (box_value b)).name.now, rows_of (found_of (out-SubCommand (box_value b)).matches)))
 
--- texts that are taken as a command mean no other
-found_as : (texts : List Text) (c : Entry) (given : List Given) → Contains commands c → texts ≡ c.0 ∷ flat_map words_of given → AreNew c.1 [] given → IsFound texts c.0 given
-found_as texts c given there are new = subst (λ (w : List Text). IsFound w c.0 given) (sym are) (line_found c there given new)
+-- what the texts of rows are read as, by those of options that are given
+rows_texts : (given : List Given) → ◌≡◌ {A = Text → Option Text} (λ name. first_of name (rows_for given)) (texts_in given)
+rows_texts given = fun_ext (λ name. first_of_rows name given)
 
-taken_as : (texts : List Text) (c : Entry) (given : List Given) → Contains commands c → texts ≡ c.0 ∷ flat_map words_of given → AreNew c.1 [] given → IsTaken texts c.0
-taken_as texts c given there are new = (rows_for given, found_as texts c given there are new)
+-- the words of `drill` give the same by their places as by their rows
+by_rows : (a b c : Text) (d : DrillWords) → GivesDrill (text_at drill_names (a ∷ b ∷ c ∷ [])) d → GivesDrill (λ name. first_of name (rows_of_words (a ∷ b ∷ c ∷ []))) d
+by_rows a b c d g = record { seed = g.seed; requests = g.requests; lanes = g.lanes; some = g.some }
 
--- what the program reads of each command's rows
-pub record IsReadAs (m : ArgMatches) (r : Option Wanted) : Type 0 where
-  pub run : (rows : List Row) → subcommand_rows_of m ≡ Some (codes "run", rows) → IsServingOf (λ n. Run n) (first_of (codes "frames") rows) r
-  pub check : (rows : List Row) → subcommand_rows_of m ≡ Some (codes "check", rows) → option_map task_of r ≡ Some Check
-  pub relay : (rows : List Row) → subcommand_rows_of m ≡ Some (codes "relay", rows) → IsServingOf (λ n. Relay n) (first_of (codes "frames") rows) r
-  pub mint : (rows : List Row) → subcommand_rows_of m ≡ Some (codes "mint", rows) → IsMintOf (λ name. first_of name rows) r
-  pub serve : (rows : List Row) → subcommand_rows_of m ≡ Some (codes "serve", rows) → IsLanesOf (λ limits. Serve limits) (λ name. first_of name rows) r
-  pub relay_serve : (rows : List Row) → subcommand_rows_of m ≡ Some (codes "relay-serve", rows) → IsLanesOf (λ limits. RelayServe limits) (λ name. first_of name rows) r
-  pub audit : (rows : List Row) → subcommand_rows_of m ≡ Some (codes "audit", rows) → IsServingOf (λ n. Audit n) (first_of (codes "frames") rows) r
-  pub drill : (rows : List Row) → subcommand_rows_of m ≡ Some (codes "drill", rows) → IsDrillOf (λ name. first_of name rows) r
+by_places : (a b c : Text) (d : DrillWords) → GivesDrill (λ name. first_of name (rows_of_words (a ∷ b ∷ c ∷ []))) d → GivesDrill (text_at drill_names (a ∷ b ∷ c ∷ [])) d
+by_places a b c d g = record { seed = g.seed; requests = g.requests; lanes = g.lanes; some = g.some }
 
--- what three words give is read of their rows
-reads_three : (a b c : Text) (d : DrillWords) → AsksDrill (codes "drill" ∷ a ∷ b ∷ c ∷ []) d → ReadsDrill (λ name. first_of name (rows_of_words (a ∷ b ∷ c ∷ []))) d
-reads_three a b c d (seed, requests, lanes, is, gives) = record {
-  seed = subst (λ t. IsNumber (2 ^ 64) t d.seed) (sym (ap (λ (l : List Text). get_or l 1 []) is)) gives.seed;
-  requests = subst (λ t. IsNumber 10001 t d.requests) (sym (ap (λ (l : List Text). get_or l 2 []) is)) gives.requests;
-  lanes = subst (λ t. IsNumber 17 t d.lanes) (sym (ap (λ (l : List Text). get_or l 3 []) is)) gives.lanes;
-  some = gives.some;
-}
+these_three : (a b c : Text) (d : DrillWords) → AsksDrill (codes "drill" ∷ a ∷ b ∷ c ∷ []) d → GivesDrill (text_at drill_names (a ∷ b ∷ c ∷ [])) d
+these_three a b c d (x, y, z, is, gives) = subst (λ (l : List Text). GivesDrill (text_at drill_names (drop 1 l)) d) (sym is) gives
 
-module _ (texts : List Text) (m : ArgMatches) (r : Option Wanted) (read : IsReadAs m r) (same : ◌≡◌ {A = Option (Text × List Row)} (subcommand_rows_of m) (subcommand_of taos_app texts)) where
-  -- what is read of a line of this command is what it means
-  abbrev MeansIt : Entry → Type 0
-  MeansIt c = (given : List Given) → texts ≡ c.0 ∷ flat_map words_of given → AreNew c.1 [] given → TextMeaning texts r
-
-  rows_found : (c : Entry) (given : List Given) → Contains commands c → texts ≡ c.0 ∷ flat_map words_of given → AreNew c.1 [] given → ◌≡◌ {A = Option (Text × List Row)} (subcommand_rows_of m) (Some (c.0, rows_for given))
-  rows_found c given there are new = same ∙ (found_as texts c given there are new).found
-
-  run_means : MeansIt (codes "run", serving_options)
-  run_means given are new =
-      serving_means texts (codes "run") (λ n. Run n) given r (λ n is. is) (asked_for texts Running (taken_as texts (codes "run", serving_options) given run_there are new)) run_there are new
-      (subst (λ o. IsServingOf (λ n. Run n) o r) (first_of_rows (codes "frames") given) (read.run (rows_for given) (rows_found (codes "run", serving_options) given run_there are new)))
-
-  relay_means : MeansIt (codes "relay", serving_options)
-  relay_means given are new =
-      serving_means texts (codes "relay") (λ n. Relay n) given r (λ n is. is) (asked_for texts Relaying (taken_as texts (codes "relay", serving_options) given relay_there are new)) relay_there are new
-      (subst (λ o. IsServingOf (λ n. Relay n) o r) (first_of_rows (codes "frames") given) (read.relay (rows_for given) (rows_found (codes "relay", serving_options) given relay_there are new)))
-
-  check_means : MeansIt (codes "check", [])
-  check_means given are new = is_check r (read.check (rows_for given) (rows_found (codes "check", []) given check_there are new))
+module _ (texts : List Text) (m : ArgMatches) (r : Option Wanted) (read : (c : Command) (rows : List Row) → subcommand_rows_of m ≡ Some (named c, rows) → IsReadAs c (λ name. first_of name rows) r)
+    (same : ◌≡◌ {A = Option (Text × List Row)} (subcommand_rows_of m) (subcommand_of taos_app texts)) where
+  -- a line of a command with options means what is read of these
+  line_means : (c : Command) → TakesOptions c → (given : List Given) → texts ≡ named c ∷ flat_map words_of given → AreNew (options_of c) [] given → TextMeaning texts r
+  line_means c t given are new = by r (subst (λ f. IsReadAs c f r) (rows_texts given) (read c (rows_for given) (same ∙ found.found)))
     where
-      is_check : (o : Option Wanted) → option_map task_of o ≡ Some Check → TextMeaning texts o
-      is_check None e = absurd (none_is Check e)
-        where
-          none_is : (t : Task) → ◌≡◌ {A = Option Task} None (Some t) → ⊥
-          none_is t e = absurd cc
-      is_check (Some w) e =
-          subst (TextsMean texts) (sym (same_Some (task_of w) Check e)) (given, is_line texts (codes "check", []) given are new (λ name v has is. absurd (omega (arith, has.1))))
+      found : IsFound texts (named c) given
+      found = subst (λ (w : List Text). IsFound w (named c) given) (sym are) (line_found c t given new)
 
-  same_texts : (given : List Given) → ◌≡◌ {A = Text → Option Text} (λ name. first_of name (rows_for given)) (λ name. value_of name given)
-  same_texts given = fun_ext (λ name. first_of_rows name given)
+      by : (o : Option Wanted) → IsReadAs c (texts_in given) o → TextMeaning texts o
+      by (Some w) is = subst (TextsMean texts) (sym is.1) (t.means texts is.0 (given, is_line texts c given are new, is.2))
+      by None none = λ task means.
+          let o = asked_for texts c (rows_for given, found) task means in
+          let a = t.asks texts o.0 o.1 in
+          none o.0 (subst (λ f. Gives c f o.0) (same_texts texts (named c) a.0 given (law.found_line texts c t a.0 a.1) found) a.2)
 
-  serve_means : MeansIt (codes "serve", lane_options)
-  serve_means given are new =
-      lanes_mean texts (codes "serve") (λ limits. Serve limits) given r (λ limits is. is) (asked_for texts Serving (taken_as texts (codes "serve", lane_options) given serve_there are new)) serve_there are new
-      (subst (λ f. IsLanesOf (λ limits. Serve limits) f r) (same_texts given) (read.serve (rows_for given) (rows_found (codes "serve", lane_options) given serve_there are new)))
-
-  mint_means : MeansIt (codes "mint", mint_options)
-  mint_means given are new = is_mint r (subst (λ f. IsMintOf f r) (same_texts given) (read.mint (rows_for given) (rows_found (codes "mint", mint_options) given mint_there are new)))
-    where
-      is_mint : (o : Option Wanted) → IsMintOf (λ name. value_of name given) o → TextMeaning texts o
-      is_mint (Some w) is = subst (TextsMean texts) (sym is.1) (given, is_line texts (codes "mint", mint_options) given are new is.3, is.2)
-      is_mint None none = λ task is.
-          let taken = taken_as texts (codes "mint", mint_options) given mint_there are new in
-          let found = found_as texts (codes "mint", mint_options) given mint_there are new in
-          let o = asked_for texts Minting taken task is in
-          let f = law.found_line texts (codes "mint", mint_options) o.1.0 mint_there o.1.1 in
-          let same : (name : Text) → value_of name o.1.0 ≡ value_of name given = same_values texts (codes "mint") (codes "mint") o.1.0 given f found in
-          none o.0 (subst (λ g. GivesMint g o.0) (fun_ext same) o.1.2)
-          (λ name v has e. law.value_is o.1.0 o.1.1.values name v (same name ∙ e))
-
-  relay_serve_means : MeansIt (codes "relay-serve", lane_options)
-  relay_serve_means given are new =
-      lanes_mean texts (codes "relay-serve") (λ limits. RelayServe limits) given r (λ limits is. is) (asked_for texts RelayServing (taken_as texts (codes "relay-serve", lane_options) given relay_serve_there are new)) relay_serve_there are new
-      (subst (λ f. IsLanesOf (λ limits. RelayServe limits) f r) (same_texts given) (read.relay_serve (rows_for given) (rows_found (codes "relay-serve", lane_options) given relay_serve_there are new)))
-
-  audit_means : MeansIt (codes "audit", serving_options)
-  audit_means given are new =
-      serving_means texts (codes "audit") (λ n. Audit n) given r (λ n is. is) (asked_for texts Auditing (taken_as texts (codes "audit", serving_options) given audit_there are new)) audit_there are new
-      (subst (λ o. IsServingOf (λ n. Audit n) o r) (first_of_rows (codes "frames") given) (read.audit (rows_for given) (rows_found (codes "audit", serving_options) given audit_there are new)))
-
+  -- and one of `drill` what is read of its words
   drill_means : (ws : List Text) → texts ≡ codes "drill" ∷ ws → AreFew ws → TextMeaning texts r
-  drill_means ws are few = by few r (read.drill (rows_of_words ws) rows)
+  drill_means ws are few = by few r (read Drilling (rows_of_words ws) rows)
     where
       rows : ◌≡◌ {A = Option (Text × List Row)} (subcommand_rows_of m) (Some (codes "drill", rows_of_words ws))
       rows = same ∙ (ap (subcommand_of taos_app) are ∙ drill_rows ws few)
@@ -335,39 +231,34 @@ module _ (texts : List Text) (m : ArgMatches) (r : Option Wanted) (read : IsRead
       -- `drill` has three words in a line that means it
       asked : (l : List Text) → ws ≡ l → (task : Task) → TextsMean texts task → (d : DrillWords) × AsksDrill (codes "drill" ∷ l) d
       asked l is task means =
-          let taken : IsTaken texts (codes "drill") = asked_taken task means in
+          let f = meant_found texts task means in
+          let taken : IsTaken texts (codes "drill") = (rows_of_words ws, record { known = f.1.known; no_fault = f.1.no_fault; found = ap (subcommand_of taos_app) are ∙ drill_rows ws few }) in
           let o = asked_for texts Drilling taken task means in
           (o.0, subst (λ t. AsksDrill t o.0) (are ∙ ap (λ (k : List Text). codes "drill" ∷ k) is) o.1)
-        where
-          asked_taken : (t : Task) → TextsMean texts t → IsTaken texts (codes "drill")
-          asked_taken t is_meant =
-              let f = meant_found texts t is_meant in
-              (rows_of_words ws, record { known = f.1.known; no_fault = f.1.no_fault; found = ap (subcommand_of taos_app) are ∙ drill_rows ws few })
 
       too_few : (l : List Text) → length l < 3 → (d : DrillWords) → AsksDrill (codes "drill" ∷ l) d → ⊥
       too_few l less d (seed, requests, lanes, is, gives) = absurd (omega (arith, less, ap (λ (k : List Text). length k) is))
 
-      few_mean : (l : List Text) → ws ≡ l → length l < 3 → ((d : DrillWords) → ReadsDrill (λ name. first_of name (rows_of_words l)) d → ⊥) → (o : Option Wanted) → IsDrillOf (λ name. first_of name (rows_of_words ws)) o → TextMeaning texts o
-      few_mean l is less lacks (Some w) read_it = absurd (lacks read_it.0 (subst (λ k. ReadsDrill (λ name. first_of name (rows_of_words k)) read_it.0) is read_it.2))
+      few_mean : (l : List Text) → ws ≡ l → length l < 3 → ((d : DrillWords) → GivesDrill (λ name. first_of name (rows_of_words l)) d → ⊥) → (o : Option Wanted) → IsReadAs Drilling (λ name. first_of name (rows_of_words ws)) o → TextMeaning texts o
+      few_mean l is less lacks (Some w) read_it = absurd (lacks read_it.0 (subst (λ k. GivesDrill (λ name. first_of name (rows_of_words k)) read_it.0) is read_it.2))
       few_mean l is less lacks None none = λ task means. let o = asked l is task means in too_few l less o.0 o.1
 
-      three_mean : (a b c : Text) → ws ≡ a ∷ b ∷ c ∷ [] → (o : Option Wanted) → IsDrillOf (λ name. first_of name (rows_of_words ws)) o → TextMeaning texts o
+      three_mean : (a b c : Text) → ws ≡ a ∷ b ∷ c ∷ [] → (o : Option Wanted) → IsReadAs Drilling (λ name. first_of name (rows_of_words ws)) o → TextMeaning texts o
       three_mean a b c is (Some w) read_it =
-          let gives = subst (λ k. ReadsDrill (λ name. first_of name (rows_of_words k)) read_it.0) is read_it.2 in
-          subst (TextsMean texts) (sym read_it.1) (a, b, c, are ∙ ap (λ (k : List Text). codes "drill" ∷ k) is, record { seed = gives.seed; requests = gives.requests; lanes = gives.lanes; some = gives.some })
+          let gives = by_places a b c read_it.0 (subst (λ k. GivesDrill (λ name. first_of name (rows_of_words k)) read_it.0) is read_it.2) in
+          subst (TextsMean texts) (sym read_it.1) (a, b, c, are ∙ ap (λ (k : List Text). codes "drill" ∷ k) is, gives)
       three_mean a b c is None none = λ task means.
           let o = asked (a ∷ b ∷ c ∷ []) is task means in
-          none o.0 (subst (λ k. ReadsDrill (λ name. first_of name (rows_of_words k)) o.0) (sym is) (reads_three a b c o.0 o.1))
+          none o.0 (subst (λ k. GivesDrill (λ name. first_of name (rows_of_words k)) o.0) (sym is) (by_rows a b c o.0 (these_three a b c o.0 o.1)))
 
-      by : AreFew ws → (o : Option Wanted) → IsDrillOf (λ name. first_of name (rows_of_words ws)) o → TextMeaning texts o
+      by : AreFew ws → (o : Option Wanted) → IsReadAs Drilling (λ name. first_of name (rows_of_words ws)) o → TextMeaning texts o
       by (no_words is) o read_it = few_mean [] is (omega arith) (λ d x. x.lanes) o read_it
       by (one_word a pa is) o read_it = few_mean (a ∷ []) is (omega arith) (λ d x. x.lanes) o read_it
       by (two_words a b pa pb is) o read_it = few_mean (a ∷ b ∷ []) is (omega arith) (λ d x. x.lanes) o read_it
       by (three_words a b c pa pb pc is) o read_it = three_mean a b c is o read_it
 
   read_means : IsSplit texts → TextMeaning texts r
-  read_means (has_options command there given are new) =
-      each_command MeansIt run_means check_means relay_means mint_means serve_means relay_serve_means audit_means command there given are new
+  read_means (has_options c t given are new) = line_means c t given are new
   read_means (has_words ws are few) = drill_means ws are few
 
 as_meaning : (words : List (String Global)) (r : Option Wanted) → TextMeaning (map string_bytes words) r → IsMeaning words r
@@ -375,7 +266,7 @@ as_meaning words (Some wanted) is = is
 as_meaning words None is = is
 
 pub found_meaning : (words : List (String Global)) (m : ArgMatches) (r : Option Wanted) → All IsOfTable (map string_bytes words) → fault_of taos_app (map string_bytes words) ≡ [] → HasMatchesOf taos_app (map string_bytes words) m →
-    IsReadAs m r → IsMeaning words r
+    ((c : Command) (rows : List Row) → subcommand_rows_of m ≡ Some (named c, rows) → IsReadAs c (λ name. first_of name rows) r) → IsMeaning words r
 found_meaning words m r known none has read =
     let texts = map string_bytes words in
     as_meaning words r (read_means texts m r read (has taos_is_simple).1 (line_split texts known none))

@@ -1,10 +1,12 @@
 -- Which lines `clap` takes: a command of the table, and behind it its options.
-use Rattle.std.proofs.Common.{◌≡◌, zero, suc, ◌||◌, Bool, true, false, List, [], ◌∷◌, ◌++◌, map, Option, Some, None, is_some, refl, sym, ap, ap₂, subst, ◌∙◌, codes, arith}
+use Rattle.std.proofs.Common.{◌≡◌, suc, slice_index_or, ◌||◌, Bool, true, false, List, [], ◌∷◌, ◌++◌, map, Option, Some, None, is_some, refl, sym, ap, ap₂, subst, ◌∙◌, codes, arith}
 use Rattle.std.specs.Prelude.{Contains, cond, find, not, ◌&&◌}
-use Rattle.std.specs.List.{All, flat_map, fold}
+use Rattle.std.specs.List.{All, flat_map, fold, list_all, list_any}
 use Rattle.std.specs.Option.{option_map, option_map_or}
 use Rattle.std.specs.Str.{bytes_eq}
 use Rattle.std.proofs.lemmas.List.Elements.{All-nil, All-head, All-tail, All-cons}
+use Rattle.std.proofs.lemmas.Bool.{false≢true}
+use Rattle.std.proofs.lemmas.List.Sums.{AllPass-from_list_all}
 use Rattle.std.proofs.lemmas.Slice.Eq.{bytes_eq-Decides}
 use Rattle.clap.specs.Words.{App, Kinds, Row, Shape, Text, built, fault_of, subcommand_of}
 use Rattle.clap.specs.Kinds.{or_else}
@@ -16,20 +18,17 @@ use Rattle.clap.specs.declared.error.kind.ErrorKind.TheVariants as kind
 use Rattle.clap.proofs.OnLiterals.{clap_on_literals}
 use Rattle.clap.proofs.FaultLemmas.{stopped_fault}
 use Rattle.clap.proofs.WalkLemmas.{walk_stopped}
-use Rattle.node_words.specs.Table.{IsOfTable, IsPlainWord, all_options, commands, taos_app, plain, option, alone, joined}
-use Rattle.node_words.specs.Words.{Given, lane_options, mint_options, words_of}
+use Rattle.node_words.specs.Table.{IsOfTable, all_options, taos_app, with_options, plain, option, alone, joined}
+use Rattle.node_words.specs.Words.{Argument, Asked, Asks, Command, Given, HasValue, IsValue, TextsMean, Way, Joined, Apart, Alone, Running, Checking, Relaying, Minting, Serving, RelayServing, Auditing, Drilling, argument_in, named, option_named, options_of, task_for, words_for, words_of}
+use Rattle.node_words.proofs.Options.{has_name, holds_of_named}
 use Rattle.node_words.proofs.Drilled.{AreFew, three_words, drill_leaf, drill_pass, drill_split, few_rows, rows_of_words}
 use Rattle.node_words.proofs.Rows.{AreNew, rows_for}
 use Rattle.node_words.proofs.Walks.{Reads, fault_by, is_rest, leaf_of, rest_fault_by}
-use Rattle.node_words.proofs.Lines.{given_pass, given_rows, names, words_split}
+use Rattle.node_words.proofs.Lines.{given_pass, given_rows, read_alone, read_joined, words_split}
 
 -- the table's commands, once they are built
 abbrev pub whole : App
 whole = built taos_app
-
--- a command's name, and its options
-abbrev pub Entry : Type 0
-Entry = Text × List Text
 
 -- ---- the commands of the table
 
@@ -38,68 +37,57 @@ pub record IsMet (name : Text) (leaf : Shape) : Type 0 where
   pub met : ◌≡◌ {A = Option Text} (subcommand_met (names_of whole) idle name) (Some name)
   pub found : ◌≡◌ {A = Option Shape} (find (λ s. answers_to name (label_of s)) whole.subs) (Some leaf)
   pub no_help : bytes_eq name (codes "help") ≡ false
-  pub word : IsPlainWord name
+  pub word : IsValue name
 
--- the same of a command that has options, each of the table
-pub record IsEntry (c : Entry) : Type 0 where
-  pub is : IsMet c.0 (leaf_of c.0 c.1)
-  pub within : (name : Text) → Contains c.1 name → Contains all_options name
+-- the name is one of the table's options
+abbrev is_listed : Text → Bool
+is_listed name = list_any (λ option. bytes_eq option name) all_options
 
-none_of : (name : Text) → Contains [] name → ⊥
-none_of name has = absurd (omega (arith, has.1))
-
--- the one option of commands that serve is of the table, and so are those of commands that serve lanes, and each of `mint`
-frames_within : (name : Text) → Contains (codes "frames" ∷ []) name → Contains all_options name
-frames_within name (zero, within, is) = (1, omega arith, is)
-frames_within name (suc k, within, is) = absurd (omega (arith, within))
-
-lanes_within : (name : Text) → Contains lane_options name → Contains all_options name
-lanes_within name (zero, within, is) = (0, omega arith, is)
-lanes_within name (suc zero, within, is) = (1, omega arith, is)
-lanes_within name (suc (suc k), within, is) = absurd (omega (arith, within))
-
-mint_within : (name : Text) → Contains mint_options name → Contains all_options name
-mint_within name has = (suc (suc has.0), omega (arith, has.1), has.2)
-
-run_entry : IsEntry (codes "run", codes "frames" ∷ [])
-run_entry = record { is = record { met = refl; found = refl; no_help = refl; word = λ e. omega (arith, e) }; within = frames_within }
-
-check_entry : IsEntry (codes "check", [])
-check_entry = record { is = record { met = refl; found = refl; no_help = refl; word = λ e. omega (arith, e) }; within = λ name has. absurd (none_of name has) }
-
-relay_entry : IsEntry (codes "relay", codes "frames" ∷ [])
-relay_entry = record { is = record { met = refl; found = refl; no_help = refl; word = λ e. omega (arith, e) }; within = frames_within }
-
-mint_entry : IsEntry (codes "mint", mint_options)
-mint_entry = record { is = record { met = refl; found = refl; no_help = refl; word = λ e. omega (arith, e) }; within = mint_within }
-
-serve_entry : IsEntry (codes "serve", lane_options)
-serve_entry = record { is = record { met = refl; found = refl; no_help = refl; word = λ e. omega (arith, e) }; within = lanes_within }
-
-relay_serve_entry : IsEntry (codes "relay-serve", lane_options)
-relay_serve_entry = record { is = record { met = refl; found = refl; no_help = refl; word = λ e. omega (arith, e) }; within = lanes_within }
-
-audit_entry : IsEntry (codes "audit", codes "frames" ∷ [])
-audit_entry = record { is = record { met = refl; found = refl; no_help = refl; word = λ e. omega (arith, e) }; within = frames_within }
+-- a command that has options: each is of the table, and the words behind it mean what they give
+pub record TakesOptions (c : Command) : Type 0 where
+  pub is : IsMet (named c) (leaf_of (named c) (options_of c))
+  pub listed : list_all (λ a. is_listed a.name) (options_of c) ≡ true
+  pub asks : (words : List Text) (x : Asked c) → TextsMean words (task_for c x) → Asks c words x
+  pub means : (words : List Text) (x : Asked c) → Asks c words x → TextsMean words (task_for c x)
 
 -- the command that has words in place of options
 pub drill_met : IsMet (codes "drill") drill_leaf
 drill_met = record { met = refl; found = refl; no_help = refl; word = λ e. omega (arith, e) }
 
--- what holds of each command of the table holds of all
-pub each_command : (P : Entry → Type 0) → P (codes "run", codes "frames" ∷ []) → P (codes "check", []) → P (codes "relay", codes "frames" ∷ []) → P (codes "mint", mint_options) → P (codes "serve", lane_options) →
-    P (codes "relay-serve", lane_options) → P (codes "audit", codes "frames" ∷ []) → (c : Entry) → Contains commands c → P c
-each_command P run check relay mint serve relay_serve audit c (zero, within, is) = subst P is run
-each_command P run check relay mint serve relay_serve audit c (suc zero, within, is) = subst P is check
-each_command P run check relay mint serve relay_serve audit c (suc (suc zero), within, is) = subst P is relay
-each_command P run check relay mint serve relay_serve audit c (suc (suc (suc zero)), within, is) = subst P is mint
-each_command P run check relay mint serve relay_serve audit c (suc (suc (suc (suc zero))), within, is) = subst P is serve
-each_command P run check relay mint serve relay_serve audit c (suc (suc (suc (suc (suc zero)))), within, is) = subst P is relay_serve
-each_command P run check relay mint serve relay_serve audit c (suc (suc (suc (suc (suc (suc zero))))), within, is) = subst P is audit
-each_command P run check relay mint serve relay_serve audit c (suc (suc (suc (suc (suc (suc (suc k)))))), within, is) = absurd (omega (arith, within))
+pub data IsKind (c : Command) : Type 0 where
+  by_options : TakesOptions c → IsKind c
+  by_words : c ≡ Drilling → IsKind c
 
-pub entries : (c : Entry) → Contains commands c → IsEntry c
-entries = each_command IsEntry run_entry check_entry relay_entry mint_entry serve_entry relay_serve_entry audit_entry
+pub kind_for : (c : Command) → IsKind c
+kind_for Running = by_options (record { is = record { met = refl; found = refl; no_help = refl; word = λ e. omega (arith, e) }; listed = refl; asks = λ words x is. is; means = λ words x is. is })
+kind_for Checking = by_options (record { is = record { met = refl; found = refl; no_help = refl; word = λ e. omega (arith, e) }; listed = refl; asks = λ words x is. is; means = λ words x is. is })
+kind_for Relaying = by_options (record { is = record { met = refl; found = refl; no_help = refl; word = λ e. omega (arith, e) }; listed = refl; asks = λ words x is. is; means = λ words x is. is })
+kind_for Minting = by_options (record { is = record { met = refl; found = refl; no_help = refl; word = λ e. omega (arith, e) }; listed = refl; asks = λ words x is. is; means = λ words x is. is })
+kind_for Serving = by_options (record { is = record { met = refl; found = refl; no_help = refl; word = λ e. omega (arith, e) }; listed = refl; asks = λ words x is. is; means = λ words x is. is })
+kind_for RelayServing = by_options (record { is = record { met = refl; found = refl; no_help = refl; word = λ e. omega (arith, e) }; listed = refl; asks = λ words x is. is; means = λ words x is. is })
+kind_for Auditing = by_options (record { is = record { met = refl; found = refl; no_help = refl; word = λ e. omega (arith, e) }; listed = refl; asks = λ words x is. is; means = λ words x is. is })
+kind_for Drilling = by_words refl
+
+listed_first : (o name : Text) (os : List Text) (b : Bool) → bytes_eq o name ≡ b → (list_any (λ option. bytes_eq option name) os ≡ true → Contains os name) → list_any (λ option. bytes_eq option name) (o ∷ os) ≡ true → Contains (o ∷ os) name
+listed_first o name os true same rest is = (0, omega arith, (bytes_eq-Decides o name).0 same)
+listed_first o name os false other rest is =
+    let there = rest (sym (ap (λ b. b || list_any (λ option. bytes_eq option name) os) other) ∙ is) in
+    (suc there.0, omega (arith, there.1), there.2)
+
+listed_there : (name : Text) (options : List Text) → list_any (λ option. bytes_eq option name) options ≡ true → Contains options name
+listed_there name [] is = absurd (false≢true is)
+listed_there name (o ∷ os) is = listed_first o name os (bytes_eq o name) refl (listed_there name os) is
+
+-- an option of a command is one of the table
+within : (c : Command) → TakesOptions c → (name : Text) (a : Argument) → option_named (options_of c) name ≡ Some a → Contains all_options name
+within c t name a has =
+    let all : All (λ (x : Argument). Contains all_options x.name) (options_of c) =
+    λ k d lt. listed_there (slice_index_or (options_of c) k d).name all_options (AllPass-from_list_all (λ (x : Argument). is_listed x.name) (options_of c) t.listed k d lt) in
+    subst (Contains all_options) (has_name (options_of c) name a has) (holds_of_named (λ (x : Argument). Contains all_options x.name) (options_of c) name a all has)
+
+-- all commands, as the table has them
+abbrev commands : List Command
+commands = with_options ++ Drilling ∷ []
 
 -- ---- a line that begins with a command
 
@@ -157,16 +145,14 @@ module _ (name : Text) (leaf : Shape) (e : IsMet name leaf) (ws : List Text) whe
 
 -- ---- lines that are taken
 
-given_known : (name value : Text) (b : Bool) (options : List Text) (rows : List Row) (ws : List Text) → Contains all_options name → AreNew options rows (record { name = name; value = value; joined = b } ∷ []) → All IsOfTable ws →
-    All IsOfTable (words_of (record { name = name; value = value; joined = b }) ++ ws)
-given_known name value true options rows ws has new rest = All-cons IsOfTable (codes "--" ++ name ++ codes "=" ++ value) ws (option name has (joined value refl)) rest
-given_known name value false options rows ws has new rest =
-    All-cons IsOfTable (codes "--" ++ name) (value ∷ ws) (option name has (alone refl)) (All-cons IsOfTable value ws (plain new.2) rest)
+given_known : (name : Text) (way : Way) (ws : List Text) → Contains all_options name → HasValue way → All IsOfTable ws → All IsOfTable (words_for name way ++ ws)
+given_known name (Joined value) ws has is rest = All-cons IsOfTable (codes "--" ++ name ++ codes "=" ++ value) ws (option name has (joined value refl is)) rest
+given_known name (Apart value) ws has is rest = All-cons IsOfTable (codes "--" ++ name) (value ∷ ws) (option name has (alone refl)) (All-cons IsOfTable value ws (plain is) rest)
+given_known name Alone ws has is rest = All-cons IsOfTable (codes "--" ++ name) ws (option name has (alone refl)) rest
 
-all_given_known : (options : List Text) (rows : List Row) (gs : List Given) → ((name : Text) → Contains options name → Contains all_options name) → AreNew options rows gs → All IsOfTable (flat_map words_of gs)
-all_given_known options rows [] within new = All-nil IsOfTable
-all_given_known options rows (g ∷ gs) within new =
-    given_known g.name g.value g.joined options rows (flat_map words_of gs) (within g.name new.0) (new.0, new.1, new.2, tt) (all_given_known options _ gs within new.3)
+all_given_known : (options : List Argument) (rows : List Row) (gs : List Given) → ((name : Text) (a : Argument) → option_named options name ≡ Some a → Contains all_options name) → AreNew options rows gs → All IsOfTable (flat_map words_of gs)
+all_given_known options rows [] known new = All-nil IsOfTable
+all_given_known options rows (g ∷ gs) known new = given_known g.name g.way (flat_map words_of gs) (known g.name (argument_in g) new.0) new.2 (all_given_known options _ gs known new.3)
 
 -- what is found in a line that is taken
 pub record IsTakenAs (words : List Text) (command : Text) (rows : List Row) : Type 0 where
@@ -178,22 +164,22 @@ pub record IsTakenAs (words : List Text) (command : Text) (rows : List Row) : Ty
 abbrev pub IsFound : List Text → Text → List Given → Type 0
 IsFound words command given = IsTakenAs words command (rows_for given)
 
-pub line_found : (c : Entry) → Contains commands c → (given : List Given) → AreNew c.1 [] given → IsFound (c.0 ∷ flat_map words_of given) c.0 given
-line_found c there given new =
-    let e = entries c there in
+pub line_found : (c : Command) → TakesOptions c → (given : List Given) → AreNew (options_of c) [] given → IsFound (named c ∷ flat_map words_of given) (named c) given
+line_found c t given new =
     let ws = flat_map words_of given in
+    let leaf = leaf_of (named c) (options_of c) in
     record {
-      known = All-cons IsOfTable c.0 ws (plain e.is.word) (all_given_known c.1 [] given e.within new);
-      no_fault = command_level c.0 (leaf_of c.0 c.1) e.is ws ∙ ap (λ f. or_else f []) (given_pass c.0 c.1 e.within given new);
-      found = command_found c.0 (leaf_of c.0 c.1) e.is ws ∙ ap (λ (rows : List Row). Some (c.0, rows)) (given_rows c.0 c.1 e.within given new);
+      known = All-cons IsOfTable (named c) ws (plain t.is.word) (all_given_known (options_of c) [] given (within c t) new);
+      no_fault = command_level (named c) leaf t.is ws ∙ ap (λ f. or_else f []) (given_pass (named c) (options_of c) (within c t) given new);
+      found = command_found (named c) leaf t.is ws ∙ ap (λ (rows : List Row). Some (named c, rows)) (given_rows (named c) (options_of c) (within c t) given new);
     }
 
 -- the rows that are found behind `drill`
 pub drill_rows : (ws : List Text) → AreFew ws → ◌≡◌ {A = Option (Text × List Row)} (subcommand_of taos_app (codes "drill" ∷ ws)) (Some (codes "drill", rows_of_words ws))
 drill_rows ws few = command_found (codes "drill") drill_leaf drill_met ws ∙ ap (λ (rows : List Row). Some (codes "drill", rows)) (few_rows ws few)
 
--- three plain words behind `drill`
-pub drill_found : (a b c : Text) → IsPlainWord a → IsPlainWord b → IsPlainWord c → IsTakenAs (codes "drill" ∷ a ∷ b ∷ c ∷ []) (codes "drill") (rows_of_words (a ∷ b ∷ c ∷ []))
+-- three words behind `drill`
+pub drill_found : (a b c : Text) → IsValue a → IsValue b → IsValue c → IsTakenAs (codes "drill" ∷ a ∷ b ∷ c ∷ []) (codes "drill") (rows_of_words (a ∷ b ∷ c ∷ []))
 drill_found a b c pa pb pc =
     let ws = a ∷ b ∷ c ∷ [] in
     record {
@@ -205,28 +191,28 @@ drill_found a b c pa pb pc =
 -- ---- lines that are not
 
 -- the word is a command's name, or names none
-data Which (cs : List Entry) (w : Text) : Type 0 where
-  this : (c : Entry) → Contains cs c → c.0 ≡ w → Which cs w
-  other : ◌≡◌ {A = Option (Text × List Text)} (find (answers_to w) (map (λ (c : Entry). (c.0, [])) cs)) None → Which cs w
+data Which (cs : List Command) (w : Text) : Type 0 where
+  this : (c : Command) → named c ≡ w → Which cs w
+  other : ◌≡◌ {A = Option (Text × List Text)} (find (answers_to w) (map (λ (c : Command). (named c, [])) cs)) None → Which cs w
 
-abbrev by_name : Entry → List Entry → Text → Bool → Option (Text × List Text)
-by_name c cs w b = cond (b || false) (Some (c.0, [])) (find (answers_to w) (map (λ (x : Entry). (x.0, [])) cs))
+abbrev by_name : Command → List Command → Text → Bool → Option (Text × List Text)
+by_name c cs w b = cond (b || false) (Some (named c, [])) (find (answers_to w) (map (λ (x : Command). (named x, [])) cs))
 
-or_none : (c : Entry) (cs : List Entry) (w : Text) (b : Bool) → bytes_eq c.0 w ≡ b → Which cs w → Which (c ∷ cs) w
-or_none c cs w true is rest = this c (0, omega arith, refl) ((bytes_eq-Decides c.0 w).0 is)
-or_none c cs w false is (this d there same) = this d (suc there.0, omega (arith, there.1), there.2) same
+or_none : (c : Command) (cs : List Command) (w : Text) (b : Bool) → bytes_eq (named c) w ≡ b → Which cs w → Which (c ∷ cs) w
+or_none c cs w true is rest = this c ((bytes_eq-Decides (named c) w).0 is)
+or_none c cs w false is (this d same) = this d same
 or_none c cs w false is (other none) = other (ap (by_name c cs w) is ∙ none)
 
-which : (cs : List Entry) (w : Text) → Which cs w
+which : (cs : List Command) (w : Text) → Which cs w
 which [] w = other refl
-which (c ∷ cs) w = or_none c cs w (bytes_eq c.0 w) refl (which cs w)
+which (c ∷ cs) w = or_none c cs w (bytes_eq (named c) w) refl (which cs w)
 
 abbrev other_turn_by : Text → Option Text → Kinds
 other_turn_by w m =
     or_else (other_fault whole.top m w nothing_held) (step_fault whole.top 1 (subcommand_or_other whole.top.rules m idle 1 w nothing_held).0 (subcommand_or_other whole.top.rules m idle 1 w nothing_held).1)
 
 module _ (w : Text) (none : ◌≡◌ {A = Option Text} (subcommand_met (names_of whole) idle w) None) where
-  pub no_command : IsPlainWord w → turn_fault whole.top (names_of whole) (walk_from nothing_held) w ≡ kind.UnknownArgument ∷ kind.InvalidSubcommand ∷ []
+  pub no_command : IsValue w → turn_fault whole.top (names_of whole) (walk_from nothing_held) w ≡ kind.UnknownArgument ∷ kind.InvalidSubcommand ∷ []
   unfolding clap_on_literals
   no_command is =
       let r = is_rest w is in
@@ -246,8 +232,8 @@ module _ (w : Text) (none : ◌≡◌ {A = Option Text} (subcommand_met (names_o
 
   other_line : (ws : List Text) → IsOfTable w → fault_of taos_app (w ∷ ws) ≡ [] → ⊥
   other_line ws (plain is) e = refused kind.UnknownArgument (kind.InvalidSubcommand ∷ []) ws (no_command is) e
-  other_line ws (option name has (alone is)) e = refused kind.UnknownArgument [] ws (no_option name None (subst (λ y. Reads y name None) (sym is) (names name has).bare)) e
-  other_line ws (option name has (joined v is)) e = refused kind.UnknownArgument [] ws (no_option name (Some v) (subst (λ y. Reads y name (Some v)) (sym is) ((names name has).whole v))) e
+  other_line ws (option name has (alone is)) e = refused kind.UnknownArgument [] ws (no_option name None (read_alone w name has is)) e
+  other_line ws (option name has (joined v is value)) e = refused kind.UnknownArgument [] ws (no_option name (Some v) (read_joined w name v has is)) e
 
 no_word : fault_of taos_app [] ≡ kind.MissingSubcommand ∷ []
 unfolding clap_on_literals
@@ -255,46 +241,28 @@ no_word = refl
 
 -- a line that is taken is that of a command with its options, or `drill` with words
 pub data IsSplit (words : List Text) : Type 0 where
-  has_options : (command : Entry) → Contains commands command → (given : List Given) → words ≡ command.0 ∷ flat_map words_of given → AreNew command.1 [] given → IsSplit words
+  has_options : (c : Command) → TakesOptions c → (given : List Given) → words ≡ named c ∷ flat_map words_of given → AreNew (options_of c) [] given → IsSplit words
   has_words : (ws : List Text) → words ≡ codes "drill" ∷ ws → AreFew ws → IsSplit words
 
 or_else_none : (a b : Kinds) → or_else a b ≡ [] → a ≡ []
 or_else_none [] b none = refl
 or_else_none (k ∷ ks) b none = absurd cc
 
--- what is found behind those where nothing is
-find_behind : (p : Text × List Text → Bool) (l : List (Text × List Text)) (x : Text × List Text) → ◌≡◌ {A = Option (Text × List Text)} (find p l) None →
-    ◌≡◌ {A = Option (Text × List Text)} (find p (l ++ x ∷ [])) (cond (p x) (Some x) None)
-find_behind p [] x e = refl
-find_behind p (y ∷ l) x e = by (p y) refl e (λ none. find_behind p l x none)
-  where
-    by : (b : Bool) → p y ≡ b → ◌≡◌ {A = Option (Text × List Text)} (cond b (Some y) (find p l)) None →
-        (◌≡◌ {A = Option (Text × List Text)} (find p l) None → ◌≡◌ {A = Option (Text × List Text)} (find p (l ++ x ∷ [])) (cond (p x) (Some x) None)) →
-        ◌≡◌ {A = Option (Text × List Text)} (find p (y ∷ l ++ x ∷ [])) (cond (p x) (Some x) None)
-    by true is none rest = absurd (cc none)
-    by false is none rest = ap (λ (c : Bool). cond c (Some y) (find p (l ++ x ∷ []))) is ∙ rest none
+-- the words behind a command have no fault
+behind_taken : (name : Text) (leaf : Shape) → IsMet name leaf → (w : Text) (ws : List Text) → name ≡ w → fault_of taos_app (w ∷ ws) ≡ [] → leaf_fault leaf ws ≡ []
+behind_taken name leaf e w ws same none = or_else_none (leaf_fault leaf ws) [] (sym (command_level name leaf e ws) ∙ subst (λ y. fault_of taos_app (y ∷ ws) ≡ []) (sym same) none)
 
-split_drill : (w : Text) (ws : List Text) → codes "drill" ≡ w → All IsOfTable ws → fault_of taos_app (w ∷ ws) ≡ [] → IsSplit (w ∷ ws)
-split_drill w ws same all none =
-    has_words ws (ap (λ (y : Text). y ∷ ws) (sym same))
-    (drill_split ws all (or_else_none (leaf_fault drill_leaf ws) [] (sym (command_level (codes "drill") drill_leaf drill_met ws) ∙ subst (λ y. fault_of taos_app (y ∷ ws) ≡ []) (sym same) none)))
-
--- the names of the commands with options are those before `drill`
-abbrev by_drill : Bool → Option (Text × List Text)
-by_drill b = cond (b || false) (Some (codes "drill", [])) None
-
-split_other : (w : Text) (ws : List Text) (b : Bool) → bytes_eq (codes "drill") w ≡ b → ◌≡◌ {A = Option (Text × List Text)} (find (answers_to w) (names_of whole)) (by_drill (bytes_eq (codes "drill") w)) →
-    IsOfTable w → All IsOfTable ws → fault_of taos_app (w ∷ ws) ≡ [] → IsSplit (w ∷ ws)
-split_other w ws true is rest known all none = split_drill w ws ((bytes_eq-Decides (codes "drill") w).0 is) all none
-split_other w ws false is rest known all none = absurd (other_line w (ap (option_map (λ (s : Text × List Text). s.0)) (rest ∙ ap by_drill is)) ws known none)
+split_kind : (c : Command) (w : Text) (ws : List Text) → named c ≡ w → IsKind c → All IsOfTable ws → fault_of taos_app (w ∷ ws) ≡ [] → IsSplit (w ∷ ws)
+split_kind c w ws same (by_options t) all none =
+    let split = words_split (named c) (options_of c) ws all (behind_taken (named c) (leaf_of (named c) (options_of c)) t.is w ws same none) in
+    has_options c t split.0 (ap₂ (λ (y : Text) (l : List Text). y ∷ l) (sym same) split.1) split.2
+split_kind c w ws same (by_words is) all none =
+    let drills : codes "drill" ≡ w = sym (ap named is) ∙ same in
+    has_words ws (ap (λ (y : Text). y ∷ ws) (sym drills)) (drill_split ws all (behind_taken (codes "drill") drill_leaf drill_met w ws drills none))
 
 split_which : (w : Text) (ws : List Text) → Which commands w → IsOfTable w → All IsOfTable ws → fault_of taos_app (w ∷ ws) ≡ [] → IsSplit (w ∷ ws)
-split_which w ws (this c there same) known all none =
-    let e = entries c there in
-    let split = words_split c.0 c.1 ws all (or_else_none (leaf_fault (leaf_of c.0 c.1) ws) [] (sym (command_level c.0 (leaf_of c.0 c.1) e.is ws) ∙ subst (λ y. fault_of taos_app (y ∷ ws) ≡ []) (sym same) none)) in
-    has_options c there split.0 (ap₂ (λ (y : Text) (l : List Text). y ∷ l) (sym same) split.1) split.2
-split_which w ws (other none_met) known all none =
-    split_other w ws (bytes_eq (codes "drill") w) refl (find_behind (answers_to w) (map (λ (c : Entry). (c.0, [])) commands) (codes "drill", []) none_met) known all none
+split_which w ws (this c same) known all none = split_kind c w ws same (kind_for c) all none
+split_which w ws (other none_met) known all none = absurd (other_line w (ap (option_map (λ (s : Text × List Text). s.0)) none_met) ws known none)
 
 pub line_split : (words : List Text) → All IsOfTable words → fault_of taos_app words ≡ [] → IsSplit words
 line_split [] all none = absurd (cc (no_word, none))

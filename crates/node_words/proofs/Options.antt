@@ -1,9 +1,12 @@
 -- The rules of a command's options: each is found by its name, and no other is.
-use Rattle.std.proofs.Common.{◌≡◌, ℕ, zero, suc, ◌||◌, Bool, true, false, List, [], ◌∷◌, map, Option, Some, None, refl, sym, ap, ◌∙◌, arith}
-use Rattle.std.specs.Prelude.{Contains, cond, not, ◌&&◌}
-use Rattle.std.specs.List.{fold, list_any}
+use Rattle.std.proofs.Common.{◌≡◌, ℕ, ◌||◌, Bool, true, false, List, [], ◌∷◌, map, Option, Some, None, refl, sym, ap, subst, ◌∙◌}
+use Rattle.std.specs.Prelude.{cond, not, ◌&&◌}
+use Rattle.std.specs.List.{All, fold, list_any}
+use Rattle.std.specs.Option.{option_map}
 use Rattle.std.specs.Str.{bytes_eq}
 use Rattle.std.proofs.lemmas.Bool.{false≢true}
+use Rattle.std.proofs.lemmas.List.Elements.{All-head, All-tail}
+use Rattle.std.proofs.lemmas.Option.{same_Some}
 use Rattle.std.proofs.lemmas.Slice.Eq.{bytes_eq-Decides}
 use Rattle.clap.specs.Words.{Row, Rule, Text}
 use Rattle.clap.specs.Walk.{arg_by_id, arg_by_index, arg_by_long, has_row, with_default}
@@ -12,12 +15,13 @@ use Rattle.clap.specs.Faults.{defaults_fault}
 use Rattle.clap.specs.Takes.{is_given}
 use Rattle.clap.proofs.OnLiterals.{clap_on_literals}
 use Rattle.node_words.specs.Table.{option_rule}
+use Rattle.node_words.specs.Words.{Argument, flag, option_named, valued}
 
 -- the rule of an option, and the rules of a command's, once the command is built
-abbrev pub rule_for : Text → Rule
-rule_for option = with_index 1 (filled (option_rule option))
+abbrev pub rule_for : Argument → Rule
+rule_for a = with_index 1 (filled (option_rule a))
 
-abbrev pub rules_for : List Text → List Rule
+abbrev pub rules_for : List Argument → List Rule
 rules_for options = filled_from 1 (map option_rule options)
 
 -- a text is itself
@@ -38,78 +42,114 @@ two_texts a b apart same = false≢true (sym apart ∙ (bytes_eq-Decides a b).1 
 
 -- ---- rules by name
 
--- the command has the option, whose rule is found, or it has not, and none is
-pub data Knows (options : List Text) (name : Text) : Type 0 where
-  yes : Contains options name → arg_by_long (rules_for options) name ≡ Some (rule_for name) →
-      arg_by_id (rules_for options) name ≡ Some (rule_for name) → Knows options name
-  no : (Contains options name → ⊥) → arg_by_long (rules_for options) name ≡ None → Knows options name
-
--- what is found among rules, by whether the first is it
-abbrev by_first : Bool → Text → Option Rule → Option Rule
-by_first is option rest = cond is (Some (rule_for option)) rest
-
 or_false : (b : Bool) → (b || false) ≡ b
 or_false true = refl
 or_false false = refl
 
-long_first : (o : Text) (os : List Text) (name : Text) → arg_by_long (rules_for (o ∷ os)) name ≡ by_first (bytes_eq o name) o (arg_by_long (rules_for os) name)
-long_first o os name = ap (λ b. by_first b o (arg_by_long (rules_for os) name)) (or_false (bytes_eq o name))
+-- what is found among rules, by whether the first is it
+abbrev by_first : Bool → Argument → Option Rule → Option Rule
+by_first is a rest = cond is (Some (rule_for a)) rest
 
-id_first : (o : Text) (os : List Text) (name : Text) → arg_by_id (rules_for (o ∷ os)) name ≡ by_first (bytes_eq o name) o (arg_by_id (rules_for os) name)
-id_first o os name = refl
+-- the same of options, as their rules
+abbrev first_named : Bool → Argument → List Argument → Text → Option Rule
+first_named is a options name = option_map rule_for (cond is (Some a) (option_named options name))
 
-none_of : (name : Text) → Contains [] name → ⊥
-none_of name has = absurd (omega (arith, has.1))
+rule_of_first : (b : Bool) (a : Argument) (options : List Argument) (name : Text) → by_first b a (option_map rule_for (option_named options name)) ≡ first_named b a options name
+rule_of_first true a options name = refl
+rule_of_first false a options name = refl
 
-behind : (o : Text) (os : List Text) (name : Text) → (o ≡ name → ⊥) → Contains (o ∷ os) name → Contains os name
-behind o os name other (zero, within, is) = absurd (other is)
-behind o os name other (suc k, within, is) = (k, omega (arith, within), is)
+-- an option, by its name and whether it is a flag
+abbrev arg : Text → Bool → Argument
+arg name is_flag = record { name = name; is_flag = is_flag }
 
-knows_first : (o : Text) (os : List Text) (name : Text) (b : Bool) → bytes_eq o name ≡ b → Knows os name → Knows (o ∷ os) name
-knows_first o os name true is rest =
-    let same : o ≡ name = (bytes_eq-Decides o name).0 is in
-    yes (0, omega arith, same)
-    (long_first o os name ∙ ap (λ b. by_first b o (arg_by_long (rules_for os) name)) is ∙ ap (λ t. Some (rule_for t)) same)
-    (id_first o os name ∙ ap (λ b. by_first b o (arg_by_id (rules_for os) name)) is ∙ ap (λ t. Some (rule_for t)) same)
-knows_first o os name false is (yes has long id) =
-    yes (suc has.0, omega (arith, has.1), has.2)
-    (long_first o os name ∙ ap (λ b. by_first b o (arg_by_long (rules_for os) name)) is ∙ long)
-    (id_first o os name ∙ ap (λ b. by_first b o (arg_by_id (rules_for os) name)) is ∙ id)
-knows_first o os name false is (no has_not long) =
-    no (λ has. has_not (behind o os name (two_texts o name is) has))
-    (long_first o os name ∙ ap (λ b. by_first b o (arg_by_long (rules_for os) name)) is ∙ long)
+long_first : (o : Text) (f : Bool) (os : List Argument) (name : Text) → arg_by_long (rules_for (arg o f ∷ os)) name ≡ by_first (bytes_eq o name) (arg o f) (arg_by_long (rules_for os) name)
+long_first o true os name = ap (λ b. by_first b (flag o) (arg_by_long (rules_for os) name)) (or_false (bytes_eq o name))
+long_first o false os name = ap (λ b. by_first b (valued o) (arg_by_long (rules_for os) name)) (or_false (bytes_eq o name))
 
-pub knows : (options : List Text) (name : Text) → Knows options name
-knows [] name = no (none_of name) refl
-knows (o ∷ os) name = knows_first o os name (bytes_eq o name) refl (knows os name)
+id_first : (o : Text) (f : Bool) (os : List Argument) (name : Text) → arg_by_id (rules_for (arg o f ∷ os)) name ≡ by_first (bytes_eq o name) (arg o f) (arg_by_id (rules_for os) name)
+id_first o true os name = refl
+id_first o false os name = refl
+
+-- the rule of an option's name is that of the option
+pub long_named : (options : List Argument) (name : Text) → arg_by_long (rules_for options) name ≡ option_map rule_for (option_named options name)
+long_named [] name = refl
+long_named (a ∷ os) name = long_first a.name a.is_flag os name ∙ ap (by_first (bytes_eq a.name name) a) (long_named os name) ∙ rule_of_first (bytes_eq a.name name) a os name
+
+pub id_named : (options : List Argument) (name : Text) → arg_by_id (rules_for options) name ≡ option_map rule_for (option_named options name)
+id_named [] name = refl
+id_named (a ∷ os) name = id_first a.name a.is_flag os name ∙ ap (by_first (bytes_eq a.name name) a) (id_named os name) ∙ rule_of_first (bytes_eq a.name name) a os name
+
+-- an option that is found by a name has this name
+first_has_name : (a : Argument) (options : List Argument) (name : Text) (found : Argument) (b : Bool) → bytes_eq a.name name ≡ b → (option_named options name ≡ Some found → found.name ≡ name) →
+    option_named (a ∷ options) name ≡ Some found → found.name ≡ name
+first_has_name a options name found true is rest e =
+    ap (λ (x : Argument). x.name) (same_Some found a (sym e ∙ ap (λ b. cond b (Some a) (option_named options name)) is)) ∙ (bytes_eq-Decides a.name name).0 is
+first_has_name a options name found false is rest e = rest (sym (ap (λ b. cond b (Some a) (option_named options name)) is) ∙ e)
+
+none_named : (found : Argument) → ◌≡◌ {A = Option Argument} None (Some found) → ⊥
+none_named found e = absurd cc
+
+pub has_name : (options : List Argument) (name : Text) (found : Argument) → option_named options name ≡ Some found → found.name ≡ name
+has_name [] name found e = absurd (none_named found e)
+has_name (a ∷ options) name found e = first_has_name a options name found (bytes_eq a.name name) refl (has_name options name found) e
+
+-- what holds of each option holds of one that is found
+first_holds : (P : Argument → Type 0) (a : Argument) (options : List Argument) (name : Text) (found : Argument) (b : Bool) → bytes_eq a.name name ≡ b → P a → (option_named options name ≡ Some found → P found) →
+    option_named (a ∷ options) name ≡ Some found → P found
+first_holds P a options name found true is this rest e = subst P (same_Some a found (sym (ap (λ b. cond b (Some a) (option_named options name)) is) ∙ e)) this
+first_holds P a options name found false is this rest e = rest (sym (ap (λ b. cond b (Some a) (option_named options name)) is) ∙ e)
+
+pub holds_of_named : (P : Argument → Type 0) (options : List Argument) (name : Text) (found : Argument) → All P options → option_named options name ≡ Some found → P found
+holds_of_named P [] name found all e = absurd (none_named found e)
+holds_of_named P (a ∷ options) name found all e =
+    first_holds P a options name found (bytes_eq a.name name) refl (All-head P a options all) (holds_of_named P options name found (All-tail P a options all)) e
 
 -- ---- what no option is
 
 -- none stands at a position
-pub no_position : (options : List Text) (i : ℕ) → arg_by_index (rules_for options) i ≡ None
+position_first : (o : Text) (f : Bool) (os : List Argument) (i : ℕ) → arg_by_index (rules_for (arg o f ∷ os)) i ≡ arg_by_index (rules_for os) i
+position_first o true os i = refl
+position_first o false os i = refl
+
+pub no_position : (options : List Argument) (i : ℕ) → arg_by_index (rules_for options) i ≡ None
 no_position [] i = refl
-no_position (o ∷ os) i = no_position os i
+no_position (a ∷ os) i = position_first a.name a.is_flag os i ∙ no_position os i
 
 -- none has a default
-defaults_first : (o : Text) (os : List Text) (rows : List Row) (b : Bool) → has_row o rows ≡ b → defaults_fault rows (rules_for os) ≡ [] → defaults_fault rows (rules_for (o ∷ os)) ≡ []
+defaults_first : (o : Text) (f : Bool) (os : List Argument) (rows : List Row) (b : Bool) → has_row o rows ≡ b → defaults_fault rows (rules_for os) ≡ [] → defaults_fault rows (rules_for (arg o f ∷ os)) ≡ []
 unfolding clap_on_literals
-defaults_first o os rows true is rest = rw is rest
-defaults_first o os rows false is rest = rw is rest
+defaults_first o true os rows true is rest = rw is rest
+defaults_first o true os rows false is rest = rw is rest
+defaults_first o false os rows true is rest = rw is rest
+defaults_first o false os rows false is rest = rw is rest
 
-pub no_defaults : (options : List Text) (rows : List Row) → defaults_fault rows (rules_for options) ≡ []
+pub no_defaults : (options : List Argument) (rows : List Row) → defaults_fault rows (rules_for options) ≡ []
 unfolding clap_on_literals
 no_defaults [] rows = refl
-no_defaults (o ∷ os) rows = defaults_first o os rows (has_row o rows) refl (no_defaults os rows)
+no_defaults (a ∷ os) rows = defaults_first a.name a.is_flag os rows (has_row a.name rows) refl (no_defaults os rows)
 
 either_way : (b : Bool) (rows : List Row) → cond b rows rows ≡ rows
 either_way true rows = refl
 either_way false rows = refl
 
-pub keeps_rows : (options : List Text) (rows : List Row) → fold with_default rows (rules_for options) ≡ rows
+keeps_first : (o : Text) (f : Bool) (rows : List Row) → with_default rows (rule_for (arg o f)) ≡ rows
+keeps_first o true rows = either_way (has_row o rows) rows
+keeps_first o false rows = either_way (has_row o rows) rows
+
+rules_first : (o : Text) (f : Bool) (os : List Argument) → ◌≡◌ {A = List Rule} (rules_for (arg o f ∷ os)) (rule_for (arg o f) ∷ rules_for os)
+rules_first o true os = refl
+rules_first o false os = refl
+
+pub keeps_rows : (options : List Argument) (rows : List Row) → fold with_default rows (rules_for options) ≡ rows
 keeps_rows [] rows = refl
-keeps_rows (o ∷ os) rows = ap (λ (l : List Row). fold with_default l (rules_for os)) (either_way (has_row o rows) rows) ∙ keeps_rows os rows
+keeps_rows (a ∷ os) rows =
+    ap (fold with_default rows) (rules_first a.name a.is_flag os) ∙ ap (λ (l : List Row). fold with_default l (rules_for os)) (keeps_first a.name a.is_flag rows) ∙ keeps_rows os rows
 
 -- none has to be given
-pub none_required : (options : List Text) (rows : List Row) → list_any (λ a. a.required && not (is_given a.id rows)) (rules_for options) ≡ false
+required_first : (o : Text) (f : Bool) (os : List Argument) (rows : List Row) → list_any (λ a. a.required && not (is_given a.id rows)) (rules_for os) ≡ false → list_any (λ a. a.required && not (is_given a.id rows)) (rules_for (arg o f ∷ os)) ≡ false
+required_first o true os rows rest = rest
+required_first o false os rows rest = rest
+
+pub none_required : (options : List Argument) (rows : List Row) → list_any (λ a. a.required && not (is_given a.id rows)) (rules_for options) ≡ false
 none_required [] rows = refl
-none_required (o ∷ os) rows = none_required os rows
+none_required (a ∷ os) rows = required_first a.name a.is_flag os rows (none_required os rows)

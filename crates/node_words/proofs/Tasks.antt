@@ -1,30 +1,10 @@
 -- A task as its command and what that is asked for, so that what holds of all tasks is shown once for each command.
-use Rattle.std.proofs.Common.{◌≡◌, ℕ, refl, codes}
+use Rattle.std.proofs.Common.{◌≡◌, Option, refl, sym, ap, subst, ◌∙◌, codes}
+use Rattle.node_words.specs.declared.wanted.Wanted.{Wanted}
+use Rattle.node_words.specs.Table.{IsReadAs}
 use Rattle.std.specs.Prelude.{cond}
 use Rattle.std.specs.Str.{bytes_eq}
-use Rattle.frame_link.specs.declared.limits.Limits.{Limits}
-use Rattle.node_words.specs.Words.{Text, MintWords, DrillWords, Task, Run, Check, Relay, Mint, Serve, RelayServe, Audit, Drill}
-
-pub data Command : Type 0 where
-  Running : Command
-  Checking : Command
-  Relaying : Command
-  Minting : Command
-  Serving : Command
-  RelayServing : Command
-  Auditing : Command
-  Drilling : Command
-
--- its first word
-abbrev pub named : Command → Text
-named Running = codes "run"
-named Checking = codes "check"
-named Relaying = codes "relay"
-named Minting = codes "mint"
-named Serving = codes "serve"
-named RelayServing = codes "relay-serve"
-named Auditing = codes "audit"
-named Drilling = codes "drill"
+use Rattle.node_words.specs.Words.{Asked, Command, Running, Checking, Relaying, Minting, Serving, RelayServing, Auditing, Drilling, Text, Task, Run, Check, Relay, Mint, Serve, RelayServe, Audit, Drill, named, task_for}
 
 -- the command that is named so
 abbrev pub command_named : Text → Command
@@ -47,6 +27,12 @@ command_named-named RelayServing = refl
 command_named-named Auditing = refl
 command_named-named Drilling = refl
 
+-- what is read of a command is read of each that has its name
+pub by_command : (d : Command) (name : Text) (text_of : Text → Option Text) (r : Option Wanted) → name ≡ named d → IsReadAs d text_of r → (c : Command) → name ≡ named c → IsReadAs c text_of r
+by_command d name text_of r is read c other =
+    let same : d ≡ c = sym (command_named-named d) ∙ ap command_named (sym is ∙ other) ∙ command_named-named c in
+    subst (λ (k : Command). IsReadAs k text_of r) same read
+
 -- ---- tasks
 
 abbrev pub command_of : Task → Command
@@ -58,27 +44,6 @@ command_of (Serve limits) = Serving
 command_of (RelayServe limits) = RelayServing
 command_of (Audit n) = Auditing
 command_of (Drill d) = Drilling
-
--- what a command is asked for
-abbrev pub Asked : Command → Type 0
-Asked Running = ℕ
-Asked Checking = Unit {0}
-Asked Relaying = ℕ
-Asked Minting = MintWords
-Asked Serving = Limits
-Asked RelayServing = Limits
-Asked Auditing = ℕ
-Asked Drilling = DrillWords
-
-abbrev pub task_for : (c : Command) → Asked c → Task
-task_for Running n = Run n
-task_for Checking nothing = Check
-task_for Relaying n = Relay n
-task_for Minting m = Mint m
-task_for Serving limits = Serve limits
-task_for RelayServing limits = RelayServe limits
-task_for Auditing n = Audit n
-task_for Drilling d = Drill d
 
 -- each task is one of its command
 pub asked_of : (t : Task) → (x : Asked (command_of t)) × (task_for (command_of t) x ≡ t)

@@ -1,28 +1,53 @@
 -- The commands and their options, as `clap` sees them.
-use Rattle.std.specs.Prelude.{◌≡◌, ◌≢◌, ℕ, ◌+◌, ◌≤◌, ◌^◌, List, [], ◌∷◌, ◌++◌, map, fold, Contains, codes, true, false, Option, Some, None}
-use Rattle.frame_link.specs.declared.limits.Limits.{Limits}
-use Rattle.taos_drill.specs.declared.numbers.TheConstants.{MAX_LANES, MAX_REQUESTS}
+use Rattle.std.specs.Prelude.{◌≡◌, List, [], ◌∷◌, ◌++◌, map, fold, if◌then◌else◌, Contains, MatchOption, codes, true, false, Option, Some, None}
 use Rattle.node_words.specs.declared.wanted.Wanted.{Wanted}
-use Rattle.node_words.specs.Words.{AreConnections, AreFrames, GivesLimits, GivesMint, HasNumber, IsValue, MintWords, DrillWords, Drill, Mint, Task, lane_options, mint_options, serving_options, task_of}
-use Rattle.clap.specs.Words.{App, Rule, Text, app_of, new_app, new_rule, with_subcommand}
+use Rattle.node_words.specs.declared.table.Argument.{Argument as Declared}
+use Rattle.node_words.specs.declared.table.Argument.TheVariants as declared
+use Rattle.node_words.specs.declared.table.Entry.{Entry}
+use Rattle.node_words.specs.Words.{Argument, Asked, Command, Gives, IsValue, Running, Checking, Relaying, Minting, Serving, RelayServing, Auditing, drill_names, flag, named, options_of, task_for, task_of, valued}
+use Rattle.clap.specs.Words.{App, Rule, Text, app_of, first_of, found_of, rows_of, new_app, new_rule, with_subcommand}
 use Rattle.clap.specs.declared.builder.command.Command.TheViews.{out-Command}
 use Rattle.clap.specs.Simple.{on_top}
-use Rattle.clap.specs.declared.builder.command.Command.{Command}
+use Rattle.clap.specs.declared.builder.command.Command.{Command as Built}
+use Rattle.clap.specs.declared.parser.matches.ArgMatches.{ArgMatches}
 use Rattle.clap.specs.declared.builder.action.ArgAction.TheVariants.{Set}
 
+-- an option of the program
+abbrev pub argument_of : Declared → Argument
+argument_of (declared.Valued name) = valued name.now
+argument_of (declared.Flag name) = flag name.now
+
+-- a command of the program, by its name and options
+abbrev pub entry_of : Entry → Text × List Argument
+entry_of e = (e.name.now, map argument_of e.options.now)
+
 -- an option with one value
-abbrev pub option_rule : Text → Rule
-option_rule name = record (new_rule name) { long = Some name; action = Some Set }
+abbrev pub value_rule : Text → Rule
+value_rule name = record (new_rule name) { long = Some name; action = Some Set }
+
+-- A flag: an option that takes no value, and has an empty one where it is given. It is not one of the
+-- action `SetTrue`, which has a value where it is not.
+abbrev pub flag_rule : Text → Rule
+flag_rule name = record (value_rule name) {
+  range = Some (record { start_inclusive = 0; end_inclusive = 0 });
+  missing = [] ∷ [];
+}
+
+-- an option
+abbrev pub option_rule : Argument → Rule
+option_rule a = if a.is_flag then flag_rule a.name else value_rule a.name
 
 -- a word without an option's name, by its place
 abbrev pub word_rule : Text → Rule
 word_rule name = record (new_rule name) { action = Some Set }
 
--- a command that has these options, and no help of its own
-abbrev pub command_app : Text → List Text → App
-command_app name options =
-    on_top (λ s. record s { disable_help_flag = true; rules = map option_rule options })
-    (new_app name)
+-- a command that takes by these rules, and has no help of its own
+abbrev pub ruled_app : Text → List Rule → App
+ruled_app name rules = on_top (λ s. record s { disable_help_flag = true; rules = rules }) (new_app name)
+
+-- a command that has these options
+abbrev pub command_app : Text → List Argument → App
+command_app name options = ruled_app name (map option_rule options)
 
 -- the words stand behind the program's own, and one of them is a command
 abbrev pub base_app : App
@@ -34,114 +59,62 @@ base_app =
     })
     (command_app (codes "taos") [])
 
--- the commands of the table, each with its options
-abbrev pub commands : List (Text × List Text)
-commands =
-    (codes "run", serving_options) ∷ (codes "check", []) ∷ (codes "relay", serving_options)
-    ∷ (codes "mint", mint_options) ∷ (codes "serve", lane_options)
-    ∷ (codes "relay-serve", lane_options) ∷ (codes "audit", serving_options) ∷ []
-
--- the words of `drill`, by their places
-abbrev pub drill_names : List Text
-drill_names = codes "seed" ∷ codes "requests" ∷ codes "lanes" ∷ []
-
 -- the command that has no options
 abbrev pub drill_app : App
-drill_app =
-    on_top (λ s. record s { disable_help_flag = true; rules = map word_rule drill_names })
-    (new_app (codes "drill"))
+drill_app = ruled_app (codes "drill") (map word_rule drill_names)
+
+-- the commands that have options
+abbrev pub with_options : List Command
+with_options =
+    Running ∷ Checking ∷ Relaying ∷ Minting ∷ Serving ∷ RelayServing ∷ Auditing ∷ []
+
+-- commands with options
+abbrev pub table_of : List (Text × List Argument) → App
+table_of entries =
+    fold (λ (a : App) (e : Text × List Argument). with_subcommand a (command_app e.0 e.1).top) base_app
+    entries
 
 -- all commands
 abbrev pub taos_app : App
 taos_app =
-    with_subcommand
-    (fold (λ (a : App) (c : Text × List Text). with_subcommand a (command_app c.0 c.1).top) base_app
-    commands) drill_app.top
+    with_subcommand (table_of (map (λ (c : Command). (named c, options_of c)) with_options))
+    drill_app.top
 
 -- a command of this form, with no global argument
-abbrev pub IsMade : App → Command → Type 0
+abbrev pub IsMade : App → Built → Type 0
 IsMade app c = (app_of c ≡ app) × ((out-Command c).has_globals ≡ false)
-
--- a word that is no option: its first byte is no `-` (45)
-abbrev pub IsPlainWord : Text → Type 0
-IsPlainWord [] = Unit {0}
-IsPlainWord (x ∷ xs) = x ≢ 45
 
 -- all options of the table
 abbrev pub all_options : List Text
-all_options = codes "connections" ∷ codes "frames" ∷ mint_options
+all_options =
+    codes "connections" ∷ codes "frames" ∷ codes "issuer" ∷ codes "serial" ∷ codes "until"
+    ∷ codes "quoted" ∷ codes "left" ∷ codes "right" ∷ []
 
--- the word is the option of this name, in either way: `--name`, or `--name=value`
+-- the word is the option of this name, in one of its ways: `--name`, or `--name=value`
 pub data IsOption (word name : Text) : Type 0 where
   alone : word ≡ codes "--" ++ name → IsOption word name
-  joined : (value : Text) → word ≡ codes "--" ++ name ++ codes "=" ++ value → IsOption word name
+  joined : (value : Text) → word ≡ codes "--" ++ name ++ codes "=" ++ value → IsValue value →
+      IsOption word name
 
 -- the word is one of these options
 abbrev pub IsOptionOf : List Text → Text → Type 0
 IsOptionOf options word = (name : Text) × Contains options name × IsOption word name
 
--- the word is no option, or one of the table
+-- the word may be a value, or is an option of the table
 pub data IsOfTable (word : Text) : Type 0 where
-  plain : IsPlainWord word → IsOfTable word
+  plain : IsValue word → IsOfTable word
   option : (name : Text) → Contains all_options name → IsOption word name → IsOfTable word
 
--- what is read of the text of `--frames`, where that is given: the most frames
-abbrev pub IsFramesOf : Option Text → Option ℕ → Type 0
-IsFramesOf text (Some frames) = AreFrames text frames
-IsFramesOf text None = (frames : ℕ) → AreFrames text frames → ⊥
+-- the texts that were found
+abbrev pub texts_of : ArgMatches → Text → Option Text
+texts_of found name = first_of name (rows_of (found_of found))
 
--- what is read of the text of `--connections`, where that is given: the most connections
-abbrev pub IsConnectionsOf : Option Text → Option ℕ → Type 0
-IsConnectionsOf text (Some connections) = AreConnections text connections
-IsConnectionsOf text None = (connections : ℕ) → AreConnections text connections → ⊥
+-- what is read of a text is what it means, and nothing is read where it means nothing
+abbrev pub IsReadOf : {X : Type 0} → (X → Type 0) → Option X → Type 0
+IsReadOf {X} means read = MatchOption read ((x : X) → means x → ⊥) means
 
--- what a command that serves is asked for, by the text of `--frames`
-abbrev pub IsServingOf : (ℕ → Task) → Option Text → Option Wanted → Type 0
-IsServingOf serves text (Some wanted) =
-    (frames : ℕ) × (task_of wanted ≡ serves frames) × AreFrames text frames
-IsServingOf serves text None = IsFramesOf text None
-
--- what a command that serves lanes is asked for, by the texts of its options
-abbrev pub IsLanesOf : (Limits → Task) → (Text → Option Text) → Option Wanted → Type 0
-IsLanesOf serves text_of (Some wanted) =
-    (limits : Limits) × (task_of wanted ≡ serves limits) × GivesLimits text_of limits
-IsLanesOf serves text_of None = (limits : Limits) → GivesLimits text_of limits → ⊥
-
--- what is read of a text that has to be there: itself, where it may be a value
-abbrev pub IsNeeded : Option Text → Option Text → Type 0
-IsNeeded text (Some v) = (text ≡ Some v) × IsValue v
-IsNeeded text None = (v : Text) → text ≡ Some v → IsValue v → ⊥
-
--- the same of one that need not be there
-abbrev pub IsAllowed : Option Text → Option (Option Text) → Type 0
-IsAllowed text (Some o) = (text ≡ o) × ((v : Text) → text ≡ Some v → IsValue v)
-IsAllowed text None = (v : Text) × (text ≡ Some v) × (IsValue v → ⊥)
-
--- what is read of a number that has to be there, below the bound
-abbrev pub IsNumberOf : ℕ → Option Text → Option ℕ → Type 0
-IsNumberOf bound text (Some n) = HasNumber bound text n
-IsNumberOf bound text None = (n : ℕ) → HasNumber bound text n → ⊥
-
--- the texts of the words of `drill` give what it is asked for
-pub record ReadsDrill (text_of : Text → Option Text) (d : DrillWords) : Type 0 where
-  pub seed : HasNumber (2 ^ 64) (text_of (codes "seed")) d.seed
-  pub requests : HasNumber (MAX_REQUESTS + 1) (text_of (codes "requests")) d.requests
-  pub lanes : HasNumber (MAX_LANES + 1) (text_of (codes "lanes")) d.lanes
-  pub some : 1 ≤ d.lanes
-
--- each text of an option of `mint` may be a value
-abbrev pub AreValues : (Text → Option Text) → Type 0
-AreValues text_of =
-    (name v : Text) → Contains mint_options name → text_of name ≡ Some v → IsValue v
-
--- what `drill` is asked for, by the texts of its words
-abbrev pub IsDrillOf : (Text → Option Text) → Option Wanted → Type 0
-IsDrillOf text_of (Some wanted) =
-    (d : DrillWords) × (task_of wanted ≡ Drill d) × ReadsDrill text_of d
-IsDrillOf text_of None = (d : DrillWords) → ReadsDrill text_of d → ⊥
-
--- what `mint` is asked for, by the texts of its options
-abbrev pub IsMintOf : (Text → Option Text) → Option Wanted → Type 0
-IsMintOf text_of (Some wanted) =
-    (m : MintWords) × (task_of wanted ≡ Mint m) × GivesMint text_of m × AreValues text_of
-IsMintOf text_of None = (m : MintWords) → GivesMint text_of m → AreValues text_of → ⊥
+-- what is read of the texts behind a command is what it is asked for
+abbrev pub IsReadAs : (c : Command) → (Text → Option Text) → Option Wanted → Type 0
+IsReadAs c text_of (Some wanted) =
+    (asked : Asked c) × (task_of wanted ≡ task_for c asked) × Gives c text_of asked
+IsReadAs c text_of None = (asked : Asked c) → Gives c text_of asked → ⊥

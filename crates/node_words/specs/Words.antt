@@ -1,5 +1,5 @@
 -- What a list of words means: a command, and its options.
-use Rattle.std.specs.Prelude.{◌≡◌, ◌≢◌, ℕ, ◌^◌, ◌+◌, ◌<◌, ◌≤◌, Bool, if◌then◌else◌, List, [], ◌∷◌, ◌++◌, map, flat_map, All, Contains, Option, Some, None, option_map, find, codes, decimal, string_bytes, String, bytes_eq}
+use Rattle.std.specs.Prelude.{◌≡◌, ◌≢◌, ℕ, ◌^◌, ◌+◌, ◌<◌, ◌≤◌, Bool, true, false, if◌then◌else◌, List, [], ◌∷◌, ◌++◌, map, flat_map, All, Option, Some, None, is_some, option_map, find, codes, decimal, string_bytes, String, bytes_eq}
 use Rattle.std.specs.declared.alloc.Global.{Global}
 use Rattle.frame_link.specs.declared.limits.Limits.{Limits}
 use Rattle.taos_drill.specs.declared.numbers.TheConstants.{MAX_LANES, MAX_REQUESTS}
@@ -73,22 +73,68 @@ task_of (wanted.RelayServe limits) = RelayServe limits
 task_of (wanted.Audit frames) = Audit frames
 task_of (wanted.Drill d) = Drill (drill_words d)
 
--- an option that is given with its value, both in one word or in two
+-- an option of a command: its name, and whether it is a flag, which has no value
+pub record Argument : Type 0 where
+  pub name : Text
+  pub is_flag : Bool
+
+-- an option with a value
+abbrev pub valued : Text → Argument
+valued name = record { name = name; is_flag = false }
+
+-- an option without
+abbrev pub flag : Text → Argument
+flag name = record { name = name; is_flag = true }
+
+-- the option of this name
+abbrev pub option_named : List Argument → Text → Option Argument
+option_named options name = find (λ a. bytes_eq a.name name) options
+
+-- how an option is given: with its value in one word, with its value in the next word, or alone
+pub data Way : Type 0 where
+  Joined : Text → Way
+  Apart : Text → Way
+  Alone : Way
+
+-- an option that is given
 pub record Given : Type 0 where
   pub name : Text
-  pub value : Text
-  pub joined : Bool
+  pub way : Way
 
--- its words: `--name=value`, or `--name` and then `value`
+-- the words of an option that is given so
+abbrev pub words_for : Text → Way → List Text
+words_for name (Joined value) = (codes "--" ++ name ++ codes "=" ++ value) ∷ []
+words_for name (Apart value) = (codes "--" ++ name) ∷ value ∷ []
+words_for name Alone = (codes "--" ++ name) ∷ []
+
+-- its words: `--name=value`, or `--name` and then `value`, or `--name` of a flag
 abbrev pub words_of : Given → List Text
-words_of given =
-    if given.joined then (codes "--" ++ given.name ++ codes "=" ++ given.value) ∷ []
-    else (codes "--" ++ given.name) ∷ given.value ∷ []
+words_of given = words_for given.name given.way
 
 -- a value is not empty, and begins with no `-` (45)
 abbrev pub IsValue : Text → Type 0
 IsValue [] = ⊥
 IsValue (x ∷ xs) = x ≢ 45
+
+-- what it has for a value may be one
+abbrev pub HasValue : Way → Type 0
+HasValue (Joined value) = IsValue value
+HasValue (Apart value) = IsValue value
+HasValue Alone = Unit {0}
+
+-- its value, which is empty where it has none
+abbrev pub value_in : Way → Text
+value_in (Joined value) = value
+value_in (Apart value) = value
+value_in Alone = []
+
+abbrev pub is_alone : Way → Bool
+is_alone Alone = true
+is_alone _ = false
+
+-- the option that is given so: a flag has no value, and any other option has one
+abbrev pub argument_in : Given → Argument
+argument_in given = record { name = given.name; is_flag = is_alone given.way }
 
 -- no option is given twice
 abbrev pub AreOnce : List Given → Type 0
@@ -96,57 +142,81 @@ AreOnce [] = Unit {0}
 AreOnce (g ∷ gs) = All (λ h. h.name ≢ g.name) gs × AreOnce gs
 
 -- the words are the command, and behind it its options in any order
-pub record IsLine (words : List Text) (command : Text) (options : List Text) (given : List Given) : Type 0 where
+pub record IsLine (words : List Text) (command : Text) (options : List Argument)
+    (given : List Given) : Type 0 where
   pub are : words ≡ command ∷ flat_map words_of given
-  pub known : All (λ g. Contains options g.name) given
+  pub known : All (λ g. option_named options g.name ≡ Some (argument_in g)) given
   pub once : AreOnce given
-  pub values : All (λ g. IsValue g.value) given
+  pub values : All (λ g. HasValue g.way) given
 
--- the value of an option, where that is given
+-- the value of an option, where that is given, and an empty one for a flag
 abbrev pub value_of : Text → List Given → Option Text
-value_of name given = option_map (λ g. g.value) (find (λ g. bytes_eq g.name name) given)
+value_of name given = option_map (λ g. value_in g.way) (find (λ g. bytes_eq g.name name) given)
 
--- the text is the number as it is written, with neither sign nor leading zero, and at least 1
-abbrev pub IsCount : Text → ℕ → Type 0
-IsCount text n = (text ≡ decimal n) × (1 ≤ n) × (n < 2 ^ 64)
+-- ---- how the text of an option is read, by what its text means
 
--- how many frames an option `--frames` means, and how many are meant without it
-abbrev pub AreFrames : Option Text → ℕ → Type 0
-AreFrames None n = n ≡ MAX_FRAMES
-AreFrames (Some text) n = IsCount text n
+module _ {X : Type 0} (reads : Text → X → Type 0) where
+  -- of an option that has to be given
+  abbrev pub Needed : Option Text → X → Type 0
+  Needed None x = ⊥
+  Needed (Some text) x = reads text x
 
--- how many connections an option `--connections` means, and how many are meant without it
-abbrev pub AreConnections : Option Text → ℕ → Type 0
-AreConnections None n = n ≡ LANE_CONNECTIONS
-AreConnections (Some text) n = IsCount text n
+  -- of one that need not be given, with what is meant without it
+  abbrev pub Default : X → Option Text → X → Type 0
+  Default other None x = x ≡ other
+  Default other (Some text) x = reads text x
 
--- the options of a command that serves
-abbrev pub serving_options : List Text
-serving_options = codes "frames" ∷ []
-
--- the options of a command that serves lanes
-abbrev pub lane_options : List Text
-lane_options = codes "connections" ∷ codes "frames" ∷ []
-
--- the texts that options have give the limits
-pub record GivesLimits (text_of : Text → Option Text) (limits : Limits) : Type 0 where
-  pub connections : AreConnections (text_of (codes "connections")) limits.connections
-  pub frames : AreFrames (text_of (codes "frames")) limits.frames
-
--- the options of `mint`
-abbrev pub mint_options : List Text
-mint_options =
-    codes "issuer" ∷ codes "serial" ∷ codes "until" ∷ codes "quoted" ∷ codes "left"
-    ∷ codes "right" ∷ []
+-- of a flag
+abbrev pub IsRaised : Option Text → Bool → Type 0
+IsRaised text raised = raised ≡ is_some text
 
 -- the text is the number as it is written, with neither sign nor leading zero, below the bound
 abbrev pub IsNumber : ℕ → Text → ℕ → Type 0
 IsNumber bound text n = (text ≡ decimal n) × (n < bound)
 
+-- the text is the number as it is written, with neither sign nor leading zero, and at least 1
+abbrev pub IsCount : Text → ℕ → Type 0
+IsCount text n = (text ≡ decimal n) × (1 ≤ n) × (n < 2 ^ 64)
+
+-- ---- the commands
+
+pub data Command : Type 0 where
+  Running : Command
+  Checking : Command
+  Relaying : Command
+  Minting : Command
+  Serving : Command
+  RelayServing : Command
+  Auditing : Command
+  Drilling : Command
+
+-- its first word
+abbrev pub named : Command → Text
+named Running = codes "run"
+named Checking = codes "check"
+named Relaying = codes "relay"
+named Minting = codes "mint"
+named Serving = codes "serve"
+named RelayServing = codes "relay-serve"
+named Auditing = codes "audit"
+named Drilling = codes "drill"
+
+-- how many frames an option `--frames` means, and how many are meant without it
+abbrev pub AreFrames : Option Text → ℕ → Type 0
+AreFrames = Default IsCount MAX_FRAMES
+
+-- how many connections an option `--connections` means, and how many are meant without it
+abbrev pub AreConnections : Option Text → ℕ → Type 0
+AreConnections = Default IsCount LANE_CONNECTIONS
+
 -- there is a text, and it is such a number
 abbrev pub HasNumber : ℕ → Option Text → ℕ → Type 0
-HasNumber bound None n = ⊥
-HasNumber bound (Some text) n = IsNumber bound text n
+HasNumber bound = Needed (IsNumber bound)
+
+-- the texts that options have give the limits
+pub record GivesLimits (text_of : Text → Option Text) (limits : Limits) : Type 0 where
+  pub connections : AreConnections (text_of (codes "connections")) limits.connections
+  pub frames : AreFrames (text_of (codes "frames")) limits.frames
 
 -- the texts that options have give what `mint` is asked for
 pub record GivesMint (text_of : Text → Option Text) (m : MintWords) : Type 0 where
@@ -157,43 +227,103 @@ pub record GivesMint (text_of : Text → Option Text) (m : MintWords) : Type 0 w
   pub left : text_of (codes "left") ≡ Some m.left
   pub right : text_of (codes "right") ≡ Some m.right
 
--- the words are this command, which serves at most so many frames
-abbrev pub ServeFrames : List Text → Text → ℕ → Type 0
-ServeFrames words command frames =
-    (given : List Given) × IsLine words command serving_options given
-    × AreFrames (value_of (codes "frames") given) frames
-
--- the words are this command, which serves lanes so far
-abbrev pub ServeLanes : List Text → Text → Limits → Type 0
-ServeLanes words command limits =
-    (given : List Given) × IsLine words command lane_options given
-    × GivesLimits (λ name. value_of name given) limits
-
--- the three words behind `drill` give what it is asked for: a number, the count of requests, and that of
--- lanes, of which there is one at least
-pub record GivesDrill (first second third : Text) (d : DrillWords) : Type 0 where
-  pub seed : IsNumber (2 ^ 64) first d.seed
-  pub requests : IsNumber (MAX_REQUESTS + 1) second d.requests
-  pub lanes : IsNumber (MAX_LANES + 1) third d.lanes
+-- the texts of the words of `drill` give what it is asked for: a number, the count of requests, and that
+-- of lanes, of which there is one at least
+pub record GivesDrill (text_of : Text → Option Text) (d : DrillWords) : Type 0 where
+  pub seed : HasNumber (2 ^ 64) (text_of (codes "seed")) d.seed
+  pub requests : HasNumber (MAX_REQUESTS + 1) (text_of (codes "requests")) d.requests
+  pub lanes : HasNumber (MAX_LANES + 1) (text_of (codes "lanes")) d.lanes
   pub some : 1 ≤ d.lanes
+
+-- the options of a command that serves
+abbrev pub serving_options : List Argument
+serving_options = valued (codes "frames") ∷ []
+
+-- the options of a command that serves lanes
+abbrev pub lane_options : List Argument
+lane_options = valued (codes "connections") ∷ valued (codes "frames") ∷ []
+
+-- the options of `mint`
+abbrev pub mint_options : List Argument
+mint_options =
+    valued (codes "issuer") ∷ valued (codes "serial") ∷ valued (codes "until")
+    ∷ valued (codes "quoted") ∷ valued (codes "left") ∷ valued (codes "right") ∷ []
+
+-- the options of a command: `drill` has words by their places in place of options
+abbrev pub options_of : Command → List Argument
+options_of Running = serving_options
+options_of Checking = []
+options_of Relaying = serving_options
+options_of Minting = mint_options
+options_of Serving = lane_options
+options_of RelayServing = lane_options
+options_of Auditing = serving_options
+options_of Drilling = []
+
+-- what a command is asked for
+abbrev pub Asked : Command → Type 0
+Asked Running = ℕ
+Asked Checking = Unit {0}
+Asked Relaying = ℕ
+Asked Minting = MintWords
+Asked Serving = Limits
+Asked RelayServing = Limits
+Asked Auditing = ℕ
+Asked Drilling = DrillWords
+
+-- the texts behind a command give what it is asked for
+abbrev pub Gives : (c : Command) → (Text → Option Text) → Asked c → Type 0
+Gives Running text_of frames = AreFrames (text_of (codes "frames")) frames
+Gives Checking text_of nothing = Unit {0}
+Gives Relaying text_of frames = AreFrames (text_of (codes "frames")) frames
+Gives Minting text_of m = GivesMint text_of m
+Gives Serving text_of limits = GivesLimits text_of limits
+Gives RelayServing text_of limits = GivesLimits text_of limits
+Gives Auditing text_of frames = AreFrames (text_of (codes "frames")) frames
+Gives Drilling text_of d = GivesDrill text_of d
+
+-- what is asked of a command
+abbrev pub task_for : (c : Command) → Asked c → Task
+task_for Running frames = Run frames
+task_for Checking nothing = Check
+task_for Relaying frames = Relay frames
+task_for Minting m = Mint m
+task_for Serving limits = Serve limits
+task_for RelayServing limits = RelayServe limits
+task_for Auditing frames = Audit frames
+task_for Drilling d = Drill d
+
+-- the words are this command with options that give what it is asked for
+abbrev pub Asks : (c : Command) → List Text → Asked c → Type 0
+Asks c words asked =
+    (given : List Given) × IsLine words (named c) (options_of c) given
+    × Gives c (λ name. value_of name given) asked
+
+-- the words of `drill`, by their places
+abbrev pub drill_names : List Text
+drill_names = codes "seed" ∷ codes "requests" ∷ codes "lanes" ∷ []
+
+-- the word in the place of this name
+abbrev pub text_at : List Text → List Text → Text → Option Text
+text_at (name ∷ names) (text ∷ texts) this =
+    if bytes_eq name this then Some text else text_at names texts this
+text_at _ _ this = None
 
 -- the words are `drill` and the three words behind it
 abbrev pub AsksDrill : List Text → DrillWords → Type 0
 AsksDrill words d =
     (seed requests lanes : Text) × (words ≡ codes "drill" ∷ seed ∷ requests ∷ lanes ∷ [])
-    × GivesDrill seed requests lanes d
+    × GivesDrill (text_at drill_names (seed ∷ requests ∷ lanes ∷ [])) d
 
 -- the words of a command line, each by its bytes, mean the task
 abbrev pub TextsMean : List Text → Task → Type 0
-TextsMean words (Run frames) = ServeFrames words (codes "run") frames
-TextsMean words (Relay frames) = ServeFrames words (codes "relay") frames
-TextsMean words Check = (given : List Given) × IsLine words (codes "check") [] given
-TextsMean words (Mint m) =
-    (given : List Given) × IsLine words (codes "mint") mint_options given
-    × GivesMint (λ name. value_of name given) m
-TextsMean words (Serve limits) = ServeLanes words (codes "serve") limits
-TextsMean words (RelayServe limits) = ServeLanes words (codes "relay-serve") limits
-TextsMean words (Audit frames) = ServeFrames words (codes "audit") frames
+TextsMean words (Run frames) = Asks Running words frames
+TextsMean words Check = Asks Checking words tt
+TextsMean words (Relay frames) = Asks Relaying words frames
+TextsMean words (Mint m) = Asks Minting words m
+TextsMean words (Serve limits) = Asks Serving words limits
+TextsMean words (RelayServe limits) = Asks RelayServing words limits
+TextsMean words (Audit frames) = Asks Auditing words frames
 TextsMean words (Drill d) = AsksDrill words d
 
 -- the words mean the task

@@ -2,18 +2,87 @@
 
 ghost use Rattle.std.specs.Prelude.{◌≡◌, codes, [], IfOk, map, string_bytes, false};
 ghost use Rattle.clap.specs.Words.{rule_of, HasMatchesOf, FailsBy, fault_of};
-ghost use Rattle.clap.specs.Words.{App, with_rule};
-ghost use Rattle.node_words.specs.Table.{option_rule, word_rule, command_app, drill_app, base_app, taos_app, IsMade};
-ghost use Rattle.node_words.specs.Words.{lane_options, mint_options, serving_options};
+ghost use Rattle.node_words.specs.Table.{argument_of, entry_of, option_rule, value_rule, word_rule, command_app, drill_app, base_app, table_of, taos_app, IsMade};
 
 use clap::{Arg, ArgAction, ArgMatches, Command, Error};
 use std::alloc::{AllocError, Global};
 
-fn option<'a>(alloc: Global, name: &'a str) -> Arg<'a>
-    ensures rule { rule_of result ≡ option_rule name.entry.now }
+/// An option of a command, by its name.
+#[derive(Clone, Copy)]
+pub enum Argument {
+    Valued(&'static str),
+    /// One that has no value.
+    Flag(&'static str),
+}
+
+use Argument::Valued;
+
+/// A command that has options.
+#[derive(Clone, Copy)]
+pub struct Entry {
+    name: &'static str,
+    options: &'static [Argument],
+}
+
+const SERVING: [Argument; 1] = [Valued("frames")];
+
+const LANES: [Argument; 2] = [Valued("connections"), Valued("frames")];
+
+const MINT: [Argument; 6] = [
+    Valued("issuer"),
+    Valued("serial"),
+    Valued("until"),
+    Valued("quoted"),
+    Valued("left"),
+    Valued("right"),
+];
+
+const COMMANDS: [Entry; 7] = [
+    Entry {
+        name: "run",
+        options: &SERVING,
+    },
+    Entry {
+        name: "check",
+        options: &[],
+    },
+    Entry {
+        name: "relay",
+        options: &SERVING,
+    },
+    Entry {
+        name: "mint",
+        options: &MINT,
+    },
+    Entry {
+        name: "serve",
+        options: &LANES,
+    },
+    Entry {
+        name: "relay-serve",
+        options: &LANES,
+    },
+    Entry {
+        name: "audit",
+        options: &SERVING,
+    },
+];
+
+fn valued<'a>(alloc: Global, name: &'a str) -> Arg<'a>
+    ensures rule { rule_of result ≡ value_rule name.entry.now }
     ensures local { result.global ≡ false }
 {
     Arg::new(alloc, name).long(name).action(ArgAction::Set)
+}
+
+fn option<'a>(alloc: Global, argument: &Argument) -> Arg<'a>
+    ensures rule { rule_of result ≡ option_rule (argument_of argument.now) }
+    ensures local { result.global ≡ false }
+{
+    match argument {
+        Argument::Valued(name) => valued(alloc, name),
+        Argument::Flag(name) => valued(alloc, name).num_args(0).default_missing_value(""),
+    }
 }
 
 fn plain<'a>(alloc: Global, name: &'a str) -> Command<'a>
@@ -39,47 +108,29 @@ fn word<'a>(alloc: Global, name: &'a str) -> Arg<'a>
     Arg::new(alloc, name).action(ArgAction::Set)
 }
 
-// A command that serves connections.
-#[tactic(auto, using(crate::proofs::Made::adds_rule))]
-fn serving<'a>(alloc: Global, name: &'a str) -> Result<Command<'a>, AllocError>
-    ensures { IfOk result (IsMade (command_app name.entry.now serving_options)) }
+fn command_of<'a>(
+    alloc: Global,
+    name: &'a str,
+    options: &[Argument],
+) -> Result<Command<'a>, AllocError>
+    ensures { IfOk result (IsMade (command_app name.entry.now (map argument_of options.now))) }
 {
-    let command = plain(alloc, name).arg(option(alloc, "frames"))?;
+    let mut command = plain(alloc, name);
+    for argument in options {
+        command = command.arg(option(alloc, argument))?;
+    }
     Ok(command)
 }
 
-// A command with one option more.
-fn with_option<'a>(
-    command: Command<'a>,
-    alloc: Global,
-    name: &'a str,
-) -> Result<Command<'a>, AllocError>
-    ensures { IfOk result (λ more. (app : App) → IsMade app command.entry
-        → IsMade (with_rule app (option_rule name.entry.now)) more) }
+// The commands that have options.
+fn table_of<'a>(alloc: Global, entries: &[Entry]) -> Result<Command<'a>, AllocError>
+    ensures { IfOk result (IsMade (table_of (map entry_of entries.now))) }
 {
-    let more = command.arg(option(alloc, name))?;
-    Ok(more)
-}
-
-// A command that serves lanes.
-fn serving_lanes<'a>(alloc: Global, name: &'a str) -> Result<Command<'a>, AllocError>
-    ensures { IfOk result (IsMade (command_app name.entry.now lane_options)) }
-{
-    let connections = with_option(plain(alloc, name), alloc, "connections")?;
-    let frames = with_option(connections, alloc, "frames")?;
-    Ok(frames)
-}
-
-fn minting<'a>(alloc: Global) -> Result<Command<'a>, AllocError>
-    ensures { IfOk result (IsMade (command_app (codes "mint") mint_options)) }
-{
-    let issuer = with_option(plain(alloc, "mint"), alloc, "issuer")?;
-    let serial = with_option(issuer, alloc, "serial")?;
-    let until = with_option(serial, alloc, "until")?;
-    let quoted = with_option(until, alloc, "quoted")?;
-    let left = with_option(quoted, alloc, "left")?;
-    let right = with_option(left, alloc, "right")?;
-    Ok(right)
+    let mut table = base(alloc);
+    for entry in entries {
+        table = table.subcommand(command_of(alloc, entry.name, entry.options)?)?;
+    }
+    Ok(table)
 }
 
 #[tactic(auto, using(crate::proofs::Made::adds_rule))]
@@ -96,21 +147,8 @@ fn drilling<'a>(alloc: Global) -> Result<Command<'a>, AllocError>
 fn commands<'a>(alloc: Global) -> Result<Command<'a>, AllocError>
     ensures { IfOk result (IsMade taos_app) }
 {
-    let run = serving(alloc, "run")?;
-    let relay = serving(alloc, "relay")?;
-    let mint = minting(alloc)?;
-    let serve = serving_lanes(alloc, "serve")?;
-    let relay_serve = serving_lanes(alloc, "relay-serve")?;
-    let audit = serving(alloc, "audit")?;
-    let drill = drilling(alloc)?;
-    let first = base(alloc).subcommand(run)?;
-    let second = first.subcommand(plain(alloc, "check"))?;
-    let third = second.subcommand(relay)?;
-    let fourth = third.subcommand(mint)?;
-    let fifth = fourth.subcommand(serve)?;
-    let sixth = fifth.subcommand(relay_serve)?;
-    let seventh = sixth.subcommand(audit)?;
-    let whole = seventh.subcommand(drill)?;
+    let table = table_of(alloc, &COMMANDS)?;
+    let whole = table.subcommand(drilling(alloc)?)?;
     Ok(whole)
 }
 

@@ -12,7 +12,7 @@ use Rattle.std.proofs.lemmas.List.Folds.{find_at}
 use Rattle.std.proofs.lemmas.List.Sorted.{All-permutation, Contains-permutation}
 use Rattle.std.proofs.lemmas.List.Sums.{position_or_len_is}
 use Rattle.std.proofs.lemmas.Option.{slice_get_within, slice_get-get_or, get_or_from_slice_get}
-use Rattle.number_rows.proofs.Places.{search_ends}
+use Rattle.byte_fields.proofs.RowPlaces.{search_ends}
 use Rattle.object_core.specs.declared.rows.Row.{Row}
 use Rattle.object_core.specs.Numbered.{row, AreRowsOf, AreAscending, HasNumberAt, LacksNumber}
 use Rattle.object_core.specs.Objects.{ObjectSeen}

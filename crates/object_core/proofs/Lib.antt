@@ -1,7 +1,6 @@
 pub mod ListReaders
-pub mod ListCuts
+pub mod ListForms
 pub mod Latest
-pub mod ListPlaces
 pub mod FindingRows
 pub mod OnShelf
 pub mod Granting

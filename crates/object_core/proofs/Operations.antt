@@ -1,24 +1,19 @@
 -- The fields of operations: what is read is spelled so, and the other way; and where they are refused, whole or cut.
-use Rattle.std.proofs.Common.{◌≡◌, ℕ, ◌+◌, ◌≤◌, eqb, List, ◌++◌, length, drop, Ok, Err, refl, sym, ap, subst, arith}
-use Rattle.std.specs.Int.{w32}
+use Rattle.std.proofs.Common.{◌≡◌, ℕ, ◌+◌, ◌≤◌, eqb, List, ◌++◌, length, drop, Ok, refl, sym, subst, arith}
 use Rattle.std.proofs.lemmas.Bool.{eqb-true, eqb-false}
-use Rattle.byte_fields.specs.declared.fault.FormatFault.{FormatFault}
-use Rattle.byte_fields.specs.Formats.{ended, u32_in, IsFaultIn}
+use Rattle.byte_fields.specs.Formats.{ended, u32_in}
 use Rattle.byte_fields.specs.Readers.{given, made}
 use Rattle.byte_fields.specs.Steps.{bytes_at}
-use Rattle.byte_fields.proofs.Cuts.{Cuts, cuts_made, cuts_given, cuts_if, cuts_bytes, cuts_number}
 use Rattle.byte_fields.proofs.FieldLaws.{IsBytes}
 use Rattle.byte_fields.proofs.FormatFields.{reads_u32}
-use Rattle.byte_fields.proofs.FormatPlaces.{u32_stays, text_stays}
+use Rattle.byte_fields.proofs.Forms.{Form, form_made, form_given, form_if, form_u32, form_bytes}
 use Rattle.byte_fields.proofs.ReaderLaws.{Reads, reads_bytes}
-use Rattle.byte_fields.proofs.Staying.{Stays, stays_made, stays_given, stays_if}
 use Rattle.object_core.specs.declared.operation.TheConstants.{LAST_KIND}
 use Rattle.object_core.specs.Operation.{Op, Read, Write, SetList, Hold, Discard, Forget, Sweep, FitsOperation}
 use Rattle.object_core.specs.Reading.{content_at, list_at, fields_at}
 use Rattle.object_core.specs.Spelling.{kind_of, op_fields, IsOperationAt}
 use Rattle.object_core.proofs.Halves.{Takes, takes_if, takes_made, takes_given, again_made, again_given}
-use Rattle.object_core.proofs.ListCuts.{cuts_content, cuts_list}
-use Rattle.object_core.proofs.ListPlaces.{content_stays, list_stays}
+use Rattle.object_core.proofs.ListForms.{form_content, form_list}
 use Rattle.object_core.proofs.ListReaders.{reads_content, reads_list}
 
 -- within the limits, and of this kind
@@ -62,17 +57,6 @@ module _ (bytes : List ℕ) where
     again = λ at op rest is e. subst (λ (k : ℕ). fields_at bytes k at ≡ Ok (op, at + length (op_fields op))) is.1 (fields_again op at rest is.0 e);
   }
 
-  pub fields_stay : IsBytes bytes → (kind : ℕ) → Stays bytes (IsFaultIn bytes) (fields_at bytes kind)
-  unfolding fields_at
-  fields_stay ok kind =
-      stays_if (eqb kind 1) _ _ (stays_given bytes Read)
-      (stays_if (eqb kind 2) _ _ (stays_made Write (content_stays bytes))
-      (stays_if (eqb kind 3) _ _ (stays_made SetList (list_stays bytes ok))
-      (stays_if (eqb kind 4) _ _ (stays_given bytes Hold)
-      (stays_if (eqb kind 5) _ _ (stays_made Discard (text_stays bytes 32))
-      (stays_if (eqb kind 6) _ _ (stays_made Forget (u32_stays bytes))
-      (stays_given bytes Sweep))))))
-
   -- ---- as the law says it
 
   pub operation_takes : IsBytes bytes → (op : Op) (kind at end : ℕ) → 1 ≤ kind → kind ≤ LAST_KIND → at ≤ length bytes → fields_at bytes kind at ≡ Ok (op, end)
@@ -85,13 +69,12 @@ module _ (bytes : List ℕ) where
   operation_again op kind at end named is place =
       rw place (subst (λ (k : ℕ). fields_at bytes k at ≡ Ok (op, at + length (op_fields op))) named (fields_again op at is.text.0 is.limits is.text.1))
 
-pub cuts_fields : (front more : List ℕ) → IsBytes (front ++ more) → (kind : ℕ) → Cuts front (ended front) (fields_at front kind) (fields_at (front ++ more) kind)
+pub form_fields : (kind : ℕ) → Form IsBytes (λ bytes. fields_at bytes kind)
 unfolding fields_at
-cuts_fields front more ok kind =
-    cuts_if (eqb kind 1) _ _ _ _ (cuts_given front (ended front) Read)
-    (cuts_if (eqb kind 2) _ _ _ _ (cuts_made Write (cuts_content front more ok))
-    (cuts_if (eqb kind 3) _ _ _ _ (cuts_made SetList (cuts_list front more ok))
-    (cuts_if (eqb kind 4) _ _ _ _ (cuts_given front (ended front) Hold)
-    (cuts_if (eqb kind 5) _ _ _ _ (cuts_made Discard (cuts_bytes (ended front) (ended (front ++ more)) front more 32))
-    (cuts_if (eqb kind 6) _ _ _ _ (cuts_made Forget (cuts_number (ended front) (ended (front ++ more)) front more w32))
-    (cuts_given front (ended front) Sweep))))))
+form_fields kind =
+    form_if (eqb kind 1) (form_given Read)
+    (form_if (eqb kind 2) (form_made Write form_content)
+    (form_if (eqb kind 3) (form_made SetList form_list)
+    (form_if (eqb kind 4) (form_given Hold)
+    (form_if (eqb kind 5) (form_made Discard (form_bytes 32))
+    (form_if (eqb kind 6) (form_made Forget form_u32) (form_given Sweep))))))

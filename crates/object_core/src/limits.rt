@@ -4,7 +4,7 @@
 pub const MAX_CONTENT: u16 = 4_096;
 
 /// The most entries of an access list.
-pub const MAX_ENTRIES: u8 = 8;
+pub const MAX_ENTRIES: u8 = prin_term::MAX_ENTRIES;
 
 /// All rights of an entry together; it has at least one.
 pub const MAX_RIGHTS: u8 = 15;

@@ -8,3 +8,4 @@ pub mod Sizes
 pub mod TermReaders
 pub mod TermPlaces
 pub mod TermCuts
+pub mod TermForms

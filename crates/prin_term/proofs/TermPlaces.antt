@@ -1,18 +1,16 @@
 -- Terms as fields of other formats end within the bytes, and are refused at a place of theirs.
 use Rattle.std.proofs.Common.{◌≡◌, ℕ, ◌+◌, ◌-◌, ◌≤◌, List, length, drop, Ok, sym, ap, subst, ◌∙◌, arith, length-append, length-drop}
-use Rattle.byte_fields.specs.declared.fault.FormatFault.TheVariants.{Malformed}
-use Rattle.byte_fields.specs.Formats.{ended, IsFaultIn}
+use Rattle.byte_fields.specs.Formats.{IsFaultIn}
 use Rattle.byte_fields.proofs.FieldLaws.{IsBytes}
-use Rattle.byte_fields.proofs.FormatPlaces.{here, lacking}
 use Rattle.byte_fields.proofs.Results.{bind_ok, ok_is}
-use Rattle.byte_fields.proofs.Staying.{Stays, stays_seen, optional_stays}
+use Rattle.byte_fields.proofs.Staying.{Stays, stays_seen}
 use Rattle.prin_term.specs.declared.fault.TermFault.{TermFault}
 use Rattle.prin_term.specs.declared.fault.TermFault.TheVariants as terms
 use Rattle.prin_term.specs.declared.limits.TheConstants.{MAX_DEPTH}
 use Rattle.prin_term.specs.Principal.{Principal}
 use Rattle.prin_term.specs.Reading.{front_term, term_at}
 use Rattle.prin_term.specs.Refusal.{IsRefused, IsWrongAt, before}
-use Rattle.prin_term.specs.TermFields.{seen_as, term_in, optional_term_in}
+use Rattle.prin_term.specs.TermFields.{seen_as, term_in}
 use Rattle.prin_term.proofs.Whole.{refused_at}
 
 term_ends : (bytes : List ℕ) (nodes at : ℕ) (x : Principal × ℕ) → term_at nodes bytes at ≡ Ok x → x.1 ≤ length bytes
@@ -59,6 +57,3 @@ module _ (bytes : List ℕ) where
 
   pub term_in_stays : IsBytes bytes → (nodes : ℕ) → Stays bytes (IsFaultIn bytes) (term_in nodes bytes)
   term_in_stays ok nodes = stays_seen (IsFaultIn bytes) seen_as (term_stays bytes ok nodes) placed
-
-  pub optional_term_stays : IsBytes bytes → (nodes : ℕ) → Stays bytes (IsFaultIn bytes) (optional_term_in nodes bytes)
-  optional_term_stays ok nodes = optional_stays (IsFaultIn bytes) (ended bytes) (lacking bytes) bytes Malformed _ (term_in_stays ok nodes) (here bytes)

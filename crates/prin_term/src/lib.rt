@@ -14,7 +14,7 @@ mod writing;
 pub use fault::TermFault;
 pub use laws::{one_spelling, prefixes_are_short, terms_are_read};
 pub use limit_laws::limits_are;
-pub use limits::{CERT_NODES, ENTRY_NODES, MAX_DEPTH, QUOTED_NODES};
+pub use limits::{CERT_NODES, ENTRY_NODES, MAX_ANCHORS, MAX_DEPTH, MAX_ENTRIES, QUOTED_NODES};
 pub use optional::{read_optional_term, write_optional_term};
 pub use reading::read_term;
 pub use term::{Anchor, Entry, Statement, Term};

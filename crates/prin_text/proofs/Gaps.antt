@@ -3,7 +3,7 @@ use Rattle.std.proofs.Common.{◌≡◌, ℕ, ◌<◌, List, ◌∷◌, length, 
 use Rattle.std.specs.List.{insert}
 use Rattle.std.proofs.lemmas.List.Edits.{length-insert}
 use Rattle.std.proofs.lemmas.List.Elements.{All-append, All-cons, All-drop, All-take}
-use Rattle.number_rows.proofs.Places as places
+use Rattle.byte_fields.proofs.RowPlaces as places
 use Rattle.prin_text.specs.Labels.{Rows, AddsRow, IsTable, number_of, IsRow, IsGapFor}
 use Rattle.prin_text.proofs.Texts.{number_of-insert_here, number_of-insert_else, differ-insert}
 

@@ -4,7 +4,7 @@ use Rattle.std.specs.Prelude.{nat_le, ◌==◌, if◌then◌else◌, codes, byte
 use Rattle.std.specs.Prelude.{All, List, [], ◌∷◌, length}
 use Rattle.std.specs.Prelude.{Option, Some, None, is_some}
 use Rattle.std.specs.List.{list_all}
-use Rattle.number_rows.specs.Rows as by_number
+use Rattle.byte_fields.specs.Rows as by_number
 use Rattle.prin_text.specs.declared.limits.TheConstants.{MAX_TEXT, MAX_NAMES, MAX_ROLES}
 use Rattle.prin_text.specs.declared.fault.NamesFault.{NamesFault}
 use Rattle.prin_text.specs.declared.fault.NamesFault.TheVariants.{BadText, Twice, Full}

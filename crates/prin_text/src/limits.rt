@@ -10,4 +10,4 @@ pub const MAX_NAMES: u32 = 1024;
 pub const MAX_ROLES: u32 = 256;
 
 /// The entries of a list.
-pub const MAX_ENTRIES: usize = 8;
+pub const MAX_ENTRIES: usize = prin_term::MAX_ENTRIES as usize;

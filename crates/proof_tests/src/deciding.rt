@@ -2,14 +2,16 @@ mod asking;
 mod building;
 mod cases;
 mod changing;
+mod remembering;
 
-use asking::{Deciders, ask, both_deciders};
+use asking::{Deciders, all_deciders, answers, ask, with_memory};
 use building::{certs, chosen, term};
 use cases::{CASES, CITING, COMING, Case, LARGE};
+use remembering::{TALKS, Talk};
 use std::alloc::Global;
 use std::test::Fail;
 
-// Whether both deciders answer a case as it says.
+// Whether the deciders answer a case as it says.
 fn is_answered(alloc: Global, deciders: &mut Deciders, case: Case) -> Result<bool, Fail> {
     let (_, given, subject, who, answer) = case;
     let certs = certs(alloc, given)?;
@@ -28,7 +30,7 @@ fn is_answered(alloc: Global, deciders: &mut Deciders, case: Case) -> Result<boo
 
 #[test]
 fn each_rule_is_used_and_no_more(rt: HostRuntime) -> Result<(), Fail> {
-    let mut deciders = both_deciders(rt.alloc())?;
+    let mut deciders = all_deciders(rt.alloc())?;
     for &case in CASES {
         assert!(rt; is_answered(rt.alloc(), &mut deciders, case)?, "{}", case.0);
     }
@@ -37,7 +39,7 @@ fn each_rule_is_used_and_no_more(rt: HostRuntime) -> Result<(), Fail> {
 
 #[test]
 fn a_proof_cites_what_it_rests_on(rt: HostRuntime) -> Result<(), Fail> {
-    let mut deciders = both_deciders(rt.alloc())?;
+    let mut deciders = all_deciders(rt.alloc())?;
     for &case in CITING {
         assert!(rt; is_answered(rt.alloc(), &mut deciders, case)?, "{}", case.0);
     }
@@ -46,7 +48,7 @@ fn a_proof_cites_what_it_rests_on(rt: HostRuntime) -> Result<(), Fail> {
 
 #[test]
 fn certificates_may_come_one_after_the_other(rt: HostRuntime) -> Result<(), Fail> {
-    let mut deciders = both_deciders(rt.alloc())?;
+    let mut deciders = all_deciders(rt.alloc())?;
     for &case in COMING {
         assert!(rt; is_answered(rt.alloc(), &mut deciders, case)?, "{}", case.0);
     }
@@ -54,10 +56,36 @@ fn certificates_may_come_one_after_the_other(rt: HostRuntime) -> Result<(), Fail
 }
 
 #[test]
-fn a_large_question_is_decided_alike_by_both(rt: HostRuntime) -> Result<(), Fail> {
-    let mut deciders = both_deciders(rt.alloc())?;
+fn a_large_question_is_decided_alike_by_all(rt: HostRuntime) -> Result<(), Fail> {
+    let mut deciders = all_deciders(rt.alloc())?;
     for &case in LARGE {
         assert!(rt; is_answered(rt.alloc(), &mut deciders, case)?, "{}", case.0);
+    }
+    Ok(())
+}
+
+// Whether a decider that remembers answers one question after the other as it should, and holds so
+// many lemmas after each.
+fn is_remembered(alloc: Global, talk: Talk) -> Result<bool, Fail> {
+    let (_, room, commons, turns) = talk;
+    let mut decider = with_memory(alloc, room, &certs(alloc, commons)?)?;
+    for &turn in turns {
+        let (given, subject, who, answer, held) = turn;
+        let certs = certs(alloc, given)?;
+        let chosen = chosen(alloc, given, certs.len())?;
+        let (subject, who) = (term(alloc, subject)?, term(alloc, who)?);
+        let is_so = answers(alloc, &mut decider, &certs, &chosen, &subject, &who, answer)?;
+        if !is_so || decider.held() != held {
+            return Ok(false);
+        }
+    }
+    Ok(true)
+}
+
+#[test]
+fn what_rests_on_anchors_and_commons_alone_is_remembered(rt: HostRuntime) -> Result<(), Fail> {
+    for &talk in TALKS {
+        assert!(rt; is_remembered(rt.alloc(), talk)?, "{}", talk.0);
     }
     Ok(())
 }

@@ -7,3 +7,4 @@ pub mod Opening
 pub mod Counting
 pub mod Coming
 pub mod Keeping
+pub mod Exchanging

@@ -1,15 +1,10 @@
 -- A link that speaks frames with a relay.
-use Rattle.std.specs.Prelude.{◌≡◌, ℕ, ◌≤◌, List, [], Result, Ok, Err}
-use Rattle.std.specs.Io.KnownBytes.{Keeps, Appends}
+use Rattle.std.specs.Prelude.{◌≡◌, ℕ, List, [], Result, Ok, Err}
 use Rattle.frame_link.specs.declared.outside.RelayAnswer.{RelayAnswer}
-use Rattle.frame_link.specs.declared.frame.Next.TheVariants as next
-use Rattle.frame_link.specs.declared.frame.Put.TheVariants as puts
-use Rattle.frame_link.specs.Faults.{Rose}
-use Rattle.frame_link.specs.Frames.{frame}
-use Rattle.frame_link.specs.Next.{TakesFrame, Puts}
-use Rattle.frame_link.specs.Streams.{Stream}
+use Rattle.frame_link.specs.Exchange as exchange
+pub use Rattle.frame_link.specs.Exchange.{Streams, streams}
 use Rattle.relay_core.specs.declared.message.TheConstants.{MAX_FRAME}
-use Rattle.relay_core.specs.Messages.{IsAnswer, IsNoAnswer}
+use Rattle.relay_core.specs.Messages.{IsAnswer}
 
 -- what a contract sees of a link
 pub record Link (I O : Type 0) : Type 0 where
@@ -20,67 +15,14 @@ pub record Link (I O : Type 0) : Type 0 where
   -- how often it has failed
   pub faults : ℕ
 
--- what is told of the input and the output
-pub record Streams : Type 0 where
-  pub input : Stream
-  pub output : Stream
-
--- an input and an output
-abbrev pub streams : Stream → Stream → Streams
-streams input output = record { input = input; output = output }
-
--- why no answer was read, of an input before and after
-pub data Stops (before after : Stream) : Type 0 where
-  unread :
-      TakesFrame MAX_FRAME before.told after.told [] next.ReadFault →
-      before.faults ≤ after.faults → Rose before.faults after.faults →
-      Stops before after
-  ended :
-      TakesFrame MAX_FRAME before.told after.told [] next.End → after.faults ≡ before.faults →
-      Stops before after
-  cut : (have : ℕ) →
-      TakesFrame MAX_FRAME before.told after.told [] (next.Truncated have) →
-      after.faults ≡ before.faults →
-      Stops before after
-  too_long : (n : ℕ) →
-      TakesFrame MAX_FRAME before.told after.told [] (next.TooLong n) →
-      after.faults ≡ before.faults →
-      Stops before after
-  no_answer : (payload : List ℕ) →
-      TakesFrame MAX_FRAME before.told after.told payload next.Frame → IsNoAnswer payload →
-      after.faults ≡ before.faults →
-      Stops before after
-
--- a whole frame was read of the input, which spells the answer
-pub record IsRead (before after : Stream) (answer : RelayAnswer) (out : List ℕ) : Type 0 where
-  pub payload : List ℕ
-  pub read : TakesFrame MAX_FRAME before.told after.told payload next.Frame
-  pub spells : IsAnswer payload answer out
-  pub steady : after.faults ≡ before.faults
-
--- what was read: a whole frame, which spells the answer; or what stopped it
-abbrev pub Hears : {E : Type 0} → Stream → Stream → Result RelayAnswer E → List ℕ → Type 0
-Hears before after (Ok answer) out = IsRead before after answer out
-Hears before after (Err e) out = (out ≡ []) × Stops before after
-
--- why a call failed: the frame could not be written, and nothing was read; or it was, and no answer
--- was read
-pub data Breaks (request : List ℕ) (before after : Streams) : Type 0 where
-  unwritten :
-      Puts before.output.told after.output.told request puts.WriteFault →
-      before.output.faults ≤ after.output.faults →
-      Rose before.output.faults after.output.faults →
-      Keeps before.input.told after.input.told → after.input.faults ≡ before.input.faults →
-      Breaks request before after
-  unanswered :
-      Appends before.output.told after.output.told (frame request) →
-      after.output.faults ≡ before.output.faults → Stops before.input after.input →
-      Breaks request before after
+-- the payload spells an answer, with the certificate that it brings
+abbrev pub Spelled : List ℕ → RelayAnswer × List ℕ → Type 0
+Spelled payload x = IsAnswer payload x.0 x.1
 
 -- a call wrote one frame that asks, and read one frame, which spells the answer; or it broke
 abbrev pub Asks : {E : Type 0} → List ℕ → Streams → Streams → Result RelayAnswer E → List ℕ →
     Type 0
 Asks request before after (Ok answer) out =
-    Appends before.output.told after.output.told (frame request)
-    × (after.output.faults ≡ before.output.faults) × IsRead before.input after.input answer out
-Asks request before after (Err e) out = (out ≡ []) × Breaks request before after
+    exchange.Asks MAX_FRAME Spelled {E = Unit {0}} request before after (Ok (answer, out))
+Asks request before after (Err e) out =
+    (out ≡ []) × exchange.Breaks MAX_FRAME Spelled request before after

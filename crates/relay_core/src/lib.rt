@@ -16,6 +16,7 @@ mod resealing;
 mod serving;
 
 pub use code::{BAD_SEAL, MALFORMED, UNKNOWN_ISSUER, UNKNOWN_NODE, WRONG_KIND};
+pub use exchange::{LinkRoom, ask};
 pub use limit_laws::limits_are;
 pub use link::LinkRelay;
 pub use local::LocalRelay;

@@ -8,10 +8,9 @@ ghost use Rattle.frame_link.specs.Streams.{stream};
 ghost use Rattle.relay_core.specs.Messages.{asking};
 ghost use Rattle.relay_core.specs.Links.{Asks, streams};
 
-use crate::exchange::ask;
-use crate::message::MAX_FRAME;
+use crate::exchange::{LinkRoom, ask};
 use arrayvec::ArrayVec;
-use frame_link::{Failed, FrameBuf, RelayAnswer, RelayLink, Sink, Source};
+use frame_link::{Failed, RelayAnswer, RelayLink, Sink, Source};
 use std::alloc::{AllocError, Global};
 use std::marker::Model;
 
@@ -21,29 +20,16 @@ use std::marker::Model;
 pub struct LinkRelay<I, O> {
     input: I,
     output: O,
-    room: Vec<u8>,
-    buf: FrameBuf,
+    room: LinkRoom,
     faults: u64,
 }
 
 impl<I, O> Model for LinkRelay<I, O> {
-    ghost use Rattle.std.specs.Prelude.{◌≡◌, ◌≤◌, length};
-    ghost use Rattle.relay_core.specs.declared.message.TheConstants.{MAX_FRAME};
     ghost use Rattle.relay_core.specs.Links.{Link};
 
     ghost Value = { Link I O };
 
     ghost view = { λ l. record { input = l.input; output = l.output; faults = l.faults } };
-
-    // The buffers have room for the longest frame.
-    ghost invariant = { λ l. (MAX_FRAME ≤ length l.room.items) × (l.buf.limit ≡ MAX_FRAME) };
-}
-
-// Zeros.
-fn room_of(alloc: Global, len: usize) -> Result<Vec<u8>, AllocError>
-    ensures { IfOk result (λ room. length room.items ≡ len) }
-{
-    vec![in alloc; 0; len]
 }
 
 impl<I: Source + Drop, O: Sink + Drop> LinkRelay<I, O> {
@@ -52,13 +38,10 @@ impl<I: Source + Drop, O: Sink + Drop> LinkRelay<I, O> {
         ensures { IfOk result
             (λ l. l ≡ record { input = input; output = output; faults = 0 }) }
     {
-        let room = room_of(alloc, MAX_FRAME as usize)?;
-        let buf = FrameBuf::new(alloc, MAX_FRAME)?;
         Ok(LinkRelay {
             input,
             output,
-            room,
-            buf,
+            room: LinkRoom::new(alloc)?,
             faults: 0,
         })
     }
@@ -106,7 +89,6 @@ impl<I: Source + Drop, O: Sink + Drop> RelayLink for LinkRelay<I, O> {
             &mut self.input,
             &mut self.output,
             &mut self.room,
-            &mut self.buf,
             node,
             sealed,
             out,

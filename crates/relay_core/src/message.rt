@@ -1,8 +1,8 @@
 //! What goes between a node and a relay, as payloads of frames.
 
-ghost use Rattle.std.specs.Prelude.{◌≡◌, ◌≤◌, ◌+◌, ◌∷◌, [], length, take, IfOk, IfSome, IfNone};
+ghost use Rattle.std.specs.Prelude.{◌≡◌, ◌≤◌, ◌∷◌, [], length, IfOk, IfSome, IfNone};
 ghost use Rattle.std.specs.Int.{w32, to_be_bytes};
-ghost use Rattle.relay_core.specs.Messages.{asking, IsAnswer, IsNoAnswer};
+ghost use Rattle.relay_core.specs.Messages.{IsAnswer, IsNoAnswer};
 ghost use Rattle.relay_core.specs.Asked.{asked_at};
 
 use crate::code::{MALFORMED, UNKNOWN_NODE};
@@ -28,24 +28,12 @@ pub const MAX_CERT: usize = 2048;
 /// The most bytes of a payload, in both directions.
 pub const MAX_FRAME: u32 = MAX_PAYLOAD;
 
-fn head_of(node: u32) -> [u8; 5]
+// What stands before the certificate in a payload that asks.
+pub(crate) fn head_of(node: u32) -> [u8; 5]
     ensures { result ≡ ASK ∷ to_be_bytes w32 node }
 {
     let [a, b, c, d] = node.to_be_bytes();
     [ASK, a, b, c, d]
-}
-
-// Lays a payload that asks at the front of the room, and says how long it is.
-pub(crate) fn lay_asking(room: &mut [u8], node: u32, certificate: &[u8]) -> usize
-    requires { 5 + length certificate.now ≤ length room.old }
-    ensures within { result ≤ length room.new }
-    ensures same_room { length room.new ≡ length room.old }
-    ensures text { take result room.new ≡ asking node certificate.now }
-{
-    let end = 5 + certificate.len();
-    room[..5].copy_from_slice(&head_of(node));
-    room[5..end].copy_from_slice(certificate);
-    end
 }
 
 // The node that a payload asks for, and where the certificate begins.

@@ -6,13 +6,12 @@ use Rattle.byte_fields.specs.Formats.{ended, IsFaultIn}
 use Rattle.byte_fields.specs.Steps.{◌>>=◌, Gives, bytes_at}
 use Rattle.byte_fields.specs.declared.fault.FormatFault.{FormatFault}
 use Rattle.byte_fields.specs.declared.fault.FormatFault.TheVariants.{Malformed, NoMemory}
-use Rattle.byte_fields.proofs.Cuts.{Cuts, cuts_followed, cuts_made, cuts_counted, cuts_byte, cuts_number}
 use Rattle.byte_fields.proofs.FieldLaws.{IsBytes, IsBytes-take}
 use Rattle.byte_fields.proofs.FormatFields.{reads_u8, reads_u16}
-use Rattle.byte_fields.proofs.FormatPlaces.{here, text_stays, u8_stays, u16_stays}
+use Rattle.byte_fields.proofs.FormatPlaces.{text_stays}
+use Rattle.byte_fields.proofs.Forms.{Form, form_followed, form_made, form_counted, form_u8, form_u16}
 use Rattle.byte_fields.proofs.ReaderLaws.{Reads, reads_followed, reads_made, reads_each}
 use Rattle.byte_fields.proofs.Results.{bind_ok, bind_err, refused_ok, refused_err, gives_found, gives_only}
-use Rattle.byte_fields.proofs.Staying.{Stays, stays_followed, stays_made, stays_counted}
 use Rattle.stmt_codec.specs.Certificates.{Certificate, body_spelling, FitsBody, IsWithinLimits}
 use Rattle.stmt_codec.specs.Lists.{AreBodiesAt, body_filling, cert_at, cert_bytes, cited_at, cited_bytes}
 use Rattle.stmt_codec.specs.Reading.{body_at}
@@ -38,12 +37,12 @@ module _ (bytes : List ℕ) where
   unfolding cited_at
   reads_cited most few = reads_each most 256 Malformed cert_bytes FitsBody few (reads_u8 bytes) reads_cert
 
--- ---- where reading is refused
+-- ---- where reading is refused, whole or cut
 
-module _ (bytes : List ℕ) (ok : IsBytes bytes) where
-  filling_stays : (n : ℕ) → Stays bytes (IsFaultIn bytes) (body_filling bytes n)
-  unfolding body_filling
-  filling_stays n = record {
+filling_form : (n : ℕ) → Form IsBytes (λ bytes. body_filling bytes n)
+unfolding body_filling
+filling_form n = record {
+  stays = λ bytes ok. record {
     ends = λ at x le e.
         let a = bind_ok (bytes_at (ended bytes) n bytes at) (λ text. body_at (take (at + n) bytes) at >>= λ c. cond (ltb c.1 (at + n)) (Err (Malformed c.1)) (Ok (c.0, text.1))) x e in
         let b = bind_ok (body_at (take (at + n) bytes) at) (λ c. cond (ltb c.1 (at + n)) (Err (Malformed c.1)) (Ok (c.0, a.0.1))) x a.2 in
@@ -64,26 +63,17 @@ module _ (bytes : List ℕ) (ok : IsBytes bytes) where
                     in_front bytes at n le a.0 a.1 f (subst (IsFaultIn (take (at + n) bytes)) (sym g.1) (front.ends at b.0 begins b.1))
               ]
         ];
-  }
+  };
+  cuts = λ front more ok. filling_cut front more n;
+}
 
-  cert_stays : Stays bytes (IsFaultIn bytes) (cert_at bytes)
-  unfolding cert_at
-  cert_stays = stays_made _ (stays_followed (u16_stays bytes) (λ n. filling_stays n))
+cert_form : Form IsBytes cert_at
+unfolding cert_at
+cert_form = form_made _ (form_followed form_u16 (λ n. filling_form n))
 
-  pub cited_stays : (most : ℕ) → Stays bytes (IsFaultIn bytes) (cited_at most bytes)
-  unfolding cited_at
-  cited_stays most = stays_counted _ Malformed (u8_stays bytes) (here bytes) (λ _. cert_stays)
-
--- ---- where the bytes are cut
-
-module _ (front more : List ℕ) where
-  cert_cut : Cuts front (ended front) (cert_at front) (cert_at (front ++ more))
-  unfolding cert_at
-  cert_cut = cuts_made _ (cuts_followed (cuts_number (ended front) (ended (front ++ more)) front more w16) (λ n. filling_cut front more n))
-
-  pub cited_cut : (most : ℕ) → Cuts front (ended front) (cited_at most front) (cited_at most (front ++ more))
-  unfolding cited_at
-  cited_cut most = cuts_counted _ Malformed (cuts_byte (ended front) (ended (front ++ more)) front more) (λ _. cert_cut)
+pub form_cited : (most : ℕ) → Form IsBytes (cited_at most)
+unfolding cited_at
+form_cited most = form_counted most form_u8 (λ _. cert_form)
 
 -- ---- how long it is
 

@@ -9,7 +9,8 @@ use Rattle.byte_fields.proofs.Results.{bind_ok, bind_err, chosen_ok, chosen_err}
 use Rattle.byte_fields.proofs.Staying.{Stays, stays_followed, stays_made}
 use Rattle.prin_term.specs.Principal.{Principal}
 use Rattle.prin_term.specs.TermFields.{term_in}
-use Rattle.prin_term.proofs.TermPlaces.{term_in_stays, optional_term_stays}
+use Rattle.prin_term.proofs.TermPlaces.{term_in_stays}
+use Rattle.prin_term.proofs.TermForms.{form_optional_term}
 use Rattle.stmt_codec.specs.Certificates.{key_quoting, distinct_parts}
 use Rattle.stmt_codec.specs.Reading.{right_at, body_at}
 
@@ -31,7 +32,7 @@ module _ (bytes : List ℕ) (ok : IsBytes bytes) where
   pub body_stays : Stays bytes (IsFaultIn bytes) (body_at bytes)
   unfolding body_at
   body_stays =
-      stays_made _ (stays_followed (within_stays bytes 1 1) (λ _. stays_followed (u32_stays bytes) (λ issuer. stays_followed (optional_term_stays bytes ok 64) (λ quoted. stays_followed (term_in_stays bytes ok 64)
+      stays_made _ (stays_followed (within_stays bytes 1 1) (λ _. stays_followed (u32_stays bytes) (λ issuer. stays_followed ((form_optional_term 64).stays bytes ok) (λ quoted. stays_followed (term_in_stays bytes ok 64)
       (λ left. stays_followed (right_stays (key_quoting issuer quoted) left) (λ _. stays_followed (u64_stays bytes) (λ _. u64_stays bytes)))))))
 
 -- so reading as a function is never out of memory

@@ -1,7 +1,7 @@
 //! Lists of certificates: a count, and each body behind its length.
 
-ghost use Rattle.std.specs.Prelude.{◌≡◌, ◌+◌, ◌++◌, ◌<◌, ◌≤◌, [], drop, take, length, map, List};
-ghost use Rattle.std.specs.Prelude.{IfOk, MatchResult, vec_capacity};
+ghost use Rattle.std.specs.Prelude.{◌≡◌, ◌+◌, ◌<◌, ◌≤◌, [], length, map, List};
+ghost use Rattle.std.specs.Prelude.{IfOk, MatchResult};
 ghost use Rattle.std.specs.List.{flat_map};
 ghost use Rattle.byte_fields.specs.Appends.{Appends, Pushes};
 ghost use Rattle.byte_fields.specs.Readers.{items_behind};
@@ -16,7 +16,7 @@ use crate::cert::Cert;
 use crate::fault::BodyFault;
 use crate::reading::read_body;
 use crate::writing::write_body;
-use byte_fields::{count_up_to, ended, slice_at, u16_at};
+use byte_fields::{count_up_to, ended, fill, slice_at, u16_at};
 use std::alloc::{AllocError, Global};
 use std::sync::Arc;
 
@@ -153,14 +153,4 @@ fn push_cert(out: &mut Vec<u8>, cert: &Cert) -> Result<(), AllocError>
     let len = (out.len() - text) as u16;
     fill(out, start, &len.to_be_bytes());
     Ok(())
-}
-
-// Writes bytes over those that stand at `start`.
-fn fill(out: &mut Vec<u8>, start: usize, bytes: &[u8])
-    requires within { start + length bytes.now ≤ length out.old.items }
-    ensures items { out.new.items ≡ take start out.old.items ++ bytes.now
-        ++ drop (start + length bytes.now) out.old.items }
-    ensures capacity { vec_capacity out.new ≡ vec_capacity out.old }
-{
-    out[start..start + bytes.len()].copy_from_slice(bytes);
 }

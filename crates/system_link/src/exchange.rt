@@ -5,9 +5,8 @@ ghost use Rattle.frame_link.specs.Relay.{AnswersAs, HasRelayCode};
 
 use crate::line::Line;
 use arrayvec::ArrayVec;
-use frame_link::{Failed, RelayAnswer, RelayLink, Sink, Source};
-use relay_core::{LinkRelay, MAX_CERT};
-use std::alloc::Global;
+use frame_link::{Failed, RelayAnswer, Sink, Source};
+use relay_core::{LinkRoom, MAX_CERT, ask};
 use std::io;
 use std::io::ErrorKind;
 use std::time::Clock;
@@ -107,7 +106,7 @@ impl<'b, 'a, C: Clock> Sink for Asking<'b, 'a, C> {
 
 /// Asks for a certificate on a stream, and hears the answer before the term ends.
 pub fn exchange<C: Clock>(
-    alloc: Global,
+    room: &mut LinkRoom,
     line: &Line<'_, C>,
     node: u32,
     sealed: &[u8],
@@ -118,25 +117,20 @@ pub fn exchange<C: Clock>(
     ensures answer { AnswersAs None node sealed.now result out.new.items }
     ensures codes { IfOk result HasRelayCode }
 {
-    let hearing = Hearing {
+    let mut hearing = Hearing {
         line,
         room: MAX_ANSWER,
         is_closed: false,
         faults: 0,
     };
-    let asking = Asking {
+    let mut asking = Asking {
         line,
         is_closed: false,
         faults: 0,
     };
-    let Ok(mut link) = LinkRelay::new(alloc, hearing, asking) else {
-        return Err(Silence::NoMemory);
-    };
-    let answer = link.reseal(node, sealed, out);
-    match answer {
+    match ask(&mut hearing, &mut asking, room, node, sealed, out) {
         Ok(answer) => Ok(answer),
         Err(Failed) => {
-            let (hearing, asking) = link.into_parts();
             if hearing.is_closed || asking.is_closed {
                 return Err(Silence::Closed);
             }

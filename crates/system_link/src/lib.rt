@@ -14,6 +14,7 @@ mod notice;
 mod notices;
 mod outbox;
 mod pace;
+mod parts;
 mod patient;
 mod peer;
 mod place;
@@ -35,6 +36,7 @@ pub use listen::{MAX_ADDRESSES, addresses_of, bind_all, doorways_of, first_place
 pub use notice::{Breakage, Happening, LeftOut, Notice};
 pub use notices::{NoticeQueue, Notices, Teller, WAITING, notices_of, teller_of};
 pub use outbox::{Deferred, Outbox, PIECE, Prompt};
+pub use parts::{Common, LaneParts, parts_of};
 pub use patient::Patient;
 pub use peer::{FIRST, FRAME, IDLE, LINGER, PeerInput, PeerOutput, TAKE, Terms};
 pub use relay::{LIMIT, REST, TcpRelay};

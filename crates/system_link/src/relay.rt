@@ -14,6 +14,7 @@ use crate::streams::is_cut_short;
 use crate::term::Term;
 use arrayvec::ArrayVec;
 use frame_link::{Failed, RelayAnswer, RelayLink};
+use relay_core::LinkRoom;
 use std::alloc::Global;
 use std::io;
 use std::io::ErrorKind;
@@ -103,6 +104,8 @@ pub struct TcpRelay<R> {
     address: String,
     limit: Duration,
     line: Option<TcpStream>,
+    // What the first call took, for each after it.
+    room: Option<LinkRoom>,
     // Behind a fault, until when each call fails.
     rest: Option<Term>,
     // Until when the calls of a request may take.
@@ -134,6 +137,7 @@ impl<R> TcpRelay<R> {
             address,
             limit,
             line: None,
+            room: None,
             rest: None,
             term: None,
             rounds,
@@ -190,6 +194,22 @@ impl<R: Net<Listener = TcpListener, Stream = TcpStream> + Clock> TcpRelay<R> {
         Some(stream)
     }
 
+    // The room for one question and its answer.
+    fn room(&mut self) -> Result<LinkRoom, Silence>
+        ensures line { self.new.line ≡ self.old.line }
+        ensures place { (self.new.address ≡ self.old.address)
+            × (self.new.limit ≡ self.old.limit) }
+        ensures faults { self.new.faults ≡ self.old.faults }
+    {
+        match self.room.take() {
+            Some(room) => Ok(room),
+            None => match LinkRoom::new(self.alloc) {
+                Ok(room) => Ok(room),
+                Err(_) => Err(Silence::NoMemory),
+            },
+        }
+    }
+
     // Asks on a stream, which is kept where that is answered.
     fn ask_on(
         &mut self,
@@ -210,14 +230,18 @@ impl<R: Net<Listener = TcpListener, Stream = TcpStream> + Clock> TcpRelay<R> {
             × (self.new.limit ≡ self.old.limit) }
         ensures faults { self.new.faults ≡ self.old.faults }
     {
+        let mut room = self.room()?;
         let line = Line {
             stream: &stream,
             clock: &self.network,
             term,
         };
-        let answer = exchange(self.alloc, &line, node, sealed, out)?;
-        self.line = Some(stream);
-        Ok(answer)
+        let answer = exchange(&mut room, &line, node, sealed, out);
+        self.room = Some(room);
+        if answer.is_ok() {
+            self.line = Some(stream);
+        }
+        answer
     }
 
     // Asks on the stream that is kept; or on a new one, where there is none or it is closed.

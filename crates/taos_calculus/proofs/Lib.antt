@@ -16,11 +16,11 @@ pub mod Short
 pub mod Placed
 pub mod ProofReaders
 pub mod ProofLaws
-pub mod CutProofs
+pub mod ProofForms
 pub mod Premises
 pub mod Checks
 pub mod Numbers
 pub mod NumberedMoving
 pub mod Asking
-pub mod Offsets
 pub mod Counted
+pub mod Apart

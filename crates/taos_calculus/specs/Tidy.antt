@@ -86,3 +86,9 @@ abbrev pub DerivesMore : List Anchor → List Claim → List Claim → Type 0
 DerivesMore anchors claims more =
     ((i : ℕ) (c : Claim) → slice_get claims i ≡ Some c → (k : ℕ) × (slice_get more k ≡ Some c)) →
     (fact : Judgement) → Derivable anchors claims fact → Derivable anchors more fact
+
+-- what a proof without waste cites says different things, a claim for each cite
+abbrev pub CitesDiffer : List Anchor → List Claim → List Line → List ℕ → Judgement → Type 0
+CitesDiffer anchors said lines cites fact =
+    length cites ≡ length said → Proves anchors said lines fact → IsTidy lines cites →
+    AllPairs (λ c d. c ≢ d) said

@@ -14,13 +14,13 @@ use std::sync::Arc;
 use stmt_codec::Cert;
 
 /// How many anchors a question has at most.
-pub const MAX_ANCHORS: usize = 64;
+pub const MAX_ANCHORS: usize = prin_term::MAX_ANCHORS as usize;
 
 /// How many certificates a question has at most.
 pub const MAX_CERTS: usize = 64;
 
 /// How many entries the list of a question has at most.
-pub const MAX_ENTRIES: usize = 8;
+pub const MAX_ENTRIES: usize = prin_term::MAX_ENTRIES as usize;
 
 /// A proof, with the places of the certificates that it cites, in the order of its numbers.
 #[derive(Debug, Drop)]

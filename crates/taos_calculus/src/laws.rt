@@ -16,7 +16,7 @@ ghost use Rattle.taos_calculus.specs.ProofReading.{proof_at, proof_of};
 ghost use Rattle.taos_calculus.specs.Having.{HaveParts, AreAlone};
 ghost use Rattle.taos_calculus.specs.Saturation.{HasEveryFact};
 ghost use Rattle.taos_calculus.specs.Reach.{KeepsReach, KnowsReach};
-ghost use Rattle.taos_calculus.specs.Tidy.{StaysWithin, DerivesMore};
+ghost use Rattle.taos_calculus.specs.Tidy.{StaysWithin, DerivesMore, CitesDiffer};
 ghost use Rattle.taos_calculus.specs.Atoms.{AtomIsDecided};
 
 /// Facts over a table that are closed under the rules within the table are all that is derivable
@@ -46,6 +46,12 @@ pub fn derivations_stay_within()
 pub fn certificates_only_add()
     ensures { (anchors : List Anchor) (claims more : List Claim) →
         DerivesMore anchors claims more }
+{}
+
+/// The certificates that a proof without waste cites say different things.
+pub fn tidy_cites_differ()
+    ensures { (anchors : List Anchor) (said : List Claim) (lines : List Line) (cites : List ℕ)
+        (fact : Judgement) → CitesDiffer anchors said lines cites fact }
 {}
 
 /// Without certificates a key speaks for itself, for the names that its anchors give it, and for

@@ -1,10 +1,11 @@
-ghost use Rattle.std.specs.Prelude.{◌≡◌, ◌↔◌, IsSome, IfSome};
+ghost use Rattle.std.specs.Prelude.{◌≡◌, ◌↔◌, IsSome, IfSome, IfOk};
 ghost use Rattle.taos_calculus.specs.Tables.{parts_of};
 
 use crate::canonical::{is_met_in_order, is_node_table};
 use crate::line::{Line, Node};
 use crate::nodes::node_is;
 use prin_term::Term;
+use std::alloc::{AllocError, Global};
 use std::marker::Model;
 
 /// How many nodes the table of a proof has at most.
@@ -56,6 +57,15 @@ impl Proof {
             return None;
         }
         Some(Proof { nodes, lines })
+    }
+
+    /// An equal proof of its own.
+    pub fn copy(&self, alloc: Global) -> Result<Proof, AllocError>
+        ensures { IfOk result (λ p. p ≡ self.now) }
+    {
+        let nodes = Vec::from_slice(alloc, &self.nodes)?;
+        let lines = Vec::from_slice(alloc, &self.lines)?;
+        Ok(Proof { nodes, lines })
     }
 
     /// The principals by number: each node's operands stand before it.

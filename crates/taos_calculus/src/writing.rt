@@ -1,7 +1,6 @@
 //! Writing the spelling of a proof.
 
-ghost use Rattle.std.specs.Prelude.{◌≡◌, ◌++◌, ◌∷◌, ◌+◌, ◌<◌, ◌≤◌, ◌^◌, drop, length, take};
-ghost use Rattle.std.specs.Prelude.{vec_capacity, OnOk};
+ghost use Rattle.std.specs.Prelude.{◌≡◌, ◌++◌, ◌∷◌, ◌+◌, ◌<◌, ◌≤◌, ◌^◌, length, OnOk};
 ghost use Rattle.std.specs.Int.{w16, w32, to_be_bytes};
 ghost use Rattle.std.specs.List.{flat_map};
 ghost use Rattle.byte_fields.specs.Appends.{Appends, Pushes};
@@ -13,6 +12,7 @@ ghost use Rattle.taos_calculus.specs.Spelling.{pair16, pair32};
 
 use crate::line::{Fact, Line, Node, Step};
 use crate::proof::{MAX_LINES, MAX_NODES, Proof};
+use byte_fields::fill;
 use std::alloc::AllocError;
 
 /// Appends the one spelling of a proof. An `Err` leaves the bytes as they were.
@@ -49,16 +49,6 @@ fn push_counted(out: &mut Vec<u8>, proof: &Proof) -> Result<(), AllocError>
     let len = (out.len() - text) as u32;
     fill(out, start, &len.to_be_bytes());
     Ok(())
-}
-
-// Writes bytes over those that stand at `start`.
-fn fill(out: &mut Vec<u8>, start: usize, bytes: &[u8])
-    requires within { start + length bytes.now ≤ length out.old.items }
-    ensures items { out.new.items ≡ take start out.old.items ++ bytes.now
-        ++ drop (start + length bytes.now) out.old.items }
-    ensures capacity { vec_capacity out.new ≡ vec_capacity out.old }
-{
-    out[start..start + bytes.len()].copy_from_slice(bytes);
 }
 
 fn write_parts(out: &mut Vec<u8>, nodes: &[Node], lines: &[Line]) -> Result<(), AllocError>

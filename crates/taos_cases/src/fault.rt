@@ -18,6 +18,8 @@ pub enum LineFault {
     NoStatus,
     /// A relay has keys, or says what it says.
     TwoRelays,
+    /// No bytes have this name.
+    Unnamed,
     /// These are not hex digits, two for each byte.
     Digits,
     /// A key has 32 bytes.
@@ -39,6 +41,7 @@ impl fmt::Display for LineFault {
             LineFault::NoName => write!(f, "a case without a name"),
             LineFault::NoStatus => write!(f, "a case without a status"),
             LineFault::TwoRelays => write!(f, "keys of a relay, and what it says"),
+            LineFault::Unnamed => write!(f, "no bytes of this name"),
             LineFault::Digits => write!(f, "not hex digits, two for each byte"),
             LineFault::KeyLength => write!(f, "a key has 32 bytes"),
             LineFault::Number => write!(f, "no number that may stand here"),

@@ -1,14 +1,15 @@
 //! The conversations of a text.
 
+use crate::bytes::Names;
 use crate::case::Conversation;
 use crate::fault::{BadLine, LineFault};
 use crate::saying::add_line;
 use std::alloc::Global;
 
-// The conversations that have ended, and the one that has not.
+// The bytes that have names, the conversations that have ended, and the one that has not.
 #[derive(Drop)]
 struct Reading {
-    alloc: Global,
+    names: Names,
     ended: Vec<Conversation>,
     open: Option<Conversation>,
 }
@@ -41,15 +42,16 @@ impl Reading {
         if self.ended.iter().any(|case| case.name.as_str() == name) {
             return Err(LineFault::Twice);
         }
-        let name = String::from_str(self.alloc, name)?;
-        self.open = Some(Conversation::new(self.alloc, name, line));
+        let name = String::from_str(self.names.alloc, name)?;
+        self.open = Some(Conversation::new(self.names.alloc, name, line));
         Ok(())
     }
 
     // Takes a line that is no comment and not blank.
     fn say(&mut self, key: &str, text: &str) -> Result<(), LineFault> {
         match &mut self.open {
-            Some(case) => add_line(self.alloc, case, key, text),
+            Some(case) => add_line(&self.names, case, key, text),
+            None if key == "bytes" => self.names.add(text),
             None => Err(LineFault::NoCase),
         }
     }
@@ -72,7 +74,7 @@ impl Reading {
 /// The conversations of a text, in order, or the first of its lines that is none.
 pub fn conversations_of(alloc: Global, text: &str) -> Result<Vec<Conversation>, BadLine> {
     let mut reading = Reading {
-        alloc,
+        names: Names::new(alloc),
         ended: Vec::new(alloc),
         open: None,
     };

@@ -1,9 +1,8 @@
 //! What one line adds to its conversation. Each function says whether the key is one of its own.
 
-use crate::bytes::{add_numbers, bytes_of, number_of};
+use crate::bytes::{Names, add_numbers, number_of};
 use crate::case::{Conversation, Grant, NumberedKey, Part, RelaySide, Wanted};
 use crate::fault::LineFault;
-use std::alloc::Global;
 
 /// The bytes of a grant's payload before the length of its proof.
 pub const FRONT: usize = 28;
@@ -17,22 +16,22 @@ fn put<T: Drop>(place: &mut Option<T>, value: T) -> Result<(), LineFault> {
     Ok(())
 }
 
-fn add_words(alloc: Global, words: &mut Vec<String>, text: &str) -> Result<(), LineFault> {
+fn add_words(names: &Names, words: &mut Vec<String>, text: &str) -> Result<(), LineFault> {
     for word in text.split_ascii_whitespace() {
-        words.push(String::from_str(alloc, word)?)?;
+        words.push(String::from_str(names.alloc, word)?)?;
     }
     Ok(())
 }
 
-fn add_bytes(alloc: Global, bytes: &mut Vec<u8>, text: &str) -> Result<(), LineFault> {
-    let mut more = bytes_of(alloc, text)?;
+fn add_bytes(names: &Names, bytes: &mut Vec<u8>, text: &str) -> Result<(), LineFault> {
+    let mut more = names.bytes_of(text)?;
     Ok(bytes.append(&mut more)?)
 }
 
 // The bytes of a key whose line may be left out.
-fn add_some(alloc: Global, place: &mut Option<Vec<u8>>, text: &str) -> Result<(), LineFault> {
-    let mut bytes = place.take().unwrap_or(Vec::new(alloc));
-    add_bytes(alloc, &mut bytes, text)?;
+fn add_some(names: &Names, place: &mut Option<Vec<u8>>, text: &str) -> Result<(), LineFault> {
+    let mut bytes = place.take().unwrap_or(Vec::new(names.alloc));
+    add_bytes(names, &mut bytes, text)?;
     *place = Some(bytes);
     Ok(())
 }
@@ -50,12 +49,12 @@ fn add_pieces(pieces: &mut Vec<u64>, text: &str) -> Result<(), LineFault> {
     Ok(())
 }
 
-fn add_key(alloc: Global, keys: &mut Vec<NumberedKey>, text: &str) -> Result<(), LineFault> {
+fn add_key(names: &Names, keys: &mut Vec<NumberedKey>, text: &str) -> Result<(), LineFault> {
     let (number, digits) = text.split_once(' ').unwrap_or((text, ""));
     let Ok(number) = number.parse::<u32>() else {
         return Err(LineFault::Number);
     };
-    let bytes = bytes_of(alloc, digits)?;
+    let bytes = names.bytes_of(digits)?;
     let Some((key, [])) = bytes.split_first_chunk::<32>() else {
         return Err(LineFault::KeyLength);
     };
@@ -67,7 +66,7 @@ fn add_key(alloc: Global, keys: &mut Vec<NumberedKey>, text: &str) -> Result<(),
 
 // A key of a relay that says nothing by itself.
 fn add_relay_key(
-    alloc: Global,
+    names: &Names,
     side: &mut RelaySide,
     issues: bool,
     text: &str,
@@ -76,50 +75,50 @@ fn add_relay_key(
         return Err(LineFault::TwoRelays);
     }
     if issues {
-        add_key(alloc, &mut side.issuers, text)
+        add_key(names, &mut side.issuers, text)
     } else {
-        add_key(alloc, &mut side.nodes, text)
+        add_key(names, &mut side.nodes, text)
     }
 }
 
-fn add_says(alloc: Global, side: &mut RelaySide, text: &str) -> Result<(), LineFault> {
+fn add_says(names: &Names, side: &mut RelaySide, text: &str) -> Result<(), LineFault> {
     if !side.nodes.is_empty() || !side.issuers.is_empty() {
         return Err(LineFault::TwoRelays);
     }
-    add_some(alloc, &mut side.says, text)
+    add_some(names, &mut side.says, text)
 }
 
 // `FRONT certificates N content BYTES`.
-fn grant_of(alloc: Global, text: &str) -> Result<Grant, LineFault> {
+fn grant_of(names: &Names, text: &str) -> Result<Grant, LineFault> {
     let Some((front, rest)) = text.split_once(" certificates ") else {
         return Err(LineFault::Grant);
     };
     let Some((count, content)) = rest.split_once(" content") else {
         return Err(LineFault::Grant);
     };
-    let front = bytes_of(alloc, front)?;
+    let front = names.bytes_of(front)?;
     if front.len() != FRONT {
         return Err(LineFault::Grant);
     }
     Ok(Grant {
         front,
         certificates: number_of(count)?,
-        content: bytes_of(alloc, content)?,
+        content: names.bytes_of(content)?,
     })
 }
 
-fn add_output(alloc: Global, parts: &mut Vec<Part>, text: &str) -> Result<(), LineFault> {
-    let bytes = bytes_of(alloc, text)?;
+fn add_output(names: &Names, parts: &mut Vec<Part>, text: &str) -> Result<(), LineFault> {
+    let bytes = names.bytes_of(text)?;
     Ok(parts.push(Part::Bytes(bytes))?)
 }
 
-fn add_grant(alloc: Global, parts: &mut Vec<Part>, text: &str) -> Result<(), LineFault> {
-    let grant = grant_of(alloc, text)?;
+fn add_grant(names: &Names, parts: &mut Vec<Part>, text: &str) -> Result<(), LineFault> {
+    let grant = grant_of(names, text)?;
     Ok(parts.push(Part::Granted(grant))?)
 }
 
-fn put_notes(alloc: Global, wanted: &mut Wanted, text: &str, end: &str) -> Result<(), LineFault> {
-    let mut bytes = text.as_bytes().to_vec(alloc)?;
+fn put_notes(names: &Names, wanted: &mut Wanted, text: &str, end: &str) -> Result<(), LineFault> {
+    let mut bytes = text.as_bytes().to_vec(names.alloc)?;
     bytes.extend_from_slice(end.as_bytes())?;
     put(&mut wanted.notes, bytes)
 }
@@ -134,22 +133,22 @@ fn put_status(wanted: &mut Wanted, text: &str) -> Result<(), LineFault> {
 
 // Adds to what stands round the call.
 fn says_setting(
-    alloc: Global,
+    names: &Names,
     case: &mut Conversation,
     key: &str,
     text: &str,
 ) -> Result<bool, LineFault> {
     let setting = &mut case.setting;
     let added = match key {
-        "words" => add_words(alloc, &mut setting.words, text),
-        "file" => add_bytes(alloc, &mut setting.file, text),
-        "input" => add_bytes(alloc, &mut setting.input, text),
+        "words" => add_words(names, &mut setting.words, text),
+        "file" => add_bytes(names, &mut setting.file, text),
+        "input" => add_bytes(names, &mut setting.input, text),
         "pieces" => add_pieces(&mut setting.pieces, text),
         "clock" => add_numbers(&mut setting.readings, text),
         "connections" => put_number(&mut setting.connections, text),
-        "relay-node" => add_relay_key(alloc, &mut setting.relay, false, text),
-        "relay-issuer" => add_relay_key(alloc, &mut setting.relay, true, text),
-        "relay-says" => add_says(alloc, &mut setting.relay, text),
+        "relay-node" => add_relay_key(names, &mut setting.relay, false, text),
+        "relay-issuer" => add_relay_key(names, &mut setting.relay, true, text),
+        "relay-says" => add_says(names, &mut setting.relay, text),
         "output-room" => put_number(&mut setting.rooms.output, text),
         "notes-room" => put_number(&mut setting.rooms.notes, text),
         "hears-room" => put_number(&mut setting.rooms.hears, text),
@@ -181,20 +180,20 @@ fn says_fails(case: &mut Conversation, key: &str, text: &str) -> Result<bool, Li
 
 // Adds to what must come of the call.
 fn says_wanted(
-    alloc: Global,
+    names: &Names,
     wanted: &mut Wanted,
     key: &str,
     text: &str,
 ) -> Result<bool, LineFault> {
     let added = match key {
-        "output" => add_output(alloc, &mut wanted.output, text),
-        "grant" => add_grant(alloc, &mut wanted.output, text),
+        "output" => add_output(names, &mut wanted.output, text),
+        "grant" => add_grant(names, &mut wanted.output, text),
         "status" => put_status(wanted, text),
-        "note" => put_notes(alloc, wanted, text, "\n"),
-        "note-front" => put_notes(alloc, wanted, text, ""),
+        "note" => put_notes(names, wanted, text, "\n"),
+        "note-front" => put_notes(names, wanted, text, ""),
         "faults" => put_number(&mut wanted.faults, text),
-        "hears" => add_some(alloc, &mut wanted.hears, text),
-        "left" => add_some(alloc, &mut wanted.left, text),
+        "hears" => add_some(names, &mut wanted.hears, text),
+        "left" => add_some(names, &mut wanted.left, text),
         _ => return Ok(false),
     };
     added?;
@@ -203,14 +202,14 @@ fn says_wanted(
 
 /// Adds what a line says to its conversation.
 pub fn add_line(
-    alloc: Global,
+    names: &Names,
     case: &mut Conversation,
     key: &str,
     text: &str,
 ) -> Result<(), LineFault> {
-    if says_setting(alloc, case, key, text)?
+    if says_setting(names, case, key, text)?
         || says_fails(case, key, text)?
-        || says_wanted(alloc, &mut case.wanted, key, text)?
+        || says_wanted(names, &mut case.wanted, key, text)?
     {
         return Ok(());
     }

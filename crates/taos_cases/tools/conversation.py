@@ -4,6 +4,8 @@ import textwrap
 from formats import LAST, Fields, grant_front
 
 WIDTH = 100
+# A file of so many bytes or fewer is written where it stands.
+SHORT = 16
 NUMBERS = ["pieces", "clock"]
 FAILS = ["file-fails", "input-fails", "byte-fails", "output-fails", "notes-fails", "clock-fails"]
 FAILS += ["relay-fails", "says-fails", "hears-fails", "door-fails"]
@@ -24,6 +26,19 @@ class Times:
 
     def __len__(self):
         return len(self.fields) * self.count
+
+
+class Named:
+    """Bytes that stand in their file once, under a name."""
+
+    def __init__(self, name, fields):
+        self.name, self.fields = name, fields
+
+    def __bytes__(self):
+        return bytes(self.fields)
+
+    def __len__(self):
+        return len(self.fields)
 
 
 class Grant:
@@ -98,10 +113,17 @@ def pieces_of(fields, width):
 def lines_of_bytes(key, value):
     if isinstance(value, Grant):
         return [value.line()]
+    if isinstance(value, Named):
+        return [f"{key} ${value.name}"]
     if isinstance(value, Times):
         return [f"{key} {bytes(value.fields).hex()} * {value.count}"]
     fields = value if isinstance(value, Fields) else Fields(value)
     return filled(key, pieces_of(fields, WIDTH - len(key) - 1))
+
+
+def lines_of_name(named):
+    """One line, however long: a name is given once."""
+    return [f"bytes {named.name} " + " ".join(pieces_of(named.fields, WIDTH))]
 
 
 def known_key(key, pair):
@@ -125,12 +147,49 @@ def lines_of(key, value):
     return [f"{key} {value}"]
 
 
+def file_of(case):
+    """The case's file, if it has one whose bytes stand in full."""
+    parts = case.lines.get("file", [])
+    return None if any(isinstance(each, (Named, Times)) for each in parts) else joined(parts)
+
+
+def shared_files(cases):
+    """The files that stand in several of these cases, each under a name."""
+    counts = {}
+    for text in filter(None, map(file_of, cases)):
+        counts[text] = counts.get(text, 0) + 1
+    many = [text for text, count in counts.items() if count > 1 and len(text) > SHORT]
+    return {text: "file" if len(many) == 1 else f"file-{at + 1}" for at, text in enumerate(many)}
+
+
+def with_names(case, files):
+    """The case, with the names of files that it shares."""
+    text = file_of(case)
+    if text in files:
+        case.lines["file"] = [Named(files[text], Fields(*case.lines["file"]))]
+    return case
+
+
+def names_in(cases):
+    """What stands under names in these cases, in the order in which it comes."""
+    found = {}
+    for case in cases:
+        for key in BYTES:
+            for each in case.lines.get(key, []):
+                if isinstance(each, Named) and bytes(found.setdefault(each.name, each)) != bytes(each):
+                    raise ValueError(f"{each.name} names two texts")
+    return found.values()
+
+
 def file_text(about, cases):
-    """A file of conversations, with a comment before the first."""
+    """A file of conversations, with a comment and what has a name before the first."""
     titles = [case.title for case in cases]
     if len(set(titles)) != len(titles):
         raise ValueError(f"a name twice: {about}")
-    head = "\n".join(textwrap.wrap(about, WIDTH, initial_indent="# ", subsequent_indent="# "))
-    text = head + "\n\n" + "\n".join(case.text() for case in cases)
+    files = shared_files(cases)
+    cases = [with_names(case, files) for case in cases]
+    head = textwrap.wrap(about, WIDTH, initial_indent="# ", subsequent_indent="# ")
+    head += [line for each in names_in(cases) for line in lines_of_name(each)]
+    text = "\n".join(head) + "\n\n" + "\n".join(case.text() for case in cases)
     text.encode("ascii")
     return text

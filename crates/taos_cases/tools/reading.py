@@ -1,10 +1,13 @@
 """Reads files of conversations."""
 import glob
 import os
+import re
 
 DATA = os.path.join(os.path.dirname(os.path.dirname(os.path.abspath(__file__))), "data")
 BYTES = ["file", "input", "relay-says", "hears", "left"]
 KEYED = ["relay-node", "relay-issuer"]
+# Lines in which `$` and a name stand for bytes.
+SPELLED = BYTES + KEYED + ["output", "grant"]
 
 
 class Conversation:
@@ -45,6 +48,11 @@ def bytes_of(text):
     return bytes.fromhex(digits) * (int(times) if times else 1)
 
 
+def without_names(text, names):
+    """A text of bytes, with digits in place of each name."""
+    return re.sub(r"\$(\S+)", lambda found: names[found[1]].hex(), text)
+
+
 def add(case, key, text):
     if key == "output":
         case.written.append(bytes_of(text))
@@ -55,13 +63,18 @@ def add(case, key, text):
 
 def read(path):
     """The conversations of a file."""
-    cases = []
+    cases, names = [], {}
     with open(path, encoding="ascii") as file:
         for line in file.read().splitlines():
             key, _, text = line.partition(" ")
             if not line.strip() or line.startswith("#"):
                 continue
-            if key == "case":
+            if key in SPELLED:
+                text = without_names(text, names)
+            if key == "bytes" and not cases:
+                name, _, digits = text.partition(" ")
+                names[name] = bytes_of(without_names(digits, names))
+            elif key == "case":
                 cases.append(Conversation(os.path.basename(path), text))
             else:
                 add(cases[-1], key, text)

@@ -9,6 +9,7 @@ with 1. Files are those of data/ where none is named. Ends with 1 where one is n
 """
 import concurrent.futures
 import os
+import re
 import subprocess
 import sys
 import tempfile
@@ -32,7 +33,8 @@ def digit_places(line, at):
     if line.startswith("grant "):
         text = text.split(" certificates ")[0]
     first = text.index(" ") + 1 if " " in text else len(text)
-    return [(at, place) for place in range(first, len(text)) if text[place] != " "]
+    names = {at for found in re.finditer(r"\$\S+", text) for at in range(*found.span())}
+    return [(at, place) for place in range(first, len(text)) if text[place] != " " and place not in names]
 
 
 def places_of(lines, start, end):

@@ -33,6 +33,8 @@ mod Ascending
 mod Unchanged
 mod Growing
 mod Walks
+mod Hindering
+mod Complete
 mod CertWalks
 mod OneRuling
 mod LoneRuling

@@ -186,7 +186,7 @@ module _ (J : Journals) (effect : Option Event) (plans : List Plan) (legal : Are
 below : (n : ℕ) → All (λ (s : ℕ). s < n) (range_with_len 0 n)
 below n k d lt = let within : k < n = omega (arith, lt, length-range_with_len 0 n) in omega (arith, within, get_or-range_with_len 0 n k d within)
 
-targets_there : (plans : List Plan) → 0 < length plans → (op : Op) → All (λ (s : ℕ). s < length plans) (targets_of plans op)
+pub targets_there : (plans : List Plan) → 0 < length plans → (op : Op) → All (λ (s : ℕ). s < length plans) (targets_of plans op)
 targets_there plans some Read = All-nil (λ (s : ℕ). s < length plans)
 targets_there plans some (Write new) = All-nil (λ (s : ℕ). s < length plans)
 targets_there plans some (SetList list) = All-nil (λ (s : ℕ). s < length plans)

@@ -12,6 +12,7 @@ pub mod Course
 pub mod Arriving
 pub mod Ruling
 pub mod Handling
+pub mod Completeness
 pub mod Run
 pub mod Connection
 pub mod Serving

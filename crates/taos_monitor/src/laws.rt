@@ -3,6 +3,7 @@
 ghost use Rattle.taos_monitor.specs.Cells.{Node};
 ghost use Rattle.taos_monitor.specs.Changes.{NothingChanges, ObjectsAreMade, RepliesTellUngranted};
 ghost use Rattle.taos_monitor.specs.Choices.{AnswersAgree, ConnectionsAgree, FramesAreRead};
+ghost use Rattle.taos_monitor.specs.Completeness.{AnswersAreWhole, ArrivalsAreJudged, VerdictsAreExact};
 ghost use Rattle.taos_monitor.specs.Laws.{AnsweredStays, AnswersMore, ArrivalExcludes, CodesAreKnown, CourseStays, CoursesAgree, FaultsAreCounted, GoesOnTwice, NoEntryAfterFull};
 ghost use Rattle.taos_monitor.specs.Projected.{EffectsAreProjected};
 ghost use Rattle.taos_monitor.specs.Verdicts.{RepliesAreVerdicts};
@@ -47,6 +48,20 @@ pub fn replies_are_verdicts()
 pub fn courses_exclude_each_other()
     ensures agree { (n : Node) → CoursesAgree n }
     ensures arrived { (n : Node) → ArrivalExcludes n }
+{}
+
+/// Completeness: a request that came to its object has the verdict on its Ask for its reply, a grant or a
+/// denial, unless its number was used, something was full, no shard held what it would discard, or
+/// memory was refused.
+pub fn arrivals_are_judged()
+    ensures judged { (n : Node) → ArrivalsAreJudged n }
+    ensures exact { (n : Node) → VerdictsAreExact n }
+{}
+
+/// And so what `answer` and `request` promise comes to this where no count of failures rose: there is a
+/// reply, no call of the link failed, and what came to its object is judged.
+pub fn answers_are_whole()
+    ensures { AnswersAreWhole }
 {}
 
 /// A certificate is refused by a code of 1 to 6, and each call of the link that failed has a fault

@@ -23,10 +23,10 @@ pub use answering::{answer, answer_with};
 pub use connection::{MAX_REQUEST, serve_connection};
 pub use handling::{Handled, request, request_with};
 pub use laws::{
-    a_connection_alone_is_a_function, courses_exclude_each_other, courses_stay,
-    effects_are_granted, going_on_goes_on, no_grant_changes_nothing,
-    nothing_follows_a_full_journal, one_more_is_answered, refusals_have_causes,
-    replies_are_verdicts, what_is_answered_stays,
+    a_connection_alone_is_a_function, answers_are_whole, arrivals_are_judged,
+    courses_exclude_each_other, courses_stay, effects_are_granted, going_on_goes_on,
+    no_grant_changes_nothing, nothing_follows_a_full_journal, one_more_is_answered,
+    refusals_have_causes, replies_are_verdicts, what_is_answered_stays,
 };
 pub use limit_laws::limits_are;
 pub use node_keys::NodeKeys;

@@ -26,7 +26,8 @@ use Rattle.taos_node.specs.declared.ending.AuditEnd.{AuditEnd}
 use Rattle.taos_node.specs.declared.ending.AuditEnd.TheVariants as audits
 use Rattle.taos_node.specs.Audit.{AuditCauses, AuditIsComplete, IsAuditOf, IsEnd, TextHasCause, WritesAudit, WritesText}
 use Rattle.taos_node.specs.AuditOf.{all_text, objects_text, shards_text}
-use Rattle.taos_node.specs.Opened.{IsOpenedBy, IsSameNode, fixed_with, seen_by}
+use Rattle.node_open.specs.Cells.{fixed_with}
+use Rattle.taos_node.specs.Opened.{IsOpenedBy, IsSameNode, seen_by}
 use Rattle.taos_node.proofs.Commands.{still}
 use Rattle.taos_node.proofs.Statuses.{same_counts}
 

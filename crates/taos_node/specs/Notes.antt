@@ -5,7 +5,7 @@ use Rattle.frame_link.specs.declared.outcome.Outcome.{Outcome}
 use Rattle.frame_link.specs.declared.outcome.Outcome.TheVariants.{End, Truncated, TooLong, ReadFault, WriteFault, ClockFault, Spent, NoMemory}
 use Rattle.frame_link.specs.Faults.{Rose}
 use Rattle.file_lines.specs.declared.fault.FileCause.{FileCause}
-use Rattle.file_lines.specs.declared.fault.FileCause.TheVariants.{FirstLine, UnknownWord, Words, Number, Hex, Rights, NodeFirst, UnknownObject, UnknownName, Principal, Text, Certificate, Twice, Limit, NoNode}
+use Rattle.file_lines.specs.declared.fault.FileCause.TheVariants.{FirstLine, UnknownWord, Words, Number, Hex, Rights, UnknownDomain, NodeFirst, UnknownObject, UnknownName, Principal, Text, Certificate, Twice, Limit, NoNode}
 use Rattle.taos_node.specs.declared.ending.FileFault.{FileFault}
 use Rattle.taos_node.specs.declared.ending.FileFault.TheVariants as fault
 use Rattle.taos_node.specs.declared.ending.FileFault.TheVariants.{Malformed, Refused}
@@ -30,6 +30,7 @@ cause_text Words = codes "words"
 cause_text Number = codes "number"
 cause_text Hex = codes "hex"
 cause_text Rights = codes "rights"
+cause_text UnknownDomain = codes "unknown domain"
 cause_text NodeFirst = codes "node first"
 cause_text UnknownObject = codes "unknown object"
 cause_text UnknownName = codes "unknown name"

@@ -1,39 +1,17 @@
 -- The node that an opening opens.
-use Rattle.std.specs.Prelude.{◌≡◌, ℕ, List, [], length, map, None, Some}
+use Rattle.std.specs.Prelude.{◌≡◌, ℕ, [], length, None}
 use Rattle.std.specs.List.Sorted.{IsStrictlyIncreasing}
-use Rattle.keyed_seal.specs.Keys.{Entries, key_of}
-use Rattle.object_core.specs.Objects.{ObjectPlan, ObjectSeen, object_of}
+use Rattle.keyed_seal.specs.Keys.{key_of}
+use Rattle.object_core.specs.Objects.{object_of}
 use Rattle.object_core.specs.OneOwner.{fixed_on, seen_on, own_on, taken_from}
-use Rattle.object_core.specs.Shelving.{ObjectFixed, fixed_at, numbers_of as object_numbers}
+use Rattle.object_core.specs.Shelving.{fixed_at, numbers_of as object_numbers}
 use Rattle.std.specs.Option.{option_map}
-use Rattle.node_file.specs.Opening.{Opening, FitsObject}
+use Rattle.node_file.specs.Opening.{Opening}
+use Rattle.node_open.specs.Cells.{fixed_with, its_plans, numbers_of}
 use Rattle.agent_core.specs.Alone.{plans_in, seen_in, own_in}
-use Rattle.agent_core.specs.Opened.{plans_for}
-use Rattle.agent_core.specs.State.{Plan}
 use Rattle.taos_monitor.specs.Arriving.{node_of}
 use Rattle.taos_monitor.specs.Cells.{Node, Seen, seen_of, viewed}
 use Rattle.taos_node.specs.declared.opened.OpenNode.{OpenNode}
-
--- the numbers of channels
-abbrev pub numbers_of : Entries → List ℕ
-numbers_of channels = map (λ (c : ℕ × List ℕ). c.0) channels
-
--- what the node's shards are opened with
-abbrev pub its_plans : Opening → Entries → List Plan
-its_plans o channels = plans_for (numbers_of channels) o.shards o.anchors o.commons o.keep o.limit
-
--- each object that a look-up finds is within the limits
-abbrev pub AllFit : List ObjectPlan → Type 0
-AllFit objects =
-    (number : ℕ) (p : ObjectPlan) → object_of objects number ≡ Some p → FitsObject p
-
--- what never changes of an object, whose journal has at most so many entries
-abbrev pub fixed_with : ℕ → ObjectPlan → ObjectFixed
-fixed_with limit plan = record { plan = plan; limit = limit }
-
--- the object with an empty journal
-abbrev pub new_object : ℕ → ObjectPlan → ObjectSeen
-new_object limit plan = record { plan = plan; limit = limit; journal = [] }
 
 -- the node has what the opening says, its channels and objects by ascending number
 pub record IsNodeOf (o : Opening) (n : Node) : Type 0 where

@@ -2,12 +2,10 @@
 
 use agent_core::{MAX_CHANNELS, MAX_COMMONS, MAX_JOURNAL, MAX_PRESENTED, MAX_SHARDS};
 use node_file::{
-    MAX_ANCHORS as FILE_ANCHORS, MAX_CHANNELS as FILE_CHANNELS, MAX_COMMONS as FILE_COMMONS,
-    MAX_LIMIT, MAX_SHARDS as FILE_SHARDS,
+    MAX_CHANNELS as FILE_CHANNELS, MAX_COMMONS as FILE_COMMONS, MAX_LIMIT,
+    MAX_SHARDS as FILE_SHARDS,
 };
-use object_core::MAX_ENTRIES as OBJECT_ENTRIES;
-use prin_text::MAX_ENTRIES as TEXT_ENTRIES;
-use taos_calculus::{MAX_ANCHORS, MAX_CERTS, MAX_ENTRIES};
+use taos_calculus::MAX_CERTS;
 use taos_drill::MAX_LANES as DRILL_LANES;
 use taos_lanes::MAX_LANES;
 use taos_wire::{MAX_CERTS as REQUEST_CERTS, MAX_CITED};
@@ -23,11 +21,5 @@ const _: () = prove!(FILE_CHANNELS as usize == MAX_CHANNELS);
 const _: () = prove!(FILE_SHARDS as usize == MAX_SHARDS);
 
 const _: () = prove!(MAX_LIMIT == MAX_JOURNAL);
-
-const _: () = prove!(FILE_ANCHORS as usize == MAX_ANCHORS);
-
-const _: () = prove!(OBJECT_ENTRIES as usize == MAX_ENTRIES);
-
-const _: () = prove!(TEXT_ENTRIES == MAX_ENTRIES);
 
 const _: () = prove!(DRILL_LANES as usize == MAX_LANES);

@@ -52,6 +52,7 @@ fn cause_text(cause: FileCause) -> &'static [u8]
         FileCause::Number => b"number",
         FileCause::Hex => b"hex",
         FileCause::Rights => b"rights",
+        FileCause::UnknownDomain => b"unknown domain",
         FileCause::NodeFirst => b"node first",
         FileCause::UnknownObject => b"unknown object",
         FileCause::UnknownName => b"unknown name",

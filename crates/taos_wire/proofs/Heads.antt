@@ -1,5 +1,5 @@
 -- The front of a reply says what the reply says.
-use Rattle.std.proofs.Common.{◌≡◌, ℕ, ◌+◌, ◌<◌, ◌≤◌, ◌^◌, cond, eqb, List, [], ◌∷◌, ◌++◌, length, drop, Ok, Some, None, refl, sym, ap, ◌∙◌, append_assoc, append-nil, length-append, arith}
+use Rattle.std.proofs.Common.{◌≡◌, ℕ, ◌<◌, ◌≤◌, ◌^◌, cond, eqb, List, [], ◌∷◌, ◌++◌, length, drop, Ok, Some, None, refl, sym, ap, ◌∙◌, append_assoc, append-nil, length-append, arith}
 use Rattle.std.specs.Int.{w32, w64, to_be_bytes}
 use Rattle.byte_fields.specs.Formats.{u8_in, u32_in, u64_in}
 use Rattle.byte_fields.proofs.FieldLaws.{behind}

@@ -1,13 +1,10 @@
 pub mod Operations
 pub mod RequestLaws
 pub mod Seals
-pub mod CutRequests
-pub mod Places
+pub mod RequestForms
 pub mod ShortReplies
 pub mod ReplyPieces
-pub mod Fillings
 pub mod ReplyFields
 pub mod ReplyLaws
-pub mod CutReplies
-pub mod ReplyPlaces
+pub mod ReplyForms
 pub mod Heads

@@ -14,8 +14,8 @@ use Rattle.byte_fields.specs.Steps.{bytes_at, counted, counted_at}
 use Rattle.byte_fields.proofs.FieldLaws.{wide16}
 use Rattle.byte_fields.proofs.FieldReaders.{reads_counted_bytes}
 use Rattle.prin_term.proofs.TermReaders.{reads_term}
-use Rattle.byte_fields.proofs.ReaderLaws.{Reads, reads_bytes, reads_followed, reads_passing, reads_made, reads_each}
-use Rattle.stmt_codec.specs.Certificates.{Certificate, body_spelling}
+use Rattle.byte_fields.proofs.ReaderLaws.{Reads, reads_bytes, reads_followed, reads_passing, reads_made}
+use Rattle.stmt_codec.specs.Certificates.{Certificate, FitsBody}
 use Rattle.taos_calculus.specs.Rules.{Line}
 use Rattle.taos_calculus.specs.ProofReading.{proof_at}
 use Rattle.taos_calculus.specs.Spelling.{proof_bytes}
@@ -26,12 +26,12 @@ use Rattle.taos_wire.specs.declared.reply.TheConstants.{MAX_CITED}
 use Rattle.byte_fields.specs.Formats.{FormatReader, ended, u8_in, u32_in, u64_in, within}
 use Rattle.prin_term.specs.TermFields.{seen_as, term_in}
 use Rattle.taos_wire.specs.Reply.{Reply, Granted, Denied, Malformed, UnknownChannel, BadSeal, Replayed, CertRefused, ChannelFull, RelayFailed, UnknownObject, JournalFull, NoMemory, CommonsFull}
-use Rattle.taos_wire.specs.Reply.{NotHeld, LinkSent, Expired, Missing, NoEntry, flag, link_bytes, cert_bytes, cited_bytes, status_of, fields_of, answered_bytes}
-use Rattle.taos_wire.specs.Reply.{FitsCited, FitsLink, FitsReply, FitsGranted}
-use Rattle.taos_wire.specs.ReplyReading.{answered_at, place_at, cert_at, cited_at, granted_at, named_at, link_at, denied_at, is_status, fields_at, status_at}
-use Rattle.taos_wire.proofs.Fillings.{reads_filling}
-use Rattle.byte_fields.proofs.FormatFields.{reads_u8, reads_u16, reads_u32, reads_u64, reads_u8_in}
-use Rattle.stmt_codec.proofs.BodyLengths.{short_body}
+use Rattle.taos_wire.specs.Reply.{NotHeld, LinkSent, Expired, Missing, NoEntry, flag, link_bytes, status_of, fields_of, answered_bytes}
+use Rattle.taos_wire.specs.Reply.{FitsLink, FitsReply, FitsGranted}
+use Rattle.taos_wire.specs.ReplyReading.{answered_at, place_at, granted_at, named_at, link_at, denied_at, is_status, fields_at, status_at}
+use Rattle.stmt_codec.proofs.Listed.{reads_cited}
+use Rattle.byte_fields.proofs.FormatFields.{reads_u8, reads_u32, reads_u64, reads_u8_in}
+use Rattle.stmt_codec.specs.Lists.{cited_at, cited_bytes}
 
 -- ---- a link
 
@@ -119,18 +119,6 @@ module _ (bytes : List ℕ) where
 
   -- ---- a grant
 
-  reads_cert : Reads bytes (cert_at bytes) cert_bytes FitsCited
-  unfolding cert_at cert_bytes
-  reads_cert =
-      reads_made (λ (x : ℕ × Certificate). x.1) (λ (c : Certificate). (length (body_spelling c), c)) cert_bytes FitsCited
-      (reads_followed (reads_u16 bytes) (λ n _. reads_filling bytes n))
-      (λ x is. (is.1.0, ap (λ (k : ℕ). to_be_bytes w16 k ++ body_spelling x.1) (sym is.1.1)))
-      (λ c is. ((omega (arith, short_body c is.limits), (is, refl)), refl, refl))
-
-  reads_cited : Reads bytes (cited_at bytes) cited_bytes (λ xs. (length xs ≤ MAX_CITED) × All FitsCited xs)
-  unfolding cited_at
-  reads_cited = reads_each MAX_CITED 256 faults.Malformed cert_bytes FitsCited (omega arith) (reads_u8 bytes) reads_cert
-
   abbrev GrantFields : Type 0
   GrantFields = ℕ × (ℕ × ((ℕ × ℕ) × (List Line × (List Certificate × List ℕ))))
 
@@ -139,7 +127,7 @@ module _ (bytes : List ℕ) where
 
   abbrev GrantFits : GrantFields → Type 0
   GrantFits x =
-      ((0 ≤ x.0) × (x.0 ≤ 1)) × ((x.1.0 < 256) × (((x.1.1.0.0 < 2 ^ 32) × (x.1.1.0.1 < 2 ^ 64)) × (IsProof x.1.1.1.0 × (((length x.1.1.1.1.0 ≤ MAX_CITED) × All FitsCited x.1.1.1.1.0) × ((length x.1.1.1.1.1 < 2 ^ 16) × All (λ b. b < 256) x.1.1.1.1.1)))))
+      ((0 ≤ x.0) × (x.0 ≤ 1)) × ((x.1.0 < 256) × (((x.1.1.0.0 < 2 ^ 32) × (x.1.1.0.1 < 2 ^ 64)) × (IsProof x.1.1.1.0 × (((length x.1.1.1.1.0 ≤ MAX_CITED) × All FitsBody x.1.1.1.1.0) × ((length x.1.1.1.1.1 < 2 ^ 16) × All (λ b. b < 256) x.1.1.1.1.1)))))
 
   abbrev grant_reader : FormatReader GrantFields
   grant_reader =
@@ -147,7 +135,7 @@ module _ (bytes : List ℕ) where
       (λ _. followed (u8_in bytes)
       (λ _. followed (place_at bytes)
       (λ _. followed (proof_at bytes)
-      (λ _. followed (cited_at bytes)
+      (λ _. followed (cited_at MAX_CITED bytes)
       (λ _. counted_at (ended bytes) w16 bytes)))))
 
   reads_grant : Reads bytes grant_reader grant_spell GrantFits
@@ -156,7 +144,7 @@ module _ (bytes : List ℕ) where
       (λ _ _. reads_followed (reads_u8 bytes)
       (λ _ _. reads_followed reads_place
       (λ _ _. reads_followed (reads_proof bytes)
-      (λ _ _. reads_followed reads_cited
+      (λ _ _. reads_followed (reads_cited bytes MAX_CITED (omega arith))
       (λ _ _. reads_counted_bytes (ended bytes) w16 (2 ^ 16) wide16 bytes)))))
 
   takes_granted : Takes bytes (granted_at bytes) fields_of (IsOf 0)

@@ -14,17 +14,13 @@ use Rattle.taos_calculus.specs.Tables.{lines_of}
 use Rattle.taos_wire.specs.declared.reply.LentGrant.{LentGrant}
 use Rattle.taos_wire.specs.declared.reply.LentPart.{LentPart}
 use Rattle.taos_wire.specs.Reply.{Reply, Granted, Denied, Malformed, UnknownChannel, BadSeal, Replayed, CertRefused, ChannelFull, RelayFailed, UnknownObject, JournalFull, NoMemory, CommonsFull}
-use Rattle.taos_wire.specs.Reply.{NotHeld, LinkSent, Expired, Missing, NoEntry, FitsReply, FitsLink, link_bytes, flag, cert_bytes, cited_bytes, status_of, fields_of}
+use Rattle.taos_wire.specs.Reply.{NotHeld, LinkSent, Expired, Missing, NoEntry, FitsReply, FitsLink, link_bytes, flag, status_of, fields_of}
 use Rattle.taos_wire.specs.Reply.{answered_bytes, reply_text, seal_of, sent, spelling}
 use Rattle.taos_wire.specs.View.{cited, lent_grant, lent_part}
 use Rattle.taos_wire.proofs.Seals.{length-seal_of}
-use Rattle.stmt_codec.specs.Certificates.{Certificate, body_spelling, IsWithinLimits}
-use Rattle.stmt_codec.proofs.BodyLengths.{short_body}
+use Rattle.stmt_codec.specs.Lists.{cert_bytes, cited_bytes}
+use Rattle.stmt_codec.proofs.Listed.{cert_short}
 use Rattle.prin_term.proofs.Sizes.{spelling_short as term_bound}
-
-cert_short : (c : Certificate) → IsWithinLimits c → length (cert_bytes c) < 1026
-unfolding cert_bytes
-cert_short c fits = omega (arith, short_body c fits, length-append (to_be_bytes w16 (length (body_spelling c))) (body_spelling c))
 
 pub certs_short : {Z : Type 0} (certs : List (Arc Cert Z)) → length (flat_map cert_bytes (map cited certs)) ≤ length certs * 1026
 certs_short [] = omega arith

@@ -1,7 +1,6 @@
 -- Replies as values, and the bytes of each.
 use Rattle.std.specs.Prelude.{◌≡◌, ℕ, ◌<◌, ◌≤◌, ◌^◌, Bool, true, false, List, [], ◌∷◌, ◌++◌, length}
 use Rattle.std.specs.Prelude.{All, Option, Some, None, replicate}
-use Rattle.std.specs.List.{flat_map}
 use Rattle.std.specs.Int.{w16, w32, w64, to_be_bytes}
 use Rattle.keyed_seal.specs.Tag.{tag_of}
 use Rattle.object_core.specs.Operation.{IsDigest}
@@ -9,8 +8,8 @@ use Rattle.prin_term.specs.declared.limits.TheConstants.{ENTRY_NODES}
 use Rattle.prin_term.specs.Principal.{Principal, spelling as term_spelling}
 use Rattle.prin_term.specs.Refusal.{FitsLimits}
 use Rattle.byte_fields.specs.Steps.{IsByte, counted}
-use Rattle.stmt_codec.specs.Certificates.{Certificate, body_spelling, HasBodySpelling}
-use Rattle.stmt_codec.specs.Certificates.{IsWithinLimits}
+use Rattle.stmt_codec.specs.Certificates.{Certificate, FitsBody}
+use Rattle.stmt_codec.specs.Lists.{cited_bytes}
 use Rattle.taos_calculus.specs.Rules.{Line}
 use Rattle.taos_calculus.specs.Spelling.{proof_bytes}
 use Rattle.taos_calculus.specs.Spells.{IsProof}
@@ -70,14 +69,6 @@ link_bytes (Expired entry digest) = 1 ∷ entry ∷ digest
 link_bytes (Missing entry part) = 2 ∷ entry ∷ term_spelling part
 link_bytes NoEntry = 3 ∷ []
 
--- a certificate's body, after its length
-unfoldable pub cert_bytes : Certificate → List ℕ
-cert_bytes c = counted w16 (body_spelling c)
-
--- the certificates, after their count
-abbrev pub cited_bytes : List Certificate → List ℕ
-cited_bytes certs = length certs ∷ flat_map cert_bytes certs
-
 -- the byte that names what kind of reply it is
 abbrev pub status_of : Reply → ℕ
 status_of (Granted kept entry shard place proof certs result) = 0
@@ -125,11 +116,6 @@ reply_text channel seq r = answered_bytes channel seq ++ status_of r ∷ fields_
 
 -- ---- limits
 
--- the certificate's numbers fit their fields, and it is within the limits
-pub record FitsCited (c : Certificate) : Type 0 where
-  pub numbers : HasBodySpelling c
-  pub limits : IsWithinLimits c
-
 -- the entry is one byte, and the digest or the part is within the limits
 abbrev pub FitsLink : LinkSent → Type 0
 FitsLink (Expired entry digest) = IsByte entry × IsDigest digest
@@ -144,7 +130,7 @@ pub record FitsGranted (entry shard place : ℕ) (proof : List Line)
   pub place_fits : place < 2 ^ 64
   pub proof_fits : IsProof proof
   pub few_certs : length certs ≤ MAX_CITED
-  pub certs_fit : All FitsCited certs
+  pub certs_fit : All FitsBody certs
   pub result_fits : (length result < 2 ^ 16) × All IsByte result
 
 -- each number fits its field, and what the reply carries is within the limits

@@ -1,17 +1,16 @@
 -- Reading a reply from left to right, with the first fault that is met.
-use Rattle.std.specs.Prelude.{ℕ, ◌+◌, Bool, List, length, take, Result, Ok, Err, nat_le}
+use Rattle.std.specs.Prelude.{ℕ, Bool, List, length, Result, Ok, Err, nat_le}
 use Rattle.std.specs.Prelude.{nat_lt, ◌==◌, if◌then◌else◌}
 use Rattle.std.specs.Int.{w16}
 use Rattle.prin_term.specs.declared.limits.TheConstants.{ENTRY_NODES}
-use Rattle.byte_fields.specs.Readers.{followed, passing, made, given, counted}
+use Rattle.byte_fields.specs.Readers.{followed, passing, made, given}
 use Rattle.byte_fields.specs.Steps.{◌>>=◌, bytes_at, counted_at}
-use Rattle.stmt_codec.specs.Certificates.{Certificate}
-use Rattle.stmt_codec.specs.Reading.{body_at}
+use Rattle.stmt_codec.specs.Lists.{cited_at}
 use Rattle.taos_calculus.specs.ProofReading.{proof_at}
 use Rattle.byte_fields.specs.declared.fault.FormatFault.{FormatFault as WireFault}
 use Rattle.byte_fields.specs.declared.fault.FormatFault.TheVariants as faults
 use Rattle.taos_wire.specs.declared.reply.TheConstants.{MAX_CITED}
-use Rattle.byte_fields.specs.Formats.{FormatReader, ended, u8_in, u16_in}
+use Rattle.byte_fields.specs.Formats.{FormatReader, ended, u8_in}
 use Rattle.byte_fields.specs.Formats.{u32_in, u64_in, within}
 use Rattle.prin_term.specs.TermFields.{term_in}
 use Rattle.taos_wire.specs.Reply.{Reply, Granted, Denied, Malformed, UnknownChannel, BadSeal}
@@ -33,21 +32,6 @@ place_at bytes = followed (u32_in bytes) (λ _. u64_in bytes)
 
 -- ---- a grant
 
--- so many bytes stand there, and spell a body; faults are told by their offsets in all of the bytes
-unfoldable pub body_filling : List ℕ → ℕ → FormatReader Certificate
-body_filling bytes n at = do
-  text ← bytes_at (ended bytes) n bytes at
-  c ← body_at (take (at + n) bytes) at
-  if nat_lt c.1 (at + n) then Err (faults.Malformed c.1) else Ok (c.0, text.1)
-
--- a length, and a body that fills it
-unfoldable pub cert_at : List ℕ → FormatReader Certificate
-cert_at bytes = made (λ x. x.1) (followed (u16_in bytes) (λ n. body_filling bytes n))
-
--- the certificates that a proof cites, after their count
-unfoldable pub cited_at : List ℕ → FormatReader (List Certificate)
-cited_at bytes = counted MAX_CITED faults.Malformed (u8_in bytes) (λ _. cert_at bytes)
-
 -- the fields of a grant
 unfoldable pub granted_at : List ℕ → FormatReader Reply
 granted_at bytes =
@@ -56,7 +40,7 @@ granted_at bytes =
     (λ _. followed (u8_in bytes)
     (λ _. followed (place_at bytes)
     (λ _. followed (proof_at bytes)
-    (λ _. followed (cited_at bytes)
+    (λ _. followed (cited_at MAX_CITED bytes)
     (λ _. counted_at (ended bytes) w16 bytes))))))
 
 -- ---- a denial

@@ -12,7 +12,7 @@ mod usage;
 
 use frame_link::{Clock, Door, RelayLink, Sink, pour};
 use keys::fresh_key;
-use lanes::{Common, Setting, lanes_of};
+use lanes::{Setting, lanes_of};
 use own::{Own, own_of};
 use print::text_of;
 use std::alloc::{AllocError, Global};
@@ -25,8 +25,8 @@ use std::thread::Threads;
 use std::time::Duration;
 use std::{env, io, time};
 use system_link::{
-    ClockGuard, Deferred, Doorway, FileReading, IDLE, Listener, Origin, Outbox, PIECE, Patient,
-    Prompt, Reading, Rounded, Rounds, Scribe, Stop, Teller, Telling, Watched, Writing,
+    ClockGuard, Common, Deferred, Doorway, FileReading, IDLE, Listener, Origin, Outbox, PIECE,
+    Patient, Prompt, Reading, Rounded, Rounds, Scribe, Stop, Teller, Telling, Watched, Writing,
     addresses_of, bind_all, doorways_of, stop_at_end, tell_addresses, tell_readers,
 };
 use taos_node::{

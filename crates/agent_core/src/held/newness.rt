@@ -39,8 +39,8 @@ pub(crate) fn is_among(
     false
 }
 
-// Whether an equal one of the certificates that are named stays: equal ones go together.
-fn stays_among(
+/// Whether an equal one of the certificates that are named stays: equal ones go together.
+pub(crate) fn stays_among(
     commons: &[Arc<Cert>],
     entries: &[ShardEntry],
     names: &Names,

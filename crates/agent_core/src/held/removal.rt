@@ -70,13 +70,8 @@ pub(crate) fn count_left(
     count
 }
 
-/// The names of those that stay.
-pub(crate) fn left_of(
-    commons: &[Arc<Cert>],
-    entries: &[ShardEntry],
-    names: &Names,
-    removal: &Removal,
-) -> Names
+// The names of those that stay.
+fn left_of(commons: &[Arc<Cert>], entries: &[ShardEntry], names: &Names, removal: &Removal) -> Names
     requires { AreNames (certificates commons.now) (map entry_of entries.now) names.now.items }
     ensures { result.items ≡ filter (name_stays (certificates commons.now)
         (map entry_of entries.now) removal.now) names.now.items }

@@ -16,7 +16,7 @@ use crate::held::naming::name_all;
 use crate::held::newness::{Places, new_of};
 use crate::held::presented::Presented;
 use crate::held::removal::{count_left, gone_by, keep_left, sweep};
-use crate::held::snapshot::gathered;
+use crate::held::snapshot::{push_at, push_left};
 use crate::limits::MAX_OWN;
 use crate::plan::ShardPlan;
 use crate::shard::append::append;
@@ -177,7 +177,7 @@ fn take(
     row.swept = store.swept;
 }
 
-// What the Ask is judged by.
+// What the Ask is judged by: what its channel holds then, what it brings, and what is held in common.
 fn judged_by(
     alloc: Global,
     plan: &ShardPlan,
@@ -195,16 +195,14 @@ fn judged_by(
         (state_after (plan_of plan.now) (map entry_of entries.now)) in certificates certs.items
         ≡ (s.own asked.now.channel ++ brought s (ask_of asked.now)) ++ s.commons) }
 {
-    gathered(
-        alloc,
-        &plan.commons,
-        entries,
-        &store.rows[look.place].own,
-        &store.commons,
-        &gone_by(plan, look.moment),
-        &asked.presented,
-        &look.new,
-    )
+    let own = &store.rows[look.place].own;
+    let shared = &store.commons;
+    let gone = gone_by(plan, look.moment);
+    let mut certs = Vec::with_capacity(alloc, own.len() + look.new.len() + shared.len())?;
+    push_left(&mut certs, &plan.commons, entries, own, &gone)?;
+    push_at(&mut certs, &asked.presented, &look.new)?;
+    push_left(&mut certs, &plan.commons, entries, shared, &gone)?;
+    Ok(certs)
 }
 
 // An Ask whose number is new and that has room: a kept proof serves it, or it is to be judged.

@@ -1,6 +1,6 @@
 //! A proof that is to be kept.
 
-ghost use Rattle.std.specs.Prelude.{◌≡◌, ◌<◌, ◌++◌, find, length, map, not, Contains, None, Some, ℕ, IfOk, OnErr, OnOk};
+ghost use Rattle.std.specs.Prelude.{◌≡◌, ◌<◌, ◌++◌, find, length, map, not, Contains, List, None, Some, ℕ, IfOk, OnErr, OnOk};
 ghost use Rattle.std.specs.Option.{option_map};
 ghost use Rattle.prin_term.specs.View.{principal};
 ghost use Rattle.stmt_codec.specs.Certificates.{certificate, digest_of};
@@ -9,18 +9,18 @@ ghost use Rattle.proof_cache.specs.Cached.{cached};
 ghost use Rattle.agent_core.specs.declared.told.Told.TheVariants as told;
 ghost use Rattle.agent_core.specs.Held.{among};
 ghost use Rattle.agent_core.specs.Held as math;
-ghost use Rattle.agent_core.specs.Journals.{cache_after, state_after, told_at, IsKeepable};
-ghost use Rattle.agent_core.specs.Kept.{IsKept, IsStore, Tells, now_at, row_certs, told_against};
+ghost use Rattle.agent_core.specs.Journals.{cache_after, state_after, told_at, Entry, IsKeepable};
+ghost use Rattle.agent_core.specs.Kept.{IsKept, IsStore, Tells, certs_staying, now_at, row_certs, told_against};
 ghost use Rattle.agent_core.specs.Answers.{IsPlain};
 ghost use Rattle.agent_core.specs.Names.{certs_named, AreNames};
 ghost use Rattle.agent_core.specs.Plans.{IsPlan};
-ghost use Rattle.agent_core.specs.State.{Keeps, first_missing, own_of, settled_by};
+ghost use Rattle.agent_core.specs.State.{Keeps, first_missing, settled_by};
 ghost use Rattle.agent_core.specs.Views.{entry_of, plan_of};
 
 use crate::event::{Event, ShardEntry};
 use crate::held::name::Names;
-use crate::held::newness::is_among;
-use crate::held::removal::{gone_by, left_of};
+use crate::held::newness::{is_among, stays_among};
+use crate::held::removal::{Removal, gone_by};
 use crate::plan::ShardPlan;
 use crate::shard::append::append;
 use crate::shard::row::place_of;
@@ -32,28 +32,15 @@ use std::alloc::AllocError;
 use std::sync::Arc;
 use stmt_codec::Cert;
 
-// The same names.
-fn copy_of(names: &Names) -> Names
-    ensures { result.items ≡ names.now.items }
-{
-    let mut copy = Names::new();
-    for at in 0..names.len() {
-        copy.push(names.as_slice()[at]);
-    }
-    copy
-}
-
-// The names of what a row stands for: without what the sweeps since it was swept let go of.
-fn settled(plan: &ShardPlan, entries: &[ShardEntry], clock: u64, swept: u64, row: &Row) -> Names
-    requires { AreNames (plan_of plan.now).commons (map entry_of entries.now) row.now.own.items }
-    ensures own { certs_named (plan_of plan.now).commons (map entry_of entries.now) result.items
-        ≡ row_certs (now_at (plan_of plan.now) (map entry_of entries.now) clock swept) row.now }
-    ensures names { AreNames (plan_of plan.now).commons (map entry_of entries.now) result.items }
+// What the sweeps since a row was swept let go of.
+fn due_of(plan: &ShardPlan, clock: u64, swept: u64, row: &Row) -> Removal
+    ensures { (journal : List Entry) → certs_staying (plan_of plan.now).commons journal result
+        row.now.own.items ≡ row_certs (now_at (plan_of plan.now) journal clock swept) row.now }
 {
     if row.swept == swept {
-        return copy_of(&row.own);
+        return Removal::Nothing;
     }
-    left_of(&plan.commons, entries, &row.own, &gone_by(plan, clock))
+    gone_by(plan, clock)
 }
 
 // The channel that a subject speaks on.
@@ -70,30 +57,12 @@ fn channel_of(subject: &Term) -> Option<u32>
     }
 }
 
-// The names of what the subject's channel holds.
-fn own_names(plan: &ShardPlan, entries: &[ShardEntry], store: &Store, subject: &Term) -> Names
-    requires planned { IsPlan (plan_of plan.now) }
-    requires store { IsStore (plan_of plan.now) (map entry_of entries.now)
-        (state_after (plan_of plan.now) (map entry_of entries.now)) store.now }
-    requires channel { (c : ℕ) → math.channel_of (principal subject.now) ≡ Some c
-        → Contains (plan_of plan.now).channels c }
-    ensures own { certs_named (plan_of plan.now).commons (map entry_of entries.now) result.items
-        ≡ own_of (state_after (plan_of plan.now) (map entry_of entries.now))
-        (math.channel_of (principal subject.now)) }
-    ensures names { AreNames (plan_of plan.now).commons (map entry_of entries.now) result.items }
-{
-    let Some(channel) = channel_of(subject) else {
-        return Names::new();
-    };
-    let place = place_of(&plan.channels, channel).unwrap();
-    settled(plan, entries, store.clock, store.swept, &store.rows[place])
-}
-
-// Whether the certificate is among either.
+// Whether the certificate is among either: the own ones after a removal, or the shared ones.
 fn is_held(
     commons: &[Arc<Cert>],
     entries: &[ShardEntry],
     own: &Names,
+    due: &Removal,
     shared: &Names,
     cert: &Cert,
 ) -> bool
@@ -101,11 +70,11 @@ fn is_held(
     requires shared { AreNames (certificates commons.now) (map entry_of entries.now)
         shared.now.items }
     ensures { result ≡ among
-        (certs_named (certificates commons.now) (map entry_of entries.now) own.now.items
+        (certs_staying (certificates commons.now) (map entry_of entries.now) due.now own.now.items
         ++ certs_named (certificates commons.now) (map entry_of entries.now) shared.now.items)
         (certificate cert.now.body) }
 {
-    is_among(commons, entries, own, cert) || is_among(commons, entries, shared, cert)
+    stays_among(commons, entries, own, due, cert) || is_among(commons, entries, shared, cert)
 }
 
 // The digest of the first certificate that is among neither.
@@ -113,6 +82,7 @@ fn missing(
     commons: &[Arc<Cert>],
     entries: &[ShardEntry],
     own: &Names,
+    due: &Removal,
     shared: &Names,
     cites: &[Arc<Cert>],
 ) -> Option<[u8; 32]>
@@ -120,17 +90,51 @@ fn missing(
     requires shared { AreNames (certificates commons.now) (map entry_of entries.now)
         shared.now.items }
     ensures { result ≡ option_map digest_of (find (λ x. not (among
-        (certs_named (certificates commons.now) (map entry_of entries.now) own.now.items
+        (certs_staying (certificates commons.now) (map entry_of entries.now) due.now own.now.items
         ++ certs_named (certificates commons.now) (map entry_of entries.now) shared.now.items)
         x)) (certificates cites.now)) }
 {
     for place in 0..cites.len() {
         let cert = &cites[place];
-        if !is_held(commons, entries, own, shared, cert) {
+        if !is_held(commons, entries, own, due, shared, cert) {
             return Some(cert.digest);
         }
     }
     None
+}
+
+// The digest of the first certificate that the proof cites and that is not held for its subject.
+fn first_missing(
+    plan: &ShardPlan,
+    entries: &[ShardEntry],
+    store: &Store,
+    proof: &Cached,
+) -> Option<[u8; 32]>
+    requires planned { IsPlan (plan_of plan.now) }
+    requires store { IsStore (plan_of plan.now) (map entry_of entries.now)
+        (state_after (plan_of plan.now) (map entry_of entries.now)) store.now }
+    requires channel { (c : ℕ) → math.channel_of (principal proof.now.subject) ≡ Some c
+        → Contains (plan_of plan.now).channels c }
+    ensures { result ≡ option_map digest_of (first_missing
+        (state_after (plan_of plan.now) (map entry_of entries.now)) (cached proof.now)) }
+{
+    let commons = &plan.commons;
+    let shared = &store.commons;
+    let Some(channel) = channel_of(&proof.subject) else {
+        let none = Names::new();
+        return missing(
+            commons,
+            entries,
+            &none,
+            &Removal::Nothing,
+            shared,
+            &proof.cites,
+        );
+    };
+    let place = place_of(&plan.channels, channel).unwrap();
+    let row = &store.rows[place];
+    let due = due_of(plan, store.clock, store.swept, row);
+    missing(commons, entries, &row.own, &due, shared, &proof.cites)
 }
 
 // What a lease that has ended says against keeping its proof.
@@ -159,8 +163,7 @@ fn cause_against(
         told_against result
         ≡ settled_by (first_missing s (cached proof.now)) s.clock proof.now.lease }
 {
-    let own = own_names(plan, entries, store, &proof.subject);
-    match missing(&plan.commons, entries, &own, &store.commons, &proof.cites) {
+    match first_missing(plan, entries, store, proof) {
         Some(digest) => Some(DropCause::NotHeld { digest }),
         None => lapse(store.clock, proof.lease),
     }

@@ -1,13 +1,15 @@
-//! Both deciders asked the same.
+//! All deciders asked the same.
 
-ghost use Rattle.std.specs.Prelude.{◌≡◌, ◌≤◌, length};
-ghost use Rattle.prin_term.specs.Principal.{node_count};
+ghost use Rattle.std.specs.Prelude.{◌≡◌, IfOk};
 ghost use Rattle.prin_term.specs.View.{principal};
 
-use super::cases::Answer;
+use super::building::certs;
+use super::cases::{Answer, DELEGATED, Given};
 use super::changing::changed;
 use Answer::{By, Denied, Granted, Lines};
+use Given::Rows;
 use goal_search::Workbench;
+use lemma_memo::{Lemmas, MAX_LEMMAS};
 use prin_term::{Anchor, ENTRY_NODES, Entry, MAX_DEPTH, Term};
 use std::alloc::Global;
 use std::sync::Arc;
@@ -111,52 +113,9 @@ fn holds(
 }
 
 // Whether a decider answers so.
-fn answers<D: Decide>(
+pub fn answers<D: Decide>(
     alloc: Global,
     decider: &mut D,
-    certs: &[Arc<Cert>],
-    chosen: &[bool],
-    subject: &Term,
-    who: &Term,
-    answer: Answer,
-) -> Result<bool, Fail>
-    requires few_certs { length certs.now ≤ MAX_CERTS }
-    requires chosen_fit { length chosen.now ≡ length certs.now }
-    requires subject_fits { node_count (principal subject.now) ≤ ENTRY_NODES }
-    requires who_fits { node_count (principal who.now) ≤ ENTRY_NODES }
-{
-    let copied = who.copy(alloc)?;
-    let list = [Entry {
-        rights: 1,
-        who: copied,
-    }];
-    decider.begin(ANCHORS, certs, chosen, subject, &list);
-    if !decider.derives(subject, who) {
-        return Ok(matches!(answer, Denied));
-    }
-    let taken = decider.take_proof(alloc, subject, who)?;
-    Ok(is_wanted(&taken, answer) && holds(alloc, certs, &taken, subject, who)?)
-}
-
-// The plain decider and the one that searches on demand.
-#[derive(Drop)]
-pub struct Deciders {
-    plain: Saturator,
-    bench: Workbench,
-}
-
-pub fn both_deciders(alloc: Global) -> Result<Deciders, Fail> {
-    let plain = Saturator::reserve(alloc)?;
-    Ok(Deciders {
-        plain,
-        bench: Workbench::reserve(alloc)?,
-    })
-}
-
-// Whether both answer so.
-pub fn ask(
-    alloc: Global,
-    deciders: &mut Deciders,
     certs: &[Arc<Cert>],
     chosen: &[bool],
     subject: &Term,
@@ -169,23 +128,73 @@ pub fn ask(
     if !subject.fits(ENTRY_NODES, MAX_DEPTH) || !who.fits(ENTRY_NODES, MAX_DEPTH) {
         return Err("too large".into());
     }
-    let plain = answers(
-        alloc,
-        &mut deciders.plain,
-        certs,
-        chosen,
-        subject,
-        who,
-        answer,
-    )?;
-    let bench = answers(
-        alloc,
-        &mut deciders.bench,
-        certs,
-        chosen,
-        subject,
-        who,
-        answer,
-    )?;
-    Ok(plain && bench)
+    let list = [Entry {
+        rights: 1,
+        who: copied(alloc, who)?,
+    }];
+    decider.begin(ANCHORS, certs, chosen, subject, &list);
+    if !decider.derives(subject, who) {
+        return Ok(matches!(answer, Denied));
+    }
+    let taken = decider.take_proof(alloc, subject, who)?;
+    Ok(is_wanted(&taken, answer) && holds(alloc, certs, &taken, subject, who)?)
+}
+
+fn copied(alloc: Global, who: &Term) -> Result<Term, Fail>
+    ensures { IfOk result (λ t. principal t ≡ principal who.now) }
+{
+    Ok(who.copy(alloc)?)
+}
+
+// A decider that remembers what it proved from the certificates.
+pub fn with_memory(alloc: Global, room: usize, commons: &[Arc<Cert>]) -> Result<Remembering, Fail> {
+    if room > MAX_LEMMAS || commons.len() > MAX_CERTS {
+        return Err("too many".into());
+    }
+    let anchors = Arc::new(alloc, ANCHORS.to_vec(alloc)?)?;
+    let bench = Workbench::reserve(alloc)?;
+    Ok(Lemmas::new(bench, alloc, room, anchors, commons)?)
+}
+
+pub type Remembering = Lemmas<Workbench>;
+
+// The plain decider, the one that searches on demand, and one that remembers.
+#[derive(Drop)]
+pub struct Deciders {
+    plain: Saturator,
+    bench: Workbench,
+    memory: Remembering,
+}
+
+pub fn all_deciders(alloc: Global) -> Result<Deciders, Fail> {
+    let plain = Saturator::reserve(alloc)?;
+    let commons = certs(alloc, Rows(u64::MAX, &DELEGATED))?;
+    Ok(Deciders {
+        plain,
+        bench: Workbench::reserve(alloc)?,
+        memory: with_memory(alloc, 4, &commons)?,
+    })
+}
+
+// Whether all answer so, and the one that remembers does again.
+pub fn ask(
+    alloc: Global,
+    deciders: &mut Deciders,
+    certs: &[Arc<Cert>],
+    chosen: &[bool],
+    subject: &Term,
+    who: &Term,
+    answer: Answer,
+) -> Result<bool, Fail> {
+    let Deciders {
+        plain,
+        bench,
+        memory,
+    } = deciders;
+    Ok(
+        answers(alloc, plain, certs, chosen, subject, who, answer)?
+            && answers(alloc, bench, certs, chosen, subject, who, answer)?
+            && answers(alloc, memory, certs, chosen, subject, who, answer)?
+            && answers(alloc, memory, certs, chosen, subject, who, answer)?,
+    )
 }

@@ -77,7 +77,7 @@ const DELEGATION: Row = (
 
 const LOGGED_IN: [Row; 4] = [BOOT, CHANNEL, LOGIN, SESSION];
 
-const DELEGATED: [Row; 7] = [
+pub const DELEGATED: [Row; 7] = [
     BOOT,
     CHANNEL,
     LOGIN,

@@ -1,24 +1,20 @@
 -- what is read of each text
-use Rattle.std.proofs.Common.{◌^◌, arith, codes, refl, subst}
-use Rattle.clap.specs.Words.{first_of, found_of, rows_of}
-use Rattle.node_words.specs.Words.{HasNumber, drill_words}
-use Rattle.node_words.proofs.Found.{same_number}
+use Rattle.std.proofs.Common.{◌^◌, arith, codes, subst}
+use Rattle.node_words.specs.Table.{texts_of}
+use Rattle.node_words.specs.Words.{HasNumber}
+use Rattle.node_words.proofs.Meanings.{same_number}
 use Rattle.node_words.proofs.words.drill_of.Goals as goal
 
 pub returns-then-lanes-eq0 : goal.returns-then-lanes-eq0
 returns-then-lanes-eq0 c = λ d given.
-    let text = first_of (codes "lanes") (rows_of (found_of c.args.words.now)) in
+    let text = texts_of c.args.words.now (codes "lanes") in
     let lanes : HasNumber 17 text c.in_ok-lanes.lanes = subst (λ o. HasNumber 17 o c.in_ok-lanes.lanes) c.text_of-3.ensures c.in_ok-lanes.ensures in
     absurd (omega (arith, same_number text 17 c.in_ok-lanes.lanes d.lanes (omega arith) lanes given.lanes, given.some, c.if-lanes-eq0.true))
 
 pub returns : goal.returns
-returns c = (
-  drill_words (record { seed = c.in_ok-seed.seed; requests = c.in_ok-requests.requests; lanes = c.in_ok-lanes.lanes }),
-  refl,
-  record {
-    seed = subst (λ o. HasNumber (2 ^ 64) o c.in_ok-seed.seed) c.text_of.ensures c.in_ok-seed.ensures;
-    requests = subst (λ o. HasNumber 10001 o c.in_ok-requests.requests) c.text_of-2.ensures c.in_ok-requests.ensures;
-    lanes = subst (λ o. HasNumber 17 o c.in_ok-lanes.lanes) c.text_of-3.ensures c.in_ok-lanes.ensures;
-    some = omega (arith, c.if-lanes-eq0.false);
-  },
-)
+returns c = record {
+  seed = subst (λ o. HasNumber (2 ^ 64) o c.in_ok-seed.seed) c.text_of.ensures c.in_ok-seed.ensures;
+  requests = subst (λ o. HasNumber 10001 o c.in_ok-requests.requests) c.text_of-2.ensures c.in_ok-requests.ensures;
+  lanes = subst (λ o. HasNumber 17 o c.in_ok-lanes.lanes) c.text_of-3.ensures c.in_ok-lanes.ensures;
+  some = omega (arith, c.if-lanes-eq0.false);
+}

@@ -1,10 +1,10 @@
 -- what is read of each text
 use Rattle.std.proofs.Common.{subst}
-use Rattle.node_words.specs.Words.{AreConnections, AreFrames}
+use Rattle.node_words.specs.Words.{AreConnections}
 use Rattle.node_words.proofs.words.limits_of.Goals as goal
 
 pub returns : goal.returns
 returns c = record {
   connections = subst (λ o. AreConnections o c.in_ok-connections.connections) c.text_of.ensures c.in_ok-connections.ensures;
-  frames = subst (λ o. AreFrames o c.in_ok-frames.frames) c.text_of-2.ensures c.in_ok-frames.ensures;
+  frames = c.in_ok-frames.ensures;
 }

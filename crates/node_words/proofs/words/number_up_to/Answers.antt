@@ -1,13 +1,14 @@
 -- what is no number of 32 bits, or a larger one, is none up to the largest
 use Rattle.std.proofs.Common.{◌+◌, ◌^◌, arith, option_map, subst, sym}
-use Rattle.node_words.specs.Table.{IsNumberOf}
+use Rattle.node_words.specs.Table.{IsReadOf}
+use Rattle.node_words.specs.Words.{HasNumber}
 use Rattle.node_words.proofs.Found.{below_more, not_below}
 use Rattle.node_words.proofs.words.number_up_to.Goals as goal
 
 pub returns-in_err-number : goal.returns-in_err-number
 returns-in_err-number c =
     let text = option_map (λ s. s.now) c.args.text in
-    subst (IsNumberOf (c.args.most + 1) text) (sym c.from_residual.ensures) (λ n is. c.in_err-number.ensures n (below_more (c.args.most + 1) (2 ^ 32) (omega (arith, c.ranges.most.fits)) text n is))
+    subst (λ r. IsReadOf (HasNumber (c.args.most + 1) text) r) (sym c.from_residual.ensures) (λ n is. c.in_err-number.ensures n (below_more (c.args.most + 1) (2 ^ 32) (omega (arith, c.ranges.most.fits)) text n is))
 
 pub returns-then-most-number : goal.returns-then-most-number
 returns-then-most-number c = λ n is.

@@ -10,7 +10,7 @@ returns-then-not-are_of_table c = λ wanted is. false≢true (c.if-not-are_of_ta
 pub returns-in-Ok : goal.returns-in-Ok
 returns-in-Ok c =
     found_meaning c.args.words.now c.in-Ok.matches c.found_in.result (all_texts c.args.words.now (c.are_of_table.ensures.0 c.if-not-are_of_table.false)) c.in-Ok.ensures.faults c.in-Ok.ensures.matches
-    (record { run = c.found_in.ensures.run; check = c.found_in.ensures.check; relay = c.found_in.ensures.relay; mint = c.found_in.ensures.mint; serve = c.found_in.ensures.serve; relay_serve = c.found_in.ensures.relay_serve; audit = c.found_in.ensures.audit; drill = c.found_in.ensures.drill })
+    c.found_in.ensures
 
 pub returns : goal.returns
 returns c = λ wanted is. refused_meaning c.args.words.now c.in-Err.error wanted c.in-Err.ensures.faults (λ e. c.in_default.not-OutOfMemory (c.kind.ensures ∙ e)) is

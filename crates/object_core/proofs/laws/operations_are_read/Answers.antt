@@ -1,5 +1,5 @@
 use Rattle.byte_fields.proofs.FieldLaws.{bytes_are}
-use Rattle.object_core.proofs.Operations.{kind_within, operation_takes, operation_again, fields_stay}
+use Rattle.object_core.proofs.Operations.{kind_within, operation_takes, operation_again, form_fields}
 use Rattle.object_core.proofs.laws.operations_are_read.Goals as goal
 
 pub returns-clause-named : goal.returns-clause-named
@@ -12,4 +12,4 @@ returns-clause-read c = λ bytes op kind at end some few le all. (
 )
 
 pub returns-clause-refused : goal.returns-clause-refused
-returns-clause-refused c = λ bytes kind at f le all e. (fields_stay bytes (bytes_are bytes all) kind).refuses at f le e
+returns-clause-refused c = λ bytes kind at f le all e. ((form_fields kind).stays bytes (bytes_are bytes all)).refuses at f le e

@@ -1,21 +1,29 @@
-use Rattle.std.proofs.Common.{◌≡◌, ℕ, List, Result, Ok, Err}
-use Rattle.std.specs.Io.KnownBytes.{Appends}
-use Rattle.frame_link.specs.declared.outside.RelayAnswer.{RelayAnswer}
-use Rattle.frame_link.specs.Frames.{frame}
-use Rattle.relay_core.specs.Messages.{asking}
+-- Where no frame came there is no answer, and else the payload decides.
+use Rattle.std.proofs.Common.{◌≡◌, ◌++◌, List, ℕ, ap, ◌∙◌}
+use Rattle.std.proofs.lemmas.Result.{err_from_is_err_and}
 use Rattle.frame_link.specs.Streams.{stream}
-use Rattle.relay_core.specs.Links.{Streams, streams, unanswered, Hears, Asks}
+use Rattle.relay_core.specs.Messages.{asking}
+use Rattle.relay_core.specs.Links.{Streams, streams}
+use Rattle.relay_core.proofs.Exchanging.{broken, spelled, unspelled}
 use Rattle.relay_core.proofs.exchange.ask.Goals as goal
+use Rattle.relay_core.proofs.exchange.ask.Goals.{in-Some, in-None}
 
--- the frame was written, so what was heard decides
-heard : {E : Type 0} (request : List ℕ) (before after : Streams) (r : Result RelayAnswer E) (out : List ℕ) → Appends before.output.told after.output.told (frame request) →
-    after.output.faults ≡ before.output.faults → Hears before.input after.input r out → Asks request before after r out
-heard request before after (Ok answer) out wrote steady h = (wrote, steady, h)
-heard request before after (Err e) out wrote steady h = (h.0, unanswered wrote steady h.1)
+pub returns-in_err-exchange_frames-clause-asks : goal.returns-in_err-exchange_frames-clause-asks
+returns-in_err-exchange_frames-clause-asks g c =
+    let request = c.lay.ensures.payload ∙ ap (λ (head : List ℕ). head ++ c.args.sealed.now) c.head_of.ensures in
+    let exchanged = rw (request, c.lay.ensures.limit ∙ c.room.invariant) at c.in_err-exchange_frames.ensures.exchanges in
+    let failed = err_from_is_err_and c.from_residual.result c.from_residual.ensures.1 in
+    rw failed.1 (c.requires.empty, broken (asking c.args.node c.args.sealed.now) _ _ exchanged)
 
-pub returns-in-Done-clause-asks : goal.returns-in-Done-clause-asks
-returns-in-Done-clause-asks g c =
-    heard (asking c.args.node c.args.sealed.now)
-    (streams (stream (g.I.Source.left c.args.input.now) (g.I.Source.faults c.args.input.now)) (stream (g.O.Sink.written c.args.output.now) (g.O.Sink.faults c.args.output.now)))
-    (streams (stream (g.I.Source.left c.read_reply.new.input) (g.I.Source.faults c.read_reply.new.input)) (stream (g.O.Sink.written c.write_asking.new.output) (g.O.Sink.faults c.write_asking.new.output)))
-    c.read_reply.result c.read_reply.new.out.items c.in-Done.ensures.bytes c.in-Done.ensures.cause c.read_reply.ensures.hears
+pub returns-clause-asks : goal.returns-clause-asks
+returns-clause-asks g c =
+    let before : Streams = streams (stream (g.I.Source.left c.args.input.now) (g.I.Source.faults c.args.input.now)) (stream (g.O.Sink.written c.args.output.now) (g.O.Sink.faults c.args.output.now)) in
+    let after : Streams = streams (stream (g.I.Source.left c.exchange_frames.new.input) (g.I.Source.faults c.exchange_frames.new.input)) (stream (g.O.Sink.written c.exchange_frames.new.output) (g.O.Sink.faults c.exchange_frames.new.output)) in
+    let asked = asking c.args.node c.args.sealed.now in
+    let payload = c.exchange_frames.new.buf.payload in
+    let request = c.lay.ensures.payload ∙ ap (λ (head : List ℕ). head ++ c.args.sealed.now) c.head_of.ensures in
+    let exchanged = rw (request, c.lay.ensures.limit ∙ c.room.invariant) at c.in_ok-exchange_frames.ensures.exchanges in
+    elim c.match-read_answer.branch [
+      | in-Some w ↦ rw w.result-is (spelled asked payload before after exchanged w.in-Some.answer c.read_answer.new.out.items (rw c.payload.ensures at w.in-Some.ensures.some))
+      | in-None w ↦ rw w.result-is (w.in-None.ensures.empty, unspelled asked payload before after exchanged (rw c.payload.ensures at w.in-None.ensures.none))
+    ]

@@ -1,4 +1,4 @@
-use Rattle.taos_calculus.proofs.CutProofs.{cut_refused}
+use Rattle.taos_calculus.proofs.ProofForms.{cut_refused}
 use Rattle.taos_calculus.proofs.ProofLaws.{none_longer, longer_refused}
 use Rattle.taos_calculus.proofs.laws.no_proper_prefix.Goals as goal
 

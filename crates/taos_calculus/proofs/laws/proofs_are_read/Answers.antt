@@ -1,5 +1,5 @@
 use Rattle.byte_fields.proofs.FieldLaws.{bytes_are}
-use Rattle.taos_calculus.proofs.Offsets.{never_memory}
+use Rattle.taos_calculus.proofs.ProofForms.{never_memory}
 use Rattle.taos_calculus.proofs.ProofLaws.{proof_again, proof_takes}
 use Rattle.taos_calculus.proofs.laws.proofs_are_read.Goals as goal
 

@@ -9,7 +9,8 @@ use Rattle.std.specs.Prelude.{map}
 use Rattle.node_file.specs.Meaning.{opening}
 use Rattle.taos_monitor.specs.Arriving.{node_of}
 use Rattle.taos_monitor.specs.Planned.{ArePlanned}
-use Rattle.taos_node.specs.Opened.{IsNodeOf, its_plans}
+use Rattle.node_open.specs.Cells.{its_plans}
+use Rattle.taos_node.specs.Opened.{IsNodeOf}
 use Rattle.taos_node.proofs.Nodes.{none_seen}
 use Rattle.taos_node.proofs.opened.open_node.Goals as goal
 

@@ -1,4 +1,4 @@
-use Rattle.taos_wire.proofs.CutRequests.{cut_refused}
+use Rattle.taos_wire.proofs.RequestForms.{cut_refused}
 use Rattle.taos_wire.proofs.RequestLaws.{none_longer, longer_refused}
 use Rattle.taos_wire.proofs.laws.no_proper_prefix.Goals as goal
 

@@ -1,4 +1,4 @@
-use Rattle.taos_wire.proofs.CutReplies.{cut_refused}
+use Rattle.taos_wire.proofs.ReplyForms.{cut_refused}
 use Rattle.taos_wire.proofs.ReplyLaws.{none_longer, longer_refused}
 use Rattle.taos_wire.proofs.laws.no_reply_begins_another.Goals as goal
 

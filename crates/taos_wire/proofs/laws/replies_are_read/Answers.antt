@@ -1,6 +1,6 @@
 use Rattle.byte_fields.proofs.FieldLaws.{bytes_are}
 use Rattle.taos_wire.proofs.ReplyLaws.{answer, reply_again, reply_takes}
-use Rattle.taos_wire.proofs.ReplyPlaces.{reply_refused}
+use Rattle.taos_wire.proofs.ReplyForms.{reply_refused}
 use Rattle.taos_wire.proofs.laws.replies_are_read.Goals as goal
 
 pub returns-clause-read : goal.returns-clause-read

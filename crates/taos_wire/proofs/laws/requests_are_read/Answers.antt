@@ -1,5 +1,5 @@
 use Rattle.byte_fields.proofs.FieldLaws.{bytes_are}
-use Rattle.taos_wire.proofs.Places.{request_refused}
+use Rattle.taos_wire.proofs.RequestForms.{request_refused}
 use Rattle.taos_wire.proofs.RequestLaws.{request_again, request_takes}
 use Rattle.taos_wire.proofs.laws.requests_are_read.Goals as goal
 

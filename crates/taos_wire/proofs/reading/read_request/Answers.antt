@@ -3,7 +3,7 @@ use Rattle.taos_wire.proofs.RequestLaws.{is_found, is_only}
 use Rattle.byte_fields.proofs.FormatPlaces.{fault_within}
 use Rattle.taos_wire.specs.RequestReading.{request_of}
 use Rattle.taos_wire.specs.View.{request}
-use Rattle.taos_wire.proofs.Places.{request_refused}
+use Rattle.taos_wire.proofs.RequestForms.{request_refused}
 use Rattle.taos_wire.proofs.reading.read_request.Goals as goal
 
 pub returns-clause-found : goal.returns-clause-found

@@ -6,7 +6,8 @@ use Rattle.byte_fields.specs.Steps.{counted}
 use Rattle.byte_fields.proofs.Pieces.{appended, pushes_then}
 use Rattle.taos_calculus.specs.Spelling.{proof_bytes}
 use Rattle.taos_calculus.specs.Tables.{lines_of}
-use Rattle.taos_wire.specs.Reply.{cited_bytes, flag}
+use Rattle.stmt_codec.specs.Lists.{cited_bytes}
+use Rattle.taos_wire.specs.Reply.{flag}
 use Rattle.taos_wire.specs.View.{cited}
 use Rattle.taos_wire.proofs.ShortReplies.{granted_short}
 use Rattle.taos_wire.proofs.reply_granting.push_granted.Goals as goal
@@ -20,8 +21,9 @@ returns-clause-pushes c =
     let certs = cited_bytes (map cited g.certs.now) in
     let proved = pushes_then old c.push_told.new.out c.write_counted_proof.new.out told proof _ _ c.in_ok-push_told.ensures
     (appended c.push_told.new.out c.write_counted_proof.new.out proof _ c.in_ok-write_counted_proof.ensures.appends) in
-    let by = pushes_then old c.write_counted_proof.new.out c.push_cited.new.out (told ++ proof) certs _ _ proved c.in_ok-push_cited.ensures in
-    pushes_then old c.push_cited.new.out c.push_counted.new.out (told ++ proof ++ certs) (counted w16 g.content.now) _ c.push_counted.result by c.push_counted.ensures
+    let by = pushes_then old c.write_counted_proof.new.out c.write_bodies.new.out (told ++ proof) certs _ _ proved
+    (appended c.write_counted_proof.new.out c.write_bodies.new.out certs _ c.in_ok-write_bodies.ensures.appends) in
+    pushes_then old c.write_bodies.new.out c.push_counted.new.out (told ++ proof ++ certs) (counted w16 g.content.now) _ c.push_counted.result by c.push_counted.ensures
 
 pub returns-clause-short : goal.returns-clause-short
 returns-clause-short c =

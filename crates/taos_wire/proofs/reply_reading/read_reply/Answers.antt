@@ -2,7 +2,7 @@ use Rattle.std.proofs.Common.{arith}
 use Rattle.byte_fields.proofs.FormatPlaces.{fault_within}
 use Rattle.taos_wire.specs.ReplyReading.{reply_of}
 use Rattle.taos_wire.proofs.ReplyLaws.{seen, is_found, is_only}
-use Rattle.taos_wire.proofs.ReplyPlaces.{reply_refused}
+use Rattle.taos_wire.proofs.ReplyForms.{reply_refused}
 use Rattle.taos_wire.proofs.reply_reading.read_reply.Goals as goal
 
 pub returns-clause-found : goal.returns-clause-found

@@ -1,6 +1,6 @@
 use Rattle.std.specs.Prelude.{◌≡◌, ◌+◌, length, vec_len}
 use Rattle.taosd.proofs.lanes.lanes_of.Given as goal
 
--- one for each door so far, and the other doors are left
-abbrev pub invariant-loop-doorway : goal.invariant-loop-doorway
-invariant-loop-doorway g l = vec_len l.lanes + length l.doorway-iterator.rest.items ≡ vec_len l.fn.doorways
+-- one of each so far, and the other parts are left
+abbrev pub invariant-loop-part : goal.invariant-loop-part
+invariant-loop-part g l = vec_len l.lanes + length l.part-iterator.rest.items ≡ vec_len l.fn.doorways

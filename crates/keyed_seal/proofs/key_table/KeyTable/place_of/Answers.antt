@@ -1,7 +1,7 @@
 use Rattle.std.proofs.Common.{[], rules}
 use Rattle.std.proofs.lemmas.List.Sorted.{answers_always}
 use Rattle.keyed_seal.proofs.Place.{Finds}
-use Rattle.number_rows.proofs.Places.{searched}
+use Rattle.byte_fields.proofs.RowPlaces.{searched}
 use Rattle.keyed_seal.proofs.key_table.KeyTable.place_of.Goals as goal
 
 -- the closure gives an entry's number, and the slice is the table's entries

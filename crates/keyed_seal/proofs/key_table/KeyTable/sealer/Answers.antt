@@ -1,7 +1,7 @@
 use Rattle.std.proofs.Common.{sym, arith, [], subst}
 use Rattle.std.proofs.lemmas.List.{get_or_default}
 use Rattle.keyed_seal.specs.Keys.{IsAscending, Keys}
-use Rattle.number_rows.proofs.Places.{value_of-at, value_of-in_gap}
+use Rattle.byte_fields.proofs.RowPlaces.{value_of-at, value_of-in_gap}
 use Rattle.keyed_seal.proofs.key_table.KeyTable.sealer.Goals as goal
 
 -- the key is that of the entry at the place that was found

@@ -1,0 +1,9 @@
+pub mod Events
+pub mod Lanes
+pub mod Accounts
+pub mod Fair
+pub mod Lawful
+pub mod First
+pub mod Queues
+pub mod Kept
+pub mod Calls

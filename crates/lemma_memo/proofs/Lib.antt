@@ -1,0 +1,5 @@
+pub mod Lists
+pub mod Places
+pub mod Keys
+pub mod Entries
+pub mod Again

@@ -1,0 +1,6 @@
+use Rattle.std.proofs.Common.{◌≡◌, take}
+use Rattle.node_open.specs.Cells.{numbers_of}
+use Rattle.node_open.proofs.opening.channels_of.Given as goal
+
+abbrev pub invariant-loop-place : goal.invariant-loop-place
+invariant-loop-place l = l.numbers.items ≡ numbers_of (take l.place l.table.entries)

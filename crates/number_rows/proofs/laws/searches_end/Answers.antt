@@ -1,5 +1,0 @@
-use Rattle.number_rows.proofs.Places.{search_ends}
-use Rattle.number_rows.proofs.laws.searches_end.Goals as goal
-
-pub returns : goal.returns
-returns c start = λ number default rows n r never_falls. search_ends number default rows never_falls n r

@@ -1,0 +1,23 @@
+use Rattle.std.proofs.Common.{◌≡◌, ◌+◌, ◌-◌, ◌≤◌, List, [], Option, None, length}
+use Rattle.std.specs.Prelude.{codes}
+use Rattle.file_lines.specs.FileLines.{first_or, is_first_line, lines_make}
+use Rattle.file_lines.specs.Lines.{lines_from}
+use Rattle.relay_path.specs.Domains.{DomainKnows}
+use Rattle.relay_path.specs.PathFile.{path_step}
+use Rattle.relay_path.specs.PathView.{StandSoFar}
+use Rattle.relay_path.proofs.path_reading.read_lines.Given as goal
+
+-- the lines before the offset are taken, and those behind it make the rest
+abbrev pub invariant-loop-at : goal.invariant-loop-at
+invariant-loop-at l = record {
+  so_far : Option (List DomainKnows);
+  stands : StandSoFar l.begun l.drafts.items so_far;
+  same : lines_make (first_or (is_first_line (codes "taos-path")) [] path_step) (l.number + 1) so_far (lines_from l.bytes l.at)
+      ≡ lines_make (first_or (is_first_line (codes "taos-path")) [] path_step) 1 None (lines_from l.bytes 0);
+  count : l.number + length (lines_from l.bytes l.at) ≡ length (lines_from l.bytes 0);
+  within : l.at ≤ length l.bytes;
+  small : l.number ≤ l.at;
+}
+
+abbrev pub decreases-loop-at : goal.decreases-loop-at
+decreases-loop-at l = length l.bytes - l.at

@@ -1,0 +1,22 @@
+use Rattle.std.proofs.Common.{[], sym, ◌∙◌}
+use Rattle.std.specs.Prelude.{codes}
+use Rattle.file_lines.specs.FileLines.{is_first_line}
+use Rattle.file_lines.proofs.Begun.{begun_taken, first_taken, no_first}
+use Rattle.relay_path.specs.PathFile.{path_step}
+use Rattle.relay_path.specs.PathView.{AreDomainDrafts}
+use Rattle.relay_path.proofs.path_reading.take_any.Goals as goal
+
+pub returns-then-begun : goal.returns-then-begun
+returns-then-begun c = record {
+  takes = λ so_far s. begun_taken AreDomainDrafts [] path_step (is_first_line (codes "taos-path")) c.args.begun c.args.drafts.now.items c.take_line.new.drafts.items so_far c.args.line.now s c.take_line.result c.if-begun.true c.take_line.ensures.takes;
+}
+
+pub returns-then-is_first_line : goal.returns-then-is_first_line
+returns-then-is_first_line c = record {
+  takes = λ so_far s. first_taken AreDomainDrafts [] path_step (is_first_line (codes "taos-path")) c.args.begun c.args.drafts.now.items c.args.drafts.now.items so_far c.args.line.now s c.if-begun.false (sym c.is_first_line.ensures ∙ c.if-is_first_line.true);
+}
+
+pub returns : goal.returns
+returns c = record {
+  takes = λ so_far s. no_first AreDomainDrafts [] path_step (is_first_line (codes "taos-path")) c.args.begun c.args.drafts.now.items c.args.drafts.now.items so_far c.args.line.now s c.if-begun.false (sym c.is_first_line.ensures ∙ c.if-is_first_line.false);
+}

@@ -1,0 +1,158 @@
+-- Completeness of a request: what alone keeps one that came to its object from its verdict.
+use Rattle.std.specs.Prelude.{◌≡◌, ◌≢◌, ◌⊎◌, ℕ, ◌+◌, ◌<◌, ◌≤◌, ◌-◌, ◌^◌, Bool, List, [], ◌∷◌, length, Some, slice_get, Contains, All}
+use Rattle.denial_link.specs.declared.link.Link.{Link}
+use Rattle.object_core.specs.Objects.{ObjectEntry}
+use Rattle.object_core.specs.Operation.{Hold, Discard}
+use Rattle.stmt_codec.specs.Certificates.{Certificate}
+use Rattle.taos_calculus.specs.Rules.{Line}
+use Rattle.taos_wire.specs.Request.{Request, IsAsked}
+use Rattle.taos_wire.specs.Reply as replies
+use Rattle.taos_wire.specs.Reply.{Reply, LinkSent, Sent, status_of}
+use Rattle.agent_core.specs.declared.limits.TheConstants.{MAX_OWN, MAX_COMMONS}
+use Rattle.agent_core.specs.declared.told.Told.{Told}
+use Rattle.agent_core.specs.Held.{newly}
+use Rattle.agent_core.specs.State.{Plan, State, Ask, Event, Asks, Holds, Discards, swept, moment_of, brought}
+use Rattle.agent_core.specs.Journals.{Entry, entry, Begins, Stands, state_after, Granted, Denied, IsVerdict}
+use Rattle.taos_monitor.specs.declared.handling.Handled.{Handled}
+use Rattle.taos_monitor.specs.declared.handling.Handled.TheVariants as handled
+use Rattle.taos_monitor.specs.Asking.{shard_full}
+use Rattle.taos_monitor.specs.AtObject.{Seeking, asks_for, object_full}
+use Rattle.taos_monitor.specs.Cells.{Node, HasPlan, Journals, AreLegal, Place, in_shard}
+use Rattle.taos_monitor.specs.Course.{Arrival, its_seeking, Used, CourseAfter}
+use Rattle.taos_monitor.specs.Credentials.{LinkCall, Failed}
+use Rattle.taos_monitor.specs.Handling.{HasCourse, Answers, Handles, HandlesCause}
+use Rattle.taos_monitor.specs.Operations.{targets_of}
+use Rattle.taos_monitor.specs.World.{Setting, World}
+
+module _ (n : Node) (J : Journals) (own : List Place) where
+  -- the event stands at an own place of the shard of this number, after these entries
+  pub record HasStepped (shard : ℕ) (event : Event) (told : Told) : Type 0 where
+    pub plan : Plan
+    pub planned : HasPlan n shard plan
+    pub place : ℕ
+    pub owned : Contains own (in_shard shard place)
+    pub before : List Entry
+    pub stands : Stands (J.shards shard) place before (entry event told)
+
+  -- what the shard was when it was stepped
+  abbrev pub state_met : {shard : ℕ} {event : Event} {told : Told} → HasStepped shard event told → State
+  state_met s = state_after s.plan s.before
+
+  -- What is sought was asked for: its Ask stands at the first own place, in its shard, by the access
+  -- list that the object had after entries with which its journal begins.
+  pub record HasAsked (x : Seeking) : Type 0 where
+    pub entries : List ObjectEntry
+    pub begins : Begins entries (J.objects x.request.object)
+    pub told : Told
+    pub step : HasStepped x.shard (Asks (asks_for x entries)) told
+    pub first : slice_get own 0 ≡ Some (in_shard x.shard step.place)
+
+  -- the Ask
+  abbrev pub ask_in : {x : Seeking} → HasAsked x → Ask
+  ask_in {x} k = asks_for x k.entries
+
+  -- what the shard was at the Ask's moment: what is gone by then is let go
+  abbrev pub state_asked : {x : Seeking} → HasAsked x → State
+  state_asked {x} k =
+      swept k.step.plan.keep (moment_of (state_met k.step) x.reading) (state_met k.step)
+
+  -- What keeps a request that came to its object from its verdict, or its grant from being told, and
+  -- the reply: its number is not new at its Ask, there is no room for what it presents, for an entry,
+  -- or for what it holds in common, or no shard held what it would discard.
+  pub data IsHindered (x : Seeking) : Reply → Type 0 where
+    object_is_full : length (J.objects x.request.object) ≡ x.fixed.limit →
+        IsHindered x (object_full x.request.object x.fixed.limit)
+    shard_is_full : {shard : ℕ} (plan : Plan) → HasPlan n shard plan →
+        Contains (x.shard ∷ targets_of n.plans x.request.op) shard →
+        length (J.shards shard) ≡ plan.limit →
+        IsHindered x (shard_full shard plan.limit)
+    number_used : (k : HasAsked x) →
+        x.request.seq ≤ (state_asked k).last x.request.channel →
+        IsHindered x (replies.Replayed ((state_asked k).last x.request.channel))
+    own_full : (k : HasAsked x) →
+        MAX_OWN < length ((state_asked k).own x.request.channel) + length (brought (state_asked k) (ask_in k)) →
+        IsHindered x (replies.ChannelFull (length ((state_asked k).own x.request.channel)))
+    commons_full : {shard : ℕ} {told : Told} → x.request.op ≡ Hold →
+        (s : HasStepped shard (Holds x.certs) told) →
+        MAX_COMMONS < length (state_met s).commons + length (newly (state_met s).commons x.certs) →
+        IsHindered x (replies.CommonsFull (length (state_met s).commons) shard)
+    nowhere_held : (digest : List ℕ) → x.request.op ≡ Discard digest →
+        ((shard : ℕ) → shard < length n.plans → HasStepped shard (Discards digest) (Told.Removed 0)) →
+        IsHindered x (replies.NotHeld digest)
+
+  -- the reply is the verdict on the request's Ask, which is a grant or a denial
+  pub data IsItsVerdict (x : Seeking) : Reply → Type 0 where
+    granted : {kept : Bool} {at : ℕ} {proof : List Line} {cites : List Certificate} {result : List ℕ}
+        (k : HasAsked x) → IsVerdict k.step.plan k.step.before (ask_in k) Granted →
+        IsItsVerdict x (replies.Granted kept at x.shard k.step.place proof cites result)
+    denied : {link : LinkSent} (why : Link)
+        (k : HasAsked x) → IsVerdict k.step.plan k.step.before (ask_in k) (Denied why) →
+        IsItsVerdict x (replies.Denied x.shard k.step.place link)
+
+  -- the reply is a grant where that is the verdict on the request's Ask, and a denial where that is
+  abbrev pub IsExact : Seeking → Reply → Type 0
+  IsExact x reply = IsItsVerdict x reply → (k : HasAsked x) →
+      (IsVerdict k.step.plan k.step.before (ask_in k) Granted → status_of reply ≡ 0) ×
+      ((why : Link) → IsVerdict k.step.plan k.step.before (ask_in k) (Denied why) → status_of reply ≡ 1)
+
+-- What was sought at one reading of the clock came to its verdict, or was hindered.
+pub record IsJudged {n : Node} {payload : List ℕ} (J : Journals) (t : Arrival n payload) (used : Used) (reply : Reply) : Type 0 where
+  pub reading : ℕ
+  pub read : used.readings ≡ reading ∷ []
+  pub ends : IsItsVerdict n J used.places (its_seeking n t reading) reply ⊎ IsHindered n J used.places (its_seeking n t reading) reply
+
+-- A request that came to its object, by these answers of the link, came to its verdict or was
+-- hindered, or memory was refused.
+abbrev pub ArrivalsAreJudged : Node → Type 0
+ArrivalsAreJudged n =
+    (past J : Journals) (payload : List ℕ) (used : Used) (sent : Sent) → AreLegal n J →
+    CourseAfter n past J payload used sent →
+    (t : Arrival n payload) → used.calls ≡ t.calls →
+    IsJudged J t used sent.reply ⊎ (sent.reply ≡ replies.NoMemory)
+
+-- A reply that is a verdict is a grant exactly where its Ask is granted, and a denial else.
+abbrev pub VerdictsAreExact : Node → Type 0
+VerdictsAreExact n =
+    (J : Journals) (own : List Place) (x : Seeking) (reply : Reply) → IsExact n J own x reply
+
+-- ---- where nothing failed
+
+-- the count stayed as it was, below the last value that one can have
+abbrev pub StoodStill : ℕ → ℕ → Type 0
+StoodStill before after = (after ≡ before) × (before < 2 ^ 64 - 1)
+
+-- none of the calls failed
+abbrev pub NoneFailed : List LinkCall → Type 0
+NoneFailed calls = All (λ (c : LinkCall). c.answer ≢ Failed) calls
+
+module _ (s : Setting) (before after : World) where
+  -- this is a course of the payload in which no call failed, and if it came to its object it is judged
+  pub record IsWhole (payload : List ℕ) (used : Used) (sent : Sent) : Type 0 where
+    pub course : CourseAfter s.node before.seen.journals after.seen.journals payload used sent
+    pub answered : NoneFailed used.calls
+    pub judged : (t : Arrival s.node payload) → used.calls ≡ t.calls →
+        IsJudged after.seen.journals t used sent.reply ⊎ (sent.reply ≡ replies.NoMemory)
+
+  -- the payload has a reply by such a course
+  abbrev pub AnswersWhole : List ℕ → List ℕ → Handled → Type 0
+  AnswersWhole payload bytes h =
+      (h ≡ handled.Replied) × HasCourse s before after (IsWhole payload) bytes
+
+  -- the request has a reply by such a course, whichever payload under its channel's seal it was
+  abbrev pub HandlesWhole : Request → List ℕ → Handled → Type 0
+  HandlesWhole r bytes h =
+      (h ≡ handled.Replied) × HasCourse s before after (λ used sent.
+      (payload key : List ℕ) → IsAsked s.node.channels payload r key → IsWhole payload used sent) bytes
+
+  -- the counts of failures, of the link and of the clock, stood still
+  abbrev pub NothingFailed : ℕ → ℕ → Type 0
+  NothingFailed clock0 clock1 = StoodStill before.faults after.faults × StoodStill clock0 clock1
+
+-- what was answered while no count of failures rose is answered whole
+abbrev pub AnswersAreWhole : Type 0
+AnswersAreWhole =
+    (s : Setting) (before after : World) (clock0 clock1 : ℕ) (h : Handled) (bytes : List ℕ) →
+    NothingFailed s before after clock0 clock1 → HandlesCause clock0 clock1 h →
+    ((payload : List ℕ) → Answers s before after payload bytes h →
+    AnswersWhole s before after payload bytes h) ×
+    ((r : Request) → Handles s before after r bytes h → HandlesWhole s before after r bytes h)

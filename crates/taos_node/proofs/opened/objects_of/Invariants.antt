@@ -1,6 +1,0 @@
-use Rattle.std.proofs.Common.{◌≡◌, map, take}
-use Rattle.taos_node.specs.Opened.{new_object}
-use Rattle.taos_node.proofs.opened.objects_of.Given as goal
-
-abbrev pub invariant-loop-place : goal.invariant-loop-place
-invariant-loop-place l = l.objects.items ≡ map (new_object l.limit) (take l.place l.plans)
