@@ -128,9 +128,10 @@ pub fn answers<D: Decide>(
     if !subject.fits(ENTRY_NODES, MAX_DEPTH) || !who.fits(ENTRY_NODES, MAX_DEPTH) {
         return Err("too large".into());
     }
+    let copied = copied(alloc, who)?;
     let list = [Entry {
         rights: 1,
-        who: copied(alloc, who)?,
+        who: copied,
     }];
     decider.begin(ANCHORS, certs, chosen, subject, &list);
     if !decider.derives(subject, who) {
