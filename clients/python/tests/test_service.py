@@ -325,6 +325,20 @@ class Starter(Case):
         self.assertIn(b"taos: ", told)
         self.assertNotIn(TOLD, told)
 
+    def test_an_option_s_value_is_no_file(self):
+        for words in ["--clients", "100"], ["--idle", "5", "--clients", "100", "--tell-refusals"]:
+            service = self.start(*words)
+            port, before = port_of(service.stderr.fileno())
+            self.assertEqual(before, [])
+            streams = [socket.create_connection(("127.0.0.1", port), PATIENCE) for _ in range(2 * LANES)]
+            for channel, stream in enumerate(streams):
+                stream.sendall(reads(channel + 1, 1 + channel % LANES))
+            self.assertEqual([len(frames_of(stream, 1)) for stream in streams], [1] * len(streams))
+            for stream in streams:
+                stream.close()
+            service.send_signal(signal.SIGTERM)
+            self.assertEqual(service.wait(PATIENCE), 0)
+
     def test_hup_reopens_the_log(self):
         with tempfile.TemporaryDirectory() as folder:
             log, old = os.path.join(folder, "log"), os.path.join(folder, "log.1")
@@ -366,6 +380,26 @@ class Unit(unittest.TestCase):
                 copy.write(unit.read().replace("/usr/lib/taosd/taosd-start", STARTER))
             run = subprocess.run([tool, "verify", path], capture_output=True, check=False, timeout=PATIENCE)
             self.assertEqual((run.returncode, [each for each in run.stderr.splitlines() if b"taosd" in each]), (0, []))
+
+    @unittest.skipUnless(PROGRAM, "no PROGRAM is named")
+    def test_the_unit_s_words_are_the_program_s(self):
+        with open(UNIT, encoding="ascii") as unit:
+            line = unit.read().replace("\\\n", " ").split("ExecStart=")[1].split("\n")[0]
+        words = line.split()[1:]
+        with tempfile.NamedTemporaryFile("w", encoding="ascii") as file:
+            file.write(NODE)
+            file.flush()
+            filled = {words[0]: PROGRAM, "%d/node": file.name, "${TAOSD_LISTEN}": ",".join([HERE] * 2), "${TAOSD_RELAY}": "-"}
+            pipe = subprocess.PIPE
+            with subprocess.Popen([STARTER, *(filled.get(word, word) for word in words)], stdin=subprocess.DEVNULL, stdout=pipe, stderr=pipe) as service:
+                try:
+                    port_of(service.stderr.fileno())
+                    service.terminate()
+                    line, _ = service.communicate(timeout=PATIENCE)
+                finally:
+                    service.kill()
+            self.assertEqual(service.returncode, 0)
+            self.assertTrue(line.startswith(b"connections "), line)
 
 
 if __name__ == "__main__":

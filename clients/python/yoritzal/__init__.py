@@ -4,6 +4,7 @@ from .certificates import ISSUED, RELAYED, Body, body_of, opens, read_body, seal
 from .client import Answer, Channel, Client, Fate, NotGranted
 from .connection import Broken, Connection, connect
 from .fields import Malformed
+from .journals import Journals, read_journals
 from .names import Names, NoPrincipal
 from .numbers import FileNumbers, InUse, TimeNumbers
 from .proofs import Proof, ProofFault, read_proof

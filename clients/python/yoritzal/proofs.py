@@ -85,9 +85,9 @@ def read_proof(data):
     fields = Reader(data)
     nodes = [_read_node(fields, place) for place in range(fields.number(2, most=MAX_NODES))]
     lines = [_read_line(fields, len(nodes)) for _ in range(fields.number(4, most=MAX_LINES))]
-    fields.end()
     if not _is_canonical(nodes, lines):
         fields.refuse("a table that is not that of the lines", 0)
+    fields.end()
     return Proof(tuple(nodes), tuple(lines))
 
 

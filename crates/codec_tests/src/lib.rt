@@ -1,4 +1,4 @@
-//! Tests of principals, certificates, seals, credentials and operations, of frames and of relays. A
+//! Tests of principals, certificates, seals, credentials and operations, of frames, of relays and of their paths. A
 //! crate with tests is proved twice, so they stand here.
 #![tactic(auto)]
 
@@ -12,6 +12,8 @@ mod frames;
 mod objects;
 #[cfg(test)]
 mod operations;
+#[cfg(test)]
+mod paths;
 #[cfg(test)]
 mod relays;
 #[cfg(test)]

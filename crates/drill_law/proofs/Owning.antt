@@ -104,18 +104,18 @@ module _ (d : DrillWords) (fits : FitsDrill d) (n : Node) (node : IsLoadNode d n
     lane_works lane run a answered =
         let v = a.visit in
         let in_journals = All-head (AnsweredIn J) v [] (subst (All (AnsweredIn J)) a.one answered) in
-        let chain = subst (λ (l : List (Visit n run.says limit)). Chain run.first l run.last) a.one run.chain in
-        let clock : v.before.service.clock ≡ Some (READING ∷ []) = ap (λ (w : World). w.clock) chain.0 ∙ a.clock in
+        let chain = subst (λ (l : List (Visit n limit)). Chain run.first l run.last) a.one run.chain in
+        let clock : v.before.service.outside.clock.told ≡ Some (READING ∷ []) = ap (λ (w : World). w.outside.clock.told) chain.0 ∙ a.clock in
         let turns = in_journals.turns in
-        let frames : map (payload_of d.seed d.lanes) (requests_of d.requests d.lanes lane) ≡ frames_of turns = sym a.all ∙ answered_turns v.outcome _ a.ended turns v.connection.served.payloads v.connection.used.calls in_journals.in_order in
+        let frames : map (payload_of d.seed d.lanes) (requests_of d.requests d.lanes lane) ≡ frames_of turns = sym a.all ∙ answered_turns v.outcome _ a.ended turns v.connects.connection.served.payloads v.connects.connection.used.calls in_journals.in_order in
         let read : (x : ℕ) → In x (readings_of turns) → x ≡ READING =
-        λ x at. gave_one READING v.before.service.clock v.after.service.clock v.connection.used.readings clock v.connection.gave x (subst (In x) (sym in_journals.read) at) in
+        λ x at. gave_one READING v.before.service.outside.clock.told v.after.service.outside.clock.told v.connects.connection.used.readings clock v.connects.connection.gave x (subst (In x) (sym in_journals.read) at) in
         let had : (t : Turn) → In t turns → t.sent.reply ≢ replies.NoMemory =
-        λ t at. all_in (λ (bytes : List ℕ). (s : Sent) → bytes ≡ spelling s → s.reply ≢ replies.NoMemory) (replies_of v.connection.served.turns) (spelling t.sent) a.memory
+        λ t at. all_in (λ (bytes : List ℕ). (s : Sent) → bytes ≡ spelling s → s.reply ≢ replies.NoMemory) (replies_of v.connects.connection.served.turns) (spelling t.sent) a.memory
         (subst (In (spelling t.sent)) (sym in_journals.replies_are) (in_map (λ (u : Turn). spelling u.sent) turns t at)) t.sent refl in
         let below : (i : ℕ) → In i (requests_of d.requests d.lanes lane) → i < d.requests = λ i at. (of_lane d.requests d.lanes lane i at).0 in
         let w = works_of (requests_of d.requests d.lanes lane) turns frames in_journals.courses read had below in
-        let places : v.connection.used.places ≡ flat_map (work_places d) w.works = in_journals.owned ∙ w.placed in (
+        let places : v.connects.connection.used.places ≡ flat_map (work_places d) w.works = in_journals.owned ∙ w.placed in (
           w.works,
           record { requests_are = w.requests_are; came = w.came; ascending = subst (AllPairs IsAfter) places in_journals.ascending },
           λ cell place.

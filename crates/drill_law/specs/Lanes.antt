@@ -1,7 +1,6 @@
 -- The lanes of a drill, each of which answered all its requests.
-use Rattle.std.specs.Prelude.{◌≡◌, ◌≢◌, ℕ, List, [], ◌∷◌, length, map, All, Option, Some}
+use Rattle.std.specs.Prelude.{◌≡◌, ◌≢◌, ℕ, List, [], ◌∷◌, length, map, All, Some}
 use Rattle.frame_link.specs.declared.outcome.Outcome.TheVariants.{End}
-use Rattle.frame_link.specs.Relay.{Said}
 use Rattle.frame_link.specs.Served.{replies_of}
 use Rattle.node_words.specs.Words.{DrillWords}
 use Rattle.taos_drill.specs.declared.numbers.TheConstants.{READING}
@@ -12,11 +11,10 @@ use Rattle.taos_monitor.specs.Cells.{Node}
 use Rattle.taos_wire.specs.Reply.{NoMemory, Sent, spelling}
 
 -- no reply of the connection says that memory was refused
-abbrev pub HadMemory : {n : Node} {says : Option (ℕ → List ℕ → Said)} {limit : ℕ} →
-    Visit n says limit → Type 0
+abbrev pub HadMemory : {n : Node} {limit : ℕ} → Visit n limit → Type 0
 HadMemory v =
     All (λ (bytes : List ℕ). (s : Sent) → bytes ≡ spelling s → s.reply ≢ NoMemory)
-    (replies_of v.connection.served.turns)
+    (replies_of v.connects.connection.served.turns)
 
 -- the payloads of a lane's requests, in order
 abbrev pub lane_load : DrillWords → ℕ → List (List ℕ)
@@ -26,9 +24,9 @@ lane_load d lane = map (payload_of d.seed d.lanes) (requests_of d.requests d.lan
 -- its requests, all and in order, and no reply says that memory was refused.
 pub record AnswersLane {n : Node} {limit : ℕ} (d : DrillWords) (lane : ℕ) (run : LaneRun n limit) :
     Type 0 where
-  pub clock : run.first.clock ≡ Some (READING ∷ [])
-  pub visit : Visit n run.says limit
+  pub clock : run.first.outside.clock.told ≡ Some (READING ∷ [])
+  pub visit : Visit n limit
   pub one : run.visits ≡ visit ∷ []
-  pub all : visit.connection.served.payloads ≡ lane_load d lane
+  pub all : visit.connects.connection.served.payloads ≡ lane_load d lane
   pub ended : visit.outcome ≡ End (length (lane_load d lane))
   pub memory : HadMemory visit

@@ -1,6 +1,6 @@
 -- What serving does, by what came in place of the next frame.
 use Rattle.std.proofs.Common.{◌≡◌, ◌⊎◌, ℕ, zero, suc, ◌+◌, ◌<◌, ◌≤◌, ◌^◌, List, [], ◌∷◌, ◌++◌, length, take, refl, sym, ap, subst, ◌∙◌, append-nil, arith, inl, inr}
-use Rattle.std.specs.Prelude.{Option, All}
+use Rattle.std.specs.Prelude.{All}
 use Rattle.std.specs.Int.{w32, to_be_bytes}
 use Rattle.std.specs.Io.KnownBytes.{Consumes, IsAtEnd, Keeps}
 use Rattle.std.proofs.KnownBytes.{Consumes-nil, Consumes-kept, Consumes-trans, Appends-nil, Appends-trans}
@@ -12,6 +12,7 @@ use Rattle.frame_link.specs.declared.outcome.Outcome.{Outcome}
 use Rattle.frame_link.specs.declared.outcome.Outcome.TheVariants.{End, Truncated, TooLong, ReadFault, WriteFault, ClockFault, Spent, NoMemory}
 use Rattle.frame_link.specs.Frames.{framed, IsPart, in_word, IsTooLong, Splits}
 use Rattle.frame_link.specs.Next.{TakesFrame, Puts}
+use Rattle.frame_link.specs.Streams.{Stream}
 use Rattle.frame_link.specs.Served.{Line, line, Turn, payloads_of, replies_of, AreAnswered, EndsAs, IsWritten, IsServed}
 use Rattle.frame_link.proofs.Turns.{payloads_on, replies_on, taken_on, chain_on, Progress}
 
@@ -33,7 +34,7 @@ splits payloads rest within no_more = record { whole = refl; each = within; no_m
 
 module _ {S : Type 0} (answers : S → List ℕ → List ℕ → S → Type 0) (gives_up : S → List ℕ → S → Type 0) where
   -- each whole frame has its turn, and the replies were all written
-  ends : (count limit : ℕ) (l0 l1 : Line S) (after : Option (List ℕ)) (outcome : Outcome) (p : Progress answers count l0 l1) → count ≤ limit → (rest : List ℕ) → Consumes l1.input after rest →
+  ends : (count limit : ℕ) (l0 l1 : Line S) (after : Stream) (outcome : Outcome) (p : Progress answers count l0 l1) → count ≤ limit → (rest : List ℕ) → Consumes l1.input.told after.told rest →
       IsPart 65536 rest ⊎ IsTooLong 65536 rest → EndsAs limit (payloads_of p.turns) rest after outcome → AreAnswered answers gives_up l0.service (payloads_of p.turns) p.turns l1.service outcome →
       IsWritten outcome (replies_of p.turns) (framed (replies_of p.turns)) → IsServed answers gives_up limit l0 (line after l1.output l1.service) outcome
   ends count limit l0 l1 after outcome p few rest came no_more ended answered went = record {
@@ -42,7 +43,7 @@ module _ {S : Type 0} (answers : S → List ℕ → List ℕ → S → Type 0) (
     rest = rest;
     turns = p.turns;
     written = framed (replies_of p.turns);
-    took = Consumes-trans l0.input l1.input after (framed (payloads_of p.turns)) rest p.taken came;
+    took = Consumes-trans l0.input.told l1.input.told after.told (framed (payloads_of p.turns)) rest p.taken came;
     splits = splits (payloads_of p.turns) rest p.within no_more;
     few = omega (arith, counted p.turns count p.counted, few);
     ended = ended;
@@ -51,27 +52,27 @@ module _ {S : Type 0} (answers : S → List ℕ → List ℕ → S → Type 0) (
     wrote = p.wrote;
   }
 
-  pub at_end : (count limit : ℕ) (l0 l1 : Line S) (after : Option (List ℕ)) → count ≤ limit → Progress answers count l0 l1 → TakesFrame 65536 l1.input after [] next.End →
+  pub at_end : (count limit : ℕ) (l0 l1 : Line S) (after : Stream) → count ≤ limit → Progress answers count l0 l1 → TakesFrame 65536 l1.input after [] next.End →
       IsServed answers gives_up limit l0 (line after l1.output l1.service) (End count)
   at_end count limit l0 l1 after few p came =
       ends count limit l0 l1 after (End count) p few [] came.0 (inl empty_part) (refl, sym (counted p.turns count p.counted), came.1) (refl, p.chain) refl
 
-  pub truncated : (count limit have : ℕ) (l0 l1 : Line S) (after : Option (List ℕ)) → count ≤ limit → Progress answers count l0 l1 → TakesFrame 65536 l1.input after [] (next.Truncated have) →
+  pub truncated : (count limit have : ℕ) (l0 l1 : Line S) (after : Stream) → count ≤ limit → Progress answers count l0 l1 → TakesFrame 65536 l1.input after [] (next.Truncated have) →
       IsServed answers gives_up limit l0 (line after l1.output l1.service) (Truncated have)
   truncated count limit have l0 l1 after few p came =
       ends count limit l0 l1 after (Truncated have) p few came.0 came.4 (inl came.1) (came.1, came.2, came.3, came.5) (refl, p.chain) refl
 
-  pub above : (count limit n : ℕ) (l0 l1 : Line S) (after : Option (List ℕ)) → count ≤ limit → Progress answers count l0 l1 → TakesFrame 65536 l1.input after [] (next.TooLong n) →
+  pub above : (count limit n : ℕ) (l0 l1 : Line S) (after : Stream) → count ≤ limit → Progress answers count l0 l1 → TakesFrame 65536 l1.input after [] (next.TooLong n) →
       IsServed answers gives_up limit l0 (line after l1.output l1.service) (TooLong n)
   above count limit n l0 l1 after few p came =
       ends count limit l0 l1 after (TooLong n) p few (to_be_bytes w32 n) came.2 (inr (too_long n came.0 came.1)) (refl, came.0, came.1) (refl, p.chain) refl
 
-  pub unread : (count limit : ℕ) (l0 l1 : Line S) (after : Option (List ℕ)) → count ≤ limit → Progress answers count l0 l1 → TakesFrame 65536 l1.input after [] next.ReadFault →
+  pub unread : (count limit : ℕ) (l0 l1 : Line S) (after : Stream) → count ≤ limit → Progress answers count l0 l1 → TakesFrame 65536 l1.input after [] next.ReadFault →
       IsServed answers gives_up limit l0 (line after l1.output l1.service) ReadFault
   unread count limit l0 l1 after few p came =
       ends count limit l0 l1 after ReadFault p few came.0 came.2 (inl came.1) came.1 (refl, p.chain) refl
 
-  pub spent : (limit b : ℕ) (l0 l1 : Line S) (after : Option (List ℕ)) → Progress answers limit l0 l1 → Consumes l1.input after (b ∷ []) →
+  pub spent : (limit b : ℕ) (l0 l1 : Line S) (after : Stream) → Progress answers limit l0 l1 → Consumes l1.input.told after.told (b ∷ []) →
       IsServed answers gives_up limit l0 (line after l1.output l1.service) (Spent limit)
   spent limit b l0 l1 after p came =
       ends limit limit l0 l1 after (Spent limit) p (omega arith) (b ∷ []) came (inl (in_word (omega arith))) (refl, sym (counted p.turns limit p.counted), refl) (refl, p.chain) refl
@@ -89,17 +90,17 @@ module _ {S : Type 0} (answers : S → List ℕ → List ℕ → S → Type 0) (
         rest = [];
         turns = p.turns ++ t ∷ [];
         written = framed (replies_of p.turns) ++ wrote.0;
-        took = subst (Consumes l0.input l2.input) (sym (append-nil (framed payloads))) (taken_on (payloads_of p.turns) payload l0.input l1.input l2.input p.taken came.1);
+        took = subst (Consumes l0.input.told l2.input.told) (sym (append-nil (framed payloads))) (taken_on (payloads_of p.turns) payload l0.input.told l1.input.told l2.input.told p.taken came.1);
         splits = splits payloads [] (within_on (payloads_of p.turns) payload p.within came.0) (inl empty_part);
         few = omega (arith, n, few);
         ended = (refl, omega (arith, n));
         answered = (sym (payloads_on p.turns t), chain_on answers l0.service l1.service l2.service p.turns t p.chain answered);
         went = (replies_of p.turns, reply, wrote.0, wrote.1, replies_on p.turns t, wrote.2, wrote.3, refl);
-        wrote = Appends-trans l0.output l1.output l2.output (framed (replies_of p.turns)) wrote.0 p.wrote wrote.4;
+        wrote = Appends-trans l0.output.told l1.output.told l2.output.told (framed (replies_of p.turns)) wrote.0 p.wrote wrote.4;
       }
 
   -- one frame more was taken, and given up
-  pub dropped : (count limit : ℕ) (l0 l1 : Line S) (after : Option (List ℕ)) (last : S) (payload : List ℕ) → count < limit → Progress answers count l0 l1 → TakesFrame 65536 l1.input after payload next.Frame →
+  pub dropped : (count limit : ℕ) (l0 l1 : Line S) (after : Stream) (last : S) (payload : List ℕ) → count < limit → Progress answers count l0 l1 → TakesFrame 65536 l1.input after payload next.Frame →
       gives_up l1.service payload last → IsServed answers gives_up limit l0 (line after l1.output last) ClockFault
   dropped count limit l0 l1 after last payload few p came given_up =
       let payloads : List (List ℕ) = payloads_of p.turns ++ payload ∷ [] in
@@ -110,7 +111,7 @@ module _ {S : Type 0} (answers : S → List ℕ → List ℕ → S → Type 0) (
         rest = [];
         turns = p.turns;
         written = framed (replies_of p.turns);
-        took = subst (Consumes l0.input after) (sym (append-nil (framed payloads))) (taken_on (payloads_of p.turns) payload l0.input l1.input after p.taken came.1);
+        took = subst (Consumes l0.input.told after.told) (sym (append-nil (framed payloads))) (taken_on (payloads_of p.turns) payload l0.input.told l1.input.told after.told p.taken came.1);
         splits = splits payloads [] (within_on (payloads_of p.turns) payload p.within came.0) (inl empty_part);
         few = omega (arith, n, few);
         ended = refl;
@@ -127,22 +128,22 @@ module _ {S : Type 0} (answers : S → List ℕ → List ℕ → S → Type 0) (
     rest = [];
     turns = [];
     written = [];
-    took = Consumes-nil l.input;
+    took = Consumes-nil l.input.told;
     splits = splits [] [] (All-nil (λ p. length p ≤ 65536)) (inl empty_part);
     few = omega arith;
     ended = (refl, refl);
     answered = (refl, refl);
     went = refl;
-    wrote = Appends-nil l.output;
+    wrote = Appends-nil l.output.told;
   }
 
 -- ---- one byte more is asked for, after the last frame
 
-pub nothing_read : (before after : Option (List ℕ)) → Keeps before after → TakesFrame 65536 before after [] next.ReadFault
-nothing_read before after kept = ([], empty_part, Consumes-kept before before after [] (Consumes-nil before) kept)
+pub nothing_read : (before after : Stream) → Keeps before.told after.told → TakesFrame 65536 before after [] next.ReadFault
+nothing_read before after kept = ([], empty_part, Consumes-kept before.told before.told after.told [] (Consumes-nil before.told) kept)
 
-pub at_its_end : (before after : Option (List ℕ)) (into : List ℕ) (n : ℕ) → n ≡ 0 → length into ≡ 1 → Consumes before after (take n into) × (n ≡ 0 → 0 < length into → IsAtEnd after) → TakesFrame 65536 before after [] next.End
-at_its_end before after into n none room (came, ends) = (subst (λ (k : ℕ). Consumes before after (take k into)) none came, ends none (omega (arith, room)))
+pub at_its_end : (before after : Stream) (into : List ℕ) (n : ℕ) → n ≡ 0 → length into ≡ 1 → Consumes before.told after.told (take n into) × (n ≡ 0 → 0 < length into → IsAtEnd after.told) → TakesFrame 65536 before after [] next.End
+at_its_end before after into n none room (came, ends) = (subst (λ (k : ℕ). Consumes before.told after.told (take k into)) none came, ends none (omega (arith, room)))
 
 abbrev no_bytes : List ℕ
 no_bytes = []

@@ -36,31 +36,31 @@ module _ {S : Type 0} (answers : S → List ℕ → List ℕ → S → Type 0) w
   pub record Progress (count : ℕ) (before after : Line S) : Type 0 where
     pub turns : List Turn
     pub chain : Chain answers before.service turns after.service
-    pub taken : Consumes before.input after.input (framed (payloads_of turns))
+    pub taken : Consumes before.input.told after.input.told (framed (payloads_of turns))
     pub within : All (λ p. length p ≤ MAX_PAYLOAD) (payloads_of turns)
     pub counted : length turns ≡ count
-    pub wrote : Appends before.output after.output (framed (replies_of turns))
+    pub wrote : Appends before.output.told after.output.told (framed (replies_of turns))
 
   pub started : (l : Line S) → Progress 0 l l
   started l = record {
     turns = [];
     chain = refl;
-    taken = Consumes-nil l.input;
+    taken = Consumes-nil l.input.told;
     within = All-nil (λ p. length p ≤ 65536);
     counted = refl;
-    wrote = Appends-nil l.output;
+    wrote = Appends-nil l.output.told;
   }
 
   pub goes_on : (count : ℕ) (l0 l1 l2 : Line S) (payload reply : List ℕ) → Progress count l0 l1 → TakesFrame 65536 l1.input l2.input payload next.Frame →
-      answers l1.service payload reply l2.service → Appends l1.output l2.output (frame reply) → Progress (count + 1) l0 l2
+      answers l1.service payload reply l2.service → Appends l1.output.told l2.output.told (frame reply) → Progress (count + 1) l0 l2
   goes_on count l0 l1 l2 payload reply p came answered wrote =
       let t : Turn = record { payload = payload; reply = reply } in
       record {
         turns = p.turns ++ t ∷ [];
         chain = chain_on l0.service l1.service l2.service p.turns t p.chain answered;
-        taken = subst (λ (l : List (List ℕ)). Consumes l0.input l2.input (framed l)) (sym (payloads_on p.turns t)) (taken_on (payloads_of p.turns) payload l0.input l1.input l2.input p.taken came.1);
+        taken = subst (λ (l : List (List ℕ)). Consumes l0.input.told l2.input.told (framed l)) (sym (payloads_on p.turns t)) (taken_on (payloads_of p.turns) payload l0.input.told l1.input.told l2.input.told p.taken came.1);
         within = subst (λ (l : List (List ℕ)). All (λ p. length p ≤ 65536) l) (sym (payloads_on p.turns t)) (All-push (λ p. length p ≤ 65536) (payloads_of p.turns) payload p.within came.0);
         counted = length-append p.turns (t ∷ []) ∙ ap (λ n. n + 1) p.counted;
-        wrote = subst (Appends l0.output l2.output) (sym (ap framed (replies_on p.turns t) ∙ framed_on (replies_of p.turns) reply))
-            (Appends-trans l0.output l1.output l2.output (framed (replies_of p.turns)) (frame reply) p.wrote wrote);
+        wrote = subst (Appends l0.output.told l2.output.told) (sym (ap framed (replies_on p.turns t) ∙ framed_on (replies_of p.turns) reply))
+            (Appends-trans l0.output.told l1.output.told l2.output.told (framed (replies_of p.turns)) (frame reply) p.wrote wrote);
       }

@@ -21,22 +21,22 @@ module _ {A : Type 0} (limit : ℕ) (IsAnswer : List ℕ → A → Type 0) where
   -- why no answer was read, of an input before and after
   pub data Stops (before after : Stream) : Type 0 where
     unread :
-        TakesFrame limit before.told after.told [] next.ReadFault →
+        TakesFrame limit before after [] next.ReadFault →
         before.faults ≤ after.faults → Rose before.faults after.faults →
         Stops before after
     ended :
-        TakesFrame limit before.told after.told [] next.End → after.faults ≡ before.faults →
+        TakesFrame limit before after [] next.End → after.faults ≡ before.faults →
         Stops before after
     cut : (have : ℕ) →
-        TakesFrame limit before.told after.told [] (next.Truncated have) →
+        TakesFrame limit before after [] (next.Truncated have) →
         after.faults ≡ before.faults →
         Stops before after
     too_long : (n : ℕ) →
-        TakesFrame limit before.told after.told [] (next.TooLong n) →
+        TakesFrame limit before after [] (next.TooLong n) →
         after.faults ≡ before.faults →
         Stops before after
     no_answer : (payload : List ℕ) →
-        TakesFrame limit before.told after.told payload next.Frame →
+        TakesFrame limit before after payload next.Frame →
         ((answer : A) → ¬ IsAnswer payload answer) →
         after.faults ≡ before.faults →
         Stops before after
@@ -44,7 +44,7 @@ module _ {A : Type 0} (limit : ℕ) (IsAnswer : List ℕ → A → Type 0) where
   -- a whole frame was read of the input, which spells the answer
   pub record IsRead (before after : Stream) (answer : A) : Type 0 where
     pub payload : List ℕ
-    pub read : TakesFrame limit before.told after.told payload next.Frame
+    pub read : TakesFrame limit before after payload next.Frame
     pub spells : IsAnswer payload answer
     pub steady : after.faults ≡ before.faults
 
@@ -57,7 +57,7 @@ module _ {A : Type 0} (limit : ℕ) (IsAnswer : List ℕ → A → Type 0) where
   -- answer was read
   pub data Breaks (request : List ℕ) (before after : Streams) : Type 0 where
     unwritten :
-        Puts before.output.told after.output.told request puts.WriteFault →
+        Puts before.output after.output request puts.WriteFault →
         before.output.faults ≤ after.output.faults →
         Rose before.output.faults after.output.faults →
         Keeps before.input.told after.input.told → after.input.faults ≡ before.input.faults →

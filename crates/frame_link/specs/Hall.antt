@@ -1,5 +1,6 @@
 -- What a door in memory is seen as, and how connections go through it.
 use Rattle.std.specs.Prelude.{◌≡◌, ℕ, ◌+◌, ◌<◌, ◌≤◌, List, [], ◌∷◌, ◌++◌, length, true, false, Option, None, Some, Result, Ok, Err}
+use Rattle.frame_link.specs.Doors.{DoorSeen, door_of}
 use Rattle.frame_link.specs.Plan.{Plan, fails_now, passed, failed}
 
 -- the connections that are left, how many were given, and those that were given back
@@ -8,6 +9,10 @@ pub record Hall (X : Type 0) : Type 0 where
   pub given : ℕ
   pub back : List X
   pub plan : Plan
+
+-- what such a door shows
+abbrev pub shown_hall : {X : Type 0} → Hall X → DoorSeen X
+shown_hall h = door_of (Some h.left) (Some h.back) h.given h.plan.faults
 
 -- what a call for the next connection answers, and what it leaves
 abbrev pub Admits : {X E : Type 0} → Hall X → Hall X → Result (Option X) E → Type 0

@@ -1,7 +1,9 @@
+pub mod Lent
 pub mod Faults
 pub mod Streams
 pub mod Readings
 pub mod Relay
+pub mod Outside
 pub mod Doors
 pub mod Frames
 pub mod Next

@@ -1,5 +1,5 @@
 -- A connection that is served: the whole frames of an input, and one reply to each.
-use Rattle.std.specs.Prelude.{◌≡◌, ◌⊎◌, ℕ, ◌-◌, ◌^◌, ◌<◌, ◌≤◌, List, [], ◌∷◌, ◌++◌, length, map, All, Option, Some}
+use Rattle.std.specs.Prelude.{◌≡◌, ◌⊎◌, ℕ, ◌-◌, ◌^◌, ◌<◌, ◌≤◌, List, [], ◌∷◌, ◌++◌, length, map, All, Some, ⊤}
 use Rattle.std.specs.Int.{w32, to_be_bytes}
 use Rattle.std.specs.Io.KnownBytes.{Appends, Consumes, IsAtEnd}
 use Rattle.frame_link.specs.declared.outcome.Outcome.{Outcome}
@@ -7,15 +7,16 @@ use Rattle.frame_link.specs.declared.outcome.Outcome.TheVariants.{End, Truncated
 use Rattle.frame_link.specs.declared.service.TheConstants.{MAX_PAYLOAD}
 use Rattle.frame_link.specs.Faults.{Rose}
 use Rattle.frame_link.specs.Frames.{frame, framed, IsPart, Splits}
+use Rattle.frame_link.specs.Streams.{Stream}
 
--- what the input has left, what the output holds, and who answers
+-- an input, an output, and who answers
 pub record Line (S : Type 0) : Type 0 where
-  pub input : Option (List ℕ)
-  pub output : Option (List ℕ)
+  pub input : Stream
+  pub output : Stream
   pub service : S
 
 -- a line of these
-abbrev pub line : {S : Type 0} → Option (List ℕ) → Option (List ℕ) → S → Line S
+abbrev pub line : {S : Type 0} → Stream → Stream → S → Line S
 line input output service = record { input = input; output = output; service = service }
 
 -- how often the input, the output and the clock have failed
@@ -24,9 +25,10 @@ pub record FaultCounts : Type 0 where
   pub output : ℕ
   pub clock : ℕ
 
--- these counts
-abbrev pub counts : ℕ → ℕ → ℕ → FaultCounts
-counts input output clock = record { input = input; output = output; clock = clock }
+-- those of a line, by how often who answers was failed by its clock
+abbrev pub counts_of : {S : Type 0} → (S → ℕ) → Line S → FaultCounts
+counts_of clock l =
+    record { input = l.input.faults; output = l.output.faults; clock = clock l.service }
 
 -- a frame's payload with its reply
 pub record Turn : Type 0 where
@@ -64,11 +66,11 @@ module _ {S : Type 0} (answers : S → List ℕ → List ℕ → S → Type 0) w
     AreAnswered s payloads turns t _ = (payloads ≡ payloads_of turns) × Chain s turns t
 
 -- what came after the whole frames, by the outcome; of whole frames there are at most so many
-abbrev pub EndsAs : ℕ → List (List ℕ) → List ℕ → Option (List ℕ) → Outcome → Type 0
+abbrev pub EndsAs : ℕ → List (List ℕ) → List ℕ → Stream → Outcome → Type 0
 EndsAs limit payloads rest after (End n) =
-    (rest ≡ []) × (n ≡ length payloads) × IsAtEnd after
+    (rest ≡ []) × (n ≡ length payloads) × IsAtEnd after.told
 EndsAs limit payloads rest after (Truncated have) =
-    IsPart MAX_PAYLOAD rest × (length rest ≡ have) × (0 < have) × IsAtEnd after
+    IsPart MAX_PAYLOAD rest × (length rest ≡ have) × (0 < have) × IsAtEnd after.told
 EndsAs limit payloads rest after (TooLong n) =
     (rest ≡ to_be_bytes w32 n) × (MAX_PAYLOAD < n) × (n < 2 ^ 32)
 EndsAs limit payloads rest after ReadFault = IsPart MAX_PAYLOAD rest
@@ -99,27 +101,27 @@ module _ {S : Type 0} (answers : S → List ℕ → List ℕ → S → Type 0) w
       pub turns : List Turn
       -- the bytes that were put on the output
       pub written : List ℕ
-      pub took : Consumes before.input after.input taken
+      pub took : Consumes before.input.told after.input.told taken
       pub splits : Splits MAX_PAYLOAD taken payloads rest
       pub few : length payloads ≤ limit
       pub ended : EndsAs limit payloads rest after.input outcome
       pub answered : AreAnswered answers gives_up before.service payloads turns after.service
           outcome
       pub went : IsWritten outcome (replies_of turns) written
-      pub wrote : Appends before.output after.output written
+      pub wrote : Appends before.output.told after.output.told written
 
 -- when a fault may be answered: its count rose, and each other stayed as it was
-abbrev pub HasCauses : FaultCounts → FaultCounts → Outcome → Type 0
-HasCauses before after ReadFault =
+abbrev pub CountsCause : FaultCounts → FaultCounts → Outcome → Type 0
+CountsCause before after ReadFault =
     (before.input ≤ after.input) × Rose before.input after.input
     × (after.output ≡ before.output) × (after.clock ≡ before.clock)
-HasCauses before after WriteFault =
+CountsCause before after WriteFault =
     (before.output ≤ after.output) × Rose before.output after.output
     × (after.input ≡ before.input) × (after.clock ≡ before.clock)
-HasCauses before after ClockFault =
+CountsCause before after ClockFault =
     (before.clock ≤ after.clock) × Rose before.clock after.clock
     × (after.input ≡ before.input) × (after.output ≡ before.output)
-HasCauses before after _ = after ≡ before
+CountsCause before after _ = after ≡ before
 
 -- no count rose, and none stands at the largest u64
 pub record StandStill (before after : FaultCounts) : Type 0 where
@@ -128,11 +130,29 @@ pub record StandStill (before after : FaultCounts) : Type 0 where
   pub output : before.output < 2 ^ 64 - 1
   pub clock : before.clock < 2 ^ 64 - 1
 
--- Nothing else ends a connection early: where the input is whole frames, not more than may be
--- answered, and no count rises, each is answered, unless memory was refused before the first.
-abbrev pub IsComplete : ℕ → Option (List ℕ) → FaultCounts → FaultCounts → Outcome → Type 0
-IsComplete limit input before after outcome =
-    (payloads : List (List ℕ)) → input ≡ Some (framed payloads)
-    → All (λ p. length p ≤ MAX_PAYLOAD) payloads → length payloads ≤ limit
-    → StandStill before after
-    → (outcome ≡ End (length payloads)) ⊎ (outcome ≡ NoMemory)
+-- the outcome is one of the three faults
+abbrev pub IsFault : Outcome → Type 0
+IsFault ReadFault = ⊤
+IsFault WriteFault = ⊤
+IsFault ClockFault = ⊤
+IsFault _ = ⊥
+
+module _ {S : Type 0} (clock : S → ℕ) where
+  -- the same of the two ends of a line: the counts are of the same input, output and clock as what
+  -- was read and written
+  abbrev pub HasCauses : (before after : Line S) → Outcome → Type 0
+  HasCauses before after outcome =
+      CountsCause (counts_of clock before) (counts_of clock after) outcome
+
+  -- nothing fails from the one to the other
+  abbrev pub StaysSound : (before after : Line S) → Type 0
+  StaysSound before after = StandStill (counts_of clock before) (counts_of clock after)
+
+  -- Nothing else ends a connection early: where the input is whole frames, not more than may be
+  -- answered, and no count rises, each is answered, unless memory was refused before the first.
+  abbrev pub IsComplete : ℕ → (before after : Line S) → Outcome → Type 0
+  IsComplete limit before after outcome =
+      (payloads : List (List ℕ)) → before.input.told ≡ Some (framed payloads)
+      → All (λ p. length p ≤ MAX_PAYLOAD) payloads → length payloads ≤ limit
+      → StaysSound before after
+      → (outcome ≡ End (length payloads)) ⊎ (outcome ≡ NoMemory)

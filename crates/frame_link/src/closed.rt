@@ -3,8 +3,8 @@
 ghost use Rattle.std.specs.Prelude.{◌≡◌, ◌≤◌, List, ℕ, [], length, Option, None, Some, IfOk, IsErr};
 ghost use Rattle.frame_link.specs.Faults.{HasCause};
 ghost use Rattle.frame_link.specs.Plan.{counted};
-ghost use Rattle.frame_link.specs.Relay.{Said, AnswersAs, HasRelayCode};
-ghost use Rattle.frame_link.specs.Doors.{GivesNext, TakesBack};
+ghost use Rattle.frame_link.specs.Relay.{Link, Reseals, HasRelayCode, link};
+ghost use Rattle.frame_link.specs.Doors.{GivesNext, TakesBack, door_of};
 
 use crate::outside::{Door, Failed, RelayAnswer, RelayLink, Sink, Source};
 use arrayvec::ArrayVec;
@@ -40,22 +40,23 @@ impl NoRelay {
 }
 
 impl RelayLink for NoRelay {
-    ghost says = { λ _. None };
-
-    ghost faults = { λ r. r };
+    ghost shown = { λ r. link None r r };
 
     fn reseal(
         &mut self,
-        _node: u32,
-        _sealed: &[u8],
+        node: u32,
+        sealed: &[u8],
         out: &mut ArrayVec<u8, 2048>,
     ) -> Result<RelayAnswer, Failed>
+        ensures reseals { Reseals (link None self.old self.old) (link None self.new self.new) node
+            sealed.now result out.new.items }
         ensures fails { IsErr result }
         ensures count { self.new ≡ counted self.old }
         ensures empty { out.new.items ≡ [] }
         ensures codes { IfOk result HasRelayCode }
         ensures cause { HasCause self.old self.new result }
     {
+        let (_node, _sealed) = (node, sealed);
         out.clear();
         self.faults = self.faults.saturating_add(1);
         Err(Failed)
@@ -86,13 +87,7 @@ impl<I: Source + Send + Drop, O: Sink + Send + Drop> Door for ClosedDoor<I, O> {
 
     type Out = O;
 
-    ghost left = { λ _. Some [] };
-
-    ghost given = { λ _. 0 };
-
-    ghost back = { λ _. Some [] };
-
-    ghost faults = { λ _. 0 };
+    ghost shown = { λ _. door_of (Some []) (Some []) 0 0 };
 
     fn accept(&mut self) -> Result<Option<(I, O)>, Failed>
         ensures { result ≡ Ok None }

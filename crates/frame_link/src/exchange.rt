@@ -2,7 +2,6 @@
 
 ghost use Rattle.std.specs.Prelude.{◌≡◌, ◌<◌, ◌^◌, length};
 ghost use Rattle.frame_link.specs.Exchange.{Exchanges, streams};
-ghost use Rattle.frame_link.specs.Streams.{stream};
 
 use crate::frame::{FrameBuf, Next, Put, next_frame, put_frame};
 use crate::outside::{Failed, Sink, Source};
@@ -15,10 +14,8 @@ pub fn exchange_frames<I: Source, O: Sink>(
 ) -> Result<(), Failed>
     requires { length buf.old.payload < 2 ^ 32 }
     ensures exchanges { Exchanges buf.old.limit buf.old.payload
-        (streams (stream (I.left input.old) (I.faults input.old))
-        (stream (O.written output.old) (O.faults output.old)))
-        (streams (stream (I.left input.new) (I.faults input.new))
-        (stream (O.written output.new) (O.faults output.new))) result buf.new.payload }
+        (streams (I.shown input.old) (O.shown output.old))
+        (streams (I.shown input.new) (O.shown output.new)) result buf.new.payload }
     ensures limit { buf.new.limit ≡ buf.old.limit }
 {
     match put_frame(output, buf.payload()) {

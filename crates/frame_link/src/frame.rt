@@ -48,13 +48,13 @@ fn length_of(word: [u8; 4]) -> u32
 // long the payload is.
 fn next_into<S: Source>(source: &mut S, room: &mut [u8]) -> Result<usize, Next>
     ensures bound { IfOk result (λ n. n ≤ length room.new) }
-    ensures frame { IfOk result (λ n. TakesFrame (length room.old) (S.left source.old)
-        (S.left source.new) (take n room.new) Frame) }
+    ensures frame { IfOk result (λ n. TakesFrame (length room.old) (S.shown source.old)
+        (S.shown source.new) (take n room.new) Frame) }
     ensures other { IfErr result (λ next.
-        TakesFrame (length room.old) (S.left source.old) (S.left source.new) [] next) }
+        TakesFrame (length room.old) (S.shown source.old) (S.shown source.new) [] next) }
     ensures is_other { IfErr result (λ next. next ≢ Frame) }
-    ensures cause { MatchResult result (λ _. S.faults source.new ≡ S.faults source.old)
-        (λ next. HasReadCause (S.faults source.old) (S.faults source.new) next) }
+    ensures cause { MatchResult result (λ _. (S.shown source.new).faults ≡ (S.shown source.old).faults)
+        (λ next. HasReadCause (S.shown source.old) (S.shown source.new) next) }
 {
     let mut word = [0u8; 4];
     match fill(source, &mut word) {
@@ -133,9 +133,9 @@ impl FrameBuf {
 /// empty.
 pub fn next_frame<S: Source>(source: &mut S, buf: &mut FrameBuf) -> Next
     ensures limit { buf.new.limit ≡ buf.old.limit }
-    ensures bytes { TakesFrame buf.old.limit (S.left source.old) (S.left source.new) buf.new.payload
+    ensures bytes { TakesFrame buf.old.limit (S.shown source.old) (S.shown source.new) buf.new.payload
         result }
-    ensures cause { HasReadCause (S.faults source.old) (S.faults source.new) result }
+    ensures cause { HasReadCause (S.shown source.old) (S.shown source.new) result }
 {
     match next_into(source, &mut buf.room) {
         Ok(len) => {
@@ -175,8 +175,8 @@ fn lay_frame(room: &mut [u8], payload: &[u8]) -> usize
 // Writes a frame in one piece.
 fn put_small<K: Sink>(sink: &mut K, payload: &[u8]) -> Put
     requires { 4 + length payload.now ≤ SMALL_FRAME }
-    ensures bytes { Puts (K.written sink.old) (K.written sink.new) payload.now result }
-    ensures cause { HasWriteCause (K.faults sink.old) (K.faults sink.new) result }
+    ensures bytes { Puts (K.shown sink.old) (K.shown sink.new) payload.now result }
+    ensures cause { HasWriteCause (K.shown sink.old) (K.shown sink.new) result }
 {
     let mut room = [0u8; SMALL_FRAME];
     let end = lay_frame(&mut room, payload);
@@ -189,8 +189,8 @@ fn put_small<K: Sink>(sink: &mut K, payload: &[u8]) -> Put
 // Writes a frame in two pieces, without a copy of its payload.
 fn put_large<K: Sink>(sink: &mut K, payload: &[u8]) -> Put
     requires { length payload.now < 2 ^ 32 }
-    ensures bytes { Puts (K.written sink.old) (K.written sink.new) payload.now result }
-    ensures cause { HasWriteCause (K.faults sink.old) (K.faults sink.new) result }
+    ensures bytes { Puts (K.shown sink.old) (K.shown sink.new) payload.now result }
+    ensures cause { HasWriteCause (K.shown sink.old) (K.shown sink.new) result }
 {
     let word = (payload.len() as u32).to_be_bytes();
     match pour(sink, &word) {
@@ -206,8 +206,8 @@ fn put_large<K: Sink>(sink: &mut K, payload: &[u8]) -> Put
 /// with two. After a fault a proper front of the frame was written.
 pub fn put_frame<K: Sink>(sink: &mut K, payload: &[u8]) -> Put
     requires { length payload.now < 2 ^ 32 }
-    ensures bytes { Puts (K.written sink.old) (K.written sink.new) payload.now result }
-    ensures cause { HasWriteCause (K.faults sink.old) (K.faults sink.new) result }
+    ensures bytes { Puts (K.shown sink.old) (K.shown sink.new) payload.now result }
+    ensures cause { HasWriteCause (K.shown sink.old) (K.shown sink.new) result }
 {
     if 4 + payload.len() <= SMALL_FRAME {
         put_small(sink, payload)

@@ -1,10 +1,12 @@
 //! The traits of the outside, frames over them, and objects in memory that implement them.
 #![tactic(auto)]
 
+mod around;
 mod closed;
 mod exchange;
 mod fault_plan;
 mod frame;
+mod lent;
 mod limit_laws;
 mod limits;
 mod mem_clock;
@@ -12,11 +14,13 @@ mod mem_door;
 mod mem_sink;
 mod mem_source;
 mod outcome;
+mod outcome_laws;
 mod outside;
 mod service;
 mod serving;
 mod whole;
 
+pub use around::Outside;
 pub use closed::{ClosedDoor, NoRelay};
 pub use exchange::exchange_frames;
 pub use frame::{FrameBuf, Next, Put, SMALL_FRAME, next_frame, one_reading, put_frame};
@@ -27,6 +31,7 @@ pub use mem_door::MemDoor;
 pub use mem_sink::MemSink;
 pub use mem_source::MemSource;
 pub use outcome::Outcome;
+pub use outcome_laws::steady_counts_cause_no_fault;
 pub use outside::{Clock, Door, Failed, RelayAnswer, RelayLink, Sink, Source};
 pub use service::{MAX_PAYLOAD, Service};
 pub use serving::serve_frames;

@@ -4,6 +4,7 @@ ghost use Rattle.std.specs.Prelude.{◌≡◌, ◌<◌, List, ℕ, length, Optio
 ghost use Rattle.frame_link.specs.Faults.{HasCause};
 ghost use Rattle.frame_link.specs.Plan.{plan_of};
 ghost use Rattle.frame_link.specs.Readings.{Reads};
+ghost use Rattle.frame_link.specs.Streams.{stream};
 ghost use Rattle.frame_link.specs.Times.{TellsTime};
 
 use crate::fault_plan::FaultPlan;
@@ -53,9 +54,7 @@ impl MemClock {
 }
 
 impl Clock for MemClock {
-    ghost readings = { λ c. Some c.readings };
-
-    ghost faults = { λ c. c.plan.faults };
+    ghost shown = { λ c. stream (Some c.readings) c.plan.faults };
 
     fn now(&mut self) -> Result<u64, Failed>
         ensures reading { Reads (Some self.old.readings) (Some self.new.readings) result }

@@ -4,7 +4,7 @@ ghost use Rattle.std.specs.Prelude.{◌≡◌, ◌≤◌, List, ℕ, [], length,
 ghost use Rattle.frame_link.specs.Faults.{HasCause};
 ghost use Rattle.frame_link.specs.Plan.{plan_of};
 ghost use Rattle.frame_link.specs.Doors.{GivesNext, TakesBack};
-ghost use Rattle.frame_link.specs.Hall.{Admits, KeepsBack};
+ghost use Rattle.frame_link.specs.Hall.{Admits, KeepsBack, shown_hall};
 
 use crate::fault_plan::FaultPlan;
 use crate::outside::{Door, Failed, Sink, Source};
@@ -84,18 +84,11 @@ impl<I: Source + Send + Drop, O: Sink + Send + Drop> Door for MemDoor<I, O> {
 
     type Out = O;
 
-    ghost left = { λ d. Some d.left };
-
-    ghost given = { λ d. d.given };
-
-    ghost back = { λ d. Some d.back };
-
-    ghost faults = { λ d. d.plan.faults };
+    ghost shown = { λ d. shown_hall d };
 
     fn accept(&mut self) -> Result<Option<(I, O)>, Failed>
-        ensures gives { GivesNext (Some self.old.left) (Some self.new.left)
-            self.old.given self.new.given result }
-        ensures back { Some self.new.back ≡ Some self.old.back }
+        ensures gives { GivesNext (shown_hall self.old) (shown_hall self.new) result }
+        ensures back { (shown_hall self.new).back ≡ (shown_hall self.old).back }
         ensures cause { HasCause self.old.plan.faults self.new.plan.faults result }
         ensures exact { Admits self.old self.new result }
     {
@@ -108,11 +101,9 @@ impl<I: Source + Send + Drop, O: Sink + Send + Drop> Door for MemDoor<I, O> {
     }
 
     fn done(&mut self, input: I, output: O)
-        ensures back { TakesBack (Some self.old.back) (Some self.new.back) self.old.given
-            (input, output) }
-        ensures left { Some self.new.left ≡ Some self.old.left }
-        ensures given { self.new.given ≡ self.old.given }
-        ensures faults { self.new.plan.faults ≡ self.old.plan.faults }
+        ensures back { TakesBack (shown_hall self.old) (shown_hall self.new) (input, output) }
+        ensures rest { shown_hall self.new
+            ≡ record (shown_hall self.old) { back = (shown_hall self.new).back } }
         ensures exact { KeepsBack self.old self.new (input, output) }
     {
         if self.kept.len() < self.given {

@@ -6,6 +6,7 @@ ghost use Rattle.std.specs.Io.KnownBytes.{WriteAppends};
 ghost use Rattle.frame_link.specs.Faults.{HasCause};
 ghost use Rattle.frame_link.specs.Plan.{plan_of};
 ghost use Rattle.frame_link.specs.Store.{Stores};
+ghost use Rattle.frame_link.specs.Streams.{stream};
 
 use crate::fault_plan::FaultPlan;
 use crate::outside::{Failed, Sink};
@@ -64,9 +65,7 @@ impl MemSink {
 }
 
 impl Sink for MemSink {
-    ghost written = { λ s. Some s.written };
-
-    ghost faults = { λ s. s.plan.faults };
+    ghost shown = { λ s. stream (Some s.written) s.plan.faults };
 
     fn write(&mut self, piece: &[u8]) -> Result<usize, Failed>
         ensures bound { WritesAtMost result piece.now }

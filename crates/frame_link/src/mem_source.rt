@@ -5,6 +5,7 @@ ghost use Rattle.std.specs.Io.{ReadsAtMost};
 ghost use Rattle.std.specs.Io.KnownBytes.{ReadConsumes};
 ghost use Rattle.frame_link.specs.Faults.{HasCause};
 ghost use Rattle.frame_link.specs.Plan.{plan_of};
+ghost use Rattle.frame_link.specs.Streams.{stream};
 ghost use Rattle.frame_link.specs.Supply.{most_of, Supplies};
 
 use crate::fault_plan::FaultPlan;
@@ -81,9 +82,7 @@ fn next_most(chunks: &mut VecDeque<usize>, room: usize) -> usize
 }
 
 impl Source for MemSource {
-    ghost left = { λ s. Some s.left };
-
-    ghost faults = { λ s. s.plan.faults };
+    ghost shown = { λ s. stream (Some s.left) s.plan.faults };
 
     fn read(&mut self, into: &mut [u8]) -> Result<usize, Failed>
         ensures bound { ReadsAtMost result into.new }

@@ -1,13 +1,15 @@
-//! What the program reads from, writes to and takes the time from. Each counts its faults, and may
-//! tell what it has left or holds.
+//! What the program reads from, writes to and takes the time from. Each shows one record: what it
+//! tells, and how often it has failed.
 
-ghost use Rattle.std.specs.Prelude.{◌≡◌, ◌<◌, ◌≤◌, List, ℕ, length, IfOk, Option};
+ghost use Rattle.std.specs.Prelude.{◌≡◌, ◌<◌, ◌≤◌, length, IfOk};
 ghost use Rattle.std.specs.Io.{ReadsAtMost, WritesAtMost};
 ghost use Rattle.std.specs.Io.KnownBytes.{ReadConsumes, WriteAppends};
 ghost use Rattle.frame_link.specs.Faults.{HasCause};
+ghost use Rattle.frame_link.specs.Lent.{Lent, Nothing};
 ghost use Rattle.frame_link.specs.Readings.{Reads};
-ghost use Rattle.frame_link.specs.Relay.{Said, AnswersAs, HasRelayCode};
-ghost use Rattle.frame_link.specs.Doors.{GivesNext, TakesBack};
+ghost use Rattle.frame_link.specs.Relay.{Link, Reseals, HasRelayCode};
+ghost use Rattle.frame_link.specs.Doors.{DoorSeen, GivesNext, TakesBack};
+ghost use Rattle.frame_link.specs.Streams.{Stream};
 
 use arrayvec::ArrayVec;
 
@@ -17,44 +19,47 @@ pub struct Failed;
 
 pub trait Source {
     /// The bytes that are left, where the source tells them.
-    ghost left: { Self → Option (List ℕ) };
+    ghost shown: { Self → Stream };
 
-    /// How often a call has failed.
-    ghost faults: { Self → ℕ };
+    /// What it borrows to change, where its owner is to know what became of that.
+    ghost borrows: { Self → Lent } = { λ _. Nothing };
 
     /// Takes the next bytes. `Ok(0)` with room is the end.
     fn read(&mut self, into: &mut [u8]) -> Result<usize, Failed>
         ensures bound { ReadsAtMost result into.new }
-        ensures bytes { ReadConsumes (left self.old) (left self.new) result into.new }
-        ensures cause { HasCause (faults self.old) (faults self.new) result };
+        ensures bytes { ReadConsumes (shown self.old).told (shown self.new).told result into.new }
+        ensures cause { HasCause (shown self.old).faults (shown self.new).faults result }
+        ensures same { borrows self.new ≡ borrows self.old };
 }
 
 pub trait Sink {
     /// The bytes that were written, where the sink tells them.
-    ghost written: { Self → Option (List ℕ) };
+    ghost shown: { Self → Stream };
 
-    /// How often a call has failed.
-    ghost faults: { Self → ℕ };
+    /// As of a source.
+    ghost borrows: { Self → Lent } = { λ _. Nothing };
 
     /// Appends bytes of the front, at least one of some.
     fn write(&mut self, piece: &[u8]) -> Result<usize, Failed>
         ensures bound { WritesAtMost result piece.now }
         ensures some { IfOk result (λ n. 0 < length piece.now → 0 < n) }
-        ensures bytes { WriteAppends (written self.old) (written self.new) result piece.now }
-        ensures cause { HasCause (faults self.old) (faults self.new) result };
+        ensures bytes { WriteAppends (shown self.old).told (shown self.new).told result piece.now }
+        ensures cause { HasCause (shown self.old).faults (shown self.new).faults result }
+        ensures same { borrows self.new ≡ borrows self.old };
 }
 
 pub trait Clock {
     /// The readings that are left, where the clock tells them. The last one repeats.
-    ghost readings: { Self → Option (List ℕ) };
+    ghost shown: { Self → Stream };
 
-    /// How often a call has failed.
-    ghost faults: { Self → ℕ };
+    /// As of a source.
+    ghost borrows: { Self → Lent } = { λ _. Nothing };
 
     /// Seconds since 1970. Readings may go back.
     fn now(&mut self) -> Result<u64, Failed>
-        ensures reading { Reads (readings self.old) (readings self.new) result }
-        ensures cause { HasCause (faults self.old) (faults self.new) result };
+        ensures reading { Reads (shown self.old).told (shown self.new).told result }
+        ensures cause { HasCause (shown self.old).faults (shown self.new).faults result }
+        ensures same { borrows self.new ≡ borrows self.old };
 }
 
 /// What a relay said of a certificate.
@@ -69,12 +74,12 @@ pub enum RelayAnswer {
 }
 
 pub trait RelayLink {
-    /// What the relay says of a node's certificate and the new one that it gives, where the link
-    /// tells it.
-    ghost says: { Self → Option (ℕ → List ℕ → Said) };
+    /// What the relay says, where the link tells it, how often it was called, and how often a call
+    /// has failed.
+    ghost shown: { Self → Link };
 
-    /// How often a call has failed.
-    ghost faults: { Self → ℕ };
+    /// As of a source.
+    ghost borrows: { Self → Lent } = { λ _. Nothing };
 
     /// Asks for a certificate to be sealed for a node.
     fn reseal(
@@ -84,10 +89,11 @@ pub trait RelayLink {
         out: &mut ArrayVec<u8, 2048>,
     ) -> Result<RelayAnswer, Failed>
         requires { length sealed.now ≤ 65531 }
-        ensures answer { AnswersAs (says self.old) node sealed.now result out.new.items }
+        ensures reseals { Reseals (shown self.old) (shown self.new) node sealed.now result
+            out.new.items }
         ensures codes { IfOk result HasRelayCode }
-        ensures same { says self.new ≡ says self.old }
-        ensures cause { HasCause (faults self.old) (faults self.new) result };
+        ensures cause { HasCause (shown self.old).faults (shown self.new).faults result }
+        ensures same { borrows self.new ≡ borrows self.old };
 }
 
 pub trait Door {
@@ -95,30 +101,21 @@ pub trait Door {
 
     type Out: Sink + Send;
 
-    /// The connections that are left, in order, where the door tells them.
-    ghost left: { Self → Option (List (Self.In × Self.Out)) };
-
-    /// How many connections it gave. Where it does not tell what is left, the count may stand still
-    /// at the last value of 64 bits.
-    ghost given: { Self → ℕ };
-
-    /// The connections that were given back, in order, where the door tells them.
-    ghost back: { Self → Option (List (Self.In × Self.Out)) };
-
-    /// How often a call has failed.
-    ghost faults: { Self → ℕ };
+    /// The connections that are left and those that were given back, where the door tells them, and
+    /// how many it gave. Where it does not tell what is left, the count may stand still at the last
+    /// value of 64 bits.
+    ghost shown: { Self → DoorSeen (Self.In × Self.Out) };
 
     /// The next connection. `None` is the end.
     fn accept(&mut self) -> Result<Option<(Self::In, Self::Out)>, Failed>
-        ensures gives { GivesNext (left self.old) (left self.new) (given self.old) (given self.new)
-            result }
-        ensures back { back self.new ≡ back self.old }
-        ensures cause { HasCause (faults self.old) (faults self.new) result };
+        ensures gives { GivesNext (shown self.old) (shown self.new) result }
+        ensures back { (shown self.new).back ≡ (shown self.old).back }
+        ensures cause { HasCause (shown self.old).faults (shown self.new).faults result };
 
     /// Takes a served connection back.
     fn done(&mut self, input: Self::In, output: Self::Out)
-        ensures back { TakesBack (back self.old) (back self.new) (given self.old) (input, output) }
-        ensures left { left self.new ≡ left self.old }
-        ensures given { given self.new ≡ given self.old }
-        ensures faults { faults self.new ≡ faults self.old };
+        ensures back { TakesBack (shown self.old) (shown self.new) (input, output) }
+
+        // Nothing else changes.
+        ensures rest { shown self.new ≡ record (shown self.old) { back = (shown self.new).back } };
 }

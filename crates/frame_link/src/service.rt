@@ -1,7 +1,8 @@
 //! Who answers the payloads of a connection.
 
-ghost use Rattle.std.specs.Prelude.{◌≡◌, ◌<◌, ◌≤◌, ◌^◌, ℕ, List, [], length, OnOk, OnErr};
+ghost use Rattle.std.specs.Prelude.{◌≡◌, ◌<◌, ◌≤◌, ◌^◌, ℕ, List, length, OnOk, OnErr};
 ghost use Rattle.frame_link.specs.Faults.{HasCause};
+ghost use Rattle.frame_link.specs.Lent.{Lent, Nothing};
 
 use crate::outside::Failed;
 
@@ -24,9 +25,8 @@ pub trait Service {
     /// What has to hold of it before each payload.
     ghost stands: { Self → Type 0 } = { λ _. Unit {0} };
 
-    /// The ghost names of what it borrows to change, where its owner is to know what became of
-    /// that.
-    ghost borrows: { Self → List ℕ } = { λ _. [] };
+    /// What it borrows to change, where its owner is to know what became of that.
+    ghost borrows: { Self → Lent } = { λ _. Nothing };
 
     /// Answers a payload, or gives it up since the clock failed. Any other want is told in the
     /// reply.

@@ -2,7 +2,7 @@
 
 ghost use Rattle.std.specs.Prelude.{◌≡◌, ◌≢◌};
 ghost use Rattle.frame_link.specs.declared.outcome.Outcome.TheVariants.{NoMemory};
-ghost use Rattle.frame_link.specs.Served.{line, counts, IsServed, HasCauses, IsComplete};
+ghost use Rattle.frame_link.specs.Served.{line, IsServed, HasCauses, IsComplete};
 
 use crate::frame::{FrameBuf, Next, Put, next_frame, put_frame};
 use crate::outcome::Outcome;
@@ -20,11 +20,11 @@ fn answer_frames<S: Service, I: Source, O: Sink>(
     requires stands { S.stands service.old }
     requires limit { buf.old.limit ≡ MAX_PAYLOAD }
     ensures served { IsServed S.answers S.gives_up frames
-        (line (I.left input.old) (O.written output.old) service.old)
-        (line (I.left input.new) (O.written output.new) service.new) result }
-    ensures causes { HasCauses
-        (counts (I.faults input.old) (O.faults output.old) (S.faults service.old))
-        (counts (I.faults input.new) (O.faults output.new) (S.faults service.new)) result }
+        (line (I.shown input.old) (O.shown output.old) service.old)
+        (line (I.shown input.new) (O.shown output.new) service.new) result }
+    ensures causes { HasCauses S.faults
+        (line (I.shown input.old) (O.shown output.old) service.old)
+        (line (I.shown input.new) (O.shown output.new) service.new) result }
     ensures memory { result ≢ NoMemory }
     ensures stays { S.stands service.new }
     ensures same { S.borrows service.new ≡ S.borrows service.old }
@@ -67,14 +67,14 @@ pub fn serve_frames<S: Service, I: Source, O: Sink>(
     requires stands { S.stands service.old }
     requires limit { buf.old.limit ≡ MAX_PAYLOAD }
     ensures served { IsServed S.answers S.gives_up frames
-        (line (I.left input.old) (O.written output.old) service.old)
-        (line (I.left input.new) (O.written output.new) service.new) result }
-    ensures causes { HasCauses
-        (counts (I.faults input.old) (O.faults output.old) (S.faults service.old))
-        (counts (I.faults input.new) (O.faults output.new) (S.faults service.new)) result }
-    ensures complete { IsComplete frames (I.left input.old)
-        (counts (I.faults input.old) (O.faults output.old) (S.faults service.old))
-        (counts (I.faults input.new) (O.faults output.new) (S.faults service.new)) result }
+        (line (I.shown input.old) (O.shown output.old) service.old)
+        (line (I.shown input.new) (O.shown output.new) service.new) result }
+    ensures causes { HasCauses S.faults
+        (line (I.shown input.old) (O.shown output.old) service.old)
+        (line (I.shown input.new) (O.shown output.new) service.new) result }
+    ensures complete { IsComplete S.faults frames
+        (line (I.shown input.old) (O.shown output.old) service.old)
+        (line (I.shown input.new) (O.shown output.new) service.new) result }
     ensures memory { result ≢ NoMemory }
 
     // What stays as it has to be for the next connection.

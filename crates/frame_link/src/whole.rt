@@ -8,11 +8,11 @@ use crate::outside::{Failed, Sink, Source};
 pub fn fill<S: Source>(source: &mut S, room: &mut [u8]) -> Result<usize, Failed>
     ensures bound { IfOk result (λ n. n ≤ length room.new) }
     ensures bytes { IfOk result
-        (λ n. Consumes (S.left source.old) (S.left source.new) (take n room.new)) }
-    ensures end { IfOk result (λ n. n < length room.new → IsAtEnd (S.left source.new)) }
+        (λ n. Consumes (S.shown source.old).told (S.shown source.new).told (take n room.new)) }
+    ensures end { IfOk result (λ n. n < length room.new → IsAtEnd (S.shown source.new).told) }
     ensures part { OnErr result ((part : List ℕ) × (length part < length room.new)
-        × Consumes (S.left source.old) (S.left source.new) part) }
-    ensures cause { HasCause (S.faults source.old) (S.faults source.new) result }
+        × Consumes (S.shown source.old).told (S.shown source.new).told part) }
+    ensures cause { HasCause (S.shown source.old).faults (S.shown source.new).faults result }
 {
     let mut have = 0;
     while have < room.len() {
@@ -27,10 +27,10 @@ pub fn fill<S: Source>(source: &mut S, room: &mut [u8]) -> Result<usize, Failed>
 
 /// Writes all of a piece.
 pub fn pour<K: Sink>(sink: &mut K, piece: &[u8]) -> Result<(), Failed>
-    ensures all { OnOk result (Appends (K.written sink.old) (K.written sink.new) piece.now) }
+    ensures all { OnOk result (Appends (K.shown sink.old).told (K.shown sink.new).told piece.now) }
     ensures part { OnErr result ((part more : List ℕ) × (piece.now ≡ part ++ more)
-        × (0 < length more) × Appends (K.written sink.old) (K.written sink.new) part) }
-    ensures cause { HasCause (K.faults sink.old) (K.faults sink.new) result }
+        × (0 < length more) × Appends (K.shown sink.old).told (K.shown sink.new).told part) }
+    ensures cause { HasCause (K.shown sink.old).faults (K.shown sink.new).faults result }
 {
     let mut done = 0;
     while done < piece.len() {

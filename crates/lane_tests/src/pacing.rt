@@ -1,6 +1,7 @@
 //! An input that waits for another lane's answers, so often and no longer.
 
 ghost use Rattle.std.specs.Prelude.{None};
+ghost use Rattle.frame_link.specs.Streams.{stream};
 
 use frame_link::{Failed, MemSource, Source};
 use std::alloc::Global;
@@ -70,9 +71,7 @@ impl Paced {
 }
 
 impl Source for Paced {
-    ghost left = { λ _. None };
-
-    ghost faults = { λ _. 0 };
+    ghost shown = { λ _. stream None 0 };
 
     fn read(&mut self, into: &mut [u8]) -> Result<usize, Failed> {
         let count = self.frame.read(into).unwrap_or(0);

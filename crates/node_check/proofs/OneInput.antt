@@ -5,18 +5,17 @@ use Rattle.std.specs.Int.{w32, to_be_bytes}
 use Rattle.frame_link.specs.declared.frame.Next.{Next}
 use Rattle.frame_link.specs.declared.frame.Next.TheVariants as next
 use Rattle.frame_link.specs.Frames.{frame, IsPart, IsTooLong, in_word}
-use Rattle.frame_link.specs.Next.{TakesFrame}
 use Rattle.frame_link.proofs.Splits.{word_once, same_front, no_frame}
 use Rattle.node_file.specs.Opening.{Opening}
 use Rattle.node_check.specs.declared.finding.Finding.{Finding}
 use Rattle.node_check.specs.Checking.{Finds}
 use Rattle.frame_link.specs.declared.service.TheConstants.{MAX_PAYLOAD}
-use Rattle.node_check.specs.Findings.{IsMissing, TakesOne, TakesFrames, Shows}
+use Rattle.node_check.specs.Findings.{IsMissing, TakesNext, TakesOne, TakesFrames, Shows}
 use Rattle.node_check.specs.declared.check.TheConstants.{MAX_REPLY}
 use Rattle.frame_link.proofs.Complete.{left_after, all_taken}
 use Rattle.node_check.proofs.OneFinding as law
 
-missing_by : (limit : ℕ) (bytes : List ℕ) (x : Option (List ℕ)) (other : Next) → IsMissing other → TakesFrame limit (Some bytes) x [] other → IsPart limit bytes ⊎ IsTooLong limit bytes
+missing_by : (limit : ℕ) (bytes : List ℕ) (x : Option (List ℕ)) (other : Next) → IsMissing other → TakesNext limit (Some bytes) x [] other → IsPart limit bytes ⊎ IsTooLong limit bytes
 missing_by limit bytes x next.End is t = inl (in_word (omega (arith, ap length (all_taken bytes [] x t.0 t.1))))
 missing_by limit bytes x (next.Truncated have) is t = inl (subst (IsPart limit) (sym (all_taken bytes t.0 x t.4 t.5)) t.1)
 missing_by limit bytes x (next.TooLong n) is t =

@@ -6,6 +6,7 @@ use Rattle.frame_link.specs.declared.frame.Next.{Next}
 use Rattle.frame_link.specs.declared.frame.Next.TheVariants as next
 use Rattle.frame_link.specs.Faults.{Rose}
 use Rattle.frame_link.specs.Next.{TakesFrame}
+use Rattle.frame_link.specs.Streams.{stream}
 use Rattle.node_file.specs.Opening.{Opening}
 use Rattle.frame_link.specs.declared.service.TheConstants.{MAX_PAYLOAD}
 use Rattle.node_check.specs.Checking.{Finds}
@@ -54,11 +55,16 @@ IsMissing (next.TooLong n) = Unit {0}
 IsMissing next.Frame = ⊥
 IsMissing next.ReadFault = ⊥
 
+-- what came of the next frame, by what the input has left before and after
+abbrev pub TakesNext : ℕ → (before after : Option (List ℕ)) → List ℕ → Next → Type 0
+TakesNext limit before after payload came =
+    TakesFrame limit (stream before 0) (stream after 0) payload came
+
 -- the payload of the next frame, where that is there
 abbrev pub TakesOne : ℕ → Option (List ℕ) → Option (List ℕ) → Option (List ℕ) → Type 0
-TakesOne limit before after (Some payload) = TakesFrame limit before after payload next.Frame
+TakesOne limit before after (Some payload) = TakesNext limit before after payload next.Frame
 TakesOne limit before after None =
-    (other : Next) × IsMissing other × TakesFrame limit before after [] other
+    (other : Next) × IsMissing other × TakesNext limit before after [] other
 
 -- after a frame that is there, this holds of what the input has left
 pub record TakesBehind (before : Option (List ℕ)) (payload : List ℕ) (Then : Option (List ℕ) →
@@ -77,7 +83,7 @@ TakesFrames before after (Some payload) reply =
 
 -- a read failed in a frame, or memory was refused for one, once its length was read
 abbrev pub HaltsAt : ℕ → Option (List ℕ) → Option (List ℕ) → Halt → Type 0
-HaltsAt limit before after halt.ReadFault = TakesFrame limit before after [] next.ReadFault
+HaltsAt limit before after halt.ReadFault = TakesNext limit before after [] next.ReadFault
 HaltsAt limit before after halt.NoMemory =
     (n : ℕ) × (n ≤ limit) × Consumes before after (to_be_bytes w32 n)
 

@@ -52,11 +52,13 @@ fn room_of(alloc: Global, count: u32) -> Result<Vec<u8>, AllocError>
 
 // The payload of the next frame, where that is there. Its room is taken once its length is known.
 fn frame_of<I: Source>(alloc: Global, limit: u32, input: &mut I) -> Result<Option<Vec<u8>>, Halt>
-    ensures taken { IfOk result (λ found. TakesOne limit (I.left input.old) (I.left input.new)
-        (option_map text_of found)) }
-    ensures halted { IfErr result (HaltsAt limit (I.left input.old) (I.left input.new)) }
-    ensures cause { MatchResult result (λ _. I.faults input.new ≡ I.faults input.old)
-        (HaltCauses (I.faults input.old) (I.faults input.new)) }
+    ensures taken { IfOk result (λ found. TakesOne limit (I.shown input.old).told
+        (I.shown input.new).told (option_map text_of found)) }
+    ensures halted { IfErr result (HaltsAt limit (I.shown input.old).told
+        (I.shown input.new).told) }
+    ensures cause { MatchResult result
+        (λ _. (I.shown input.new).faults ≡ (I.shown input.old).faults)
+        (HaltCauses (I.shown input.old).faults (I.shown input.new).faults) }
 {
     let mut word = [0u8; 4];
     match fill(input, &mut word) {
@@ -91,11 +93,12 @@ fn frames_of<I: Source>(
     alloc: Global,
     input: &mut I,
 ) -> Result<(Option<Vec<u8>>, Option<Vec<u8>>), Halt>
-    ensures taken { IfOk result (λ found. TakesFrames (I.left input.old) (I.left input.new)
-        (option_map text_of found.0) (option_map text_of found.1)) }
-    ensures halted { IfErr result (Halts (I.left input.old) (I.left input.new)) }
-    ensures cause { MatchResult result (λ _. I.faults input.new ≡ I.faults input.old)
-        (HaltCauses (I.faults input.old) (I.faults input.new)) }
+    ensures taken { IfOk result (λ found. TakesFrames (I.shown input.old).told
+        (I.shown input.new).told (option_map text_of found.0) (option_map text_of found.1)) }
+    ensures halted { IfErr result (Halts (I.shown input.old).told (I.shown input.new).told) }
+    ensures cause { MatchResult result
+        (λ _. (I.shown input.new).faults ≡ (I.shown input.old).faults)
+        (HaltCauses (I.shown input.old).faults (I.shown input.new).faults) }
 {
     let request = match frame_of(alloc, MAX_PAYLOAD, input) {
         Ok(Some(request)) => request,
@@ -126,10 +129,10 @@ pub fn check_connection<I: Source, O: Sink>(
     input: &mut I,
     output: &mut O,
 ) -> CheckEnd
-    ensures checks { Checks (opening node.now) (I.left input.old) (I.left input.new)
-        (O.written output.old) (O.written output.new) result }
-    ensures causes { CheckCauses (I.faults input.old) (I.faults input.new)
-        (O.faults output.old) (O.faults output.new) result }
+    ensures checks { Checks (opening node.now) (I.shown input.old).told (I.shown input.new).told
+        (O.shown output.old).told (O.shown output.new).told result }
+    ensures causes { CheckCauses (I.shown input.old).faults (I.shown input.new).faults
+        (O.shown output.old).faults (O.shown output.new).faults result }
 {
     let (request, reply) = match frames_of(alloc, input) {
         Ok(frames) => frames,

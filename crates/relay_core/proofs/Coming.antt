@@ -4,27 +4,28 @@ use Rattle.std.proofs.lemmas.List.Elements.{All-nil, All-cons}
 use Rattle.stmt_codec.specs.Certificates.{Certificate}
 use Rattle.frame_link.specs.Faults.{Rose}
 use Rattle.frame_link.specs.declared.outside.RelayAnswer.{RelayAnswer}
-use Rattle.frame_link.specs.Relay.{Said, Gave, Refuses, IsSaid, AnswersAs}
+use Rattle.frame_link.specs.Relay.{Link, Said, Gave, Refuses, IsSaid, AnswersAs, Reseals}
+use Rattle.frame_link.proofs.Counted.{counted_one}
 use Rattle.sealed_cert.specs.Seals.{Opens}
 use Rattle.relay_core.specs.declared.presenting.Unpresented.{Unpresented}
 use Rattle.relay_core.specs.declared.presenting.Unpresented.TheVariants as reasons
-use Rattle.relay_core.specs.Credentials.{LinkAnswer, Resealed, Refused, link_use, call, Failed, IsIssued, IsResealed, by_node, by_relay, IsRefused, bad_reseal, IsToldAs}
+use Rattle.relay_core.specs.Credentials.{LinkAnswer, Resealed, Refused, Lacked, link_use, call, Failed, IsIssued, IsResealed, by_node, by_relay, IsRefused, bad_reseal, IsToldAs, WasCalled}
 use Rattle.relay_core.specs.Presenting.{IsOneRefused, IsNoReseal, IsOneStopped, OneComes, OneStops}
 use Rattle.relay_core.proofs.Counting.{quiet_linked, none_called, called_once}
 
-module _ (says : Option (ℕ → List ℕ → Said)) (node : ℕ) where
-  pub comes_uncalled : (key text : List ℕ) (n : ℕ) (c : Certificate) → Opens key text c → OneComes key (link_use says node n n) text c
-  comes_uncalled key text n c opens = record { calls = []; comes = by_node opens; quiet = none_called says node n }
+module _ (node : ℕ) where
+  pub comes_uncalled : (key text : List ℕ) (l : Link) (c : Certificate) → Opens key text c → OneComes key (link_use node l l) text c
+  comes_uncalled key text l c opens = record { calls = []; comes = by_node opens; quiet = none_called node l }
 
-  pub comes_by_relay : (key text new : List ℕ) (before now : ℕ) (c : Certificate) → IsToldAs says node (call text (Resealed new)) → now ≡ before → IsResealed key text new c → OneComes key (link_use says node before now) text c
-  comes_by_relay key text new before now c told steady is = record {
+  pub comes_by_relay : (key text new : List ℕ) (before now : Link) (c : Certificate) → WasCalled before now (call text (Resealed new) ∷ []) → IsToldAs before.says node (call text (Resealed new)) → now.faults ≡ before.faults → IsResealed key text new c → OneComes key (link_use node before now) text c
+  comes_by_relay key text new before now c called told steady is = record {
     calls = call text (Resealed new) ∷ [];
     comes = by_relay is;
-    quiet = called_once says node before now (call text (Resealed new)) told (λ e. cc) steady;
+    quiet = called_once node before now (call text (Resealed new)) called told (λ e. cc) steady;
   }
 
-  pub stops_uncalled : (key text : List ℕ) (n : ℕ) (f : Unpresented) → IsOneRefused key text f → OneStops key (link_use says node n n) text f
-  stops_uncalled key text n f why = record { calls = []; stops = alone f why; linked = quiet_linked says node n n [] (none_called says node n) }
+  pub stops_uncalled : (key text : List ℕ) (l : Link) (f : Unpresented) → IsOneRefused key text f → OneStops key (link_use node l l) text f
+  stops_uncalled key text l f why = record { calls = []; stops = alone f why; linked = quiet_linked node l l [] (none_called node l) }
     where
       alone : (f : Unpresented) → IsOneRefused key text f → IsOneStopped key text [] f
       alone (reasons.Refused code) h = h
@@ -32,12 +33,12 @@ module _ (says : Option (ℕ → List ℕ → Said)) (node : ℕ) where
       alone reasons.LinkFailed h = absurd h
 
   -- after a call that did not fail
-  pub stops_called : (key text : List ℕ) (before now : ℕ) (answer : LinkAnswer) (f : Unpresented) → IsIssued text → IsToldAs says node (call text answer) → answer ≢ Failed → now ≡ before →
-      IsOneStopped key text (call text answer ∷ []) f → OneStops key (link_use says node before now) text f
-  stops_called key text before now answer f issued told answered steady why = record {
+  pub stops_called : (key text : List ℕ) (before now : Link) (answer : LinkAnswer) (f : Unpresented) → WasCalled before now (call text answer ∷ []) → IsToldAs before.says node (call text answer) → answer ≢ Failed → now.faults ≡ before.faults →
+      IsOneStopped key text (call text answer ∷ []) f → OneStops key (link_use node before now) text f
+  stops_called key text before now answer f called told answered steady why = record {
     calls = call text answer ∷ [];
     stops = why;
-    linked = quiet_linked says node before now (call text answer ∷ []) (called_once says node before now (call text answer) told answered steady);
+    linked = quiet_linked node before now (call text answer ∷ []) (called_once node before now (call text answer) called told answered steady);
   }
 
   -- new bytes that do not carry what was presented
@@ -46,19 +47,33 @@ module _ (says : Option (ℕ → List ℕ → Said)) (node : ℕ) where
   no_reseal key text new reasons.NoMemory issued h = inr (issued, (Resealed new, (λ e. cc), refl))
   no_reseal key text new reasons.LinkFailed issued h = absurd h
 
-  pub stops_resealed : (key text new : List ℕ) (before now : ℕ) (f : Unpresented) → IsIssued text → IsToldAs says node (call text (Resealed new)) → now ≡ before → IsNoReseal key text new f → OneStops key (link_use says node before now) text f
-  stops_resealed key text new before now f issued told steady why = stops_called key text before now (Resealed new) f issued told (λ e. cc) steady (no_reseal key text new f issued why)
+  pub stops_resealed : (key text new : List ℕ) (before now : Link) (f : Unpresented) → IsIssued text → WasCalled before now (call text (Resealed new) ∷ []) → IsToldAs before.says node (call text (Resealed new)) → now.faults ≡ before.faults → IsNoReseal key text new f →
+      OneStops key (link_use node before now) text f
+  stops_resealed key text new before now f issued called told steady why = stops_called key text before now (Resealed new) f called told (λ e. cc) steady (no_reseal key text new f issued why)
 
-  pub stops_failed : (key text : List ℕ) (before now : ℕ) → IsIssued text → before ≤ now → Rose before now → OneStops key (link_use says node before now) text reasons.LinkFailed
-  stops_failed key text before now issued grew rose = record {
+  pub stops_failed : (key text : List ℕ) (before now : Link) → IsIssued text → WasCalled before now (call text Failed ∷ []) → before.faults ≤ now.faults → Rose before.faults now.faults → OneStops key (link_use node before now) text reasons.LinkFailed
+  stops_failed key text before now issued called grew rose = record {
     calls = call text Failed ∷ [];
     stops = (issued, refl);
-    linked = record { told = All-cons (IsToldAs says node) (call text Failed) [] (fails says) (All-nil (IsToldAs says node)); failed = (now, (grew, rose), refl) };
+    linked = record {
+      called = called;
+      told = All-cons (IsToldAs before.says node) (call text Failed) [] (fails before.says) (All-nil (IsToldAs before.says node));
+      failed = (now.faults, (grew, rose), refl);
+    };
   }
     where
       fails : (s : Option (ℕ → List ℕ → Said)) → IsToldAs s node (call text Failed)
       fails None = tt
       fails (Some f) = tt
+
+-- one call of a link
+pub one_call : {E : Type 0} (before now : Link) (node : ℕ) (text out : List ℕ) (r : Result RelayAnswer E) (answer : LinkAnswer) → Reseals before now node text r out → WasCalled before now (call text answer ∷ [])
+one_call before now node text out r answer reseals = record { made = counted_one before.calls now.calls reseals.calls; says = reseals.says }
+
+-- whatever a link says, it may lack memory
+pub told_lacked : (says : Option (ℕ → List ℕ → Said)) (node : ℕ) (text : List ℕ) → IsToldAs says node (call text Lacked)
+told_lacked None node text = tt
+told_lacked (Some f) node text = tt
 
 -- what a link said is what its answer is told as
 pub said_new : (E : Type 0) (says : Option (ℕ → List ℕ → Said)) (node : ℕ) (text new : List ℕ) → AnswersAs {E = E} says node text (Ok RelayAnswer.Resealed) new → IsToldAs says node (call text (Resealed new))

@@ -1,8 +1,10 @@
 -- What a link is counted by: calls that did not fail, and more of them.
-use Rattle.std.proofs.Common.{◌≡◌, ◌≢◌, ℕ, List, [], ◌∷◌, ◌++◌, All, Option, refl, subst, ◌∙◌}
+use Rattle.std.proofs.Common.{◌≡◌, ◌≢◌, ℕ, List, [], ◌∷◌, ◌++◌, length, All, Option, refl, sym, subst, ◌∙◌, length-append}
 use Rattle.std.proofs.lemmas.List.Elements.{All-nil, All-cons, All-append, All-head, All-tail}
-use Rattle.frame_link.specs.Relay.{Said}
-use Rattle.relay_core.specs.Credentials.{LinkAnswer, Resealed, Refused, Lacked, LinkCall, Failed, IsToldAs, CountsAs, FailedAs, IsLinked, IsQuiet}
+use Rattle.frame_link.specs.Plan.{HasCounted}
+use Rattle.frame_link.specs.Relay.{Link, Said}
+use Rattle.frame_link.proofs.Counted.{counted_none, counted_both}
+use Rattle.relay_core.specs.Credentials.{LinkAnswer, Resealed, Refused, Lacked, LinkCall, Failed, IsToldAs, CountsAs, FailedAs, WasCalled, IsLinked, IsQuiet}
 
 abbrev NoneFailed : List LinkCall → Type 0
 NoneFailed calls = All (λ (c : LinkCall). c.answer ≢ Failed) calls
@@ -23,30 +25,52 @@ none_failed before now [] steady none = steady
 none_failed before now (c ∷ calls) steady none =
     (before, answered_as before c.answer (All-head (λ (d : LinkCall). d.answer ≢ Failed) c calls none), none_failed before now calls steady (All-tail (λ (d : LinkCall). d.answer ≢ Failed) c calls none))
 
-module _ (says : Option (ℕ → List ℕ → Said)) (node : ℕ) where
-  pub quiet_linked : (before now : ℕ) (calls : List LinkCall) → IsQuiet says node before now calls → IsLinked says node before now calls
-  quiet_linked before now calls q = record { told = q.told; failed = none_failed before now calls q.steady q.none }
+-- links that were called for these, and for more
+pub called_both : (before middle now : Link) (first later : List LinkCall) → WasCalled before middle first → WasCalled middle now later → WasCalled before now (first ++ later)
+called_both before middle now first later w x = record {
+  made = subst (λ (n : ℕ). HasCounted n before.calls now.calls) (sym (length-append first later)) (counted_both (length first) (length later) before.calls middle.calls now.calls w.made x.made);
+  says = x.says ∙ w.says;
+}
 
-  pub none_called : (n : ℕ) → IsQuiet says node n n []
-  none_called n = record { told = All-nil (IsToldAs says node); steady = refl; none = All-nil (λ (c : LinkCall). c.answer ≢ Failed) }
+-- what is told of later calls is what the first link tells
+told_by : (node : ℕ) (before middle : Link) (calls : List LinkCall) → middle.says ≡ before.says → All (IsToldAs middle.says node) calls → All (IsToldAs before.says node) calls
+told_by node before middle calls same told = subst (λ (s : Option (ℕ → List ℕ → Said)). All (IsToldAs s node) calls) same told
 
-  pub called_once : (before now : ℕ) (c : LinkCall) → IsToldAs says node c → c.answer ≢ Failed → now ≡ before → IsQuiet says node before now (c ∷ [])
-  called_once before now c told answered steady = record {
-    told = All-cons (IsToldAs says node) c [] told (All-nil (IsToldAs says node));
+module _ (node : ℕ) where
+  pub quiet_linked : (before now : Link) (calls : List LinkCall) → IsQuiet node before now calls → IsLinked node before now calls
+  quiet_linked before now calls q = record { called = q.called; told = q.told; failed = none_failed before.faults now.faults calls q.steady q.none }
+
+  pub none_called : (l : Link) → IsQuiet node l l []
+  none_called l = record {
+    called = record { made = counted_none l.calls; says = refl };
+    told = All-nil (IsToldAs l.says node);
+    steady = refl;
+    none = All-nil (λ (c : LinkCall). c.answer ≢ Failed);
+  }
+
+  pub called_once : (before now : Link) (c : LinkCall) → WasCalled before now (c ∷ []) → IsToldAs before.says node c → c.answer ≢ Failed → now.faults ≡ before.faults → IsQuiet node before now (c ∷ [])
+  called_once before now c called told answered steady = record {
+    called = called;
+    told = All-cons (IsToldAs before.says node) c [] told (All-nil (IsToldAs before.says node));
     steady = steady;
     none = All-cons (λ (d : LinkCall). d.answer ≢ Failed) c [] answered (All-nil (λ (d : LinkCall). d.answer ≢ Failed));
   }
 
-  -- calls after which no count had risen, and more
-  pub linked_on : (n middle now : ℕ) (before later : List LinkCall) → IsQuiet says node n middle before → IsLinked says node middle now later → IsLinked says node n now (before ++ later)
-  linked_on n middle now before later q l = record {
-    told = All-append (IsToldAs says node) before later q.told l.told;
-    failed = failed_both n middle now before later (none_failed n middle before q.steady q.none) l.failed;
+  pub linked_both : (before middle now : Link) (first later : List LinkCall) → IsLinked node before middle first → IsLinked node middle now later → IsLinked node before now (first ++ later)
+  linked_both before middle now first later l m = record {
+    called = called_both before middle now first later l.called m.called;
+    told = All-append (IsToldAs before.says node) first later l.told (told_by node before middle later l.called.says m.told);
+    failed = failed_both before.faults middle.faults now.faults first later l.failed m.failed;
   }
 
-  pub quiet_on : (n middle now : ℕ) (before later : List LinkCall) → IsQuiet says node n middle before → IsQuiet says node middle now later → IsQuiet says node n now (before ++ later)
+  -- calls after which no count of failures had risen, and more
+  pub linked_on : (n middle now : Link) (before later : List LinkCall) → IsQuiet node n middle before → IsLinked node middle now later → IsLinked node n now (before ++ later)
+  linked_on n middle now before later q l = linked_both n middle now before later (quiet_linked n middle before q) l
+
+  pub quiet_on : (n middle now : Link) (before later : List LinkCall) → IsQuiet node n middle before → IsQuiet node middle now later → IsQuiet node n now (before ++ later)
   quiet_on n middle now before later q l = record {
-    told = All-append (IsToldAs says node) before later q.told l.told;
+    called = called_both n middle now before later q.called l.called;
+    told = All-append (IsToldAs n.says node) before later q.told (told_by node n middle later q.called.says l.told);
     steady = l.steady ∙ q.steady;
     none = All-append (λ (c : LinkCall). c.answer ≢ Failed) before later q.none l.none;
   }

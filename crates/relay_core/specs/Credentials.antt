@@ -1,12 +1,13 @@
 -- A certificate that is presented to a node, by its bytes, and what the relay link answered for one
 -- under its issuer's own seal.
-use Rattle.std.specs.Prelude.{◌≡◌, ◌≢◌, ℕ, ◌≤◌, List, [], ◌∷◌, All, Option, Some, None}
+use Rattle.std.specs.Prelude.{◌≡◌, ◌≢◌, ℕ, ◌≤◌, List, [], ◌∷◌, length, All, Option, Some, None}
 use Rattle.keyed_seal.specs.Tag.{tag_of}
 use Rattle.sealed_cert.specs.declared.kind.TheConstants.{ISSUED, RELAYED}
 use Rattle.sealed_cert.specs.Seals.{sealed_text, Spells, Opens}
 use Rattle.stmt_codec.specs.Certificates.{Certificate}
 use Rattle.frame_link.specs.Faults.{Rose}
-use Rattle.frame_link.specs.Relay.{Said, Gave, Refuses, IsRelayCode}
+use Rattle.frame_link.specs.Plan.{HasCounted}
+use Rattle.frame_link.specs.Relay.{Link, Said, Gave, Refuses, IsRelayCode}
 use Rattle.relay_core.specs.declared.code.TheConstants.{MALFORMED, BAD_SEAL}
 use Rattle.relay_core.specs.declared.presenting.TheConstants.{BAD_RESEAL}
 
@@ -92,28 +93,31 @@ FailedAs before now [] = now ≡ before
 FailedAs before now (c ∷ calls) =
     (middle : ℕ) × CountsAs before middle c.answer × FailedAs middle now calls
 
--- what a link was asked in: what it tells of its answers, the node that asks, and how often the
--- link had failed before and after
+-- the link was called once for each of these, and says the same as before
+pub record WasCalled (before after : Link) (calls : List LinkCall) : Type 0 where
+  pub made : HasCounted (length calls) before.calls after.calls
+  pub says : after.says ≡ before.says
+
+-- what a link was asked in: the node that asks, and the link before and after
 pub record LinkUse : Type 0 where
-  pub says : Option (ℕ → List ℕ → Said)
   pub node : ℕ
-  pub before : ℕ
-  pub after : ℕ
+  pub before : Link
+  pub after : Link
 
 -- what it was asked in, of these
-abbrev pub link_use : Option (ℕ → List ℕ → Said) → ℕ → ℕ → ℕ → LinkUse
-link_use says node before after =
-    record { says = says; node = node; before = before; after = after }
+abbrev pub link_use : ℕ → Link → Link → LinkUse
+link_use node before after = record { node = node; before = before; after = after }
 
--- the calls answer as the link tells, and its count of failures went with them
-pub record IsLinked (says : Option (ℕ → List ℕ → Said)) (node before now : ℕ)
-    (calls : List LinkCall) : Type 0 where
-  pub told : All (IsToldAs says node) calls
-  pub failed : FailedAs before now calls
+-- the link was called for these alone, they answer as it tells, and its count of failures went with
+-- them
+pub record IsLinked (node : ℕ) (before after : Link) (calls : List LinkCall) : Type 0 where
+  pub called : WasCalled before after calls
+  pub told : All (IsToldAs before.says node) calls
+  pub failed : FailedAs before.faults after.faults calls
 
--- the calls answer as the link tells, and none failed
-pub record IsQuiet (says : Option (ℕ → List ℕ → Said)) (node before now : ℕ)
-    (calls : List LinkCall) : Type 0 where
-  pub told : All (IsToldAs says node) calls
-  pub steady : now ≡ before
+-- the link was called for these alone, they answer as it tells, and none failed
+pub record IsQuiet (node : ℕ) (before after : Link) (calls : List LinkCall) : Type 0 where
+  pub called : WasCalled before after calls
+  pub told : All (IsToldAs before.says node) calls
+  pub steady : after.faults ≡ before.faults
   pub none : All (λ (c : LinkCall). c.answer ≢ Failed) calls

@@ -54,10 +54,10 @@ module _ (key : List ℕ) (u : LinkUse) where
   pub record OneComes (text : List ℕ) (c : Certificate) : Type 0 where
     pub calls : List LinkCall
     pub comes : Comes key text calls c
-    pub quiet : IsQuiet u.says u.node u.before u.after calls
+    pub quiet : IsQuiet u.node u.before u.after calls
 
-  -- the bytes come to no certificate, with the link's answers and its count of failures
+  -- the bytes come to no certificate, with the link's answers and its counts
   pub record OneStops (text : List ℕ) (why : Unpresented) : Type 0 where
     pub calls : List LinkCall
     pub stops : IsOneStopped key text calls why
-    pub linked : IsLinked u.says u.node u.before u.after calls
+    pub linked : IsLinked u.node u.before u.after calls

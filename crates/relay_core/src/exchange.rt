@@ -1,8 +1,9 @@
 //! One exchange with a relay: a frame that asks, and a frame that answers.
 
-ghost use Rattle.std.specs.Prelude.{◌≡◌, ◌≤◌, [], length, IfOk, None};
+ghost use Rattle.std.specs.Prelude.{◌≡◌, ◌≤◌, [], length, IfOk, None, ◌+◌};
 ghost use Rattle.frame_link.specs.Relay.{AnswersAs, HasRelayCode};
-ghost use Rattle.frame_link.specs.Streams.{stream};
+ghost use Rattle.frame_link.specs.Next.{Puts, HasWriteCause};
+ghost use Rattle.relay_core.specs.declared.message.TheConstants.{MAX_FRAME};
 ghost use Rattle.relay_core.specs.Messages.{asking};
 ghost use Rattle.relay_core.specs.Links.{Asks, streams};
 
@@ -51,10 +52,8 @@ pub fn ask<I: Source, O: Sink>(
     requires fits { length sealed.now ≤ 65531 }
     requires empty { out.old.items ≡ [] }
     ensures asks { Asks (asking node sealed.now)
-        (streams (stream (I.left input.old) (I.faults input.old))
-        (stream (O.written output.old) (O.faults output.old)))
-        (streams (stream (I.left input.new) (I.faults input.new))
-        (stream (O.written output.new) (O.faults output.new))) result out.new.items }
+        (streams (I.shown input.old) (O.shown output.old))
+        (streams (I.shown input.new) (O.shown output.new)) result out.new.items }
     ensures answer { AnswersAs None node sealed.now result out.new.items }
     ensures codes { IfOk result HasRelayCode }
 {

@@ -3,10 +3,9 @@
 ghost use Rattle.std.specs.Prelude.{◌≡◌, ◌≤◌, [], length, IfOk, Option, None, MatchResult};
 ghost use Rattle.frame_link.specs.Faults.{HasCause};
 ghost use Rattle.frame_link.specs.Plan.{counted};
-ghost use Rattle.frame_link.specs.Relay.{AnswersAs, HasRelayCode};
-ghost use Rattle.frame_link.specs.Streams.{stream};
+ghost use Rattle.frame_link.specs.Relay.{HasRelayCode, Reseals};
 ghost use Rattle.relay_core.specs.Messages.{asking};
-ghost use Rattle.relay_core.specs.Links.{Asks, streams};
+ghost use Rattle.relay_core.specs.Links.{Asks, shown_link, streams};
 
 use crate::exchange::{LinkRoom, ask};
 use arrayvec::ArrayVec;
@@ -15,12 +14,13 @@ use std::alloc::{AllocError, Global};
 use std::marker::Model;
 
 /// Asks a relay by a frame of the output for each call, and reads the answer as a frame of the
-/// input. Contracts see both, and how often a call has failed.
+/// input. Contracts see both, and how often it was called and a call has failed.
 #[derive(Drop)]
 pub struct LinkRelay<I, O> {
     input: I,
     output: O,
     room: LinkRoom,
+    calls: u64,
     faults: u64,
 }
 
@@ -29,19 +29,25 @@ impl<I, O> Model for LinkRelay<I, O> {
 
     ghost Value = { Link I O };
 
-    ghost view = { λ l. record { input = l.input; output = l.output; faults = l.faults } };
+    ghost view = { λ l. record {
+      input = l.input;
+      output = l.output;
+      calls = l.calls;
+      faults = l.faults;
+    } };
 }
 
 impl<I: Source + Drop, O: Sink + Drop> LinkRelay<I, O> {
     /// A link over an input and an output. All its memory is taken here.
     pub fn new(alloc: Global, input: I, output: O) -> Result<LinkRelay<I, O>, AllocError>
         ensures { IfOk result
-            (λ l. l ≡ record { input = input; output = output; faults = 0 }) }
+            (λ l. l ≡ record { input = input; output = output; calls = 0; faults = 0 }) }
     {
         Ok(LinkRelay {
             input,
             output,
             room: LinkRoom::new(alloc)?,
+            calls: 0,
             faults: 0,
         })
     }
@@ -62,9 +68,7 @@ impl<I: Source + Drop, O: Sink + Drop> LinkRelay<I, O> {
 }
 
 impl<I: Source + Drop, O: Sink + Drop> RelayLink for LinkRelay<I, O> {
-    ghost says = { λ _. None };
-
-    ghost faults = { λ l. l.faults };
+    ghost shown = { λ l. shown_link l };
 
     fn reseal(
         &mut self,
@@ -74,17 +78,19 @@ impl<I: Source + Drop, O: Sink + Drop> RelayLink for LinkRelay<I, O> {
     ) -> Result<RelayAnswer, Failed>
         requires { length sealed.now ≤ 65531 }
         ensures asks { Asks (asking node sealed.now)
-            (streams (stream (I.left self.old.input) (I.faults self.old.input))
-            (stream (O.written self.old.output) (O.faults self.old.output)))
-            (streams (stream (I.left self.new.input) (I.faults self.new.input))
-            (stream (O.written self.new.output) (O.faults self.new.output))) result out.new.items }
+            (streams (I.shown self.old.input)
+            (O.shown self.old.output))
+            (streams (I.shown self.new.input)
+            (O.shown self.new.output)) result out.new.items }
         ensures count { MatchResult result (λ _. self.new.faults ≡ self.old.faults)
             (λ _. self.new.faults ≡ counted self.old.faults) }
-        ensures answer { AnswersAs None node sealed.now result out.new.items }
+        ensures reseals { Reseals (shown_link self.old) (shown_link self.new) node sealed.now result
+            out.new.items }
         ensures codes { IfOk result HasRelayCode }
         ensures cause { HasCause self.old.faults self.new.faults result }
     {
         out.clear();
+        self.calls = self.calls.saturating_add(1);
         let asked = ask(
             &mut self.input,
             &mut self.output,

@@ -1,16 +1,17 @@
 //! A relay at hand.
 
-ghost use Rattle.std.specs.Prelude.{◌≡◌, ◌≤◌, length, IfOk, Option, Some, IsOk};
+ghost use Rattle.std.specs.Prelude.{◌≡◌, ◌≤◌, length, IfOk, IsOk};
 ghost use Rattle.frame_link.specs.Faults.{HasCause};
-ghost use Rattle.frame_link.specs.Relay.{AnswersAs, HasRelayCode};
-ghost use Rattle.relay_core.specs.Resealing.{resealed};
+ghost use Rattle.frame_link.specs.Relay.{HasRelayCode, Reseals};
+ghost use Rattle.relay_core.specs.Plans.{local_link};
 
 use crate::resealing::{RelayTable, reseal};
 use arrayvec::ArrayVec;
 use frame_link::{Failed, RelayAnswer, RelayLink};
 use std::alloc::Global;
 
-/// A link to a relay that is this table. It never fails.
+/// A link to a relay that is this table. It never fails. Its calls are not counted: the count stands
+/// at the largest u64.
 #[derive(Drop)]
 pub struct LocalRelay {
     pub alloc: Global,
@@ -18,9 +19,7 @@ pub struct LocalRelay {
 }
 
 impl RelayLink for LocalRelay {
-    ghost says = { λ r. Some (resealed r.table.issuers.entries r.table.nodes.entries) };
-
-    ghost faults = { λ _. 0 };
+    ghost shown = { λ r. local_link r.table };
 
     fn reseal(
         &mut self,
@@ -29,8 +28,8 @@ impl RelayLink for LocalRelay {
         out: &mut ArrayVec<u8, 2048>,
     ) -> Result<RelayAnswer, Failed>
         ensures never { IsOk result }
-        ensures answer { AnswersAs (Some (resealed self.old.table.issuers.entries
-            self.old.table.nodes.entries)) node sealed.now result out.new.items }
+        ensures reseals { Reseals (local_link self.old.table) (local_link self.new.table) node
+            sealed.now result out.new.items }
         ensures same { self.new ≡ self.old }
         ensures codes { IfOk result HasRelayCode }
         ensures cause { HasCause 0 0 result }

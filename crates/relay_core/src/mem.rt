@@ -1,11 +1,10 @@
 //! A relay at hand that fails at some calls.
 
-ghost use Rattle.std.specs.Prelude.{◌≡◌, ◌≤◌, length, IfOk, Option, Some, true, false, MatchResult};
+ghost use Rattle.std.specs.Prelude.{◌≡◌, ◌≤◌, length, IfOk, true, false, MatchResult};
 ghost use Rattle.frame_link.specs.Faults.{HasCause};
 ghost use Rattle.frame_link.specs.Plan.{Plan, fails_now, passed, failed};
-ghost use Rattle.frame_link.specs.Relay.{AnswersAs, HasRelayCode};
-ghost use Rattle.relay_core.specs.Resealing.{resealed};
-ghost use Rattle.relay_core.specs.Plans.{plan};
+ghost use Rattle.frame_link.specs.Relay.{HasRelayCode, Reseals};
+ghost use Rattle.relay_core.specs.Plans.{plan, mem_link};
 
 use crate::local::LocalRelay;
 use arrayvec::ArrayVec;
@@ -22,9 +21,7 @@ pub struct MemRelay {
 }
 
 impl RelayLink for MemRelay {
-    ghost says = { λ r. Some (resealed r.relay.table.issuers.entries r.relay.table.nodes.entries) };
-
-    ghost faults = { λ r. r.faults };
+    ghost shown = { λ r. mem_link r };
 
     fn reseal(
         &mut self,
@@ -32,8 +29,8 @@ impl RelayLink for MemRelay {
         sealed: &[u8],
         out: &mut ArrayVec<u8, 2048>,
     ) -> Result<RelayAnswer, Failed>
-        ensures answer { AnswersAs (Some (resealed self.old.relay.table.issuers.entries
-            self.old.relay.table.nodes.entries)) node sealed.now result out.new.items }
+        ensures reseals { Reseals (mem_link self.old) (mem_link self.new) node sealed.now result
+            out.new.items }
         ensures same { self.new.relay ≡ self.old.relay }
         ensures exact { MatchResult result
             (λ _. (fails_now (plan self.old) ≡ false) × (plan self.new ≡ passed (plan self.old)))

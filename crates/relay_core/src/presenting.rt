@@ -111,12 +111,12 @@ fn reseal_one<R: RelayLink>(
     requires issued { IsIssued text.now }
     requires short { length text.now ≤ 65531 }
     ensures came { IfOk result (λ c. OneComes opened.old
-        (link_use (R.says link.old) node (R.faults link.old) (R.faults link.new))
+        (link_use node (R.shown link.old) (R.shown link.new))
         text.now (certificate (arc_value c).body)) }
     ensures stopped { IfErr result (OneStops opened.old
-        (link_use (R.says link.old) node (R.faults link.old) (R.faults link.new)) text.now) }
+        (link_use node (R.shown link.old) (R.shown link.new)) text.now) }
     ensures key { opened.new ≡ opened.old }
-    ensures same { R.says link.new ≡ R.says link.old }
+    ensures same { R.borrows link.new ≡ R.borrows link.old }
 {
     let mut new = ArrayVec::new();
     match link.reseal(node, text, &mut new) {
@@ -140,14 +140,14 @@ pub fn present_with<R: RelayLink>(
 ) -> Result<Arc<Cert>, Unpresented>
     requires short { length text.now ≤ 65531 }
     ensures came { IfOk result (λ c. OneComes opened.old
-        (link_use (R.says link.old) node (R.faults link.old) (R.faults link.new))
+        (link_use node (R.shown link.old) (R.shown link.new))
         text.now (certificate (arc_value c).body)) }
     ensures stopped { IfErr result (OneStops opened.old
-        (link_use (R.says link.old) node (R.faults link.old) (R.faults link.new)) text.now) }
+        (link_use node (R.shown link.old) (R.shown link.new)) text.now) }
 
     // What nobody changes.
     ensures key { opened.new ≡ opened.old }
-    ensures same { R.says link.new ≡ R.says link.old }
+    ensures same { R.borrows link.new ≡ R.borrows link.old }
 {
     if is_issued(text) {
         reseal_one(alloc, node, opened, link, text)
@@ -166,11 +166,11 @@ pub fn present<R: RelayLink>(
 ) -> Result<Arc<Cert>, Unpresented>
     requires short { length text.now ≤ 65531 }
     ensures came { IfOk result (λ c. OneComes key.now
-        (link_use (R.says link.old) node (R.faults link.old) (R.faults link.new))
+        (link_use node (R.shown link.old) (R.shown link.new))
         text.now (certificate (arc_value c).body)) }
     ensures stopped { IfErr result (OneStops key.now
-        (link_use (R.says link.old) node (R.faults link.old) (R.faults link.new)) text.now) }
-    ensures same { R.says link.new ≡ R.says link.old }
+        (link_use node (R.shown link.old) (R.shown link.new)) text.now) }
+    ensures same { R.borrows link.new ≡ R.borrows link.old }
 {
     present_with(alloc, node, &mut OpenedCerts::keeping_none(key), link, text)
 }

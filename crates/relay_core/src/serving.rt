@@ -2,7 +2,7 @@
 
 ghost use Rattle.std.specs.Prelude.{◌≡◌, ◌≢◌};
 ghost use Rattle.frame_link.specs.declared.outcome.Outcome.TheVariants.{ClockFault};
-ghost use Rattle.frame_link.specs.Served.{line, counts, IsServed, HasCauses, IsComplete};
+ghost use Rattle.frame_link.specs.Served.{line, IsServed, HasCauses, IsComplete};
 ghost use Rattle.relay_core.specs.Serving.{Answers, GivesUp};
 
 use crate::message::MAX_FRAME;
@@ -50,16 +50,16 @@ pub fn serve_relay<I: Source, O: Sink>(
     frames: u64,
 ) -> Outcome
     ensures served { IsServed Answers GivesUp frames
-        (line (I.left input.old) (O.written output.old) table.now)
-        (line (I.left input.new) (O.written output.new) table.now) result }
+        (line (I.shown input.old) (O.shown output.old) table.now)
+        (line (I.shown input.new) (O.shown output.new) table.now) result }
 
     // A relay has no clock.
-    ensures causes { HasCauses (counts (I.faults input.old) (O.faults output.old) 0)
-        (counts (I.faults input.new) (O.faults output.new) 0) result }
+    ensures causes { HasCauses (λ _. 0) (line (I.shown input.old) (O.shown output.old) table.now)
+        (line (I.shown input.new) (O.shown output.new) table.now) result }
     ensures clock { result ≢ ClockFault }
-    ensures complete { IsComplete frames (I.left input.old)
-        (counts (I.faults input.old) (O.faults output.old) 0)
-        (counts (I.faults input.new) (O.faults output.new) 0) result }
+    ensures complete { IsComplete (λ _. 0) frames
+        (line (I.shown input.old) (O.shown output.old) table.now)
+        (line (I.shown input.new) (O.shown output.new) table.now) result }
 {
     let Ok(mut buf) = FrameBuf::new(alloc, MAX_FRAME) else {
         return Outcome::NoMemory;

@@ -4,6 +4,7 @@ ghost use Rattle.std.specs.Prelude.{◌≡◌, ◌↔◌, ◌-◌, ◌/◌, ◌�
 ghost use Rattle.std.specs.Time.{system_time_nanos};
 ghost use Rattle.frame_link.specs.Faults.{HasCause};
 ghost use Rattle.frame_link.specs.Readings.{Reads};
+ghost use Rattle.frame_link.specs.Streams.{stream};
 ghost use Rattle.system_link.specs.Readings.{IsBelieved};
 
 use crate::notice::Happening;
@@ -165,9 +166,7 @@ impl<C: time::Clock> SystemSeconds<C> {
 }
 
 impl<C: time::Clock> Clock for SystemSeconds<C> {
-    ghost readings = { λ _. None };
-
-    ghost faults = { λ c. c.faults };
+    ghost shown = { λ c. stream None c.faults };
 
     fn now(&mut self) -> Result<u64, Failed>
         ensures told { IfOk result (λ seconds. IsSome self.new.last

@@ -1,67 +1,21 @@
 //! A door over a listener.
 
 ghost use Rattle.std.specs.Prelude.{◌≡◌, IsSome, None, IfOk, OnErr};
+ghost use Rattle.frame_link.specs.Doors.{door_of};
+ghost use Rattle.frame_link.specs.Doors.{door_of};
 
-use crate::notice::{Breakage, Happening};
+use crate::notice::Happening;
 use crate::peer::{PeerInput, PeerOutput, Terms, halves};
 use frame_link::{Door, Failed};
 use std::alloc::Global;
-use std::io::ErrorKind;
 use std::net::{SocketAddr, TcpListener};
 use std::sync::Arc;
+use std::thread;
 use std::time::{Clock, Duration};
-use std::{io, thread};
+use system_hub::{Breakage, Cause, LaneEnd, cause_of};
 
 // The milliseconds that a door waits where the system lacks what a connection takes.
 const SCARCE: u64 = 100;
-
-// The system's numbers of errors that have no kind of their own.
-const NO_MEMORY: i32 = 12;
-
-const TOO_MANY_FILES: i32 = 23;
-
-const TOO_MANY_OF_MINE: i32 = 24;
-
-const NO_NETWORK: i32 = 64;
-
-const BAD_PROTOCOL: i32 = 71;
-
-const NO_OPTION: i32 = 92;
-
-const NO_BUFFERS: i32 = 105;
-
-const HOST_DOWN: i32 = 112;
-
-// Why there is no connection.
-#[derive(Clone, Copy, Debug, PartialEq, Eq)]
-enum Cause {
-    // The connection that was next is none any more.
-    Peer,
-    // The system lacks descriptors or memory.
-    Scarce,
-    // The listener itself.
-    Listener,
-}
-
-fn cause_of(error: &io::Error) -> Cause {
-    match error.kind() {
-        ErrorKind::Interrupted
-        | ErrorKind::ConnectionAborted
-        | ErrorKind::ConnectionReset
-        | ErrorKind::TimedOut
-        | ErrorKind::WouldBlock
-        | ErrorKind::NetworkDown
-        | ErrorKind::NetworkUnreachable
-        | ErrorKind::HostUnreachable => return Cause::Peer,
-        ErrorKind::PermissionDenied => return Cause::Scarce,
-        _ => {}
-    }
-    match error.raw_os_error() {
-        Some(NO_NETWORK | BAD_PROTOCOL | NO_OPTION | HOST_DOWN) => Cause::Peer,
-        Some(NO_MEMORY | TOO_MANY_FILES | TOO_MANY_OF_MINE | NO_BUFFERS) => Cause::Scarce,
-        _ => Cause::Listener,
-    }
-}
 
 /// A listener that several doors may have.
 pub type Listener = Arc<TcpListener, Global>;
@@ -74,6 +28,8 @@ pub enum Doorway {
     /// The address could not be bound: each `accept` fails.
     Unbound,
     Bound(Listener),
+    /// One stream of many clients after the other.
+    Merged(LaneEnd),
 }
 
 /// Gives the connections of a listener, one after the other. Other doors may have the same listener.
@@ -107,9 +63,9 @@ impl<C: Clock + Copy> TcpDoor<C> {
     }
 
     // Leaves a notice of a connection that broke.
-    fn tell(&self, peer: SocketAddr, why: Breakage) {
+    fn tell(&self, peer: Option<SocketAddr>, why: Breakage) {
         if let Some(notices) = &self.terms.teller {
-            notices.tell(&self.terms.clock, Some(peer), Happening::Broken(why));
+            notices.tell(&self.terms.clock, peer, Happening::Broken(why));
         }
     }
 
@@ -137,15 +93,15 @@ impl<C: Clock + Copy> TcpDoor<C> {
             }
             match accepted {
                 Ok((stream, peer)) => {
-                    if let Ok(connection) = halves(self.alloc, &self.terms, stream, peer) {
+                    if let Ok(connection) = halves(self.alloc, &self.terms, stream, Some(peer)) {
                         return Ok(Some(connection));
                     }
-                    self.tell(peer, Breakage::TurnedAway);
+                    self.tell(Some(peer), Breakage::TurnedAway);
                     self.pause(is_told);
                     is_told = true;
                 }
                 Err(error) => match cause_of(&error) {
-                    Cause::Peer => {}
+                    Cause::Nobody | Cause::Peer => {}
                     Cause::Scarce => {
                         self.pause(is_told);
                         is_told = true;
@@ -156,6 +112,20 @@ impl<C: Clock + Copy> TcpDoor<C> {
         }
         Err(Failed)
     }
+
+    // The next stream of many clients. One that memory lacks for is dropped, and asked for anew.
+    fn merged_of(&self, end: &LaneEnd) -> Result<Option<(PeerInput<C>, PeerOutput<C>)>, Failed> {
+        for _ in 0..u64::MAX {
+            let Some(stream) = end.stream(&self.terms.clock) else {
+                return Ok(None);
+            };
+            if let Ok(connection) = halves(self.alloc, &self.terms, stream, None) {
+                return Ok(Some(connection));
+            }
+            self.pause(false);
+        }
+        Err(Failed)
+    }
 }
 
 impl<C: Clock + Copy + Send> Door for TcpDoor<C> {
@@ -163,19 +133,14 @@ impl<C: Clock + Copy + Send> Door for TcpDoor<C> {
 
     type Out = PeerOutput<C>;
 
-    ghost left = { λ _. None };
-
-    ghost given = { λ d. d.given };
-
-    ghost back = { λ _. None };
-
-    ghost faults = { λ d. d.faults };
+    ghost shown = { λ d. door_of None None d.given d.faults };
 
     fn accept(&mut self) -> Result<Option<(PeerInput<C>, PeerOutput<C>)>, Failed> {
         let next = match &self.doorway {
             Doorway::Ended => Ok(None),
             Doorway::Unbound => Err(Failed),
             Doorway::Bound(listener) => self.next_of(listener),
+            Doorway::Merged(end) => self.merged_of(end),
         };
         match &next {
             Ok(Some(_)) => self.given = self.given.saturating_add(1),

@@ -2,6 +2,7 @@
 
 ghost use Rattle.std.specs.Prelude.{◌≡◌, ◌≤◌, [], length, IfOk, None};
 ghost use Rattle.frame_link.specs.Relay.{AnswersAs, HasRelayCode};
+ghost use Rattle.frame_link.specs.Streams.{stream};
 
 use crate::line::Line;
 use arrayvec::ArrayVec;
@@ -47,9 +48,7 @@ struct Hearing<'b, 'a, C> {
 }
 
 impl<'b, 'a, C: Clock> Source for Hearing<'b, 'a, C> {
-    ghost left = { λ _. None };
-
-    ghost faults = { λ s. s.faults };
+    ghost shown = { λ s. stream None s.faults };
 
     fn read(&mut self, into: &mut [u8]) -> Result<usize, Failed> {
         let room = self.room;
@@ -82,9 +81,7 @@ struct Asking<'b, 'a, C> {
 }
 
 impl<'b, 'a, C: Clock> Sink for Asking<'b, 'a, C> {
-    ghost written = { λ _. None };
-
-    ghost faults = { λ s. s.faults };
+    ghost shown = { λ s. stream None s.faults };
 
     fn write(&mut self, piece: &[u8]) -> Result<usize, Failed> {
         match self.line.send(piece) {

@@ -1,6 +1,7 @@
 //! A file as a source.
 
 ghost use Rattle.std.specs.Prelude.{◌≡◌, None};
+ghost use Rattle.frame_link.specs.Streams.{stream};
 
 use crate::streams::read_on;
 use frame_link::{Failed, Source};
@@ -58,9 +59,7 @@ fn tell_reason<E: Write>(errors: &mut E, path: &str, reason: &io::Error) {
 }
 
 impl<'a, R: Read, E: Write> Source for FileReading<'a, R, E> {
-    ghost left = { λ _. None };
-
-    ghost faults = { λ s. s.faults };
+    ghost shown = { λ s. stream None s.faults };
 
     fn read(&mut self, into: &mut [u8]) -> Result<usize, Failed> {
         match &mut self.origin {

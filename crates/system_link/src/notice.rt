@@ -3,45 +3,8 @@
 use jiff::Timestamp;
 use std::fmt;
 use std::net::SocketAddr;
+use system_hub::Breakage;
 use taos_wire::ReplyHead;
-
-/// Why a connection ended otherwise than well.
-#[derive(Clone, Copy, Debug, PartialEq, Eq)]
-pub enum Breakage {
-    /// Between two frames, or before the first, no byte came in time.
-    Silent,
-    /// A frame was not whole in time.
-    Slow,
-    /// The stream ended inside a frame.
-    Cut,
-    /// A length word was too large.
-    Long,
-    /// Replies could not leave.
-    Untaken,
-    /// A read failed.
-    Lost,
-    /// It was ended before its peer ended it: its frames were spent, the clock failed, or memory
-    /// lacked.
-    GivenUp,
-    /// It was never served: descriptors or memory lacked.
-    TurnedAway,
-}
-
-impl Breakage {
-    /// Its word.
-    pub fn word(&self) -> &'static str {
-        match self {
-            Breakage::Silent => "silent",
-            Breakage::Slow => "slow",
-            Breakage::Cut => "cut",
-            Breakage::Long => "long",
-            Breakage::Untaken => "untaken",
-            Breakage::Lost => "lost",
-            Breakage::GivenUp => "given-up",
-            Breakage::TurnedAway => "turned-away",
-        }
-    }
-}
 
 /// What a notice is of.
 #[derive(Clone, Copy, Debug, PartialEq, Eq)]
@@ -58,6 +21,8 @@ pub enum Happening {
     ClockFailed,
     /// Descriptors or memory lack, so that a door waits before it takes the next connection.
     Scarce,
+    /// As many clients are connected as may be at a time, so that others wait.
+    Full,
 }
 
 /// One of them, when it was, and where.
@@ -124,6 +89,7 @@ impl Happening {
             Happening::RelayFailed => "relay-failed",
             Happening::ClockFailed => "clock-failed",
             Happening::Scarce => "scarce",
+            Happening::Full => "full",
         }
     }
 }
@@ -146,7 +112,8 @@ impl fmt::Display for Notice {
             Happening::Broken(why) => f
                 .write_str(" cause ")
                 .and_then(|()| f.write_str(why.word())),
-            Happening::RelayFailed | Happening::ClockFailed | Happening::Scarce => Ok(()),
+            Happening::RelayFailed | Happening::ClockFailed | Happening::Scarce | Happening::Full =>
+                Ok(()),
         }
     }
 }

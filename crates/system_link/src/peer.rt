@@ -4,7 +4,6 @@ ghost use Rattle.std.specs.Prelude.{◌≡◌};
 ghost use Rattle.std.specs.Io.{ReadsAtMost};
 
 use crate::line::Line;
-use crate::notice::Breakage;
 use crate::notices::{Teller, teller_of};
 use crate::outbox::{Deferred, Outbox, PIECE};
 use crate::pace::Pace;
@@ -19,6 +18,7 @@ use std::io::{BufReader, ErrorKind, Read, Write};
 use std::net::{Shutdown, SocketAddr, TcpStream};
 use std::sync::Arc;
 use std::time::{Clock, Duration};
+use system_hub::Breakage;
 
 /// The seconds from a connection's begin to the end of its first frame.
 pub const FIRST: u64 = 2;
@@ -97,7 +97,7 @@ impl<C: Clock + Copy> Write for Holding<C> {
 #[derive(Drop)]
 pub struct Hearing<C: Clock + Copy> {
     stream: TcpStream,
-    peer: SocketAddr,
+    peer: Option<SocketAddr>,
     clock: C,
     stop: Arc<Stop, Global>,
     idle: Duration,
@@ -110,8 +110,8 @@ pub struct Hearing<C: Clock + Copy> {
 }
 
 impl<C: Clock + Copy> Hearing<C> {
-    // Whose bytes they are.
-    pub(crate) fn peer(&self) -> SocketAddr {
+    // Whose bytes they are, where it is one peer.
+    pub(crate) fn peer(&self) -> Option<SocketAddr> {
         self.peer
     }
 
@@ -259,17 +259,31 @@ pub struct Terms<C> {
     pub rounds: Arc<Rounds, Global>,
 }
 
-// The halves of a connection that begins now.
-pub(crate) fn halves<C: Clock + Copy>(
-    alloc: Global,
+// How a connection that begins now is waited for. A stream of many clients has no first frame: whoever
+// merged it looks after each.
+fn begun<C: Clock>(
     terms: &Terms<C>,
-    stream: TcpStream,
-    peer: SocketAddr,
-) -> io::Result<(PeerInput<C>, PeerOutput<C>)> {
+    stream: &TcpStream,
+    peer: Option<SocketAddr>,
+) -> io::Result<Pace> {
+    if peer.is_none() {
+        return Ok(Pace::new());
+    }
     let Some(first) = Term::after(&terms.clock, Duration::from_secs(FIRST)) else {
         return Err(io::Error::from(ErrorKind::TimedOut));
     };
     stream.set_nodelay(true)?;
+    Ok(Pace::with_first(first))
+}
+
+// The halves of a connection that begins now, of one peer or of many clients.
+pub(crate) fn halves<C: Clock + Copy>(
+    alloc: Global,
+    terms: &Terms<C>,
+    stream: TcpStream,
+    peer: Option<SocketAddr>,
+) -> io::Result<(PeerInput<C>, PeerOutput<C>)> {
+    let pace = begun(terms, &stream, peer)?;
     let sending = Sending {
         stream: stream.try_clone()?,
         clock: terms.clock,
@@ -286,13 +300,13 @@ pub(crate) fn halves<C: Clock + Copy>(
         clock: terms.clock,
         stop: Arc::try_clone(&terms.stop)?,
         idle: terms.idle,
-        pace: Pace::with_first(first),
+        pace,
         outbox,
         is_over: false,
         why: None,
     };
     let reader = BufReader::with_capacity(alloc, PIECE, hearing)?;
-    let telling = Telling::new(holding, terms.clock, Some(peer), teller);
+    let telling = Telling::new(holding, terms.clock, peer, teller);
     let rounded = Rounded::new(reader, Arc::try_clone(&terms.rounds)?);
     Ok((Reading::new(rounded), Writing::new(telling)))
 }

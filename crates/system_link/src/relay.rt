@@ -3,7 +3,7 @@
 ghost use Rattle.std.specs.Prelude.{◌≡◌, ◌≢◌, ◌≤◌, [], length, IfOk, IsSome, MatchResult, None, OnErr};
 ghost use Rattle.frame_link.specs.Faults.{HasCause};
 ghost use Rattle.frame_link.specs.Plan.{counted};
-ghost use Rattle.frame_link.specs.Relay.{AnswersAs, HasRelayCode};
+ghost use Rattle.frame_link.specs.Relay.{AnswersAs, HasRelayCode, Reseals, link};
 
 use crate::exchange::{Silence, exchange};
 use crate::line::Line;
@@ -112,6 +112,7 @@ pub struct TcpRelay<R> {
     term: Option<Term>,
     rounds: Arc<Rounds, Global>,
     teller: Teller,
+    calls: u64,
     faults: u64,
 }
 
@@ -126,6 +127,7 @@ impl<R> TcpRelay<R> {
         rounds: Arc<Rounds, Global>,
         teller: Teller,
     ) -> TcpRelay<R>
+        ensures calls { result.calls ≡ 0 }
         ensures faults { result.faults ≡ 0 }
         ensures closed { result.line ≡ None }
         ensures address { result.address ≡ address }
@@ -142,6 +144,7 @@ impl<R> TcpRelay<R> {
             term: None,
             rounds,
             teller,
+            calls: 0,
             faults: 0,
         }
     }
@@ -167,7 +170,8 @@ impl<R: Net<Listener = TcpListener, Stream = TcpStream> + Clock> TcpRelay<R> {
         ensures line { self.new.line ≡ self.old.line }
         ensures place { (self.new.address ≡ self.old.address)
             × (self.new.limit ≡ self.old.limit) }
-        ensures faults { self.new.faults ≡ self.old.faults }
+        ensures counts { (self.new.calls ≡ self.old.calls)
+            × (self.new.faults ≡ self.old.faults) }
     {
         if let Some(rest) = &self.rest {
             if rest.left(&self.network).is_some() {
@@ -185,7 +189,8 @@ impl<R: Net<Listener = TcpListener, Stream = TcpStream> + Clock> TcpRelay<R> {
         ensures closed { self.new.line ≡ None }
         ensures place { (self.new.address ≡ self.old.address)
             × (self.new.limit ≡ self.old.limit) }
-        ensures faults { self.new.faults ≡ self.old.faults }
+        ensures counts { (self.new.calls ≡ self.old.calls)
+            × (self.new.faults ≡ self.old.faults) }
     {
         let stream = self.line.take()?;
         if !is_quiet(&stream) {
@@ -199,7 +204,8 @@ impl<R: Net<Listener = TcpListener, Stream = TcpStream> + Clock> TcpRelay<R> {
         ensures line { self.new.line ≡ self.old.line }
         ensures place { (self.new.address ≡ self.old.address)
             × (self.new.limit ≡ self.old.limit) }
-        ensures faults { self.new.faults ≡ self.old.faults }
+        ensures counts { (self.new.calls ≡ self.old.calls)
+            × (self.new.faults ≡ self.old.faults) }
     {
         match self.room.take() {
             Some(room) => Ok(room),
@@ -228,7 +234,8 @@ impl<R: Net<Listener = TcpListener, Stream = TcpStream> + Clock> TcpRelay<R> {
         ensures codes { IfOk result HasRelayCode }
         ensures place { (self.new.address ≡ self.old.address)
             × (self.new.limit ≡ self.old.limit) }
-        ensures faults { self.new.faults ≡ self.old.faults }
+        ensures counts { (self.new.calls ≡ self.old.calls)
+            × (self.new.faults ≡ self.old.faults) }
     {
         let mut room = self.room()?;
         let line = Line {
@@ -258,7 +265,8 @@ impl<R: Net<Listener = TcpListener, Stream = TcpStream> + Clock> TcpRelay<R> {
         ensures codes { IfOk result HasRelayCode }
         ensures place { (self.new.address ≡ self.old.address)
             × (self.new.limit ≡ self.old.limit) }
-        ensures faults { self.new.faults ≡ self.old.faults }
+        ensures counts { (self.new.calls ≡ self.old.calls)
+            × (self.new.faults ≡ self.old.faults) }
     {
         let Some(term) = self.term() else {
             return Err(Silence::Resting);
@@ -277,9 +285,7 @@ impl<R: Net<Listener = TcpListener, Stream = TcpStream> + Clock> TcpRelay<R> {
 }
 
 impl<R: Net<Listener = TcpListener, Stream = TcpStream> + Clock> RelayLink for TcpRelay<R> {
-    ghost says = { λ _. None };
-
-    ghost faults = { λ r. r.faults };
+    ghost shown = { λ r. link None r.calls r.faults };
 
     fn reseal(
         &mut self,
@@ -295,11 +301,13 @@ impl<R: Net<Listener = TcpListener, Stream = TcpStream> + Clock> RelayLink for T
             (λ _. self.new.faults ≡ counted self.old.faults) }
         ensures place { (self.new.address ≡ self.old.address)
             × (self.new.limit ≡ self.old.limit) }
-        ensures answer { AnswersAs None node sealed.now result out.new.items }
+        ensures reseals { Reseals (link None self.old.calls self.old.faults)
+            (link None self.new.calls self.new.faults) node sealed.now result out.new.items }
         ensures codes { IfOk result HasRelayCode }
         ensures cause { HasCause self.old.faults self.new.faults result }
     {
         out.clear();
+        self.calls = self.calls.saturating_add(1);
         match self.ask(node, sealed, out) {
             Ok(answer) => Ok(answer),
             Err(Silence::NoMemory) => {

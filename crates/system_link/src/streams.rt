@@ -3,6 +3,7 @@
 ghost use Rattle.std.specs.Prelude.{◌≡◌};
 ghost use Rattle.std.specs.Io.{ReadsAtMost, WritesAtMost};
 ghost use Rattle.std.specs.Io.KnownBytes.{ReadConsumes, WriteAppends};
+ghost use Rattle.frame_link.specs.Streams.{stream};
 
 use frame_link::{Failed, Sink, Source};
 use std::io;
@@ -71,9 +72,7 @@ impl<R> Reading<R> {
 }
 
 impl<R: Read> Source for Reading<R> {
-    ghost left = { λ s. R.remaining s.inner };
-
-    ghost faults = { λ s. s.faults };
+    ghost shown = { λ s. stream (R.remaining s.inner) s.faults };
 
     fn read(&mut self, into: &mut [u8]) -> Result<usize, Failed> {
         match read_on(&mut self.inner, into) {
@@ -109,9 +108,7 @@ impl<W> Writing<W> {
 }
 
 impl<W: Write> Sink for Writing<W> {
-    ghost written = { λ s. W.contents s.inner };
-
-    ghost faults = { λ s. s.faults };
+    ghost shown = { λ s. stream (W.contents s.inner) s.faults };
 
     fn write(&mut self, piece: &[u8]) -> Result<usize, Failed> {
         match write_on(&mut self.inner, piece) {

@@ -120,9 +120,9 @@ fn tell_all<E: Write>(alloc: Global, errors: &mut E, path: &str, seen: &[u8]) {
 }
 
 impl<'a, S: Source, E: Write> Source for Watched<'a, S, E> {
-    ghost left = { λ s. S.left s.inner };
+    ghost shown = { λ s. S.shown s.inner };
 
-    ghost faults = { λ s. S.faults s.inner };
+    ghost borrows = { λ s. S.borrows s.inner };
 
     fn read(&mut self, into: &mut [u8]) -> Result<usize, Failed> {
         let count = self.inner.read(into)?;

@@ -12,3 +12,5 @@ mod notices;
 mod relays;
 #[cfg(test)]
 mod streams;
+#[cfg(test)]
+mod switches;

@@ -4,6 +4,7 @@ ghost use Rattle.std.specs.Prelude.{◌≡◌, ◌<◌, [], length, IfOk, Some};
 ghost use Rattle.std.specs.Io.{WritesAtMost};
 ghost use Rattle.std.specs.Io.KnownBytes.{WriteAppends};
 ghost use Rattle.frame_link.specs.Faults.{HasCause};
+ghost use Rattle.frame_link.specs.Streams.{stream};
 ghost use Rattle.taos_drill.specs.Grown.{Grows};
 
 use frame_link::{Failed, Sink};
@@ -52,9 +53,7 @@ impl GrowingSink {
 }
 
 impl Sink for GrowingSink {
-    ghost written = { λ s. Some s.written };
-
-    ghost faults = { λ s. s.faults };
+    ghost shown = { λ s. stream (Some s.written) s.faults };
 
     fn write(&mut self, piece: &[u8]) -> Result<usize, Failed>
         ensures bound { WritesAtMost result piece.now }

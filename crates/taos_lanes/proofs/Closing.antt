@@ -1,9 +1,8 @@
 -- Lanes whose seats were joined and whose cells were closed served all that stands in the journals.
-use Rattle.std.proofs.Common.{◌≡◌, ℕ, ◌+◌, eqb, cond, List, [], ◌∷◌, ◌++◌, length, Option, refl, sym, ap, ap₂, ◌∙◌, subst, arith, append_assoc, append-nil}
+use Rattle.std.proofs.Common.{◌≡◌, ℕ, ◌+◌, eqb, cond, List, [], ◌∷◌, ◌++◌, length, refl, sym, ap, ap₂, ◌∙◌, subst, arith, append_assoc, append-nil}
 use Rattle.std.specs.Prelude.{All, sum_by}
 use Rattle.std.proofs.lemmas.List.Elements.{All-nil, All-cons, All-append, All-head, All-tail, filter_map-append}
 use Rattle.std.proofs.lemmas.List.Sums.{sum_by-cons}
-use Rattle.frame_link.specs.Relay.{Said}
 use Rattle.frame_link.specs.declared.outcome.Outcome.{Outcome}
 use Rattle.frame_link.specs.Served.{Line, replies_of}
 use Rattle.agent_core.specs.Journals.{Begins}
@@ -13,7 +12,7 @@ use Rattle.taos_monitor.specs.Cells.{Node, Journals, Cell, OfShard, OfObject, nu
 use Rattle.taos_monitor.specs.World.{World}
 use Rattle.taos_monitor.specs.Laws.{AnsweredStays}
 use Rattle.taos_lanes.specs.Visits.{Visit, VisitBy, begun, left, Chain, places_of, all_places, AnsweredIn, times_own}
-use Rattle.taos_lanes.specs.Lanes.{LaneRun, times_in_lane, owned_in, IsFresh, IsLaneAnswered}
+use Rattle.taos_lanes.specs.Lanes.{LaneRun, times_in_lane, owned_in, IsFresh, IsLaneAnswered, SawBegins}
 use Rattle.taos_lanes.specs.Laws.{ChainGoesOn, JoinsOneMore, JoinedAreClosed, ClosedServesAll}
 
 -- ---- journals that begin journals
@@ -41,36 +40,42 @@ times-append place (x ∷ xs) ys = omega (arith, times-append place xs ys, times
 
 -- ---- one lane
 
-module _ {n : Node} {says : Option (ℕ → List ℕ → Said)} {limit : ℕ} where
+module _ {n : Node} {limit : ℕ} where
   -- what was seen before a chain begins what was seen behind it
-  pub chain_extends : (first last : World) (visits : List (Visit n says limit)) → Chain first visits last → Extends first.seen.journals last.seen.journals
+  pub chain_extends : (first last : World) (visits : List (Visit n limit)) → Chain first visits last → Extends first.seen.journals last.seen.journals
   chain_extends first last [] same = subst (λ (x : World). Extends first.seen.journals x.seen.journals) (sym same) (extends_itself first.seen.journals)
   chain_extends first last (v ∷ visits) c =
-      extends_on (subst (λ (x : World). Extends x.seen.journals (left v).seen.journals) c.0 v.connection.goes_on.goes_on)
+      extends_on (subst (λ (x : World). Extends x.seen.journals (left v).seen.journals) c.0 v.connects.connection.goes_on.goes_on)
       (chain_extends (left v) last visits c.1)
 
   -- the own places of a seat are those of its connections, in order
-  pub chain_owns : (cell : Cell) (first last : World) (visits : List (Visit n says limit)) → Chain first visits last →
+  pub chain_owns : (cell : Cell) (first last : World) (visits : List (Visit n limit)) → Chain first visits last →
       last.seen.own cell ≡ first.seen.own cell ++ numbers_in cell (all_places visits)
   chain_owns cell first last [] same = ap (λ (x : World). x.seen.own cell) same ∙ sym (append-nil (first.seen.own cell))
   chain_owns cell first last (v ∷ visits) c =
       chain_owns cell (left v) last visits c.1
-      ∙ ap (λ (l : List ℕ). l ++ numbers_in cell (all_places visits)) (v.connection.goes_on.owned cell ∙ ap (λ (x : World). x.seen.own cell ++ numbers_in cell (places_of v)) c.0)
+      ∙ ap (λ (l : List ℕ). l ++ numbers_in cell (all_places visits)) (v.connects.connection.goes_on.owned cell ∙ ap (λ (x : World). x.seen.own cell ++ numbers_in cell (places_of v)) c.0)
       ∙ append_assoc (first.seen.own cell) (numbers_in cell (places_of v)) (numbers_in cell (all_places visits))
       ∙ ap (λ (l : List ℕ). first.seen.own cell ++ l) (sym (filter_map-append (number_in cell) (places_of v) (all_places visits)))
 
   -- each connection is answered in all legal journals that go on from the last ones
-  pub chain_answered : AnsweredStays n → (J : Journals) → AreLegal n J → (first last : World) (visits : List (Visit n says limit)) → Chain first visits last →
+  pub chain_answered : AnsweredStays n → (J : Journals) → AreLegal n J → (first last : World) (visits : List (Visit n limit)) → Chain first visits last →
       Extends last.seen.journals J → All (AnsweredIn J) visits
   chain_answered stays J legal first last [] c ext = All-nil (AnsweredIn J)
   chain_answered stays J legal first last (v ∷ visits) c ext =
       All-cons (AnsweredIn J) v visits
       (stays (left v).seen.journals J (extends_on (chain_extends (left v) last visits c.1) ext) legal
-      v.connection.used v.connection.served.payloads (replies_of v.connection.served.turns) v.outcome v.connection.answered)
+      v.connects.connection.used v.connects.connection.served.payloads (replies_of v.connects.connection.served.turns) v.outcome v.connects.connection.answered)
       (chain_answered stays J legal (left v) last visits c.1 ext)
 
+  -- what each had seen when it ended begins those that begin with what the last had
+  pub chain_begins : (J : Journals) (first last : World) (visits : List (Visit n limit)) → Chain first visits last → Extends last.seen.journals J → All (λ (v : Visit n limit). Extends (left v).seen.journals J) visits
+  chain_begins J first last [] c ext = All-nil _
+  chain_begins J first last (v ∷ visits) c ext =
+      All-cons (λ (w : Visit n limit). Extends (left w).seen.journals J) v visits (extends_on (chain_extends (left v) last visits c.1) ext) (chain_begins J (left v) last visits c.1 ext)
+
   -- and each of its places counts at one of them
-  pub times_visits : (cell : Cell) (place : ℕ) (visits : List (Visit n says limit)) → times place (numbers_in cell (all_places visits)) ≡ sum_by (times_own cell place) visits
+  pub times_visits : (cell : Cell) (place : ℕ) (visits : List (Visit n limit)) → times place (numbers_in cell (all_places visits)) ≡ sum_by (times_own cell place) visits
   times_visits cell place [] = refl
   times_visits cell place (v ∷ visits) =
       ap (times place) (filter_map-append (number_in cell) (places_of v) (all_places visits))
@@ -100,9 +105,18 @@ module _ {n : Node} {limit : ℕ} where
       (chain_answered stays J legal lane.first lane.last lane.visits lane.chain (All-head (λ (x : LaneRun n limit). Extends x.last.seen.journals J) lane lanes ext))
       (lanes_answered stays J legal lanes (All-tail (λ (x : LaneRun n limit). Extends x.last.seen.journals J) lane lanes ext))
 
+module _ {n : Node} {limit : ℕ} where
+  lanes_begin : (J : Journals) (lanes : List (LaneRun n limit)) → All (λ (lane : LaneRun n limit). Extends lane.last.seen.journals J) lanes → All (SawBegins J) lanes
+  lanes_begin J [] ext = All-nil (SawBegins J)
+  lanes_begin J (lane ∷ lanes) ext =
+      All-cons (SawBegins J) lane lanes
+      (let last = All-head (λ (x : LaneRun n limit). Extends x.last.seen.journals J) lane lanes ext in record { last = last; each = chain_begins J lane.first lane.last lane.visits lane.chain last })
+      (lanes_begin J lanes (All-tail (λ (x : LaneRun n limit). Extends x.last.seen.journals J) lane lanes ext))
+
 pub closed_serves_all : (n : Node) (limit : ℕ) → AnsweredStays n → ClosedServesAll n limit
 closed_serves_all n limit stays J lanes closed = record {
   legal = closed.legal;
+  begin = lanes_begin J lanes closed.begin;
   answered = lanes_answered stays J closed.legal lanes closed.begin;
   one_owner = λ cell place. sym (lanes_times cell place lanes closed.fresh) ∙ closed.owned cell place;
 }
@@ -148,4 +162,4 @@ goes_on first last [] v c same = (same ∙ c, refl)
 goes_on first last (w ∷ visits) v c same = (c.0, goes_on (left w) last visits v c.1 same)
 
 pub chain_goes_on : (n : Node) (limit : ℕ) → ChainGoesOn n limit
-chain_goes_on n limit says first last visits v c same = goes_on first last visits v c same
+chain_goes_on n limit first last visits v c same = goes_on first last visits v c same

@@ -34,9 +34,7 @@ pub same_ends : {X : Type 0} (xs ys zs : List (LaneShown X)) → AllZip HasOther
 same_ends [] [] [] a b = tt
 same_ends (x ∷ xs) (y ∷ ys) (z ∷ zs) a b = (
   record {
-    clock = b.0.same.clock ∙ a.0.clock;
-    faults = b.0.same.faults ∙ a.0.faults;
-    says = b.0.same.says ∙ a.0.says;
+    outside = b.0.same.outside ∙ a.0.outside;
     door = b.0.same.door ∙ a.0.door;
   },
   same_ends xs ys zs a.1 b.1,

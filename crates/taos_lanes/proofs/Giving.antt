@@ -1,8 +1,10 @@
 -- One connection more of a lane's door.
-use Rattle.std.proofs.Common.{◌≡◌, ℕ, List, [], ◌∷◌, ◌++◌, length, Option, None, Some, sym, ap, ◌∙◌, arith, append_assoc, length-append}
+use Rattle.std.proofs.Common.{◌≡◌, ℕ, List, [], ◌∷◌, ◌++◌, length, Option, None, Some, sym, ap, subst, inl, ◌∙◌, arith, append_assoc, length-append}
 use Rattle.frame_link.specs.declared.outcome.Outcome.{Outcome}
 use Rattle.frame_link.specs.Served.{Line}
-use Rattle.frame_link.specs.Doors.{OpensKnown, Counts, TakesBack}
+use Rattle.frame_link.specs.Doors.{OpensKnown, Counts, TakesBackKnown}
+use Rattle.frame_link.specs.Plan.{HasCounted}
+use Rattle.frame_link.proofs.Counted.{counted_one, counted_both}
 use Rattle.taos_lanes.specs.Telling.{Telling}
 use Rattle.taos_lanes.specs.Visits.{VisitBy}
 use Rattle.taos_lanes.specs.Doors.{GaveKnown, TookKnown, AreFew, IsTold, IsVisitOf, AreVisits, ThroughGoesOn}
@@ -15,7 +17,7 @@ gives_one (Some xs) (Some ys) (Some zs) given x g o = g ∙ (ap (λ (l : List _)
 
 -- a door that is orderly and gives one and takes one back stays so, and tells that one behind the others
 takes_one : {X : Type 0} (left left_after back before after : Option (List X)) (kept : List X) (given given_after : ℕ) (g x : X) → IsTold left → IsTold before → AreFew before given →
-    TookKnown back before kept → OpensKnown left left_after (Some g) → Counts left given given_after (Some g) → TakesBack before after given_after x →
+    TookKnown back before kept → OpensKnown left left_after (Some g) → Counts left given given_after (Some g) → TakesBackKnown before after given_after x →
     TookKnown back after (kept ++ x ∷ []) × IsTold left_after × IsTold after × AreFew after given_after
 takes_one None left_after back before after kept given given_after g x told held few took opens counts takes = absurd told
 takes_one (Some ls) None back before after kept given given_after g x told held few took opens counts takes = absurd opens
@@ -39,11 +41,18 @@ module _ {In Out S : Type 0} (telling : Telling In Out) {Serves : Line S → Lin
   visits_more (x ∷ given) (y ∷ kept) (w ∷ visits) g k v a is = (a.0, visits_more given kept visits g k v a.1 is)
   visits_more _ _ _ g k v a is = absurd a
 
+-- one that is given is counted
+counts_one : {X : Type 0} (left : Option (List X)) (before after : ℕ) (x : X) → Counts left before after (Some x) → HasCounted 1 before after
+counts_one None before after x counts = counted_one before after counts
+counts_one (Some xs) before after x counts = inl counts
+
 pub through_goes_on : {In Out S : Type 0} (telling : Telling In Out) (Serves : Line S → Line S → Outcome → Type 0) (limit : ℕ) → ThroughGoesOn telling Serves limit
 through_goes_on telling Serves limit before middle after visits g k v t opens counts takes is = record {
   given = t.given ++ g ∷ [];
   kept = t.kept ++ k ∷ [];
   gave = gives_one before.left middle.left after.left t.given g t.gave opens;
+  count = subst (λ (i : ℕ). HasCounted i before.given after.given) (sym (length-append visits (v ∷ [])))
+      (counted_both (length visits) 1 before.given middle.given after.given t.count (counts_one middle.left middle.given after.given g counts));
   took = λ orderly.
       let was = t.took orderly in
       let now = takes_one middle.left after.left before.back middle.back after.back t.kept middle.given after.given g k was.1.left was.1.back was.1.few was.0 opens counts takes in

@@ -6,6 +6,7 @@ use Rattle.std.specs.List.{cons_option, position_or_len}
 use Rattle.std.proofs.lemmas.List.Elements.{All-nil, All-cons, All-head, All-tail}
 use Rattle.std.proofs.lemmas.List.Sums.{sum_by-cons}
 use Rattle.std.proofs.lemmas.Option.{same_Some}
+use Rattle.frame_link.specs.Doors.{DoorSeen}
 use Rattle.agent_core.specs.Alone as alone
 use Rattle.agent_core.specs.Alone.{plans_in}
 use Rattle.agent_core.specs.Journals.{Entry, ShardSeen, IsLegalJournal}
@@ -29,7 +30,7 @@ use Rattle.taos_monitor.specs.World.{world_of}
 use Rattle.frame_link.specs.declared.limits.Limits.{Limits}
 use Rattle.taos_lanes.specs.declared.lane.Stock.{Stock}
 use Rattle.taos_lanes.specs.declared.total.Total.{Total}
-use Rattle.taos_lanes.specs.Doors.{DoorSeen, GoesThrough}
+use Rattle.taos_lanes.specs.Doors.{GoesThrough}
 use Rattle.taos_lanes.specs.Telling.{Telling}
 use Rattle.taos_lanes.specs.Visits.{Visit, is_broken, is_lacking}
 use Rattle.taos_lanes.specs.Lanes.{LaneRun, ServesAll, IsFresh}
@@ -83,9 +84,8 @@ module _ {In Out : Type 0} (telling : Telling In Out) (keys : NodeKeys) (cells :
 
   abbrev pub run_of : (before after : LaneShown (In × Out)) → Serves before after → LaneRun (node_at keys cells) limits.frames
   run_of before after s = record {
-    says = before.says;
-    first = world_at cells before.clock before.faults s.old;
-    last = world_at cells after.clock after.faults s.new;
+    first = world_at cells before.outside s.old;
+    last = world_at cells after.outside s.new;
     visits = s.serves.visits;
     chain = s.serves.chain;
     door_failed = s.new.tally.door_failed;
@@ -127,10 +127,8 @@ module _ {In Out : Type 0} (telling : Telling In Out) (keys : NodeKeys) (cells :
   run_is old before after new g s e =
       let fresh : IsFreshStock cells s.old = subst (IsFreshStock cells) (same_stock before.work g.work.0 s.old g.work.1 s.had) g.work.2 in
       record {
-        says = g.same.says;
-        first = λ k. world_of (g.same.clock k) (g.same.faults k) (shards_unseen cells.shards s.old.passes fresh.shards_fresh k) (objects_unseen cells.objects s.old.racked fresh.objects_fresh k);
-        clock = sym e.same.clock;
-        faults = sym e.same.faults;
+        first = λ k. world_of (g.same.outside k) (shards_unseen cells.shards s.old.passes fresh.shards_fresh k) (objects_unseen cells.objects s.old.racked fresh.objects_fresh k);
+        outside = sym e.same.outside;
         through = subst (λ (d : DoorSeen (In × Out) × DoorSeen (In × Out)). GoesThrough telling limits.connections d.0 d.1 (s.new.tally.door_failed ≡ true) s.serves.visits)
             (λ k. (g.same.door k, sym e.same.door k)) s.serves.through;
         cause = subst (λ (d : DoorSeen (In × Out) × DoorSeen (In × Out)). HasDoorCause s.new.tally.door_failed d.0.faults d.1.faults) (λ k. (g.same.door k, sym e.same.door k)) s.serves.cause;
@@ -180,8 +178,8 @@ module _ {In Out : Type 0} (telling : Telling In Out) (keys : NodeKeys) (cells :
   runs_counted befores afters z total is = record {
     lanes = is.lanes ∙ as_many befores afters z;
     served = is.served ∙ sums (λ (s : Stock). s.tally.served) (λ (run : LaneRun (node_at keys cells) limits.frames). length run.visits) (λ b a s. s.serves.counted.served) befores afters z;
-    broken = is.broken ∙ sums (λ (s : Stock). s.tally.broken) (λ (run : LaneRun (node_at keys cells) limits.frames). count_by (λ (v : Visit (node_at keys cells) run.says limits.frames). is_broken v.outcome) run.visits) (λ b a s. s.serves.counted.broken) befores afters z;
-    lacked = is.lacked ∙ sums (λ (s : Stock). s.tally.lacked) (λ (run : LaneRun (node_at keys cells) limits.frames). count_by (λ (v : Visit (node_at keys cells) run.says limits.frames). is_lacking v.outcome) run.visits) (λ b a s. s.serves.counted.lacked) befores afters z;
+    broken = is.broken ∙ sums (λ (s : Stock). s.tally.broken) (λ (run : LaneRun (node_at keys cells) limits.frames). count_by (λ (v : Visit (node_at keys cells) limits.frames). is_broken v.outcome) run.visits) (λ b a s. s.serves.counted.broken) befores afters z;
+    lacked = is.lacked ∙ sums (λ (s : Stock). s.tally.lacked) (λ (run : LaneRun (node_at keys cells) limits.frames). count_by (λ (v : Visit (node_at keys cells) limits.frames). is_lacking v.outcome) run.visits) (λ b a s. s.serves.counted.lacked) befores afters z;
     doors_failed = is.doors_failed ∙ sums (λ (s : Stock). cond s.tally.door_failed 1 0) (λ (run : LaneRun (node_at keys cells) limits.frames). cond run.door_failed 1 0) (λ b a s. refl) befores afters z;
     first_failed = is.first_failed ∙ same_first befores afters z;
   }

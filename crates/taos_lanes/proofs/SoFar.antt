@@ -5,19 +5,20 @@ use Rattle.std.proofs.lemmas.List.Sums.{sum_by_push}
 use Rattle.frame_link.specs.declared.limits.Limits.{Limits}
 use Rattle.frame_link.specs.declared.outcome.Outcome.{Outcome}
 use Rattle.frame_link.specs.Faults.{Rose}
-use Rattle.frame_link.specs.Relay.{Said}
 use Rattle.frame_link.specs.Served.{Line}
-use Rattle.frame_link.specs.Doors.{OpensKnown, Counts, TakesBack}
+use Rattle.frame_link.specs.Doors.{DoorSeen, OpensKnown, Counts, TakesBack, TakesBackKnown}
+use Rattle.frame_link.specs.Plan.{HasCounted}
+use Rattle.frame_link.proofs.Counted.{counted_none}
 use Rattle.object_core.specs.Shelving.{ObjectFixed}
 use Rattle.agent_core.specs.State.{Plan}
 use Rattle.taos_monitor.specs.Cells.{Node, alone_of}
 use Rattle.taos_monitor.specs.World.{Setting, World, setting_of}
-use Rattle.taos_monitor.specs.Connection.{IsConnection}
+use Rattle.taos_monitor.specs.Connection.{Connects}
 use Rattle.taos_lanes.specs.declared.tally.Tally.{Tally}
 use Rattle.taos_lanes.specs.Telling.{Telling, change}
 use Rattle.taos_lanes.specs.Visits as Visits
 use Rattle.taos_lanes.specs.Visits.{VisitBy, among, begun, Chain, is_broken, is_lacking}
-use Rattle.taos_lanes.specs.Doors.{DoorSeen, GaveKnown, TookKnown, AreFew, IsTold, IsNoneLeft, Through, IsVisitOf}
+use Rattle.taos_lanes.specs.Doors.{GaveKnown, TookKnown, AreFew, IsTold, IsNoneLeft, Through, IsVisitOf}
 use Rattle.taos_lanes.specs.Working.{LaneSeen, lane_of, IsTallyOf, ServesDoorBy, HasDoorCause}
 use Rattle.taos_lanes.proofs.Closing.{goes_on}
 use Rattle.taos_lanes.proofs.Giving.{through_goes_on}
@@ -53,6 +54,7 @@ module _ {In Out S : Type 0} (telling : Telling In Out) (Serves : Line S → Lin
       given = [];
       kept = [];
       gave = gave_none before.door.left;
+      count = counted_none before.door.given;
       took = λ orderly. (took_none before.door.back, orderly);
       are = tt;
     };
@@ -72,7 +74,7 @@ module _ {In Out S : Type 0} (telling : Telling In Out) (Serves : Line S → Lin
   pub one_more : (before now after : LaneSeen S (In × Out)) (tally added : Tally) (g k : In × Out) (v : VisitBy Serves limits.frames) →
       SoFar telling Serves limits before now tally →
       begun v ≡ now.world → Visits.left v ≡ after.world →
-      OpensKnown now.door.left after.door.left (Some g) → Counts now.door.left now.door.given after.door.given (Some g) → TakesBack now.door.back after.door.back after.door.given k →
+      OpensKnown now.door.left after.door.left (Some g) → Counts now.door.left now.door.given after.door.given (Some g) → TakesBackKnown now.door.back after.door.back after.door.given k →
       IsVisitOf telling g k v → after.door.faults ≡ now.door.faults → tally.served < limits.connections →
       added.served ≡ tally.served + 1 → added.broken ≡ tally.broken + cond (is_broken v.outcome) 1 0 → added.lacked ≡ tally.lacked + cond (is_lacking v.outcome) 1 0 →
       added.door_failed ≡ tally.door_failed →
@@ -96,17 +98,17 @@ module _ {In Out S : Type 0} (telling : Telling In Out) (Serves : Line S → Lin
       SoFar telling Serves limits before now tally →
       begun v ≡ now.world → Visits.left v ≡ after.world → opened ≡ Some g →
       OpensKnown now.door.left accepted.left opened × Counts now.door.left now.door.given accepted.given opened → accepted.back ≡ now.door.back → accepted.faults ≡ now.door.faults →
-      TakesBack accepted.back after.door.back accepted.given k → after.door.left ≡ accepted.left → after.door.given ≡ accepted.given → after.door.faults ≡ accepted.faults →
+      TakesBack accepted after.door k → after.door ≡ record accepted { back = after.door.back } →
       IsVisitOf telling g k v → tally.served < limits.connections →
       added.served ≡ tally.served + 1 → added.broken ≡ tally.broken + cond (is_broken v.outcome) 1 0 → added.lacked ≡ tally.lacked + cond (is_lacking v.outcome) 1 0 →
       added.door_failed ≡ tally.door_failed →
       SoFar telling Serves limits before after added
-  one_served before now after accepted tally added opened g k v s begins ends is gives same_back steady takes same_left same_given same_faults visit more served broken lacked fresh =
+  one_served before now after accepted tally added opened g k v s begins ends is gives same_back steady takes rest visit more served broken lacked fresh =
       one_more before now after tally added g k v s begins ends
-      (subst (λ (x : Option (List (In × Out)) × Option (In × Out)). OpensKnown now.door.left x.0 x.1) (λ i. (sym same_left i, is i)) gives.0)
-      (subst (λ (x : ℕ × Option (In × Out)). Counts now.door.left now.door.given x.0 x.1) (λ i. (sym same_given i, is i)) gives.1)
-      (subst (λ (x : Option (List (In × Out)) × ℕ). TakesBack x.0 after.door.back x.1 k) (λ i. (same_back i, sym same_given i)) takes)
-      visit (same_faults ∙ steady) more served broken lacked fresh
+      (subst (λ (x : Option (List (In × Out)) × Option (In × Out)). OpensKnown now.door.left x.0 x.1) (λ i. ((sym rest i).left, is i)) gives.0)
+      (subst (λ (x : ℕ × Option (In × Out)). Counts now.door.left now.door.given x.0 x.1) (λ i. ((sym rest i).given, is i)) gives.1)
+      (subst (λ (x : Option (List (In × Out)) × ℕ). TakesBackKnown x.0 after.door.back x.1 k) (λ i. (same_back i, (sym rest i).given)) takes)
+      visit (ap (λ (d : DoorSeen (In × Out)). d.faults) rest ∙ steady) more served broken lacked fresh
 
 -- ---- at the end
 
@@ -150,6 +152,7 @@ module _ {In Out S : Type 0} (telling : Telling In Out) (Serves : Line S → Lin
         given = s.through.given;
         kept = s.through.kept;
         gave = gives_none before.door.left now.door.left door.left s.through.given s.through.gave opens;
+        count = subst (HasCounted (length s.visits) before.door.given) (sym given) s.through.count;
         took = λ orderly.
             let was = s.through.took orderly in (
               subst (λ (b : Option (List (In × Out))). TookKnown before.door.back b s.through.kept) (sym back) was.0,
@@ -181,6 +184,7 @@ module _ {In Out S : Type 0} (telling : Telling In Out) (Serves : Line S → Lin
         given = s.through.given;
         kept = s.through.kept;
         gave = subst (λ (l : Option (List (In × Out))). GaveKnown before.door.left l s.through.given) (sym told) s.through.gave;
+        count = subst (HasCounted (length s.visits) before.door.given) (sym given) s.through.count;
         took = λ orderly.
             let was = s.through.took orderly in (
               subst (λ (b : Option (List (In × Out))). TookKnown before.door.back b s.through.kept) (sym back) was.0,
@@ -206,8 +210,8 @@ module _ {In Out S : Type 0} (telling : Telling In Out) (Serves : Line S → Lin
 
 -- ---- what a connection is served in
 
-module _ (node : List Plan → List ObjectFixed → Node) {p p0 : List Plan} {o o0 : List ObjectFixed} {a b : Bool} {s s0 : Option (ℕ → List ℕ → Said)} where
-  pub settled : p ≡ p0 → o ≡ o0 → a ≡ false → b ≡ false → s ≡ s0 → (limit : ℕ) (before after : Line World) (outcome : Outcome) →
-      IsConnection (setting_of (node p o) (alone_of a b) s) limit before after outcome → IsConnection (among (node p0 o0) s0) limit before after outcome
-  settled plans objects shards_among objects_among says limit before after outcome =
-      subst (λ (x : Setting). IsConnection x limit before after outcome) (λ i. setting_of (node (plans i) (objects i)) (alone_of (shards_among i) (objects_among i)) (says i))
+module _ (node : List Plan → List ObjectFixed → Node) {p p0 : List Plan} {o o0 : List ObjectFixed} {a b : Bool} where
+  pub settled : p ≡ p0 → o ≡ o0 → a ≡ false → b ≡ false → (limit : ℕ) (before after : Line World) (outcome : Outcome) →
+      Connects (setting_of (node p o) (alone_of a b)) limit before after outcome → Connects (among (node p0 o0)) limit before after outcome
+  settled plans objects shards_among objects_among limit before after outcome =
+      subst (λ (x : Setting). Connects x limit before after outcome) (λ i. setting_of (node (plans i) (objects i)) (alone_of (shards_among i) (objects_among i)))

@@ -1,7 +1,8 @@
 -- The connections that a lane's door gave and took back, by what the door tells.
 use Rattle.std.specs.Prelude.{◌≡◌, ◌⊎◌, ℕ, ◌≤◌, List, [], ◌∷◌, ◌++◌, length, Option, None, Some, ⊤}
-use Rattle.frame_link.specs.Doors.{OpensKnown, Counts, TakesBack}
+use Rattle.frame_link.specs.Doors.{DoorSeen, OpensKnown, Counts, TakesBackKnown}
 use Rattle.frame_link.specs.declared.outcome.Outcome.{Outcome}
+use Rattle.frame_link.specs.Plan.{HasCounted}
 use Rattle.frame_link.specs.Served.{Line}
 use Rattle.taos_lanes.specs.Telling.{Telling}
 use Rattle.taos_lanes.specs.Visits.{VisitBy}
@@ -29,21 +30,6 @@ abbrev pub AreFew : {X : Type 0} → Option (List X) → ℕ → Type 0
 AreFew None given = ⊤
 AreFew (Some xs) given = length xs ≤ given
 
--- a door, as contracts see it
-pub record DoorSeen (X : Type 0) : Type 0 where
-  -- the connections that are left, and those that were given back, where it tells them
-  pub left : Option (List X)
-  pub back : Option (List X)
-  -- how many it gave
-  pub given : ℕ
-  -- how often a call has failed
-  pub faults : ℕ
-
--- a door of these
-abbrev pub door_of : {X : Type 0} → Option (List X) → Option (List X) → ℕ → ℕ → DoorSeen X
-door_of left back given faults =
-    record { left = left; back = back; given = given; faults = faults }
-
 -- it is told
 abbrev pub IsTold : {X : Type 0} → Option (List X) → Type 0
 IsTold None = ⊥
@@ -59,10 +45,10 @@ module _ {In Out S : Type 0} (telling : Telling In Out) {Serves : Line S → Lin
     {limit : ℕ} where
   -- what the connection came from and came to are the two ends as they were given and given back
   pub record IsVisitOf (given kept : In × Out) (v : VisitBy Serves limit) : Type 0 where
-    pub input : v.before.input ≡ telling.left given.0
-    pub output : v.before.output ≡ telling.written given.1
-    pub input_after : v.after.input ≡ telling.left kept.0
-    pub output_after : v.after.output ≡ telling.written kept.1
+    pub input : v.before.input ≡ telling.input given.0
+    pub output : v.before.output ≡ telling.output given.1
+    pub input_after : v.after.input ≡ telling.input kept.0
+    pub output_after : v.after.output ≡ telling.output kept.1
 
   -- these are the connections of what was given and given back, in order
   abbrev pub AreVisits : (given kept : List (In × Out)) → List (VisitBy Serves limit) → Type 0
@@ -76,6 +62,8 @@ module _ {In Out S : Type 0} (telling : Telling In Out) {Serves : Line S → Lin
     pub given : List (In × Out)
     pub kept : List (In × Out)
     pub gave : GaveKnown before.left after.left given
+    -- each was counted, whether or not the door tells what it has left
+    pub count : HasCounted (length visits) before.given after.given
     -- where the door is orderly it tells those behind the ones that it had taken back
     pub took : IsOrderly before → TookKnown before.back after.back kept × IsOrderly after
     pub are : AreVisits given kept visits
@@ -97,6 +85,6 @@ ThroughGoesOn {In} {Out} telling Serves limit =
     Through telling before middle visits →
     OpensKnown middle.left after.left (Some g) →
     Counts middle.left middle.given after.given (Some g) →
-    TakesBack middle.back after.back after.given k →
+    TakesBackKnown middle.back after.back after.given k →
     IsVisitOf telling g k v →
     Through telling before after (visits ++ v ∷ [])

@@ -82,9 +82,7 @@ WorkIs is lane = (stock : Stock) × (lane.work ≡ Some stock) × is stock
 
 -- the lane is as before, but for its work
 pub record HasOtherWork {X : Type 0} (before after : LaneShown X) : Type 0 where
-  pub clock : after.clock ≡ before.clock
-  pub faults : after.faults ≡ before.faults
-  pub says : after.says ≡ before.says
+  pub outside : after.outside ≡ before.outside
   pub door : after.door ≡ before.door
 
 -- the lane is as before, with a fresh stock of these cells

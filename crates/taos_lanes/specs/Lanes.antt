@@ -1,18 +1,16 @@
 -- Lanes that serve connections at seats of one node's cells.
-use Rattle.std.specs.Prelude.{◌≡◌, ℕ, Bool, List, [], All, Option, sum_by}
+use Rattle.std.specs.Prelude.{◌≡◌, ℕ, Bool, List, [], All, sum_by}
 use Rattle.std.specs.List.{flat_map}
-use Rattle.frame_link.specs.Relay.{Said}
 use Rattle.turn_cell.specs.Journal.{once_within, HasEach}
 use Rattle.taos_monitor.specs.Cells.{Node, Journals, Cell, entries_in, AreLegal, Extends}
 use Rattle.taos_monitor.specs.World.{World}
-use Rattle.taos_lanes.specs.Visits.{Visit, Chain, AnsweredIn, times_own}
+use Rattle.taos_lanes.specs.Visits.{Visit, Chain, left, AnsweredIn, times_own}
 
 -- a lane of a node: what it began with and came to, by its connections, in order
 pub record LaneRun (n : Node) (limit : ℕ) : Type 0 where
-  pub says : Option (ℕ → List ℕ → Said)
   pub first : World
   pub last : World
-  pub visits : List (Visit n says limit)
+  pub visits : List (Visit n limit)
   pub chain : Chain first visits last
   -- whether its door failed at last
   pub door_failed : Bool
@@ -34,10 +32,17 @@ module _ {n : Node} {limit : ℕ} where
   abbrev pub IsLaneAnswered : Journals → LaneRun n limit → Type 0
   IsLaneAnswered J lane = All (AnsweredIn J) lane.visits
 
+  -- the journals begin with what the lane saw of them at last, and with what each of its connections
+  -- had seen when it ended
+  pub record SawBegins (J : Journals) (lane : LaneRun n limit) : Type 0 where
+    pub last : Extends lane.last.seen.journals J
+    pub each : All (λ (v : Visit n limit). Extends (left v).seen.journals J) lane.visits
+
   -- The whole: the journals are legal, each connection of each lane is answered in them by its own
   -- places, and each place of each cell is own of one connection, once.
   pub record ServesAll (J : Journals) (lanes : List (LaneRun n limit)) : Type 0 where
     pub legal : AreLegal n J
+    pub begin : All (SawBegins J) lanes
     pub answered : All (IsLaneAnswered J) lanes
     pub one_owner : (cell : Cell) (place : ℕ) →
         sum_by (times_in_lane cell place) lanes ≡ once_within 0 (entries_in J cell) place

@@ -1,6 +1,5 @@
 -- What the laws say of lanes.
-use Rattle.std.specs.Prelude.{◌≡◌, ℕ, List, [], ◌∷◌, ◌++◌, length, All, Option}
-use Rattle.frame_link.specs.Relay.{Said}
+use Rattle.std.specs.Prelude.{◌≡◌, ℕ, List, [], ◌∷◌, ◌++◌, length, All}
 use Rattle.agent_core.specs.Journals.{Begins}
 use Rattle.turn_cell.specs.Journal.{HasEach}
 use Rattle.taos_monitor.specs.Cells.{Node, Journals, Cell, OfShard, OfObject, AreLegal}
@@ -16,9 +15,8 @@ ClosedServesAll n limit =
 -- one more connection of a lane
 abbrev pub ChainGoesOn : Node → ℕ → Type 0
 ChainGoesOn n limit =
-    (says : Option (ℕ → List ℕ → Said)) (first last : World) (visits : List (Visit n says limit))
-    (v : Visit n says limit) → Chain first visits last → begun v ≡ last →
-    Chain first (visits ++ v ∷ []) (left v)
+    (first last : World) (visits : List (Visit n limit)) (v : Visit n limit) →
+    Chain first visits last → begun v ≡ last → Chain first (visits ++ v ∷ []) (left v)
 
 -- what the joined passes of these lanes have seen of a cell, and their own places there: `journal`
 -- reads the cell's journal

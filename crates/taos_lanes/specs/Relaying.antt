@@ -2,7 +2,7 @@
 use Rattle.std.specs.Prelude.{◌≡◌, ℕ, Bool, true, List, length, count_by}
 use Rattle.agent_shards.specs.Each.{Each3}
 use Rattle.frame_link.specs.declared.outcome.Outcome.{Outcome}
-use Rattle.frame_link.specs.Served.{Line, IsServed}
+use Rattle.frame_link.specs.Served.{Line, IsServed, HasCauses, IsComplete}
 use Rattle.relay_core.specs.declared.resealing.RelayTable.{RelayTable}
 use Rattle.relay_core.specs.Serving.{Answers, GivesUp}
 use Rattle.frame_link.specs.declared.limits.Limits.{Limits}
@@ -14,9 +14,12 @@ use Rattle.taos_lanes.specs.Totals.{AreCountedBy}
 use Rattle.taos_lanes.specs.Visits.{Chain, VisitBy, is_broken, is_lacking}
 use Rattle.taos_lanes.specs.Working.{HasDoorCause, ServesDoorBy, lane_of}
 
--- how a relay serves a connection
-abbrev pub ServesRelayed : ℕ → Line RelayTable → Line RelayTable → Outcome → Type 0
-ServesRelayed limit = IsServed Answers GivesUp limit
+-- How a relay serves a connection, with the cause of its outcome. It has no clock, so none fails.
+pub record ServesRelayed (limit : ℕ) (before after : Line RelayTable) (outcome : Outcome) :
+    Type 0 where
+  pub served : IsServed Answers GivesUp limit before after outcome
+  pub causes : HasCauses (λ _. 0) before after outcome
+  pub complete : IsComplete (λ _. 0) limit before after outcome
 
 -- a connection that a relay served
 abbrev pub RelayVisit : ℕ → Type 0
@@ -30,9 +33,7 @@ pub record RelayRun (limit : ℕ) : Type 0 where
 
 -- the lane is as before, but for its door and for what it counted
 pub record HasOtherDoor {X : Type 0} (before after : LaneShown X) : Type 0 where
-  pub clock : after.clock ≡ before.clock
-  pub faults : after.faults ≡ before.faults
-  pub says : after.says ≡ before.says
+  pub outside : after.outside ≡ before.outside
   pub work : after.work ≡ before.work
 
 -- The lane served connections of its door by this table, and counted them.

@@ -38,10 +38,8 @@ unseen = viewed (λ s. []) (λ s. [])
 -- its door
 pub record IsRunOf {In Out : Type 0} (telling : Telling In Out) {n : Node} (limits : Limits)
     (before after : LaneShown (In × Out)) (run : LaneRun n limits.frames) : Type 0 where
-  pub says : run.says ≡ before.says
-  pub first : run.first ≡ world_of before.clock before.faults unseen unseen
-  pub clock : run.last.clock ≡ after.clock
-  pub faults : run.last.faults ≡ after.faults
+  pub first : run.first ≡ world_of before.outside unseen unseen
+  pub outside : run.last.outside ≡ after.outside
   pub through : GoesThrough telling limits.connections before.door after.door
       (run.door_failed ≡ true) run.visits
   pub cause : HasDoorCause run.door_failed before.door.faults after.door.faults
@@ -51,9 +49,9 @@ abbrev pub AreCounted : {n : Node} {limit : ℕ} → List (LaneRun n limit) → 
 AreCounted {n} {limit} =
     AreCountedBy (λ (run : LaneRun n limit). length run.visits)
     (λ (run : LaneRun n limit).
-    count_by (λ (v : Visit n run.says limit). is_broken v.outcome) run.visits)
+    count_by (λ (v : Visit n limit). is_broken v.outcome) run.visits)
     (λ (run : LaneRun n limit).
-    count_by (λ (v : Visit n run.says limit). is_lacking v.outcome) run.visits)
+    count_by (λ (v : Visit n limit). is_lacking v.outcome) run.visits)
     (λ (run : LaneRun n limit). run.door_failed)
 
 -- what the lanes of a node leave: the shards and objects with their journals, and what was counted

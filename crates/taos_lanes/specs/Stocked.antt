@@ -1,16 +1,18 @@
 -- A lane with passes of a node's cells, and what its worker does with them.
 use Rattle.std.specs.Prelude.{◌≡◌, ℕ, List, Option, None, Some}
+use Rattle.frame_link.specs.Doors.{DoorSeen}
+use Rattle.frame_link.specs.Outside.{OutsideSeen, outside_of}
+use Rattle.frame_link.specs.Relay.{Link}
+use Rattle.frame_link.specs.Streams.{Stream}
 use Rattle.agent_core.specs.Journals.{Entry}
 use Rattle.agent_shards.specs.Cells.{shares_of}
 use Rattle.agent_shards.specs.Shards.{ShardCell, KnownShard, ArePasses, SeatSeen, journal_at, own_at, plans_of}
 use Rattle.agent_shards.specs.Objects.{ObjectCell, KnownObject, AreObjectPasses, ShelfSeen, seen_on, own_on, fixed_in}
-use Rattle.frame_link.specs.Relay.{Said}
 use Rattle.object_core.specs.Objects.{ObjectEntry}
 use Rattle.taos_lanes.specs.declared.lane.Lane.{Lane}
 use Rattle.frame_link.specs.declared.limits.Limits.{Limits}
 use Rattle.taos_lanes.specs.declared.lane.Stock.{Stock}
 use Rattle.taos_lanes.specs.declared.tally.Tally.{Tally}
-use Rattle.taos_lanes.specs.Doors.{DoorSeen, door_of}
 use Rattle.taos_lanes.specs.Telling.{Telling, change}
 use Rattle.taos_lanes.specs.Working.{ServesDoor, lane_of}
 use Rattle.taos_monitor.specs.declared.node_keys.NodeKeys.{NodeKeys}
@@ -48,9 +50,9 @@ abbrev pub objects_viewed : List ObjectCell → List KnownObject → Viewed Obje
 objects_viewed cells passes = viewed (seen_on (shelf cells passes)) (own_on (shelf cells passes))
 
 -- what a lane with this stock answers in
-abbrev pub world_at : NodeCells → Option (List ℕ) → ℕ → Stock → World
-world_at cells clock faults stock =
-    world_of clock faults (shards_viewed cells.shards stock.passes)
+abbrev pub world_at : NodeCells → OutsideSeen → Stock → World
+world_at cells outside stock =
+    world_of outside (shards_viewed cells.shards stock.passes)
     (objects_viewed cells.objects stock.racked)
 
 -- the passes of the stock are of these cells
@@ -74,28 +76,18 @@ pub record HaveSameShares (before after : Stock) : Type 0 where
 
 -- a lane, as contracts see it: X is what its door gives
 pub record LaneShown (X : Type 0) : Type 0 where
-  -- the readings that its clock has left, where it tells them
-  pub clock : Option (List ℕ)
-  -- how often its link has failed, and what it tells of its answers
-  pub faults : ℕ
-  pub says : Option (ℕ → List ℕ → Said)
+  -- its clock, and its link to the relay
+  pub outside : OutsideSeen
   pub door : DoorSeen X
   pub work : Option Stock
   -- what its worker counted as a relay
   pub tally : Tally
 
--- a door, by what is told of it
-abbrev pub door_by : {D X : Type 0} → (left back : D → Option (List X)) →
-    (given faults : D → ℕ) → D → DoorSeen X
-door_by left back given faults d = door_of (left d) (back d) (given d) (faults d)
-
--- a lane, by what is told of its clock, its link and its door
-abbrev pub shown_by : {C R D I O : Type 0} → (C → Option (List ℕ)) → (R → ℕ) →
-    (R → Option (ℕ → List ℕ → Said)) → (D → DoorSeen (I × O)) → Lane C R D I O → LaneShown (I × O)
-shown_by readings faults says door lane = record {
-  clock = readings lane.clock;
-  faults = faults lane.relay;
-  says = says lane.relay;
+-- a lane, by what its clock, its link and its door show
+abbrev pub shown_by : {C R D I O : Type 0} → (C → Stream) → (R → Link) →
+    (D → DoorSeen (I × O)) → Lane C R D I O → LaneShown (I × O)
+shown_by clock link door lane = record {
+  outside = outside_of (clock lane.clock) (link lane.relay);
   door = door lane.door;
   work = lane.work;
   tally = lane.tally;
@@ -111,7 +103,6 @@ pub record ServesLane {In Out : Type 0} (telling : Telling In Out) (keys : NodeK
   pub has : after.work ≡ Some new
   pub of : IsStockOf cells new
   pub shares : HaveSameShares old new
-  pub says : after.says ≡ before.says
-  pub serves : ServesDoor telling (node_at keys cells) before.says limits
-      (change (lane_of (world_at cells before.clock before.faults old) before.door)
-      (lane_of (world_at cells after.clock after.faults new) after.door)) new.tally
+  pub serves : ServesDoor telling (node_at keys cells) limits
+      (change (lane_of (world_at cells before.outside old) before.door)
+      (lane_of (world_at cells after.outside new) after.door)) new.tally

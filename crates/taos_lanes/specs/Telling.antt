@@ -1,15 +1,14 @@
 -- How connections are told, and what was before and is after.
-use Rattle.std.specs.Prelude.{ℕ, List, Option}
+use Rattle.frame_link.specs.Streams.{Stream}
 
--- what is told of a connection: what its input has left, and what was written to its output
+-- what is told of a connection: of its input, and of its output
 pub record Telling (In Out : Type 0) : Type 0 where
-  pub left : In → Option (List ℕ)
-  pub written : Out → Option (List ℕ)
+  pub input : In → Stream
+  pub output : Out → Stream
 
 -- told by these
-abbrev pub told_by : {In Out : Type 0} → (In → Option (List ℕ)) → (Out → Option (List ℕ)) →
-    Telling In Out
-told_by left written = record { left = left; written = written }
+abbrev pub told_by : {In Out : Type 0} → (In → Stream) → (Out → Stream) → Telling In Out
+told_by input output = record { input = input; output = output }
 
 -- a thing as it was before something was done, and as it is after
 pub record Change (A : Type 0) : Type 0 where

@@ -1,16 +1,16 @@
 -- What a lane's worker does: connections of its door, each served at the lane's seats.
-use Rattle.std.specs.Prelude.{◌≡◌, ℕ, ◌≤◌, Bool, true, false, List, length, Option, count_by}
+use Rattle.std.specs.Prelude.{◌≡◌, ℕ, ◌≤◌, Bool, true, false, List, length, count_by}
+use Rattle.frame_link.specs.Doors.{DoorSeen}
 use Rattle.frame_link.specs.Faults.{Rose}
 use Rattle.frame_link.specs.declared.limits.Limits.{Limits}
 use Rattle.frame_link.specs.declared.outcome.Outcome.{Outcome}
-use Rattle.frame_link.specs.Relay.{Said}
 use Rattle.frame_link.specs.Served.{Line}
 use Rattle.taos_monitor.specs.Cells.{Node}
 use Rattle.taos_monitor.specs.World.{World}
 use Rattle.taos_lanes.specs.declared.tally.Tally.{Tally}
 use Rattle.taos_lanes.specs.Telling.{Change, Telling}
 use Rattle.taos_lanes.specs.Visits.{Chain, ServesAmong, VisitBy, is_broken, is_lacking}
-use Rattle.taos_lanes.specs.Doors.{DoorSeen, GoesThrough}
+use Rattle.taos_lanes.specs.Doors.{GoesThrough}
 
 -- what a worker may change: what its connections are answered in, and its door
 pub record LaneSeen (S X : Type 0) : Type 0 where
@@ -48,7 +48,6 @@ pub record ServesDoorBy {In Out S : Type 0} (telling : Telling In Out)
   pub cause : HasDoorCause tally.door_failed lane.before.door.faults lane.after.door.faults
 
 -- the same of a lane of a node
-abbrev pub ServesDoor : {In Out : Type 0} → Telling In Out → Node → Option (ℕ → List ℕ → Said) →
-    Limits → Change (LaneSeen World (In × Out)) → Tally → Type 0
-ServesDoor telling n says limits =
-    ServesDoorBy telling (ServesAmong n says limits.frames) limits
+abbrev pub ServesDoor : {In Out : Type 0} → Telling In Out → Node → Limits →
+    Change (LaneSeen World (In × Out)) → Tally → Type 0
+ServesDoor telling n limits = ServesDoorBy telling (ServesAmong n limits.frames) limits

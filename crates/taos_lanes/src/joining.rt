@@ -3,7 +3,7 @@
 ghost use Rattle.std.specs.List.{AllZip};
 ghost use Rattle.std.specs.Prelude.{◌≡◌, ◌^◌, ◌≤◌, All, length, map};
 ghost use Rattle.taos_lanes.specs.Joining.{ArePassesOf, IsEmptied, IsTotalOf, Joins, JoinsAll, WorkIs, passes_of, stocks_in};
-ghost use Rattle.taos_lanes.specs.Stocked.{IsStockOf, cells_of, door_by, shown_by};
+ghost use Rattle.taos_lanes.specs.Stocked.{IsStockOf, cells_of, shown_by};
 
 use crate::lane::{Lane, Stock};
 use crate::tally::Tally;
@@ -47,19 +47,15 @@ pub(crate) fn join_lanes<C: Clock, R: RelayLink, D: Door>(
 ) -> Total
     requires few { length lanes.old ≤ 2 ^ 32 }
     requires passes { ArePassesOf (cells_of agent.now rack.now) (passes_of passes.old racked.old) }
-    requires stocked { let shown = shown_by C.readings R.faults R.says
-        (door_by D.left D.back D.given D.faults) in
+    requires stocked { let shown = shown_by C.shown R.shown D.shown in
         All (WorkIs (IsStockOf (cells_of agent.now rack.now))) (map shown lanes.old) }
-    ensures joined { let shown = shown_by C.readings R.faults R.says
-        (door_by D.left D.back D.given D.faults) in
+    ensures joined { let shown = shown_by C.shown R.shown D.shown in
         JoinsAll (cells_of agent.now rack.now) (passes_of passes.old racked.old)
         (stocks_in (map shown lanes.old)) (passes_of passes.new racked.new) }
     ensures passes { ArePassesOf (cells_of agent.now rack.now) (passes_of passes.new racked.new) }
-    ensures total { let shown = shown_by C.readings R.faults R.says
-        (door_by D.left D.back D.given D.faults) in
+    ensures total { let shown = shown_by C.shown R.shown D.shown in
         IsTotalOf (stocks_in (map shown lanes.old)) result }
-    ensures emptied { let shown = shown_by C.readings R.faults R.says
-        (door_by D.left D.back D.given D.faults) in
+    ensures emptied { let shown = shown_by C.shown R.shown D.shown in
         AllZip IsEmptied (map shown lanes.old) (map shown lanes.new) }
 {
     let mut total = Total::new();

@@ -1,9 +1,14 @@
 //! Laws of lanes, each the contract of a function that does nothing.
 
 ghost use Rattle.std.specs.Prelude.{ℕ};
+ghost use Rattle.frame_link.specs.Served.{IsFault, StaysSound};
 ghost use Rattle.taos_monitor.specs.Cells.{Node};
+ghost use Rattle.taos_monitor.specs.World.{clock_faults};
 ghost use Rattle.taos_lanes.specs.Laws.{ChainGoesOn, ClosedServesAll, JoinedAreClosed, JoinsOneMore};
+ghost use Rattle.taos_lanes.specs.Relaying.{RelayVisit};
+ghost use Rattle.taos_lanes.specs.Visits.{Visit};
 
+use frame_link::steady_counts_cause_no_fault;
 use taos_monitor::what_is_answered_stays;
 
 /// Where the seats are joined and the cells closed, each connection of each lane is answered in the
@@ -18,6 +23,16 @@ pub fn closed_lanes_serve_all()
 pub fn chains_go_on()
     ensures { (n : Node) (limit : ℕ) → ChainGoesOn n limit }
 {}
+
+/// A connection, of a node or of a relay, whose counts stood still has no fault as its outcome.
+pub fn steady_visits_have_no_fault()
+    ensures node { (n : Node) (limit : ℕ) (v : Visit n limit)
+        → StaysSound clock_faults v.before v.after → IsFault v.outcome → ⊥ }
+    ensures relay { (limit : ℕ) (v : RelayVisit limit) → StaysSound (λ _. 0) v.before v.after
+        → IsFault v.outcome → ⊥ }
+{
+    steady_counts_cause_no_fault();
+}
 
 /// One lane's pass more is joined; and where all are, the cells that are closed make the whole.
 pub fn joined_lanes_are_closed<E>()

@@ -17,7 +17,9 @@ mod total;
 mod worker;
 
 pub use lane::{Lane, Stock};
-pub use laws::{chains_go_on, closed_lanes_serve_all, joined_lanes_are_closed};
+pub use laws::{
+    chains_go_on, closed_lanes_serve_all, joined_lanes_are_closed, steady_visits_have_no_fault,
+};
 pub use limit_laws::limits_are;
 pub use parts::NodeParts;
 pub use relaying::serve_relays;

@@ -3,7 +3,7 @@
 ghost use Rattle.std.specs.List.{AllZip};
 ghost use Rattle.std.specs.Prelude.{◌≡◌, ◌<◌, ◌≤◌, ◌^◌, length, map};
 ghost use Rattle.taos_lanes.specs.Relaying.{RelaysLane, RelaysLanes, ServesRelayed};
-ghost use Rattle.taos_lanes.specs.Stocked.{door_by, shown_by};
+ghost use Rattle.taos_lanes.specs.Stocked.{shown_by};
 ghost use Rattle.taos_lanes.specs.Telling.{change, told_by};
 ghost use Rattle.taos_lanes.specs.Totals.{IsSumOf};
 ghost use Rattle.taos_lanes.specs.declared.serving.TheConstants.{MAX_LANES};
@@ -29,11 +29,10 @@ struct Relay<'a> {
 // Serves connections of the door, up to as many as the limits say, or until the door has none or
 // fails. Each is given back.
 fn relay_door<D: Door>(relay: &Relay<'_>, door: &mut D) -> Tally
-    ensures { let shown = door_by D.left D.back D.given D.faults in
-        ServesDoorBy (told_by D.In.left D.Out.written)
+    ensures { ServesDoorBy (told_by D.In.shown D.Out.shown)
         (ServesRelayed relay.now.limits.frames) relay.now.limits
-        (change (lane_of relay.now.table.now (shown door.old))
-        (lane_of relay.now.table.now (shown door.new))) result }
+        (change (lane_of relay.now.table.now (D.shown door.old))
+        (lane_of relay.now.table.now (D.shown door.new))) result }
 {
     let limits = relay.limits;
     let mut tally = Tally::new();
@@ -60,9 +59,8 @@ fn relay_door<D: Door>(relay: &Relay<'_>, door: &mut D) -> Tally
 
 // Serves connections of the lane's door, and counts them.
 fn relay_lane<C: Clock, R: RelayLink, D: Door>(relay: &Relay<'_>, lane: &mut Lane<C, R, D>)
-    ensures { let shown = shown_by C.readings R.faults R.says
-        (door_by D.left D.back D.given D.faults) in
-        RelaysLane (told_by D.In.left D.Out.written) relay.now.table.now relay.now.limits
+    ensures { let shown = shown_by C.shown R.shown D.shown in
+        RelaysLane (told_by D.In.shown D.Out.shown) relay.now.table.now relay.now.limits
         (shown lane.old) (shown lane.new) }
 {
     lane.tally = relay_door(relay, &mut lane.door);
@@ -75,9 +73,8 @@ fn relay_all<W: Threads + Sync, C: Clock + Send, R: RelayLink + Send, D: Door + 
     lanes: &mut [Lane<C, R, D>],
 )
     requires some { 0 < length lanes.old }
-    ensures { let shown = shown_by C.readings R.faults R.says
-        (door_by D.left D.back D.given D.faults) in
-        AllZip (RelaysLane (told_by D.In.left D.Out.written) relay.now.table.now
+    ensures { let shown = shown_by C.shown R.shown D.shown in
+        AllZip (RelaysLane (told_by D.In.shown D.Out.shown) relay.now.table.now
         relay.now.limits) (map shown lanes.old) (map shown lanes.new) }
 {
     let count = lanes.len();
@@ -86,9 +83,8 @@ fn relay_all<W: Threads + Sync, C: Clock + Send, R: RelayLink + Send, D: Door + 
         lanes,
         count,
         &|_, lane: &mut Lane<C, R, D>|
-            ensures { let shown = shown_by C.readings R.faults R.says
-                (door_by D.left D.back D.given D.faults) in
-                RelaysLane (told_by D.In.left D.Out.written) relay.entry.now.table.now
+            ensures { let shown = shown_by C.shown R.shown D.shown in
+                RelaysLane (told_by D.In.shown D.Out.shown) relay.entry.now.table.now
                 relay.entry.now.limits (shown lane.old) (shown lane.new) }
         { relay_lane(relay, lane) },
     );
@@ -125,9 +121,8 @@ pub fn serve_relays<W: Threads + Sync, C: Clock + Send, R: RelayLink + Send, D: 
 ) -> Total
     requires some { 0 < length lanes.old }
     requires few { length lanes.old ≤ MAX_LANES }
-    ensures { let shown = shown_by C.readings R.faults R.says
-        (door_by D.left D.back D.given D.faults) in
-        RelaysLanes (told_by D.In.left D.Out.written) table.now limits
+    ensures { let shown = shown_by C.shown R.shown D.shown in
+        RelaysLanes (told_by D.In.shown D.Out.shown) table.now limits
         (change (map shown lanes.old) (map shown lanes.new)) result }
 {
     let relay = Relay {

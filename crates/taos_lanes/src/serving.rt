@@ -6,7 +6,7 @@ ghost use Rattle.agent_shards.specs.Shards.{plans_of};
 ghost use Rattle.taos_lanes.specs.Joining.{AreKept, AreNew, HasOtherWork, IsEmptied, passes_of};
 ghost use Rattle.taos_lanes.specs.Parts.{ArePartsNew, node_in};
 ghost use Rattle.taos_lanes.specs.Serving.{ServesNode, left_by};
-ghost use Rattle.taos_lanes.specs.Stocked.{cells_of, door_by, node_at, shown_by};
+ghost use Rattle.taos_lanes.specs.Stocked.{cells_of, node_at, shown_by};
 ghost use Rattle.taos_lanes.specs.Telling.{change, told_by};
 ghost use Rattle.taos_monitor.specs.Planned.{ArePlanned};
 
@@ -43,8 +43,7 @@ pub struct Served {
 
 // The lanes keep nothing of their work.
 fn empty<C: Clock, R: RelayLink, D: Door>(lanes: &mut [Lane<C, R, D>])
-    ensures { let shown = shown_by C.readings R.faults R.says
-        (door_by D.left D.back D.given D.faults) in
+    ensures { let shown = shown_by C.shown R.shown D.shown in
         AllZip IsEmptied (map shown lanes.old) (map shown lanes.new) }
 {
     for lane in lanes.iter_mut() {
@@ -67,14 +66,12 @@ fn serve_cells<W: Threads + Wait + Sync, C: Clock + Send, R: RelayLink + Send, D
     requires kept { AreKept (cells_of shards.0 objects.0) 0 (passes_of shards.1 objects.1) }
     requires new { AreNew (cells_of shards.0 objects.0) }
     requires planned { ArePlanned keys.now.channels.entries (plans_of shards.0) }
-    ensures served { let shown = shown_by C.readings R.faults R.says
-        (door_by D.left D.back D.given D.faults) in
-        IfOk result (λ r. ServesNode (told_by D.In.left D.Out.written)
+    ensures served { let shown = shown_by C.shown R.shown D.shown in
+        IfOk result (λ r. ServesNode (told_by D.In.shown D.Out.shown)
         (node_at keys.now (cells_of shards.0 objects.0)) limits
         (change (map shown lanes.old) (map shown lanes.new)) (left_by r)) }
     ensures idle { All (λ lane. lane.work ≡ None) lanes.new }
-    ensures unserved { let shown = shown_by C.readings R.faults R.says
-        (door_by D.left D.back D.given D.faults) in
+    ensures unserved { let shown = shown_by C.shown R.shown D.shown in
         OnErr result (AllZip HasOtherWork (map shown lanes.old) (map shown lanes.new)) }
 {
     closed_lanes_serve_all();
@@ -113,13 +110,11 @@ fn serve_new<W: Threads + Wait + Sync, C: Clock + Send, R: RelayLink + Send, D: 
     requires some { 0 < length lanes.old }
     requires few { length lanes.old ≤ MAX_LANES }
     requires new { ArePartsNew parts }
-    ensures served { let shown = shown_by C.readings R.faults R.says
-        (door_by D.left D.back D.given D.faults) in
-        IfOk result (λ r. ServesNode (told_by D.In.left D.Out.written) (node_in parts) limits
+    ensures served { let shown = shown_by C.shown R.shown D.shown in
+        IfOk result (λ r. ServesNode (told_by D.In.shown D.Out.shown) (node_in parts) limits
         (change (map shown lanes.old) (map shown lanes.new)) (left_by r)) }
     ensures idle { OnOk result (All (λ lane. lane.work ≡ None) lanes.new) }
-    ensures unserved { let shown = shown_by C.readings R.faults R.says
-        (door_by D.left D.back D.given D.faults) in
+    ensures unserved { let shown = shown_by C.shown R.shown D.shown in
         OnErr result (AllZip HasOtherWork (map shown lanes.old) (map shown lanes.new)) }
 {
     let NodeParts {
@@ -147,13 +142,11 @@ pub fn serve<W: Threads + Wait + Sync, C: Clock + Send, R: RelayLink + Send, D: 
     requires some { 0 < length lanes.old }
     requires few { length lanes.old ≤ MAX_LANES }
     requires new { ArePartsNew parts }
-    ensures served { let shown = shown_by C.readings R.faults R.says
-        (door_by D.left D.back D.given D.faults) in
-        IfOk result (λ r. ServesNode (told_by D.In.left D.Out.written) (node_in parts) limits
+    ensures served { let shown = shown_by C.shown R.shown D.shown in
+        IfOk result (λ r. ServesNode (told_by D.In.shown D.Out.shown) (node_in parts) limits
         (change (map shown lanes.old) (map shown lanes.new)) (left_by r)) }
     ensures idle { All (λ lane. lane.work ≡ None) lanes.new }
-    ensures unserved { let shown = shown_by C.readings R.faults R.says
-        (door_by D.left D.back D.given D.faults) in
+    ensures unserved { let shown = shown_by C.shown R.shown D.shown in
         OnErr result (AllZip HasOtherWork (map shown lanes.old) (map shown lanes.new)) }
 {
     match serve_new(rt, alloc, parts, lanes, limits) {

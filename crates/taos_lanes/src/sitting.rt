@@ -2,7 +2,7 @@
 
 ghost use Rattle.std.specs.Prelude.{◌≡◌};
 ghost use Rattle.agent_shards.specs.Shards.{plans_of};
-ghost use Rattle.taos_lanes.specs.Stocked.{IsStocked, ServesLane, cells_of, door_by, shown_by};
+ghost use Rattle.taos_lanes.specs.Stocked.{IsStocked, ServesLane, cells_of, shown_by};
 ghost use Rattle.taos_lanes.specs.Telling.{told_by};
 ghost use Rattle.taos_monitor.specs.Planned.{ArePlanned};
 
@@ -39,9 +39,8 @@ pub(crate) fn serve_lane<W: Wait + Sync, K: OfAgent, L: OfRack, C: Clock, R: Rel
     requires stocked { IsStocked
         (cells_of shared.now.agent.now shared.now.rack.now) K.shares L.shares
         lane.old.work }
-    ensures { let shown = shown_by C.readings R.faults R.says
-        (door_by D.left D.back D.given D.faults) in
-        ServesLane (told_by D.In.left D.Out.written) shared.now.keys.now
+    ensures { let shown = shown_by C.shown R.shown D.shown in
+        ServesLane (told_by D.In.shown D.Out.shown) shared.now.keys.now
         (cells_of shared.now.agent.now shared.now.rack.now) shared.now.limits
         (shown lane.old) (shown lane.new) }
 {

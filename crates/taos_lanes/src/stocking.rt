@@ -3,7 +3,7 @@
 ghost use Rattle.std.specs.List.{AllZip};
 ghost use Rattle.std.specs.Prelude.{◌+◌, ◌<◌, IfOk, OnErr, OnOk, length, map};
 ghost use Rattle.taos_lanes.specs.Joining.{AreKept, HasOtherWork, IsFreshStock, IsGivenStock, passes_of};
-ghost use Rattle.taos_lanes.specs.Stocked.{cells_of, door_by, shown_by};
+ghost use Rattle.taos_lanes.specs.Stocked.{cells_of, shown_by};
 ghost use Rattle.turn_cell.specs.declared.shares.TheConstants.{ALL_SHARES};
 
 use crate::lane::{Lane, Stock};
@@ -49,14 +49,12 @@ pub(crate) fn stock_lanes<C: Clock, R: RelayLink, D: Door>(
 ) -> Result<(), AllocError>
     requires few { length lanes.old + 1 < ALL_SHARES }
     requires kept { AreKept (cells_of agent.now rack.now) 0 (passes_of passes.old racked.old) }
-    ensures stocked { let shown = shown_by C.readings R.faults R.says
-        (door_by D.left D.back D.given D.faults) in
+    ensures stocked { let shown = shown_by C.shown R.shown D.shown in
         OnOk result (AllZip (IsGivenStock (cells_of agent.now rack.now))
         (map shown lanes.old) (map shown lanes.new)) }
     ensures kept { OnOk result (AreKept (cells_of agent.now rack.now) (length lanes.old)
         (passes_of passes.new racked.new)) }
-    ensures same { let shown = shown_by C.readings R.faults R.says
-        (door_by D.left D.back D.given D.faults) in
+    ensures same { let shown = shown_by C.shown R.shown D.shown in
         OnErr result (AllZip HasOtherWork (map shown lanes.old) (map shown lanes.new)) }
 {
     let mut given = 0;

@@ -3,7 +3,7 @@
 ghost use Rattle.std.specs.List.{AllZip};
 ghost use Rattle.std.specs.Prelude.{◌≡◌, ◌<◌, All, length, map};
 ghost use Rattle.agent_shards.specs.Shards.{plans_of};
-ghost use Rattle.taos_lanes.specs.Stocked.{IsStocked, ServesLane, cells_of, door_by, shown_by};
+ghost use Rattle.taos_lanes.specs.Stocked.{IsStocked, ServesLane, cells_of, shown_by};
 ghost use Rattle.taos_lanes.specs.Telling.{told_by};
 ghost use Rattle.taos_monitor.specs.Planned.{ArePlanned};
 
@@ -32,9 +32,8 @@ pub(crate) fn serve_lanes<
     requires stocked { All (λ lane. IsStocked
         (cells_of shared.now.agent.now shared.now.rack.now) K.shares L.shares lane.work)
         lanes.old }
-    ensures { let shown = shown_by C.readings R.faults R.says
-        (door_by D.left D.back D.given D.faults) in
-        AllZip (ServesLane (told_by D.In.left D.Out.written) shared.now.keys.now
+    ensures { let shown = shown_by C.shown R.shown D.shown in
+        AllZip (ServesLane (told_by D.In.shown D.Out.shown) shared.now.keys.now
         (cells_of shared.now.agent.now shared.now.rack.now) shared.now.limits)
         (map shown lanes.old) (map shown lanes.new) }
 {
@@ -50,9 +49,8 @@ pub(crate) fn serve_lanes<
             requires rack { shared.now.rack.now ≡ L.cells }
             requires stocked { IsStocked (cells_of shared.now.agent.now shared.now.rack.now)
                 K.shares L.shares lane.old.work }
-            ensures { let shown = shown_by C.readings R.faults R.says
-                (door_by D.left D.back D.given D.faults) in
-                ServesLane (told_by D.In.left D.Out.written) shared.entry.now.keys.now
+            ensures { let shown = shown_by C.shown R.shown D.shown in
+                ServesLane (told_by D.In.shown D.Out.shown) shared.entry.now.keys.now
                 (cells_of shared.entry.now.agent.now shared.entry.now.rack.now)
                 shared.entry.now.limits (shown lane.old) (shown lane.new) }
         { serve_lane(shared, lane) },

@@ -2,7 +2,7 @@
 
 ghost use Rattle.std.specs.Prelude.{◌≡◌, None, false};
 ghost use Rattle.std.specs.Thread.{IsSync};
-ghost use Rattle.taos_lanes.specs.Doors.{door_of};
+ghost use Rattle.frame_link.specs.Outside.{outside_of};
 ghost use Rattle.taos_lanes.specs.Telling.{change, told_by};
 ghost use Rattle.taos_lanes.specs.Working.{ServesDoor, lane_of};
 ghost use Rattle.taos_monitor.specs.Arriving.{node_of};
@@ -49,24 +49,20 @@ pub(crate) fn serve_door<
     requires none_taken { H.taken desk.old.shelf ≡ None }
     requires shards_among { S.alone desk.old.shards ≡ false }
     requires objects_among { H.alone desk.old.shelf ≡ false }
-    ensures served { ServesDoor (told_by D.In.left D.Out.written)
-        (node_of keys.now (S.plans desk.old.shards) (H.objects desk.old.shelf))
-        (R.says lane.old.relay) limits
-        (change (lane_of (world_of (C.readings lane.old.clock) (R.faults lane.old.relay)
+    ensures served { ServesDoor (told_by D.In.shown D.Out.shown)
+        (node_of keys.now (S.plans desk.old.shards) (H.objects desk.old.shelf)) limits
+        (change (lane_of (world_of (outside_of (C.shown lane.old.clock) (R.shown lane.old.relay))
         (viewed (S.seen desk.old.shards) (S.own desk.old.shards))
         (viewed (H.seen desk.old.shelf) (H.own desk.old.shelf)))
-        (door_of (D.left lane.old.door) (D.back lane.old.door) (D.given lane.old.door)
-        (D.faults lane.old.door)))
-        (lane_of (world_of (C.readings lane.new.clock) (R.faults lane.new.relay)
+        (D.shown lane.old.door))
+        (lane_of (world_of (outside_of (C.shown lane.new.clock) (R.shown lane.new.relay))
         (viewed (S.seen desk.new.shards) (S.own desk.new.shards))
         (viewed (H.seen desk.new.shelf) (H.own desk.new.shelf)))
-        (door_of (D.left lane.new.door) (D.back lane.new.door) (D.given lane.new.door)
-        (D.faults lane.new.door)))) result }
+        (D.shown lane.new.door))) result }
     ensures work { lane.new.work ≡ lane.old.work }
     ensures taken { H.taken desk.new.shelf ≡ None }
     ensures plans { S.plans desk.new.shards ≡ S.plans desk.old.shards }
     ensures objects { H.objects desk.new.shelf ≡ H.objects desk.old.shelf }
-    ensures says { R.says lane.new.relay ≡ R.says lane.old.relay }
 {
     let mut tally = Tally::new();
     while tally.served < limits.connections {

@@ -1,11 +1,10 @@
 -- A connection that was served, told by the journals at its end.
-use Rattle.std.proofs.Common.{◌≡◌, ℕ, List, [], ◌∷◌, ◌++◌, refl, sym, ap, subst, ◌∙◌, append-nil, append_assoc}
-use Rattle.std.specs.Prelude.{Bool, Option}
+use Rattle.std.proofs.Common.{◌≡◌, ℕ, List, [], ◌∷◌, ◌++◌, refl, sym, ap, subst, inr, ◌∙◌, append-nil, append_assoc}
+use Rattle.std.specs.Prelude.{Bool}
 use Rattle.frame_link.specs.declared.outcome.Outcome.{Outcome}
 use Rattle.frame_link.specs.declared.outcome.Outcome.TheVariants.{End, Truncated, TooLong, ReadFault, WriteFault, ClockFault, Spent, NoMemory}
-use Rattle.frame_link.specs.Relay.{Said}
 use Rattle.frame_link.specs.Served as link
-use Rattle.frame_link.specs.Served.{Line, line, Chain, IsServed}
+use Rattle.frame_link.specs.Served.{Line, line, Chain, IsServed, HasCauses, IsComplete}
 use Rattle.frame_link.proofs.Ends.{unserved}
 use Rattle.frame_link.proofs.States.{served_as, held_at_end}
 use Rattle.taos_wire.specs.Reply.{spelling}
@@ -15,13 +14,15 @@ use Rattle.taos_monitor.specs.declared.node_keys.NodeKeys.{NodeKeys}
 use Rattle.taos_monitor.specs.Arriving.{node_of}
 use Rattle.object_core.specs.Shelving.{ObjectFixed}
 use Rattle.taos_monitor.specs.Cells.{AreLegal, alone_of}
-use Rattle.taos_monitor.specs.World.{Setting, World, setting_of}
+use Rattle.taos_monitor.specs.World.{Setting, World, setting_of, clock_faults}
 use Rattle.taos_monitor.specs.Credentials.{LinkCall}
 use Rattle.taos_monitor.specs.Course.{uses}
-use Rattle.taos_monitor.specs.Connection.{AnswersFrame, GivesUpFrame, IsConnection}
-use Rattle.taos_monitor.specs.Serving.{State, StepsTo, StopsIn}
+use Rattle.taos_monitor.specs.Connection.{AnswersFrame, GivesUpFrame, IsConnection, Connects}
+use Rattle.taos_monitor.specs.Serving.{State, StepsTo, StopsIn, four}
 use Rattle.taos_monitor.specs.Run.{Turn, frames_of, readings_of, calls_of, places_of, replies_of, AreTurns}
-use Rattle.taos_monitor.proofs.Steps.{gave_on, linked_both, Made, none_made, turn_of, one_more}
+use Rattle.taos_monitor.proofs.Complete.{turns_are_whole}
+use Rattle.taos_monitor.proofs.Presenting.{linked_both}
+use Rattle.taos_monitor.proofs.Steps.{gave_on, Made, none_made, turn_of, one_more}
 
 module _ (s : Setting) where
   -- these frames had courses, and these replies
@@ -113,8 +114,8 @@ module _ (s : Setting) where
             filled = rw u.unchanged told.made.filled;
             replies_are = sym told.replies_are;
           };
-          gave = gave_on before.service.clock a.middle.clock after.service.clock (readings_of told.turns) [] told.made.gave u.keeps;
-          linked = linked_both s.says s.node.number before.service.faults a.middle.faults after.service.faults (calls_of told.turns) u.calls told.made.linked u.linked;
+          gave = gave_on before.service.outside.clock.told a.middle.outside.clock.told after.service.outside.clock.told (readings_of told.turns) [] told.made.gave u.keeps;
+          linked = linked_both s.node.number before.service.outside.link a.middle.outside.link after.service.outside.link (calls_of told.turns) u.calls told.made.linked u.linked;
         }
 
     whole : (outcome : Outcome) (served : IsServed (AnswersFrame s) (GivesUpFrame s) limit before after outcome) → (a : (served.payloads ≡ link.payloads_of served.turns) × Chain (AnswersFrame s) before.service served.turns after.service) →
@@ -136,6 +137,19 @@ module _ (s : Setting) where
   -- memory was refused before the first frame
   pub none_served : (limit : ℕ) (l : Line World) → AreLegal s.node l.service.seen.journals → IsConnection s limit l l NoMemory
   none_served limit l legal = connection_of limit l l legal NoMemory (unserved (AnswersFrame s) (GivesUpFrame s) limit l)
+
+  -- a connection, with its causes
+  pub connects : (limit : ℕ) (before after : Line World) (outcome : Outcome) → IsConnection s limit before after outcome → HasCauses clock_faults before after outcome → IsComplete clock_faults limit before after outcome → Connects s limit before after outcome
+  connects limit before after outcome is causes complete = record {
+    connection = is;
+    causes = causes;
+    complete = complete;
+    whole = λ still.
+        turns_are_whole s.node after.service.seen.journals is.used is.served.payloads (link.replies_of is.served.turns) outcome before.service.outside.link.faults after.service.outside.link.faults is.legal is.answered is.linked.failed still;
+  }
+
+  pub none_connects : (limit : ℕ) (l : Line World) → AreLegal s.node l.service.seen.journals → Connects s limit l l NoMemory
+  none_connects limit l legal = connects limit l l NoMemory (none_served limit l legal) refl (λ payloads whole within few still. inr refl)
 
 -- ---- a service that has such states
 
@@ -169,10 +183,10 @@ module _ {S : Type 0} (state : S → State) (setting : Setting) where
   )
 
 -- what a service borrows, name by name
-pub four_names : (a b c d p q r s : ℕ) → a ∷ b ∷ c ∷ d ∷ [] ≡ p ∷ q ∷ r ∷ s ∷ [] → (a ≡ p) × (b ≡ q) × (c ≡ r) × (d ≡ s)
+pub four_names : (a b c d p q r s : ℕ) → four a b c d ≡ four p q r s → (a ≡ p) × (b ≡ q) × (c ≡ r) × (d ≡ s)
 four_names a b c d p q r s e = (cc, cc, cc, cc)
 
 -- nothing that stays changed
-pub same_setting : (keys : NodeKeys) {objects0 objects1 : List ObjectFixed} {plans0 plans1 : List Plan} {alone0 alone1 lone0 lone1 : Bool} {says0 says1 : Option (ℕ → List ℕ → Said)} → objects1 ≡ objects0 → plans1 ≡ plans0 → alone1 ≡ alone0 → lone1 ≡ lone0 → says1 ≡ says0 →
-    setting_of (node_of keys plans1 objects1) (alone_of alone1 lone1) says1 ≡ setting_of (node_of keys plans0 objects0) (alone_of alone0 lone0) says0
-same_setting keys objects plans alone lone says = rw (objects, plans, alone, lone, says) refl
+pub same_setting : (keys : NodeKeys) {objects0 objects1 : List ObjectFixed} {plans0 plans1 : List Plan} {alone0 alone1 lone0 lone1 : Bool} → objects1 ≡ objects0 → plans1 ≡ plans0 → alone1 ≡ alone0 → lone1 ≡ lone0 →
+    setting_of (node_of keys plans1 objects1) (alone_of alone1 lone1) ≡ setting_of (node_of keys plans0 objects0) (alone_of alone0 lone0)
+same_setting keys objects plans alone lone = rw (objects, plans, alone, lone) refl

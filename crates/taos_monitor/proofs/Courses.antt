@@ -1,12 +1,13 @@
 -- The course of a request, from what was done for it.
 use Rattle.std.proofs.Common.{◌≡◌, ◌<◌, ◌^◌, ℕ, Bool, List, [], ◌∷◌, length, map, Some, refl, sym, subst, ◌∙◌}
-use Rattle.std.specs.Prelude.{Option}
 use Rattle.std.specs.Io.KnownBytes.{Keeps}
 use Rattle.std.proofs.KnownBytes.{Keeps-refl}
 use Rattle.std.proofs.lemmas.Option.{same_Some}
 use Rattle.keyed_seal.specs.Keys.{key_of}
 use Rattle.frame_link.specs.Readings.{ShowsKnown}
-use Rattle.frame_link.specs.Relay.{Said}
+use Rattle.frame_link.specs.Outside.{outside_of}
+use Rattle.frame_link.specs.Relay.{Link}
+use Rattle.frame_link.specs.Streams.{Stream}
 use Rattle.object_core.specs.Objects.{ObjectEntry}
 use Rattle.object_core.specs.Shelving.{ObjectFixed}
 use Rattle.taos_wire.specs.Request.{Request, IsAsked}
@@ -32,7 +33,7 @@ use Rattle.taos_monitor.specs.Handling.{HandledTo, StoppedAtClock, Handles, Answ
 use Rattle.taos_monitor.proofs.Going.{stood}
 use Rattle.taos_monitor.proofs.Presenting.{none_called, quiet_linked}
 
-module _ (keys : NodeKeys) (plans : List Plan) (objects : List ObjectFixed) (alone : Cell → Bool) (says : Option (ℕ → List ℕ → Said)) (faults0 faults1 : ℕ)
+module _ (keys : NodeKeys) (plans : List Plan) (objects : List ObjectFixed) (alone : Cell → Bool) (link0 link1 : Link)
     (shards0 : Viewed Entry) (objects0 : Viewed ObjectEntry) (r : Request) (key : List ℕ) (known : key_of keys.channels.entries r.channel ≡ Some key) where
   abbrev node : Node
   node = node_of keys plans objects
@@ -44,9 +45,9 @@ module _ (keys : NodeKeys) (plans : List Plan) (objects : List ObjectFixed) (alo
   under_key past J used reply f payload k asked =
       subst (λ (other : List ℕ). CourseAfter node past J payload used (sealed other r reply)) (same_Some k key (sym asked.keyed ∙ known)) (f payload k asked)
 
-  pub refused_to : (clock : Option (List ℕ)) (f : Refusal) (bytes : List ℕ) → AreLegalIn plans objects (seen_of shards0 objects0).journals → NotArrives keys objects (link_use says keys.node faults0 faults1) r f →
+  pub refused_to : (clock : Stream) (f : Refusal) (bytes : List ℕ) → AreLegalIn plans objects (seen_of shards0 objects0).journals → NotArrives keys objects (link_use keys.node link0 link1) r f →
       bytes ≡ spelling (sealed key r (refusal f)) → length bytes < 2 ^ 32 →
-      HandledTo (setting_of node alone says) (world_of clock faults0 shards0 objects0) (world_of clock faults1 shards0 objects0) r bytes
+      HandledTo (setting_of node alone) (world_of (outside_of clock link0) shards0 objects0) (world_of (outside_of clock link1) shards0 objects0) r bytes
   refused_to clock f bytes legal stops spelled short = record {
     used = only_calls stops.calls;
     sent = sealed key r (refusal f);
@@ -54,17 +55,17 @@ module _ (keys : NodeKeys) (plans : List Plan) (objects : List ObjectFixed) (alo
     legal = legal;
     course = under_key (seen_of shards0 objects0).journals (seen_of shards0 objects0).journals (only_calls stops.calls) (refusal f)
         (λ payload k asked. stops.course plans (seen_of shards0 objects0).journals (seen_of shards0 objects0).journals payload k asked);
-    gave = Keeps-refl clock;
+    gave = Keeps-refl clock.told;
     linked = stops.linked;
     spelled = spelled;
     short = short;
   }
 
-  module _ (a : Arrived) (came : Arrives keys objects (link_use says keys.node faults0 faults1) r a) where
+  module _ (a : Arrived) (came : Arrives keys objects (link_use keys.node link0 link1) r a) where
     abbrev arrival : (payload k : List ℕ) → IsAsked node.channels payload r k → Arrival node payload
     arrival payload k asked = record { request = r; key = k; calls = came.calls; certs = map shared a.certs.items; object = came.object; arrived = came.arrived plans payload k asked }
 
-    pub stopped_at_clock : (clock0 clock1 : Option (List ℕ)) → Keeps clock0 clock1 → StoppedAtClock (setting_of node alone says) (world_of clock0 faults0 shards0 objects0) (world_of clock1 faults1 shards0 objects0) r
+    pub stopped_at_clock : (clock0 clock1 : Stream) → Keeps clock0.told clock1.told → StoppedAtClock (setting_of node alone) (world_of (outside_of clock0 link0) shards0 objects0) (world_of (outside_of clock1 link1) shards0 objects0) r
     stopped_at_clock clock0 clock1 keeps = record {
       calls = came.calls;
       unchanged = refl;
@@ -77,9 +78,9 @@ module _ (keys : NodeKeys) (plans : List Plan) (objects : List ObjectFixed) (alo
     abbrev pub sought : ℕ → Seeking
     sought reading = record { request = r; certs = map shared a.certs.items; reading = reading; shard = home plans r.channel; fixed = came.object }
 
-    pub ruled_to : (shards1 : Viewed Entry) (objects1 : Viewed ObjectEntry) (clock0 clock1 : Option (List ℕ)) (reading : ℕ) (bytes : List ℕ) → ShowsKnown clock0 clock1 reading →
+    pub ruled_to : (shards1 : Viewed Entry) (objects1 : Viewed ObjectEntry) (clock0 clock1 : Stream) (reading : ℕ) (bytes : List ℕ) → ShowsKnown clock0.told clock1.told reading →
         Leaves r.channel r.seq (Some key) bytes (GuardedTo (standing_of plans objects alone) (seen_of shards0 objects0) (seen_of shards1 objects1) (sought reading)) →
-        HandledTo (setting_of node alone says) (world_of clock0 faults0 shards0 objects0) (world_of clock1 faults1 shards1 objects1) r bytes
+        HandledTo (setting_of node alone) (world_of (outside_of clock0 link0) shards0 objects0) (world_of (outside_of clock1 link1) shards1 objects1) r bytes
     ruled_to shards1 objects1 clock0 clock1 reading bytes shows left =
         let x = left.holds in
         let used = uses (reading ∷ []) came.calls (places_at (sought reading) x.own) in
@@ -89,7 +90,7 @@ module _ (keys : NodeKeys) (plans : List Plan) (objects : List ObjectFixed) (alo
           goes_on = x.goes_on;
           legal = x.legal;
           course = under_key (seen_of shards0 objects0).journals (seen_of shards1 objects1).journals used left.reply (λ payload k asked. ruled (arrival payload k asked) reading x.plan x.planned x.guarded);
-          gave = (clock1, shows, Keeps-refl clock1);
+          gave = (clock1.told, shows, Keeps-refl clock1.told);
           linked = came.linked;
           spelled = left.spelled;
           short = left.short;
@@ -98,17 +99,17 @@ module _ (keys : NodeKeys) (plans : List Plan) (objects : List ObjectFixed) (alo
 -- ---- from the payload on
 
 -- no request under its seal
-pub unasked_to : (keys : NodeKeys) (plans : List Plan) (objects : List ObjectFixed) (alone : Cell → Bool) (says : Option (ℕ → List ℕ → Said)) (faults : ℕ) (shards0 : Viewed Entry) (objects0 : Viewed ObjectEntry) (clock : Option (List ℕ)) (payload : List ℕ) (f : Refusal) (bytes : List ℕ) →
+pub unasked_to : (keys : NodeKeys) (plans : List Plan) (objects : List ObjectFixed) (alone : Cell → Bool) (relay : Link) (shards0 : Viewed Entry) (objects0 : Viewed ObjectEntry) (clock : Stream) (payload : List ℕ) (f : Refusal) (bytes : List ℕ) →
     AreLegalIn plans objects (seen_of shards0 objects0).journals → IsNotAsked keys payload f → bytes ≡ spelling (unsealed (refusal f)) → length bytes < 2 ^ 32 →
-    Answers (setting_of (node_of keys plans objects) alone says) (world_of clock faults shards0 objects0) (world_of clock faults shards0 objects0) payload bytes handled.Replied
-unasked_to keys plans objects alone says faults shards0 objects0 clock payload f bytes legal stops spelled short = record {
+    Answers (setting_of (node_of keys plans objects) alone) (world_of (outside_of clock relay) shards0 objects0) (world_of (outside_of clock relay) shards0 objects0) payload bytes handled.Replied
+unasked_to keys plans objects alone relay shards0 objects0 clock payload f bytes legal stops spelled short = record {
   used = nothing;
   sent = unsealed (refusal f);
   goes_on = stood alone (seen_of shards0 objects0);
   legal = legal;
   course = stops plans objects (seen_of shards0 objects0).journals (seen_of shards0 objects0).journals;
-  gave = Keeps-refl clock;
-  linked = quiet_linked says keys.node faults faults [] (none_called says keys.node faults);
+  gave = Keeps-refl clock.told;
+  linked = quiet_linked keys.node relay relay [] (none_called keys.node relay);
   spelled = spelled;
   short = short;
 }

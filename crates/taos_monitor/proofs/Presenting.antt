@@ -1,24 +1,19 @@
 -- Certificates that come one by one, by the node or by the relay, and what the first that comes to none is.
-use Rattle.std.proofs.Common.{◌≡◌, ◌≢◌, ℕ, ◌+◌, ◌<◌, ◌≤◌, List, [], ◌∷◌, ◌++◌, length, take, drop, map, All, Option, None, Some, Result, Ok, Err, IfOk, IfErr, refl, sym, ap, subst, ◌∙◌, append_assoc, append-nil, inl, inr, arith, get_or}
+use Rattle.std.proofs.Common.{◌≡◌, ℕ, ◌+◌, ◌<◌, List, [], ◌∷◌, ◌++◌, length, take, drop, map, Result, Ok, Err, refl, sym, ap, subst, ◌∙◌, append_assoc, append-nil, inl, inr, arith, get_or}
 use Rattle.std.specs.Prelude.{OnErr, Vec}
 use Rattle.std.specs.declared.alloc.Global.{Global}
 use Rattle.std.specs.declared.sync.Arc.{Arc}
 use Rattle.std.proofs.lemmas.List.{length-map, length-take-le, map-append, map_push, take-append-drop, take_more}
-use Rattle.std.proofs.lemmas.List.Elements.{All-nil, All-cons, All-append, All-head, All-tail}
 use Rattle.stmt_codec.specs.declared.cert.Cert.{Cert}
 use Rattle.stmt_codec.specs.Certificates.{Certificate, body_spelling}
-use Rattle.frame_link.specs.Faults.{Rose}
-use Rattle.frame_link.specs.declared.outside.RelayAnswer.{RelayAnswer}
-use Rattle.frame_link.specs.Relay.{Said, Gave, Refuses, IsSaid, AnswersAs}
-use Rattle.sealed_cert.specs.Seals.{Opens}
+use Rattle.frame_link.specs.Relay.{Link}
 use Rattle.taos_wire.specs.View.{text_of, cited as shared}
-use Rattle.taos_monitor.specs.declared.refusal.Refusal.{Refusal}
 use Rattle.taos_monitor.specs.declared.refusal.Refusal.TheVariants as refusals
-use Rattle.taos_monitor.specs.Credentials.{LinkAnswer, Resealed, Refused, Lacked, LinkCall, link_use, call, Failed, IsIssued, IsResealed, Comes, by_node, by_relay, IsRefused, bad_reseal, AreOpened, none_more, one_more, StopsAt, at_text, after_call, IsToldAs, CountsAs, FailedAs, IsLinked, IsQuiet}
+use Rattle.taos_monitor.specs.Credentials.{Resealed, Refused, LinkCall, link_use, call, Comes, by_node, by_relay, AreOpened, none_more, one_more, StopsAt, at_text, after_call, IsQuiet}
 use Rattle.relay_core.specs.declared.presenting.Unpresented.{Unpresented}
 use Rattle.relay_core.specs.declared.presenting.Unpresented.TheVariants as reasons
 use Rattle.relay_core.specs.Presenting.{IsOneStopped, OneComes, OneStops}
-pub use Rattle.relay_core.proofs.Counting.{failed_both, quiet_linked, none_called, linked_on, quiet_on}
+pub use Rattle.relay_core.proofs.Counting.{quiet_linked, none_called, linked_both, linked_on, quiet_on}
 pub use Rattle.relay_core.proofs.Coming.{on_ok}
 use Rattle.taos_monitor.specs.Presenting.{refused_at, AreStopped, AllCome, AllStop}
 
@@ -76,36 +71,36 @@ module _ (key : List ℕ) (texts : List (Vec ℕ Global)) (place : ℕ) (d : Vec
   stopped before more certs reasons.NoMemory opened (inr (issued, (answer, answered, one))) =
       after_call here before answer (stops_here before certs opened) issued answered (ap (λ (l : List LinkCall). before ++ l) one)
 
-  pub first_stopped : (says : Option (ℕ → List ℕ → Said)) (node n middle now : ℕ) (certs : List Certificate) (why : Unpresented) → AllCome key (link_use says node n middle) front certs →
-      OneStops key (link_use says node middle now) here why → AllStop key (link_use says node n now) (map text_of texts) (refused_at place why)
-  first_stopped says node n middle now certs why came stops = record {
+  pub first_stopped : (node : ℕ) (n middle now : Link) (certs : List Certificate) (why : Unpresented) → AllCome key (link_use node n middle) front certs →
+      OneStops key (link_use node middle now) here why → AllStop key (link_use node n now) (map text_of texts) (refused_at place why)
+  first_stopped node n middle now certs why came stops = record {
     calls = came.calls ++ stops.calls;
     stops = stopped came.calls stops.calls certs why came.opened stops.stops;
-    linked = linked_on says node n middle now came.calls stops.calls came.quiet stops.linked;
+    linked = linked_on node n middle now came.calls stops.calls came.quiet stops.linked;
   }
 
-  pub one_more_comes : (says : Option (ℕ → List ℕ → Said)) (node n middle now : ℕ) (certs : List (Arc Cert Global)) (c : Arc Cert Global) → AllCome key (link_use says node n middle) front (map shared certs) →
-      OneComes key (link_use says node middle now) here (shared c) → AllCome key (link_use says node n now) (map text_of (take (place + 1) texts)) (map shared (certs ++ c ∷ []))
-  one_more_comes says node n middle now certs c came comes = record {
+  pub one_more_comes : (node : ℕ) (n middle now : Link) (certs : List (Arc Cert Global)) (c : Arc Cert Global) → AllCome key (link_use node n middle) front (map shared certs) →
+      OneComes key (link_use node middle now) here (shared c) → AllCome key (link_use node n now) (map text_of (take (place + 1) texts)) (map shared (certs ++ c ∷ []))
+  one_more_comes node n middle now certs c came comes = record {
     calls = came.calls ++ comes.calls;
     opened = subst (λ (l : List (List ℕ)). AreOpened key l (came.calls ++ comes.calls) (map shared (certs ++ c ∷ []))) (sym front_more)
         (subst (AreOpened key (front ++ here ∷ []) (came.calls ++ comes.calls)) (sym (map_push shared certs c))
         (opened_on key front came.calls (map shared certs) here comes.calls (shared c) came.opened comes.comes));
-    quiet = quiet_on says node n middle now came.calls comes.calls came.quiet comes.quiet;
+    quiet = quiet_on node n middle now came.calls comes.calls came.quiet comes.quiet;
   }
 
 -- memory was refused for one that came
-pub interrupted : (key : List ℕ) (says : Option (ℕ → List ℕ → Said)) (node n middle now index : ℕ) (texts : List (List ℕ)) (text : List ℕ) (before more : List LinkCall) (c : Certificate) →
-    StopsAt key texts index text before → IsQuiet says node n middle before → Comes key text more c → IsQuiet says node middle now more → AllStop key (link_use says node n now) texts refusals.NoMemory
-interrupted key says node n middle now index texts text before more c stops quiet (by_node opens) more_quiet = record {
+pub interrupted : (key : List ℕ) (node : ℕ) (n middle now : Link) (index : ℕ) (texts : List (List ℕ)) (text : List ℕ) (before more : List LinkCall) (c : Certificate) →
+    StopsAt key texts index text before → IsQuiet node n middle before → Comes key text more c → IsQuiet node middle now more → AllStop key (link_use node n now) texts refusals.NoMemory
+interrupted key node n middle now index texts text before more c stops quiet (by_node opens) more_quiet = record {
   calls = before ++ [];
   stops = at_text text (subst (λ (l : List LinkCall). StopsAt key texts index text l) (sym (append-nil before)) stops);
-  linked = linked_on says node n middle now before [] quiet (quiet_linked says node middle now [] more_quiet);
+  linked = linked_on node n middle now before [] quiet (quiet_linked node middle now [] more_quiet);
 }
-interrupted key says node n middle now index texts text before more c stops quiet (by_relay {new = new} is) more_quiet = record {
+interrupted key node n middle now index texts text before more c stops quiet (by_relay {new = new} is) more_quiet = record {
   calls = before ++ call text (Resealed new) ∷ [];
   stops = after_call text before (Resealed new) stops (body_spelling c ++ is.tag, is.presented.text) (λ e. cc) refl;
-  linked = linked_on says node n middle now before (call text (Resealed new) ∷ []) quiet (quiet_linked says node middle now (call text (Resealed new) ∷ []) more_quiet);
+  linked = linked_on node n middle now before (call text (Resealed new) ∷ []) quiet (quiet_linked node middle now (call text (Resealed new) ∷ []) more_quiet);
 }
 
 pub err_on : {A E P Q : Type 0} (r : Result A E) → (P → Q) → OnErr r P → OnErr r Q

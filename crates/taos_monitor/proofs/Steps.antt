@@ -3,17 +3,16 @@ use Rattle.std.proofs.Common.{ℕ, List, [], ◌∷◌, ◌++◌, None, Some, sy
 use Rattle.std.specs.Prelude.{Option, All, AllPairs}
 use Rattle.std.specs.Io.KnownBytes.{Keeps}
 use Rattle.std.proofs.KnownBytes.{Keeps-refl, Keeps-trans}
-use Rattle.std.proofs.lemmas.List.Elements.{All-push, All-nil, All-append}
+use Rattle.std.proofs.lemmas.List.Elements.{All-push, All-nil}
 use Rattle.frame_link.specs.Readings.{Shows, ShowsKnown}
-use Rattle.frame_link.specs.Relay.{Said}
 use Rattle.taos_monitor.specs.Cells.{AreLegal, GoesOn}
 use Rattle.taos_monitor.specs.World.{Setting, World}
-use Rattle.taos_monitor.specs.Credentials.{LinkCall, IsToldAs, IsLinked}
+use Rattle.taos_monitor.specs.Credentials.{IsLinked}
 use Rattle.taos_monitor.specs.Handling.{Gave}
 use Rattle.taos_monitor.specs.Connection.{AnswersFrame}
 use Rattle.taos_monitor.specs.Run.{Turn, IsCourse, IsFilledBefore, readings_of, calls_of, places_of}
 use Rattle.taos_monitor.proofs.Going.{goes_on_twice, stood}
-use Rattle.taos_monitor.proofs.Presenting.{failed_both, none_called, quiet_linked}
+use Rattle.taos_monitor.proofs.Presenting.{none_called, quiet_linked, linked_both}
 use Rattle.taos_monitor.proofs.Filling.{none_filled, filled_more}
 use Rattle.taos_monitor.proofs.Running.{all_stay, flat_push}
 use Rattle.taos_monitor.proofs.Staying.{course_at_all}
@@ -38,14 +37,6 @@ pub gave_on : (a b c : Option (List ℕ)) (xs ys : List ℕ) → Gave a b xs →
 gave_on a b c [] ys g h = gave_kept a b c ys g h
 gave_on a b c (x ∷ xs) ys g h = (g.0, g.1, gave_on g.0 b c xs ys g.2 h)
 
--- ---- calls of the link, one list after the other
-
-pub linked_both : (says : Option (ℕ → List ℕ → Said)) (node before middle now : ℕ) (first later : List LinkCall) → IsLinked says node before middle first → IsLinked says node middle now later → IsLinked says node before now (first ++ later)
-linked_both says node before middle now first later a b = record {
-  told = All-append (IsToldAs says node) first later a.told b.told;
-  failed = failed_both before middle now first later a.failed b.failed;
-}
-
 -- ---- turns
 
 module _ (s : Setting) where
@@ -55,8 +46,8 @@ module _ (s : Setting) where
     pub filled : AllPairs (IsFilledBefore w1.seen.journals) turns
     pub goes_on : GoesOn s.alone w0.seen w1.seen (places_of turns)
     pub legal : AreLegal s.node w1.seen.journals
-    pub gave : Gave w0.clock w1.clock (readings_of turns)
-    pub linked : IsLinked s.says s.node.number w0.faults w1.faults (calls_of turns)
+    pub gave : Gave w0.outside.clock.told w1.outside.clock.told (readings_of turns)
+    pub linked : IsLinked s.node.number w0.outside.link w1.outside.link (calls_of turns)
 
   pub none_made : (w : World) → AreLegal s.node w.seen.journals → Made w w []
   none_made w legal = record {
@@ -64,8 +55,8 @@ module _ (s : Setting) where
     filled = none_filled w.seen.journals;
     goes_on = stood s.alone w.seen;
     legal = legal;
-    gave = Keeps-refl w.clock;
-    linked = quiet_linked s.says s.node.number w.faults w.faults [] (none_called s.says s.node.number w.faults);
+    gave = Keeps-refl w.outside.clock.told;
+    linked = quiet_linked s.node.number w.outside.link w.outside.link [] (none_called s.node.number w.outside.link);
   }
 
   -- the turn of a frame that was answered
@@ -84,6 +75,6 @@ module _ (s : Setting) where
         filled = filled_more s.node w1.seen.journals w2.seen.journals x.goes_on.goes_on x.legal turns m.courses m.filled t (its_course w1 payload reply w2 x) x.goes_on.new_places;
         goes_on = subst (GoesOn s.alone w0.seen w2.seen) (sym (flat_push (λ (u : Turn). u.used.places) turns t)) (goes_on_twice s.alone w0.seen w1.seen w2.seen (places_of turns) x.used.places m.goes_on x.goes_on);
         legal = x.legal;
-        gave = subst (Gave w0.clock w2.clock) (sym (flat_push (λ (u : Turn). u.used.readings) turns t)) (gave_on w0.clock w1.clock w2.clock (readings_of turns) x.used.readings m.gave x.gave);
-        linked = subst (IsLinked s.says s.node.number w0.faults w2.faults) (sym (flat_push (λ (u : Turn). u.used.calls) turns t)) (linked_both s.says s.node.number w0.faults w1.faults w2.faults (calls_of turns) x.used.calls m.linked x.linked);
+        gave = subst (Gave w0.outside.clock.told w2.outside.clock.told) (sym (flat_push (λ (u : Turn). u.used.readings) turns t)) (gave_on w0.outside.clock.told w1.outside.clock.told w2.outside.clock.told (readings_of turns) x.used.readings m.gave x.gave);
+        linked = subst (IsLinked s.node.number w0.outside.link w2.outside.link) (sym (flat_push (λ (u : Turn). u.used.calls) turns t)) (linked_both s.node.number w0.outside.link w1.outside.link w2.outside.link (calls_of turns) x.used.calls m.linked x.linked);
       }

@@ -47,7 +47,7 @@ module _ (keys : NodeKeys) (objects : List ObjectFixed) (u : LinkUse) (r : Reque
   -- the shards are opened
   pub record Arrives (a : Arrived) : Type 0 where
     pub calls : List LinkCall
-    pub linked : IsLinked u.says u.node u.before u.after calls
+    pub linked : IsLinked u.node u.before u.after calls
     pub object : ObjectFixed
     pub there : fixed_at objects r.object ≡ Some object
     pub arrived : (plans : List Plan) (payload key : List ℕ) →
@@ -59,7 +59,7 @@ module _ (keys : NodeKeys) (objects : List ObjectFixed) (u : LinkUse) (r : Reque
   -- a course of the request ends before its object, as the refusal says
   pub record NotArrives (f : Refusal) : Type 0 where
     pub calls : List LinkCall
-    pub linked : IsLinked u.says u.node u.before u.after calls
+    pub linked : IsLinked u.node u.before u.after calls
     pub course : (plans : List Plan) (past J : Journals) (payload key : List ℕ) →
         IsAsked keys.channels.entries payload r key →
         CourseAfter (node_of keys plans objects) past J payload (only_calls calls)

@@ -1,6 +1,7 @@
 -- Completeness of a request: what alone keeps one that came to its object from its verdict.
 use Rattle.std.specs.Prelude.{◌≡◌, ◌≢◌, ◌⊎◌, ℕ, ◌+◌, ◌<◌, ◌≤◌, ◌-◌, ◌^◌, Bool, List, [], ◌∷◌, length, Some, slice_get, Contains, All}
 use Rattle.denial_link.specs.declared.link.Link.{Link}
+use Rattle.frame_link.specs.Outside.{OutsideSeen}
 use Rattle.object_core.specs.Objects.{ObjectEntry}
 use Rattle.object_core.specs.Operation.{Hold, Discard}
 use Rattle.stmt_codec.specs.Certificates.{Certificate}
@@ -17,12 +18,13 @@ use Rattle.taos_monitor.specs.declared.handling.Handled.{Handled}
 use Rattle.taos_monitor.specs.declared.handling.Handled.TheVariants as handled
 use Rattle.taos_monitor.specs.Asking.{shard_full}
 use Rattle.taos_monitor.specs.AtObject.{Seeking, asks_for, object_full}
-use Rattle.taos_monitor.specs.Cells.{Node, HasPlan, Journals, AreLegal, Place, in_shard}
+use Rattle.taos_monitor.specs.Cells.{Node, HasPlan, Journals, no_entries, AreLegal, Place, in_shard}
 use Rattle.taos_monitor.specs.Course.{Arrival, its_seeking, Used, CourseAfter}
 use Rattle.taos_monitor.specs.Credentials.{LinkCall, Failed}
 use Rattle.taos_monitor.specs.Handling.{HasCourse, Answers, Handles, HandlesCause}
 use Rattle.taos_monitor.specs.Operations.{targets_of}
-use Rattle.taos_monitor.specs.World.{Setting, World}
+use Rattle.taos_monitor.specs.Run.{Turn}
+use Rattle.taos_monitor.specs.World.{Setting, World, clock_faults}
 
 module _ (n : Node) (J : Journals) (own : List Place) where
   -- the event stands at an own place of the shard of this number, after these entries
@@ -121,38 +123,60 @@ VerdictsAreExact n =
 abbrev pub StoodStill : ℕ → ℕ → Type 0
 StoodStill before after = (after ≡ before) × (before < 2 ^ 64 - 1)
 
+-- neither the link's count of failures rose, nor the clock's
+abbrev pub NothingFailed : (before after : OutsideSeen) → Type 0
+NothingFailed before after =
+    StoodStill before.link.faults after.link.faults ×
+    StoodStill before.clock.faults after.clock.faults
+
 -- none of the calls failed
 abbrev pub NoneFailed : List LinkCall → Type 0
 NoneFailed calls = All (λ (c : LinkCall). c.answer ≢ Failed) calls
 
-module _ (s : Setting) (before after : World) where
-  -- this is a course of the payload in which no call failed, and if it came to its object it is judged
-  pub record IsWhole (payload : List ℕ) (used : Used) (sent : Sent) : Type 0 where
-    pub course : CourseAfter s.node before.seen.journals after.seen.journals payload used sent
-    pub answered : NoneFailed used.calls
-    pub judged : (t : Arrival s.node payload) → used.calls ≡ t.calls →
-        IsJudged after.seen.journals t used sent.reply ⊎ (sent.reply ≡ replies.NoMemory)
+-- this is a course of the payload in which no call failed, and if it came to its object it is judged
+pub record IsWhole (n : Node) (past J : Journals) (payload : List ℕ) (used : Used) (sent : Sent) :
+    Type 0 where
+  pub course : CourseAfter n past J payload used sent
+  pub answered : NoneFailed used.calls
+  pub judged : (t : Arrival n payload) → used.calls ≡ t.calls →
+      IsJudged J t used sent.reply ⊎ (sent.reply ≡ replies.NoMemory)
 
+-- the turn of a frame is, whatever was seen before
+abbrev pub IsWholeTurn : Node → Journals → Turn → Type 0
+IsWholeTurn n J t = IsWhole n no_entries J t.frame t.used t.sent
+
+module _ (s : Setting) (before after : World) where
   -- the payload has a reply by such a course
   abbrev pub AnswersWhole : List ℕ → List ℕ → Handled → Type 0
   AnswersWhole payload bytes h =
-      (h ≡ handled.Replied) × HasCourse s before after (IsWhole payload) bytes
+      (h ≡ handled.Replied) × HasCourse s before after
+      (IsWhole s.node before.seen.journals after.seen.journals payload) bytes
 
   -- the request has a reply by such a course, whichever payload under its channel's seal it was
   abbrev pub HandlesWhole : Request → List ℕ → Handled → Type 0
   HandlesWhole r bytes h =
       (h ≡ handled.Replied) × HasCourse s before after (λ used sent.
-      (payload key : List ℕ) → IsAsked s.node.channels payload r key → IsWhole payload used sent) bytes
+      (payload key : List ℕ) → IsAsked s.node.channels payload r key →
+      IsWhole s.node before.seen.journals after.seen.journals payload used sent) bytes
 
-  -- the counts of failures, of the link and of the clock, stood still
-  abbrev pub NothingFailed : ℕ → ℕ → Type 0
-  NothingFailed clock0 clock1 = StoodStill before.faults after.faults × StoodStill clock0 clock1
+  -- The payload was answered, or came to the clock, which failed and counted it; and it was answered
+  -- whole where no count of failures rose.
+  pub record AnswersPayload (payload bytes : List ℕ) (h : Handled) : Type 0 where
+    pub answers : Answers s before after payload bytes h
+    pub cause : HandlesCause (clock_faults before) (clock_faults after) h
+    pub whole : NothingFailed before.outside after.outside → AnswersWhole payload bytes h
 
--- what was answered while no count of failures rose is answered whole
+  -- the same of a request, whichever payload under its channel's seal it was
+  pub record AnswersRequest (r : Request) (bytes : List ℕ) (h : Handled) : Type 0 where
+    pub handles : Handles s before after r bytes h
+    pub cause : HandlesCause (clock_faults before) (clock_faults after) h
+    pub whole : NothingFailed before.outside after.outside → HandlesWhole r bytes h
+
+-- what was answered with its cause is whole where no count of failures rose
 abbrev pub AnswersAreWhole : Type 0
 AnswersAreWhole =
-    (s : Setting) (before after : World) (clock0 clock1 : ℕ) (h : Handled) (bytes : List ℕ) →
-    NothingFailed s before after clock0 clock1 → HandlesCause clock0 clock1 h →
+    (s : Setting) (before after : World) (h : Handled) (bytes : List ℕ) →
+    HandlesCause (clock_faults before) (clock_faults after) h →
     ((payload : List ℕ) → Answers s before after payload bytes h →
-    AnswersWhole s before after payload bytes h) ×
-    ((r : Request) → Handles s before after r bytes h → HandlesWhole s before after r bytes h)
+    AnswersPayload s before after payload bytes h) ×
+    ((r : Request) → Handles s before after r bytes h → AnswersRequest s before after r bytes h)

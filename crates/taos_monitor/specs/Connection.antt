@@ -1,12 +1,13 @@
 -- A connection that is served: its frames as `frame_link` serves them, and the course that each had
 -- in the journals as they are at the end.
-use Rattle.std.specs.Prelude.{ℕ, List}
+use Rattle.std.specs.Prelude.{ℕ, List, All}
 use Rattle.frame_link.specs.declared.outcome.Outcome.{Outcome}
-use Rattle.frame_link.specs.Served.{Line, IsServed, replies_of}
+use Rattle.frame_link.specs.Served.{Line, IsServed, HasCauses, IsComplete, replies_of}
 use Rattle.taos_monitor.specs.Cells.{AreLegal, GoesOn}
-use Rattle.taos_monitor.specs.World.{Setting, World}
+use Rattle.taos_monitor.specs.World.{Setting, World, clock_faults}
 use Rattle.taos_monitor.specs.Credentials.{IsLinked}
 use Rattle.taos_monitor.specs.Course.{Used}
+use Rattle.taos_monitor.specs.Completeness.{StoodStill, IsWholeTurn}
 use Rattle.taos_monitor.specs.Handling.{Gave, AnsweredTo, UnansweredAtClock}
 use Rattle.taos_monitor.specs.Run.{Answered}
 
@@ -32,5 +33,18 @@ pub record IsConnection (s : Setting) (limit : ℕ) (before after : Line World) 
   pub legal : AreLegal s.node after.service.seen.journals
   pub answered : Answered s.node after.service.seen.journals used
       served.payloads (replies_of served.turns) outcome
-  pub gave : Gave before.service.clock after.service.clock used.readings
-  pub linked : IsLinked s.says s.node.number before.service.faults after.service.faults used.calls
+  pub gave : Gave before.service.outside.clock.told after.service.outside.clock.told used.readings
+  pub linked : IsLinked s.node.number before.service.outside.link after.service.outside.link
+      used.calls
+
+-- The same, with the cause of its outcome: the counts of faults are of the same input, output and
+-- clock. An input of whole frames is answered to its end, unless a count rises; and each answer is
+-- whole, unless the link's does.
+pub record Connects (s : Setting) (limit : ℕ) (before after : Line World) (outcome : Outcome) :
+    Type 0 where
+  pub connection : IsConnection s limit before after outcome
+  pub causes : HasCauses clock_faults before after outcome
+  pub complete : IsComplete clock_faults limit before after outcome
+  pub whole :
+      StoodStill before.service.outside.link.faults after.service.outside.link.faults →
+      All (IsWholeTurn s.node after.service.seen.journals) connection.answered.turns

@@ -1,7 +1,7 @@
 -- The certificates that a request presents, in order, by their bytes.
 use Rattle.std.specs.Prelude.{◌≡◌, ◌≢◌, ℕ, List, [], ◌∷◌, ◌++◌, length}
 use Rattle.stmt_codec.specs.Certificates.{Certificate}
-pub use Rattle.relay_core.specs.Credentials.{LinkAnswer, Resealed, Refused, Lacked, Failed, LinkCall, call, IsIssued, IsResealed, Comes, by_node, by_relay, IsRefused, malformed, bad_seal, refused, bad_reseal, AnswersAs, IsToldAs, CountsAs, FailedAs, LinkUse, link_use, IsLinked, IsQuiet}
+pub use Rattle.relay_core.specs.Credentials.{LinkAnswer, Resealed, Refused, Lacked, Failed, LinkCall, call, IsIssued, IsResealed, Comes, by_node, by_relay, IsRefused, malformed, bad_seal, refused, bad_reseal, AnswersAs, IsToldAs, CountsAs, FailedAs, WasCalled, LinkUse, link_use, IsLinked, IsQuiet}
 
 -- the bytes come to these certificates, one by one, by these calls
 pub data AreOpened (key : List ℕ) : List (List ℕ) → List LinkCall → List Certificate → Type 0 where

@@ -29,8 +29,8 @@ module _ (s : Setting) (before after : World) where
     pub goes_on : GoesOn s.alone before.seen after.seen used.places
     pub legal : AreLegal s.node after.seen.journals
     pub course : IsTaken used sent
-    pub gave : Gave before.clock after.clock used.readings
-    pub linked : IsLinked s.says s.node.number before.faults after.faults used.calls
+    pub gave : Gave before.outside.clock.told after.outside.clock.told used.readings
+    pub linked : IsLinked s.node.number before.outside.link after.outside.link used.calls
     -- the bytes are those of the reply, with its tag
     pub spelled : bytes ≡ spelling sent
     -- the bytes fit a frame
@@ -41,8 +41,8 @@ module _ (s : Setting) (before after : World) where
     pub calls : List LinkCall
     pub unchanged : after.seen ≡ before.seen
     pub come : HasCome calls
-    pub keeps : Keeps before.clock after.clock
-    pub linked : IsLinked s.says s.node.number before.faults after.faults calls
+    pub keeps : Keeps before.outside.clock.told after.outside.clock.told
+    pub linked : IsLinked s.node.number before.outside.link after.outside.link calls
 
   -- a course of the request was taken to a reply, whichever payload under its channel's seal it was
   abbrev pub HandledTo : Request → List ℕ → Type 0

@@ -26,10 +26,10 @@ module _ (key : List ℕ) (u : LinkUse) where
   pub record AllCome (texts : List (List ℕ)) (certs : List Certificate) : Type 0 where
     pub calls : List LinkCall
     pub opened : AreOpened key texts calls certs
-    pub quiet : IsQuiet u.says u.node u.before u.after calls
+    pub quiet : IsQuiet u.node u.before u.after calls
 
-  -- one comes to no certificate, with the link's answers and its count of failures
+  -- one comes to no certificate, with the link's answers and its counts
   pub record AllStop (texts : List (List ℕ)) (f : Refusal) : Type 0 where
     pub calls : List LinkCall
     pub stops : AreStopped key texts calls f
-    pub linked : IsLinked u.says u.node u.before u.after calls
+    pub linked : IsLinked u.node u.before u.after calls

@@ -1,7 +1,12 @@
 -- What a service that answers for a node does to its state, as its trait is told.
 use Rattle.std.specs.Prelude.{◌≡◌, ℕ, List}
+use Rattle.frame_link.specs.Lent.{Lent, Nothing, To, Both}
 use Rattle.taos_monitor.specs.World.{Setting, World}
 use Rattle.taos_monitor.specs.Connection.{AnswersFrame, GivesUpFrame}
+
+-- four borrows, by their ghost names
+abbrev pub four : ℕ → ℕ → ℕ → ℕ → Lent
+four a b c d = Both (Both (To a Nothing) (To b Nothing)) (Both (To c Nothing) (To d Nothing))
 
 -- what stays, and what an answer may change
 pub record State : Type 0 where

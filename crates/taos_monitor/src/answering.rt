@@ -2,8 +2,10 @@
 
 ghost use Rattle.std.specs.Prelude.{◌≡◌, ◌≤◌, IfErr, IfOk, None, length};
 ghost use Rattle.taos_wire.specs.View.{request as request_of};
+ghost use Rattle.frame_link.specs.Outside.{outside_of};
 ghost use Rattle.taos_monitor.specs.Arriving.{IsAskedBy, IsNotAsked, node_of};
 ghost use Rattle.taos_monitor.specs.Cells.{alone_of, viewed};
+ghost use Rattle.taos_monitor.specs.Completeness.{AnswersPayload};
 ghost use Rattle.taos_monitor.specs.Handling.{Answers, HandlesCause, LeavesReply};
 ghost use Rattle.taos_monitor.specs.Planned.{ArePlanned};
 ghost use Rattle.taos_monitor.specs.World.{setting_of, world_of};
@@ -73,14 +75,14 @@ pub fn answer_with<W: Wait + Sync, H: Shelf, S: Shards, R: RelayLink, C: Clock, 
     requires none_taken { H.taken shelf.old ≡ None }
     ensures answered { Answers
         (setting_of (node_of keys.now (S.plans shards.old) (H.objects shelf.old))
-        (alone_of (S.alone shards.old) (H.alone shelf.old)) (R.says relay.old))
-        (world_of (C.readings clock.old) (R.faults relay.old)
+        (alone_of (S.alone shards.old) (H.alone shelf.old)))
+        (world_of (outside_of (C.shown clock.old) (R.shown relay.old))
         (viewed (S.seen shards.old) (S.own shards.old))
         (viewed (H.seen shelf.old) (H.own shelf.old)))
-        (world_of (C.readings clock.new) (R.faults relay.new)
+        (world_of (outside_of (C.shown clock.new) (R.shown relay.new))
         (viewed (S.seen shards.new) (S.own shards.new))
         (viewed (H.seen shelf.new) (H.own shelf.new))) payload.now out.new result }
-    ensures cause { HandlesCause (C.faults clock.old) (C.faults clock.new) result }
+    ensures cause { HandlesCause (C.shown clock.old).faults (C.shown clock.new).faults result }
     ensures left { LeavesReply out.old out.new result }
 
     // What it opens by stays under the node's key.
@@ -94,7 +96,6 @@ pub fn answer_with<W: Wait + Sync, H: Shelf, S: Shards, R: RelayLink, C: Clock, 
     ensures alone { S.alone shards.new ≡ S.alone shards.old }
     ensures objects { H.objects shelf.new ≡ H.objects shelf.old }
     ensures others_take { H.alone shelf.new ≡ H.alone shelf.old }
-    ensures says { R.says relay.new ≡ R.says relay.old }
 {
     are_legal(shelf, shards);
     match asked_of(alloc, keys, payload) {
@@ -125,16 +126,15 @@ pub fn answer<W: Wait + Sync, H: Shelf, S: Shards, R: RelayLink, C: Clock, D: De
     requires short { length payload.now ≤ MAX_REQUEST }
     requires planned { ArePlanned keys.now.channels.entries (S.plans shards.old) }
     requires none_taken { H.taken shelf.old ≡ None }
-    ensures answered { Answers
+    ensures answered { AnswersPayload
         (setting_of (node_of keys.now (S.plans shards.old) (H.objects shelf.old))
-        (alone_of (S.alone shards.old) (H.alone shelf.old)) (R.says relay.old))
-        (world_of (C.readings clock.old) (R.faults relay.old)
+        (alone_of (S.alone shards.old) (H.alone shelf.old)))
+        (world_of (outside_of (C.shown clock.old) (R.shown relay.old))
         (viewed (S.seen shards.old) (S.own shards.old))
         (viewed (H.seen shelf.old) (H.own shelf.old)))
-        (world_of (C.readings clock.new) (R.faults relay.new)
+        (world_of (outside_of (C.shown clock.new) (R.shown relay.new))
         (viewed (S.seen shards.new) (S.own shards.new))
         (viewed (H.seen shelf.new) (H.own shelf.new))) payload.now out.new result }
-    ensures cause { HandlesCause (C.faults clock.old) (C.faults clock.new) result }
     ensures left { LeavesReply out.old out.new result }
 
     // No object is left taken.
@@ -145,7 +145,6 @@ pub fn answer<W: Wait + Sync, H: Shelf, S: Shards, R: RelayLink, C: Clock, D: De
     ensures alone { S.alone shards.new ≡ S.alone shards.old }
     ensures objects { H.objects shelf.new ≡ H.objects shelf.old }
     ensures others_take { H.alone shelf.new ≡ H.alone shelf.old }
-    ensures says { R.says relay.new ≡ R.says relay.old }
 {
     let mut opened = OpenedCerts::keeping_none(&keys.relay_key);
     answer_with(

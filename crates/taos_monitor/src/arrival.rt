@@ -39,13 +39,13 @@ pub(crate) fn arrive<H: Shelf, R: RelayLink>(
     requires short { All (λ t. length t ≤ 65531) (request asked.now).certs }
     requires key { opened.old ≡ keys.now.relay_key }
     ensures arrived { IfOk result (Arrives keys.now (H.objects shelf.now)
-        (link_use (R.says relay.old) keys.now.node (R.faults relay.old) (R.faults relay.new))
+        (link_use keys.now.node (R.shown relay.old) (R.shown relay.new))
         (request asked.now)) }
     ensures refused { IfErr result (NotArrives keys.now (H.objects shelf.now)
-        (link_use (R.says relay.old) keys.now.node (R.faults relay.old) (R.faults relay.new))
+        (link_use keys.now.node (R.shown relay.old) (R.shown relay.new))
         (request asked.now)) }
     ensures key { opened.new ≡ opened.old }
-    ensures same { R.says relay.new ≡ R.says relay.old }
+    ensures same { R.borrows relay.new ≡ R.borrows relay.old }
 {
     let certs = open_all(alloc, keys.node, opened, relay, &asked.certs)?;
     if !shelf.has(asked.object) {

@@ -1,13 +1,14 @@
 //! A connection: one reply frame for each request frame, in order.
 
-ghost use Rattle.std.specs.Prelude.{◌≡◌, [], ◌∷◌, IfOk, None};
+ghost use Rattle.std.specs.Prelude.{◌≡◌, IfOk, None};
 ghost use Rattle.std.specs.Thread.{IsSync};
-ghost use Rattle.frame_link.specs.Served.{line, counts, HasCauses, IsComplete};
+ghost use Rattle.frame_link.specs.Served.{line};
+ghost use Rattle.frame_link.specs.Outside.{outside_of};
 ghost use Rattle.taos_monitor.specs.Arriving.{node_of};
 ghost use Rattle.taos_monitor.specs.Cells.{AreLegalIn, alone_of, seen_of, viewed};
-ghost use Rattle.taos_monitor.specs.Connection.{IsConnection};
+ghost use Rattle.taos_monitor.specs.Connection.{Connects};
 ghost use Rattle.taos_monitor.specs.Planned.{ArePlanned};
-ghost use Rattle.taos_monitor.specs.Serving.{StepsTo, StopsIn, state_of};
+ghost use Rattle.taos_monitor.specs.Serving.{StepsTo, StopsIn, four, state_of};
 ghost use Rattle.taos_monitor.specs.World.{setting_of, world_of};
 
 use crate::answering::answer_with;
@@ -47,38 +48,38 @@ impl<W: Wait + Sync, H: Shelf, S: Shards, R: RelayLink, C: Clock, D: Decide> Ser
     for Answering<'_, '_, '_, '_, '_, '_, '_, '_, '_, W, H, S, R, C, D> {
     ghost answers = { λ s payload reply t. StepsTo
         (state_of (setting_of (node_of s.keys.now (S.plans s.shards.now) (H.objects s.shelf.now))
-        (alone_of (S.alone s.shards.now) (H.alone s.shelf.now)) (R.says s.relay.now))
-        (world_of (C.readings s.clock.now) (R.faults s.relay.now)
+        (alone_of (S.alone s.shards.now) (H.alone s.shelf.now)))
+        (world_of (outside_of (C.shown s.clock.now) (R.shown s.relay.now))
         (viewed (S.seen s.shards.now) (S.own s.shards.now))
         (viewed (H.seen s.shelf.now) (H.own s.shelf.now)))) payload reply
         (state_of (setting_of (node_of t.keys.now (S.plans t.shards.now) (H.objects t.shelf.now))
-        (alone_of (S.alone t.shards.now) (H.alone t.shelf.now)) (R.says t.relay.now))
-        (world_of (C.readings t.clock.now) (R.faults t.relay.now)
+        (alone_of (S.alone t.shards.now) (H.alone t.shelf.now)))
+        (world_of (outside_of (C.shown t.clock.now) (R.shown t.relay.now))
         (viewed (S.seen t.shards.now) (S.own t.shards.now))
         (viewed (H.seen t.shelf.now) (H.own t.shelf.now)))) };
 
     ghost gives_up = { λ s payload t. StopsIn
         (state_of (setting_of (node_of s.keys.now (S.plans s.shards.now) (H.objects s.shelf.now))
-        (alone_of (S.alone s.shards.now) (H.alone s.shelf.now)) (R.says s.relay.now))
-        (world_of (C.readings s.clock.now) (R.faults s.relay.now)
+        (alone_of (S.alone s.shards.now) (H.alone s.shelf.now)))
+        (world_of (outside_of (C.shown s.clock.now) (R.shown s.relay.now))
         (viewed (S.seen s.shards.now) (S.own s.shards.now))
         (viewed (H.seen s.shelf.now) (H.own s.shelf.now)))) payload
         (state_of (setting_of (node_of t.keys.now (S.plans t.shards.now) (H.objects t.shelf.now))
-        (alone_of (S.alone t.shards.now) (H.alone t.shelf.now)) (R.says t.relay.now))
-        (world_of (C.readings t.clock.now) (R.faults t.relay.now)
+        (alone_of (S.alone t.shards.now) (H.alone t.shelf.now)))
+        (world_of (outside_of (C.shown t.clock.now) (R.shown t.relay.now))
         (viewed (S.seen t.shards.now) (S.own t.shards.now))
         (viewed (H.seen t.shelf.now) (H.own t.shelf.now)))) };
 
     ghost ready = { λ s. s.reply.now };
 
-    ghost faults = { λ s. C.faults s.clock.now };
+    ghost faults = { λ s. (C.shown s.clock.now).faults };
 
     ghost stands = { λ s. IsSync W.row
         × ArePlanned s.keys.now.channels.entries (S.plans s.shards.now)
         × (H.taken s.shelf.now ≡ None) × (s.opened.now ≡ s.keys.now.relay_key) };
 
-    ghost borrows = { λ s. s.shelf.ghost_name ∷ s.shards.ghost_name ∷ s.relay.ghost_name
-        ∷ s.clock.ghost_name ∷ [] };
+    ghost borrows = { λ s. four s.shelf.ghost_name s.shards.ghost_name s.relay.ghost_name
+        s.clock.ghost_name };
 
     fn answer(&mut self, payload: &[u8]) -> Result<(), Failed> {
         let mut gate = FreeGate;
@@ -131,33 +132,23 @@ fn serve_by<
         (seen_of (viewed (S.seen service.old.shards.now) (S.own service.old.shards.now))
         (viewed (H.seen service.old.shelf.now) (H.own service.old.shelf.now))).journals }
     requires limit { buf.old.limit ≡ MAX_REQUEST }
-    ensures connection { IsConnection
+    ensures connection { Connects
         (setting_of (node_of service.old.keys.now (S.plans service.old.shards.now)
         (H.objects service.old.shelf.now))
-        (alone_of (S.alone service.old.shards.now) (H.alone service.old.shelf.now))
-        (R.says service.old.relay.now)) frames
-        (line (I.left input.old) (O.written output.old)
-        (world_of (C.readings service.old.clock.now) (R.faults service.old.relay.now)
+        (alone_of (S.alone service.old.shards.now) (H.alone service.old.shelf.now))) frames
+        (line (I.shown input.old) (O.shown output.old)
+        (world_of (outside_of (C.shown service.old.clock.now) (R.shown service.old.relay.now))
         (viewed (S.seen service.old.shards.now) (S.own service.old.shards.now))
         (viewed (H.seen service.old.shelf.now) (H.own service.old.shelf.now))))
-        (line (I.left input.new) (O.written output.new)
-        (world_of (C.readings service.new.clock.now) (R.faults service.new.relay.now)
+        (line (I.shown input.new) (O.shown output.new)
+        (world_of (outside_of (C.shown service.new.clock.now) (R.shown service.new.relay.now))
         (viewed (S.seen service.new.shards.now) (S.own service.new.shards.now))
         (viewed (H.seen service.new.shelf.now) (H.own service.new.shelf.now)))) result }
-    ensures causes { HasCauses
-        (counts (I.faults input.old) (O.faults output.old) (C.faults service.old.clock.now))
-        (counts (I.faults input.new) (O.faults output.new) (C.faults service.new.clock.now))
-        result }
-    ensures complete { IsComplete frames (I.left input.old)
-        (counts (I.faults input.old) (O.faults output.old) (C.faults service.old.clock.now))
-        (counts (I.faults input.new) (O.faults output.new) (C.faults service.new.clock.now))
-        result }
     ensures taken { H.taken service.new.shelf.now ≡ None }
     ensures plans { S.plans service.new.shards.now ≡ S.plans service.old.shards.now }
     ensures alone { S.alone service.new.shards.now ≡ S.alone service.old.shards.now }
     ensures objects { H.objects service.new.shelf.now ≡ H.objects service.old.shelf.now }
     ensures others_take { H.alone service.new.shelf.now ≡ H.alone service.old.shelf.now }
-    ensures says { R.says service.new.relay.now ≡ R.says service.old.relay.now }
     ensures same_shelf { service.new.shelf.ghost_name ≡ service.old.shelf.ghost_name }
     ensures same_shards { service.new.shards.ghost_name ≡ service.old.shards.ghost_name }
     ensures same_relay { service.new.relay.ghost_name ≡ service.old.relay.ghost_name }
@@ -199,23 +190,17 @@ pub fn serve_connection<
 ) -> Outcome
     requires planned { ArePlanned keys.now.channels.entries (S.plans shards.old) }
     requires none_taken { H.taken shelf.old ≡ None }
-    ensures connection { IsConnection
+    ensures connection { Connects
         (setting_of (node_of keys.now (S.plans shards.old) (H.objects shelf.old))
-        (alone_of (S.alone shards.old) (H.alone shelf.old)) (R.says relay.old)) frames
-        (line (I.left input.old) (O.written output.old)
-        (world_of (C.readings clock.old) (R.faults relay.old)
+        (alone_of (S.alone shards.old) (H.alone shelf.old))) frames
+        (line (I.shown input.old) (O.shown output.old)
+        (world_of (outside_of (C.shown clock.old) (R.shown relay.old))
         (viewed (S.seen shards.old) (S.own shards.old))
         (viewed (H.seen shelf.old) (H.own shelf.old))))
-        (line (I.left input.new) (O.written output.new)
-        (world_of (C.readings clock.new) (R.faults relay.new)
+        (line (I.shown input.new) (O.shown output.new)
+        (world_of (outside_of (C.shown clock.new) (R.shown relay.new))
         (viewed (S.seen shards.new) (S.own shards.new))
         (viewed (H.seen shelf.new) (H.own shelf.new)))) result }
-    ensures causes { HasCauses
-        (counts (I.faults input.old) (O.faults output.old) (C.faults clock.old))
-        (counts (I.faults input.new) (O.faults output.new) (C.faults clock.new)) result }
-    ensures complete { IsComplete frames (I.left input.old)
-        (counts (I.faults input.old) (O.faults output.old) (C.faults clock.old))
-        (counts (I.faults input.new) (O.faults output.new) (C.faults clock.new)) result }
 
     // No object is left taken.
     ensures taken { H.taken shelf.new ≡ None }
@@ -225,7 +210,6 @@ pub fn serve_connection<
     ensures alone { S.alone shards.new ≡ S.alone shards.old }
     ensures objects { H.objects shelf.new ≡ H.objects shelf.old }
     ensures others_take { H.alone shelf.new ≡ H.alone shelf.old }
-    ensures says { R.says relay.new ≡ R.says relay.old }
 {
     are_legal(shelf, shards);
     let Ok((mut buf, mut reply)) = room_of(alloc) else {

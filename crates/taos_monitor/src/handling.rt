@@ -4,8 +4,10 @@ ghost use Rattle.std.specs.Prelude.{◌≡◌, ◌≤◌, IsSome, None, length, 
 ghost use Rattle.keyed_seal.specs.Keys.{key_of};
 ghost use Rattle.taos_wire.specs.Request.{FitsRequest};
 ghost use Rattle.taos_wire.specs.View.{request as request_of};
+ghost use Rattle.frame_link.specs.Outside.{outside_of};
 ghost use Rattle.taos_monitor.specs.Arriving.{node_of};
 ghost use Rattle.taos_monitor.specs.Cells.{alone_of, viewed};
+ghost use Rattle.taos_monitor.specs.Completeness.{AnswersRequest};
 ghost use Rattle.taos_monitor.specs.Handling.{Handles, HandlesCause, LeavesReply};
 ghost use Rattle.taos_monitor.specs.Planned.{IsPlanned};
 ghost use Rattle.taos_monitor.specs.World.{setting_of, world_of};
@@ -67,14 +69,14 @@ pub fn request_with<
     requires none_taken { H.taken shelf.old ≡ None }
     ensures handled { Handles
         (setting_of (node_of keys.now (S.plans shards.old) (H.objects shelf.old))
-        (alone_of (S.alone shards.old) (H.alone shelf.old)) (R.says relay.old))
-        (world_of (C.readings clock.old) (R.faults relay.old)
+        (alone_of (S.alone shards.old) (H.alone shelf.old)))
+        (world_of (outside_of (C.shown clock.old) (R.shown relay.old))
         (viewed (S.seen shards.old) (S.own shards.old))
         (viewed (H.seen shelf.old) (H.own shelf.old)))
-        (world_of (C.readings clock.new) (R.faults relay.new)
+        (world_of (outside_of (C.shown clock.new) (R.shown relay.new))
         (viewed (S.seen shards.new) (S.own shards.new))
         (viewed (H.seen shelf.new) (H.own shelf.new))) (request_of asked.now) out.new result }
-    ensures cause { HandlesCause (C.faults clock.old) (C.faults clock.new) result }
+    ensures cause { HandlesCause (C.shown clock.old).faults (C.shown clock.new).faults result }
     ensures left { LeavesReply out.old out.new result }
 
     // What it opens by stays under the node's key.
@@ -88,7 +90,6 @@ pub fn request_with<
     ensures alone { S.alone shards.new ≡ S.alone shards.old }
     ensures objects { H.objects shelf.new ≡ H.objects shelf.old }
     ensures others_take { H.alone shelf.new ≡ H.alone shelf.old }
-    ensures says { R.says relay.new ≡ R.says relay.old }
 {
     are_legal(shelf, shards);
     let sealer = keys.channels.sealer(asked.channel).unwrap();
@@ -141,16 +142,15 @@ pub fn request<W: Wait + Sync, H: Shelf, S: Shards, R: RelayLink, C: Clock, D: D
     requires keyed { IsSome (key_of keys.now.channels.entries asked.now.channel) }
     requires planned { IsPlanned (S.plans shards.old) asked.now.channel }
     requires none_taken { H.taken shelf.old ≡ None }
-    ensures handled { Handles
+    ensures handled { AnswersRequest
         (setting_of (node_of keys.now (S.plans shards.old) (H.objects shelf.old))
-        (alone_of (S.alone shards.old) (H.alone shelf.old)) (R.says relay.old))
-        (world_of (C.readings clock.old) (R.faults relay.old)
+        (alone_of (S.alone shards.old) (H.alone shelf.old)))
+        (world_of (outside_of (C.shown clock.old) (R.shown relay.old))
         (viewed (S.seen shards.old) (S.own shards.old))
         (viewed (H.seen shelf.old) (H.own shelf.old)))
-        (world_of (C.readings clock.new) (R.faults relay.new)
+        (world_of (outside_of (C.shown clock.new) (R.shown relay.new))
         (viewed (S.seen shards.new) (S.own shards.new))
         (viewed (H.seen shelf.new) (H.own shelf.new))) (request_of asked.now) out.new result }
-    ensures cause { HandlesCause (C.faults clock.old) (C.faults clock.new) result }
     ensures left { LeavesReply out.old out.new result }
 
     // No object is left taken.
@@ -161,7 +161,6 @@ pub fn request<W: Wait + Sync, H: Shelf, S: Shards, R: RelayLink, C: Clock, D: D
     ensures alone { S.alone shards.new ≡ S.alone shards.old }
     ensures objects { H.objects shelf.new ≡ H.objects shelf.old }
     ensures others_take { H.alone shelf.new ≡ H.alone shelf.old }
-    ensures says { R.says relay.new ≡ R.says relay.old }
 {
     let mut opened = OpenedCerts::keeping_none(&keys.relay_key);
     request_with(

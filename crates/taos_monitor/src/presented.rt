@@ -34,13 +34,13 @@ pub(crate) fn open_all<R: RelayLink>(
     requires few { length texts.now ≤ 16 }
     requires short { All (λ t. length t ≤ 65531) (map text_of texts.now) }
     ensures came { IfOk result (λ certs. AllCome opened.old
-        (link_use (R.says relay.old) node (R.faults relay.old) (R.faults relay.new))
+        (link_use node (R.shown relay.old) (R.shown relay.new))
         (map text_of texts.now) (map shared certs.items)) }
     ensures stopped { IfErr result (AllStop opened.old
-        (link_use (R.says relay.old) node (R.faults relay.old) (R.faults relay.new))
+        (link_use node (R.shown relay.old) (R.shown relay.new))
         (map text_of texts.now)) }
     ensures key { opened.new ≡ opened.old }
-    ensures same { R.says relay.new ≡ R.says relay.old }
+    ensures same { R.borrows relay.new ≡ R.borrows relay.old }
 {
     let mut certs = Vec::new(alloc);
     for place in 0..texts.len() {

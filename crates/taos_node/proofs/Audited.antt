@@ -10,7 +10,7 @@ use Rattle.std.proofs.lemmas.Bool.Decides.{eqb_tells}
 use Rattle.std.proofs.lemmas.Option.{slice_get-map}
 use Rattle.frame_link.specs.declared.outcome.Outcome.{Outcome}
 use Rattle.frame_link.specs.declared.outcome.Outcome.TheVariants.{End, Truncated, TooLong, ReadFault, WriteFault, ClockFault, Spent, NoMemory}
-use Rattle.frame_link.specs.Served.{FaultCounts, counts, HasCauses, IsComplete}
+use Rattle.frame_link.specs.Served.{FaultCounts, CountsCause}
 use Rattle.denial_link.proofs.Members.{has-cases, has-cons, has-head, has-nil}
 use Rattle.agent_core.specs.Alone.{seen_in}
 use Rattle.agent_core.specs.Journals.{Entry, ShardSeen}
@@ -24,12 +24,12 @@ use Rattle.object_core.proofs.FindingRows.{place_found}
 use Rattle.taos_node.specs.declared.opened.OpenNode.{OpenNode}
 use Rattle.taos_node.specs.declared.ending.AuditEnd.{AuditEnd}
 use Rattle.taos_node.specs.declared.ending.AuditEnd.TheVariants as audits
-use Rattle.taos_node.specs.Audit.{AuditCauses, AuditIsComplete, IsAuditOf, IsEnd, TextHasCause, WritesAudit, WritesText}
+use Rattle.taos_node.specs.Audit.{counts, AuditCauses, AuditIsComplete, IsAuditOf, IsEnd, TextHasCause, WritesAudit, WritesText}
 use Rattle.taos_node.specs.AuditOf.{all_text, objects_text, shards_text}
 use Rattle.node_open.specs.Cells.{fixed_with}
 use Rattle.taos_node.specs.Opened.{IsOpenedBy, IsSameNode, seen_by}
 use Rattle.taos_node.proofs.Commands.{still}
-use Rattle.taos_node.proofs.Statuses.{same_counts}
+use Rattle.taos_node.proofs.Statuses.{IsCompleteBy, same_counts}
 
 -- ---- journals in order, and by their numbers
 
@@ -128,7 +128,7 @@ is_audit o old new opened same =
 -- ---- how it ends
 
 -- the causes of a connection whose replies nobody has are those where the output stood still
-pub stopped_causes : (i c i1 c1 o : ℕ) (outcome : Outcome) → HasCauses (counts i 0 c) (counts i1 0 c1) outcome → HasCauses (counts i o c) (counts i1 o c1) outcome
+pub stopped_causes : (i c i1 c1 o : ℕ) (outcome : Outcome) → CountsCause (counts i 0 c) (counts i1 0 c1) outcome → CountsCause (counts i o c) (counts i1 o c1) outcome
 stopped_causes i c i1 c1 o ReadFault h = (h.0, h.1, refl, h.3)
 stopped_causes i c i1 c1 o WriteFault h = absurd (omega (arith, h.1))
 stopped_causes i c i1 c1 o ClockFault h = (h.0, h.1, h.2, refl)
@@ -139,7 +139,7 @@ stopped_causes i c i1 c1 o (Spent n) h = same_counts i o c i1 o c1 (ap (λ (f : 
 stopped_causes i c i1 c1 o NoMemory h = same_counts i o c i1 o c1 (ap (λ (f : FaultCounts). f.input) h) refl (ap (λ (f : FaultCounts). f.clock) h)
 
 -- where nothing rose it stopped for want of memory alone
-pub stopped_complete : (limit i c i1 c1 o : ℕ) (input : Option (List ℕ)) (outcome : Outcome) → (IsEnd outcome → ⊥) → IsComplete limit input (counts i 0 c) (counts i1 0 c1) outcome →
+pub stopped_complete : (limit i c i1 c1 o : ℕ) (input : Option (List ℕ)) (outcome : Outcome) → (IsEnd outcome → ⊥) → IsCompleteBy limit input (counts i 0 c) (counts i1 0 c1) outcome →
     AuditIsComplete limit input (counts i o c) (counts i1 o c1) (audits.Stopped outcome)
 stopped_complete limit i c i1 c1 o input outcome not complete payloads whole within few steady =
     let same = same_counts i 0 c i1 0 c1 (ap (λ (f : FaultCounts). f.input) steady.same) refl (ap (λ (f : FaultCounts). f.clock) steady.same) in
@@ -149,8 +149,8 @@ stopped_complete limit i c i1 c1 o input outcome not complete payloads whole wit
     ]
 
 -- where it ended with whole frames no count rose
-pub ended_same : (i c i1 c1 n : ℕ) (outcome : Outcome) → outcome ≡ End n → HasCauses (counts i 0 c) (counts i1 0 c1) outcome → counts i1 0 c1 ≡ counts i 0 c
-ended_same i c i1 c1 n outcome is h = subst (HasCauses (counts i 0 c) (counts i1 0 c1)) is h
+pub ended_same : (i c i1 c1 n : ℕ) (outcome : Outcome) → outcome ≡ End n → CountsCause (counts i 0 c) (counts i1 0 c1) outcome → counts i1 0 c1 ≡ counts i 0 c
+ended_same i c i1 c1 n outcome is h = subst (CountsCause (counts i 0 c) (counts i1 0 c1)) is h
 
 -- the same where the text was to be written
 module _ (i c i1 c1 o o1 : ℕ) (same : counts i1 0 c1 ≡ counts i 0 c) (text : List ℕ) (out0 out1 : Option (List ℕ)) where

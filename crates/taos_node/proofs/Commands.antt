@@ -5,7 +5,8 @@ use Rattle.std.specs.Io.KnownBytes.{Consumes, IsAtEnd}
 use Rattle.std.proofs.lemmas.List.{length-append}
 use Rattle.frame_link.specs.declared.outcome.Outcome.{Outcome}
 use Rattle.frame_link.specs.Faults.{Rose}
-use Rattle.frame_link.specs.Relay.{Said}
+use Rattle.frame_link.specs.Relay.{Link}
+use Rattle.frame_link.specs.Served.{HasCauses, IsComplete, line}
 use Rattle.taos_lanes.specs.declared.lane.Lane.{Lane}
 use Rattle.node_file.specs.Opening.{Opening}
 use Rattle.taos_monitor.specs.Cells.{Node, Seen, alone_of}
@@ -15,8 +16,8 @@ use Rattle.taos_node.specs.declared.ending.FileFault.TheVariants as fault
 use Rattle.taos_node.specs.declared.ending.FileFault.TheVariants.{Malformed, Refused}
 use Rattle.taos_node.specs.Ending.{file_status}
 use Rattle.taos_node.specs.Files.{FaultHasCause, FileDecides, FileFails, IsNodeFile, IsRead, IsRefused, IsRelayFile, IsUnread, Meaning, Opens, OpensNode, OpensRelay, fault_of, node_means, relay_means}
-use Rattle.frame_link.specs.Streams.{Stream, stream}
-use Rattle.taos_node.specs.Command.{Link, link, touched, with_seen, first_clock, first_link}
+use Rattle.frame_link.specs.Streams.{Stream}
+use Rattle.taos_node.specs.Command.{touched, with_seen, first_clock, first_link}
 use Rattle.file_lines.specs.declared.fault.FileCause.TheVariants.{Limit}
 use Rattle.file_lines.specs.declared.fault.FileFault.{FileFault as Refusal}
 use Rattle.file_lines.specs.declared.fault.FileFault.TheVariants as refusals
@@ -115,11 +116,11 @@ module _ {A : Type 0} (Means : A → List ℕ → Type 0) (means : Meaning A) (l
 -- ---- what comes of a file that was read
 
 -- a fault of reading alone is one of any file
-pub unread_fails : {A : Type 0} (means : Meaning A) (file0 file1 : Stream) (f : FileFault) → IsUnread f → FileFails means file0 file1 f
+pub unread_fails : {A : Type 0} (means : Meaning A) (file0 file1 : Stream) (f : FileFault) → IsUnread file0 file1 f → FileFails means file0 file1 f
 unread_fails means file0 file1 (Refused line cause) is = absurd is
 unread_fails means file0 file1 (Malformed offset) is = absurd is
-unread_fails means file0 file1 fault.ReadFault is = tt
-unread_fails means file0 file1 fault.NoMemory is = tt
+unread_fails means file0 file1 fault.ReadFault is = is
+unread_fails means file0 file1 fault.NoMemory is = is
 
 -- bytes that are refused are a fault of the file
 pub refusal_fails : {A : Type 0} (means : Meaning A) (file0 file1 : Stream) (bytes : List ℕ) (why : Refusal) (f : FileFault) → IsRead file0 file1 bytes → (why ≡ refusals.NoMemory) ⊎ (means bytes ≡ Err why) → f ≡ fault_of why → FileFails means file0 file1 f
@@ -130,7 +131,7 @@ refusal_fails means file0 file1 bytes why f read is same = subst (FileFails mean
     by (Line line cause) (inr e) = record { bytes = bytes; read = read; refused = e }
     by (Byte offset) (inl none) = absurd (cc none)
     by (Byte offset) (inr e) = record { bytes = bytes; read = read; refused = e }
-    by refusals.NoMemory e = tt
+    by refusals.NoMemory e = (bytes, read.read, read.few)
 
 -- a fault that comes of bytes is no fault of reading
 pub refusal_steady : (file0 file1 : Stream) (why : Refusal) (f : FileFault) → f ≡ fault_of why → file1.faults ≡ file0.faults → FaultHasCause file0 file1 f
@@ -159,30 +160,39 @@ relay_opens file0 file1 bytes r read is = elim read.whole [
 -- ---- the first lane
 
 module _ {C R D I O : Type 0} where
-  pub first_clock_is : (readings : C → Option (List ℕ)) (faults : C → ℕ) (lanes : List (Lane C R D I O)) (d : Lane C R D I O) → 0 < length lanes →
-      first_clock readings faults lanes ≡ stream (readings (slice_index_or lanes 0 d).clock) (faults (slice_index_or lanes 0 d).clock)
-  first_clock_is readings faults [] d some = absurd (omega (arith, some))
-  first_clock_is readings faults (lane ∷ lanes) d some = refl
+  pub first_clock_is : (shown : C → Stream) (lanes : List (Lane C R D I O)) (d : Lane C R D I O) → 0 < length lanes → first_clock shown lanes ≡ shown (slice_index_or lanes 0 d).clock
+  first_clock_is shown [] d some = absurd (omega (arith, some))
+  first_clock_is shown (lane ∷ lanes) d some = refl
 
-  pub first_link_is : (says : R → Option (ℕ → List ℕ → Said)) (faults : R → ℕ) (lanes : List (Lane C R D I O)) (d : Lane C R D I O) → 0 < length lanes →
-      first_link says faults lanes ≡ link (says (slice_index_or lanes 0 d).relay) (faults (slice_index_or lanes 0 d).relay)
-  first_link_is says faults [] d some = absurd (omega (arith, some))
-  first_link_is says faults (lane ∷ lanes) d some = refl
+  pub first_link_is : (shown : R → Link) (lanes : List (Lane C R D I O)) (d : Lane C R D I O) → 0 < length lanes → first_link shown lanes ≡ shown (slice_index_or lanes 0 d).relay
+  first_link_is shown [] d some = absurd (omega (arith, some))
+  first_link_is shown (lane ∷ lanes) d some = refl
 
   -- as they are left
-  pub clock_after : (readings : C → Option (List ℕ)) (faults : C → ℕ) (lanes : List (Lane C R D I O)) (lane : Lane C R D I O) → 0 < length lanes →
-      first_clock readings faults (slice_set lanes 0 lane) ≡ stream (readings lane.clock) (faults lane.clock)
-  clock_after readings faults [] lane some = absurd (omega (arith, some))
-  clock_after readings faults (other ∷ lanes) lane some = refl
+  pub clock_after : (shown : C → Stream) (lanes : List (Lane C R D I O)) (lane : Lane C R D I O) → 0 < length lanes → first_clock shown (slice_set lanes 0 lane) ≡ shown lane.clock
+  clock_after shown [] lane some = absurd (omega (arith, some))
+  clock_after shown (other ∷ lanes) lane some = refl
 
-  pub link_after : (says : R → Option (ℕ → List ℕ → Said)) (faults : R → ℕ) (lanes : List (Lane C R D I O)) (lane : Lane C R D I O) → 0 < length lanes →
-      first_link says faults (slice_set lanes 0 lane) ≡ link (says lane.relay) (faults lane.relay)
-  link_after says faults [] lane some = absurd (omega (arith, some))
-  link_after says faults (other ∷ lanes) lane some = refl
+  pub link_after : (shown : R → Link) (lanes : List (Lane C R D I O)) (lane : Lane C R D I O) → 0 < length lanes → first_link shown (slice_set lanes 0 lane) ≡ shown lane.relay
+  link_after shown [] lane some = absurd (omega (arith, some))
+  link_after shown (other ∷ lanes) lane some = refl
+
+  -- how it ended, by the counts of the first lane's clock
+  pub causes_by : (shown : C → Stream) (lanes : List (Lane C R D I O)) (d lane : Lane C R D I O) → 0 < length lanes → (in0 in1 out0 out1 : Stream) (outcome : Outcome) →
+      HasCauses (λ (n : ℕ). n) (line in0 out0 (shown (slice_index_or lanes 0 d).clock).faults) (line in1 out1 (shown lane.clock).faults) outcome →
+      HasCauses (λ (n : ℕ). n) (line in0 out0 (first_clock shown lanes).faults) (line in1 out1 (first_clock shown (slice_set lanes 0 lane)).faults) outcome
+  causes_by shown [] d lane some in0 in1 out0 out1 outcome h = absurd (omega (arith, some))
+  causes_by shown (first ∷ lanes) d lane some in0 in1 out0 out1 outcome h = h
+
+  pub complete_by : (shown : C → Stream) (lanes : List (Lane C R D I O)) (d lane : Lane C R D I O) → 0 < length lanes → (in0 in1 out0 out1 : Stream) (outcome : Outcome) (limit : ℕ) →
+      IsComplete (λ (n : ℕ). n) limit (line in0 out0 (shown (slice_index_or lanes 0 d).clock).faults) (line in1 out1 (shown lane.clock).faults) outcome →
+      IsComplete (λ (n : ℕ). n) limit (line in0 out0 (first_clock shown lanes).faults) (line in1 out1 (first_clock shown (slice_set lanes 0 lane)).faults) outcome
+  complete_by shown [] d lane some in0 in1 out0 out1 outcome limit h = absurd (omega (arith, some))
+  complete_by shown (first ∷ lanes) d lane some in0 in1 out0 out1 outcome limit h = h
 
 -- a connection over what is touched, as the first lane tells it
 pub touches : (n : Node) (frames : ℕ) (file0 file1 in0 in1 out0 out1 clock0 clock0' clock1 clock1' : Stream) (relay0 relay0' relay1 relay1' : Link) (seen seen' last : Seen) (outcome : Outcome) →
     clock0' ≡ clock0 → clock1' ≡ clock1 → relay0' ≡ relay0 → relay1' ≡ relay1 → seen' ≡ seen →
-    IsConnection (setting_of n (alone_of true true) relay0.says) frames (with_seen (touched file0 in0 out0 clock0 relay0) seen) (with_seen (touched file1 in1 out1 clock1 relay1) last) outcome →
-    IsConnection (setting_of n (alone_of true true) relay0'.says) frames (with_seen (touched file0 in0 out0 clock0' relay0') seen') (with_seen (touched file1 in1 out1 clock1' relay1') last) outcome
+    IsConnection (setting_of n (alone_of true true)) frames (with_seen (touched file0 in0 out0 clock0 relay0) seen) (with_seen (touched file1 in1 out1 clock1 relay1) last) outcome →
+    IsConnection (setting_of n (alone_of true true)) frames (with_seen (touched file0 in0 out0 clock0' relay0') seen') (with_seen (touched file1 in1 out1 clock1' relay1') last) outcome
 touches n frames file0 file1 in0 in1 out0 out1 clock0 clock0' clock1 clock1' relay0 relay0' relay1 relay1' seen seen' last outcome e1 e2 e3 e4 e5 c = rw (e1, e2, e3, e4, e5) c

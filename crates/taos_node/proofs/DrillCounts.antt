@@ -24,6 +24,7 @@ use Rattle.taos_monitor.specs.Cells.{Node}
 use Rattle.taos_monitor.specs.World.{World}
 use Rattle.taos_node.specs.Drills.{AnswersAll, AreDrillLanes, HaveMemory, Wire, wire_told}
 use Rattle.taos_node.specs.Opened.{IsNodeOf}
+use Rattle.frame_link.specs.Streams.{Stream}
 use Rattle.frame_link.specs.declared.limits.Limits.{Limits}
 
 -- the law, of every load
@@ -73,14 +74,14 @@ module _ {n : Node} {limit : ℕ} (d : DrillWords) where
   lanes_answered (k ∷ ks) [] after runs are each all memory = absurd are
   lanes_answered (k ∷ ks) (b ∷ before) (a ∷ after) (r ∷ runs) are each all memory = (
     record {
-      clock = ap (λ (w : World). w.clock) each.0.first ∙ are.0.clock;
+      clock = ap (λ (w : World). w.outside.clock.told) each.0.first ∙ ap (λ (s : Stream). s.told) are.0.clock;
       visit = all.0.visit;
       one = all.0.one;
       all = all.0.all;
       ended = all.0.ended;
-      memory = All-head (λ (v : Visit n r.says limit). HadMemory v) all.0.visit []
-          (subst (All (λ (v : Visit n r.says limit). HadMemory v)) all.0.one (All-head (λ (run : LaneRun n limit). All (λ (v : Visit n run.says limit). HadMemory v) run.visits) r runs memory));
+      memory = All-head (λ (v : Visit n limit). HadMemory v) all.0.visit []
+          (subst (All (λ (v : Visit n limit). HadMemory v)) all.0.one (All-head (λ (run : LaneRun n limit). All (λ (v : Visit n limit). HadMemory v) run.visits) r runs memory));
     },
-    lanes_answered ks before after runs are.1 each.1 all.1 (All-tail (λ (run : LaneRun n limit). All (λ (v : Visit n run.says limit). HadMemory v) run.visits) r runs memory),
+    lanes_answered ks before after runs are.1 each.1 all.1 (All-tail (λ (run : LaneRun n limit). All (λ (v : Visit n limit). HadMemory v) run.visits) r runs memory),
   )
   lanes_answered _ _ _ _ are each all memory = absurd each

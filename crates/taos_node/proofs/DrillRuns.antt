@@ -7,6 +7,7 @@ use Rattle.std.specs.declared.vec.Vec.{Vec}
 use Rattle.std.proofs.lemmas.List.{length-append, length-map, map_push}
 use Rattle.std.proofs.lemmas.List.FromFn.{length-range_with_len}
 use Rattle.std.proofs.lemmas.List.Sums.{sum_by-cons}
+use Rattle.frame_link.specs.Doors.{DoorSeen}
 use Rattle.frame_link.specs.declared.outcome.Outcome.{Outcome}
 use Rattle.frame_link.specs.declared.outcome.Outcome.TheVariants.{End, Truncated, TooLong, ReadFault, WriteFault, ClockFault, Spent, NoMemory}
 use Rattle.frame_link.specs.Frames.{Splits}
@@ -14,7 +15,7 @@ use Rattle.frame_link.specs.Served.{EndsAs}
 use Rattle.frame_link.specs.Hall.{Hall}
 use Rattle.frame_link.specs.Supply.{Supply}
 use Rattle.frame_link.specs.Times.{Times}
-use Rattle.frame_link.specs.Relay.{Said}
+use Rattle.frame_link.specs.Streams.{Stream}
 use Rattle.frame_link.proofs.Complete.{all_taken}
 use Rattle.frame_link.proofs.Splits.{split_once}
 use Rattle.agent_shards.specs.Each.{Each3}
@@ -23,7 +24,7 @@ use Rattle.taos_drill.specs.Sent.{drill_stream, drill_streams, payload_of, reque
 use Rattle.taos_drill.proofs.Frames.{stream_splits}
 use Rattle.taos_wire.specs.View.{text_of}
 use Rattle.taos_lanes.specs.declared.lane.Lane.{Lane}
-use Rattle.taos_lanes.specs.Doors.{AreVisits, DoorSeen, GaveKnown, GoesThrough}
+use Rattle.taos_lanes.specs.Doors.{AreVisits, GaveKnown, GoesThrough}
 use Rattle.taos_lanes.specs.Lanes.{LaneRun}
 use Rattle.taos_lanes.specs.Serving.{IsRunOf, Left}
 use Rattle.taos_lanes.specs.Stocked.{LaneShown}
@@ -78,31 +79,31 @@ none_of false m is none = refl
 module _ {n : Node} {limit : ℕ} where
   -- what the lanes' counts are of
   abbrev breaks : LaneRun n limit → ℕ
-  breaks run = count_by (λ (v : Visit n run.says limit). is_broken v.outcome) run.visits
+  breaks run = count_by (λ (v : Visit n limit). is_broken v.outcome) run.visits
 
   abbrev lacks : LaneRun n limit → ℕ
-  lacks run = count_by (λ (v : Visit n run.says limit). is_lacking v.outcome) run.visits
+  lacks run = count_by (λ (v : Visit n limit). is_lacking v.outcome) run.visits
 
   abbrev serves : LaneRun n limit → ℕ
   serves run = length run.visits
 
   -- the connection's input was the one that its door had
-  input_is : (says : Option (ℕ → List ℕ → Said)) (v : Visit n says limit) (w : Wire) (after : Option (List Wire)) (given kept : List Wire) → GaveKnown (Some (w ∷ [])) after given →
-      AreVisits wire_told given kept (v ∷ []) → v.before.input ≡ Some w.0.left
-  input_is says v w None given kept gave are = absurd gave
-  input_is says v w (Some ys) [] [] gave are = absurd are
-  input_is says v w (Some ys) [] (k ∷ kept) gave are = absurd are
-  input_is says v w (Some ys) (g ∷ given) [] gave are = absurd are
-  input_is says v w (Some ys) (g ∷ given) (k ∷ kept) gave are = let first : w ≡ g = cc in are.0.input ∙ ap (λ (x : Wire). Some x.0.left) (sym first)
+  input_is : (v : Visit n limit) (w : Wire) (after : Option (List Wire)) (given kept : List Wire) → GaveKnown (Some (w ∷ [])) after given →
+      AreVisits wire_told given kept (v ∷ []) → v.before.input.told ≡ Some w.0.left
+  input_is v w None given kept gave are = absurd gave
+  input_is v w (Some ys) [] [] gave are = absurd are
+  input_is v w (Some ys) [] (k ∷ kept) gave are = absurd are
+  input_is v w (Some ys) (g ∷ given) [] gave are = absurd are
+  input_is v w (Some ys) (g ∷ given) (k ∷ kept) gave are = let first : w ≡ g = cc in ap (λ (s : Stream). s.told) are.0.input ∙ ap (λ (x : Wire). Some x.0.left) (sym first)
 
   -- a connection that had these frames to read, and ended with whole frames, was of them all
-  of_all : (says : Option (ℕ → List ℕ → Said)) (v : Visit n says limit) (bytes : List ℕ) (payloads : List (List ℕ)) → Splits 65536 bytes payloads [] → v.before.input ≡ Some bytes → IsEnd v.outcome →
-      (v.connection.served.payloads ≡ payloads) × (v.outcome ≡ End (length payloads))
-  of_all says v bytes payloads splits had is =
-      let served = v.connection.served in
+  of_all : (v : Visit n limit) (bytes : List ℕ) (payloads : List (List ℕ)) → Splits 65536 bytes payloads [] → v.before.input.told ≡ Some bytes → IsEnd v.outcome →
+      (v.connects.connection.served.payloads ≡ payloads) × (v.outcome ≡ End (length payloads))
+  of_all v bytes payloads splits had is =
+      let served = v.connects.connection.served in
       let ended = subst (EndsAs limit served.payloads served.rest v.after.input) is.1 served.ended in
-      let took = subst (λ x. Consumes x v.after.input served.taken) had served.took in
-      let all : bytes ≡ served.taken = all_taken bytes served.taken v.after.input took ended.2 in
+      let took = subst (λ x. Consumes x v.after.input.told served.taken) had served.took in
+      let all : bytes ≡ served.taken = all_taken bytes served.taken v.after.input.told took ended.2 in
       let same = split_once 65536 served.taken payloads served.payloads [] served.rest (omega arith) (subst (λ (l : List ℕ). Splits 65536 l payloads []) all splits) served.splits in
       (sym same.0, is.1 ∙ ap End (ended.1 ∙ ap (λ (l : List (List ℕ)). length l) (sym same.0)))
 
@@ -111,18 +112,18 @@ module _ {n : Node} {limit : ℕ} where
       serves run ≡ 1 → breaks run ≡ 0 → lacks run ≡ 0 → AnswersAll payloads run
   one_run bytes payloads before after run splits lane is one whole had = by run.visits refl
     where
-      by : (vs : List (Visit n run.says limit)) → run.visits ≡ vs → AnswersAll payloads run
-      by [] are = absurd (omega (arith, ap (λ (l : List (Visit n run.says limit)). length l) are, one))
-      by (v ∷ w ∷ vs) are = absurd (omega (arith, ap (λ (l : List (Visit n run.says limit)). length l) are, one))
+      by : (vs : List (Visit n limit)) → run.visits ≡ vs → AnswersAll payloads run
+      by [] are = absurd (omega (arith, ap (λ (l : List (Visit n limit)). length l) are, one))
+      by (v ∷ w ∷ vs) are = absurd (omega (arith, ap (λ (l : List (Visit n limit)). length l) are, one))
       by (v ∷ []) are =
-          let through = subst (λ (l : List (Visit n run.says limit)). GoesThrough wire_told 1 before.door after.door (run.door_failed ≡ true) l) are is.through in
+          let through = subst (λ (l : List (Visit n limit)). GoesThrough wire_told 1 before.door after.door (run.door_failed ≡ true) l) are is.through in
           let gave = subst (λ (d : DoorSeen Wire). GaveKnown d.left after.door.left through.through.given) lane.door through.through.gave in
-          let input = input_is run.says v (wire bytes) after.door.left through.through.given through.through.kept gave through.through.are in
+          let input = input_is v (wire bytes) after.door.left through.through.given through.through.kept gave through.through.are in
           let unbroken = none_of (is_broken v.outcome) (breaks run)
-          (ap (λ (l : List (Visit n run.says limit)). count_by (λ (u : Visit n run.says limit). is_broken u.outcome) l) are ∙ sum_by-cons (λ (u : Visit n run.says limit). cond (is_broken u.outcome) 1 0) v []) whole in
+          (ap (λ (l : List (Visit n limit)). count_by (λ (u : Visit n limit). is_broken u.outcome) l) are ∙ sum_by-cons (λ (u : Visit n limit). cond (is_broken u.outcome) 1 0) v []) whole in
           let fed = none_of (is_lacking v.outcome) (lacks run)
-          (ap (λ (l : List (Visit n run.says limit)). count_by (λ (u : Visit n run.says limit). is_lacking u.outcome) l) are ∙ sum_by-cons (λ (u : Visit n run.says limit). cond (is_lacking u.outcome) 1 0) v []) had in
-          let did = of_all run.says v bytes payloads splits input (is_end v.outcome unbroken fed) in
+          (ap (λ (l : List (Visit n limit)). count_by (λ (u : Visit n limit). is_lacking u.outcome) l) are ∙ sum_by-cons (λ (u : Visit n limit). cond (is_lacking u.outcome) 1 0) v []) had in
+          let did = of_all v bytes payloads splits input (is_end v.outcome unbroken fed) in
           record { visit = v; one = are; all = did.0; ended = did.1 }
 
   -- ---- all lanes

@@ -4,7 +4,7 @@ use Rattle.std.specs.Prelude.{String}
 use Rattle.std.specs.declared.alloc.Global.{Global}
 use Rattle.frame_link.specs.declared.outcome.Outcome.{Outcome}
 use Rattle.frame_link.specs.declared.outcome.Outcome.TheVariants.{End, WriteFault, NoMemory}
-use Rattle.frame_link.specs.Served.{HasCauses}
+use Rattle.frame_link.specs.Served.{CountsCause}
 use Rattle.node_file.specs.Opening.{Opening}
 use Rattle.taos_node.specs.declared.ending.AuditEnd.{AuditEnd}
 use Rattle.taos_node.specs.declared.ending.AuditEnd.TheVariants as audits
@@ -35,7 +35,7 @@ same_status audits.WriteFault = refl
 same_status audits.NoMemory = refl
 
 module _ (before after : Touched) where
-  same_causes : (end : AuditEnd) → AuditCauses (counts_of before) (counts_of after) end → HasCauses (counts_of before) (counts_of after) (outcome_of end)
+  same_causes : (end : AuditEnd) → AuditCauses (counts_of before) (counts_of after) end → CountsCause (counts_of before) (counts_of after) (outcome_of end)
   same_causes audits.Done h = h
   same_causes (audits.Stopped outcome) h = h
   same_causes audits.WriteFault h = h
@@ -75,6 +75,7 @@ audited words frames before after end o audit opens same complete h = record {
   causes = audit_caused before after end h;
   told = streams_told before after (audited_status end) (audit_told before after end same h);
   clock = λ _. (audit_told before after end same h).clock;
+  clock_of = λ _. inr (frames, audit);
 }
   where
     complete_for : (most : ℕ) → Mean words (Audit most) → AuditIsComplete most before.input.told (counts_of before) (counts_of after) end
@@ -91,6 +92,11 @@ not_two_drill : (end : DrillEnd) → drilled_status end ≢ 2
 not_two_drill drills.Done = λ e. omega (arith, e)
 not_two_drill drills.WriteFault = λ e. omega (arith, e)
 not_two_drill drills.NoMemory = λ e. omega (arith, e)
+
+not_five_drill : (end : DrillEnd) → drilled_status end ≢ 5
+not_five_drill drills.Done = λ e. omega (arith, e)
+not_five_drill drills.WriteFault = λ e. omega (arith, e)
+not_five_drill drills.NoMemory = λ e. omega (arith, e)
 
 module _ (before after : Touched) where
   drill_caused : (end : DrillEnd) → DrillCauses before.output.faults after.output.faults end → IsCaused before after (drilled_status end)
@@ -128,4 +134,5 @@ drilled words d before after end drill same input clock h = record {
   causes = drill_caused before after end h;
   told = streams_told before after (drilled_status end) (drill_told before after end same input clock h);
   clock = λ _. (drill_told before after end same input clock h).clock;
+  clock_of = λ e. absurd (not_five_drill end e);
 }

@@ -3,6 +3,7 @@ use Rattle.std.proofs.Common.{◌≡◌, ◌≢◌, ◌⊎◌, ℕ, ◌+◌, ◌
 use Rattle.std.specs.Prelude.{String, not}
 use Rattle.std.specs.List.{AllZip, position_or_len}
 use Rattle.std.specs.declared.alloc.Global.{Global}
+use Rattle.frame_link.specs.Doors.{DoorSeen}
 use Rattle.agent_shards.specs.Each.{Each3}
 use Rattle.frame_link.specs.declared.outcome.Outcome.{Outcome}
 use Rattle.frame_link.specs.declared.outcome.Outcome.TheVariants.{End, Truncated, TooLong, ReadFault, WriteFault, ClockFault, Spent, NoMemory}
@@ -10,7 +11,6 @@ use Rattle.node_file.specs.Opening.{Opening}
 use Rattle.node_file.specs.RelayFile.{RelayFile}
 use Rattle.file_lines.specs.declared.fault.FileFault.TheVariants.{Line, Byte}
 use Rattle.frame_link.specs.declared.limits.Limits.{Limits}
-use Rattle.taos_lanes.specs.Doors.{DoorSeen}
 use Rattle.taos_lanes.specs.Joining.{HasOtherWork}
 use Rattle.taos_lanes.specs.Lanes.{LaneRun}
 use Rattle.taos_lanes.specs.declared.total.Total.{Total}
@@ -277,6 +277,12 @@ not_two_lanes (lanes.DoorFault lane) = λ e. omega (arith, e)
 not_two_lanes lanes.WriteFault = λ e. omega (arith, e)
 not_two_lanes lanes.NoMemory = λ e. omega (arith, e)
 
+not_five_lanes : (end : LanesEnd) → lanes_status end ≢ 5
+not_five_lanes lanes.Done = λ e. omega (arith, e)
+not_five_lanes (lanes.DoorFault lane) = λ e. omega (arith, e)
+not_five_lanes lanes.WriteFault = λ e. omega (arith, e)
+not_five_lanes lanes.NoMemory = λ e. omega (arith, e)
+
 module _ (before after : Touched) where
   lanes_caused : (end : LanesEnd) → LanesCauses before.output.faults after.output.faults end → IsCaused before after (lanes_status end)
   lanes_caused lanes.Done h = not_caused before after 0 (λ e. omega (arith, e)) (λ e. omega (arith, e)) (λ e. omega (arith, e))
@@ -304,6 +310,7 @@ module _ (before after : Touched) where
     causes = lanes_caused end h;
     told = record { file = stayed before.file.faults after.file.faults same; input = stayed before.input.faults after.input.faults input; output = lanes_output end h };
     clock = λ none. absurd (none serve);
+    clock_of = λ e. absurd (not_five_lanes end e);
   }
 
 module _ {In Out : Type 0} (telling : Telling In Out) (limits : Limits) (xs ys : List (LaneShown (In × Out))) where

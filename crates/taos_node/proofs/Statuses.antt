@@ -7,7 +7,9 @@ use Rattle.frame_link.specs.declared.outcome.Outcome.TheVariants.{End, Truncated
 use Rattle.node_file.specs.Opening.{Opening}
 use Rattle.node_file.specs.RelayFile.{RelayFile}
 use Rattle.file_lines.specs.declared.fault.FileFault.TheVariants.{Line, Byte}
-use Rattle.frame_link.specs.Served.{FaultCounts, counts, IsComplete, HasCauses}
+use Rattle.frame_link.specs.Served.{FaultCounts, CountsCause, IsComplete, line}
+use Rattle.frame_link.specs.Streams.{stream}
+use Rattle.taos_node.specs.Audit.{counts}
 use Rattle.node_check.specs.declared.check.CheckEnd.{CheckEnd}
 use Rattle.node_check.specs.declared.check.CheckEnd.TheVariants as ends
 use Rattle.taos_node.specs.declared.ending.FileFault.{FileFault}
@@ -100,6 +102,7 @@ unread words t = record {
     output = stayed t.output.faults t.output.faults refl;
   };
   clock = λ _. stayed t.clock.faults t.clock.faults refl;
+  clock_of = λ e. absurd (omega (arith, e));
 }
 
 -- words that are no command, where nothing was touched
@@ -120,6 +123,7 @@ unused words t none = record {
     output = stayed t.output.faults t.output.faults refl;
   };
   clock = λ _. stayed t.clock.faults t.clock.faults refl;
+  clock_of = λ e. absurd (omega (arith, e));
 }
 
 -- ---- a file that is not served
@@ -181,6 +185,12 @@ not_one_file (Refused line cause) = λ e. omega (arith, e)
 not_one_file fault.ReadFault = λ e. omega (arith, e)
 not_one_file fault.NoMemory = λ e. omega (arith, e)
 
+not_five_file : (f : FileFault) → file_status f ≢ 5
+not_five_file (Malformed offset) = λ e. omega (arith, e)
+not_five_file (Refused line cause) = λ e. omega (arith, e)
+not_five_file fault.ReadFault = λ e. omega (arith, e)
+not_five_file fault.NoMemory = λ e. omega (arith, e)
+
 -- the command's file was not served, and nothing else was touched
 module _ (words : List (String Global)) (before after : Touched) (wanted : Task) (f : FileFault) (command : Mean words wanted) (cause : FaultHasCause before.file after.file f) where
   complete_unserved : FileFailsFor wanted before.file after.file f → (most : ℕ) → Mean words (Run most) → EndsWell IsNodeFile most before after (file_status f)
@@ -209,9 +219,15 @@ module _ (words : List (String Global)) (before after : Touched) (wanted : Task)
       output = stayed before.output.faults after.output.faults output;
     };
     clock = λ _. stayed before.clock.faults after.clock.faults clock;
+    clock_of = λ e. absurd (not_five_file f e);
   }
 
 -- ---- a connection that was served
+
+-- nothing else ends it early, by what its input has and by the counts
+abbrev pub IsCompleteBy : ℕ → Option (List ℕ) → FaultCounts → FaultCounts → Outcome → Type 0
+IsCompleteBy limit input before after outcome =
+    IsComplete (λ (n : ℕ). n) limit (line (stream input before.input) (stream None before.output) before.clock) (line (stream None after.input) (stream None after.output) after.clock) outcome
 
 pub same_counts : (i o c i' o' c' : ℕ) → i' ≡ i → o' ≡ o → c' ≡ c → counts i' o' c' ≡ counts i o c
 same_counts i o c i' o' c' input output clock = rw (input, output, clock) refl
@@ -219,10 +235,10 @@ same_counts i o c i' o' c' input output clock = rw (input, output, clock) refl
 module _ (before after : Touched) where
   -- how it ended had its cause
   abbrev Causes : Outcome → Type 0
-  Causes outcome = HasCauses (counts_of before) (counts_of after) outcome
+  Causes outcome = CountsCause (counts_of before) (counts_of after) outcome
 
   ends_well : {A : Type 0} (Means : A → List ℕ → Type 0) (most c0 c1 : ℕ) (outcome : Outcome) →
-      IsComplete most before.input.told (counts before.input.faults before.output.faults c0) (counts after.input.faults after.output.faults c1) outcome →
+      IsCompleteBy most before.input.told (counts before.input.faults before.output.faults c0) (counts after.input.faults after.output.faults c1) outcome →
       (c1 ≡ c0) × (c0 < 2 ^ 64 - 1) → EndsWell Means most before after (served_status outcome)
   ends_well Means most c0 c1 outcome complete sc bytes a told is frames whole within few sf si so =
       let same = same_counts before.input.faults before.output.faults c0 after.input.faults after.output.faults c1 si.0 so.0 sc.0 in
@@ -299,8 +315,18 @@ not_two ClockFault = λ e. omega (arith, e)
 not_two (Spent n) = λ e. omega (arith, e)
 not_two NoMemory = λ e. omega (arith, e)
 
+not_five : (outcome : Outcome) → outcome ≢ ClockFault → served_status outcome ≢ 5
+not_five (End n) other = λ e. omega (arith, e)
+not_five (Truncated n) other = λ e. omega (arith, e)
+not_five (TooLong n) other = λ e. omega (arith, e)
+not_five ReadFault other = λ e. omega (arith, e)
+not_five WriteFault other = λ e. omega (arith, e)
+not_five ClockFault other = absurd (other refl)
+not_five (Spent n) other = λ e. omega (arith, e)
+not_five NoMemory other = λ e. omega (arith, e)
+
 -- the causes of a service without a clock are those with a clock that stood still
-clockless : (i o i1 o1 c c1 : ℕ) (outcome : Outcome) → HasCauses (counts i o 0) (counts i1 o1 0) outcome → outcome ≢ ClockFault → c1 ≡ c → HasCauses (counts i o c) (counts i1 o1 c1) outcome
+clockless : (i o i1 o1 c c1 : ℕ) (outcome : Outcome) → CountsCause (counts i o 0) (counts i1 o1 0) outcome → outcome ≢ ClockFault → c1 ≡ c → CountsCause (counts i o c) (counts i1 o1 c1) outcome
 clockless i o i1 o1 c c1 ReadFault h other same = (h.0, h.1, h.2, same)
 clockless i o i1 o1 c c1 WriteFault h other same = (h.0, h.1, h.2, same)
 clockless i o i1 o1 c c1 ClockFault h other same = absurd (other refl)
@@ -311,7 +337,7 @@ clockless i o i1 o1 c c1 (Spent n) h other same = same_counts i o c i1 o1 c1 (ap
 clockless i o i1 o1 c c1 NoMemory h other same = same_counts i o c i1 o1 c1 (ap (λ (f : FaultCounts). f.input) h) (ap (λ (f : FaultCounts). f.output) h) same
 
 module _ (words : List (String Global)) (frames : ℕ) (before after : Touched) (outcome : Outcome) (same : after.file.faults ≡ before.file.faults) where
-  pub served : (o : Opening) → Mean words (Run frames) → OpensNode before.file after.file o → IsComplete frames before.input.told (counts_of before) (counts_of after) outcome →
+  pub served : (o : Opening) → Mean words (Run frames) → OpensNode before.file after.file o → IsCompleteBy frames before.input.told (counts_of before) (counts_of after) outcome →
       Causes before after outcome → IsStatus words before after (served_status outcome)
   served o run opens complete h = record {
     usage = record { usage = λ e. absurd (not_one outcome e); no_command = λ none. absurd (none (Run frames, run)) };
@@ -327,14 +353,15 @@ module _ (words : List (String Global)) (frames : ℕ) (before after : Touched) 
     causes = serving_caused before after outcome h;
     told = streams_told before after (served_status outcome) (serving_told before after outcome same h);
     clock = λ _. (serving_told before after outcome same h).clock;
+    clock_of = λ _. inl (frames, run);
   }
     where
-      complete_for : (most : ℕ) → Mean words (Run most) → IsComplete frames before.input.told (counts_of before) (counts_of after) outcome → IsComplete most before.input.told (counts_of before) (counts_of after) outcome
-      complete_for most is c = of_command (λ w. IsComplete (frames_in w) before.input.told (counts_of before) (counts_of after) outcome) words (Run frames) (Run most) run is c
+      complete_for : (most : ℕ) → Mean words (Run most) → IsCompleteBy frames before.input.told (counts_of before) (counts_of after) outcome → IsCompleteBy most before.input.told (counts_of before) (counts_of after) outcome
+      complete_for most is c = of_command (λ w. IsCompleteBy (frames_in w) before.input.told (counts_of before) (counts_of after) outcome) words (Run frames) (Run most) run is c
 
   pub relayed : (r : RelayFile) → Mean words (Relay frames) → OpensRelay before.file after.file r →
-      IsComplete frames before.input.told (counts before.input.faults before.output.faults 0) (counts after.input.faults after.output.faults 0) outcome →
-      HasCauses (counts before.input.faults before.output.faults 0) (counts after.input.faults after.output.faults 0) outcome → outcome ≢ ClockFault → after.clock.faults ≡ before.clock.faults →
+      IsCompleteBy frames before.input.told (counts before.input.faults before.output.faults 0) (counts after.input.faults after.output.faults 0) outcome →
+      CountsCause (counts before.input.faults before.output.faults 0) (counts after.input.faults after.output.faults 0) outcome → outcome ≢ ClockFault → after.clock.faults ≡ before.clock.faults →
       IsStatus words before after (served_status outcome)
   relayed r relay opens complete h no_clock clock =
       let causes = clockless before.input.faults before.output.faults after.input.faults after.output.faults before.clock.faults after.clock.faults outcome h no_clock clock in
@@ -351,12 +378,13 @@ module _ (words : List (String Global)) (frames : ℕ) (before after : Touched) 
         causes = serving_caused before after outcome causes;
         told = streams_told before after (served_status outcome) (serving_told before after outcome same causes);
         clock = λ _. (serving_told before after outcome same causes).clock;
+        clock_of = λ e. absurd (not_five outcome no_clock e);
       }
     where
-      complete_for : (most : ℕ) → Mean words (Relay most) → IsComplete frames before.input.told (counts before.input.faults before.output.faults 0) (counts after.input.faults after.output.faults 0) outcome →
-          IsComplete most before.input.told (counts before.input.faults before.output.faults 0) (counts after.input.faults after.output.faults 0) outcome
+      complete_for : (most : ℕ) → Mean words (Relay most) → IsCompleteBy frames before.input.told (counts before.input.faults before.output.faults 0) (counts after.input.faults after.output.faults 0) outcome →
+          IsCompleteBy most before.input.told (counts before.input.faults before.output.faults 0) (counts after.input.faults after.output.faults 0) outcome
       complete_for most is c =
-          of_command (λ w. IsComplete (frames_in w) before.input.told (counts before.input.faults before.output.faults 0) (counts after.input.faults after.output.faults 0) outcome) words (Relay frames) (Relay most) relay is c
+          of_command (λ w. IsCompleteBy (frames_in w) before.input.told (counts before.input.faults before.output.faults 0) (counts after.input.faults after.output.faults 0) outcome) words (Relay frames) (Relay most) relay is c
 
 -- ---- a request and its reply that were looked over
 
@@ -406,6 +434,13 @@ not_two_check ends.ReadFault = λ e. omega (arith, e)
 not_two_check ends.WriteFault = λ e. omega (arith, e)
 not_two_check ends.NoMemory = λ e. omega (arith, e)
 
+not_five_check : (end : CheckEnd) → checked_status end ≢ 5
+not_five_check (ends.Done (Granted e l c)) = λ e. omega (arith, e)
+not_five_check (ends.Done (Wrong w)) = λ e. omega (arith, e)
+not_five_check ends.ReadFault = λ e. omega (arith, e)
+not_five_check ends.WriteFault = λ e. omega (arith, e)
+not_five_check ends.NoMemory = λ e. omega (arith, e)
+
 pub checked : (words : List (String Global)) (before after : Touched) (o : Opening) (end : CheckEnd) → Mean words Check → OpensNode before.file after.file o →
     after.file.faults ≡ before.file.faults → after.clock.faults ≡ before.clock.faults → CheckCauses before.input.faults after.input.faults before.output.faults after.output.faults end →
     IsStatus words before after (checked_status end)
@@ -422,6 +457,7 @@ checked words before after o end check opens same clock h = record {
   causes = check_caused before after end h;
   told = streams_told before after (checked_status end) (check_told before after end same clock h);
   clock = λ _. (check_told before after end same clock h).clock;
+  clock_of = λ e. absurd (not_five_check end e);
 }
 
 -- ---- a certificate that was made, or refused
@@ -463,6 +499,12 @@ not_two_mint (made.Refused w) = λ e. omega (arith, e)
 not_two_mint made.WriteFault = λ e. omega (arith, e)
 not_two_mint made.NoMemory = λ e. omega (arith, e)
 
+not_five_mint : (end : MintEnd) → minted_status end ≢ 5
+not_five_mint made.Done = λ e. omega (arith, e)
+not_five_mint (made.Refused w) = λ e. omega (arith, e)
+not_five_mint made.WriteFault = λ e. omega (arith, e)
+not_five_mint made.NoMemory = λ e. omega (arith, e)
+
 pub minted : (words : List (String Global)) (m : MintWords) (before after : Touched) (r : RelayFile) (end : MintEnd) → Mean words (Mint m) → OpensRelay before.file after.file r →
     after.file.faults ≡ before.file.faults → after.input.faults ≡ before.input.faults → after.clock.faults ≡ before.clock.faults → MintCauses before.output.faults after.output.faults end →
     IsStatus words before after (minted_status end)
@@ -479,4 +521,5 @@ minted words m before after r end mint opens same input clock h = record {
   causes = mint_caused before after end h;
   told = streams_told before after (minted_status end) (mint_told before after end same input clock h);
   clock = λ _. (mint_told before after end same input clock h).clock;
+  clock_of = λ e. absurd (not_five_mint end e);
 }

@@ -10,7 +10,7 @@ use Rattle.frame_link.specs.declared.outcome.Outcome.TheVariants.{End, NoMemory,
 use Rattle.frame_link.specs.declared.service.TheConstants.{MAX_PAYLOAD}
 use Rattle.frame_link.specs.Faults.{Rose}
 use Rattle.frame_link.specs.Frames.{framed}
-use Rattle.frame_link.specs.Served.{FaultCounts, HasCauses, StandStill}
+use Rattle.frame_link.specs.Served.{FaultCounts, CountsCause, StandStill}
 use Rattle.node_file.specs.Opening.{Opening}
 use Rattle.object_core.specs.Objects.{object_of}
 use Rattle.taos_monitor.specs.Cells.{Journals}
@@ -62,11 +62,15 @@ abbrev pub TextHasCause : ℕ → ℕ → AuditEnd → Type 0
 TextHasCause out0 out1 audit.WriteFault = (out0 ≤ out1) × Rose out0 out1
 TextHasCause out0 out1 other = out1 ≡ out0
 
+-- so often the input, the output and the clock have failed
+abbrev pub counts : (input output clock : ℕ) → FaultCounts
+counts input output clock = record { input = input; output = output; clock = clock }
+
 -- when a fault may be answered: its count rose, and each other stayed as it was
 abbrev pub AuditCauses : FaultCounts → FaultCounts → AuditEnd → Type 0
 AuditCauses before after audit.Done = after ≡ before
-AuditCauses before after (audit.Stopped outcome) = HasCauses before after outcome
-AuditCauses before after audit.WriteFault = HasCauses before after WriteFault
+AuditCauses before after (audit.Stopped outcome) = CountsCause before after outcome
+AuditCauses before after audit.WriteFault = CountsCause before after WriteFault
 AuditCauses before after audit.NoMemory = after ≡ before
 
 -- Nothing else stops it: where the input is whole frames, not more than may be answered, and no count

@@ -1,11 +1,13 @@
 -- The top call: the words, the file, and then the work.
-use Rattle.std.specs.Prelude.{◌≡◌, ◌≢◌, ◌⊎◌, ℕ, true, ◌<◌, ◌≤◌, ◌-◌, ◌^◌, List, [], ◌∷◌, drop, length, All, Option, Some, None, String}
+use Rattle.std.specs.Prelude.{◌≡◌, ◌≢◌, ◌⊎◌, ℕ, true, ◌<◌, ◌≤◌, ◌-◌, ◌^◌, List, [], ◌∷◌, drop, length, map, All, Option, Some, None, String}
 use Rattle.std.specs.List.{AllZip}
 use Rattle.std.specs.Io.KnownBytes.{Keeps}
 use Rattle.std.specs.declared.alloc.Global.{Global}
 use Rattle.frame_link.specs.declared.outcome.Outcome.{Outcome}
 use Rattle.frame_link.specs.Frames.{framed}
-use Rattle.frame_link.specs.Served.{Line, line, FaultCounts, counts, IsServed}
+use Rattle.frame_link.specs.Outside.{outside_of}
+use Rattle.frame_link.specs.Relay.{Link, link}
+use Rattle.frame_link.specs.Served.{Line, line, FaultCounts, IsServed}
 use Rattle.frame_link.specs.Streams.{Stream, stream}
 use Rattle.taos_node.specs.declared.ending.FileFault.{FileFault}
 use Rattle.taos_node.specs.declared.ending.Ending.{Ending}
@@ -22,7 +24,7 @@ use Rattle.taos_lanes.specs.Stocked.{LaneShown}
 use Rattle.taos_lanes.specs.Telling.{Change, Telling, change}
 use Rattle.taos_node.specs.declared.ending.AuditEnd.{AuditEnd}
 use Rattle.taos_node.specs.declared.ending.DrillEnd.{DrillEnd}
-use Rattle.taos_node.specs.Audit.{IsAuditOf, WritesAudit}
+use Rattle.taos_node.specs.Audit.{IsAuditOf, WritesAudit, counts}
 use Rattle.taos_node.specs.Drills.{Drills}
 use Rattle.taos_node.specs.Lanes.{ServesLanes}
 use Rattle.taos_node.specs.RelayLanes.{IsRelayOf, RelaysDoors}
@@ -33,7 +35,6 @@ use Rattle.taos_node.specs.Minting.{Mints}
 use Rattle.prin_text.specs.Labels.{Labels}
 use Rattle.relay_core.specs.declared.resealing.RelayTable.{RelayTable}
 use Rattle.relay_core.specs.Serving.{Answers, GivesUp}
-use Rattle.frame_link.specs.Relay.{Said}
 use Rattle.taos_monitor.specs.Cells.{Node, Seen, alone_of}
 use Rattle.taos_monitor.specs.declared.connection.TheConstants.{MAX_REQUEST}
 use Rattle.taos_monitor.specs.Connection.{IsConnection}
@@ -57,16 +58,11 @@ IsRelayServe words = (limits : Limits) × Mean words (RelayServe limits)
 abbrev pub ServesDoors : List (String Global) → Type 0
 ServesDoors words = IsServe words ⊎ IsRelayServe words
 
+-- the words are a command that serves the first lane's connection, by that lane's clock
+abbrev pub ReadsClock : List (String Global) → Type 0
+ReadsClock words = ((frames : ℕ) × Mean words (Run frames)) ⊎ ((frames : ℕ) × Mean words (Audit frames))
+
 -- ---- what a call touches
-
--- what a link to a relay tells of its answers, and how often it failed
-pub record Link : Type 0 where
-  pub says : Option (ℕ → List ℕ → Said)
-  pub faults : ℕ
-
--- what a link tells, of these
-abbrev pub link : Option (ℕ → List ℕ → Said) → ℕ → Link
-link says faults = record { says = says; faults = faults }
 
 -- what contracts see of what a call touches: the clock and the link are those of the first lane
 pub record Touched : Type 0 where
@@ -81,17 +77,19 @@ abbrev pub touched : Stream → Stream → Stream → Stream → Link → Touche
 touched file input output clock relay =
     record { file = file; input = input; output = output; clock = clock; relay = relay }
 
--- the first lane's clock, by what clocks tell
-abbrev pub first_clock : {C R D I O : Type 0} → (C → Option (List ℕ)) → (C → ℕ) →
-    List (Lane C R D I O) → Stream
-first_clock readings faults [] = stream None 0
-first_clock readings faults (lane ∷ lanes) = stream (readings lane.clock) (faults lane.clock)
+-- the first lane's clock, by what clocks show
+abbrev pub first_clock : {C R D I O : Type 0} → (C → Stream) → List (Lane C R D I O) → Stream
+first_clock shown [] = stream None 0
+first_clock shown (lane ∷ lanes) = shown lane.clock
 
--- the first lane's link, by what links tell
-abbrev pub first_link : {C R D I O : Type 0} → (R → Option (ℕ → List ℕ → Said)) → (R → ℕ) →
-    List (Lane C R D I O) → Link
-first_link says faults [] = link None 0
-first_link says faults (lane ∷ lanes) = link (says lane.relay) (faults lane.relay)
+-- the first lane's link, by what links show
+abbrev pub first_link : {C R D I O : Type 0} → (R → Link) → List (Lane C R D I O) → Link
+first_link shown [] = link None 0 0
+first_link shown (lane ∷ lanes) = shown lane.relay
+
+-- the lanes' doors
+abbrev pub doors_of : {C R D I O : Type 0} → List (Lane C R D I O) → List D
+doors_of lanes = map (λ lane. lane.door) lanes
 
 -- what was written to the output
 abbrev pub output_of : Change Touched → Change (Option (List ℕ))
@@ -101,8 +99,8 @@ output_of t = change t.before.output.told t.after.output.told
 
 -- what a connection is served over, of what is touched, beside journals
 abbrev pub with_seen : Touched → Seen → Line World
-with_seen t seen = line t.input.told t.output.told
-    (record { clock = t.clock.told; faults = t.relay.faults; seen = seen })
+with_seen t seen =
+    line t.input t.output (record { outside = outside_of t.clock t.relay; seen = seen })
 
 -- how often what it is served over failed
 abbrev pub counts_of : Touched → FaultCounts
@@ -110,8 +108,8 @@ counts_of t = counts t.input.faults t.output.faults t.clock.faults
 
 -- the first lane's clock and link were not used
 pub record UsesNoLane (before after : Touched) : Type 0 where
-  pub clock : Keeps before.clock.told after.clock.told
-  pub link : after.relay.faults ≡ before.relay.faults
+  pub clock : after.clock ≡ before.clock
+  pub link : after.relay ≡ before.relay
 
 -- nothing but the file was touched
 pub record LeavesRest (before after : Touched) : Type 0 where
@@ -127,13 +125,13 @@ pub record ServesConnection (o : Opening) (frames : ℕ) (before after : Touched
   pub is_node : IsNodeOf o node
   -- the journals at the end, whose entries are all its own
   pub seen : Seen
-  pub connection : IsConnection (setting_of node (alone_of true true) before.relay.says) frames
+  pub connection : IsConnection (setting_of node (alone_of true true)) frames
       (with_seen before nothing_seen) (with_seen after seen) outcome
 
 -- what a connection is served over where nobody has the replies
 abbrev pub unwritten : Touched → Seen → Line World
-unwritten t seen = line t.input.told None
-    (record { clock = t.clock.told; faults = t.relay.faults; seen = seen })
+unwritten t seen =
+    line t.input (stream None 0) (record { outside = outside_of t.clock t.relay; seen = seen })
 
 -- A node of the opening serves the connection, of at most so many frames, from empty journals on; its
 -- replies are written nowhere. Of the journals at the end, whose entries are all its own, the text is
@@ -143,7 +141,7 @@ pub record Audits (o : Opening) (frames : ℕ) (before after : Touched) (end : A
   pub is_node : IsNodeOf o node
   pub seen : Seen
   pub outcome : Outcome
-  pub connection : IsConnection (setting_of node (alone_of true true) before.relay.says) frames
+  pub connection : IsConnection (setting_of node (alone_of true true)) frames
       (unwritten before nothing_seen) (unwritten after seen) outcome
   pub text : List ℕ
   pub is_text : IsAuditOf o seen.journals text
@@ -170,8 +168,7 @@ pub record ServesRelay (r : RelayFile) (frames : ℕ) (before after : Touched)
   pub table : RelayTable
   pub is_relay : IsRelayOf r table
   pub served : IsServed Answers GivesUp frames
-      (line before.input.told before.output.told table)
-      (line after.input.told after.output.told table) outcome
+      (line before.input before.output table) (line after.input after.output table) outcome
   pub lane : UsesNoLane before after
 
 -- the texts of names and of roles that the file has
@@ -333,6 +330,8 @@ pub record IsStatus (words : List (String Global)) (before after : Touched)
   pub told : TellsFaults before after status
   -- by a command that serves lanes a reading that fails ends its connection alone
   pub clock : (ServesDoors words → ⊥) → before.clock.faults < after.clock.faults → status ≡ 5
+  -- and by these two alone it is told
+  pub clock_of : status ≡ 5 → ReadsClock words
 
 module _ {X : Type 0} where
   -- the door's count stayed

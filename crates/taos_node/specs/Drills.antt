@@ -2,12 +2,15 @@
 use Rattle.std.specs.Prelude.{◌≡◌, ℕ, ◌<◌, List, [], ◌∷◌, ◌++◌, length, map, None, Option, Some}
 use Rattle.std.specs.Io.KnownBytes.{Appends, Keeps}
 use Rattle.std.specs.List.{All, AllZip, range_with_len}
+use Rattle.frame_link.specs.Doors.{DoorSeen, door_of}
 use Rattle.drill_journal.specs.Counts.{CountsLoad}
 use Rattle.drill_law.specs.Lanes.{HadMemory}
 use Rattle.frame_link.specs.declared.outcome.Outcome.TheVariants.{End}
 use Rattle.frame_link.specs.Plan.{plan_of}
 use Rattle.frame_link.specs.Faults.{Rose}
-use Rattle.frame_link.specs.Hall.{Hall}
+use Rattle.frame_link.specs.Hall.{Hall, shown_hall}
+use Rattle.frame_link.specs.Relay.{link}
+use Rattle.frame_link.specs.Streams.{stream}
 use Rattle.frame_link.specs.Supply.{Supply}
 use Rattle.frame_link.specs.Times.{Times}
 use Rattle.taos_drill.specs.declared.numbers.TheConstants.{READING}
@@ -15,7 +18,6 @@ use Rattle.taos_drill.specs.Grown.{Grown}
 use Rattle.taos_drill.specs.Opened.{drill_opening}
 use Rattle.taos_drill.specs.Sent.{drill_streams, payload_of, requests_of}
 use Rattle.frame_link.specs.declared.limits.Limits.{Limits}
-use Rattle.taos_lanes.specs.Doors.{DoorSeen, door_of}
 use Rattle.taos_lanes.specs.declared.lane.Lane.{Lane}
 use Rattle.taos_lanes.specs.Lanes.{LaneRun}
 use Rattle.taos_lanes.specs.Serving.{Left}
@@ -40,7 +42,8 @@ wire bytes =
 
 -- how it is told
 abbrev pub wire_told : Telling Supply Grown
-wire_told = told_by (λ s. Some s.left) (λ s. Some s.written)
+wire_told =
+    told_by (λ s. stream (Some s.left) s.plan.faults) (λ s. stream (Some s.written) s.faults)
 
 -- the door has one connection, which has these bytes to read
 abbrev pub door_with : List ℕ → DoorSeen Wire
@@ -48,9 +51,8 @@ door_with bytes = door_of (Some (wire bytes ∷ [])) (Some []) 0 0
 
 -- the lane reads one time always, has no relay, and its door has these bytes
 pub record IsDrillLane (bytes : List ℕ) (lane : LaneShown Wire) : Type 0 where
-  pub clock : lane.clock ≡ Some (READING ∷ [])
-  pub says : lane.says ≡ None
-  pub faults : lane.faults ≡ 0
+  pub clock : lane.outside.clock ≡ stream (Some (READING ∷ [])) 0
+  pub link : lane.outside.link ≡ link None 0 0
   pub door : lane.door ≡ door_with bytes
 
 -- the lanes are those of the load, in order
@@ -66,8 +68,8 @@ drill_limits d = record { connections = 1; frames = d.requests }
 -- a lane of a drill, as contracts see it
 abbrev pub drill_shown : Lane Times ℕ (Hall Wire) Supply Grown → LaneShown Wire
 drill_shown =
-    shown_by (λ (c : Times). Some c.readings) (λ (r : ℕ). r) (λ (r : ℕ). None)
-    (λ (d : Hall Wire). door_of (Some d.left) (Some d.back) d.given d.plan.faults)
+    shown_by (λ (c : Times). stream (Some c.readings) c.plan.faults) (λ (r : ℕ). link None r r)
+    (λ (d : Hall Wire). shown_hall d)
 
 -- a node that the load opens served the lanes of the load, and left this
 pub record ServesDrill (d : DrillWords) (l : Left) : Type 0 where
@@ -85,16 +87,16 @@ load_of d =
 -- the lane served one connection, which was these payloads, all and in order, and ended behind them
 pub record AnswersAll {n : Node} {limit : ℕ} (payloads : List (List ℕ)) (run : LaneRun n limit) :
     Type 0 where
-  pub visit : Visit n run.says limit
+  pub visit : Visit n limit
   pub one : run.visits ≡ visit ∷ []
-  pub all : visit.connection.served.payloads ≡ payloads
+  pub all : visit.connects.connection.served.payloads ≡ payloads
   pub ended : visit.outcome ≡ End (length payloads)
 
 -- no reply of these lanes says that memory was refused
 abbrev pub HaveMemory : {n : Node} {limit : ℕ} → List (LaneRun n limit) → Type 0
 HaveMemory {n} {limit} runs =
     All (λ (run : LaneRun n limit).
-    All (λ (v : Visit n run.says limit). HadMemory v) run.visits) runs
+    All (λ (v : Visit n limit). HadMemory v) run.visits) runs
 
 -- What a drill came to, where each lane answered all its requests. Where no reply says that memory
 -- was refused, even words are grants and odd ones denials, and the entries are counted.

@@ -1,5 +1,5 @@
 -- The file of a command: what its bytes mean, and why it is refused.
-use Rattle.std.specs.Prelude.{◌≡◌, ◌≢◌, ◌⊎◌, ℕ, ◌-◌, ◌^◌, ◌<◌, ◌≤◌, List, length, Some, Result, Ok, Err}
+use Rattle.std.specs.Prelude.{◌≡◌, ◌≢◌, ◌⊎◌, ℕ, ◌+◌, ◌-◌, ◌^◌, ◌<◌, ◌≤◌, List, length, Some, Result, Ok, Err}
 use Rattle.std.specs.Io.KnownBytes.{Consumes, IsAtEnd}
 use Rattle.frame_link.specs.Streams.{Stream}
 use Rattle.frame_link.specs.Faults.{Rose}
@@ -42,10 +42,16 @@ node_means = opening_in
 abbrev pub relay_means : Meaning RelayFile
 relay_means = relay_in
 
--- the bytes were read, and those were all, or more than there may be
+-- at most one byte more than there may be was taken of it
+abbrev pub TakesFew : Stream → Stream → Type 0
+TakesFew file0 file1 =
+    (taken : List ℕ) × Consumes file0.told file1.told taken × (length taken ≤ MAX_FILE + 1)
+
+-- the bytes were read, and those were all, or one more than there may be
 pub record IsRead (file0 file1 : Stream) (bytes : List ℕ) : Type 0 where
   pub read : Consumes file0.told file1.told bytes
   pub whole : IsAtEnd file1.told ⊎ (MAX_FILE < length bytes)
+  pub few : length bytes ≤ MAX_FILE + 1
 
 -- the file was read to its end, and means this
 pub record Opens {A : Type 0} (Means : A → List ℕ → Type 0) (file0 file1 : Stream) (a : A) :
@@ -77,18 +83,19 @@ fault_of (Byte offset) = Malformed offset
 fault_of refusals.NoMemory = fault.NoMemory
 
 -- the file could not be read, or memory was refused for its bytes
-abbrev pub IsUnread : FileFault → Type 0
-IsUnread (Refused line cause) = ⊥
-IsUnread (Malformed offset) = ⊥
-IsUnread fault.ReadFault = Unit {0}
-IsUnread fault.NoMemory = Unit {0}
+abbrev pub IsUnread : Stream → Stream → FileFault → Type 0
+IsUnread file0 file1 (Refused line cause) = ⊥
+IsUnread file0 file1 (Malformed offset) = ⊥
+IsUnread file0 file1 fault.ReadFault = TakesFew file0 file1
+IsUnread file0 file1 fault.NoMemory = TakesFew file0 file1
 
--- why a file is not served: what was read is refused at a line or at a byte, or could not be read
+-- why a file is not served: what was read is refused at a line or at a byte, or could not be read, or
+-- memory was refused
 abbrev pub FileFails : {A : Type 0} → Meaning A → Stream → Stream → FileFault → Type 0
 FileFails means file0 file1 (Refused line cause) = IsRefused means file0 file1 (Line line cause)
 FileFails means file0 file1 (Malformed offset) = IsRefused means file0 file1 (Byte offset)
-FileFails means file0 file1 fault.ReadFault = Unit {0}
-FileFails means file0 file1 fault.NoMemory = Unit {0}
+FileFails means file0 file1 fault.ReadFault = TakesFew file0 file1
+FileFails means file0 file1 fault.NoMemory = TakesFew file0 file1
 
 -- what comes of a file: what stands for that which it means, or why there is none
 abbrev pub FileGives : {A X : Type 0} → (A → List ℕ → Type 0) → Meaning A → (A → X → Type 0) →

@@ -2,15 +2,14 @@
 
 ghost use Rattle.std.specs.Prelude.{◌≡◌, ◌<◌, ◌≤◌, IfOk, List, None, String, drop, length, string_bytes};
 ghost use Rattle.std.specs.declared.alloc.Global.{Global};
-ghost use Rattle.frame_link.specs.Served.{counts};
 ghost use Rattle.frame_link.specs.Streams.{Stream, stream};
 ghost use Rattle.node_file.specs.Opening.{Opening as Meaning};
 ghost use Rattle.object_core.specs.OneOwner.{taken_from};
 ghost use Rattle.agent_core.specs.Alone.{plans_in};
 ghost use Rattle.taos_monitor.specs.Planned.{ArePlanned};
-ghost use Rattle.taos_node.specs.Audit.{AuditCauses, AuditIsComplete, TextHasCause, WritesText};
+ghost use Rattle.taos_node.specs.Audit.{AuditCauses, AuditIsComplete, TextHasCause, WritesText, counts};
 ghost use Rattle.taos_node.specs.AuditOf.{all_text};
-ghost use Rattle.taos_node.specs.Command.{Audits, IsStatus, RunsAlone, first_clock, first_link, touched};
+ghost use Rattle.taos_node.specs.Command.{Audits, IsStatus, RunsAlone, doors_of, first_clock, first_link, touched};
 ghost use Rattle.taos_node.specs.Ending.{status_of};
 ghost use Rattle.node_words.specs.Words.{Audit, Mean};
 ghost use Rattle.taos_node.specs.Opened.{IsOpenedBy};
@@ -32,9 +31,7 @@ use taos_lanes::Lane;
 struct Nowhere;
 
 impl Sink for Nowhere {
-    ghost written = { λ _. None };
-
-    ghost faults = { λ _. 0 };
+    ghost shown = { λ _. stream None 0 };
 
     fn write(&mut self, piece: &[u8]) -> Result<usize, Failed> {
         Ok(piece.len())
@@ -63,8 +60,8 @@ fn write_text<O: Sink>(alloc: Global, node: OpenNode, output: &mut O) -> AuditEn
     requires none_taken { taken_from node.shelf ≡ None }
     requires few { length node.shards.shards ≤ MAX_SHARDS }
     ensures writes { WritesText (all_text node.shards.shards node.shelf.objects)
-        (O.written output.old) (O.written output.new) result }
-    ensures cause { TextHasCause (O.faults output.old) (O.faults output.new) result }
+        (O.shown output.old).told (O.shown output.new).told result }
+    ensures cause { TextHasCause (O.shown output.old).faults (O.shown output.new).faults result }
 {
     let shards = node.shards.close();
     let objects = node.shelf.close();
@@ -94,23 +91,22 @@ fn audit<W: Wait + Sync, I: Source, O: Sink, C: Clock, R: RelayLink, D: Door>(
     requires few { length opened.0.shards.shards ≤ MAX_SHARDS }
     ensures audits { (o : Meaning) (file0 file1 : Stream) → IsOpenedBy o opened.0
         → Audits o frames
-        (touched file0 (stream (I.left input.old) (I.faults input.old))
-        (stream (O.written output.old) (O.faults output.old))
-        (first_clock C.readings C.faults lanes.old) (first_link R.says R.faults lanes.old))
-        (touched file1 (stream (I.left input.new) (I.faults input.new))
-        (stream (O.written output.new) (O.faults output.new))
-        (first_clock C.readings C.faults lanes.new) (first_link R.says R.faults lanes.new)) result }
+        (touched file0 (I.shown input.old) (O.shown output.old)
+        (first_clock C.shown lanes.old) (first_link R.shown lanes.old))
+        (touched file1 (I.shown input.new) (O.shown output.new)
+        (first_clock C.shown lanes.new) (first_link R.shown lanes.new)) result }
     ensures causes { AuditCauses
-        (counts (I.faults input.old) (O.faults output.old)
-        (first_clock C.readings C.faults lanes.old).faults)
-        (counts (I.faults input.new) (O.faults output.new)
-        (first_clock C.readings C.faults lanes.new).faults) result }
-    ensures complete { AuditIsComplete frames (I.left input.old)
-        (counts (I.faults input.old) (O.faults output.old)
-        (first_clock C.readings C.faults lanes.old).faults)
-        (counts (I.faults input.new) (O.faults output.new)
-        (first_clock C.readings C.faults lanes.new).faults) result }
+        (counts (I.shown input.old).faults (O.shown output.old).faults
+        (first_clock C.shown lanes.old).faults)
+        (counts (I.shown input.new).faults (O.shown output.new).faults
+        (first_clock C.shown lanes.new).faults) result }
+    ensures complete { AuditIsComplete frames (I.shown input.old).told
+        (counts (I.shown input.old).faults (O.shown output.old).faults
+        (first_clock C.shown lanes.old).faults)
+        (counts (I.shown input.new).faults (O.shown output.new).faults
+        (first_clock C.shown lanes.new).faults) result }
     ensures others { drop 1 lanes.new ≡ drop 1 lanes.old }
+    ensures doors { doors_of lanes.new ≡ doors_of lanes.old }
 {
     let mut opened = opened;
     let outcome = serve_first(rt, alloc, &mut opened, input, &mut Nowhere, lanes, frames);
@@ -141,16 +137,13 @@ pub(crate) fn audit_by_file<
 ) -> Ending
     requires some { 0 < length lanes.old }
     ensures audits { (words : List (String Global)) → Mean words (Audit frames)
-        → let before = touched (stream (F.left file.old) (F.faults file.old))
-        (stream (I.left input.old) (I.faults input.old))
-        (stream (O.written output.old) (O.faults output.old))
-        (first_clock C.readings C.faults lanes.old) (first_link R.says R.faults lanes.old) in
-        let after = touched (stream (F.left file.new) (F.faults file.new))
-        (stream (I.left input.new) (I.faults input.new))
-        (stream (O.written output.new) (O.faults output.new))
-        (first_clock C.readings C.faults lanes.new) (first_link R.says R.faults lanes.new) in
+        → let before = touched (F.shown file.old) (I.shown input.old) (O.shown output.old)
+        (first_clock C.shown lanes.old) (first_link R.shown lanes.old) in
+        let after = touched (F.shown file.new) (I.shown input.new) (O.shown output.new)
+        (first_clock C.shown lanes.new) (first_link R.shown lanes.new) in
         RunsAlone words before after result × IsStatus words before after (status_of result) }
     ensures others { drop 1 lanes.new ≡ drop 1 lanes.old }
+    ensures doors { doors_of lanes.new ≡ doors_of lanes.old }
 {
     match node_file_of(alloc, file) {
         Ok(opened) => Ending::Audited(audit(rt, alloc, opened, input, output, lanes, frames)),

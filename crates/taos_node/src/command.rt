@@ -4,16 +4,17 @@ ghost use Rattle.std.specs.Prelude.{◌≡◌, ◌⊎◌, ◌<◌, ◌≤◌, Li
 ghost use Rattle.std.specs.declared.alloc.Global.{Global};
 ghost use Rattle.agent_core.specs.declared.limits.TheConstants.{MAX_SHARDS};
 ghost use Rattle.agent_core.specs.Alone.{plans_in};
-ghost use Rattle.frame_link.specs.Served.{counts, HasCauses, IsComplete};
+ghost use Rattle.frame_link.specs.Relay.{Link};
+ghost use Rattle.frame_link.specs.Served.{line, HasCauses, IsComplete};
 ghost use Rattle.node_file.specs.Opening.{Opening as Meaning};
 ghost use Rattle.object_core.specs.OneOwner.{taken_from};
 ghost use Rattle.taos_monitor.specs.Planned.{ArePlanned};
 ghost use Rattle.taos_node.specs.Ending.{status_of};
-ghost use Rattle.frame_link.specs.Streams.{Stream, stream};
-ghost use Rattle.taos_lanes.specs.Stocked.{door_by, shown_by};
+ghost use Rattle.frame_link.specs.Streams.{Stream};
+ghost use Rattle.taos_lanes.specs.Stocked.{shown_by};
 ghost use Rattle.taos_lanes.specs.Telling.{change, told_by};
 ghost use Rattle.taos_lanes.specs.declared.serving.TheConstants.{MAX_LANES};
-ghost use Rattle.taos_node.specs.Command.{Does, Link, touched, first_clock, first_link, Ends, ServesDoors, IsStatus, RunsAlone, ServesConnection, TellsDoors};
+ghost use Rattle.taos_node.specs.Command.{Does, doors_of, touched, first_clock, first_link, Ends, ServesDoors, IsStatus, RunsAlone, ServesConnection, TellsDoors};
 ghost use Rattle.taos_node.specs.Files.{FileHasCause, NodeFileGives};
 ghost use Rattle.taos_node.specs.Opened.{IsOpenedBy, IsSameNode, seen_by};
 ghost use Rattle.node_words.specs.Words.{Check, Mean};
@@ -42,15 +43,13 @@ pub(crate) fn node_file_of<F: Source>(
     alloc: Global,
     file: &mut F,
 ) -> Result<(OpenNode, Workbench), FileFault>
-    ensures gives { NodeFileGives (λ o x. IsOpenedBy o x.0)
-        (stream (F.left file.old) (F.faults file.old))
-        (stream (F.left file.new) (F.faults file.new)) result }
+    ensures gives { NodeFileGives (λ o x. IsOpenedBy o x.0) (F.shown file.old)
+        (F.shown file.new) result }
     ensures planned { IfOk result (λ x. ArePlanned x.0.keys.channels.entries
         (plans_in x.0.shards.shards)) }
     ensures none_taken { IfOk result (λ x. taken_from x.0.shelf ≡ None) }
     ensures few { IfOk result (λ x. length x.0.shards.shards ≤ MAX_SHARDS) }
-    ensures cause { FileHasCause (stream (F.left file.old) (F.faults file.old))
-        (stream (F.left file.new) (F.faults file.new)) result }
+    ensures cause { FileHasCause (F.shown file.old) (F.shown file.new) result }
 {
     let opening = file_opening(alloc, file)?;
     let node = open_node(alloc, opening)?;
@@ -72,26 +71,25 @@ pub(crate) fn serve_first<W: Wait + Sync, I: Source, O: Sink, C: Clock, R: Relay
         (plans_in opened.old.0.shards.shards) }
     requires none_taken { taken_from opened.old.0.shelf ≡ None }
     ensures connection { (o : Meaning) (file0 file1 : Stream) → IsOpenedBy o opened.old.0
-        → let before = touched file0 (stream (I.left input.old) (I.faults input.old))
-        (stream (O.written output.old) (O.faults output.old))
-        (first_clock C.readings C.faults lanes.old) (first_link R.says R.faults lanes.old) in
-        let after = touched file1 (stream (I.left input.new) (I.faults input.new))
-        (stream (O.written output.new) (O.faults output.new))
-        (first_clock C.readings C.faults lanes.new) (first_link R.says R.faults lanes.new) in
+        → let before = touched file0 (I.shown input.old) (O.shown output.old)
+        (first_clock C.shown lanes.old) (first_link R.shown lanes.old) in
+        let after = touched file1 (I.shown input.new) (O.shown output.new)
+        (first_clock C.shown lanes.new) (first_link R.shown lanes.new) in
         (served : ServesConnection o frames before after result)
         × (served.seen ≡ seen_by opened.new.0) }
     ensures same { IsSameNode opened.old.0 opened.new.0 }
-    ensures causes { HasCauses
-        (counts (I.faults input.old) (O.faults output.old)
-        (first_clock C.readings C.faults lanes.old).faults)
-        (counts (I.faults input.new) (O.faults output.new)
-        (first_clock C.readings C.faults lanes.new).faults) result }
-    ensures complete { IsComplete frames (I.left input.old)
-        (counts (I.faults input.old) (O.faults output.old)
-        (first_clock C.readings C.faults lanes.old).faults)
-        (counts (I.faults input.new) (O.faults output.new)
-        (first_clock C.readings C.faults lanes.new).faults) result }
+    ensures causes { HasCauses (λ faults. faults)
+        (line (I.shown input.old) (O.shown output.old)
+        (first_clock C.shown lanes.old).faults)
+        (line (I.shown input.new) (O.shown output.new)
+        (first_clock C.shown lanes.new).faults) result }
+    ensures complete { IsComplete (λ faults. faults) frames
+        (line (I.shown input.old) (O.shown output.old)
+        (first_clock C.shown lanes.old).faults)
+        (line (I.shown input.new) (O.shown output.new)
+        (first_clock C.shown lanes.new).faults) result }
     ensures others { drop 1 lanes.new ≡ drop 1 lanes.old }
+    ensures doors { doors_of lanes.new ≡ doors_of lanes.old }
 {
     let (node, bench) = opened;
     let lane = &mut lanes[0];
@@ -120,12 +118,10 @@ fn check_file<F: Source, I: Source, O: Sink>(
     // Whatever clock and link there are.
     ensures checks { (words : List (String Global)) (clock : Stream) (relay : Link)
         → Mean words Check
-        → let before = touched (stream (F.left file.old) (F.faults file.old))
-        (stream (I.left input.old) (I.faults input.old))
-        (stream (O.written output.old) (O.faults output.old)) clock relay in
-        let after = touched (stream (F.left file.new) (F.faults file.new))
-        (stream (I.left input.new) (I.faults input.new))
-        (stream (O.written output.new) (O.faults output.new)) clock relay in
+        → let before = touched (F.shown file.old) (I.shown input.old)
+        (O.shown output.old) clock relay in
+        let after = touched (F.shown file.new) (I.shown input.new)
+        (O.shown output.new) clock relay in
         RunsAlone words before after result × IsStatus words before after (status_of result) }
 {
     match file_opening(alloc, file) {
@@ -154,19 +150,15 @@ fn run<
 ) -> Ending
     requires some { 0 < length lanes.old }
     requires few { length lanes.old ≤ MAX_LANES }
-    ensures runs { let before = touched (stream (F.left file.old) (F.faults file.old))
-        (stream (I.left input.old) (I.faults input.old))
-        (stream (O.written output.old) (O.faults output.old))
-        (first_clock C.readings C.faults lanes.old) (first_link R.says R.faults lanes.old) in
-        let after = touched (stream (F.left file.new) (F.faults file.new))
-        (stream (I.left input.new) (I.faults input.new))
-        (stream (O.written output.new) (O.faults output.new))
-        (first_clock C.readings C.faults lanes.new) (first_link R.says R.faults lanes.new) in
-        let shown = shown_by C.readings R.faults R.says
-        (door_by D.left D.back D.given D.faults) in
-        Does (told_by D.In.left D.Out.written) words.now (change before after)
+    ensures runs { let before = touched (F.shown file.old) (I.shown input.old) (O.shown output.old)
+        (first_clock C.shown lanes.old) (first_link R.shown lanes.old) in
+        let after = touched (F.shown file.new) (I.shown input.new) (O.shown output.new)
+        (first_clock C.shown lanes.new) (first_link R.shown lanes.new) in
+        let shown = shown_by C.shown R.shown D.shown in
+        Does (told_by D.In.shown D.Out.shown) words.now (change before after)
         (change (map shown lanes.old) (map shown lanes.new)) result }
     ensures others { (ServesDoors words.now → ⊥) → drop 1 lanes.new ≡ drop 1 lanes.old }
+    ensures doors { (ServesDoors words.now → ⊥) → doors_of lanes.new ≡ doors_of lanes.old }
 {
     let Ok(found) = wanted_of(alloc, words) else {
         return Ending::NoMemory;
@@ -245,28 +237,23 @@ pub fn taos<
     // lanes' steps interleave, and the line is written of what was counted; or the line of what a
     // request and its reply show; or a relay answers each frame; or the line of a certificate is
     // written. The note and the status tell how it ended.
-    ensures run { let before = touched (stream (F.left file.old) (F.faults file.old))
-        (stream (I.left input.old) (I.faults input.old))
-        (stream (O.written output.old) (O.faults output.old))
-        (first_clock C.readings C.faults lanes.old) (first_link R.says R.faults lanes.old) in
-        let after = touched (stream (F.left file.new) (F.faults file.new))
-        (stream (I.left input.new) (I.faults input.new))
-        (stream (O.written output.new) (O.faults output.new))
-        (first_clock C.readings C.faults lanes.new) (first_link R.says R.faults lanes.new) in
-        let shown = shown_by C.readings R.faults R.says
-        (door_by D.left D.back D.given D.faults) in
+    ensures run { let before = touched (F.shown file.old) (I.shown input.old) (O.shown output.old)
+        (first_clock C.shown lanes.old) (first_link R.shown lanes.old) in
+        let after = touched (F.shown file.new) (I.shown input.new) (O.shown output.new)
+        (first_clock C.shown lanes.new) (first_link R.shown lanes.new) in
+        let shown = shown_by C.shown R.shown D.shown in
         let doors = change (map shown lanes.old) (map shown lanes.new) in
-        Ends (told_by D.In.left D.Out.written) words.now (change before after) doors
-        (change (stream (N.written notes.old) (N.faults notes.old))
-        (stream (N.written notes.new) (N.faults notes.new))) result
+        Ends (told_by D.In.shown D.Out.shown) words.now (change before after) doors
+        (change (N.shown notes.old) (N.shown notes.new)) result
         × IsStatus words.now before after result
         × TellsDoors words.now (change before after) doors result }
 
     // Success has no note, nor what a check refused.
     ensures silent { (result ≡ 0) ⊎ (result ≡ 11) → notes.new ≡ notes.old }
 
-    // No other command touches another lane than the first.
+    // No other command touches another lane than the first, nor the door of any.
     ensures others { (ServesDoors words.now → ⊥) → drop 1 lanes.new ≡ drop 1 lanes.old }
+    ensures doors { (ServesDoors words.now → ⊥) → doors_of lanes.new ≡ doors_of lanes.old }
 {
     let ending = run(rt, alloc, words, file, input, output, lanes);
     tell(notes, ending);

@@ -7,9 +7,10 @@ ghost use Rattle.taos_drill.specs.declared.numbers.TheConstants.{MAX_LANES, MAX_
 ghost use Rattle.taos_node.specs.Drills.{AreDrillLanes, DrillCauses, Drills, IsDrillLane, ServesDrill, drill_shown};
 ghost use Rattle.node_words.specs.Words as task;
 ghost use Rattle.node_words.specs.Words.{Mean, drill_words};
-ghost use Rattle.taos_node.specs.Command.{IsStatus, Link, RunsAlone, touched};
+ghost use Rattle.taos_node.specs.Command.{IsStatus, RunsAlone, touched};
 ghost use Rattle.taos_node.specs.Ending.{status_of};
-ghost use Rattle.frame_link.specs.Streams.{Stream, stream};
+ghost use Rattle.frame_link.specs.Relay.{Link};
+ghost use Rattle.frame_link.specs.Streams.{Stream};
 ghost use Rattle.std.specs.declared.alloc.Global.{Global};
 
 use crate::ending::{DrillEnd, Ending};
@@ -87,9 +88,9 @@ fn drill<W: Threads + Wait + Sync, O: Sink>(
     requires few_requests { asked.requests ≤ MAX_REQUESTS }
     requires some_lanes { 1 ≤ asked.lanes }
     requires few_lanes { asked.lanes ≤ MAX_LANES }
-    ensures drills { Drills (drill_words asked) (O.written output.old) (O.written output.new)
+    ensures drills { Drills (drill_words asked) (O.shown output.old).told (O.shown output.new).told
         result }
-    ensures cause { DrillCauses (O.faults output.old) (O.faults output.new) result }
+    ensures cause { DrillCauses (O.shown output.old).faults (O.shown output.new).faults result }
 {
     loads_are_counted();
     let Ok(served) = serve_load(rt, alloc, asked) else {
@@ -115,10 +116,8 @@ pub(crate) fn drill_asked<W: Threads + Wait + Sync, O: Sink>(
     // Whatever file, input, clock and link there are.
     ensures drills { (words : List (String Global)) (file input clock : Stream) (relay : Link)
         → Mean words (task.Drill (drill_words asked))
-        → let before = touched file input (stream (O.written output.old) (O.faults output.old))
-        clock relay in
-        let after = touched file input (stream (O.written output.new) (O.faults output.new))
-        clock relay in
+        → let before = touched file input (O.shown output.old) clock relay in
+        let after = touched file input (O.shown output.new) clock relay in
         RunsAlone words before after result × IsStatus words before after (status_of result) }
 {
     // Words mean no other load.

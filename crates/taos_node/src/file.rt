@@ -1,7 +1,6 @@
 //! The file of a command, read.
 
 ghost use Rattle.std.specs.Prelude.{◌≡◌, ◌≤◌, length, IfErr, IfOk};
-ghost use Rattle.frame_link.specs.Streams.{stream};
 ghost use Rattle.node_file.specs.Meaning.{opening, FitsByNumber};
 ghost use Rattle.node_file.specs.OpeningView.{Represents};
 ghost use Rattle.node_file.specs.RelayView.{StandsFor};
@@ -22,11 +21,9 @@ fn zeros(alloc: Global, len: usize) -> Result<Vec<u8>, AllocError>
 
 // The bytes of a file, or one more than there may be.
 fn file_bytes<F: Source>(alloc: Global, file: &mut F) -> Result<Vec<u8>, FileFault>
-    ensures read { IfOk result (λ v. IsRead (stream (F.left file.old) (F.faults file.old))
-        (stream (F.left file.new) (F.faults file.new)) v.items) }
-    ensures unread { IfErr result IsUnread }
-    ensures cause { FileHasCause (stream (F.left file.old) (F.faults file.old))
-        (stream (F.left file.new) (F.faults file.new)) result }
+    ensures read { IfOk result (λ v. IsRead (F.shown file.old) (F.shown file.new) v.items) }
+    ensures unread { IfErr result (IsUnread (F.shown file.old) (F.shown file.new)) }
+    ensures cause { FileHasCause (F.shown file.old) (F.shown file.new) result }
 {
     let mut bytes = zeros(alloc, MAX_FILE + 1)?;
     let Ok(len) = fill(file, &mut bytes) else {
@@ -50,12 +47,10 @@ fn fault_of(refusal: Refusal) -> FileFault
 
 /// The opening of a node that a file means.
 pub fn file_opening<F: Source>(alloc: Global, file: &mut F) -> Result<Opening, FileFault>
-    ensures gives { NodeFileGives (λ o x. Represents x o)
-        (stream (F.left file.old) (F.faults file.old))
-        (stream (F.left file.new) (F.faults file.new)) result }
+    ensures gives { NodeFileGives (λ o x. Represents x o) (F.shown file.old)
+        (F.shown file.new) result }
     ensures fits { IfOk result (λ x. FitsByNumber (opening x)) }
-    ensures cause { FileHasCause (stream (F.left file.old) (F.faults file.old))
-        (stream (F.left file.new) (F.faults file.new)) result }
+    ensures cause { FileHasCause (F.shown file.old) (F.shown file.new) result }
 {
     let bytes = file_bytes(alloc, file)?;
     match read_opening(alloc, &bytes) {
@@ -66,11 +61,9 @@ pub fn file_opening<F: Source>(alloc: Global, file: &mut F) -> Result<Opening, F
 
 /// What a relay knows by a file.
 pub(crate) fn file_relay<F: Source>(alloc: Global, file: &mut F) -> Result<RelayFile, FileFault>
-    ensures gives { RelayFileGives (λ r x. StandsFor x r)
-        (stream (F.left file.old) (F.faults file.old))
-        (stream (F.left file.new) (F.faults file.new)) result }
-    ensures cause { FileHasCause (stream (F.left file.old) (F.faults file.old))
-        (stream (F.left file.new) (F.faults file.new)) result }
+    ensures gives { RelayFileGives (λ r x. StandsFor x r) (F.shown file.old)
+        (F.shown file.new) result }
+    ensures cause { FileHasCause (F.shown file.old) (F.shown file.new) result }
 {
     let bytes = file_bytes(alloc, file)?;
     match read_relay_file(alloc, &bytes) {

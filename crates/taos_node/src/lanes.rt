@@ -2,11 +2,11 @@
 
 ghost use Rattle.std.specs.Prelude.{◌<◌, ◌≤◌, IfOk, List, String, length, map};
 ghost use Rattle.std.specs.declared.alloc.Global.{Global};
-ghost use Rattle.frame_link.specs.Streams.{Stream, stream};
+ghost use Rattle.frame_link.specs.Streams.{Stream};
 ghost use Rattle.node_file.specs.Opening.{Opening as Meaning};
 ghost use Rattle.taos_lanes.specs.Parts.{ArePartsNew, node_in};
 ghost use Rattle.taos_lanes.specs.Serving.{left_by};
-ghost use Rattle.taos_lanes.specs.Stocked.{door_by, shown_by};
+ghost use Rattle.taos_lanes.specs.Stocked.{shown_by};
 ghost use Rattle.taos_lanes.specs.Telling.{change, told_by};
 ghost use Rattle.taos_lanes.specs.declared.serving.TheConstants.{MAX_LANES};
 ghost use Rattle.taos_node.specs.Command.{Does, first_clock, first_link, touched};
@@ -28,9 +28,9 @@ use taos_lanes::{Lane, NodeParts, Served, Total, serve};
 /// Prints the line of what lanes counted, where no door failed and no connection ended for want of
 /// memory.
 pub(crate) fn print_line<O: Sink>(output: &mut O, total: Total, line: &[u8]) -> LanesEnd
-    ensures prints { PrintsLine total line.now (O.written output.old) (O.written output.new)
+    ensures prints { PrintsLine total line.now (O.shown output.old).told (O.shown output.new).told
         result }
-    ensures cause { LanesCauses (O.faults output.old) (O.faults output.new) result }
+    ensures cause { LanesCauses (O.shown output.old).faults (O.shown output.new).faults result }
 {
     let first = total.first_failed;
     let lanes = total.lanes;
@@ -49,21 +49,19 @@ pub(crate) fn print_line<O: Sink>(output: &mut O, total: Total, line: &[u8]) -> 
 
 // Prints what the lanes of a node counted.
 fn print<O: Sink>(output: &mut O, served: &Served) -> LanesEnd
-    ensures prints { Prints (left_by served.now) (O.written output.old) (O.written output.new)
+    ensures prints { Prints (left_by served.now) (O.shown output.old).told (O.shown output.new).told
         result }
-    ensures cause { LanesCauses (O.faults output.old) (O.faults output.new) result }
+    ensures cause { LanesCauses (O.shown output.old).faults (O.shown output.new).faults result }
 {
     print_line(output, served.total, &lanes_line(served))
 }
 
 // The parts of the node that a file opens.
 fn node_parts_of<F: Source>(alloc: Global, file: &mut F) -> Result<NodeParts, FileFault>
-    ensures gives { NodeFileGives (λ o x. IsNodeOf o (node_in x))
-        (stream (F.left file.old) (F.faults file.old))
-        (stream (F.left file.new) (F.faults file.new)) result }
+    ensures gives { NodeFileGives (λ o x. IsNodeOf o (node_in x)) (F.shown file.old)
+        (F.shown file.new) result }
     ensures new { IfOk result ArePartsNew }
-    ensures cause { FileHasCause (stream (F.left file.old) (F.faults file.old))
-        (stream (F.left file.new) (F.faults file.new)) result }
+    ensures cause { FileHasCause (F.shown file.old) (F.shown file.new) result }
 {
     let opening = file_opening(alloc, file)?;
     let parts = open_parts(alloc, opening)?;
@@ -89,12 +87,11 @@ fn serve_parts<
     requires few { length lanes.old ≤ MAX_LANES }
     requires new { ArePartsNew parts }
     ensures serves { (o : Meaning) → IsNodeOf o (node_in parts)
-        → let shown = shown_by C.readings R.faults R.says
-        (door_by D.left D.back D.given D.faults) in
-        ServesLanes (told_by D.In.left D.Out.written) o limits
+        → let shown = shown_by C.shown R.shown D.shown in
+        ServesLanes (told_by D.In.shown D.Out.shown) o limits
         (change (map shown lanes.old) (map shown lanes.new))
-        (change (O.written output.old) (O.written output.new)) result }
-    ensures cause { LanesCauses (O.faults output.old) (O.faults output.new) result }
+        (change (O.shown output.old).told (O.shown output.new).told) result }
+    ensures cause { LanesCauses (O.shown output.old).faults (O.shown output.new).faults result }
 {
     match serve(rt, alloc, parts, lanes, limits) {
         Ok(served) => print(output, &served),
@@ -122,15 +119,12 @@ pub(crate) fn serve_by_file<
     requires few { length lanes.old ≤ MAX_LANES }
     // Whatever input there is.
     ensures serves { (words : List (String Global)) (input : Stream) → Mean words (Serve limits)
-        → let before = touched (stream (F.left file.old) (F.faults file.old)) input
-        (stream (O.written output.old) (O.faults output.old))
-        (first_clock C.readings C.faults lanes.old) (first_link R.says R.faults lanes.old) in
-        let after = touched (stream (F.left file.new) (F.faults file.new)) input
-        (stream (O.written output.new) (O.faults output.new))
-        (first_clock C.readings C.faults lanes.new) (first_link R.says R.faults lanes.new) in
-        let shown = shown_by C.readings R.faults R.says
-        (door_by D.left D.back D.given D.faults) in
-        Does (told_by D.In.left D.Out.written) words (change before after)
+        → let before = touched (F.shown file.old) input (O.shown output.old)
+        (first_clock C.shown lanes.old) (first_link R.shown lanes.old) in
+        let after = touched (F.shown file.new) input (O.shown output.new)
+        (first_clock C.shown lanes.new) (first_link R.shown lanes.new) in
+        let shown = shown_by C.shown R.shown D.shown in
+        Does (told_by D.In.shown D.Out.shown) words (change before after)
         (change (map shown lanes.old) (map shown lanes.new)) result }
 {
     match node_parts_of(alloc, file) {

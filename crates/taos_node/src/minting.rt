@@ -183,8 +183,8 @@ pub(crate) fn mint<O: Sink>(
     output: &mut O,
 ) -> MintEnd
     ensures mints { Mints relay.now.table.issuers.entries relay.now.names (mint_words mint.now)
-        (O.written output.old) (O.written output.new) result }
-    ensures causes { MintCauses (O.faults output.old) (O.faults output.new) result }
+        (O.shown output.old).told (O.shown output.new).told result }
+    ensures causes { MintCauses (O.shown output.old).faults (O.shown output.new).faults result }
 {
     let bytes = match minted(alloc, relay, mint) {
         Ok(bytes) => bytes,

@@ -203,8 +203,8 @@ fn note_of(ending: Ending) -> ArrayVec<u8, ROOM>
 /// Writes the note of an ending. Where the notes fail, it is cut or missing, and nothing else comes
 /// of that.
 pub fn tell<N: Sink>(notes: &mut N, ending: Ending)
-    ensures told { IsNoted (N.written notes.old) (N.written notes.new)
-        (N.faults notes.old) (N.faults notes.new) (note_of ending) }
+    ensures told { IsNoted (N.shown notes.old).told (N.shown notes.new).told
+        (N.shown notes.old).faults (N.shown notes.new).faults (note_of ending) }
     // Success has no note, nor what a check refused.
     ensures silent { (status_of ending ≡ 0) ⊎ (status_of ending ≡ 11) → notes.new ≡ notes.old }
 {

@@ -2,9 +2,10 @@
 
 ghost use Rattle.std.specs.Prelude.{List, String};
 ghost use Rattle.std.specs.declared.alloc.Global.{Global};
-ghost use Rattle.frame_link.specs.Streams.{Stream, stream};
+ghost use Rattle.frame_link.specs.Relay.{Link};
+ghost use Rattle.frame_link.specs.Streams.{Stream};
 ghost use Rattle.taos_node.specs.Ending.{status_of};
-ghost use Rattle.taos_node.specs.Command.{Link, touched, RunsAlone, IsStatus};
+ghost use Rattle.taos_node.specs.Command.{touched, RunsAlone, IsStatus};
 ghost use Rattle.node_words.specs.Words.{Mean, Mint, Relay, mint_words};
 
 use crate::ending::Ending;
@@ -26,12 +27,10 @@ pub(crate) fn relay_by_file<F: Source, I: Source, O: Sink>(
     // Whatever clock and link there are.
     ensures relays { (words : List (String Global)) (clock : Stream) (relay : Link)
         → Mean words (Relay frames)
-        → let before = touched (stream (F.left file.old) (F.faults file.old))
-        (stream (I.left input.old) (I.faults input.old))
-        (stream (O.written output.old) (O.faults output.old)) clock relay in
-        let after = touched (stream (F.left file.new) (F.faults file.new))
-        (stream (I.left input.new) (I.faults input.new))
-        (stream (O.written output.new) (O.faults output.new)) clock relay in
+        → let before = touched (F.shown file.old) (I.shown input.old)
+        (O.shown output.old) clock relay in
+        let after = touched (F.shown file.new) (I.shown input.new)
+        (O.shown output.new) clock relay in
         RunsAlone words before after result × IsStatus words before after (status_of result) }
 {
     match file_relay(alloc, file) {
@@ -50,10 +49,8 @@ pub(crate) fn mint_by_file<F: Source, O: Sink>(
     // Whatever input, clock and link there are.
     ensures mints { (words : List (String Global)) (input : Stream) (clock : Stream) (relay : Link)
         → Mean words (Mint (mint_words asked.now))
-        → let before = touched (stream (F.left file.old) (F.faults file.old)) input
-        (stream (O.written output.old) (O.faults output.old)) clock relay in
-        let after = touched (stream (F.left file.new) (F.faults file.new)) input
-        (stream (O.written output.new) (O.faults output.new)) clock relay in
+        → let before = touched (F.shown file.old) input (O.shown output.old) clock relay in
+        let after = touched (F.shown file.new) input (O.shown output.new) clock relay in
         RunsAlone words before after result × IsStatus words before after (status_of result) }
 {
     match file_relay(alloc, file) {

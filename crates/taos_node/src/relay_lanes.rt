@@ -2,10 +2,10 @@
 
 ghost use Rattle.std.specs.Prelude.{◌<◌, ◌≤◌, List, String, length, map};
 ghost use Rattle.std.specs.declared.alloc.Global.{Global};
-ghost use Rattle.frame_link.specs.Streams.{Stream, stream};
+ghost use Rattle.frame_link.specs.Streams.{Stream};
 ghost use Rattle.node_file.specs.RelayFile as meant;
 ghost use Rattle.node_file.specs.RelayView.{StandsFor};
-ghost use Rattle.taos_lanes.specs.Stocked.{door_by, shown_by};
+ghost use Rattle.taos_lanes.specs.Stocked.{shown_by};
 ghost use Rattle.taos_lanes.specs.Telling.{change, told_by};
 ghost use Rattle.taos_lanes.specs.declared.serving.TheConstants.{MAX_LANES};
 ghost use Rattle.taos_node.specs.Command.{Does, first_clock, first_link, touched};
@@ -35,12 +35,11 @@ fn serve_lanes<W: Threads + Sync, O: Sink, C: Clock + Send, R: RelayLink + Send,
     requires some { 0 < length lanes.old }
     requires few { length lanes.old ≤ MAX_LANES }
     ensures serves { (r : meant.RelayFile) → StandsFor relay.now r
-        → let shown = shown_by C.readings R.faults R.says
-        (door_by D.left D.back D.given D.faults) in
-        RelaysDoors (told_by D.In.left D.Out.written) r limits
+        → let shown = shown_by C.shown R.shown D.shown in
+        RelaysDoors (told_by D.In.shown D.Out.shown) r limits
         (change (map shown lanes.old) (map shown lanes.new))
-        (change (O.written output.old) (O.written output.new)) result }
-    ensures cause { LanesCauses (O.faults output.old) (O.faults output.new) result }
+        (change (O.shown output.old).told (O.shown output.new).told) result }
+    ensures cause { LanesCauses (O.shown output.old).faults (O.shown output.new).faults result }
 {
     let total = serve_relays(rt, alloc, &relay.table, lanes, limits);
     print_line(output, total, &relays_line(total))
@@ -67,15 +66,12 @@ pub(crate) fn serve_relay_by_file<
     // Whatever input there is.
     ensures serves { (words : List (String Global)) (input : Stream)
         → Mean words (RelayServe limits)
-        → let before = touched (stream (F.left file.old) (F.faults file.old)) input
-        (stream (O.written output.old) (O.faults output.old))
-        (first_clock C.readings C.faults lanes.old) (first_link R.says R.faults lanes.old) in
-        let after = touched (stream (F.left file.new) (F.faults file.new)) input
-        (stream (O.written output.new) (O.faults output.new))
-        (first_clock C.readings C.faults lanes.new) (first_link R.says R.faults lanes.new) in
-        let shown = shown_by C.readings R.faults R.says
-        (door_by D.left D.back D.given D.faults) in
-        Does (told_by D.In.left D.Out.written) words (change before after)
+        → let before = touched (F.shown file.old) input (O.shown output.old)
+        (first_clock C.shown lanes.old) (first_link R.shown lanes.old) in
+        let after = touched (F.shown file.new) input (O.shown output.new)
+        (first_clock C.shown lanes.new) (first_link R.shown lanes.new) in
+        let shown = shown_by C.shown R.shown D.shown in
+        Does (told_by D.In.shown D.Out.shown) words (change before after)
         (change (map shown lanes.old) (map shown lanes.new)) result }
 {
     match file_relay(alloc, file) {

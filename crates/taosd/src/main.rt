@@ -1,8 +1,9 @@
 //! The program: real streams, the system's clock, and the top call.
 #![tactic(auto)]
 
-ghost use Rattle.std.specs.Prelude.{◌<◌, ◌≤◌, length, vec_len};
+ghost use Rattle.std.specs.Prelude.{◌<◌, ◌≤◌, length, vec_len, IfOk};
 
+mod edge;
 mod keys;
 mod lanes;
 mod own;
@@ -10,6 +11,7 @@ mod print;
 mod telling;
 mod usage;
 
+use edge::{Crowd, begin_edge, idle_of};
 use frame_link::{Clock, Door, RelayLink, Sink, pour};
 use keys::fresh_key;
 use lanes::{Setting, lanes_of};
@@ -22,12 +24,13 @@ use std::net::{Net, TcpListener, TcpStream};
 use std::process::ExitCode;
 use std::sync::{Arc, Wait};
 use std::thread::Threads;
-use std::time::Duration;
 use std::{env, io, time};
+use system_hub::Running;
 use system_link::{
-    ClockGuard, Common, Deferred, Doorway, FileReading, IDLE, Listener, Origin, Outbox, PIECE,
-    Patient, Prompt, Reading, Rounded, Rounds, Scribe, Stop, Teller, Telling, Watched, Writing,
-    addresses_of, bind_all, doorways_of, stop_at_end, tell_addresses, tell_readers,
+    ClockGuard, Common, Deferred, Doorway, FileReading, Listener, Origin, Outbox, PIECE, Patient,
+    Prompt, Reading, Rounded, Rounds, Scribe, Shutter, Stop, Teller, Telling, Watched, Writing,
+    addresses_of, bind_all, doorways_of, first_place, stop_at_end, tell_addresses, tell_readers,
+    teller_of,
 };
 use taos_node::{
     Ending, FileFault, Lane, LanesEnd, Outcome, Wanted, file_opening, status_of, taos, tell,
@@ -134,6 +137,67 @@ struct Ground {
     first_rounds: Arc<Rounds, Global>,
     tellers: Vec<Teller>,
     scribe: Option<Scribe>,
+    doorways: Vec<Doorway>,
+    edge: Option<Running>,
+}
+
+// Whether an address is bound nowhere.
+fn has_unbound(addresses: &[&str], listeners: &[Option<Listener>]) -> bool {
+    for place in 0..addresses.len() {
+        let first = first_place(addresses, place);
+        if !matches!(listeners.get(first), Some(Some(_))) {
+            return true;
+        }
+    }
+    false
+}
+
+// What stands behind the doors: where many clients are wanted the ends of a switch, else the listener of
+// each address.
+fn doors_of<W: Threads>(
+    rt: &HostRuntime,
+    workers: &W,
+    own: &Own<'_>,
+    setting: &Setting<'_>,
+    tellers: &[Teller],
+    listeners: &[Option<Listener>],
+) -> io::Result<(Vec<Doorway>, Option<Running>)>
+    requires few { length setting.now.addresses.now ≤ 16 }
+    ensures some { IfOk result (λ made. 0 < vec_len made.0) }
+    ensures few { IfOk result (λ made. vec_len made.0 ≤ 16) }
+{
+    let addresses = setting.addresses;
+    let clients = match own.clients {
+        Some(clients) if !addresses.is_empty() => clients,
+        _ => return Ok((doorways_of(rt.alloc(), addresses, listeners)?, None)),
+    };
+    if has_unbound(addresses, listeners) {
+        return Err(io::Error::from(ErrorKind::AddrNotAvailable));
+    }
+    let teller = match tellers.last() {
+        Some(teller) => teller_of(teller)?,
+        None => None,
+    };
+    let crowd = Crowd {
+        clients,
+        idle: own.idle,
+        lanes: addresses.len() as u32,
+    };
+    let (running, doorways) = begin_edge(rt, workers, crowd, teller, listeners)?;
+    Ok((doorways, Some(running)))
+}
+
+// Lets the switch end, whose lanes have ended.
+fn end_edge<W: Threads>(edge: Option<Running>, workers: &W, listeners: &[Option<Listener>]) {
+    let Some(running) = edge else {
+        return;
+    };
+    for listener in listeners.iter().flatten() {
+        if let Ok(shutter) = Shutter::of(listener) {
+            shutter.shut();
+        }
+    }
+    running.end(workers);
 }
 
 // Listens, tells the addresses, and lets the end of standard input stop the doors, where that is wanted.
@@ -142,11 +206,16 @@ fn begin<W: Threads>(
     workers: &W,
     own: &Own<'_>,
     setting: &Setting<'_>,
-) -> io::Result<Ground> {
+) -> io::Result<Ground>
+    requires few { length setting.now.addresses.now ≤ 16 }
+    ensures some { IfOk result (λ ground. 0 < vec_len ground.doorways) }
+    ensures few { IfOk result (λ ground. vec_len ground.doorways ≤ 16) }
+{
     let (alloc, addresses) = (rt.alloc(), setting.addresses);
     let listeners = bind_all(rt, alloc, addresses, &mut rt.stderr())?;
     let stop = Arc::new(alloc, Stop::new())?;
     let (tellers, scribe) = tellers_of(rt, workers, own.tells, addresses.len().max(1))?;
+    let (doorways, edge) = doors_of(rt, workers, own, setting, &tellers, &listeners)?;
     if own.stops_at_end && serves_doors(setting.wanted) {
         let input = Patient::new(rt.stdin(), *rt);
         stop_at_end(workers, alloc, input, &stop, &listeners)?;
@@ -154,6 +223,11 @@ fn begin<W: Threads>(
     if own.tells_addresses {
         tell_addresses(&mut rt.stderr(), &listeners);
     }
+    // Where there is a switch it ends in order, and the lanes' streams by it.
+    let stop = match &edge {
+        Some(_) => Arc::new(alloc, Stop::new())?,
+        None => stop,
+    };
     Ok(Ground {
         listeners,
         stop,
@@ -161,6 +235,8 @@ fn begin<W: Threads>(
         first_rounds: Arc::new(alloc, Rounds::new())?,
         tellers,
         scribe,
+        doorways,
+        edge,
     })
 }
 
@@ -218,12 +294,11 @@ fn listen<W: Threads + Wait + Sync, N: Sink>(
         first_rounds,
         tellers,
         scribe,
+        doorways,
+        edge,
     } = ground;
-    let Ok(doorways) = doorways_of(rt.alloc(), setting.addresses, &listeners) else {
-        return ended(notes, Ending::NoMemory);
-    };
     let common = Common {
-        idle: own.idle.unwrap_or(Duration::from_secs(IDLE)),
+        idle: idle_of(own.idle, own.clients),
         stop: &stop,
         guard: &guard,
         relay: setting.relay,
@@ -231,6 +306,7 @@ fn listen<W: Threads + Wait + Sync, N: Sink>(
         first_rounds: &first_rounds,
     };
     let status = work_by(rt, rt, workers, setting, common, doorways, notes);
+    end_edge(edge, workers, &listeners);
     if let Some(scribe) = scribe {
         scribe.end(workers, rt);
     }
@@ -259,8 +335,11 @@ fn run<W: Threads + Wait + Sync, N: Sink>(
         Ok(None) => return ended(notes, Ending::Usage),
         Err(AllocError) => return ended(notes, Ending::NoMemory),
     };
-    // What serves no door binds nothing.
+    // What serves no door binds nothing, and has no clients.
     if !serves_doors(wanted) {
+        if own.clients.is_some() {
+            return ended(notes, Ending::Usage);
+        }
         addresses.clear();
     }
     let setting = Setting {

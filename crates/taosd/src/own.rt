@@ -1,5 +1,6 @@
 //! The program's own options, before its first three words.
 
+use frame_hub::MAX_CLIENTS;
 use std::time::Duration;
 
 // The most seconds that a peer may have between frames.
@@ -20,6 +21,9 @@ pub enum Tells {
 pub struct Own<'w> {
     /// How long a peer may take between frames, where that is said.
     pub idle: Option<Duration>,
+    /// How many clients may be connected at a time, each served by whatever lane its channel has. Without
+    /// it each lane serves one connection after the other.
+    pub clients: Option<u32>,
     /// The addresses where the program listens are told.
     pub tells_addresses: bool,
     /// The end of standard input stops what serves doors.
@@ -40,11 +44,27 @@ fn seconds_of(word: &str) -> Option<u64> {
     }
 }
 
+// How many clients a word says, from 1 to the most that a hub has, written as all numbers are.
+fn clients_of(word: &str) -> Option<u32> {
+    if word.starts_with('+') || word.starts_with('0') {
+        return None;
+    }
+    match word.parse::<u32>() {
+        Ok(clients) if clients <= MAX_CLIENTS => Some(clients),
+        _ => None,
+    }
+}
+
 // The first option taken in, and whether there was one. `None` where it is none of the program's.
 fn take_one(own: &mut Own<'_>) -> Option<bool> {
     match own.words {
         [option, seconds, rest @ ..] if option.as_str() == "--idle" && own.idle.is_none() => {
             own.idle = Some(Duration::from_secs(seconds_of(seconds.as_str())?));
+            own.words = rest;
+            Some(true)
+        }
+        [option, clients, rest @ ..] if option.as_str() == "--clients" && own.clients.is_none() => {
+            own.clients = Some(clients_of(clients.as_str())?);
             own.words = rest;
             Some(true)
         }
@@ -79,6 +99,7 @@ fn take_one(own: &mut Own<'_>) -> Option<bool> {
 pub fn own_of(words: &[String]) -> Option<Own<'_>> {
     let mut own = Own {
         idle: None,
+        clients: None,
         tells_addresses: false,
         stops_at_end: false,
         tells: Tells::Nothing,

@@ -7,7 +7,7 @@ use std::thread::Threads;
 use system_link::{Scribe, Teller, notices_of, teller_of};
 use taos_node::Wanted;
 
-/// What so many lanes leave their notices by, and what writes them on standard error. Where none are
+/// What so many lanes leave their notices by, what a switch does behind them, and what writes them on standard error. Where none are
 /// wanted there is none of either.
 pub fn tellers_of<W: Threads>(
     rt: &HostRuntime,
@@ -21,7 +21,7 @@ pub fn tellers_of<W: Threads>(
         return Ok((tellers, None));
     }
     let mut queues = Vec::new(alloc);
-    for lane in 0..lanes {
+    for lane in 0..=lanes {
         let (notices, queue) = notices_of(alloc, lane, tells == Tells::Denials)?;
         tellers.push(Some(Arc::new(alloc, notices)?))?;
         queues.push(queue)?;

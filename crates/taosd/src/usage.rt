@@ -15,6 +15,8 @@ RELAY   the address HOST:PORT of the node's relay, or - for none
 OPTION is one of
   --idle SECONDS    how long a peer of LISTEN may be silent between frames
                     (1 to 86400; 60 without)
+  --clients N       so many clients may be connected at a time (1 to 65536);
+                    without, each lane serves one connection after the other
   --tell-addresses  tells on standard error at which addresses it listens
   --stop-at-end     the end of standard input stops what serves LISTEN
   --tell-refusals   tells on standard error each refusal, each connection that

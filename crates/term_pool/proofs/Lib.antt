@@ -19,5 +19,6 @@ pub mod Sought
 pub mod Pools
 pub mod Known
 pub mod Cells
+pub mod Cites
 pub mod Picking
 pub mod Adding

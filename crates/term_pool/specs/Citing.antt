@@ -1,8 +1,9 @@
 -- The certificates that lines cite, and steps by the places among these.
-use Rattle.std.specs.Prelude.{◌≡◌, ℕ, ◌<◌, ◌≤◌, List, Some, slice_get, length, Contains}
+use Rattle.std.specs.Prelude.{◌≡◌, ℕ, ◌<◌, ◌≤◌, Bool, List, Some, slice_get, length, Contains}
 use Rattle.taos_calculus.specs.declared.line.Line.{Line}
 use Rattle.taos_calculus.specs.declared.line.Step.{Step}
 use Rattle.taos_calculus.specs.Tidy.{cites_of, moved}
+use Rattle.term_pool.specs.Extract.{Marked}
 
 -- some line cites the number
 pub record IsCite (lines : List Line) (k : ℕ) : Type 0 where
@@ -10,6 +11,12 @@ pub record IsCite (lines : List Line) (k : ℕ) : Type 0 where
   pub line : Line
   pub stands : slice_get lines at ≡ Some line
   pub names : Contains (cites_of line.step) k
+
+-- the numbers below n that the lines cite are marked, and no others
+pub record MarksCites (lines : List Line) (n : ℕ) (marks : List Bool) : Type 0 where
+  pub long : length marks ≡ n
+  pub marked : (k : ℕ) → k < n → IsCite lines k → Marked marks k
+  pub only : (k : ℕ) → Marked marks k → IsCite lines k
 
 -- the number has a place in used
 abbrev pub HasPlace : List ℕ → ℕ → Type 0

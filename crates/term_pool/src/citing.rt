@@ -1,9 +1,10 @@
 //! The certificates that lines cite.
 
-ghost use Rattle.std.specs.Prelude.{◌≡◌, ◌↔◌, ℕ, ◌+◌, ◌<◌, ◌^◌, Some, IsTrue, IfOk};
-ghost use Rattle.std.specs.Prelude.{MatchOption, OnOk, slice_get, length, Contains};
+ghost use Rattle.std.specs.Prelude.{◌≡◌, ◌⊎◌, ℕ, ◌<◌, ◌^◌, Some, IfOk};
+ghost use Rattle.std.specs.Prelude.{MatchOption, slice_get, length, Contains};
 ghost use Rattle.taos_calculus.specs.Tidy.{cites_of};
-ghost use Rattle.term_pool.specs.Citing.{IsCite, HasPlace, UsedBelow, IsRecited};
+ghost use Rattle.term_pool.specs.Citing.{HasPlace, MarksCites, UsedBelow, IsRecited};
+ghost use Rattle.term_pool.specs.Extract.{Marked};
 
 use std::alloc::{AllocError, Global};
 use taos_calculus::{Line, Step};
@@ -22,46 +23,43 @@ fn place_of(used: &[u16], cite: u16) -> Option<u16>
     None
 }
 
-// Whether the step names this certificate.
-fn cites(step: Step, number: u16) -> bool
-    ensures { IsTrue result ↔ Contains (cites_of step) number }
+// Marks the certificate that the step names.
+fn mark_cite(marks: &mut Vec<bool>, step: Step)
+    ensures same_length { length marks.new.items ≡ length marks.old.items }
+    ensures kept { (k : ℕ) → Marked marks.old.items k → Marked marks.new.items k }
+    ensures set { (k : ℕ) → Contains (cites_of step) k → k < length marks.old.items
+        → Marked marks.new.items k }
+    ensures only { (k : ℕ) → Marked marks.new.items k
+        → Marked marks.old.items k ⊎ Contains (cites_of step) k }
 {
-    match step {
-        Step::Said { cite } => cite == number,
-        _ => false,
-    }
-}
-
-// Whether some line cites the number.
-fn is_cited(lines: &[Line], number: u16) -> bool
-    ensures { IsTrue result ↔ IsCite lines.now number }
-{
-    for i in 0..lines.len() {
-        if cites(lines[i].step, number) {
-            return true;
+    if let Step::Said { cite } = step {
+        if (cite as usize) < marks.len() {
+            marks[cite as usize] = true;
         }
     }
-    false
 }
 
-// The number behind the others, where some line cites it.
-fn add_if_cited(used: &mut Vec<u16>, lines: &[Line], number: u16) -> Result<(), AllocError>
-    requires { UsedBelow lines.now number used.old.items }
-    ensures { OnOk result (UsedBelow lines.now (number + 1) used.new.items) }
+// Which numbers below `count` the lines cite.
+fn cited_marks(alloc: Global, lines: &[Line], count: u16) -> Result<Vec<bool>, AllocError>
+    ensures { IfOk result (λ marks. MarksCites lines.now count marks.items) }
 {
-    if is_cited(lines, number) {
-        used.push(number)?;
+    let mut marks = vec![in alloc; false; count as usize]?;
+    for i in 0..lines.len() {
+        mark_cite(&mut marks, lines[i].step);
     }
-    Ok(())
+    Ok(marks)
 }
 
 /// The numbers below `count` that the lines cite, each once.
 pub fn cites_in(alloc: Global, lines: &[Line], count: u16) -> Result<Vec<u16>, AllocError>
     ensures { IfOk result (λ used. UsedBelow lines.now count used.items) }
 {
-    let mut used = Vec::new(alloc);
+    let marks = cited_marks(alloc, lines, count)?;
+    let mut used = Vec::with_capacity(alloc, marks.len())?;
     for number in 0..count {
-        add_if_cited(&mut used, lines, number)?;
+        if marks[number as usize] {
+            used.push(number)?;
+        }
     }
     Ok(used)
 }

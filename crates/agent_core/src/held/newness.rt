@@ -69,57 +69,52 @@ fn is_met(presented: &[Arc<Cert>], places: &Places, cert: &Cert) -> bool
     false
 }
 
-// Whether the certificate is neither held after the removal nor met.
-fn is_new(
-    commons: &[Arc<Cert>],
-    entries: &[ShardEntry],
-    own: &Names,
-    shared: &Names,
-    removal: &Removal,
-    presented: &[Arc<Cert>],
-    places: &Places,
-    cert: &Cert,
-) -> bool
-    requires own { AreNames (certificates commons.now) (map entry_of entries.now) own.now.items }
-    requires shared { AreNames (certificates commons.now) (map entry_of entries.now)
-        shared.now.items }
+/// What a channel holds after a removal: by name, its own certificates and those in common.
+#[derive(Clone, Copy)]
+pub(crate) struct Holding<'a> {
+    pub commons: &'a [Arc<Cert>],
+    pub entries: &'a [ShardEntry],
+    pub own: &'a Names,
+    pub shared: &'a Names,
+    pub removal: &'a Removal,
+}
+
+// Whether the certificate is neither held nor met.
+fn is_new(held: &Holding<'_>, presented: &[Arc<Cert>], places: &Places, cert: &Cert) -> bool
+    requires own { AreNames (certificates held.now.commons.now) (map entry_of held.now.entries.now)
+        held.now.own.now.items }
+    requires shared { AreNames (certificates held.now.commons.now)
+        (map entry_of held.now.entries.now) held.now.shared.now.items }
     requires places { All (λ i. i < length presented.now) places.now.items }
-    ensures { result ≡ not (among ((certs_staying (certificates commons.now)
-        (map entry_of entries.now) removal.now own.now.items
-        ++ certs_staying (certificates commons.now) (map entry_of entries.now) removal.now
-        shared.now.items) ++ filter_map (slice_get (certificates presented.now)) places.now.items)
+    ensures { result ≡ not (among ((certs_staying (certificates held.now.commons.now)
+        (map entry_of held.now.entries.now) held.now.removal.now held.now.own.now.items
+        ++ certs_staying (certificates held.now.commons.now) (map entry_of held.now.entries.now)
+        held.now.removal.now held.now.shared.now.items)
+        ++ filter_map (slice_get (certificates presented.now)) places.now.items)
         (certificate cert.now.body)) }
 {
-    !stays_among(commons, entries, own, removal, cert)
-        && !stays_among(commons, entries, shared, removal, cert)
+    !stays_among(held.commons, held.entries, held.own, held.removal, cert)
+        && !stays_among(held.commons, held.entries, held.shared, held.removal, cert)
         && !is_met(presented, places, cert)
 }
 
-/// The places of the certificates that are not held after the removal, each of them once.
-pub(crate) fn new_of(
-    commons: &[Arc<Cert>],
-    entries: &[ShardEntry],
-    own: &Names,
-    shared: &Names,
-    removal: &Removal,
-    presented: &[Arc<Cert>],
-) -> Places
-    requires own { AreNames (certificates commons.now) (map entry_of entries.now) own.now.items }
-    requires shared { AreNames (certificates commons.now) (map entry_of entries.now)
-        shared.now.items }
+/// The places of the certificates that are not held, each of them once.
+pub(crate) fn new_of(held: &Holding<'_>, presented: &[Arc<Cert>]) -> Places
+    requires own { AreNames (certificates held.now.commons.now) (map entry_of held.now.entries.now)
+        held.now.own.now.items }
+    requires shared { AreNames (certificates held.now.commons.now)
+        (map entry_of held.now.entries.now) held.now.shared.now.items }
     requires few { length presented.now ≤ 16 }
     ensures value { filter_map (slice_get (certificates presented.now)) result.items
-        ≡ newly (certs_staying (certificates commons.now) (map entry_of entries.now) removal.now
-        own.now.items ++ certs_staying (certificates commons.now) (map entry_of entries.now)
-        removal.now shared.now.items) (certificates presented.now) }
+        ≡ newly (certs_staying (certificates held.now.commons.now)
+        (map entry_of held.now.entries.now) held.now.removal.now held.now.own.now.items
+        ++ certs_staying (certificates held.now.commons.now) (map entry_of held.now.entries.now)
+        held.now.removal.now held.now.shared.now.items) (certificates presented.now) }
     ensures within { All (λ i. i < length presented.now) result.items }
 {
     let mut places = Places::new();
     for place in 0..presented.len() {
-        let cert = &presented[place];
-        if is_new(
-            commons, entries, own, shared, removal, presented, &places, cert,
-        ) {
+        if is_new(held, presented, &places, &presented[place]) {
             places.push(place as u8);
         }
     }

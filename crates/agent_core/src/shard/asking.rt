@@ -13,7 +13,7 @@ ghost use Rattle.agent_core.specs.Views.{ask_of, entry_of, plan_of};
 
 use crate::event::{Ask, Event, ShardEntry};
 use crate::held::naming::name_all;
-use crate::held::newness::{Places, new_of};
+use crate::held::newness::{Holding, Places, new_of};
 use crate::held::presented::Presented;
 use crate::held::removal::{count_left, gone_by, keep_left, sweep};
 use crate::held::snapshot::{push_at, push_left};
@@ -56,14 +56,14 @@ fn look_at(plan: &ShardPlan, entries: &[ShardEntry], store: &Store, asked: &Ask)
     let gone = gone_by(plan, moment);
     let own = &store.rows[place].own;
     let held = count_left(&plan.commons, entries, own, &gone);
-    let new = new_of(
-        &plan.commons,
+    let then = Holding {
+        commons: &plan.commons,
         entries,
         own,
-        &store.commons,
-        &gone,
-        &asked.presented,
-    );
+        shared: &store.commons,
+        removal: &gone,
+    };
+    let new = new_of(&then, &asked.presented);
     Look {
         place,
         moment,

@@ -10,7 +10,7 @@ ghost use Rattle.agent_core.specs.Views.{plan_of};
 use crate::event::{Event, ShardEntry};
 use crate::held::name::Names;
 use crate::held::naming::name_all;
-use crate::held::newness::new_of;
+use crate::held::newness::{Holding, new_of};
 use crate::held::removal::{Removal, gone_by};
 use crate::limits::MAX_COMMONS;
 use crate::plan::ShardPlan;
@@ -78,14 +78,14 @@ pub(crate) fn hold(
     ensures plain { IsPlain result }
 {
     let none = Names::new();
-    let new = new_of(
-        &plan.commons,
+    let now = Holding {
+        commons: &plan.commons,
         entries,
-        &none,
-        &store.commons,
-        &Removal::Nothing,
-        &certs,
-    );
+        own: &none,
+        shared: &store.commons,
+        removal: &Removal::Nothing,
+    };
+    let new = new_of(&now, &certs);
     let held = store.commons.len();
     if held + new.len() > MAX_COMMONS {
         let told = Told::CommonsFull { held: held as u8 };

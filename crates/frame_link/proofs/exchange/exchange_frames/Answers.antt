@@ -7,7 +7,7 @@ use Rattle.frame_link.proofs.exchange.exchange_frames.Goals as goal
 pub returns-in-WriteFault-clause-exchanges : goal.returns-in-WriteFault-clause-exchanges
 returns-in-WriteFault-clause-exchanges g c =
     let written = rw c.payload.ensures at c.in-WriteFault.ensures.bytes in
-    unwritten written c.in-WriteFault.ensures.cause.0 c.in-WriteFault.ensures.cause.1 (Keeps-refl (g.I.Source.left c.args.input.now)) refl
+    unwritten written c.in-WriteFault.ensures.cause.0 c.in-WriteFault.ensures.cause.1 (Keeps-refl (g.I.Source.shown c.args.input.now).told) refl
 
 pub returns-in-Frame-clause-exchanges : goal.returns-in-Frame-clause-exchanges
 returns-in-Frame-clause-exchanges g c =

@@ -9,8 +9,8 @@ invariant-loop-answered g l = record {
   limit : l.buf.limit ≡ MAX_PAYLOAD;
   stands : g.S.Service.stands l.service;
   same : g.S.Service.borrows l.service ≡ g.S.Service.borrows l.initial.service;
-  progress : Progress g.S.Service.answers l.answered (line (g.I.Source.left l.initial.input) (g.O.Sink.written l.initial.output) l.initial.service) (line (g.I.Source.left l.input) (g.O.Sink.written l.output) l.service);
-  input_steady : g.I.Source.faults l.input ≡ g.I.Source.faults l.initial.input;
-  output_steady : g.O.Sink.faults l.output ≡ g.O.Sink.faults l.initial.output;
+  progress : Progress g.S.Service.answers l.answered (line (g.I.Source.shown l.initial.input) (g.O.Sink.shown l.initial.output) l.initial.service) (line (g.I.Source.shown l.input) (g.O.Sink.shown l.output) l.service);
+  input_steady : (g.I.Source.shown l.input).faults ≡ (g.I.Source.shown l.initial.input).faults;
+  output_steady : (g.O.Sink.shown l.output).faults ≡ (g.O.Sink.shown l.initial.output).faults;
   clock_steady : g.S.Service.faults l.service ≡ g.S.Service.faults l.initial.service;
 }

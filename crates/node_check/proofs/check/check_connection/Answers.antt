@@ -8,12 +8,12 @@ use Rattle.node_check.proofs.check.check_connection.Goals as goal
 
 pub returns-in-Err-NoMemory-clause-checks : goal.returns-in-Err-NoMemory-clause-checks
 returns-in-Err-NoMemory-clause-checks g c = (
-  for_frame (subst (Halts (g.I.Source.left c.args.input.now) (g.I.Source.left c.frames_of.new.input)) c.in-Err-NoMemory.field-0-is c.in-Err-NoMemory.ensures.halted),
-  Keeps-refl (g.O.Sink.written c.args.output.now),
+  for_frame (subst (Halts (g.I.Source.shown c.args.input.now).told (g.I.Source.shown c.frames_of.new.input).told) c.in-Err-NoMemory.field-0-is c.in-Err-NoMemory.ensures.halted),
+  Keeps-refl (g.O.Sink.shown c.args.output.now).told,
 )
 
 pub returns-in_default-clause-checks : goal.returns-in_default-clause-checks
 returns-in_default-clause-checks g c = (
   behind_frames (option_map (text_of {Z = Global}) c.in-Ok.frames.0) (option_map (text_of {Z = Global}) c.in-Ok.frames.1) c.in-Ok.ensures.taken,
-  Keeps-refl (g.O.Sink.written c.args.output.now),
+  Keeps-refl (g.O.Sink.shown c.args.output.now).told,
 )

@@ -14,20 +14,20 @@ returns-then-have-lt4-clause-taken g c =
 pub returns-then-length-limit-clause-taken : goal.returns-then-length-limit-clause-taken
 returns-then-length-limit-clause-taken g c =
     let n = c.length_of-length.result in
-    let word = is_word n c.in-Ok.have c.fill.new.room (g.I.Source.left c.args.input.now) (g.I.Source.left c.fill.new.source) c.if-have-lt4.false (omega arith) (omega arith) c.length_of-length.ensures c.in-Ok.ensures.bytes in
-    (next.TooLong n, tt, too_long c.args.limit n _ _ word c.if-length-limit.true)
+    let word = is_word n c.in-Ok.have c.fill.new.room (g.I.Source.shown c.args.input.now) (g.I.Source.shown c.fill.new.source) c.if-have-lt4.false (omega arith) (omega arith) c.length_of-length.ensures c.in-Ok.ensures.bytes in
+    (next.TooLong n, tt, too_long c.args.limit n (g.I.Source.shown c.args.input.now) (g.I.Source.shown c.fill.new.source) word c.if-length-limit.true)
 
 pub returns-then-have-length-clause-taken : goal.returns-then-have-length-clause-taken
 returns-then-have-length-clause-taken g c =
     let n = c.length_of-length.result in
-    let word = is_word n c.in-Ok.have c.fill.new.room (g.I.Source.left c.args.input.now) (g.I.Source.left c.fill.new.source) c.if-have-lt4.false (omega arith) (omega arith) c.length_of-length.ensures c.in-Ok.ensures.bytes in
+    let word = is_word n c.in-Ok.have c.fill.new.room (g.I.Source.shown c.args.input.now) (g.I.Source.shown c.fill.new.source) c.if-have-lt4.false (omega arith) (omega arith) c.length_of-length.ensures c.in-Ok.ensures.bytes in
     let len : length c.fill-2.new.room ≡ n = omega arith in
-    (next.Truncated (4 + c.in-Ok-fill.have), tt, cut_short c.args.limit n c.in-Ok-fill.have c.fill-2.new.room _ _ _ word c.if-length-limit.false len c.if-have-length.true c.in-Ok-fill.ensures.bytes (c.in-Ok-fill.ensures.end (omega (arith, len, c.if-have-length.true))))
+    (next.Truncated (4 + c.in-Ok-fill.have), tt, cut_short c.args.limit n c.in-Ok-fill.have c.fill-2.new.room (g.I.Source.shown c.args.input.now) (g.I.Source.shown c.fill.new.source) (g.I.Source.shown c.fill-2.new.source) word c.if-length-limit.false len c.if-have-length.true c.in-Ok-fill.ensures.bytes (c.in-Ok-fill.ensures.end (omega (arith, len, c.if-have-length.true))))
 
 pub returns-in-Err-fill-clause-halted : goal.returns-in-Err-fill-clause-halted
 returns-in-Err-fill-clause-halted g c =
     let n = c.length_of-length.result in
-    let word = is_word n c.in-Ok.have c.fill.new.room (g.I.Source.left c.args.input.now) (g.I.Source.left c.fill.new.source) c.if-have-lt4.false (omega arith) (omega arith) c.length_of-length.ensures c.in-Ok.ensures.bytes in
+    let word = is_word n c.in-Ok.have c.fill.new.room (g.I.Source.shown c.args.input.now) (g.I.Source.shown c.fill.new.source) c.if-have-lt4.false (omega arith) (omega arith) c.length_of-length.ensures c.in-Ok.ensures.bytes in
     let len : length c.fill-2.new.room ≡ n = omega arith in
     let part = c.in-Err-fill.ensures.part in
-    broken_off c.args.limit n part.0 _ _ _ word c.if-length-limit.false (omega (arith, part.1, len)) part.2
+    broken_off c.args.limit n part.0 (g.I.Source.shown c.args.input.now) (g.I.Source.shown c.fill.new.source) (g.I.Source.shown c.fill-2.new.source) word c.if-length-limit.false (omega (arith, part.1, len)) part.2

@@ -1,7 +1,6 @@
 -- Where no frame came there is no answer, and else the payload decides.
 use Rattle.std.proofs.Common.{◌≡◌, ◌++◌, List, ℕ, ap, ◌∙◌}
 use Rattle.std.proofs.lemmas.Result.{err_from_is_err_and}
-use Rattle.frame_link.specs.Streams.{stream}
 use Rattle.relay_core.specs.Messages.{asking}
 use Rattle.relay_core.specs.Links.{Streams, streams}
 use Rattle.relay_core.proofs.Exchanging.{broken, spelled, unspelled}
@@ -17,8 +16,8 @@ returns-in_err-exchange_frames-clause-asks g c =
 
 pub returns-clause-asks : goal.returns-clause-asks
 returns-clause-asks g c =
-    let before : Streams = streams (stream (g.I.Source.left c.args.input.now) (g.I.Source.faults c.args.input.now)) (stream (g.O.Sink.written c.args.output.now) (g.O.Sink.faults c.args.output.now)) in
-    let after : Streams = streams (stream (g.I.Source.left c.exchange_frames.new.input) (g.I.Source.faults c.exchange_frames.new.input)) (stream (g.O.Sink.written c.exchange_frames.new.output) (g.O.Sink.faults c.exchange_frames.new.output)) in
+    let before : Streams = streams (g.I.Source.shown c.args.input.now) (g.O.Sink.shown c.args.output.now) in
+    let after : Streams = streams (g.I.Source.shown c.exchange_frames.new.input) (g.O.Sink.shown c.exchange_frames.new.output) in
     let asked = asking c.args.node c.args.sealed.now in
     let payload = c.exchange_frames.new.buf.payload in
     let request = c.lay.ensures.payload ∙ ap (λ (head : List ℕ). head ++ c.args.sealed.now) c.head_of.ensures in

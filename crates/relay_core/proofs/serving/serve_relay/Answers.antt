@@ -8,7 +8,7 @@ use Rattle.relay_core.proofs.serving.serve_relay.Goals as goal
 
 pub returns-in_default-clause-served : goal.returns-in_default-clause-served
 returns-in_default-clause-served g c =
-    unserved Answers GivesUp c.args.frames (line (g.I.Source.left c.args.input.now) (g.O.Sink.written c.args.output.now) c.args.table.now)
+    unserved Answers GivesUp c.args.frames (line (g.I.Source.shown c.args.input.now) (g.O.Sink.shown c.args.output.now) c.args.table.now)
 
 pub returns-clause-served : goal.returns-clause-served
 returns-clause-served g c =

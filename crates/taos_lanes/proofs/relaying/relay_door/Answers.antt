@@ -1,5 +1,4 @@
 use Rattle.std.proofs.Common.{refl}
-use Rattle.taos_lanes.specs.Doors.{door_of}
 use Rattle.taos_lanes.specs.Relaying.{RelayVisit}
 use Rattle.taos_lanes.proofs.SoFar.{none_yet, one_served, door_fails}
 use Rattle.taos_lanes.proofs.relaying.relay_door.Goals as goal
@@ -18,15 +17,11 @@ loop-tally-preserved g c =
     let v : RelayVisit c.args.relay.now.limits.frames = record {
       before = _;
       after = _;
-      faults_before = _;
-      faults_after = _;
       outcome = _;
-      connection = it.served;
-      causes = it.causes;
-      complete = it.complete;
+      connects = record { served = it.served; causes = it.causes; complete = it.complete };
     } in
-    one_served _ _ _ _ _ _ (door_of (g.D.Door.left c.accept.new.self) (g.D.Door.back c.accept.new.self) (g.D.Door.given c.accept.new.self) (g.D.Door.faults c.accept.new.self))
+    one_served _ _ _ _ _ _ (g.D.Door.shown c.accept.new.self)
     _ _ _ _ _ v c.loop-tally.invariant refl refl c.in-Some.is c.in-Ok.ensures.gives c.in-Ok.ensures.back c.in-Ok.ensures.cause.steady
-    c.done.ensures.back c.done.ensures.left c.done.ensures.given c.done.ensures.faults
+    c.done.ensures.back c.done.ensures.rest
     (record { input = refl; output = refl; input_after = refl; output_after = refl }) c.loop-tally-test.true
     c.add.ensures.served c.add.ensures.broken c.add.ensures.lacked c.add.ensures.door

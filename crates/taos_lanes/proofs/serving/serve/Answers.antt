@@ -1,4 +1,4 @@
-use Rattle.taos_lanes.specs.Stocked.{door_by, shown_by}
+use Rattle.taos_lanes.specs.Stocked.{shown_by}
 use Rattle.taos_lanes.proofs.Ends.{idle_after, same_ends}
 use Rattle.taos_lanes.proofs.serving.serve.Goals as goal
 
@@ -7,5 +7,5 @@ returns-in-Err-clause-unserved g c = same_ends _ _ _ c.in-Err.ensures.unserved c
 
 pub returns-in-Err-clause-idle : goal.returns-in-Err-clause-idle
 returns-in-Err-clause-idle g c =
-    let f = shown_by g.C.Clock.readings g.R.RelayLink.faults g.R.RelayLink.says (door_by g.D.Door.left g.D.Door.back g.D.Door.given g.D.Door.faults) in
+    let f = shown_by g.C.Clock.shown g.R.RelayLink.shown g.D.Door.shown in
     idle_after f _ _ c.empty.ensures

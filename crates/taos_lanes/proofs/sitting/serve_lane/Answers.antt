@@ -28,8 +28,7 @@ returns g c =
         shards = c.rise.ensures.shares ∙ (sym c.requires.stocked.shards_shared ∙ ap (λ (s : Stock). shares_of s.passes) same);
         objects = c.rise-2.ensures.shares ∙ (sym c.requires.stocked.objects_shared ∙ ap (λ (s : Stock). shares_of s.racked) same);
       };
-      says = c.serve_door-tally.ensures.says;
-      serves = serves_at _ c.args.shared.now.keys.now _ _ _ _ _ _ _ _ _ _ _ _ _ _ c.unwrap-passes.result new
+      serves = serves_at _ c.args.shared.now.keys.now _ _ _ _ _ _ _ _ _ _ _ c.unwrap-passes.result new
           (seat_is _ _ _ c.sit.ensures.cells c.sit.ensures.passes)
           (seat_is _ _ _ shards_at (sym c.rise.ensures.passes))
           (shelf_is _ _ _ c.sit-2.ensures.cells c.sit-2.ensures.passes c.sit-2.ensures.taken)

@@ -1,7 +1,7 @@
 use denote.Param.Send.{sendable}
 use mir.Syntax.{named}
 use Rattle.std.proofs.Common.{get_or, subst}
-use Rattle.taos_lanes.specs.Stocked.{ServesLane, cells_of, door_by, shown_by}
+use Rattle.taos_lanes.specs.Stocked.{ServesLane, cells_of, shown_by}
 use Rattle.taos_lanes.specs.Telling.{told_by}
 use Rattle.taos_lanes.proofs.Crossing.{lane_send, shared_sync}
 use Rattle.taos_lanes.proofs.Rows.{each_place}
@@ -15,7 +15,7 @@ for_each_mut-requires-sync-F g c κs within = record { shared = λ x b o ℓ. ((
 
 pub returns : goal.returns
 returns g c =
-    let f = shown_by g.C.Clock.readings g.R.RelayLink.faults g.R.RelayLink.says (door_by g.D.Door.left g.D.Door.back g.D.Door.given g.D.Door.faults) in
-    let serves = ServesLane (told_by g.D.In.Source.left g.D.Out.Sink.written) c.args.shared.now.keys.now (cells_of c.args.shared.now.agent.now c.args.shared.now.rack.now) c.args.shared.now.limits in
+    let f = shown_by g.C.Clock.shown g.R.RelayLink.shown g.D.Door.shown in
+    let serves = ServesLane (told_by g.D.In.Source.shown g.D.Out.Sink.shown) c.args.shared.now.keys.now (cells_of c.args.shared.now.agent.now c.args.shared.now.rack.now) c.args.shared.now.limits in
     each_place serves f _ _ c.for_each_mut.auto.s
     (λ k d lt. let at = (c.for_each_mut.ensures k d lt).1 in subst (λ x. serves (f (get_or c.args.lanes.now k d)) (f x)) at.left (subst (λ x. serves (f x) (f at.after_call.now)) at.argument_is at.call))

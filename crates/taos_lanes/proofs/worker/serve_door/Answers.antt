@@ -1,7 +1,6 @@
 use Rattle.std.proofs.Common.{refl, subst, ◌∙◌}
 use Rattle.frame_link.specs.Doors.{OpensKnown, Counts}
 use Rattle.taos_monitor.specs.Arriving.{node_of}
-use Rattle.taos_lanes.specs.Doors.{door_of}
 use Rattle.taos_lanes.specs.Visits.{Visit}
 use Rattle.taos_lanes.proofs.SoFar.{none_yet, one_served, none_left, door_fails, settled}
 use Rattle.taos_lanes.proofs.worker.serve_door.Goals as goal
@@ -13,7 +12,6 @@ loop-tally-init g c = record {
   taken = c.requires.none_taken;
   plans = refl;
   objects = refl;
-  says = refl;
   shards_among = c.requires.shards_among;
   objects_among = c.requires.objects_among;
 }
@@ -27,35 +25,30 @@ pub returns-in_default-opened-clause-served : goal.returns-in_default-opened-cla
 returns-in_default-opened-clause-served g c =
     let door = c.loop-tally.lane.door in
     let after = c.accept.new.self in
-    let gives = subst (λ o. OpensKnown (g.D.Door.left door) (g.D.Door.left after) o × Counts (g.D.Door.left door) (g.D.Door.given door) (g.D.Door.given after) o) c.in_default-opened.is c.in-Ok.ensures.gives in
-    none_left _ _ _ _ _ _ c.loop-tally.invariant.so_far (door_of (g.D.Door.left after) (g.D.Door.back after) (g.D.Door.given after) (g.D.Door.faults after))
+    let gives = subst (λ o. OpensKnown (g.D.Door.shown door).left (g.D.Door.shown after).left o × Counts (g.D.Door.shown door).left (g.D.Door.shown door).given (g.D.Door.shown after).given o) c.in_default-opened.is c.in-Ok.ensures.gives in
+    none_left _ _ _ _ _ _ c.loop-tally.invariant.so_far (g.D.Door.shown after)
     gives.0 c.in-Ok.ensures.back gives.1 c.in-Ok.ensures.cause.steady
 
 pub loop-tally-preserved : goal.loop-tally-preserved
 loop-tally-preserved g c =
     let was = c.loop-tally.invariant in
     let it = c.serve_connection-outcome.ensures in
-    let v : Visit (node_of c.args.keys.now (g.S.Shards.plans c.args.desk.now.shards) (g.H.Shelf.objects c.args.desk.now.shelf)) (g.R.RelayLink.says c.args.lane.now.relay) c.args.limits.frames = record {
+    let v : Visit (node_of c.args.keys.now (g.S.Shards.plans c.args.desk.now.shards) (g.H.Shelf.objects c.args.desk.now.shelf)) c.args.limits.frames = record {
       before = _;
       after = _;
-      faults_before = _;
-      faults_after = _;
       outcome = _;
-      connection = settled (node_of c.args.keys.now) was.plans was.objects was.shards_among was.objects_among was.says _ _ _ _ it.connection;
-      causes = it.causes;
-      complete = it.complete;
+      connects = settled (node_of c.args.keys.now) was.plans was.objects was.shards_among was.objects_among _ _ _ _ it.connection;
     } in
     record {
-      so_far = one_served _ _ _ _ _ _ (door_of (g.D.Door.left c.accept.new.self) (g.D.Door.back c.accept.new.self) (g.D.Door.given c.accept.new.self) (g.D.Door.faults c.accept.new.self))
+      so_far = one_served _ _ _ _ _ _ (g.D.Door.shown c.accept.new.self)
           _ _ _ _ _ v was.so_far refl refl c.in-Some.is c.in-Ok.ensures.gives c.in-Ok.ensures.back c.in-Ok.ensures.cause.steady
-          c.done.ensures.back c.done.ensures.left c.done.ensures.given c.done.ensures.faults
+          c.done.ensures.back c.done.ensures.rest
           (record { input = refl; output = refl; input_after = refl; output_after = refl }) c.loop-tally-test.true
           c.add.ensures.served c.add.ensures.broken c.add.ensures.lacked c.add.ensures.door;
       work = was.work;
       taken = it.taken;
       plans = it.plans ∙ was.plans;
       objects = it.objects ∙ was.objects;
-      says = it.says ∙ was.says;
       shards_among = it.alone ∙ was.shards_among;
       objects_among = it.others_take ∙ was.objects_among;
     }

@@ -26,6 +26,6 @@ returns-in-Ok-clause-answered g c =
 
 pub returns-in-Err-clause-answered : goal.returns-in-Err-clause-answered
 returns-in-Err-clause-answered g c =
-    unasked_to c.args.keys.now (g.S.Shards.plans c.args.shards.now) (g.H.Shelf.objects c.args.shelf.now) (alone_of (g.S.Shards.alone c.args.shards.now) (g.H.Shelf.alone c.args.shelf.now)) (g.R.RelayLink.says c.args.relay.now) (g.R.RelayLink.faults c.args.relay.now)
-    (viewed (g.S.Shards.seen c.args.shards.now) (g.S.Shards.own c.args.shards.now)) (viewed (g.H.Shelf.seen c.args.shelf.now) (g.H.Shelf.own c.args.shelf.now)) (g.C.Clock.readings c.args.clock.now) c.args.payload.now c.in-Err.why c.leave_unsealed.new.self
+    unasked_to c.args.keys.now (g.S.Shards.plans c.args.shards.now) (g.H.Shelf.objects c.args.shelf.now) (alone_of (g.S.Shards.alone c.args.shards.now) (g.H.Shelf.alone c.args.shelf.now)) (g.R.RelayLink.shown c.args.relay.now)
+    (viewed (g.S.Shards.seen c.args.shards.now) (g.S.Shards.own c.args.shards.now)) (viewed (g.H.Shelf.seen c.args.shelf.now) (g.H.Shelf.own c.args.shelf.now)) (g.C.Clock.shown c.args.clock.now) c.args.payload.now c.in-Err.why c.leave_unsealed.new.self
     c.are_legal.ensures.legal c.in-Err.ensures.refused c.leave_unsealed.ensures.reply c.leave_unsealed.ensures.short

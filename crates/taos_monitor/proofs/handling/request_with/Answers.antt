@@ -11,16 +11,14 @@ use Rattle.taos_monitor.proofs.handling.request_with.Goals as goal
 
 pub returns-in-Err-clause-handled : goal.returns-in-Err-clause-handled
 returns-in-Err-clause-handled g c =
-    refused_to c.args.keys.now (g.S.Shards.plans c.args.shards.now) (g.H.Shelf.objects c.args.shelf.now) (alone_of (g.S.Shards.alone c.args.shards.now) (g.H.Shelf.alone c.args.shelf.now)) (g.R.RelayLink.says c.args.relay.now)
-    (g.R.RelayLink.faults c.args.relay.now) (g.R.RelayLink.faults c.arrive.new.relay) (viewed (g.S.Shards.seen c.args.shards.now) (g.S.Shards.own c.args.shards.now)) (viewed (g.H.Shelf.seen c.args.shelf.now) (g.H.Shelf.own c.args.shelf.now))
-    (request_of c.args.asked.now) c.unwrap-sealer.result.now (sym c.sealer.ensures ∙ ap option_copied c.unwrap-sealer.ensures) (g.C.Clock.readings c.args.clock.now) c.in-Err.why c.leave_refused.new.self
+    refused_to c.args.keys.now (g.S.Shards.plans c.args.shards.now) (g.H.Shelf.objects c.args.shelf.now) (alone_of (g.S.Shards.alone c.args.shards.now) (g.H.Shelf.alone c.args.shelf.now)) (g.R.RelayLink.shown c.args.relay.now) (g.R.RelayLink.shown c.arrive.new.relay) (viewed (g.S.Shards.seen c.args.shards.now) (g.S.Shards.own c.args.shards.now)) (viewed (g.H.Shelf.seen c.args.shelf.now) (g.H.Shelf.own c.args.shelf.now))
+    (request_of c.args.asked.now) c.unwrap-sealer.result.now (sym c.sealer.ensures ∙ ap option_copied c.unwrap-sealer.ensures) (g.C.Clock.shown c.args.clock.now) c.in-Err.why c.leave_refused.new.self
     c.are_legal.ensures.legal c.in-Err.ensures.refused c.leave_refused.ensures.reply c.leave_refused.ensures.short
 
 pub returns-in_default-clause-handled : goal.returns-in_default-clause-handled
 returns-in_default-clause-handled g c =
-    stopped_at_clock c.args.keys.now (g.S.Shards.plans c.args.shards.now) (g.H.Shelf.objects c.args.shelf.now) (alone_of (g.S.Shards.alone c.args.shards.now) (g.H.Shelf.alone c.args.shelf.now)) (g.R.RelayLink.says c.args.relay.now)
-    (g.R.RelayLink.faults c.args.relay.now) (g.R.RelayLink.faults c.arrive.new.relay) (viewed (g.S.Shards.seen c.args.shards.now) (g.S.Shards.own c.args.shards.now)) (viewed (g.H.Shelf.seen c.args.shelf.now) (g.H.Shelf.own c.args.shelf.now))
-    (request_of c.args.asked.now) c.unwrap-sealer.result.now (sym c.sealer.ensures ∙ ap option_copied c.unwrap-sealer.ensures) _ c.in-Ok.ensures.arrived (g.C.Clock.readings c.args.clock.now) (g.C.Clock.readings c.now.new.self) c.in_default.ensures.reading
+    stopped_at_clock c.args.keys.now (g.S.Shards.plans c.args.shards.now) (g.H.Shelf.objects c.args.shelf.now) (alone_of (g.S.Shards.alone c.args.shards.now) (g.H.Shelf.alone c.args.shelf.now)) (g.R.RelayLink.shown c.args.relay.now) (g.R.RelayLink.shown c.arrive.new.relay) (viewed (g.S.Shards.seen c.args.shards.now) (g.S.Shards.own c.args.shards.now)) (viewed (g.H.Shelf.seen c.args.shelf.now) (g.H.Shelf.own c.args.shelf.now))
+    (request_of c.args.asked.now) c.unwrap-sealer.result.now (sym c.sealer.ensures ∙ ap option_copied c.unwrap-sealer.ensures) _ c.in-Ok.ensures.arrived (g.C.Clock.shown c.args.clock.now) (g.C.Clock.shown c.now.new.self) c.in_default.ensures.reading
 
 pub rule-requires-clause-there : goal.rule-requires-clause-there
 rule-requires-clause-there g c κs within = subst IsSome (sym c.in-Ok.ensures.arrived.there) refl
@@ -39,8 +37,8 @@ returns-clause-handled g c =
     let objects1 = viewed (g.H.Shelf.seen c.rule.new.shelf) (g.H.Shelf.own c.rule.new.shelf) in
     let r = request_of c.args.asked.now in
     let came = c.in-Ok.ensures.arrived in
-    ruled_to c.args.keys.now plans objects alone (g.R.RelayLink.says c.args.relay.now) (g.R.RelayLink.faults c.args.relay.now) (g.R.RelayLink.faults c.arrive.new.relay) shards0 objects0 r
-    c.unwrap-sealer.result.now (sym c.sealer.ensures ∙ ap option_copied c.unwrap-sealer.ensures) _ came shards1 objects1 (g.C.Clock.readings c.args.clock.now) (g.C.Clock.readings c.now.new.self) c.in-Ok-now.reading c.seal.new.self c.in-Ok-now.ensures.reading
+    ruled_to c.args.keys.now plans objects alone (g.R.RelayLink.shown c.args.relay.now) (g.R.RelayLink.shown c.arrive.new.relay) shards0 objects0 r
+    c.unwrap-sealer.result.now (sym c.sealer.ensures ∙ ap option_copied c.unwrap-sealer.ensures) _ came shards1 objects1 (g.C.Clock.shown c.args.clock.now) (g.C.Clock.shown c.now.new.self) c.in-Ok-now.reading c.seal.new.self c.in-Ok-now.ensures.reading
     (sealed_draft r.channel r.seq c.rule.new.out _ (subst (λ (n : ℕ). Drafts r.channel r.seq c.rule.new.out (GuardedTo (standing_of plans objects alone) (seen_of shards0 objects0) (seen_of shards1 objects1)
     (record { request = r; certs = map shared c.in-Ok.arrived.certs.items; reading = c.in-Ok-now.reading; shard = r.channel % n; fixed = came.object }))) c.count.ensures.count (c.rule.ensures.guarded came.object came.there))
     c.unwrap-sealer.result.now c.seal.new.self c.seal.ensures.sealed c.seal.ensures.length)

@@ -1,11 +1,10 @@
 -- One certificate more, or the first that comes to none.
-use Rattle.std.proofs.Common.{ℕ, ◌+◌, List, [], get_or, length, map, take, Option, refl, sym, ap, subst, ◌∙◌, arith}
+use Rattle.std.proofs.Common.{ℕ, ◌+◌, List, [], get_or, length, map, take, refl, sym, ap, subst, ◌∙◌, arith}
 use Rattle.std.specs.declared.alloc.Global.{Global}
 use Rattle.std.specs.declared.sync.Arc.{Arc}
 use Rattle.std.proofs.lemmas.List.{get_or-map, length-map}
 use Rattle.std.proofs.lemmas.Result.{err_from_is_err_and}
 use Rattle.stmt_codec.specs.declared.cert.Cert.{Cert}
-use Rattle.frame_link.specs.Relay.{Said}
 use Rattle.relay_core.specs.Presenting.{OneComes, OneStops}
 use Rattle.taos_wire.specs.View.{text_of, cited as shared}
 use Rattle.taos_monitor.specs.Credentials.{link_use, none_more}
@@ -16,7 +15,7 @@ use Rattle.taos_monitor.proofs.presented.open_all.Goals as goal
 pub loop-place-init : goal.loop-place-init
 loop-place-init g c =
     rw c.new-certs.ensures.items
-    (record { calls = []; opened = none_more; quiet = none_called (g.R.RelayLink.says c.args.relay.now) c.args.node (g.R.RelayLink.faults c.args.relay.now) }, refl, refl)
+    (record { calls = []; opened = none_more; quiet = none_called c.args.node (g.R.RelayLink.shown c.args.relay.now) }, refl, refl)
 
 pub present_with-requires : goal.present_with-requires
 present_with-requires g c =
@@ -29,62 +28,56 @@ present_with-requires g c =
 
 pub returns-in-Err-clause-stopped : goal.returns-in-Err-clause-stopped
 returns-in-Err-clause-stopped g c =
-    let says = g.R.RelayLink.says c.args.relay.now in
     let key = c.args.opened.now in
     let node = c.args.node in
-    let n = g.R.RelayLink.faults c.args.relay.now in
-    let middle = g.R.RelayLink.faults c.loop-place.relay in
-    let now = g.R.RelayLink.faults c.present_with.new.link in
+    let n = (g.R.RelayLink.shown c.args.relay.now) in
+    let middle = (g.R.RelayLink.shown c.loop-place.relay) in
+    let now = (g.R.RelayLink.shown c.present_with.new.link) in
     let texts = c.args.texts.now in
     let place = c.loop-place.place in
     let d = c.index-texts-place.result in
     let f = c.in-Err.why in
     let text = ap text_of (sym c.index-texts-place.is) ∙ sym c.deref.ensures.value in
-    let why = subst (λ (k : List ℕ). OneStops k (link_use says node middle now) (text_of (get_or texts place d)) f) c.loop-place.invariant.2
-    (subst (λ (s : Option (ℕ → List ℕ → Said)). OneStops c.loop-place.opened (link_use s node middle now) (text_of (get_or texts place d)) f) c.loop-place.invariant.1
-    (subst (λ (t : List ℕ). OneStops c.loop-place.opened (link_use (g.R.RelayLink.says c.loop-place.relay) node middle now) t f) (sym text) c.in-Err.ensures.stopped)) in
-    subst (AllStop key (link_use says node n now) (map text_of texts)) (sym c.refused_at.ensures)
-    (first_stopped key texts place d c.loop-place-test.true says node n middle now (map shared c.loop-place.certs.items) f c.loop-place.invariant.0 why)
+    let why = subst (λ (k : List ℕ). OneStops k (link_use node middle now) (text_of (get_or texts place d)) f) c.loop-place.invariant.2
+    (subst (λ (t : List ℕ). OneStops c.loop-place.opened (link_use node middle now) t f) (sym text) c.in-Err.ensures.stopped) in
+    subst (AllStop key (link_use node n now) (map text_of texts)) (sym c.refused_at.ensures)
+    (first_stopped key texts place d c.loop-place-test.true node n middle now (map shared c.loop-place.certs.items) f c.loop-place.invariant.0 why)
 
 pub returns-in_err-push-in-Ok-clause-stopped : goal.returns-in_err-push-in-Ok-clause-stopped
 returns-in_err-push-in-Ok-clause-stopped g c =
     let p = err_from_is_err_and c.from_residual.result c.from_residual.ensures.1 in
-    let says = g.R.RelayLink.says c.args.relay.now in
     let key = c.args.opened.now in
     let node = c.args.node in
-    let middle = g.R.RelayLink.faults c.loop-place.relay in
-    let now = g.R.RelayLink.faults c.present_with.new.link in
+    let middle = (g.R.RelayLink.shown c.loop-place.relay) in
+    let now = (g.R.RelayLink.shown c.present_with.new.link) in
     let texts = c.args.texts.now in
     let place = c.loop-place.place in
     let d = c.index-texts-place.result in
     let cert = c.in-Ok.cert in
     let text = ap text_of (sym c.index-texts-place.is) ∙ sym c.deref.ensures.value in
     let came = c.loop-place.invariant.0 in
-    let one = subst (λ (k : List ℕ). OneComes k (link_use says node middle now) (text_of (get_or texts place d)) (shared cert)) c.loop-place.invariant.2
-    (subst (λ (s : Option (ℕ → List ℕ → Said)). OneComes c.loop-place.opened (link_use s node middle now) (text_of (get_or texts place d)) (shared cert)) c.loop-place.invariant.1
-    (subst (λ (t : List ℕ). OneComes c.loop-place.opened (link_use (g.R.RelayLink.says c.loop-place.relay) node middle now) t (shared cert)) (sym text) c.in-Ok.ensures.came)) in
+    let one = subst (λ (k : List ℕ). OneComes k (link_use node middle now) (text_of (get_or texts place d)) (shared cert)) c.loop-place.invariant.2
+    (subst (λ (t : List ℕ). OneComes c.loop-place.opened (link_use node middle now) t (shared cert)) (sym text) c.in-Ok.ensures.came) in
     rw (p.1, p.2)
-    (interrupted key says node (g.R.RelayLink.faults c.args.relay.now) middle now place (map text_of texts) (text_of (get_or texts place d)) came.calls one.calls (shared cert)
+    (interrupted key node (g.R.RelayLink.shown c.args.relay.now) middle now place (map text_of texts) (text_of (get_or texts place d)) came.calls one.calls (shared cert)
     (stops_here key texts place d c.loop-place-test.true came.calls (map shared c.loop-place.certs.items) came.opened) came.quiet one.comes one.quiet)
 
 pub loop-place-preserved : goal.loop-place-preserved
 loop-place-preserved g c =
-    let says = g.R.RelayLink.says c.args.relay.now in
     let key = c.args.opened.now in
     let node = c.args.node in
-    let n = g.R.RelayLink.faults c.args.relay.now in
-    let middle = g.R.RelayLink.faults c.loop-place.relay in
-    let now = g.R.RelayLink.faults c.present_with.new.link in
+    let n = (g.R.RelayLink.shown c.args.relay.now) in
+    let middle = (g.R.RelayLink.shown c.loop-place.relay) in
+    let now = (g.R.RelayLink.shown c.present_with.new.link) in
     let texts = c.args.texts.now in
     let place = c.loop-place.place in
     let d = c.index-texts-place.result in
     let cert = c.in-Ok.cert in
     let text = ap text_of (sym c.index-texts-place.is) ∙ sym c.deref.ensures.value in
-    let one = subst (λ (k : List ℕ). OneComes k (link_use says node middle now) (text_of (get_or texts place d)) (shared cert)) c.loop-place.invariant.2
-    (subst (λ (s : Option (ℕ → List ℕ → Said)). OneComes c.loop-place.opened (link_use s node middle now) (text_of (get_or texts place d)) (shared cert)) c.loop-place.invariant.1
-    (subst (λ (t : List ℕ). OneComes c.loop-place.opened (link_use (g.R.RelayLink.says c.loop-place.relay) node middle now) t (shared cert)) (sym text) c.in-Ok.ensures.came)) in (
-      subst (λ (l : List (Arc Cert Global)). AllCome key (link_use says node n now) (map text_of (take (place + 1) texts)) (map shared l)) (sym c.in_ok-push-in-Ok.ensures.items)
-          (one_more_comes key texts place d c.loop-place-test.true says node n middle now c.loop-place.certs.items cert c.loop-place.invariant.0 one),
+    let one = subst (λ (k : List ℕ). OneComes k (link_use node middle now) (text_of (get_or texts place d)) (shared cert)) c.loop-place.invariant.2
+    (subst (λ (t : List ℕ). OneComes c.loop-place.opened (link_use node middle now) t (shared cert)) (sym text) c.in-Ok.ensures.came) in (
+      subst (λ (l : List (Arc Cert Global)). AllCome key (link_use node n now) (map text_of (take (place + 1) texts)) (map shared l)) (sym c.in_ok-push-in-Ok.ensures.items)
+          (one_more_comes key texts place d c.loop-place-test.true node n middle now c.loop-place.certs.items cert c.loop-place.invariant.0 one),
       c.present_with.ensures.same ∙ c.loop-place.invariant.1,
       c.present_with.ensures.key ∙ c.loop-place.invariant.2,
     )

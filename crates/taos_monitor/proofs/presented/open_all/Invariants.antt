@@ -6,5 +6,5 @@ use Rattle.taos_monitor.proofs.presented.open_all.Given as goal
 
 abbrev pub invariant-loop-place : goal.invariant-loop-place
 invariant-loop-place g l =
-    AllCome l.initial.opened (link_use (g.R.RelayLink.says l.initial.relay) l.node (g.R.RelayLink.faults l.initial.relay) (g.R.RelayLink.faults l.relay)) (map text_of (take l.place l.texts)) (map shared l.certs.items)
-    × (g.R.RelayLink.says l.relay ≡ g.R.RelayLink.says l.initial.relay) × (l.opened ≡ l.initial.opened)
+    AllCome l.initial.opened (link_use l.node (g.R.RelayLink.shown l.initial.relay) (g.R.RelayLink.shown l.relay)) (map text_of (take l.place l.texts)) (map shared l.certs.items)
+    × (g.R.RelayLink.borrows l.relay ≡ g.R.RelayLink.borrows l.initial.relay) × (l.opened ≡ l.initial.opened)

@@ -24,18 +24,18 @@ returns-in_default-clause-audits g c = λ o file0 file1 opened.
       connection = did.0.connection;
       text = text;
       is_text = subst (λ (s : Seen). IsAuditOf o s.journals text) (sym did.1) (is_audit o c.args.opened.0 node opened c.serve_first-outcome.ensures.same);
-      writes = (refl, λ end. c.in_default.not-End end.0 end.1, Keeps-refl (g.O.Sink.written c.args.output.now));
+      writes = (refl, λ end. c.in_default.not-End end.0 end.1, Keeps-refl (g.O.Sink.shown c.args.output.now).told);
     }
 
 pub returns-in_default-clause-causes : goal.returns-in_default-clause-causes
 returns-in_default-clause-causes g c =
-    stopped_causes (g.I.Source.faults c.args.input.now) (first_clock g.C.Clock.readings g.C.Clock.faults c.args.lanes.now).faults (g.I.Source.faults c.serve_first-outcome.new.input)
-    (first_clock g.C.Clock.readings g.C.Clock.faults c.serve_first-outcome.new.lanes).faults (g.O.Sink.faults c.args.output.now) c.serve_first-outcome.result c.serve_first-outcome.ensures.causes
+    stopped_causes (g.I.Source.shown c.args.input.now).faults (first_clock g.C.Clock.shown c.args.lanes.now).faults (g.I.Source.shown c.serve_first-outcome.new.input).faults
+    (first_clock g.C.Clock.shown c.serve_first-outcome.new.lanes).faults (g.O.Sink.shown c.args.output.now).faults c.serve_first-outcome.result c.serve_first-outcome.ensures.causes
 
 pub returns-in_default-clause-complete : goal.returns-in_default-clause-complete
 returns-in_default-clause-complete g c =
-    stopped_complete c.args.frames (g.I.Source.faults c.args.input.now) (first_clock g.C.Clock.readings g.C.Clock.faults c.args.lanes.now).faults (g.I.Source.faults c.serve_first-outcome.new.input)
-    (first_clock g.C.Clock.readings g.C.Clock.faults c.serve_first-outcome.new.lanes).faults (g.O.Sink.faults c.args.output.now) (g.I.Source.left c.args.input.now) c.serve_first-outcome.result (λ end. c.in_default.not-End end.0 end.1) c.serve_first-outcome.ensures.complete
+    stopped_complete c.args.frames (g.I.Source.shown c.args.input.now).faults (first_clock g.C.Clock.shown c.args.lanes.now).faults (g.I.Source.shown c.serve_first-outcome.new.input).faults
+    (first_clock g.C.Clock.shown c.serve_first-outcome.new.lanes).faults (g.O.Sink.shown c.args.output.now).faults (g.I.Source.shown c.args.input.now).told c.serve_first-outcome.result (λ end. c.in_default.not-End end.0 end.1) c.serve_first-outcome.ensures.complete
 
 pub write_text-requires-clause-few : goal.write_text-requires-clause-few
 write_text-requires-clause-few g c =
@@ -56,25 +56,25 @@ returns-clause-audits g c = λ o file0 file1 opened.
       connection = did.0.connection;
       text = text;
       is_text = subst (λ (s : Seen). IsAuditOf o s.journals text) (sym did.1) (is_audit o c.args.opened.0 node opened c.serve_first-outcome.ensures.same);
-      writes = ended_writes text (g.O.Sink.written c.args.output.now) (g.O.Sink.written c.write_text.new.output) c.serve_first-outcome.result (_, c.in-End.is) c.write_text.result c.write_text.ensures.writes;
+      writes = ended_writes text (g.O.Sink.shown c.args.output.now).told (g.O.Sink.shown c.write_text.new.output).told c.serve_first-outcome.result (_, c.in-End.is) c.write_text.result c.write_text.ensures.writes;
     }
 
 pub returns-clause-causes : goal.returns-clause-causes
 returns-clause-causes g c =
-    let i = g.I.Source.faults c.args.input.now in
-    let i1 = g.I.Source.faults c.serve_first-outcome.new.input in
-    let k = (first_clock g.C.Clock.readings g.C.Clock.faults c.args.lanes.now).faults in
-    let k1 = (first_clock g.C.Clock.readings g.C.Clock.faults c.serve_first-outcome.new.lanes).faults in
+    let i = (g.I.Source.shown c.args.input.now).faults in
+    let i1 = (g.I.Source.shown c.serve_first-outcome.new.input).faults in
+    let k = (first_clock g.C.Clock.shown c.args.lanes.now).faults in
+    let k1 = (first_clock g.C.Clock.shown c.serve_first-outcome.new.lanes).faults in
     let node = c.serve_first-outcome.new.opened.0 in
-    ended_causes i k i1 k1 (g.O.Sink.faults c.args.output.now) (g.O.Sink.faults c.write_text.new.output) (ended_same i k i1 k1 _ c.serve_first-outcome.result c.in-End.is c.serve_first-outcome.ensures.causes)
-    (all_text node.shards.shards node.shelf.objects) (g.O.Sink.written c.args.output.now) (g.O.Sink.written c.write_text.new.output) c.write_text.result c.write_text.ensures.writes c.write_text.ensures.cause
+    ended_causes i k i1 k1 (g.O.Sink.shown c.args.output.now).faults (g.O.Sink.shown c.write_text.new.output).faults (ended_same i k i1 k1 _ c.serve_first-outcome.result c.in-End.is c.serve_first-outcome.ensures.causes)
+    (all_text node.shards.shards node.shelf.objects) (g.O.Sink.shown c.args.output.now).told (g.O.Sink.shown c.write_text.new.output).told c.write_text.result c.write_text.ensures.writes c.write_text.ensures.cause
 
 pub returns-clause-complete : goal.returns-clause-complete
 returns-clause-complete g c =
-    let i = g.I.Source.faults c.args.input.now in
-    let i1 = g.I.Source.faults c.serve_first-outcome.new.input in
-    let k = (first_clock g.C.Clock.readings g.C.Clock.faults c.args.lanes.now).faults in
-    let k1 = (first_clock g.C.Clock.readings g.C.Clock.faults c.serve_first-outcome.new.lanes).faults in
+    let i = (g.I.Source.shown c.args.input.now).faults in
+    let i1 = (g.I.Source.shown c.serve_first-outcome.new.input).faults in
+    let k = (first_clock g.C.Clock.shown c.args.lanes.now).faults in
+    let k1 = (first_clock g.C.Clock.shown c.serve_first-outcome.new.lanes).faults in
     let node = c.serve_first-outcome.new.opened.0 in
-    ended_complete i k i1 k1 (g.O.Sink.faults c.args.output.now) (g.O.Sink.faults c.write_text.new.output) (ended_same i k i1 k1 _ c.serve_first-outcome.result c.in-End.is c.serve_first-outcome.ensures.causes)
-    (all_text node.shards.shards node.shelf.objects) (g.O.Sink.written c.args.output.now) (g.O.Sink.written c.write_text.new.output) c.args.frames (g.I.Source.left c.args.input.now) c.write_text.result c.write_text.ensures.writes c.write_text.ensures.cause
+    ended_complete i k i1 k1 (g.O.Sink.shown c.args.output.now).faults (g.O.Sink.shown c.write_text.new.output).faults (ended_same i k i1 k1 _ c.serve_first-outcome.result c.in-End.is c.serve_first-outcome.ensures.causes)
+    (all_text node.shards.shards node.shelf.objects) (g.O.Sink.shown c.args.output.now).told (g.O.Sink.shown c.write_text.new.output).told c.args.frames (g.I.Source.shown c.args.input.now).told c.write_text.result c.write_text.ensures.writes c.write_text.ensures.cause

@@ -3,7 +3,7 @@ use Rattle.std.proofs.KnownBytes.{Keeps-refl}
 use Rattle.taos_node.proofs.audit.write_text.Goals as goal
 
 pub returns-in_default-clause-writes : goal.returns-in_default-clause-writes
-returns-in_default-clause-writes g c = Keeps-refl (g.O.Sink.written c.args.output.now)
+returns-in_default-clause-writes g c = Keeps-refl (g.O.Sink.shown c.args.output.now).told
 
 pub returns-clause-writes : goal.returns-clause-writes
 returns-clause-writes g c =

@@ -1,8 +1,7 @@
 -- What the words and the file mean, and what came of the connection.
 use Rattle.std.proofs.Common.{inl, inr, map, refl, subst}
 use Rattle.std.proofs.KnownBytes.{Keeps-refl}
-use Rattle.frame_link.specs.Streams.{stream}
-use Rattle.taos_lanes.specs.Stocked.{door_by, shown_by}
+use Rattle.taos_lanes.specs.Stocked.{shown_by}
 use Rattle.taos_lanes.specs.Telling.{told_by}
 use Rattle.taos_node.specs.declared.ending.Ending.TheVariants.{Usage, File, Served}
 use Rattle.node_words.specs.Words.{Audit, Check, Drill, Mean, Mint, Relay, Run, drill_words, mint_words, task_of}
@@ -13,81 +12,81 @@ use Rattle.taos_node.proofs.command.run.Goals as goal
 
 pub returns-in_default-clause-runs : goal.returns-in_default-clause-runs
 returns-in_default-clause-runs g c =
-    let file = stream (g.F.Source.left c.args.file.now) (g.F.Source.faults c.args.file.now) in
-    let input = stream (g.I.Source.left c.args.input.now) (g.I.Source.faults c.args.input.now) in
-    let output = stream (g.O.Sink.written c.args.output.now) (g.O.Sink.faults c.args.output.now) in
-    let clock = first_clock g.C.Clock.readings g.C.Clock.faults c.args.lanes.now in
-    let before = touched file input output clock (first_link g.R.RelayLink.says g.R.RelayLink.faults c.args.lanes.now) in
-    let rest : LeavesRest before before = record { input = Keeps-refl input.told; output = Keeps-refl output.told; lane = record { clock = Keeps-refl clock.told; link = refl } } in
-    let f = shown_by g.C.Clock.readings g.R.RelayLink.faults g.R.RelayLink.says (door_by g.D.Door.left g.D.Door.back g.D.Door.given g.D.Door.faults) in
-    unread_does (told_by g.D.In.Source.left g.D.Out.Sink.written) c.args.words.now before before (map f c.args.lanes.now) (Keeps-refl file.told, rest) (unread c.args.words.now before)
+    let file = g.F.Source.shown c.args.file.now in
+    let input = g.I.Source.shown c.args.input.now in
+    let output = g.O.Sink.shown c.args.output.now in
+    let clock = first_clock g.C.Clock.shown c.args.lanes.now in
+    let before = touched file input output clock (first_link g.R.RelayLink.shown c.args.lanes.now) in
+    let rest : LeavesRest before before = record { input = Keeps-refl input.told; output = Keeps-refl output.told; lane = record { clock = refl; link = refl } } in
+    let f = shown_by g.C.Clock.shown g.R.RelayLink.shown g.D.Door.shown in
+    unread_does (told_by g.D.In.Source.shown g.D.Out.Sink.shown) c.args.words.now before before (map f c.args.lanes.now) (Keeps-refl file.told, rest) (unread c.args.words.now before)
 
 pub returns-in_default-found-clause-runs : goal.returns-in_default-found-clause-runs
 returns-in_default-found-clause-runs g c =
-    let file = stream (g.F.Source.left c.args.file.now) (g.F.Source.faults c.args.file.now) in
-    let input = stream (g.I.Source.left c.args.input.now) (g.I.Source.faults c.args.input.now) in
-    let output = stream (g.O.Sink.written c.args.output.now) (g.O.Sink.faults c.args.output.now) in
-    let clock = first_clock g.C.Clock.readings g.C.Clock.faults c.args.lanes.now in
-    let before = touched file input output clock (first_link g.R.RelayLink.says g.R.RelayLink.faults c.args.lanes.now) in
-    let rest : LeavesRest before before = record { input = Keeps-refl input.told; output = Keeps-refl output.told; lane = record { clock = Keeps-refl clock.told; link = refl } } in
+    let file = g.F.Source.shown c.args.file.now in
+    let input = g.I.Source.shown c.args.input.now in
+    let output = g.O.Sink.shown c.args.output.now in
+    let clock = first_clock g.C.Clock.shown c.args.lanes.now in
+    let before = touched file input output clock (first_link g.R.RelayLink.shown c.args.lanes.now) in
+    let rest : LeavesRest before before = record { input = Keeps-refl input.told; output = Keeps-refl output.told; lane = record { clock = refl; link = refl } } in
     let none = none_meant c.args.words.now c.in-Ok.found c.in-Ok.ensures c.in_default-found.is in
-    let f = shown_by g.C.Clock.readings g.R.RelayLink.faults g.R.RelayLink.says (door_by g.D.Door.left g.D.Door.back g.D.Door.given g.D.Door.faults) in
-    alone (told_by g.D.In.Source.left g.D.Out.Sink.written) c.args.words.now before before (map f c.args.lanes.now) (map f c.args.lanes.now) Usage (none, Keeps-refl file.told, rest) (unused c.args.words.now before none) refl (none_serves c.args.words.now none)
+    let f = shown_by g.C.Clock.shown g.R.RelayLink.shown g.D.Door.shown in
+    alone (told_by g.D.In.Source.shown g.D.Out.Sink.shown) c.args.words.now before before (map f c.args.lanes.now) (map f c.args.lanes.now) Usage (none, Keeps-refl file.told, rest) (unused c.args.words.now before none) refl (none_serves c.args.words.now none)
 
 pub returns-in-Check-clause-runs : goal.returns-in-Check-clause-runs
 returns-in-Check-clause-runs g c =
     let is = subst (λ w. Mean c.args.words.now (task_of w)) c.in-Check.is (meant c.args.words.now c.in-Ok.found c.in-Some.wanted c.in-Ok.ensures c.in-Some.is) in
-    let did = c.check_file.ensures.checks c.args.words.now (first_clock g.C.Clock.readings g.C.Clock.faults c.args.lanes.now) (first_link g.R.RelayLink.says g.R.RelayLink.faults c.args.lanes.now) is in
-    let f = shown_by g.C.Clock.readings g.R.RelayLink.faults g.R.RelayLink.says (door_by g.D.Door.left g.D.Door.back g.D.Door.given g.D.Door.faults) in
-    alone (told_by g.D.In.Source.left g.D.Out.Sink.written) c.args.words.now _ _ (map f c.args.lanes.now) (map f c.args.lanes.now) c.check_file.result did.0 did.1 refl (other_words c.args.words.now Check is (λ no. no))
+    let did = c.check_file.ensures.checks c.args.words.now (first_clock g.C.Clock.shown c.args.lanes.now) (first_link g.R.RelayLink.shown c.args.lanes.now) is in
+    let f = shown_by g.C.Clock.shown g.R.RelayLink.shown g.D.Door.shown in
+    alone (told_by g.D.In.Source.shown g.D.Out.Sink.shown) c.args.words.now _ _ (map f c.args.lanes.now) (map f c.args.lanes.now) c.check_file.result did.0 did.1 refl (other_words c.args.words.now Check is (λ no. no))
 
 pub returns-in-Mint-clause-runs : goal.returns-in-Mint-clause-runs
 returns-in-Mint-clause-runs g c =
     let is = subst (λ w. Mean c.args.words.now (task_of w)) c.in-Mint.is (meant c.args.words.now c.in-Ok.found c.in-Some.wanted c.in-Ok.ensures c.in-Some.is) in
-    let input = stream (g.I.Source.left c.args.input.now) (g.I.Source.faults c.args.input.now) in
-    let did = c.mint_by_file.ensures.mints c.args.words.now input (first_clock g.C.Clock.readings g.C.Clock.faults c.args.lanes.now) (first_link g.R.RelayLink.says g.R.RelayLink.faults c.args.lanes.now) is in
-    let f = shown_by g.C.Clock.readings g.R.RelayLink.faults g.R.RelayLink.says (door_by g.D.Door.left g.D.Door.back g.D.Door.given g.D.Door.faults) in
-    alone (told_by g.D.In.Source.left g.D.Out.Sink.written) c.args.words.now _ _ (map f c.args.lanes.now) (map f c.args.lanes.now) c.mint_by_file.result did.0 did.1 refl (other_words c.args.words.now (Mint (mint_words c.in-Mint.asked)) is (λ no. no))
+    let input = g.I.Source.shown c.args.input.now in
+    let did = c.mint_by_file.ensures.mints c.args.words.now input (first_clock g.C.Clock.shown c.args.lanes.now) (first_link g.R.RelayLink.shown c.args.lanes.now) is in
+    let f = shown_by g.C.Clock.shown g.R.RelayLink.shown g.D.Door.shown in
+    alone (told_by g.D.In.Source.shown g.D.Out.Sink.shown) c.args.words.now _ _ (map f c.args.lanes.now) (map f c.args.lanes.now) c.mint_by_file.result did.0 did.1 refl (other_words c.args.words.now (Mint (mint_words c.in-Mint.asked)) is (λ no. no))
 
 pub returns-in-Relay-clause-runs : goal.returns-in-Relay-clause-runs
 returns-in-Relay-clause-runs g c =
     let is = subst (λ w. Mean c.args.words.now (task_of w)) c.in-Relay.is (meant c.args.words.now c.in-Ok.found c.in-Some.wanted c.in-Ok.ensures c.in-Some.is) in
-    let did = c.relay_by_file.ensures.relays c.args.words.now (first_clock g.C.Clock.readings g.C.Clock.faults c.args.lanes.now) (first_link g.R.RelayLink.says g.R.RelayLink.faults c.args.lanes.now) is in
-    let f = shown_by g.C.Clock.readings g.R.RelayLink.faults g.R.RelayLink.says (door_by g.D.Door.left g.D.Door.back g.D.Door.given g.D.Door.faults) in
-    alone (told_by g.D.In.Source.left g.D.Out.Sink.written) c.args.words.now _ _ (map f c.args.lanes.now) (map f c.args.lanes.now) c.relay_by_file.result did.0 did.1 refl (other_words c.args.words.now (Relay c.in-Relay.frames) is (λ no. no))
+    let did = c.relay_by_file.ensures.relays c.args.words.now (first_clock g.C.Clock.shown c.args.lanes.now) (first_link g.R.RelayLink.shown c.args.lanes.now) is in
+    let f = shown_by g.C.Clock.shown g.R.RelayLink.shown g.D.Door.shown in
+    alone (told_by g.D.In.Source.shown g.D.Out.Sink.shown) c.args.words.now _ _ (map f c.args.lanes.now) (map f c.args.lanes.now) c.relay_by_file.result did.0 did.1 refl (other_words c.args.words.now (Relay c.in-Relay.frames) is (λ no. no))
 
 pub returns-in-Ok-node_file_of-clause-runs : goal.returns-in-Ok-node_file_of-clause-runs
 returns-in-Ok-node_file_of-clause-runs g c =
-    let before = touched (stream (g.F.Source.left c.args.file.now) (g.F.Source.faults c.args.file.now)) (stream (g.I.Source.left c.args.input.now) (g.I.Source.faults c.args.input.now))
-    (stream (g.O.Sink.written c.args.output.now) (g.O.Sink.faults c.args.output.now)) (first_clock g.C.Clock.readings g.C.Clock.faults c.args.lanes.now) (first_link g.R.RelayLink.says g.R.RelayLink.faults c.args.lanes.now) in
-    let after = touched (stream (g.F.Source.left c.node_file_of.new.file) (g.F.Source.faults c.node_file_of.new.file)) (stream (g.I.Source.left c.serve_first.new.input) (g.I.Source.faults c.serve_first.new.input))
-    (stream (g.O.Sink.written c.serve_first.new.output) (g.O.Sink.faults c.serve_first.new.output)) (first_clock g.C.Clock.readings g.C.Clock.faults c.serve_first.new.lanes) (first_link g.R.RelayLink.says g.R.RelayLink.faults c.serve_first.new.lanes) in
+    let before = touched (g.F.Source.shown c.args.file.now) (g.I.Source.shown c.args.input.now)
+    (g.O.Sink.shown c.args.output.now) (first_clock g.C.Clock.shown c.args.lanes.now) (first_link g.R.RelayLink.shown c.args.lanes.now) in
+    let after = touched (g.F.Source.shown c.node_file_of.new.file) (g.I.Source.shown c.serve_first.new.input)
+    (g.O.Sink.shown c.serve_first.new.output) (first_clock g.C.Clock.shown c.serve_first.new.lanes) (first_link g.R.RelayLink.shown c.serve_first.new.lanes) in
     let gives = c.in-Ok-node_file_of.ensures.gives in
     let run = subst (λ w. Mean c.args.words.now (task_of w)) c.in-Run.is (meant c.args.words.now c.in-Ok.found c.in-Some.wanted c.in-Ok.ensures c.in-Some.is) in
-    let f = shown_by g.C.Clock.readings g.R.RelayLink.faults g.R.RelayLink.says (door_by g.D.Door.left g.D.Door.back g.D.Door.given g.D.Door.faults) in
-    alone (told_by g.D.In.Source.left g.D.Out.Sink.written) c.args.words.now before after (map f c.args.lanes.now) (map f c.serve_first.new.lanes) (Served c.serve_first.result)
+    let f = shown_by g.C.Clock.shown g.R.RelayLink.shown g.D.Door.shown in
+    alone (told_by g.D.In.Source.shown g.D.Out.Sink.shown) c.args.words.now before after (map f c.args.lanes.now) (map f c.serve_first.new.lanes) (Served c.serve_first.result)
     (c.in-Run.frames, run, (gives.0, gives.1, (c.serve_first.ensures.connection gives.0 before.file after.file gives.2).0))
     (served c.args.words.now c.in-Run.frames before after c.serve_first.result c.in-Ok-node_file_of.ensures.cause gives.0 run gives.1 c.serve_first.ensures.complete c.serve_first.ensures.causes)
     (shown_others f c.serve_first.new.lanes c.args.lanes.now c.serve_first.ensures.others) (other_words c.args.words.now (Run c.in-Run.frames) run (λ no. no))
 
 pub returns-in-Err-clause-runs : goal.returns-in-Err-clause-runs
 returns-in-Err-clause-runs g c =
-    let input = stream (g.I.Source.left c.args.input.now) (g.I.Source.faults c.args.input.now) in
-    let output = stream (g.O.Sink.written c.args.output.now) (g.O.Sink.faults c.args.output.now) in
-    let clock = first_clock g.C.Clock.readings g.C.Clock.faults c.args.lanes.now in
-    let relay = first_link g.R.RelayLink.says g.R.RelayLink.faults c.args.lanes.now in
-    let before = touched (stream (g.F.Source.left c.args.file.now) (g.F.Source.faults c.args.file.now)) input output clock relay in
-    let after = touched (stream (g.F.Source.left c.node_file_of.new.file) (g.F.Source.faults c.node_file_of.new.file)) input output clock relay in
-    let rest : LeavesRest before after = record { input = Keeps-refl input.told; output = Keeps-refl output.told; lane = record { clock = Keeps-refl clock.told; link = refl } } in
+    let input = g.I.Source.shown c.args.input.now in
+    let output = g.O.Sink.shown c.args.output.now in
+    let clock = first_clock g.C.Clock.shown c.args.lanes.now in
+    let relay = first_link g.R.RelayLink.shown c.args.lanes.now in
+    let before = touched (g.F.Source.shown c.args.file.now) input output clock relay in
+    let after = touched (g.F.Source.shown c.node_file_of.new.file) input output clock relay in
+    let rest : LeavesRest before after = record { input = Keeps-refl input.told; output = Keeps-refl output.told; lane = record { clock = refl; link = refl } } in
     let run = subst (λ w. Mean c.args.words.now (task_of w)) c.in-Run.is (meant c.args.words.now c.in-Ok.found c.in-Some.wanted c.in-Ok.ensures c.in-Some.is) in
-    let f = shown_by g.C.Clock.readings g.R.RelayLink.faults g.R.RelayLink.says (door_by g.D.Door.left g.D.Door.back g.D.Door.given g.D.Door.faults) in
-    alone (told_by g.D.In.Source.left g.D.Out.Sink.written) c.args.words.now before after (map f c.args.lanes.now) (map f c.args.lanes.now) (File c.in-Err.fault) ((Run c.in-Run.frames, run, c.in-Err.ensures.gives), rest)
+    let f = shown_by g.C.Clock.shown g.R.RelayLink.shown g.D.Door.shown in
+    alone (told_by g.D.In.Source.shown g.D.Out.Sink.shown) c.args.words.now before after (map f c.args.lanes.now) (map f c.args.lanes.now) (File c.in-Err.fault) ((Run c.in-Run.frames, run, c.in-Err.ensures.gives), rest)
     (unserved c.args.words.now before after (Run c.in-Run.frames) c.in-Err.fault run c.in-Err.ensures.cause c.in-Err.ensures.gives refl refl refl) refl (other_words c.args.words.now (Run c.in-Run.frames) run (λ no. no))
 
 pub returns-in-Serve-clause-runs : goal.returns-in-Serve-clause-runs
 returns-in-Serve-clause-runs g c =
     let is = subst (λ w. Mean c.args.words.now (task_of w)) c.in-Serve.is (meant c.args.words.now c.in-Ok.found c.in-Some.wanted c.in-Ok.ensures c.in-Some.is) in
-    c.serve_by_file.ensures.serves c.args.words.now (stream (g.I.Source.left c.args.input.now) (g.I.Source.faults c.args.input.now)) is
+    c.serve_by_file.ensures.serves c.args.words.now (g.I.Source.shown c.args.input.now) is
 
 pub returns-in-Serve-clause-others : goal.returns-in-Serve-clause-others
 returns-in-Serve-clause-others g c = λ none.
@@ -97,7 +96,7 @@ returns-in-Serve-clause-others g c = λ none.
 pub returns-in-RelayServe-clause-runs : goal.returns-in-RelayServe-clause-runs
 returns-in-RelayServe-clause-runs g c =
     let is = subst (λ w. Mean c.args.words.now (task_of w)) c.in-RelayServe.is (meant c.args.words.now c.in-Ok.found c.in-Some.wanted c.in-Ok.ensures c.in-Some.is) in
-    c.serve_relay_by_file.ensures.serves c.args.words.now (stream (g.I.Source.left c.args.input.now) (g.I.Source.faults c.args.input.now)) is
+    c.serve_relay_by_file.ensures.serves c.args.words.now (g.I.Source.shown c.args.input.now) is
 
 pub returns-in-RelayServe-clause-others : goal.returns-in-RelayServe-clause-others
 returns-in-RelayServe-clause-others g c = λ none.
@@ -107,16 +106,26 @@ returns-in-RelayServe-clause-others g c = λ none.
 pub returns-in-Drill-clause-runs : goal.returns-in-Drill-clause-runs
 returns-in-Drill-clause-runs g c =
     let is = subst (λ w. Mean c.args.words.now (task_of w)) c.in-Drill.is (meant c.args.words.now c.in-Ok.found c.in-Some.wanted c.in-Ok.ensures c.in-Some.is) in
-    let file = stream (g.F.Source.left c.args.file.now) (g.F.Source.faults c.args.file.now) in
-    let input = stream (g.I.Source.left c.args.input.now) (g.I.Source.faults c.args.input.now) in
-    let did = c.drill_asked.ensures.drills c.args.words.now file input (first_clock g.C.Clock.readings g.C.Clock.faults c.args.lanes.now) (first_link g.R.RelayLink.says g.R.RelayLink.faults c.args.lanes.now) is in
-    let f = shown_by g.C.Clock.readings g.R.RelayLink.faults g.R.RelayLink.says (door_by g.D.Door.left g.D.Door.back g.D.Door.given g.D.Door.faults) in
-    alone (told_by g.D.In.Source.left g.D.Out.Sink.written) c.args.words.now _ _ (map f c.args.lanes.now) (map f c.args.lanes.now) c.drill_asked.result did.0 did.1 refl (other_words c.args.words.now (Drill (drill_words c.in-Drill.asked)) is (λ no. no))
+    let file = g.F.Source.shown c.args.file.now in
+    let input = g.I.Source.shown c.args.input.now in
+    let did = c.drill_asked.ensures.drills c.args.words.now file input (first_clock g.C.Clock.shown c.args.lanes.now) (first_link g.R.RelayLink.shown c.args.lanes.now) is in
+    let f = shown_by g.C.Clock.shown g.R.RelayLink.shown g.D.Door.shown in
+    alone (told_by g.D.In.Source.shown g.D.Out.Sink.shown) c.args.words.now _ _ (map f c.args.lanes.now) (map f c.args.lanes.now) c.drill_asked.result did.0 did.1 refl (other_words c.args.words.now (Drill (drill_words c.in-Drill.asked)) is (λ no. no))
 
 pub returns-in-Audit-clause-runs : goal.returns-in-Audit-clause-runs
 returns-in-Audit-clause-runs g c =
     let is = subst (λ w. Mean c.args.words.now (task_of w)) c.in-Audit.is (meant c.args.words.now c.in-Ok.found c.in-Some.wanted c.in-Ok.ensures c.in-Some.is) in
     let did = c.audit_by_file.ensures.audits c.args.words.now is in
-    let f = shown_by g.C.Clock.readings g.R.RelayLink.faults g.R.RelayLink.says (door_by g.D.Door.left g.D.Door.back g.D.Door.given g.D.Door.faults) in
-    alone (told_by g.D.In.Source.left g.D.Out.Sink.written) c.args.words.now _ _ (map f c.args.lanes.now) (map f c.audit_by_file.new.lanes) c.audit_by_file.result did.0 did.1
+    let f = shown_by g.C.Clock.shown g.R.RelayLink.shown g.D.Door.shown in
+    alone (told_by g.D.In.Source.shown g.D.Out.Sink.shown) c.args.words.now _ _ (map f c.args.lanes.now) (map f c.audit_by_file.new.lanes) c.audit_by_file.result did.0 did.1
     (shown_others f c.audit_by_file.new.lanes c.args.lanes.now c.audit_by_file.ensures.others) (other_words c.args.words.now (Audit c.in-Audit.frames) is (λ no. no))
+
+pub returns-in-Serve-clause-doors : goal.returns-in-Serve-clause-doors
+returns-in-Serve-clause-doors g c = λ none.
+    let is = subst (λ w. Mean c.args.words.now (task_of w)) c.in-Serve.is (meant c.args.words.now c.in-Ok.found c.in-Some.wanted c.in-Ok.ensures c.in-Some.is) in
+    absurd (none (inl (c.in-Serve.limits, is)))
+
+pub returns-in-RelayServe-clause-doors : goal.returns-in-RelayServe-clause-doors
+returns-in-RelayServe-clause-doors g c = λ none.
+    let is = subst (λ w. Mean c.args.words.now (task_of w)) c.in-RelayServe.is (meant c.args.words.now c.in-Ok.found c.in-Some.wanted c.in-Ok.ensures c.in-Some.is) in
+    absurd (none (inr (c.in-RelayServe.limits, is)))

@@ -11,7 +11,7 @@ returns-in-Ok-pour-clause-drills g c =
     let left = left_by c.in-Ok.served in (
       left,
       came (drill_words c.args.asked) (record { few_requests = c.requires.few_requests; some_lanes = c.requires.some_lanes; few_lanes = c.requires.few_lanes }) c.loads_are_counted.ensures left c.in-Ok.ensures c.if-total.false c.if-total-ne0.false c.if-total-ne0-2.false,
-      subst (Appends (g.O.Sink.written c.args.output.now) (g.O.Sink.written c.pour.new.sink)) (c.deref.ensures.0 ∙ c.drill_line.ensures) c.in-Ok-pour.ensures.all,
+      subst (Appends (g.O.Sink.shown c.args.output.now).told (g.O.Sink.shown c.pour.new.sink).told) (c.deref.ensures.0 ∙ c.drill_line.ensures) c.in-Ok-pour.ensures.all,
     )
 
 pub returns-clause-drills : goal.returns-clause-drills

@@ -1,7 +1,6 @@
 -- other words ask for no such load, and nothing but the output is touched
 use Rattle.std.proofs.Common.{refl, arith}
 use Rattle.std.proofs.KnownBytes.{Keeps-refl}
-use Rattle.frame_link.specs.Streams.{stream}
 use Rattle.taos_node.specs.Command.{touched}
 use Rattle.node_words.specs.Words.{drill_words}
 use Rattle.taos_node.proofs.Endings.{drilled}
@@ -20,9 +19,9 @@ pub returns : goal.returns
 returns g c = record {
   drills = λ words file input clock relay is.
       let d = drill_words c.args.asked in
-      let before = touched file input (stream (g.O.Sink.written c.args.output.now) (g.O.Sink.faults c.args.output.now)) clock relay in
-      let after = touched file input (stream (g.O.Sink.written c.drill.new.output) (g.O.Sink.faults c.drill.new.output)) clock relay in (
-        (d, is, record { drills = c.drill.ensures.drills; file = Keeps-refl file.told; input = Keeps-refl input.told; lane = record { clock = Keeps-refl clock.told; link = refl {a = relay.faults} } }),
+      let before = touched file input (g.O.Sink.shown c.args.output.now) clock relay in
+      let after = touched file input (g.O.Sink.shown c.drill.new.output) clock relay in (
+        (d, is, record { drills = c.drill.ensures.drills; file = Keeps-refl file.told; input = Keeps-refl input.told; lane = record { clock = refl {a = clock}; link = refl {a = relay} } }),
         drilled words d before after c.drill.result is refl refl refl c.drill.ensures.cause,
       );
 }

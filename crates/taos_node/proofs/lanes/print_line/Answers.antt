@@ -4,10 +4,10 @@ use Rattle.std.proofs.KnownBytes.{Keeps-refl}
 use Rattle.taos_node.proofs.lanes.print_line.Goals as goal
 
 pub returns-then-first-lanes-clause-prints : goal.returns-then-first-lanes-clause-prints
-returns-then-first-lanes-clause-prints g c = (refl, c.if-first-lanes.true, Keeps-refl (g.O.Sink.written c.args.output.now))
+returns-then-first-lanes-clause-prints g c = (refl, c.if-first-lanes.true, Keeps-refl (g.O.Sink.shown c.args.output.now).told)
 
 pub returns-then-lacked-ne0-clause-prints : goal.returns-then-lacked-ne0-clause-prints
-returns-then-lacked-ne0-clause-prints g c = (c.if-first-lanes.false, omega (arith, c.if-lacked-ne0.true), Keeps-refl (g.O.Sink.written c.args.output.now))
+returns-then-lacked-ne0-clause-prints g c = (c.if-first-lanes.false, omega (arith, c.if-lacked-ne0.true), Keeps-refl (g.O.Sink.shown c.args.output.now).told)
 
 pub returns-in-Err-clause-prints : goal.returns-in-Err-clause-prints
 returns-in-Err-clause-prints g c =

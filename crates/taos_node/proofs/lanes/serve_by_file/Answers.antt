@@ -1,8 +1,7 @@
 -- what the file opens, and what its lanes did
 use Rattle.std.proofs.Common.{inl, map, refl}
 use Rattle.std.proofs.KnownBytes.{Keeps-refl}
-use Rattle.frame_link.specs.Streams.{stream}
-use Rattle.taos_lanes.specs.Stocked.{door_by, shown_by}
+use Rattle.taos_lanes.specs.Stocked.{shown_by}
 use Rattle.taos_lanes.specs.Telling.{told_by}
 use Rattle.taos_node.specs.Command.{touched, first_clock, first_link, LeavesRest}
 use Rattle.node_words.specs.Words.{Serve}
@@ -16,32 +15,32 @@ use Rattle.taos_node.proofs.lanes.serve_by_file.Goals as goal
 pub returns-in-Ok : goal.returns-in-Ok
 returns-in-Ok g c = record {
   serves = λ words input is.
-      let f = shown_by g.C.Clock.readings g.R.RelayLink.faults g.R.RelayLink.says (door_by g.D.Door.left g.D.Door.back g.D.Door.given g.D.Door.faults) in
-      let before = touched (stream (g.F.Source.left c.args.file.now) (g.F.Source.faults c.args.file.now)) input (stream (g.O.Sink.written c.args.output.now) (g.O.Sink.faults c.args.output.now))
-      (first_clock g.C.Clock.readings g.C.Clock.faults c.args.lanes.now) (first_link g.R.RelayLink.says g.R.RelayLink.faults c.args.lanes.now) in
-      let after = touched (stream (g.F.Source.left c.node_parts_of.new.file) (g.F.Source.faults c.node_parts_of.new.file)) input (stream (g.O.Sink.written c.serve_parts.new.output) (g.O.Sink.faults c.serve_parts.new.output))
-      (first_clock g.C.Clock.readings g.C.Clock.faults c.serve_parts.new.lanes) (first_link g.R.RelayLink.says g.R.RelayLink.faults c.serve_parts.new.lanes) in
+      let f = shown_by g.C.Clock.shown g.R.RelayLink.shown g.D.Door.shown in
+      let before = touched (g.F.Source.shown c.args.file.now) input (g.O.Sink.shown c.args.output.now)
+      (first_clock g.C.Clock.shown c.args.lanes.now) (first_link g.R.RelayLink.shown c.args.lanes.now) in
+      let after = touched (g.F.Source.shown c.node_parts_of.new.file) input (g.O.Sink.shown c.serve_parts.new.output)
+      (first_clock g.C.Clock.shown c.serve_parts.new.lanes) (first_link g.R.RelayLink.shown c.serve_parts.new.lanes) in
       let gives = c.in-Ok.ensures.gives in
       let did = c.serve_parts.ensures.serves gives.0 gives.2 in
       record {
         runs = (Keeps-refl input.told, (c.args.limits, is, (gives.0, gives.1, did)));
         status = lanes_tell before after words (Serve c.args.limits) c.serve_parts.result is tt (decided_opened IsNodeFile node_means node_files before.file after.file gives.0 (lanes_status c.serve_parts.result) gives.1 (not_two_lanes c.serve_parts.result))
             (inl (c.args.limits, is)) c.in-Ok.ensures.cause refl c.serve_parts.ensures.cause;
-        tells = doors_tell (told_by g.D.In.Source.left g.D.Out.Sink.written) c.args.limits (map f c.args.lanes.now) (map f c.serve_parts.new.lanes) gives.0 words before after c.serve_parts.result is did c.serve_parts.ensures.cause;
+        tells = doors_tell (told_by g.D.In.Source.shown g.D.Out.Sink.shown) c.args.limits (map f c.args.lanes.now) (map f c.serve_parts.new.lanes) gives.0 words before after c.serve_parts.result is did c.serve_parts.ensures.cause;
       };
 }
 
 pub returns-in-Err : goal.returns-in-Err
 returns-in-Err g c = record {
   serves = λ words input is.
-      let f = shown_by g.C.Clock.readings g.R.RelayLink.faults g.R.RelayLink.says (door_by g.D.Door.left g.D.Door.back g.D.Door.given g.D.Door.faults) in
-      let output = stream (g.O.Sink.written c.args.output.now) (g.O.Sink.faults c.args.output.now) in
-      let clock = first_clock g.C.Clock.readings g.C.Clock.faults c.args.lanes.now in
-      let relay = first_link g.R.RelayLink.says g.R.RelayLink.faults c.args.lanes.now in
-      let before = touched (stream (g.F.Source.left c.args.file.now) (g.F.Source.faults c.args.file.now)) input output clock relay in
-      let after = touched (stream (g.F.Source.left c.node_parts_of.new.file) (g.F.Source.faults c.node_parts_of.new.file)) input output clock relay in
-      let rest : LeavesRest before after = record { input = Keeps-refl input.told; output = Keeps-refl output.told; lane = record { clock = Keeps-refl clock.told; link = refl } } in
+      let f = shown_by g.C.Clock.shown g.R.RelayLink.shown g.D.Door.shown in
+      let output = g.O.Sink.shown c.args.output.now in
+      let clock = first_clock g.C.Clock.shown c.args.lanes.now in
+      let relay = first_link g.R.RelayLink.shown c.args.lanes.now in
+      let before = touched (g.F.Source.shown c.args.file.now) input output clock relay in
+      let after = touched (g.F.Source.shown c.node_parts_of.new.file) input output clock relay in
+      let rest : LeavesRest before after = record { input = Keeps-refl input.told; output = Keeps-refl output.told; lane = record { clock = refl; link = refl } } in
       let wanted = Serve c.args.limits in
-      file_does (told_by g.D.In.Source.left g.D.Out.Sink.written) words before after (map f c.args.lanes.now) c.args.limits c.in-Err.fault is ((wanted, is, c.in-Err.ensures.gives), rest)
+      file_does (told_by g.D.In.Source.shown g.D.Out.Sink.shown) words before after (map f c.args.lanes.now) c.args.limits c.in-Err.fault is ((wanted, is, c.in-Err.ensures.gives), rest)
       (unserved words before after wanted c.in-Err.fault is c.in-Err.ensures.cause c.in-Err.ensures.gives refl refl refl) c.in-Err.ensures.gives c.in-Err.ensures.cause;
 }

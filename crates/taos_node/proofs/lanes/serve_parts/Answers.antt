@@ -11,4 +11,4 @@ returns-in-Ok-clause-serves g c = λ o is.
     served (left_by c.in-Ok.served) (record { node = node_in c.args.parts; is_node = is; serves = c.in-Ok.ensures.served }) c.print.ensures.prints
 
 pub returns-in-Err-clause-serves : goal.returns-in-Err-clause-serves
-returns-in-Err-clause-serves g c = λ o is. unserved refl c.in-Err.ensures.unserved (Keeps-refl (g.O.Sink.written c.args.output.now))
+returns-in-Err-clause-serves g c = λ o is. unserved refl c.in-Err.ensures.unserved (Keeps-refl (g.O.Sink.shown c.args.output.now).told)

@@ -1,6 +1,5 @@
 use Rattle.std.proofs.Common.{refl}
 use Rattle.std.proofs.KnownBytes.{Keeps-refl}
-use Rattle.frame_link.specs.Streams.{stream}
 use Rattle.taos_node.specs.Command.{touched, UsesNoLane, LeavesRest, labels_of}
 use Rattle.node_words.specs.Words.{Mint, mint_words}
 use Rattle.taos_node.proofs.Minted.{same_mints}
@@ -10,10 +9,10 @@ use Rattle.taos_node.proofs.relay.mint_by_file.Goals as goal
 pub returns-in-Ok : goal.returns-in-Ok
 returns-in-Ok g c = record {
   mints = λ words input clock relay is.
-      let before = touched (stream (g.F.Source.left c.args.file.now) (g.F.Source.faults c.args.file.now)) input (stream (g.O.Sink.written c.args.output.now) (g.O.Sink.faults c.args.output.now)) clock relay in
-      let after = touched (stream (g.F.Source.left c.file_relay.new.file) (g.F.Source.faults c.file_relay.new.file)) input (stream (g.O.Sink.written c.mint.new.output) (g.O.Sink.faults c.mint.new.output)) clock relay in
+      let before = touched (g.F.Source.shown c.args.file.now) input (g.O.Sink.shown c.args.output.now) clock relay in
+      let after = touched (g.F.Source.shown c.file_relay.new.file) input (g.O.Sink.shown c.mint.new.output) clock relay in
       let gives = c.in-Ok.ensures.gives in
-      let lane : UsesNoLane before after = record { clock = Keeps-refl clock.told; link = refl } in
+      let lane : UsesNoLane before after = record { clock = refl; link = refl } in
       let m = mint_words c.args.asked.now in
       let stands = gives.2 in
       let made = same_mints c.in-Ok.relay.table.issuers.entries gives.0.issuers c.in-Ok.relay.names (labels_of gives.0) stands.issuers.each stands.names stands.roles m before.output.told after.output.told c.mint.result c.mint.ensures.mints in (
@@ -25,10 +24,10 @@ returns-in-Ok g c = record {
 pub returns-in-Err : goal.returns-in-Err
 returns-in-Err g c = record {
   mints = λ words input clock relay is.
-      let output = stream (g.O.Sink.written c.args.output.now) (g.O.Sink.faults c.args.output.now) in
-      let before = touched (stream (g.F.Source.left c.args.file.now) (g.F.Source.faults c.args.file.now)) input output clock relay in
-      let after = touched (stream (g.F.Source.left c.file_relay.new.file) (g.F.Source.faults c.file_relay.new.file)) input output clock relay in
-      let rest : LeavesRest before after = record { input = Keeps-refl input.told; output = Keeps-refl output.told; lane = record { clock = Keeps-refl clock.told; link = refl } } in
+      let output = g.O.Sink.shown c.args.output.now in
+      let before = touched (g.F.Source.shown c.args.file.now) input output clock relay in
+      let after = touched (g.F.Source.shown c.file_relay.new.file) input output clock relay in
+      let rest : LeavesRest before after = record { input = Keeps-refl input.told; output = Keeps-refl output.told; lane = record { clock = refl; link = refl } } in
       let wanted = Mint (mint_words c.args.asked.now) in (
         ((wanted, is, c.in-Err.ensures.gives), rest),
         unserved words before after wanted c.in-Err.fault is c.in-Err.ensures.cause c.in-Err.ensures.gives refl refl refl,

@@ -1,6 +1,5 @@
 use Rattle.std.proofs.Common.{refl}
 use Rattle.std.proofs.KnownBytes.{Keeps-refl}
-use Rattle.frame_link.specs.Streams.{stream}
 use Rattle.taos_node.specs.Command.{touched, UsesNoLane, LeavesRest}
 use Rattle.node_words.specs.Words.{Relay}
 use Rattle.taos_node.proofs.Statuses.{relayed, unserved}
@@ -9,12 +8,12 @@ use Rattle.taos_node.proofs.relay.relay_by_file.Goals as goal
 pub returns-in-Ok : goal.returns-in-Ok
 returns-in-Ok g c = record {
   relays = λ words clock relay is.
-      let before = touched (stream (g.F.Source.left c.args.file.now) (g.F.Source.faults c.args.file.now)) (stream (g.I.Source.left c.args.input.now) (g.I.Source.faults c.args.input.now))
-      (stream (g.O.Sink.written c.args.output.now) (g.O.Sink.faults c.args.output.now)) clock relay in
-      let after = touched (stream (g.F.Source.left c.file_relay.new.file) (g.F.Source.faults c.file_relay.new.file)) (stream (g.I.Source.left c.serve_relay.new.input) (g.I.Source.faults c.serve_relay.new.input))
-      (stream (g.O.Sink.written c.serve_relay.new.output) (g.O.Sink.faults c.serve_relay.new.output)) clock relay in
+      let before = touched (g.F.Source.shown c.args.file.now) (g.I.Source.shown c.args.input.now)
+      (g.O.Sink.shown c.args.output.now) clock relay in
+      let after = touched (g.F.Source.shown c.file_relay.new.file) (g.I.Source.shown c.serve_relay.new.input)
+      (g.O.Sink.shown c.serve_relay.new.output) clock relay in
       let gives = c.in-Ok.ensures.gives in
-      let lane : UsesNoLane before after = record { clock = Keeps-refl clock.told; link = refl } in
+      let lane : UsesNoLane before after = record { clock = refl; link = refl } in
       let outcome = c.serve_relay.result in (
         (c.args.frames, is, (gives.0, gives.1, record { table = c.in-Ok.relay.table; is_relay = record { issuers = gives.2.issuers; nodes = gives.2.nodes }; served = c.serve_relay.ensures.served; lane = lane })),
         relayed words c.args.frames before after outcome c.in-Ok.ensures.cause gives.0 is gives.1 c.serve_relay.ensures.complete c.serve_relay.ensures.causes c.serve_relay.ensures.clock refl,
@@ -24,11 +23,11 @@ returns-in-Ok g c = record {
 pub returns-in-Err : goal.returns-in-Err
 returns-in-Err g c = record {
   relays = λ words clock relay is.
-      let input = stream (g.I.Source.left c.args.input.now) (g.I.Source.faults c.args.input.now) in
-      let output = stream (g.O.Sink.written c.args.output.now) (g.O.Sink.faults c.args.output.now) in
-      let before = touched (stream (g.F.Source.left c.args.file.now) (g.F.Source.faults c.args.file.now)) input output clock relay in
-      let after = touched (stream (g.F.Source.left c.file_relay.new.file) (g.F.Source.faults c.file_relay.new.file)) input output clock relay in
-      let rest : LeavesRest before after = record { input = Keeps-refl input.told; output = Keeps-refl output.told; lane = record { clock = Keeps-refl clock.told; link = refl } } in
+      let input = g.I.Source.shown c.args.input.now in
+      let output = g.O.Sink.shown c.args.output.now in
+      let before = touched (g.F.Source.shown c.args.file.now) input output clock relay in
+      let after = touched (g.F.Source.shown c.file_relay.new.file) input output clock relay in
+      let rest : LeavesRest before after = record { input = Keeps-refl input.told; output = Keeps-refl output.told; lane = record { clock = refl; link = refl } } in
       let wanted = Relay c.args.frames in (
         ((wanted, is, c.in-Err.ensures.gives), rest),
         unserved words before after wanted c.in-Err.fault is c.in-Err.ensures.cause c.in-Err.ensures.gives refl refl refl,

@@ -9,5 +9,5 @@ returns-clause-serves g c = λ r is. record {
   is_relay = record { issuers = is.issuers; nodes = is.nodes };
   total = c.serve_relays-total.result;
   serves = c.serve_relays-total.ensures;
-  prints = subst (λ text. PrintsLine c.serve_relays-total.result text (g.O.Sink.written c.args.output.now) (g.O.Sink.written c.print_line.new.output) c.print_line.result) (c.deref.ensures.0 ∙ c.relays_line.ensures) c.print_line.ensures.prints;
+  prints = subst (λ text. PrintsLine c.serve_relays-total.result text (g.O.Sink.shown c.args.output.now).told (g.O.Sink.shown c.print_line.new.output).told c.print_line.result) (c.deref.ensures.0 ∙ c.relays_line.ensures) c.print_line.ensures.prints;
 }

@@ -15,8 +15,8 @@ use Rattle.agent_core.proofs.held.newness.new_of.Goals.{then-is_new, else-is_new
 
 pub loop-place-preserved : goal.loop-place-preserved
 loop-place-preserved c =
-    let held : List Certificate = certs_staying (certificates c.args.commons.now) (map entry_of c.args.entries.now) c.args.removal.now c.args.own.now.items ++
-    certs_staying (certificates c.args.commons.now) (map entry_of c.args.entries.now) c.args.removal.now c.args.shared.now.items in
+    let held : List Certificate = certs_staying (certificates c.args.held.now.commons.now) (map entry_of c.args.held.now.entries.now) c.args.held.now.removal.now c.args.held.now.own.now.items ++
+    certs_staying (certificates c.args.held.now.commons.now) (map entry_of c.args.held.now.entries.now) c.args.held.now.removal.now c.args.held.now.shared.now.items in
     let certs : List Certificate = certificates c.args.presented.now in
     let here : slice_get certs c.loop-place.place ≡ Some (certificate c.index-presented-place.result.value.body) = certificate_at c.args.presented.now c.loop-place.place c.index-presented-place.result c.index-presented-place.is (omega arith) in
     let news : List Certificate = filter_map (slice_get certs) c.loop-place.places.items in

@@ -1,0 +1,128 @@
+#!/usr/bin/env python3
+"""Measures a node that many clients use, over TCP on this machine.
+
+    clients.py PROGRAM OUT [TURNS]
+
+OUT is a folder that has the program `clients`, built. Each of 1,000 clients has a channel of its own and sends TURNS (50) reads, one
+after the other (64 of them are granted, and the others denied, since a node has no more anchors), beside silent ones; the same frames go to an echo over the same loop. Ends with 1 where a bound is not kept.
+"""
+import hmac
+import os
+import re
+import struct
+import subprocess
+import sys
+
+LANES, SEATS, BUSY, SILENT, ROUNDS = 4, 12_000, 1_000, 2_000, 3
+# What is wanted: the rate beside the echo's; one client's median and 99th in 100 beside others to those alone; bytes of a silent client.
+RATE, MEDIAN, LATE, MEMORY = 0.7, 3, 5, 8_192
+
+
+def key(number):
+    return number.to_bytes(2, "big") * 16
+
+
+def opening(turns):
+    lines = ["taos 1", f"node 7 {key(7007).hex()}", "shards 4", f"journal {min(1_048_576, BUSY * turns * ROUNDS)}", "name 10 reader"]
+    lines += [f"channel {each} {key(each).hex()}" for each in range(1, BUSY + 1)]
+    lines += [f"anchor {each} reader" for each in range(1, 65)]
+    for each in range(1, 5):
+        lines += [f"object {each}", f"content {each} {b'hello'.hex()}", f"allow {each} r reader"]
+    return "\n".join(lines) + "\n"
+
+
+def frames(turns, first=1):
+    """Reads of each channel in turn, with numbers from the first one on."""
+    for channel in range(1, BUSY + 1):
+        for number in range(first, first + turns):
+            text = struct.pack(">BIQBBIB", 3, channel, number, 0, 1, channel % 4 + 1, 0)
+            yield struct.pack(">I", len(text) + 32) + text + hmac.digest(key(channel), text, "sha256")
+
+
+class Started:
+    """A program that serves until its input ends."""
+
+    def __init__(self, words, pattern):
+        self.child = subprocess.Popen(words, stdin=subprocess.PIPE, stdout=subprocess.PIPE, stderr=subprocess.PIPE, text=True)
+        stream = self.child.stdout if pattern is None else self.child.stderr
+        line = stream.readline()
+        while pattern and not re.search(pattern, line):
+            line = stream.readline()
+        self.port = line.strip().rsplit(":", 1)[-1]
+
+    def memory(self):
+        with open(f"/proc/{self.child.pid}/status") as status:
+            return int(re.search(r"VmRSS:\s+(\d+)", status.read()).group(1)) * 1024
+
+    def end(self):
+        self.child.stdin.close()
+        self.child.wait(20)
+
+
+class Bench:
+    def __init__(self, program, out, turns):
+        self.program, self.out, self.turns, self.first, self.met = program, out, turns, 1, True
+        self.file = self.path("node.txt")
+        with open(self.file, "w") as node:
+            node.write(opening(turns))
+        os.chmod(self.file, 0o600)
+
+    def path(self, name):
+        return os.path.join(self.out, name)
+
+    def node(self):
+        listen = ",".join(["127.0.0.1:0"] * LANES)
+        words = [self.program, "--clients", str(SEATS), "--tell-addresses", "--stop-at-end", self.file, listen, "-", "serve"]
+        return Started([*words, "--connections", "1000000", "--frames", "1000000000"], "listening on")
+
+    def echo(self):
+        return Started([self.path("clients"), "echo"], None)
+
+    def load(self, server, busy, silent, turns):
+        """The replies, their rate, the first client's median and 99th, those of all, and the lost connections."""
+        with open(self.path("frames"), "wb") as out:
+            every = list(frames(turns, 1))
+            out.writelines(every[: busy * turns])
+        words = [self.path("clients"), "load", server.port, self.path("frames"), str(busy), str(silent), str(turns)]
+        told = subprocess.run(words, capture_output=True, text=True)
+        return [float(word) for word in told.stdout.split()]
+
+    def row(self, what, number, wanted, kept):
+        self.met &= kept
+        print(f"| {what} | {number} | {wanted} |{'' if kept else ' MISSED'}")
+
+    def run(self):
+        node, echo = self.node(), self.echo()
+        alone = self.load(node, 1, 0, self.turns)
+        node.end()
+        rates, firsts = [], []
+        for _ in range(ROUNDS):
+            node = self.node()
+            served, bare = self.load(node, BUSY, SILENT, self.turns), self.load(echo, BUSY, SILENT, self.turns)
+            node.end()
+            rates.append(served[1] / bare[1])
+            firsts.append((served[2], served[3], served[1], served[6]))
+        echo.end()
+        rates.sort()
+        firsts.sort()
+        median, late, rate, lost = firsts[len(firsts) // 2]
+        self.row("reads a second of 1,000 clients beside 2,000 silent ones", f"{rate:.0f}, {lost:.0f} lost", "none lost", lost == 0)
+        self.row("the same to the echo", f"{rates[len(rates) // 2]:.2f}", RATE, rates[len(rates) // 2] >= RATE)
+        self.row("a client alone: median, 99th", f"{alone[2]:.0f} us, {alone[3]:.0f} us", "", True)
+        self.row("beside the others: median to alone", f"{median / alone[2]:.1f}", MEDIAN, median <= MEDIAN * alone[2])
+        self.row("beside the others: 99th to alone", f"{late / alone[3]:.1f}", LATE, late <= LATE * alone[3])
+        node = self.node()
+        before = node.memory()
+        silent = subprocess.Popen(
+            [self.path("clients"), "load", node.port, self.path("frames"), "1", "10000", "1"], stdout=subprocess.PIPE, text=True
+        )
+        silent.communicate()
+        each = (node.memory() - before) / 10_000
+        node.end()
+        self.row("memory of the program a silent client", f"{each:.0f} bytes", MEMORY, each <= MEMORY)
+        return 0 if self.met else 1
+
+
+if __name__ == "__main__":
+    program, out, *rest = sys.argv[1:]
+    sys.exit(Bench(program, out, int(rest[0]) if rest else 50).run())

@@ -1,0 +1,34 @@
+-- Entries of shards: what is read is spelled so, and the other way.
+use Rattle.std.proofs.Common.{◌≡◌, ℕ, ◌+◌, ◌≤◌, List, ◌∷◌, ◌++◌, length, drop, Ok, refl, sym, ap, subst, arith}
+use Rattle.byte_fields.proofs.FieldLaws.{IsBytes}
+use Rattle.byte_fields.proofs.FormatFields.{reads_u8_in}
+use Rattle.byte_fields.proofs.ReaderLaws.{Reads, reads_followed, reads_made}
+use Rattle.journal_bytes.specs.declared.limits.TheConstants.{LAST_EVENT}
+use Rattle.journal_bytes.specs.Limits.{FitsEntry, FitsTold, IsEntryAt}
+use Rattle.journal_bytes.specs.Reading.{entry_at}
+use Rattle.journal_bytes.specs.Spelled.{SpelledEntry}
+use Rattle.journal_bytes.specs.Spelling.{kind_of, event_fields, told_bytes, entry_bytes}
+use Rattle.journal_bytes.proofs.Events.{event_within, reads_event}
+use Rattle.journal_bytes.proofs.Tolds.{reads_told}
+
+module _ (bytes : List ℕ) where
+  pub reads_entry : Reads bytes (entry_at bytes) entry_bytes FitsEntry
+  unfolding entry_at entry_bytes
+  reads_entry =
+      reads_made (λ x. record { event = x.1.0; told = x.1.1 }) (λ (e : SpelledEntry). (kind_of e.event, (e.event, e.told))) entry_bytes FitsEntry
+      (reads_followed (reads_u8_in bytes 1 LAST_EVENT (omega arith)) (λ kind low_high. reads_followed (reads_event bytes kind low_high) (λ _ _. reads_told bytes kind low_high)))
+      (λ x is. (
+        record { event = is.1.0.0; told = subst (λ (k : ℕ). FitsTold k x.1.1) (sym is.1.0.1) is.1.1 },
+        ap (λ (k : ℕ). k ∷ (event_fields x.1.0 ++ told_bytes x.1.1)) (sym is.1.0.1),
+      ))
+      (λ e is. ((event_within e.event, ((is.event, refl), is.told)), refl, refl))
+
+  -- ---- as the law says it
+
+  pub entry_takes : IsBytes bytes → (e : SpelledEntry) (at end : ℕ) → at ≤ length bytes → entry_at bytes at ≡ Ok (e, end) → IsEntryAt bytes at e × (end ≡ at + length (entry_bytes e))
+  entry_takes ok e at end le read =
+      let t = reads_entry.takes ok at (e, end) le read in
+      (record { text = (drop end bytes, t.0.parts); limits = t.1 }, t.0.end_is)
+
+  pub entry_again : (e : SpelledEntry) (at end : ℕ) → IsEntryAt bytes at e → end ≡ at + length (entry_bytes e) → entry_at bytes at ≡ Ok (e, end)
+  entry_again e at end is place = rw place (reads_entry.again at e is.text.0 is.limits is.text.1)

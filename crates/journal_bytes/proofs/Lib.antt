@@ -1,0 +1,12 @@
+pub mod Tolds
+pub mod Events
+pub mod Entries
+pub mod Rulings
+pub mod EntryForms
+pub mod Items
+pub mod JournalReaders
+pub mod JournalForms
+pub mod JournalLaws
+pub mod Found
+pub mod Rising
+pub mod Countable

@@ -1,0 +1,31 @@
+use Rattle.std.proofs.Common.{◌≡◌, ◌++◌, ◌∷◌, List, [], map}
+use Rattle.std.proofs.lemmas.Result.{err_from_is_err_and}
+use Rattle.std.proofs.lemmas.List.{map_push}
+use Rattle.byte_fields.specs.Readers.{items_behind}
+use Rattle.byte_fields.specs.declared.fault.FormatFault.TheVariants.{NoMemory}
+use Rattle.byte_fields.proofs.Loops.{goes_on, stops, is_done}
+use Rattle.journal_bytes.specs.Spelled.{SpelledEntry}
+use Rattle.journal_bytes.specs.View.{shard_seen}
+use Rattle.journal_bytes.specs.JournalsReading.{shard_at}
+use Rattle.journal_bytes.proofs.journals_reading.journals_of.Goals as goal
+
+pub returns-in_err-shard-clause-value : goal.returns-in_err-shard-clause-value
+returns-in_err-shard-clause-value c =
+    let p = err_from_is_err_and c.from_residual.result c.from_residual.ensures.1 in
+    let item = λ (_ : List (List SpelledEntry)). shard_at c.args.bytes.now in
+    rw (p.1, p.2) (stops item c.args.count c.loop.counter (map shard_seen c.loop.shards.items) c.loop.next (items_behind item c.args.count [] c.args.at) NoMemory c.in_err-shard.field-0.0 c.loop-test.true c.in_err-shard.ensures.value c.loop.invariant.so_far)
+
+pub loop-preserved : goal.loop-preserved
+loop-preserved c =
+    let item = λ (_ : List (List SpelledEntry)). shard_at c.args.bytes.now in
+    let shard = c.in_ok-shard.shard in
+    let pushed : map shard_seen c.push.new.self.items ≡ map shard_seen c.loop.shards.items ++ shard_seen shard ∷ [] = rw c.in_ok-push.ensures.items (map_push _ c.loop.shards.items shard) in
+    record {
+      so_far = rw pushed (goes_on item c.args.count c.loop.counter (map shard_seen c.loop.shards.items) c.loop.next (items_behind item c.args.count [] c.args.at) (shard_seen shard) c.in_ok-shard.after c.loop-test.true c.in_ok-shard.ensures.value c.loop.invariant.so_far);
+      within = c.in_ok-shard.ensures.within;
+    }
+
+pub returns-clause-value : goal.returns-clause-value
+returns-clause-value c =
+    let item = λ (_ : List (List SpelledEntry)). shard_at c.args.bytes.now in
+    is_done item c.args.count c.loop.counter (map shard_seen c.loop.shards.items) c.loop.next (items_behind item c.args.count [] c.args.at) c.loop-test.false c.loop.invariant.so_far

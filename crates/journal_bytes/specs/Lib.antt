@@ -1,0 +1,6 @@
+pub mod Spelled
+pub mod Spelling
+pub mod Limits
+pub mod Reading
+pub mod JournalsReading
+pub mod View

@@ -1,0 +1,87 @@
+//! Where a stream of frames stands.
+
+ghost use Rattle.std.specs.Prelude.{◌<◌, ◌≤◌, length};
+
+use frame_link::MAX_PAYLOAD;
+
+/// How far a stream of frames has come in the frame that it is in.
+#[derive(Clone, Copy, Debug, PartialEq, Eq)]
+pub(crate) struct Place {
+    // The bytes of the length word that came, below four, and what they say so far.
+    seen: u32,
+    word: u32,
+    // The bytes of the payload that have not come.
+    left: usize,
+    // A length word was above that of any request.
+    is_long: bool,
+}
+
+impl Place {
+    // Before the first frame.
+    pub(crate) fn new() -> Place {
+        Place {
+            seen: 0,
+            word: 0,
+            left: 0,
+            is_long: false,
+        }
+    }
+
+    // Whether all that came is whole frames.
+    pub(crate) fn is_between(&self) -> bool {
+        self.seen == 0 && self.left == 0
+    }
+
+    // Whether a payload has begun that is not whole.
+    pub(crate) fn is_inside(&self) -> bool {
+        self.left > 0
+    }
+
+    // Whether a frame was announced that is longer than a request may be.
+    pub(crate) fn is_long(&self) -> bool {
+        self.is_long
+    }
+
+    // One byte of the length word. Whether it ends a frame that has no payload.
+    fn pass_word(&mut self, byte: u8) -> bool {
+        self.word = self.word << 8 | u32::from(byte);
+        if self.seen < 3 {
+            self.seen += 1;
+            return false;
+        }
+        self.left = self.word as usize;
+        self.is_long |= self.word > MAX_PAYLOAD;
+        self.seen = 0;
+        self.word = 0;
+        self.left == 0
+    }
+
+    // Takes one byte of a length word, or what is there of a payload. How many bytes that is, and
+    // whether a frame ended with them.
+    pub(crate) fn step(&mut self, bytes: &[u8]) -> (usize, bool)
+        requires { 0 < length bytes.now }
+        ensures { result.0 ≤ length bytes.now }
+    {
+        if self.left == 0 {
+            return (1, self.pass_word(bytes[0]));
+        }
+        let count = self.left.min(bytes.len());
+        self.left -= count;
+        (count, self.left == 0)
+    }
+
+    // These bytes come next. Whether a frame ended among them.
+    pub(crate) fn pass(&mut self, bytes: &[u8]) -> bool {
+        let mut has_ended = false;
+        let mut rest = bytes;
+        for _ in 0..bytes.len() {
+            if rest.is_empty() {
+                return has_ended;
+            }
+            let (count, has_one_ended) = self.step(rest);
+            has_ended |= has_one_ended;
+            rest = &rest[count..];
+        }
+        has_ended
+    }
+}
