@@ -196,6 +196,7 @@ static int load(const char *port, const char *path, uint32_t busy, uint32_t sile
     size_t count = 0, count_of_first = 0;
     uint32_t over = 0, lost = 0;
     double start = seconds();
+    for (uint32_t each = 0; each < busy; each++) clients[each].began = start;
     struct epoll_event ready[AT_ONCE];
     while (over < busy) {
         int events = epoll_wait(poll, ready, AT_ONCE, 30000);

@@ -95,13 +95,14 @@ class Bench:
         node, echo = self.node(), self.echo()
         alone = self.load(node, 1, 0, self.turns)
         node.end()
-        rates, firsts = [], []
+        rates, firsts, bares = [], [], []
         for _ in range(ROUNDS):
             node = self.node()
             served, bare = self.load(node, BUSY, SILENT, self.turns), self.load(echo, BUSY, SILENT, self.turns)
             node.end()
             rates.append(served[1] / bare[1])
             firsts.append((served[2], served[3], served[1], served[6]))
+            bares.append((bare[2], bare[3]))
         echo.end()
         rates.sort()
         firsts.sort()
@@ -109,6 +110,9 @@ class Bench:
         self.row("reads a second of 1,000 clients beside 2,000 silent ones", f"{rate:.0f}, {lost:.0f} lost", "none lost", lost == 0)
         self.row("the same to the echo", f"{rates[len(rates) // 2]:.2f}", RATE, rates[len(rates) // 2] >= RATE)
         self.row("a client alone: median, 99th", f"{alone[2]:.0f} us, {alone[3]:.0f} us", "", True)
+        self.row("beside the others: median, 99th", f"{median:.0f} us, {late:.0f} us", "", True)
+        bare = sorted(bares)[len(bares) // 2]
+        self.row("the same of the echo", f"{bare[0]:.0f} us, {bare[1]:.0f} us", "", True)
         self.row("beside the others: median to alone", f"{median / alone[2]:.1f}", MEDIAN, median <= MEDIAN * alone[2])
         self.row("beside the others: 99th to alone", f"{late / alone[3]:.1f}", LATE, late <= LATE * alone[3])
         node = self.node()
