@@ -1,6 +1,6 @@
 """A client of Yoritzal: requests, replies with their proofs, and the rules for clients. README.md shows its use."""
 from .aio import AsyncClient, open_client
-from .certificates import ISSUED, RELAYED, Body, body_of, opens, read_body, sealed
+from .certificates import CARRIED, ISSUED, RELAYED, Body, body_of, opens, read_body, sealed, visited
 from .client import Answer, Channel, Client, Fate, NotGranted
 from .connection import Broken, Connection, connect
 from .fields import Malformed

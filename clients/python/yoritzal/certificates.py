@@ -9,6 +9,9 @@ from .terms import STATED_NODES, And, As, For, Key, Quoting, read_term, term
 MAX_PARTS = 16
 # Under the issuer's own seal, and under the seal that a relay shares with a node.
 ISSUED, RELAYED = 1, 2
+# On its way, under the key that the domain which it visited last shares with the one that it comes to.
+CARRIED = 3
+MAX_VISITED = 3
 
 
 def read_quoted(fields, most_nodes):
@@ -84,9 +87,26 @@ def sealed(key, body, kind=ISSUED):
     return tagged(key, number(kind, 1) + bytes(body))
 
 
+def read_front(fields):
+    """The domains that a certificate visited, by what stands before its body."""
+    if fields.number(1) != CARRIED:
+        return []
+    at, count = fields.at, fields.number(1, most=MAX_VISITED)
+    if not count:
+        fields.refuse("no domain", at)
+    return [fields.number(4) for _ in range(count)]
+
+
+def visited(certificate):
+    """The numbers of the domains that a certificate visited, in order; none, unless it is on its way."""
+    return read_front(Reader(certificate))
+
+
 def body_of(certificate):
     """What a certificate says, whoever sealed it."""
-    return read_body(certificate[1:-TAG_BYTES])
+    fields = Reader(certificate[:-TAG_BYTES])
+    read_front(fields)
+    return read_body(fields.data[fields.at :])
 
 
 def opens(certificate, key):

@@ -57,7 +57,7 @@ u64s = search (sendable, as_row_send)
 u64y : IsSync (as_row u64-field)
 u64y = search (sendable, as_row_sync)
 
-term_send : IsSend (as_row term.the_field)
+pub term_send : IsSend (as_row term.the_field)
 term_send = as_row_send term.the_field (knot.both_send-Term (search sendable) (search sendable) (λ h s y. Box-send h s) (λ h s y. Box-sync h y))
 
 term_sync : IsSync (as_row term.the_field)
@@ -81,10 +81,10 @@ body_send = declared_send body.the_type (u32s, (search (sendable, crosses, as_ro
 body_sync : IsSync body.the_row
 body_sync = declared_sync body.the_type (u32y, (search (sendable, crosses, as_row_sync, option.the_sync, term_sync), (statement_sync, (u64y, (u64y, tt)))))
 
-cert_send : IsSend cert.the_row
+pub cert_send : IsSend cert.the_row
 cert_send = declared_send cert.the_type (body_send, (term_send, (search (sendable, as_row_send), tt)))
 
-cert_sync : IsSync cert.the_row
+pub cert_sync : IsSync cert.the_row
 cert_sync = declared_sync cert.the_type (body_sync, (term_sync, (search (sendable, as_row_sync), tt)))
 
 -- ---- kept proofs

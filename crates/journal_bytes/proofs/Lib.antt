@@ -10,3 +10,4 @@ pub mod JournalLaws
 pub mod Found
 pub mod Rising
 pub mod Countable
+pub mod OneJournal

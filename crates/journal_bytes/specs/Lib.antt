@@ -4,3 +4,4 @@ pub mod Limits
 pub mod Reading
 pub mod JournalsReading
 pub mod View
+pub mod Events

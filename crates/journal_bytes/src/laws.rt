@@ -1,15 +1,19 @@
 //! Laws of journals as bytes, stated as contracts of functions that do nothing.
 
-ghost use Rattle.std.specs.Prelude.{◌≡◌, ◌↔◌, ◌+◌, ◌<◌, ◌≤◌, ◌++◌, [], ℕ, List, length, All, Ok, Err};
+ghost use Rattle.std.specs.Prelude.{◌≡◌, ◌↔◌, ◌+◌, ◌<◌, ◌≤◌, ◌++◌, [], ℕ, List, length, map, All, Ok, Err};
+ghost use Rattle.std.specs.Prelude.{Some};
 ghost use Rattle.byte_fields.specs.declared.fault.FormatFault.{FormatFault};
 ghost use Rattle.byte_fields.specs.declared.fault.FormatFault.TheVariants.{Malformed};
 ghost use Rattle.byte_fields.specs.Formats.{IsFaultIn};
 ghost use Rattle.byte_fields.specs.Steps.{IsByte};
 ghost use Rattle.object_core.specs.Objects.{ObjectEntry};
+ghost use Rattle.agent_core.specs.Journals.{Entry, IsLegalJournal, IsMeant};
+ghost use Rattle.agent_core.specs.State.{Event, Plan};
+ghost use Rattle.journal_bytes.specs.Events.{event_from};
 ghost use Rattle.journal_bytes.specs.JournalsReading.{journals_in};
 ghost use Rattle.journal_bytes.specs.Limits.{FitsJournals, IsEntryAt, IsRuledAt, Spells};
 ghost use Rattle.journal_bytes.specs.Reading.{entry_at, ruled_at};
-ghost use Rattle.journal_bytes.specs.Spelled.{Journals, SpelledEntry};
+ghost use Rattle.journal_bytes.specs.Spelled.{Journals, SpelledEntry, event_spelled, spelled};
 ghost use Rattle.journal_bytes.specs.Spelling.{entry_bytes, journals_bytes, ruled_bytes};
 
 /// Reading as a function gives exactly the entry of a shard that is spelled at the offset within
@@ -61,4 +65,13 @@ pub fn no_journals_begin_others()
         → journals_in front ≡ Err (Malformed (length front)) }
     ensures longer { (j : Journals) (bytes more : List ℕ) → Spells j bytes → 0 < length more
         → journals_in (bytes ++ more) ≡ Err (Malformed (length bytes)) }
+{}
+
+/// What is not spelled of an event follows from the entries before it, so two legal journals of a
+/// shard that are spelled alike are one.
+pub fn legal_journals_are_one()
+    ensures event { (plan : Plan) (before : List Entry) (event : Event)
+        → IsMeant plan before event → event_from before (event_spelled event) ≡ Some event }
+    ensures one { (plan : Plan) (xs ys : List Entry) → IsLegalJournal plan xs
+        → IsLegalJournal plan ys → map spelled xs ≡ map spelled ys → xs ≡ ys }
 {}

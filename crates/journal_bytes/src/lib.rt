@@ -20,8 +20,8 @@ pub use journals::{Journals, ObjectJournal};
 pub use journals_reading::read_journals;
 pub use journals_writing::write_journals;
 pub use laws::{
-    entries_are_read, journals_are_read, no_journals_begin_others, one_spelling, rulings_are_read,
-    written_is_read,
+    entries_are_read, journals_are_read, legal_journals_are_one, no_journals_begin_others,
+    one_spelling, rulings_are_read, written_is_read,
 };
 pub use limit_laws::limits_are;
 pub use limits::{JOURNALS, LAST_EVENT, MAX_BODIES, MAX_CITES, VERSION};

@@ -47,6 +47,7 @@ pub(crate) fn parts(alloc: Global) -> Result<NodeParts, Fail>
         keys,
         shards: lone.close(),
         anchors,
+        commons: Vec::new(alloc),
         objects: vec![in alloc; object]?,
     })
 }

@@ -50,7 +50,7 @@ fn lanes_of_a_node_wait_for_each_other(rt: HostRuntime) -> Result<(), Fail> {
         lane(alloc, mine, &one, &two)?,
         lane(alloc, yours, &two, &one)?,
     ];
-    let served = serve(&rt, alloc, parts(alloc)?, &mut lanes, LIMITS)?;
+    let served = serve(&rt, alloc, parts(alloc)?, &mut lanes, LIMITS, 64)?;
     assert_eq!(rt; (served.total.served, served.total.broken), (2, 0));
     let [object] = served.objects.as_slice() else {
         return Err(Fail::new("not one object"));

@@ -1,4 +1,5 @@
 pub mod Made
+pub mod Routes
 pub mod Options
 pub mod Rows
 pub mod Walks

@@ -7,11 +7,12 @@ use Rattle.std.proofs.lemmas.Option.{same_Some}
 use Rattle.clap.specs.Words.{Row, Text, first_of}
 use Rattle.frame_link.specs.declared.limits.Limits.{Limits}
 use Rattle.node_words.specs.declared.wanted.Wanted.{Wanted}
-use Rattle.node_words.specs.Words.{Asked, AsksDrill, Command, Default, DrillWords, Given, Gives, GivesDrill, GivesLimits, GivesMint, HasNumber, IsCount, IsLine, IsNumber, IsValue, MintWords, Task, TextsMean, drill_names, named, options_of, task_for, task_of, text_at, value_of, words_of}
-use Rattle.node_words.specs.Words.{Running, Checking, Relaying, Minting, Serving, RelayServing, Auditing, Drilling}
+use Rattle.node_words.specs.Words.{Asked, AsksDrill, Command, Default, DrillWords, Given, Gives, GivesDrill, GivesLimits, GivesMint, GivesPath, GivesRun, GivesServe, HasNumber, HasRoute, IsCount, IsLine, IsNumber, IsValue, MintWords, PathWords, RunWords, ServeWords, Task, TextsMean, drill_names, named, options_of, task_for, task_of, text_at, value_of, words_of}
+use Rattle.node_words.specs.Words.{Running, Checking, Relaying, Minting, Serving, RelayServing, Auditing, Drilling, Carrying}
 use Rattle.node_words.proofs.Rows.{AreNew, all_are_new, all_known, are_once, first_of_rows, have_values, rows_for}
 use Rattle.node_words.proofs.Drilled.{rows_of_words}
 use Rattle.node_words.proofs.Levels.{IsFound, IsKind, IsTakenAs, TakesOptions, by_options, by_words, drill_found, kind_for, line_found}
+use Rattle.node_words.proofs.Routes.{one_route}
 use Rattle.node_words.proofs.Tasks.{asked_of, command_of, command_named, command_named-named}
 
 -- ---- values
@@ -131,16 +132,48 @@ same_drill text_of m n a b = by
     by : m.seed ≡ n.seed → m.requests ≡ n.requests → m.lanes ≡ n.lanes → m ≡ n
     by seed requests lanes = λ i. record { seed = seed i; requests = requests i; lanes = lanes i }
 
+same_path : (text_of : Text → Option Text) (m n : PathWords) → GivesPath text_of m → GivesPath text_of n → m ≡ n
+same_path text_of m n a b = by
+    (same_number (text_of (codes "node")) (2 ^ 32) m.node n.node (omega arith) a.node b.node)
+    (same_route (text_of (codes "route")) m.route n.route a.route b.route)
+  where
+    same_route : (o : Option Text) (r s : List ℕ) → HasRoute o r → HasRoute o s → r ≡ s
+    same_route None r s x y = absurd x
+    same_route (Some text) r s x y = one_route text r s x y
+
+    by : m.node ≡ n.node → m.route ≡ n.route → m ≡ n
+    by node route = λ i. record { node = node i; route = route i }
+
+same_lemma_count : (text : Text) (m n : ℕ) → IsNumber 1025 text m → IsNumber 1025 text n → m ≡ n
+same_lemma_count text m n a b = decimal_injective m n (omega (arith, a.1)) (omega (arith, b.1)) (sym a.0 ∙ b.0)
+
+same_run : (text_of : Text → Option Text) (m n : RunWords) → GivesRun text_of m → GivesRun text_of n → m ≡ n
+same_run text_of m n a b = by
+    (same_default IsCount same_count _ (text_of (codes "frames")) m.frames n.frames a.frames b.frames)
+    (same_default (IsNumber 1025) same_lemma_count 0 (text_of (codes "lemmas")) m.lemmas n.lemmas a.lemmas b.lemmas)
+  where
+    by : m.frames ≡ n.frames → m.lemmas ≡ n.lemmas → m ≡ n
+    by frames lemmas = λ i. record { frames = frames i; lemmas = lemmas i }
+
+same_serve : (text_of : Text → Option Text) (m n : ServeWords) → GivesServe text_of m → GivesServe text_of n → m ≡ n
+same_serve text_of m n a b = by
+    (same_limits text_of m.limits n.limits a.limits b.limits)
+    (same_default (IsNumber 1025) same_lemma_count 0 (text_of (codes "lemmas")) m.lemmas n.lemmas a.lemmas b.lemmas)
+  where
+    by : m.limits ≡ n.limits → m.lemmas ≡ n.lemmas → m ≡ n
+    by limits lemmas = λ i. record { limits = limits i; lemmas = lemmas i }
+
 -- texts give one thing
 same_given : (c : Command) (text_of : Text → Option Text) (x y : Asked c) → Gives c text_of x → Gives c text_of y → x ≡ y
-same_given Running text_of x y a b = same_default IsCount same_count _ (text_of (codes "frames")) x y a b
+same_given Running text_of x y a b = same_run text_of x y a b
 same_given Checking text_of x y a b = refl
 same_given Relaying text_of x y a b = same_default IsCount same_count _ (text_of (codes "frames")) x y a b
 same_given Minting text_of x y a b = same_mint text_of x y a b
-same_given Serving text_of x y a b = same_limits text_of x y a b
+same_given Serving text_of x y a b = same_serve text_of x y a b
 same_given RelayServing text_of x y a b = same_limits text_of x y a b
 same_given Auditing text_of x y a b = same_default IsCount same_count _ (text_of (codes "frames")) x y a b
 same_given Drilling text_of x y a b = same_drill text_of x y a b
+same_given Carrying text_of x y a b = same_path text_of x y a b
 
 -- and so do words
 asked_once : (words : List Text) (d e : DrillWords) → AsksDrill words d → AsksDrill words e → d ≡ e

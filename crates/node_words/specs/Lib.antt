@@ -1,2 +1,3 @@
+pub mod Routes
 pub mod Words
 pub mod Table

@@ -4,7 +4,7 @@ use Rattle.node_words.specs.declared.wanted.Wanted.{Wanted}
 use Rattle.node_words.specs.declared.table.Argument.{Argument as Declared}
 use Rattle.node_words.specs.declared.table.Argument.TheVariants as declared
 use Rattle.node_words.specs.declared.table.Entry.{Entry}
-use Rattle.node_words.specs.Words.{Argument, Asked, Command, Gives, IsValue, Running, Checking, Relaying, Minting, Serving, RelayServing, Auditing, drill_names, flag, named, options_of, task_for, task_of, valued}
+use Rattle.node_words.specs.Words.{Argument, Asked, Command, Gives, IsValue, Running, Checking, Relaying, Minting, Serving, RelayServing, Auditing, Carrying, drill_names, flag, named, options_of, task_for, task_of, valued}
 use Rattle.clap.specs.Words.{App, Rule, Text, app_of, first_of, found_of, rows_of, new_app, new_rule, with_subcommand}
 use Rattle.clap.specs.declared.builder.command.Command.TheViews.{out-Command}
 use Rattle.clap.specs.Simple.{on_top}
@@ -66,7 +66,8 @@ drill_app = ruled_app (codes "drill") (map word_rule drill_names)
 -- the commands that have options
 abbrev pub with_options : List Command
 with_options =
-    Running ∷ Checking ∷ Relaying ∷ Minting ∷ Serving ∷ RelayServing ∷ Auditing ∷ []
+    Running ∷ Checking ∷ Relaying ∷ Minting ∷ Serving ∷ RelayServing ∷ Auditing
+    ∷ Carrying ∷ []
 
 -- commands with options
 abbrev pub table_of : List (Text × List Argument) → App
@@ -88,7 +89,8 @@ IsMade app c = (app_of c ≡ app) × ((out-Command c).has_globals ≡ false)
 abbrev pub all_options : List Text
 all_options =
     codes "connections" ∷ codes "frames" ∷ codes "issuer" ∷ codes "serial" ∷ codes "until"
-    ∷ codes "quoted" ∷ codes "left" ∷ codes "right" ∷ []
+    ∷ codes "quoted" ∷ codes "left" ∷ codes "right" ∷ codes "node" ∷ codes "route"
+    ∷ codes "lemmas" ∷ []
 
 -- the word is the option of this name, in one of its ways: `--name`, or `--name=value`
 pub data IsOption (word name : Text) : Type 0 where
@@ -109,9 +111,13 @@ pub data IsOfTable (word : Text) : Type 0 where
 abbrev pub texts_of : ArgMatches → Text → Option Text
 texts_of found name = first_of name (rows_of (found_of found))
 
+-- what the program has of what was read is what is meant, and nothing is read where nothing is
+abbrev pub IsReadBy : {X Y : Type 0} → (Y → X) → (X → Type 0) → Option Y → Type 0
+IsReadBy {X} has means read = MatchOption read ((x : X) → means x → ⊥) (λ y. means (has y))
+
 -- what is read of a text is what it means, and nothing is read where it means nothing
 abbrev pub IsReadOf : {X : Type 0} → (X → Type 0) → Option X → Type 0
-IsReadOf {X} means read = MatchOption read ((x : X) → means x → ⊥) means
+IsReadOf means read = IsReadBy (λ x. x) means read
 
 -- what is read of the texts behind a command is what it is asked for
 abbrev pub IsReadAs : (c : Command) → (Text → Option Text) → Option Wanted → Type 0

@@ -2,16 +2,37 @@
 use Rattle.std.specs.Prelude.{◌≡◌, ◌≢◌, ℕ, ◌^◌, ◌+◌, ◌<◌, ◌≤◌, Bool, true, false, if◌then◌else◌, List, [], ◌∷◌, ◌++◌, map, flat_map, All, Option, Some, None, is_some, option_map, find, codes, decimal, string_bytes, String, bytes_eq}
 use Rattle.std.specs.declared.alloc.Global.{Global}
 use Rattle.frame_link.specs.declared.limits.Limits.{Limits}
+use Rattle.lemma_memo.specs.declared.memory.TheConstants.{MAX_LEMMAS}
 use Rattle.taos_drill.specs.declared.numbers.TheConstants.{MAX_LANES, MAX_REQUESTS}
 use Rattle.node_words.specs.declared.wanted.Drill.{Drill as DrillAsked}
 use Rattle.node_words.specs.declared.wanted.Mint.{Mint as MintAsked}
+use Rattle.node_words.specs.declared.wanted.Path.{Path as PathAsked}
 use Rattle.node_words.specs.declared.wanted.Wanted.{Wanted}
 use Rattle.node_words.specs.declared.wanted.Wanted.TheVariants as wanted
 use Rattle.node_words.specs.declared.wanted.TheConstants.{LANE_CONNECTIONS, MAX_FRAMES}
+use Rattle.node_words.specs.Routes.{IsRoute, numbers_in}
 
 -- a text, by its bytes
 abbrev pub Text : Type 0
 Text = List ℕ
+
+-- what `run` is asked for: so many frames at most, and room for so many lemmas
+pub record RunWords : Type 0 where
+  pub frames : ℕ
+  pub lemmas : ℕ
+
+-- the same, of these
+abbrev pub run_words : ℕ → ℕ → RunWords
+run_words frames lemmas = record { frames = frames; lemmas = lemmas }
+
+-- what `serve` is asked for: the limits of a lane, and room for so many lemmas of each
+pub record ServeWords : Type 0 where
+  pub limits : Limits
+  pub lemmas : ℕ
+
+-- the same, of these
+abbrev pub serve_words : Limits → ℕ → ServeWords
+serve_words limits lemmas = record { limits = limits; lemmas = lemmas }
 
 -- what `mint` is asked for
 pub record MintWords : Type 0 where
@@ -43,35 +64,48 @@ pub record DrillWords : Type 0 where
 abbrev pub drill_words : DrillAsked → DrillWords
 drill_words d = record { seed = d.seed; requests = d.requests; lanes = d.lanes }
 
+-- what `path` is asked for: a node, and the numbers of the domains on the way to it
+pub record PathWords : Type 0 where
+  pub node : ℕ
+  pub route : List ℕ
+
+-- what the program has of it
+abbrev pub path_words : PathAsked → PathWords
+path_words p = record { node = p.node; route = numbers_in p.route }
+
 -- what a command line asks for
 pub data Task : Type 0 where
-  -- to serve a connection, of at most so many frames
-  Run : ℕ → Task
+  -- to serve a connection, of at most so many frames, with room for so many lemmas
+  Run : RunWords → Task
   -- to look over a request and its reply
   Check : Task
   -- to serve a connection as a relay, of at most so many frames
   Relay : ℕ → Task
   -- to print a certificate
   Mint : MintWords → Task
-  -- to serve so many connections at most of each lane, of at most so many frames each
-  Serve : Limits → Task
-  -- the same, as a relay
+  -- to serve so many connections at most of each lane, of at most so many frames each, with room for
+  -- so many lemmas of each lane
+  Serve : ServeWords → Task
+  -- the same, as a relay, which keeps no lemmas
   RelayServe : Limits → Task
   -- to serve a connection, of at most so many frames, and to print the journals
   Audit : ℕ → Task
   -- to serve a load that is made
   Drill : DrillWords → Task
+  -- to pass a certificate along a route to a node
+  Path : PathWords → Task
 
 -- the task that the program has
 abbrev pub task_of : Wanted → Task
-task_of (wanted.Run frames) = Run frames
+task_of (wanted.Run frames lemmas) = Run (run_words frames lemmas)
 task_of wanted.Check = Check
 task_of (wanted.Relay frames) = Relay frames
 task_of (wanted.Mint m) = Mint (mint_words m)
-task_of (wanted.Serve limits) = Serve limits
+task_of (wanted.Serve limits lemmas) = Serve (serve_words limits lemmas)
 task_of (wanted.RelayServe limits) = RelayServe limits
 task_of (wanted.Audit frames) = Audit frames
 task_of (wanted.Drill d) = Drill (drill_words d)
+task_of (wanted.Path p) = Path (path_words p)
 
 -- an option of a command: its name, and whether it is a flag, which has no value
 pub record Argument : Type 0 where
@@ -189,6 +223,7 @@ pub data Command : Type 0 where
   RelayServing : Command
   Auditing : Command
   Drilling : Command
+  Carrying : Command
 
 -- its first word
 abbrev pub named : Command → Text
@@ -200,6 +235,7 @@ named Serving = codes "serve"
 named RelayServing = codes "relay-serve"
 named Auditing = codes "audit"
 named Drilling = codes "drill"
+named Carrying = codes "path"
 
 -- how many frames an option `--frames` means, and how many are meant without it
 abbrev pub AreFrames : Option Text → ℕ → Type 0
@@ -209,14 +245,32 @@ AreFrames = Default IsCount MAX_FRAMES
 abbrev pub AreConnections : Option Text → ℕ → Type 0
 AreConnections = Default IsCount LANE_CONNECTIONS
 
+-- how many lemmas an option `--lemmas` makes room for, and that without it there is none
+abbrev pub AreLemmas : Option Text → ℕ → Type 0
+AreLemmas = Default (IsNumber (MAX_LEMMAS + 1)) 0
+
 -- there is a text, and it is such a number
 abbrev pub HasNumber : ℕ → Option Text → ℕ → Type 0
 HasNumber bound = Needed (IsNumber bound)
+
+-- there is a text, and it is such a route
+abbrev pub HasRoute : Option Text → List ℕ → Type 0
+HasRoute = Needed IsRoute
 
 -- the texts that options have give the limits
 pub record GivesLimits (text_of : Text → Option Text) (limits : Limits) : Type 0 where
   pub connections : AreConnections (text_of (codes "connections")) limits.connections
   pub frames : AreFrames (text_of (codes "frames")) limits.frames
+
+-- the texts that options have give what `run` is asked for
+pub record GivesRun (text_of : Text → Option Text) (r : RunWords) : Type 0 where
+  pub frames : AreFrames (text_of (codes "frames")) r.frames
+  pub lemmas : AreLemmas (text_of (codes "lemmas")) r.lemmas
+
+-- the texts that options have give what `serve` is asked for
+pub record GivesServe (text_of : Text → Option Text) (s : ServeWords) : Type 0 where
+  pub limits : GivesLimits text_of s.limits
+  pub lemmas : AreLemmas (text_of (codes "lemmas")) s.lemmas
 
 -- the texts that options have give what `mint` is asked for
 pub record GivesMint (text_of : Text → Option Text) (m : MintWords) : Type 0 where
@@ -235,13 +289,27 @@ pub record GivesDrill (text_of : Text → Option Text) (d : DrillWords) : Type 0
   pub lanes : HasNumber (MAX_LANES + 1) (text_of (codes "lanes")) d.lanes
   pub some : 1 ≤ d.lanes
 
+-- the texts that options have give what `path` is asked for
+pub record GivesPath (text_of : Text → Option Text) (p : PathWords) : Type 0 where
+  pub node : HasNumber (2 ^ 32) (text_of (codes "node")) p.node
+  pub route : HasRoute (text_of (codes "route")) p.route
+
 -- the options of a command that serves
 abbrev pub serving_options : List Argument
 serving_options = valued (codes "frames") ∷ []
 
+-- the options of `run`
+abbrev pub run_options : List Argument
+run_options = valued (codes "frames") ∷ valued (codes "lemmas") ∷ []
+
 -- the options of a command that serves lanes
 abbrev pub lane_options : List Argument
 lane_options = valued (codes "connections") ∷ valued (codes "frames") ∷ []
+
+-- the options of `serve`
+abbrev pub serve_options : List Argument
+serve_options =
+    valued (codes "connections") ∷ valued (codes "frames") ∷ valued (codes "lemmas") ∷ []
 
 -- the options of `mint`
 abbrev pub mint_options : List Argument
@@ -249,49 +317,57 @@ mint_options =
     valued (codes "issuer") ∷ valued (codes "serial") ∷ valued (codes "until")
     ∷ valued (codes "quoted") ∷ valued (codes "left") ∷ valued (codes "right") ∷ []
 
+-- the options of `path`
+abbrev pub path_options : List Argument
+path_options = valued (codes "node") ∷ valued (codes "route") ∷ []
+
 -- the options of a command: `drill` has words by their places in place of options
 abbrev pub options_of : Command → List Argument
-options_of Running = serving_options
+options_of Running = run_options
 options_of Checking = []
 options_of Relaying = serving_options
 options_of Minting = mint_options
-options_of Serving = lane_options
+options_of Serving = serve_options
 options_of RelayServing = lane_options
 options_of Auditing = serving_options
 options_of Drilling = []
+options_of Carrying = path_options
 
 -- what a command is asked for
 abbrev pub Asked : Command → Type 0
-Asked Running = ℕ
+Asked Running = RunWords
 Asked Checking = Unit {0}
 Asked Relaying = ℕ
 Asked Minting = MintWords
-Asked Serving = Limits
+Asked Serving = ServeWords
 Asked RelayServing = Limits
 Asked Auditing = ℕ
 Asked Drilling = DrillWords
+Asked Carrying = PathWords
 
 -- the texts behind a command give what it is asked for
 abbrev pub Gives : (c : Command) → (Text → Option Text) → Asked c → Type 0
-Gives Running text_of frames = AreFrames (text_of (codes "frames")) frames
+Gives Running text_of r = GivesRun text_of r
 Gives Checking text_of nothing = Unit {0}
 Gives Relaying text_of frames = AreFrames (text_of (codes "frames")) frames
 Gives Minting text_of m = GivesMint text_of m
-Gives Serving text_of limits = GivesLimits text_of limits
+Gives Serving text_of s = GivesServe text_of s
 Gives RelayServing text_of limits = GivesLimits text_of limits
 Gives Auditing text_of frames = AreFrames (text_of (codes "frames")) frames
 Gives Drilling text_of d = GivesDrill text_of d
+Gives Carrying text_of p = GivesPath text_of p
 
 -- what is asked of a command
 abbrev pub task_for : (c : Command) → Asked c → Task
-task_for Running frames = Run frames
+task_for Running r = Run r
 task_for Checking nothing = Check
 task_for Relaying frames = Relay frames
 task_for Minting m = Mint m
-task_for Serving limits = Serve limits
+task_for Serving s = Serve s
 task_for RelayServing limits = RelayServe limits
 task_for Auditing frames = Audit frames
 task_for Drilling d = Drill d
+task_for Carrying p = Path p
 
 -- the words are this command with options that give what it is asked for
 abbrev pub Asks : (c : Command) → List Text → Asked c → Type 0
@@ -317,14 +393,15 @@ AsksDrill words d =
 
 -- the words of a command line, each by its bytes, mean the task
 abbrev pub TextsMean : List Text → Task → Type 0
-TextsMean words (Run frames) = Asks Running words frames
+TextsMean words (Run r) = Asks Running words r
 TextsMean words Check = Asks Checking words tt
 TextsMean words (Relay frames) = Asks Relaying words frames
 TextsMean words (Mint m) = Asks Minting words m
-TextsMean words (Serve limits) = Asks Serving words limits
+TextsMean words (Serve s) = Asks Serving words s
 TextsMean words (RelayServe limits) = Asks RelayServing words limits
 TextsMean words (Audit frames) = Asks Auditing words frames
 TextsMean words (Drill d) = AsksDrill words d
+TextsMean words (Path p) = Asks Carrying words p
 
 -- the words mean the task
 abbrev pub Mean : List (String Global) → Task → Type 0

@@ -7,5 +7,5 @@ mod wanted;
 mod words;
 
 pub use limit_laws::limits_are;
-pub use wanted::{Drill, LANE_CONNECTIONS, MAX_FRAMES, Mint, Wanted};
+pub use wanted::{Drill, LANE_CONNECTIONS, MAX_FRAMES, Mint, Path, Route, Wanted};
 pub use words::{one_meaning, wanted_of};

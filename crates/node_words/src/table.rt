@@ -26,7 +26,11 @@ pub struct Entry {
 
 const SERVING: [Argument; 1] = [Valued("frames")];
 
+const RUNNING: [Argument; 2] = [Valued("frames"), Valued("lemmas")];
+
 const LANES: [Argument; 2] = [Valued("connections"), Valued("frames")];
+
+const SERVE: [Argument; 3] = [Valued("connections"), Valued("frames"), Valued("lemmas")];
 
 const MINT: [Argument; 6] = [
     Valued("issuer"),
@@ -37,10 +41,12 @@ const MINT: [Argument; 6] = [
     Valued("right"),
 ];
 
-const COMMANDS: [Entry; 7] = [
+const PATH: [Argument; 2] = [Valued("node"), Valued("route")];
+
+const COMMANDS: [Entry; 8] = [
     Entry {
         name: "run",
-        options: &SERVING,
+        options: &RUNNING,
     },
     Entry {
         name: "check",
@@ -56,7 +62,7 @@ const COMMANDS: [Entry; 7] = [
     },
     Entry {
         name: "serve",
-        options: &LANES,
+        options: &SERVE,
     },
     Entry {
         name: "relay-serve",
@@ -65,6 +71,10 @@ const COMMANDS: [Entry; 7] = [
     Entry {
         name: "audit",
         options: &SERVING,
+    },
+    Entry {
+        name: "path",
+        options: &PATH,
     },
 ];
 

@@ -1,22 +1,24 @@
 //! The words of a command line, read.
 
-ghost use Rattle.std.specs.Prelude.{◌≡◌, ◌↔◌, ◌+◌, ◌^◌, ℕ, List, String, codes, map, decimal, option_map, string_bytes, All, IsTrue, IfOk, MatchOption, Some};
+ghost use Rattle.std.specs.Prelude.{◌≡◌, ◌↔◌, ◌+◌, ◌^◌, ◌≤◌, ◌++◌, ◌∷◌, ℕ, List, String, codes, length, map, decimal, option_map, string_bytes, All, IsTrue, IfOk, MatchOption, Some};
 ghost use Rattle.std.specs.declared.alloc.Global.{Global};
 ghost use Rattle.clap.specs.Words.{Row, first_of, subcommand_rows_of};
-ghost use Rattle.node_words.specs.Words.{AreFrames, Command, Default, GivesDrill, GivesLimits, GivesMint, HasNumber, IsCount, IsMeaning, IsNumber, IsValue, Mean, MintWords, DrillWords, Task, drill_words, mint_words, named};
-ghost use Rattle.node_words.specs.Table.{IsOfTable, IsOption, IsOptionOf, IsReadAs, IsReadOf, all_options, texts_of};
+ghost use Rattle.node_words.specs.Words.{AreFrames, AreLemmas, Command, Default, GivesDrill, GivesLimits, GivesMint, GivesPath, GivesRun, GivesServe, HasNumber, HasRoute, IsCount, IsMeaning, IsNumber, IsValue, Mean, Task, drill_words, mint_words, named, path_words, run_words, serve_words};
+ghost use Rattle.node_words.specs.Routes.{GoesOn, IsRoute, numbers_in, pieces, pieces_behind};
+ghost use Rattle.node_words.specs.Table.{IsOfTable, IsOption, IsOptionOf, IsReadAs, IsReadBy, IsReadOf, all_options, texts_of};
 
 use crate::table::matches_of;
-use crate::wanted::{Drill, LANE_CONNECTIONS, MAX_FRAMES, Mint, Wanted};
+use crate::wanted::{Drill, LANE_CONNECTIONS, MAX_FRAMES, Mint, Path, Route, Wanted};
 use clap::ArgMatches;
 use clap::error::ErrorKind;
 use frame_link::Limits;
 use itoa::Buffer;
+use lemma_memo::MAX_LEMMAS;
 use std::alloc::{AllocError, Global};
 use taos_drill::{MAX_LANES, MAX_REQUESTS};
 
 // The options of all commands.
-const OPTIONS: [&str; 8] = [
+const OPTIONS: [&str; 11] = [
     "connections",
     "frames",
     "issuer",
@@ -25,6 +27,9 @@ const OPTIONS: [&str; 8] = [
     "quoted",
     "left",
     "right",
+    "node",
+    "route",
+    "lemmas",
 ];
 
 /// Words mean one task.
@@ -170,6 +175,50 @@ fn number_up_to(text: Option<&str>, most: u32) -> Option<u32>
     Some(number)
 }
 
+// What stands before the first comma, and what behind it, where there is one.
+fn cut(text: &str) -> (&str, Option<&str>)
+    ensures { pieces text.now
+        ≡ result.0.now ∷ pieces_behind (option_map (λ s. s.now) result.1) }
+{
+    match text.split_once(',') {
+        Some((first, later)) => (first, Some(later)),
+        None => (text, None),
+    }
+}
+
+// A route with the numbers behind it that a text joins, where it may have as many.
+fn with_later(route: Route, later: Option<&str>) -> Option<Route>
+    ensures { IsReadBy numbers_in
+        (GoesOn (numbers_in route) (option_map (λ s. s.now) later.entry)) result }
+{
+    let Some(text) = later else {
+        return Some(route);
+    };
+    let (first, behind) = cut(text);
+    let number = needed_u32(Some(first))?;
+    let more = route.and(number)?;
+    with_later(more, behind)
+}
+
+// The route whose numbers a text joins by commas.
+fn route_of(text: &str) -> Option<Route>
+    ensures { IsReadBy numbers_in (IsRoute text.now) result }
+{
+    let (first, later) = cut(text);
+    let number = needed_u32(Some(first))?;
+    with_later(Route::of(number), later)
+}
+
+// A route that has to be there.
+fn needed_route(text: Option<&str>) -> Option<Route>
+    ensures { IsReadBy numbers_in (HasRoute (option_map (λ s. s.now) text.entry)) result }
+{
+    match text {
+        Some(text) => route_of(text),
+        None => None,
+    }
+}
+
 // The text of an option, where that is given.
 #[tactic(auto, using(crate::proofs::Found::text_found))]
 fn text_of<'a>(options: &ArgMatches<'a>, name: &str) -> Option<&'a str>
@@ -185,6 +234,24 @@ fn frames_of<'a>(options: &ArgMatches<'a>) -> Option<u64>
     count_or(text_of(options, "frames"), MAX_FRAMES)
 }
 
+// A number up to a largest one that need not be given, and is another without.
+fn number_or(text: Option<&str>, most: u32, other: u32) -> Option<u32>
+    ensures { IsReadOf (Default (IsNumber (most + 1)) other
+        (option_map (λ s. s.now) text.entry)) result }
+{
+    match text {
+        Some(text) => number_up_to(Some(text), most),
+        None => Some(other),
+    }
+}
+
+// How many lemmas.
+fn lemmas_of<'a>(options: &ArgMatches<'a>) -> Option<u32>
+    ensures { IsReadOf (AreLemmas (texts_of options.now (codes "lemmas"))) result }
+{
+    number_or(text_of(options, "lemmas"), MAX_LEMMAS as u32, 0)
+}
+
 // What lanes are limited to.
 fn limits_of<'a>(options: &ArgMatches<'a>) -> Option<Limits>
     ensures { IsReadOf (GivesLimits (texts_of options.now)) result }
@@ -197,9 +264,24 @@ fn limits_of<'a>(options: &ArgMatches<'a>) -> Option<Limits>
     })
 }
 
+fn run_of<'a>(options: &ArgMatches<'a>) -> Option<(u64, u32)>
+    ensures { IsReadBy (λ r. run_words r.0 r.1) (GivesRun (texts_of options.now)) result }
+{
+    let frames = frames_of(options)?;
+    let lemmas = lemmas_of(options)?;
+    Some((frames, lemmas))
+}
+
+fn serve_of<'a>(options: &ArgMatches<'a>) -> Option<(Limits, u32)>
+    ensures { IsReadBy (λ s. serve_words s.0 s.1) (GivesServe (texts_of options.now)) result }
+{
+    let limits = limits_of(options)?;
+    let lemmas = lemmas_of(options)?;
+    Some((limits, lemmas))
+}
+
 fn mint_of<'a>(options: &ArgMatches<'a>) -> Option<Mint<'a>>
-    ensures { MatchOption result ((m : MintWords) → GivesMint (texts_of options.now) m → ⊥)
-        (λ m. GivesMint (texts_of options.now) (mint_words m)) }
+    ensures { IsReadBy mint_words (GivesMint (texts_of options.now)) result }
 {
     let issuer = needed_u32(text_of(options, "issuer"))?;
     let serial = needed_number(text_of(options, "serial"))?;
@@ -218,8 +300,7 @@ fn mint_of<'a>(options: &ArgMatches<'a>) -> Option<Mint<'a>>
 }
 
 fn drill_of<'a>(words: &ArgMatches<'a>) -> Option<Drill>
-    ensures { MatchOption result ((d : DrillWords) → GivesDrill (texts_of words.now) d → ⊥)
-        (λ d. GivesDrill (texts_of words.now) (drill_words d)) }
+    ensures { IsReadBy drill_words (GivesDrill (texts_of words.now)) result }
 {
     let seed = needed_number(text_of(words, "seed"))?;
     let requests = number_up_to(text_of(words, "requests"), MAX_REQUESTS)?;
@@ -234,26 +315,39 @@ fn drill_of<'a>(words: &ArgMatches<'a>) -> Option<Drill>
     })
 }
 
+fn path_of<'a>(options: &ArgMatches<'a>) -> Option<Path>
+    ensures { IsReadBy path_words (GivesPath (texts_of options.now)) result }
+{
+    let node = needed_u32(text_of(options, "node"))?;
+    let route = needed_route(text_of(options, "route"))?;
+    Some(Path { node, route })
+}
+
 // What the command of this name is asked for.
 fn asked_of<'a>(name: &str, options: &ArgMatches<'a>) -> Option<Wanted<'a>>
     ensures { (c : Command) → name.now ≡ named c
         → IsReadAs c (texts_of options.now) result }
 {
     match name {
-        "run" => Some(Wanted::Run {
-            frames: frames_of(options)?,
-        }),
+        "run" => {
+            let (frames, lemmas) = run_of(options)?;
+            Some(Wanted::Run { frames, lemmas })
+        }
         "check" => Some(Wanted::Check),
         "relay" => Some(Wanted::Relay {
             frames: frames_of(options)?,
         }),
         "mint" => Some(Wanted::Mint(mint_of(options)?)),
-        "serve" => Some(Wanted::Serve(limits_of(options)?)),
+        "serve" => {
+            let (limits, lemmas) = serve_of(options)?;
+            Some(Wanted::Serve { limits, lemmas })
+        }
         "relay-serve" => Some(Wanted::RelayServe(limits_of(options)?)),
         "audit" => Some(Wanted::Audit {
             frames: frames_of(options)?,
         }),
         "drill" => Some(Wanted::Drill(drill_of(options)?)),
+        "path" => Some(Wanted::Path(path_of(options)?)),
         _ => None,
     }
 }

@@ -18,6 +18,8 @@ pub struct RelaySide {
     pub nodes: Vec<NumberedKey>,
     pub issuers: Vec<NumberedKey>,
     pub says: Option<Vec<u8>>,
+    /// How often a relay of keys had failed before. None is 0.
+    pub faults: Option<u64>,
 }
 
 /// The calls of each object that fail, counted from 0.
@@ -34,8 +36,10 @@ pub struct Fails {
     pub relay: Vec<u64>,
     pub says: Vec<u64>,
     pub hears: Vec<u64>,
-    /// Of the lane's door.
+    /// Of the first lane's door.
     pub door: Vec<u64>,
+    /// Of the second lane's door, which has no connection.
+    pub second_door: Vec<u64>,
 }
 
 /// How many bytes each object takes; with no number, enough.
@@ -55,7 +59,7 @@ pub struct Setting {
     /// The most bytes of each of the first reads of the input. None is 0.
     pub pieces: Vec<u64>,
     pub readings: Vec<u64>,
-    /// How many connections the lane's door has, each with this input. None is 0.
+    /// How many connections the first lane's door has, each with this input. None is 0.
     pub connections: Option<u64>,
     pub relay: RelaySide,
     pub fails: Fails,
@@ -149,6 +153,7 @@ fn no_fails(alloc: Global) -> Fails {
         says: Vec::new(alloc),
         hears: Vec::new(alloc),
         door: Vec::new(alloc),
+        second_door: Vec::new(alloc),
     }
 }
 
@@ -164,6 +169,7 @@ fn plain_setting(alloc: Global) -> Setting {
             nodes: Vec::new(alloc),
             issuers: Vec::new(alloc),
             says: None,
+            faults: None,
         },
         fails: no_fails(alloc),
         rooms: Rooms {

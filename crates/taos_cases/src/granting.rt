@@ -7,6 +7,7 @@ use frame_link::{MemClock, NoRelay};
 use std::alloc::{AllocError, Global};
 use std::sync::Wait;
 use std::thread::Threads;
+use taos_node::Lane;
 
 // The line of a check has no more bytes.
 const LINE: usize = 1000;
@@ -69,9 +70,8 @@ fn checked<W: Threads + Wait + Sync>(
 ) -> Result<u8, AllocError> {
     let clock = MemClock::new(readings_of(alloc, &[])?, Vec::new(alloc));
     let words = [String::from_str(alloc, "check")?];
-    let door = no_door(alloc)?;
-    let (status, _) = call(rt, alloc, &words, around, clock, NoRelay::new(), door);
-    Ok(status)
+    let mut lanes = [Lane::of(clock, NoRelay::new(), no_door(alloc, &[])?)];
+    Ok(call(rt, alloc, &words, around, &mut lanes))
 }
 
 // Whether the line tells a grant of this entry by so many certificates, whatever the lines of its

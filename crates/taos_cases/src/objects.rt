@@ -102,12 +102,12 @@ pub fn left_of(alloc: Global, source: &mut MemSource) -> Result<Vec<u8>, AllocEr
 /// A door of a lane, over objects in memory.
 pub type LaneDoor = MemDoor<MemSource, MemSink>;
 
-/// A door that has no connection.
-pub fn no_door(alloc: Global) -> Result<LaneDoor, AllocError> {
-    MemDoor::new(alloc, Vec::new(alloc), Vec::new(alloc))
+/// A door that has no connection, and at which these calls fail.
+pub fn no_door(alloc: Global, fails: &[u64]) -> Result<LaneDoor, AllocError> {
+    MemDoor::new(alloc, Vec::new(alloc), fails.to_vec(alloc)?)
 }
 
-/// The door of a conversation's lane: each of its connections gives the input.
+/// The door of a conversation's first lane: each of its connections gives the input.
 pub fn door_of(alloc: Global, case: &Conversation, manner: Manner) -> Result<LaneDoor, AllocError> {
     let setting = &case.setting;
     let room = room_of(setting.rooms.output, case.wanted.output_most());

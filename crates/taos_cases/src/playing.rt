@@ -1,9 +1,11 @@
 //! A conversation, played over objects in memory.
 
+ghost use Rattle.std.specs.Prelude.{◌<◌, ◌≤◌, length};
+
 use crate::case::{Conversation, NumberedKey, Setting};
 use crate::objects::{
-    Around, LaneDoor, Manner, around_of, door_of, faults_at, left_of, readings_of, room_of,
-    sink_of, source_of, written_to,
+    Around, LaneDoor, Manner, around_of, door_of, faults_at, left_of, no_door, readings_of,
+    room_of, sink_of, source_of, written_to,
 };
 use frame_link::{MemClock, MemSink, MemSource, NoRelay, RelayLink};
 use keyed_seal::KeyTable;
@@ -19,7 +21,7 @@ use taos_node::{Lane, taos};
 pub struct Played {
     pub status: u8,
     pub around: Around,
-    /// What was written to the connections of the lane's door, in order, and then to the output.
+    /// What was written to the connections of the first lane's door, in order, and then to the output.
     pub written: Vec<u8>,
     /// How often the objects of the call failed, all together.
     pub faults: u64,
@@ -29,21 +31,21 @@ pub struct Played {
     pub left: Vec<u8>,
 }
 
-/// The lane of a call.
-pub type Lanes<R> = [Lane<MemClock, R, LaneDoor>; 1];
+/// The lanes of a conversation. No door of the second has a connection.
+type Lanes<R> = [Lane<MemClock, R, LaneDoor>; 2];
 
-/// Calls `taos`, and gives its status and the lane.
+/// Calls `taos` over these lanes, and gives its status.
 pub fn call<W: Threads + Wait + Sync, R: RelayLink + Send + Drop>(
     rt: &W,
     alloc: Global,
     words: &[String],
     around: &mut Around,
-    clock: MemClock,
-    relay: R,
-    door: LaneDoor,
-) -> (u8, Lanes<R>) {
-    let mut lanes = [Lane::of(clock, relay, door)];
-    let status = taos(
+    lanes: &mut [Lane<MemClock, R, LaneDoor>],
+) -> u8
+    requires some { 0 < length lanes.old }
+    requires few { length lanes.old ≤ 2 }
+{
+    taos(
         rt,
         alloc,
         words,
@@ -51,9 +53,8 @@ pub fn call<W: Threads + Wait + Sync, R: RelayLink + Send + Drop>(
         &mut around.input,
         &mut around.output,
         &mut around.notes,
-        &mut lanes,
-    );
-    (status, lanes)
+        lanes,
+    )
 }
 
 fn clock_of(alloc: Global, setting: &Setting) -> Result<MemClock, AllocError> {
@@ -76,50 +77,62 @@ fn all_written(alloc: Global, around: &Around, door: &LaneDoor) -> Result<Vec<u8
     Ok(written)
 }
 
-// What came of a call with this status, where its clock failed so often, without the link's faults.
+// How often the clock and the door of a lane failed.
+fn lane_faults<R: RelayLink>(lane: &Lane<MemClock, R, LaneDoor>) -> u64 {
+    lane.clock.faults().saturating_add(faults_at(&lane.door))
+}
+
+// What came of a call with this status, where its lanes failed so often, without the links' faults.
 fn played_of(
     alloc: Global,
     case: &Conversation,
     status: u8,
     mut around: Around,
-    clock_faults: u64,
+    lane_faults: u64,
     door: &LaneDoor,
 ) -> Result<Played, AllocError> {
-    let faults = around.faults().saturating_add(clock_faults);
+    let faults = around.faults().saturating_add(lane_faults);
     let written = all_written(alloc, &around, door)?;
     let left = rest_of(alloc, case, &mut around)?;
     Ok(Played {
         status,
         around,
         written,
-        faults: faults.saturating_add(faults_at(door)),
+        faults,
         hears: None,
         left,
     })
 }
 
-// The call over this link: what came of it, without the link's faults, and the lane.
+// The lanes of a conversation, over these links.
+fn lanes_of<R: RelayLink + Drop>(
+    alloc: Global,
+    case: &Conversation,
+    manner: Manner,
+    relay: R,
+    other: R,
+) -> Result<Lanes<R>, AllocError> {
+    let door = door_of(alloc, case, manner)?;
+    let second = no_door(alloc, &case.setting.fails.second_door)?;
+    let spare = MemClock::new(readings_of(alloc, &[])?, Vec::new(alloc));
+    let clock = clock_of(alloc, &case.setting)?;
+    Ok([Lane::of(clock, relay, door), Lane::of(spare, other, second)])
+}
+
+// The call over these links: what came of it, without the links' faults, and the lanes.
 fn play_over<W: Threads + Wait + Sync, R: RelayLink + Send + Drop>(
     rt: &W,
     alloc: Global,
     case: &Conversation,
     manner: Manner,
     relay: R,
+    other: R,
 ) -> Result<(Played, Lanes<R>), AllocError> {
-    let clock = clock_of(alloc, &case.setting)?;
     let mut around = around_of(alloc, case, manner)?;
-    let door = door_of(alloc, case, manner)?;
-    let (status, lanes) = call(
-        rt,
-        alloc,
-        &case.setting.words,
-        &mut around,
-        clock,
-        relay,
-        door,
-    );
-    let clock_faults = lanes[0].clock.faults();
-    let played = played_of(alloc, case, status, around, clock_faults, &lanes[0].door)?;
+    let mut lanes = lanes_of(alloc, case, manner, relay, other)?;
+    let status = call(rt, alloc, &case.setting.words, &mut around, &mut lanes);
+    let faults = lane_faults(&lanes[0]).saturating_add(lane_faults(&lanes[1]));
+    let played = played_of(alloc, case, status, around, faults, &lanes[0].door)?;
     Ok((played, lanes))
 }
 
@@ -132,24 +145,30 @@ fn table_of(alloc: Global, keys: &[NumberedKey]) -> Result<KeyTable, AllocError>
     Ok(table)
 }
 
+// A relay of the conversation's keys.
+fn relay_of(alloc: Global, setting: &Setting) -> Result<MemRelay, AllocError> {
+    let side = &setting.relay;
+    let table = RelayTable {
+        issuers: table_of(alloc, &side.issuers)?,
+        nodes: table_of(alloc, &side.nodes)?,
+    };
+    Ok(MemRelay {
+        relay: LocalRelay { alloc, table },
+        fails: setting.fails.relay.to_vec(alloc)?,
+        calls: 0,
+        faults: side.faults.unwrap_or(0),
+    })
+}
+
 fn play_by_keys<W: Threads + Wait + Sync>(
     rt: &W,
     alloc: Global,
     case: &Conversation,
     manner: Manner,
 ) -> Result<Played, AllocError> {
-    let side = &case.setting.relay;
-    let table = RelayTable {
-        issuers: table_of(alloc, &side.issuers)?,
-        nodes: table_of(alloc, &side.nodes)?,
-    };
-    let relay = MemRelay {
-        relay: LocalRelay { alloc, table },
-        fails: case.setting.fails.relay.to_vec(alloc)?,
-        calls: 0,
-        faults: 0,
-    };
-    let (mut played, lanes) = play_over(rt, alloc, case, manner, relay)?;
+    let relay = relay_of(alloc, &case.setting)?;
+    let other = relay_of(alloc, &case.setting)?;
+    let (mut played, lanes) = play_over(rt, alloc, case, manner, relay, other)?;
     played.faults = played.faults.saturating_add(lanes[0].relay.faults);
     Ok(played)
 }
@@ -179,8 +198,8 @@ fn play_by_link<W: Threads + Wait + Sync>(
     says: &[u8],
 ) -> Result<Played, AllocError> {
     let relay = link_of(alloc, case, says)?;
-    let spare = link_of(alloc, case, &[])?;
-    let (mut played, mut lanes) = play_over(rt, alloc, case, manner, relay)?;
+    let (other, spare) = (link_of(alloc, case, &[])?, link_of(alloc, case, &[])?);
+    let (mut played, mut lanes) = play_over(rt, alloc, case, manner, relay, other)?;
     let relay = mem::replace(&mut lanes[0].relay, spare);
     played.faults = played.faults.saturating_add(relay.faults());
     let (_, hears) = relay.into_parts();
@@ -202,7 +221,7 @@ pub fn play<W: Threads + Wait + Sync>(
     if !side.nodes.is_empty() || !side.issuers.is_empty() {
         return play_by_keys(rt, alloc, case, manner);
     }
-    let (mut played, lanes) = play_over(rt, alloc, case, manner, NoRelay::new())?;
+    let (mut played, lanes) = play_over(rt, alloc, case, manner, NoRelay::new(), NoRelay::new())?;
     played.faults = played.faults.saturating_add(lanes[0].relay.faults());
     Ok(played)
 }

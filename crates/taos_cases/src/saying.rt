@@ -149,6 +149,7 @@ fn says_setting(
         "relay-node" => add_relay_key(names, &mut setting.relay, false, text),
         "relay-issuer" => add_relay_key(names, &mut setting.relay, true, text),
         "relay-says" => add_says(names, &mut setting.relay, text),
+        "relay-faults" => put_number(&mut setting.relay.faults, text),
         "output-room" => put_number(&mut setting.rooms.output, text),
         "notes-room" => put_number(&mut setting.rooms.notes, text),
         "hears-room" => put_number(&mut setting.rooms.hears, text),
@@ -172,6 +173,7 @@ fn says_fails(case: &mut Conversation, key: &str, text: &str) -> Result<bool, Li
         "says-fails" => add_numbers(&mut fails.says, text),
         "hears-fails" => add_numbers(&mut fails.hears, text),
         "door-fails" => add_numbers(&mut fails.door, text),
+        "second-door-fails" => add_numbers(&mut fails.second_door, text),
         _ => return Ok(false),
     };
     added?;

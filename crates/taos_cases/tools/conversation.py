@@ -8,10 +8,10 @@ WIDTH = 100
 SHORT = 16
 NUMBERS = ["pieces", "clock"]
 FAILS = ["file-fails", "input-fails", "byte-fails", "output-fails", "notes-fails", "clock-fails"]
-FAILS += ["relay-fails", "says-fails", "hears-fails", "door-fails"]
+FAILS += ["relay-fails", "says-fails", "hears-fails", "door-fails", "second-door-fails"]
 ROOMS = ["output-room", "notes-room", "hears-room"]
 BYTES = ["file", "input", "relay-says", "output", "hears", "left"]
-KEYS = ["words", "file", "input", "connections", "pieces", "clock", "relay-node", "relay-issuer", "relay-says"]
+KEYS = ["words", "file", "input", "connections", "pieces", "clock", "relay-node", "relay-issuer", "relay-faults", "relay-says"]
 KEYS += FAILS + ROOMS + ["output", "hears", "left", "status", "note", "note-front", "faults"]
 
 

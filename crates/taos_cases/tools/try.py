@@ -26,8 +26,8 @@ from reading import Granted, all_files, read
 from relay import Relay
 
 HERE = os.path.dirname(os.path.abspath(__file__))
-UNFIT = ["connections", "pieces", "relay-says", "note-front", "output-room", "notes-room", "hears-room"]
-FAILING = ["file", "input", "byte", "output", "notes", "clock", "relay", "says", "hears", "door"]
+UNFIT = ["connections", "pieces", "relay-faults", "relay-says", "note-front", "output-room", "notes-room", "hears-room"]
+FAILING = ["file", "input", "byte", "output", "notes", "clock", "relay", "says", "hears", "door", "second-door"]
 UNFIT += [f"{each}-fails" for each in FAILING]
 MOST_SECONDS = 2**63 - 1
 WORKERS, LIMIT, TAG, FRONT = 4, 120, 32, 28

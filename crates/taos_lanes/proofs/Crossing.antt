@@ -2,9 +2,11 @@
 use denote.Param.Send.{IsSend, IsSync, sendable}
 use denote.Param.SendFields.{declared_send, declared_sync, as_row_send, as_row_sync}
 use Rattle.std.proofs.Crossing.{crosses}
-use Rattle.agent_shards.proofs.Crossing.{agent_sync, passes_send, rack_passes_send, rack_sync}
+use Rattle.agent_shards.proofs.Crossing.{agent_sync, cert_send, cert_sync, passes_send, rack_passes_send, rack_sync, term_send}
 use Rattle.std.proofs.alloc.Global.TheSendSync as global
 use Rattle.std.proofs.option.Option.TheSendSync as option
+use Rattle.arrayvec.proofs.array_vec.ArrayVec.TheSendSync as array_vec
+use Rattle.lru.proofs.cache.LruCache.TheSendSync as lru_cache
 use Rattle.taos_lanes.specs.contracts.lane.Lane as lane
 use Rattle.taos_lanes.specs.contracts.lane.Stock as stock
 use Rattle.taos_lanes.specs.contracts.sitting.Shared as shared
@@ -13,7 +15,13 @@ use Rattle.relay_core.specs.contracts.resealing.RelayTable as table
 use Rattle.relay_core.proofs.resealing.RelayTable.TheSendSync as table_cross
 use Rattle.taos_lanes.proofs.tally.Tally.TheSendSync as tally
 use Rattle.goal_search.specs.contracts.workbench.Workbench as workbench
+use Rattle.goal_search.specs.contracts.workbench.WorkbenchDecide.TheImpl.{ghosts}
 use Rattle.goal_search.proofs.asked.Asked.TheSendSync as asked
+use Rattle.lemma_memo.specs.contracts.kept.Kept as kept
+use Rattle.lemma_memo.specs.contracts.lemmas.Lemmas as lemmas
+use Rattle.lemma_memo.specs.contracts.memory.Memory as memory
+use Rattle.prin_term.proofs.term.Anchor.TheSendSync as anchor
+use Rattle.taos_calculus.proofs.proof.Proof.TheSendSync as proof
 use Rattle.taos_monitor.specs.contracts.node_keys.NodeKeys as keys
 use Rattle.taos_monitor.proofs.node_keys.NodeKeys.TheSendSync as keys_cross
 
@@ -23,8 +31,32 @@ workbench_inside = declared_send workbench.TheInside.the_type (asked.the_send, t
 workbench_send : IsSend workbench.the_row
 workbench_send = search (sendable, workbench_inside)
 
+kept_send : IsSend kept.the_row
+kept_send = declared_send kept.the_type (term_send, (term_send, (search (sendable, proof.the_send), (search (sendable, as_row_send, array_vec.the_send), tt))))
+
+memory_inside : IsSend memory.TheInside.the_row
+memory_inside = declared_send memory.TheInside.the_type (
+  search (sendable, crosses, as_row_send, anchor.the_send, anchor.the_sync),
+  (
+    search (sendable, crosses, as_row_send, cert_send, cert_sync),
+    (
+      search (sendable, as_row_send),
+      (search (sendable, as_row_send, option.the_send, array_vec.the_send), (search (sendable, crosses, as_row_send, option.the_send, lru_cache.the_send, global.the_send, kept_send) depth 10, (search (sendable, as_row_send), tt))),
+    ),
+  ),
+)
+
+memory_send : IsSend memory.the_row
+memory_send = search (sendable, memory_inside)
+
+lemmas_inside : IsSend (lemmas.TheInside.the_row workbench.the_row ghosts)
+lemmas_inside = declared_send (lemmas.TheInside.the_type workbench.the_row ghosts) (search (sendable, workbench_send), (memory_send, tt))
+
+lemmas_send : IsSend (lemmas.the_row workbench.the_row ghosts)
+lemmas_send = search (sendable, lemmas_inside)
+
 pub stock_send : IsSend stock.the_row
-stock_send = declared_send stock.the_type (passes_send, (rack_passes_send, (workbench_send, (tally.the_send, tt))))
+stock_send = declared_send stock.the_type (passes_send, (rack_passes_send, (lemmas_send, (tally.the_send, tt))))
 
 pub keys_sync : IsSync keys.the_row
 keys_sync = keys_cross.the_sync

@@ -8,5 +8,6 @@ pub mod Stocked
 pub mod Totals
 pub mod Joining
 pub mod Parts
+pub mod Remembering
 pub mod Serving
 pub mod Relaying

@@ -6,6 +6,7 @@ use crate::tally::Tally;
 use agent_shards::{Passes, RackPasses};
 use frame_link::{Clock, Door, RelayLink};
 use goal_search::Workbench;
+use lemma_memo::Lemmas;
 
 /// What a lane has while the workers run: its passes of each shard and of each object, its decider,
 /// and what it has counted.
@@ -13,7 +14,7 @@ use goal_search::Workbench;
 pub struct Stock {
     pub(crate) passes: Passes,
     pub(crate) racked: RackPasses,
-    pub(crate) bench: Workbench,
+    pub(crate) bench: Lemmas<Workbench>,
     pub(crate) tally: Tally,
 }
 

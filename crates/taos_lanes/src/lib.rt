@@ -2,6 +2,7 @@
 //! its door at seats of the node's cells, beside the others; or the doors are a relay's.
 #![tactic(auto)]
 
+mod bench;
 mod joining;
 mod lane;
 mod laws;
@@ -16,6 +17,7 @@ mod together;
 mod total;
 mod worker;
 
+pub use bench::bench_of;
 pub use lane::{Lane, Stock};
 pub use laws::{
     chains_go_on, closed_lanes_serve_all, joined_lanes_are_closed, steady_visits_have_no_fault,

@@ -4,6 +4,7 @@ use agent_core::Shard;
 use object_core::Object;
 use prin_term::Anchor;
 use std::sync::Arc;
+use stmt_codec::Cert;
 use taos_monitor::NodeKeys;
 
 /// A node's keys, its shards and its objects, before anyone steps them.
@@ -14,5 +15,7 @@ pub struct NodeParts {
     pub shards: Vec<Shard>,
     /// Those of each shard.
     pub anchors: Arc<Vec<Anchor>>,
+    /// Those of each shard.
+    pub commons: Vec<Arc<Cert>>,
     pub objects: Vec<Object>,
 }

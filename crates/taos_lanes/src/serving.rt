@@ -10,6 +10,7 @@ ghost use Rattle.taos_lanes.specs.Stocked.{cells_of, node_at, shown_by};
 ghost use Rattle.taos_lanes.specs.Telling.{change, told_by};
 ghost use Rattle.taos_monitor.specs.Planned.{ArePlanned};
 
+use crate::bench::Memos;
 use crate::joining::join_lanes;
 use crate::lane::Lane;
 use crate::laws::closed_lanes_serve_all;
@@ -24,7 +25,7 @@ use frame_link::{Clock, Door, Limits, RelayLink};
 use object_core::Object;
 use std::alloc::{AllocError, Global};
 use std::marker::{Brand, PhantomData};
-use std::sync::Wait;
+use std::sync::{Arc, Wait};
 use std::thread::Threads;
 use taos_monitor::NodeKeys;
 
@@ -58,6 +59,7 @@ fn serve_cells<W: Threads + Wait + Sync, C: Clock + Send, R: RelayLink + Send, D
     keys: &NodeKeys,
     shards: (Agent, Passes),
     objects: (Rack, RackPasses),
+    memos: &Memos,
     lanes: &mut [Lane<C, R, D>],
     limits: Limits,
 ) -> Result<Served, AllocError>
@@ -77,7 +79,7 @@ fn serve_cells<W: Threads + Wait + Sync, C: Clock + Send, R: RelayLink + Send, D
     closed_lanes_serve_all();
     let (agent, mut passes) = shards;
     let (rack, mut racked) = objects;
-    let Ok(()) = stock_lanes(alloc, &agent, &rack, &mut passes, &mut racked, lanes) else {
+    let Ok(()) = stock_lanes(alloc, memos, &agent, &rack, &mut passes, &mut racked, lanes) else {
         empty(lanes);
         return Err(AllocError);
     };
@@ -106,6 +108,7 @@ fn serve_new<W: Threads + Wait + Sync, C: Clock + Send, R: RelayLink + Send, D: 
     parts: NodeParts,
     lanes: &mut [Lane<C, R, D>],
     limits: Limits,
+    lemmas: u32,
 ) -> Result<Served, AllocError>
     requires some { 0 < length lanes.old }
     requires few { length lanes.old ≤ MAX_LANES }
@@ -121,23 +124,31 @@ fn serve_new<W: Threads + Wait + Sync, C: Clock + Send, R: RelayLink + Send, D: 
         keys,
         shards,
         anchors,
+        commons,
         objects,
     } = parts;
+    let memos = Memos {
+        anchors: Arc::try_clone(&anchors)?,
+        commons,
+        lemmas,
+    };
     let opened = Agent::new(alloc, shards, anchors)?;
     let racked = Rack::new(alloc, objects)?;
-    serve_cells(rt, alloc, &keys, opened, racked, lanes, limits)
+    serve_cells(rt, alloc, &keys, opened, racked, &memos, lanes, limits)
 }
 
 /// Serves the doors of all lanes by the node of the parts, all at the same time, a worker a lane,
 /// until each has served as many connections as the limits say, or its door has no more or fails.
 /// All memory for the lanes is taken before the first connection; where it is refused, no door was
-/// asked. The decider of a lane takes room of its own. The lanes keep nothing of their work.
+/// asked. The decider of a lane takes room of its own, for so many lemmas too, 1,024 at most; nothing
+/// shows that it remembers them. The lanes keep nothing of their work.
 pub fn serve<W: Threads + Wait + Sync, C: Clock + Send, R: RelayLink + Send, D: Door + Send>(
     rt: &W,
     alloc: Global,
     parts: NodeParts,
     lanes: &mut [Lane<C, R, D>],
     limits: Limits,
+    lemmas: u32,
 ) -> Result<Served, AllocError>
     requires some { 0 < length lanes.old }
     requires few { length lanes.old ≤ MAX_LANES }
@@ -149,7 +160,7 @@ pub fn serve<W: Threads + Wait + Sync, C: Clock + Send, R: RelayLink + Send, D: 
     ensures unserved { let shown = shown_by C.shown R.shown D.shown in
         OnErr result (AllZip HasOtherWork (map shown lanes.old) (map shown lanes.new)) }
 {
-    match serve_new(rt, alloc, parts, lanes, limits) {
+    match serve_new(rt, alloc, parts, lanes, limits, lemmas) {
         Ok(served) => Ok(served),
         Err(AllocError) => {
             empty(lanes);

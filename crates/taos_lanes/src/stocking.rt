@@ -1,21 +1,23 @@
 //! What lanes are given before their workers run.
 
 ghost use Rattle.std.specs.List.{AllZip};
-ghost use Rattle.std.specs.Prelude.{◌+◌, ◌<◌, IfOk, OnErr, OnOk, length, map};
+ghost use Rattle.std.specs.Prelude.{◌≡◌, ◌+◌, ◌<◌, IfOk, OnErr, OnOk, length, map};
 ghost use Rattle.taos_lanes.specs.Joining.{AreKept, HasOtherWork, IsFreshStock, IsGivenStock, passes_of};
+ghost use Rattle.taos_lanes.specs.Remembering.{memo_of};
 ghost use Rattle.taos_lanes.specs.Stocked.{cells_of, shown_by};
 ghost use Rattle.turn_cell.specs.declared.shares.TheConstants.{ALL_SHARES};
 
+use crate::bench::{Memos, bench_of};
 use crate::lane::{Lane, Stock};
 use crate::tally::Tally;
 use agent_shards::{Agent, Passes, Rack, RackPasses};
 use frame_link::{Clock, Door, RelayLink};
-use goal_search::Workbench;
 use std::alloc::{AllocError, Global};
 
 // One share of each cell out of the passes, with a decider.
 pub(crate) fn stock_of(
     alloc: Global,
+    memos: &Memos,
     agent: &Agent,
     rack: &Rack,
     passes: &mut Passes,
@@ -28,8 +30,9 @@ pub(crate) fn stock_of(
     ensures stock { IfOk result (λ s. IsFreshStock (cells_of agent.now rack.now) s) }
     ensures kept { IfOk result (λ _. AreKept (cells_of agent.now rack.now) (given + 1)
         (passes_of passes.new racked.new)) }
+    ensures memo { IfOk result (λ s. s.bench.memo ≡ memo_of memos.now) }
 {
-    let bench = Workbench::reserve(alloc)?;
+    let bench = bench_of(alloc, &memos.anchors, &memos.commons, memos.lemmas)?;
     Ok(Stock {
         passes: agent.seat(alloc, passes, 1)?,
         racked: rack.seat(alloc, racked, 1)?,
@@ -41,6 +44,7 @@ pub(crate) fn stock_of(
 // Gives each lane a stock. Where memory is refused some may have one.
 pub(crate) fn stock_lanes<C: Clock, R: RelayLink, D: Door>(
     alloc: Global,
+    memos: &Memos,
     agent: &Agent,
     rack: &Rack,
     passes: &mut Passes,
@@ -59,7 +63,7 @@ pub(crate) fn stock_lanes<C: Clock, R: RelayLink, D: Door>(
 {
     let mut given = 0;
     for lane in lanes.iter_mut() {
-        lane.work = Some(stock_of(alloc, agent, rack, passes, racked, given)?);
+        lane.work = Some(stock_of(alloc, memos, agent, rack, passes, racked, given)?);
         given += 1;
     }
     Ok(())

@@ -140,13 +140,13 @@ same_way op targets steps s t (placeless other rest so d) (roomless done shard p
 same_way op targets steps s t (placeless shard rest is d) (placeless other more so e) = refl
 
 -- steps that stand in the journals
-abbrev IsEntry : (ℕ → List Entry) → ShardStep → Type 0
+abbrev pub IsEntry : (ℕ → List Entry) → ShardStep → Type 0
 IsEntry J s = (event : Event) × (before : List Entry) × Stands (J s.shard) s.place before (entry event s.told)
 
 as_entry : (J : ℕ → List Entry) (effect : Option Event) (steps : List ShardStep) → All (IsStep J effect) steps → All (IsEntry J) steps
 as_entry J effect steps all k d lt = let s = all k d lt in (s.event, s.before, s.stands)
 
-performed_entries : (plans : List Plan) (J : ℕ → List Entry) (op : Op) (certs : List Certificate) (reading : ℕ) (steps : List ShardStep) (refused : Option Reply) → IsPerformed plans J op (effect_of op certs reading) steps refused → All (IsEntry J) steps
+pub performed_entries : (plans : List Plan) (J : ℕ → List Entry) (op : Op) (certs : List Certificate) (reading : ℕ) (steps : List ShardStep) (refused : Option Reply) → IsPerformed plans J op (effect_of op certs reading) steps refused → All (IsEntry J) steps
 performed_entries plans J op certs reading steps refused (through w lets) = as_entry J _ steps w.are_done.stand
 performed_entries plans J op certs reading steps refused (not_held digest is w none) = as_entry J _ steps w.are_done.stand
 performed_entries plans J op certs reading steps refused (no_room {shard} {told} lacks f) =
@@ -156,7 +156,7 @@ performed_entries plans J op certs reading steps refused (no_room {shard} {told}
 performed_entries plans J op certs reading steps refused (no_place f) = as_entry J _ steps f.are_done.stand
 
 -- two steps at one place are one
-one_step : (J : ℕ → List Entry) (a b : ShardStep) → IsEntry J a → IsEntry J b → its_place a ≡ its_place b → a ≡ b
+pub one_step : (J : ℕ → List Entry) (a b : ShardStep) → IsEntry J a → IsEntry J b → its_place a ≡ its_place b → a ≡ b
 one_step J a b (event, before, stands) (other, others, also) same =
     let shard : a.shard ≡ b.shard = shard_of a.shard b.shard (ap (λ (p : Place). p.cell) same) in
     let place : a.place ≡ b.place = ap (λ (p : Place). p.number) same in
@@ -267,20 +267,20 @@ guarded_ways plans plan J x own reply (granted {place} {at} {entry} {c} {kept} {
 -- ---- how far a payload came
 
 module _ (n : Node) (payload : List ℕ) (calls : List LinkCall) (Rest : Request → ℕ → Type 0) where
-  abbrev ToObject : Request → ℕ → Type 0
+  abbrev pub ToObject : Request → ℕ → Type 0
   ToObject r s = ((fixed_at n.objects r.object ≡ None) × (s ≡ 9)) ⊎ ((object : ObjectFixed) × (fixed_at n.objects r.object ≡ Some object) × Rest r s)
 
-  abbrev ToCerts : Request → ℕ → Type 0
+  abbrev pub ToCerts : Request → ℕ → Type 0
   ToCerts r s = (((index code : ℕ) × IsFirstRefused n.relay_key r.certs calls index code) × (s ≡ 6)) ⊎
       ((((index : ℕ) × IsFirstFailed n.relay_key r.certs calls index) × (s ≡ 8)) ⊎ (((certs : List Certificate) × AreOpened n.relay_key r.certs calls certs) × ToObject r s))
 
-  abbrev ToSeal : Request → List ℕ → ℕ → Type 0
+  abbrev pub ToSeal : Request → List ℕ → ℕ → Type 0
   ToSeal r key s = ((IsSealed key payload → ⊥) × (s ≡ 4)) ⊎ (IsSealed key payload × ToCerts r s)
 
-  abbrev ToKey : Request → ℕ → Type 0
+  abbrev pub ToKey : Request → ℕ → Type 0
   ToKey r s = ((key_of n.channels r.channel ≡ None) × (s ≡ 3)) ⊎ ((key : List ℕ) × (key_of n.channels r.channel ≡ Some key) × ToSeal r key s)
 
-  abbrev Comes : ℕ → Type 0
+  abbrev pub Comes : ℕ → Type 0
   Comes s = (((r : Request) → Spells r payload → ⊥) × (s ≡ 2)) ⊎ ((r : Request) × Spells r payload × ToKey r s)
 
   module _ (s t : ℕ) (agree : (r : Request) → Rest r s → Rest r t → s ≡ t) where
@@ -326,7 +326,7 @@ module _ (n : Node) (payload : List ℕ) (calls : List LinkCall) (Rest : Request
     keys_agree r (inr (key, is, rest)) (inr (other, also, more)) =
         seals_agree r key rest (subst (λ (k : List ℕ). ToSeal r k t) (same_Some other key (sym also ∙ is)) more)
 
-    all_agree : Comes s → Comes t → s ≡ t
+    pub all_agree : Comes s → Comes t → s ≡ t
     all_agree (inl x) (inl y) = x.1 ∙ sym y.1
     all_agree (inl x) (inr (r, spelled, rest)) = absurd (x.0 r spelled)
     all_agree (inr (r, spelled, rest)) (inl y) = absurd (y.0 r spelled)

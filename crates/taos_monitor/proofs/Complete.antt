@@ -50,27 +50,27 @@ use Rattle.taos_monitor.proofs.Walks.{targets_there}
 
 -- ---- places
 
-head : {X : Type 0} (x : X) (xs : List X) → Contains (x ∷ xs) x
+pub head : {X : Type 0} (x : X) (xs : List X) → Contains (x ∷ xs) x
 head x xs = (0, omega arith, refl)
 
 behind : {X : Type 0} (y x : X) (xs : List X) → Contains xs x → Contains (y ∷ xs) x
 behind y x xs h = Contains-append_right (y ∷ []) xs x h
 
-in_middle : {X : Type 0} (xs front rest : List X) (x : X) → xs ≡ front ++ x ∷ rest → Contains xs x
+pub in_middle : {X : Type 0} (xs front rest : List X) (x : X) → xs ≡ front ++ x ∷ rest → Contains xs x
 in_middle xs front rest x is = subst (λ l. Contains l x) (sym is) (Contains-append_right front (x ∷ rest) x (head x rest))
 
-mapped : {X Y : Type 0} (f : X → Y) (xs : List X) (x : X) → Contains xs x → Contains (map f xs) (f x)
+pub mapped : {X Y : Type 0} (f : X → Y) (xs : List X) (x : X) → Contains xs x → Contains (map f xs) (f x)
 mapped f xs x (i, lt, at) = (i, omega (arith, lt, length-map xs f), get_or-map f xs i x (f x) lt ∙ ap f at)
 
 none_let_go : (k : ℕ) → (0 < k → ⊥) → k ≡ 0
 none_let_go zero never = refl
 none_let_go (suc k) never = absurd (never (omega arith))
 
-front_of_stands : {E : Type 0} {journal before : List E} {at : ℕ} {e : E} → Stands journal at before e → Begins before journal
+pub front_of_stands : {E : Type 0} {journal before : List E} {at : ℕ} {e : E} → Stands journal at before e → Begins before journal
 front_of_stands {e = e} s = record { rest = e ∷ s.rest; is = s.is }
 
 -- what is told for want of room is that the commons are full
-room_told : (shard : ℕ) (told : Told) (reply : Reply) → lacks_room shard told ≡ Some reply → (held : ℕ) × (told ≡ Told.CommonsFull held) × (replies.CommonsFull held shard ≡ reply)
+pub room_told : (shard : ℕ) (told : Told) (reply : Reply) → lacks_room shard told ≡ Some reply → (held : ℕ) × (told ≡ Told.CommonsFull held) × (replies.CommonsFull held shard ≡ reply)
 room_told shard (Told.CommonsFull held) reply is = (held, refl, same_Some (replies.CommonsFull held shard) reply is)
 room_told shard _ reply is = absurd cc
 
@@ -89,7 +89,7 @@ module _ (n : Node) (J : Journals) (legal : AreLegal n J) (x : Seeking) (plan : 
   stepped own shard p at place owned before event told s = record { plan = p; planned = at; place = place; owned = owned; before = before; stands = s }
 
   -- the Ask is at the first own place
-  abbrev asked : (rest : List Place) (entries : List ObjectEntry) → Begins entries (J.objects x.request.object) → (place : ℕ) (before : List Entry) (told : Told) →
+  abbrev pub asked : (rest : List Place) (entries : List ObjectEntry) → Begins entries (J.objects x.request.object) → (place : ℕ) (before : List Entry) (told : Told) →
       Stands (J.shards x.shard) place before (entry (Asks (the_ask entries)) told) → HasAsked n J (in_shard x.shard place ∷ rest) x
   asked rest entries begins place before told s = record {
     entries = entries;
@@ -132,11 +132,11 @@ module _ (n : Node) (J : Journals) (legal : AreLegal n J) (x : Seeking) (plan : 
 
     -- ---- there is one
 
-    denied_ends : (place at : ℕ) (denial : Denial) (told : LinkSent) → IsDeniedAt plan (J.shards x.shard) (the_ask entries) place denial → IsItsVerdict n J (places_at x (own_at (place ∷ []) (at ∷ []) [])) x (replies.Denied x.shard place told)
+    pub denied_ends : (place at : ℕ) (denial : Denial) (told : LinkSent) → IsDeniedAt plan (J.shards x.shard) (the_ask entries) place denial → IsItsVerdict n J (places_at x (own_at (place ∷ []) (at ∷ []) [])) x (replies.Denied x.shard place told)
     denied_ends place at denial told d =
         complete.denied d.denied.link (asked (in_object x.request.object at ∷ []) entries begins place d.before Told.Miss d.stands) (denied_verdict plan (J.shards x.shard) (the_ask entries) place denial d)
 
-    granted_ends : (place e : ℕ) (c : Cached) (kept : Bool) (settled : Settled) (asks ruling : List ℕ) (steps : List ShardStep) (result : List ℕ) → IsGrant plan (J.shards x.shard) (the_ask entries) place e c kept settled asks →
+    pub granted_ends : (place e : ℕ) (c : Cached) (kept : Bool) (settled : Settled) (asks ruling : List ℕ) (steps : List ShardStep) (result : List ℕ) → IsGrant plan (J.shards x.shard) (the_ask entries) place e c kept settled asks →
         IsItsVerdict n J (places_at x (own_at asks ruling steps)) x (replies.Granted kept e x.shard place c.proof c.cites result)
     granted_ends place e c kept settled asks ruling steps result (by_kept g) =
         complete.granted (asked _ entries begins place g.before (Told.Hit e) g.stands) (hit_verdict plan (J.shards x.shard) (the_ask entries) place e c g)
@@ -152,26 +152,26 @@ module _ (n : Node) (J : Journals) (legal : AreLegal n J) (x : Seeking) (plan : 
   some : 0 < length n.plans
   some = omega (arith, slice_get_within n.plans x.shard plan planned)
 
-  abbrev effect : Option Event
+  abbrev pub effect : Option Event
   effect = effect_of x.request.op x.certs x.reading
 
   plan_of : ℕ → Plan
   plan_of shard = get_or n.plans shard plan
 
-  has_plan : (shard : ℕ) → shard < length n.plans → HasPlan n shard (get_or n.plans shard plan)
+  pub has_plan : (shard : ℕ) → shard < length n.plans → HasPlan n shard (get_or n.plans shard plan)
   has_plan shard lt = slice_get-get_or n.plans shard plan lt
 
-  target_there : (shard : ℕ) → Contains (targets_of n.plans x.request.op) shard → shard < length n.plans
+  pub target_there : (shard : ℕ) → Contains (targets_of n.plans x.request.op) shard → shard < length n.plans
   target_there shard (i, lt, at) = subst (λ (s : ℕ). s < length n.plans) at (targets_there n.plans some x.request.op i shard lt)
 
   module _ (asks ruling : List ℕ) (steps : List ShardStep) where
     abbrev own : List Place
     own = places_at x (own_at asks ruling steps)
 
-    owned_step : (d : ShardStep) → Contains steps d → Contains own (its_place d)
+    pub owned_step : (d : ShardStep) → Contains steps d → Contains own (its_place d)
     owned_step d there = Contains-append_right (map (in_shard x.shard) asks ++ map (in_object x.request.object) ruling) (map its_place steps) (its_place d) (mapped its_place steps d there)
 
-    hindered_by_commons : (shard place held : ℕ) (told : Told) → told ≡ Told.CommonsFull held → Contains (targets_of n.plans x.request.op) shard → Contains steps (step_at shard place told) → IsStep J.shards effect (step_at shard place told) → IsHindered n J own x (replies.CommonsFull held shard)
+    pub hindered_by_commons : (shard place held : ℕ) (told : Told) → told ≡ Told.CommonsFull held → Contains (targets_of n.plans x.request.op) shard → Contains steps (step_at shard place told) → IsStep J.shards effect (step_at shard place told) → IsHindered n J own x (replies.CommonsFull held shard)
     hindered_by_commons shard place held told told_is target there d =
         let p = get_or n.plans shard plan in
         let at = has_plan shard (target_there shard target) in
@@ -236,7 +236,7 @@ same_opened : (a b : List Certificate) → Opened a ≡ Opened b → a ≡ b
 same_opened a b e = cc
 
 module _ (n : Node) (payload : List ℕ) where
-  same_sought : (s t : Arrival n payload) (reading : ℕ) → s.calls ≡ t.calls → its_seeking n s reading ≡ its_seeking n t reading
+  pub same_sought : (s t : Arrival n payload) (reading : ℕ) → s.calls ≡ t.calls → its_seeking n s reading ≡ its_seeking n t reading
   same_sought s t reading same =
       let request : s.request ≡ t.request = spelled_once s.request t.request payload s.arrived.presented.asked.spelled t.arrived.presented.asked.spelled in
       let opened = subst (λ (r : Request). AreOpened n.relay_key r.certs t.calls t.certs) (sym request) t.arrived.presented.opened in
@@ -250,8 +250,8 @@ pub arrivals_are_judged : (n : Node) → ArrivalsAreJudged n
 arrivals_are_judged n past J payload used sent legal (malformed none reads) t same = absurd (none t.request t.arrived.presented.asked.spelled)
 arrivals_are_judged n past J payload used sent legal (unknown_channel r spelled none) t same = let out = arrival_excludes n J payload used sent t (unknown_channel r spelled none) in absurd (out.1 refl)
 arrivals_are_judged n past J payload used sent legal (bad_seal r key spelled keyed other) t same = let out = arrival_excludes n J payload used sent t (bad_seal r key spelled keyed other) in absurd (out.2 refl)
-arrivals_are_judged n past J payload used sent legal (cert_refused asked first) t same = let out = arrival_excludes n J payload used sent t (cert_refused asked first) in absurd ((out.3 same).0 refl)
-arrivals_are_judged n past J payload used sent legal (relay_failed asked first) t same = let out = arrival_excludes n J payload used sent t (relay_failed asked first) in absurd ((out.3 same).1 refl)
+arrivals_are_judged n past J payload used sent legal (cert_refused came first) t same = let out = arrival_excludes n J payload used sent t (cert_refused came first) in absurd ((out.3 same).0 refl)
+arrivals_are_judged n past J payload used sent legal (relay_failed came first) t same = let out = arrival_excludes n J payload used sent t (relay_failed came first) in absurd ((out.3 same).1 refl)
 arrivals_are_judged n past J payload used sent legal (unknown_object opened none) t same = let out = arrival_excludes n J payload used sent t (unknown_object opened none) in absurd ((out.3 same).2 refl)
 arrivals_are_judged n past J payload used sent legal (ruled {own} {reply} s reading plan planned is) t same =
     let moved = same_sought n payload s t reading same in
@@ -260,7 +260,7 @@ arrivals_are_judged n past J payload used sent legal (ruled {own} {reply} s read
       | inr lacking ↦ inr lacking
     ]
 arrivals_are_judged n past J payload used sent legal unread t same = inr refl
-arrivals_are_judged n past J payload used sent legal (unopened asked interrupted) t same = inr refl
+arrivals_are_judged n past J payload used sent legal (unopened came interrupted) t same = inr refl
 
 -- ---- a verdict, once
 
@@ -283,16 +283,20 @@ same_ask a b s t e =
     cc
 
 module _ (n : Node) (J : Journals) (own : List Place) (x : Seeking) (k l : HasAsked n J own x) where
-  moved_verdict : (v : Verdict) → IsVerdict k.step.plan k.step.before (asks_for x k.entries) v → IsVerdict l.step.plan l.step.before (asks_for x l.entries) v
-  moved_verdict v is =
+  -- what holds of the Ask and of what it met holds so of either
+  pub moved : (P : Plan → List Entry → Ask → Type 0) → P k.step.plan k.step.before (asks_for x k.entries) → P l.step.plan l.step.before (asks_for x l.entries)
+  moved P is =
       let place : k.step.place ≡ l.step.place = same_place x.shard k.step.place l.step.place (same_Some (in_shard x.shard k.step.place) (in_shard x.shard l.step.place) (sym k.first ∙ l.first)) in
       let plan : k.step.plan ≡ l.step.plan = same_Some k.step.plan l.step.plan (sym k.step.planned ∙ l.step.planned) in
       let long : length k.step.before ≡ length l.step.before = k.step.stands.placed ∙ place ∙ sym l.step.stands.placed in
       let (before, at) = same_cut k.step.before l.step.before (entry (Asks (asks_for x k.entries)) k.told) (entry (Asks (asks_for x l.entries)) l.told) k.step.stands.rest l.step.stands.rest long (sym k.step.stands.is ∙ l.step.stands.is) in
       let ask = same_ask (asks_for x k.entries) (asks_for x l.entries) k.told l.told at in
-      subst (λ (p : Plan). IsVerdict p l.step.before (asks_for x l.entries) v) plan
-      (subst (λ (b : List Entry). IsVerdict k.step.plan b (asks_for x l.entries) v) before
-      (subst (λ (a : Ask). IsVerdict k.step.plan k.step.before a v) ask is))
+      subst (λ (p : Plan). P p l.step.before (asks_for x l.entries)) plan
+      (subst (λ (b : List Entry). P k.step.plan b (asks_for x l.entries)) before
+      (subst (λ (a : Ask). P k.step.plan k.step.before a) ask is))
+
+  moved_verdict : (v : Verdict) → IsVerdict k.step.plan k.step.before (asks_for x k.entries) v → IsVerdict l.step.plan l.step.before (asks_for x l.entries) v
+  moved_verdict v = moved (λ p b a. IsVerdict p b a v)
 
 pub verdicts_are_exact : (n : Node) → VerdictsAreExact n
 verdicts_are_exact n J own x reply (complete.granted {kept} {at} {proof} {cites} {result} k v) l =

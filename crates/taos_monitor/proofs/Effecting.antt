@@ -137,7 +137,7 @@ module _ (J : Journals) where
 
 -- ---- the steps of an operation
 
-is_effect : (op : Op) (certs : List Certificate) (reading : ℕ) (e : Event) → effect_of op certs reading ≡ Some e → IsEffect e
+pub is_effect : (op : Op) (certs : List Certificate) (reading : ℕ) (e : Event) → effect_of op certs reading ≡ Some e → IsEffect e
 is_effect Read certs reading e is = absurd cc
 is_effect (Write content) certs reading e is = absurd cc
 is_effect (SetList list) certs reading e is = absurd cc

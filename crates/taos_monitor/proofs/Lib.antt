@@ -35,6 +35,10 @@ mod Growing
 mod Walks
 mod Hindering
 mod Complete
+mod OwnSteps
+mod Judging
+mod Caused
+mod CausesApart
 mod CertWalks
 mod OneRuling
 mod LoneRuling

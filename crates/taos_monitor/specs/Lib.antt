@@ -13,6 +13,7 @@ pub mod Arriving
 pub mod Ruling
 pub mod Handling
 pub mod Completeness
+pub mod Causes
 pub mod Run
 pub mod Connection
 pub mod Serving

@@ -1,5 +1,6 @@
 //! Laws of courses, each the contract of a function that does nothing.
 
+ghost use Rattle.taos_monitor.specs.Causes.{CausesAreExact};
 ghost use Rattle.taos_monitor.specs.Cells.{Node};
 ghost use Rattle.taos_monitor.specs.Changes.{NothingChanges, ObjectsAreMade, RepliesTellUngranted};
 ghost use Rattle.taos_monitor.specs.Choices.{AnswersAgree, ConnectionsAgree, FramesAreRead};
@@ -62,6 +63,12 @@ pub fn arrivals_are_judged()
 /// reply, no call of the link failed, and what came to its object is judged.
 pub fn answers_are_whole()
     ensures { AnswersAreWhole }
+{}
+
+/// A reply has the cause of its status, and where the cause of a status stands the reply has that status, in
+/// the words of what was presented, of what the link answered and of the journals; unless memory was refused.
+pub fn causes_are_exact()
+    ensures { (n : Node) → CausesAreExact n }
 {}
 
 /// A certificate is refused by a code of 1 to 6, and each call of the link that failed has a fault

@@ -15,7 +15,7 @@ use Rattle.taos_node.specs.declared.ending.FileFault.{FileFault}
 use Rattle.taos_node.specs.declared.ending.FileFault.TheVariants as fault
 use Rattle.taos_node.specs.declared.ending.FileFault.TheVariants.{Malformed, Refused}
 use Rattle.taos_node.specs.Ending.{file_status}
-use Rattle.taos_node.specs.Files.{FaultHasCause, FileDecides, FileFails, IsNodeFile, IsRead, IsRefused, IsRelayFile, IsUnread, Meaning, Opens, OpensNode, OpensRelay, fault_of, node_means, relay_means}
+use Rattle.taos_node.specs.Files.{FaultHasCause, FileDecides, FileFails, IsNodeFile, IsRead, IsRefused, IsPathFile, IsRelayFile, IsUnread, Meaning, Opens, OpensNode, OpensPath, OpensRelay, fault_of, node_means, path_means, relay_means}
 use Rattle.frame_link.specs.Streams.{Stream}
 use Rattle.taos_node.specs.Command.{touched, with_seen, first_clock, first_link}
 use Rattle.file_lines.specs.declared.fault.FileCause.TheVariants.{Limit}
@@ -25,6 +25,8 @@ use Rattle.file_lines.specs.declared.fault.FileFault.TheVariants.{Line, Byte}
 use Rattle.node_file.specs.OpeningFile.{Means as NodeMeans, opening_in}
 use Rattle.node_file.specs.RelayFile.{RelayFile, relay_in}
 use Rattle.node_file.proofs.Whole.{meant_again}
+use Rattle.relay_path.specs.Domains.{DomainKnows}
+use Rattle.relay_path.specs.PathFile.{path_in}
 use Rattle.node_file.specs.declared.limits.TheConstants.{MAX_FILE}
 use Rattle.std.proofs.lemmas.Bool.{cases_lt, lt-ltb}
 use Rattle.frame_link.proofs.Complete.{left_after, all_taken}
@@ -53,6 +55,10 @@ long_relay : (bytes : List ℕ) → MAX_FILE < length bytes → relay_in bytes �
 unfolding relay_in
 long_relay bytes long = rw (lt-ltb MAX_FILE (length bytes) long) refl
 
+long_path : (bytes : List ℕ) → MAX_FILE < length bytes → path_in bytes ≡ Err (Line 0 Limit)
+unfolding path_in
+long_path bytes long = rw (lt-ltb MAX_FILE (length bytes) long) refl
+
 short_opening : (bytes : List ℕ) (o : Opening) → opening_in bytes ≡ Ok o → length bytes ≤ MAX_FILE
 short_opening bytes o is = elim (cases_lt MAX_FILE (length bytes)) [
   | inl long ↦ absurd (cc (is, long_opening bytes long))
@@ -65,11 +71,20 @@ short_relay bytes r is = elim (cases_lt MAX_FILE (length bytes)) [
   | inr short ↦ omega (arith, short)
 ]
 
+short_path : (bytes : List ℕ) (ds : List DomainKnows) → path_in bytes ≡ Ok ds → length bytes ≤ MAX_FILE
+short_path bytes ds is = elim (cases_lt MAX_FILE (length bytes)) [
+  | inl long ↦ absurd (cc (is, long_path bytes long))
+  | inr short ↦ omega (arith, short)
+]
+
 pub node_files : IsMeantBy IsNodeFile node_means
 node_files = record { read = λ bytes o is. meant_again bytes o is.1 is.0; short = λ bytes o is. is.1 }
 
 pub relay_files : IsMeantBy IsRelayFile relay_means
 relay_files = record { read = λ bytes r is. is; short = short_relay }
+
+pub path_files : IsMeantBy IsPathFile path_means
+path_files = record { read = λ bytes ds is. is; short = short_path }
 
 module _ {A : Type 0} (Means : A → List ℕ → Type 0) (means : Meaning A) (laws : IsMeantBy Means means) (file0 file1 : Stream) where
   -- a file that tells that it means something is not refused
@@ -155,6 +170,12 @@ pub relay_opens : (file0 file1 : Stream) (bytes : List ℕ) (r : RelayFile) → 
 relay_opens file0 file1 bytes r read is = elim read.whole [
   | inl at_end ↦ record { bytes = bytes; read = read.read; at_end = at_end; means = is }
   | inr long ↦ absurd (cc (is, long_relay bytes long))
+]
+
+pub path_opens : (file0 file1 : Stream) (bytes : List ℕ) (ds : List DomainKnows) → IsRead file0 file1 bytes → path_in bytes ≡ Ok ds → OpensPath file0 file1 ds
+path_opens file0 file1 bytes ds read is = elim read.whole [
+  | inl at_end ↦ record { bytes = bytes; read = read.read; at_end = at_end; means = is }
+  | inr long ↦ absurd (cc (is, long_path bytes long))
 ]
 
 -- ---- the first lane

@@ -1,6 +1,7 @@
--- What the status tells of an audit and of a drill.
+-- What the status tells of an audit, of a drill and of a path.
 use Rattle.std.proofs.Common.{◌≡◌, ◌≢◌, ◌⊎◌, ℕ, List, refl, sym, ap, subst, ◌∙◌, arith, inl, inr}
 use Rattle.std.specs.Prelude.{String}
+use Rattle.relay_path.specs.Domains.{DomainKnows}
 use Rattle.std.specs.declared.alloc.Global.{Global}
 use Rattle.frame_link.specs.declared.outcome.Outcome.{Outcome}
 use Rattle.frame_link.specs.declared.outcome.Outcome.TheVariants.{End, WriteFault, NoMemory}
@@ -11,12 +12,15 @@ use Rattle.taos_node.specs.declared.ending.AuditEnd.TheVariants as audits
 use Rattle.taos_node.specs.declared.ending.DrillEnd.{DrillEnd}
 use Rattle.taos_node.specs.declared.ending.DrillEnd.TheVariants as drills
 use Rattle.taos_node.specs.Audit.{AuditCauses, AuditIsComplete}
-use Rattle.taos_node.specs.Command.{EndsWell, FileDecidesFor, IsCaused, IsStatus, Touched, counts_of}
+use Rattle.taos_node.specs.Command.{EndsWell, FileDecidesFor, IsCaused, IsStatus, PassesWell, Touched, counts_of}
 use Rattle.taos_node.specs.Drills.{DrillCauses}
 use Rattle.taos_node.specs.Ending.{audited_status, drilled_status, served_status}
-use Rattle.taos_node.specs.Files.{IsNodeFile, IsSteady, OpensNode, node_means}
-use Rattle.node_words.specs.Words.{Audit, Check, Drill, DrillWords, Mean, Mint, Relay, Run}
-use Rattle.taos_node.proofs.Commands.{decided_opened, node_files, still}
+use Rattle.taos_node.specs.Files.{IsNodeFile, IsPathFile, IsSteady, OpensNode, OpensPath, node_means, path_means}
+use Rattle.taos_node.specs.Paths.{PathCauses, path_status}
+use Rattle.taos_node.specs.declared.path.PathEnd.{PathEnd}
+use Rattle.taos_node.specs.declared.path.PathEnd.TheVariants as passed_ends
+use Rattle.node_words.specs.Words.{Audit, Check, Drill, DrillWords, Mean, Mint, Path, PathWords, Relay, Run}
+use Rattle.taos_node.proofs.Commands.{decided_opened, node_files, path_files, still}
 use Rattle.taos_node.proofs.Statuses.{AllTold, all_still, frames_in, not_caused, not_one, not_two, of_command, same_counts, serving_caused, serving_told, stayed, streams_told, two_commands}
 
 -- ---- an audit
@@ -70,6 +74,7 @@ audited words frames before after end o audit opens same complete h = record {
   checks_well = λ is. two_commands words (Audit frames) Check audit is (λ e. cc e);
   relays_well = λ most is. two_commands words (Audit frames) (Relay most) audit is (λ e. cc e);
   mints_well = λ m is. two_commands words (Audit frames) (Mint m) audit is (λ e. cc e);
+  passes_well = λ p is. two_commands words (Audit frames) (Path p) audit is (λ e. cc e);
   audits_well = λ most is clock. audit_well before after most end (complete_for most is) clock;
   drills_well = λ d is. two_commands words (Audit frames) (Drill d) audit is (λ e. cc e);
   causes = audit_caused before after end h;
@@ -129,10 +134,90 @@ drilled words d before after end drill same input clock h = record {
   checks_well = λ is. two_commands words (Drill d) Check drill is (λ e. cc e);
   relays_well = λ most is. two_commands words (Drill d) (Relay most) drill is (λ e. cc e);
   mints_well = λ m is. two_commands words (Drill d) (Mint m) drill is (λ e. cc e);
+  passes_well = λ p is. two_commands words (Drill d) (Path p) drill is (λ e. cc e);
   audits_well = λ most is. two_commands words (Drill d) (Audit most) drill is (λ e. cc e);
   drills_well = λ other is. drill_well before after end h;
   causes = drill_caused before after end h;
   told = streams_told before after (drilled_status end) (drill_told before after end same input clock h);
   clock = λ _. (drill_told before after end same input clock h).clock;
   clock_of = λ e. absurd (not_five_drill end e);
+}
+
+-- ---- a certificate that was passed along a route, or stopped
+
+module _ (before after : Touched) where
+  -- what failed rose, and nothing else
+  abbrev PathCaused : PathEnd → Type 0
+  PathCaused end = PathCauses before.input.faults after.input.faults before.output.faults after.output.faults end
+
+  path_caused : (end : PathEnd) → PathCaused end → IsCaused before after (path_status end)
+  path_caused passed_ends.Done h = not_caused before after 0 (λ e. omega (arith, e)) (λ e. omega (arith, e)) (λ e. omega (arith, e))
+  path_caused (passed_ends.Refused hop code) h = not_caused before after 13 (λ e. omega (arith, e)) (λ e. omega (arith, e)) (λ e. omega (arith, e))
+  path_caused passed_ends.ReadFault h = record { read = λ e. inr h.1; write = λ e. absurd (omega (arith, e)); clock = λ e. absurd (omega (arith, e)) }
+  path_caused passed_ends.WriteFault h = record { read = λ e. absurd (omega (arith, e)); write = λ e. h.2; clock = λ e. absurd (omega (arith, e)) }
+  path_caused passed_ends.NoMemory h = not_caused before after 6 (λ e. omega (arith, e)) (λ e. omega (arith, e)) (λ e. omega (arith, e))
+
+  path_told : (end : PathEnd) → after.file.faults ≡ before.file.faults → after.clock.faults ≡ before.clock.faults → PathCaused end → AllTold before after (path_status end)
+  path_told passed_ends.Done same clock h = all_still before after 0 same h.0 h.1 clock
+  path_told (passed_ends.Refused hop code) same clock h = all_still before after 13 same h.0 h.1 clock
+  path_told passed_ends.ReadFault same clock h = record {
+    file = stayed before.file.faults after.file.faults same;
+    input = λ _. refl;
+    output = stayed before.output.faults after.output.faults h.2;
+    clock = stayed before.clock.faults after.clock.faults clock;
+  }
+  path_told passed_ends.WriteFault same clock h = record {
+    file = stayed before.file.faults after.file.faults same;
+    input = stayed before.input.faults after.input.faults h.0;
+    output = λ _. refl;
+    clock = stayed before.clock.faults after.clock.faults clock;
+  }
+  path_told passed_ends.NoMemory same clock h = all_still before after 6 same h.0 h.1 clock
+
+  path_well : (end : PathEnd) → PathCaused end → PassesWell before after (path_status end)
+  path_well passed_ends.Done h bytes ds told is sf si so = inl refl
+  path_well (passed_ends.Refused hop code) h bytes ds told is sf si so = inr (inl refl)
+  path_well passed_ends.ReadFault h bytes ds told is sf si so = absurd (still before.input.faults after.input.faults si h.1)
+  path_well passed_ends.WriteFault h bytes ds told is sf si so = absurd (still before.output.faults after.output.faults so h.2)
+  path_well passed_ends.NoMemory h bytes ds told is sf si so = inr (inr refl)
+
+not_one_path : (end : PathEnd) → path_status end ≢ 1
+not_one_path passed_ends.Done = λ e. omega (arith, e)
+not_one_path (passed_ends.Refused hop code) = λ e. omega (arith, e)
+not_one_path passed_ends.ReadFault = λ e. omega (arith, e)
+not_one_path passed_ends.WriteFault = λ e. omega (arith, e)
+not_one_path passed_ends.NoMemory = λ e. omega (arith, e)
+
+not_two_path : (end : PathEnd) → path_status end ≢ 2
+not_two_path passed_ends.Done = λ e. omega (arith, e)
+not_two_path (passed_ends.Refused hop code) = λ e. omega (arith, e)
+not_two_path passed_ends.ReadFault = λ e. omega (arith, e)
+not_two_path passed_ends.WriteFault = λ e. omega (arith, e)
+not_two_path passed_ends.NoMemory = λ e. omega (arith, e)
+
+not_five_path : (end : PathEnd) → path_status end ≢ 5
+not_five_path passed_ends.Done = λ e. omega (arith, e)
+not_five_path (passed_ends.Refused hop code) = λ e. omega (arith, e)
+not_five_path passed_ends.ReadFault = λ e. omega (arith, e)
+not_five_path passed_ends.WriteFault = λ e. omega (arith, e)
+not_five_path passed_ends.NoMemory = λ e. omega (arith, e)
+
+pub passed : (words : List (String Global)) (p : PathWords) (before after : Touched) (ds : List DomainKnows) (end : PathEnd) → Mean words (Path p) → OpensPath before.file after.file ds →
+    after.file.faults ≡ before.file.faults → after.clock.faults ≡ before.clock.faults → PathCauses before.input.faults after.input.faults before.output.faults after.output.faults end →
+    IsStatus words before after (path_status end)
+passed words p before after ds end path opens same clock h = record {
+  usage = record { usage = λ e. absurd (not_one_path end e); no_command = λ none. absurd (none (Path p, path)) };
+  file = λ other is. of_command (λ w. FileDecidesFor w before.file after.file (path_status end)) words (Path p) other path is
+      (decided_opened IsPathFile path_means path_files before.file after.file ds (path_status end) opens (not_two_path end));
+  complete = λ frames run. two_commands words (Path p) (Run frames) path run (λ e. cc e);
+  checks_well = λ check. two_commands words (Path p) Check path check (λ e. cc e);
+  relays_well = λ frames relay. two_commands words (Path p) (Relay frames) path relay (λ e. cc e);
+  mints_well = λ m is. two_commands words (Path p) (Mint m) path is (λ e. cc e);
+  passes_well = λ other is. path_well before after end h;
+  audits_well = λ most is. two_commands words (Path p) (Audit most) path is (λ e. cc e);
+  drills_well = λ d is. two_commands words (Path p) (Drill d) path is (λ e. cc e);
+  causes = path_caused before after end h;
+  told = streams_told before after (path_status end) (path_told before after end same clock h);
+  clock = λ _. (path_told before after end same clock h).clock;
+  clock_of = λ e. absurd (not_five_path end e);
 }

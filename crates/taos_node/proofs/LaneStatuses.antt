@@ -23,7 +23,7 @@ use Rattle.node_check.specs.declared.check.CheckEnd.{CheckEnd}
 use Rattle.node_check.specs.declared.check.CheckEnd.TheVariants as ends
 use Rattle.taos_node.specs.declared.ending.Ending.{Ending}
 use Rattle.taos_node.specs.declared.ending.Ending.TheVariants as ending
-use Rattle.taos_node.specs.declared.ending.Ending.TheVariants.{Usage, File, Served, Checked, Relayed, Minted, Lanes, RelayLanes, Audited, Drilled}
+use Rattle.taos_node.specs.declared.ending.Ending.TheVariants.{Usage, File, Served, Checked, Relayed, Minted, Lanes, RelayLanes, Audited, Drilled, Passed}
 use Rattle.taos_node.specs.declared.ending.FileFault.{FileFault}
 use Rattle.taos_node.specs.declared.ending.FileFault.TheVariants as fault
 use Rattle.taos_node.specs.declared.ending.FileFault.TheVariants.{Malformed, Refused}
@@ -42,7 +42,10 @@ use Rattle.taos_node.specs.Files.{FaultHasCause, FileFails, IsNodeFile, IsRelayF
 use Rattle.taos_node.specs.Lanes.{HasNoneFailed, LanesCauses, PrintsLine, ServesLanes, served, unserved}
 use Rattle.taos_node.specs.RelayLanes.{RelaysDoors}
 use Rattle.taos_node.specs.Minting.{minted_status}
-use Rattle.node_words.specs.Words.{Audit, Check, Drill, Mean, Mint, Relay, RelayServe, Run, Serve, Task}
+use Rattle.taos_node.specs.Paths.{path_status}
+use Rattle.taos_node.specs.declared.path.PathEnd.{PathEnd}
+use Rattle.taos_node.specs.declared.path.PathEnd.TheVariants as passed_ends
+use Rattle.node_words.specs.Words.{Audit, Check, Drill, Mean, Mint, Path, Relay, RelayServe, Run, Serve, ServeWords, Task}
 use Rattle.taos_node.proofs.Commands.{IsMeantBy, node_files, not_refused, relay_files, still}
 use Rattle.taos_node.proofs.Statuses.{not_caused, of_command, stayed, two_commands}
 
@@ -104,6 +107,13 @@ not_nine_drill drills.Done = λ e. omega (arith, e)
 not_nine_drill drills.WriteFault = λ e. omega (arith, e)
 not_nine_drill drills.NoMemory = λ e. omega (arith, e)
 
+not_nine_path : (end : PathEnd) → path_status end ≢ 9
+not_nine_path passed_ends.Done = λ e. omega (arith, e)
+not_nine_path (passed_ends.Refused hop code) = λ e. omega (arith, e)
+not_nine_path passed_ends.ReadFault = λ e. omega (arith, e)
+not_nine_path passed_ends.WriteFault = λ e. omega (arith, e)
+not_nine_path passed_ends.NoMemory = λ e. omega (arith, e)
+
 -- where no lanes are served no door fault is answered
 not_nine : (words : List (String Global)) (before after : Touched) (e : Ending) → RunsAlone words before after e → status_of e ≢ 9
 not_nine words before after Usage r = λ e. omega (arith, e)
@@ -115,6 +125,7 @@ not_nine words before after (Relayed outcome) r = not_nine_served outcome
 not_nine words before after (Minted end) r = not_nine_mint end
 not_nine words before after (Audited end) r = not_nine_audit end
 not_nine words before after (Drilled end) r = not_nine_drill end
+not_nine words before after (Passed end) r = not_nine_path end
 not_nine words before after (Lanes end) r = absurd r
 not_nine words before after (RelayLanes end) r = absurd r
 
@@ -129,6 +140,7 @@ module _ {In Out : Type 0} (telling : Telling In Out) (words : List (String Glob
   alone_runs (Minted end) r others = (r, others)
   alone_runs (Audited end) r others = (r, others)
   alone_runs (Drilled end) r others = (r, others)
+  alone_runs (Passed end) r others = (r, others)
   alone_runs (Lanes end) r others = absurd r
   alone_runs (RelayLanes end) r others = absurd r
 
@@ -169,16 +181,16 @@ module _ {In Out : Type 0} (telling : Telling In Out) (words : List (String Glob
   file_well Means means laws fault.NoMemory bad why bytes a told is sf = inr refl
 
   -- the file of the command that serves lanes was not served
-  pub file_does : (limits : Limits) (f : FileFault) → Mean words (Serve limits) → RunsAlone words before after (File f) → IsStatus words before after (file_status f) → FileFails node_means before.file after.file f →
+  pub file_does : (s : ServeWords) (f : FileFault) → Mean words (Serve s) → RunsAlone words before after (File f) → IsStatus words before after (file_status f) → FileFails node_means before.file after.file f →
       FaultHasCause before.file after.file f → Does telling words (change before after) (change l l) (File f)
-  file_does limits f serve r status bad cause = record {
+  file_does s f serve r status bad cause = record {
     runs = (r, refl);
     status = status;
     tells = record {
       caused = λ nine. absurd (not_nine_file f nine);
       told = λ is other. same_doors l;
       well = λ is bytes o told means sf so steady. file_well IsNodeFile node_means node_files f bad cause bytes o told means sf;
-      relays_well = λ relay. two_commands words (Serve limits) (RelayServe relay.0) serve relay.1 (λ e. cc e);
+      relays_well = λ relay. two_commands words (Serve s) (RelayServe relay.0) serve relay.1 (λ e. cc e);
     };
   }
 
@@ -307,14 +319,15 @@ module _ (before after : Touched) where
     audits_well = λ frames audit. two_commands words task (Audit frames) is audit (λ e. subst IsLaneTask e lane);
     drills_well = λ d drill. two_commands words task (Drill d) is drill (λ e. subst IsLaneTask e lane);
     mints_well = λ m mint. two_commands words task (Mint m) is mint (λ e. subst IsLaneTask e lane);
+    passes_well = λ p path. two_commands words task (Path p) is path (λ e. subst IsLaneTask e lane);
     causes = lanes_caused end h;
     told = record { file = stayed before.file.faults after.file.faults same; input = stayed before.input.faults after.input.faults input; output = lanes_output end h };
     clock = λ none. absurd (none serve);
     clock_of = λ e. absurd (not_five_lanes end e);
   }
 
-module _ {In Out : Type 0} (telling : Telling In Out) (limits : Limits) (xs ys : List (LaneShown (In × Out))) where
-  pub doors_tell : (o : Opening) (words : List (String Global)) (before after : Touched) (end : LanesEnd) → Mean words (Serve limits) → ServesLanes telling o limits (change xs ys) (change before.output.told after.output.told) end →
+module _ {In Out : Type 0} (telling : Telling In Out) (asked : ServeWords) (xs ys : List (LaneShown (In × Out))) where
+  pub doors_tell : (o : Opening) (words : List (String Global)) (before after : Touched) (end : LanesEnd) → Mean words (Serve asked) → ServesLanes telling o asked.limits (change xs ys) (change before.output.told after.output.told) end →
       LanesCauses before.output.faults after.output.faults end → TellsDoors words (change before after) (change xs ys) (lanes_status end)
   doors_tell o words before after end serve (unserved none same kept) h =
       let six : lanes_status end ≡ 6 = ap lanes_status none in
@@ -325,14 +338,15 @@ module _ {In Out : Type 0} (telling : Telling In Out) (limits : Limits) (xs ys :
         relays_well = λ is bytes p told means sf so steady. inr six;
       }
   doors_tell o words before after end serve (served l s p) h =
-      let run = λ (x y : LaneShown (In × Out)) (r : LaneRun s.node limits.frames) (is : IsRunOf telling limits x y r). is.cause in
+      let run = λ (x y : LaneShown (In × Out)) (r : LaneRun s.node asked.limits.frames) (is : IsRunOf telling asked.limits x y r). is.cause in
       record {
-        caused = λ nine. (inl (limits, serve), line_nine _ _ run xs ys s.serves.runs s.serves.each l.total s.serves.counted.lanes s.serves.counted.first_failed _ before.output.told after.output.told end p nine);
+        caused = λ nine. (inl (asked, serve), line_nine _ _ run xs ys s.serves.runs s.serves.each l.total s.serves.counted.lanes s.serves.counted.first_failed _ before.output.told after.output.told end p nine);
         told = λ is other. line_same _ _ run xs ys s.serves.runs s.serves.each l.total s.serves.counted.lanes s.serves.counted.first_failed _ before.output.told after.output.told end p other;
         well = λ is bytes q told means sf so steady. line_well _ _ run xs ys s.serves.runs s.serves.each l.total s.serves.counted.lanes s.serves.counted.first_failed _ before after end p h so steady;
         relays_well = λ is bytes q told means sf so steady. line_well _ _ run xs ys s.serves.runs s.serves.each l.total s.serves.counted.lanes s.serves.counted.first_failed _ before after end p h so steady;
       }
 
+module _ {In Out : Type 0} (telling : Telling In Out) (limits : Limits) (xs ys : List (LaneShown (In × Out))) where
   -- the same of a relay's lanes
   pub relay_doors_tell : (r : RelayFile) (words : List (String Global)) (before after : Touched) (end : LanesEnd) → Mean words (RelayServe limits) → RelaysDoors telling r limits (change xs ys) (change before.output.told after.output.told) end →
       LanesCauses before.output.faults after.output.faults end → TellsDoors words (change before after) (change xs ys) (lanes_status end)

@@ -4,6 +4,8 @@ pub mod Notes
 pub mod CheckCommands
 pub mod Statuses
 pub mod Minted
+pub mod Paths
+pub mod Standing
 pub mod Audited
 pub mod Endings
 mod DrillCounts

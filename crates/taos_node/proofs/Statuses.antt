@@ -16,10 +16,10 @@ use Rattle.taos_node.specs.declared.ending.FileFault.{FileFault}
 use Rattle.taos_node.specs.declared.ending.FileFault.TheVariants as fault
 use Rattle.taos_node.specs.declared.ending.FileFault.TheVariants.{Malformed, Refused}
 use Rattle.node_check.specs.declared.finding.Finding.TheVariants.{Granted, Refused as Wrong}
-use Rattle.node_words.specs.Words.{IsMeaning, Mean, MintWords, Task, Run, Check, Relay, Mint, Serve, RelayServe, Audit, Drill, task_of}
+use Rattle.node_words.specs.Words.{IsMeaning, Mean, MintWords, RunWords, Task, Run, Check, Relay, Mint, Serve, RelayServe, Audit, Drill, Path, task_of}
 use Rattle.node_words.specs.declared.wanted.Wanted.{Wanted}
-use Rattle.taos_node.specs.Files.{FaultHasCause, FileDecides, FileFails, IsNodeFile, IsRelayFile, Meaning, OpensNode, OpensRelay, node_means, relay_means}
-use Rattle.taos_node.specs.Command.{IsCommand, FileDecidesFor, FileFailsFor, Touched, EndsWell, ChecksWell, MintsWell, IsCaused, TellsFaults, IsStatus, counts_of}
+use Rattle.taos_node.specs.Files.{FaultHasCause, FileDecides, FileFails, IsNodeFile, IsPathFile, IsRelayFile, Meaning, OpensNode, OpensRelay, node_means, path_means, relay_means}
+use Rattle.taos_node.specs.Command.{IsCommand, FileDecidesFor, FileFailsFor, Touched, EndsWell, ChecksWell, MintsWell, PassesWell, IsCaused, TellsFaults, IsStatus, counts_of}
 use Rattle.taos_node.specs.Ending.{file_status, served_status, checked_status}
 use Rattle.node_check.specs.Findings.{CheckCauses}
 use Rattle.taos_node.specs.Minting.{MintCauses, minted_status}
@@ -27,7 +27,7 @@ use Rattle.taos_node.specs.declared.minting.MintEnd.{MintEnd}
 use Rattle.taos_node.specs.declared.minting.MintEnd.TheVariants as made
 use Rattle.std.specs.Prelude.{Option, Some, None, map, string_bytes}
 use Rattle.node_words.proofs.Meanings.{one_meaning}
-use Rattle.taos_node.proofs.Commands.{IsMeantBy, decided_opened, decided_fault, node_files, not_refused, relay_files, still}
+use Rattle.taos_node.proofs.Commands.{IsMeantBy, decided_opened, decided_fault, node_files, not_refused, path_files, relay_files, still}
 
 pub stayed : {P : Type 0} (a b : ℕ) → b ≡ a → a < b → P
 stayed a b same rose = absurd (omega (arith, same, rose))
@@ -50,7 +50,7 @@ of_command P words a b is other h = subst P (one_meaning (map string_bytes words
 
 -- the most frames of a command that serves
 abbrev pub frames_in : Task → ℕ
-frames_in (Run frames) = frames
+frames_in (Run r) = r.frames
 frames_in Check = 0
 frames_in (Relay frames) = frames
 frames_in (Mint m) = 0
@@ -58,6 +58,7 @@ frames_in (Serve limits) = 0
 frames_in (RelayServe limits) = 0
 frames_in (Audit frames) = frames
 frames_in (Drill d) = 0
+frames_in (Path p) = 0
 
 -- no words are two commands
 pub two_commands : {P : Type 0} (words : List (String Global)) (a b : Task) → Mean words a → Mean words b → (a ≡ b → ⊥) → P
@@ -83,6 +84,7 @@ unread_decides (Serve l) t = lacks_decides IsNodeFile t
 unread_decides (RelayServe l) t = lacks_decides IsRelayFile t
 unread_decides (Audit n) t = lacks_decides IsNodeFile t
 unread_decides (Drill d) t = λ e. omega (arith, e)
+unread_decides (Path p) t = lacks_decides IsPathFile t
 
 -- memory was refused before the words were read, and nothing was touched
 pub unread : (words : List (String Global)) (t : Touched) → IsStatus words t t 6
@@ -93,6 +95,7 @@ unread words t = record {
   checks_well = λ is bytes o told opens sf si so. inr (inr refl);
   relays_well = λ frames is bytes r told opens fs whole within few sf si so. inr refl;
   mints_well = λ m is bytes r told opens sf so. inr (inr refl);
+  passes_well = λ p is bytes ds told opens sf si so. inr (inr refl);
   audits_well = λ frames is sc bytes o told opens fs whole within few sf si so. inr refl;
   drills_well = λ d is so. inr refl;
   causes = record { read = λ e. absurd (omega (arith, e)); write = λ e. absurd (omega (arith, e)); clock = λ e. absurd (omega (arith, e)) };
@@ -114,6 +117,7 @@ unused words t none = record {
   checks_well = λ is. absurd (none (Check, is));
   relays_well = λ frames is. absurd (none (Relay frames, is));
   mints_well = λ m is. absurd (none (Mint m, is));
+  passes_well = λ p is. absurd (none (Path p, is));
   audits_well = λ frames is. absurd (none (Audit frames, is));
   drills_well = λ d is. absurd (none (Drill d, is));
   causes = record { read = λ e. absurd (omega (arith, e)); write = λ e. absurd (omega (arith, e)); clock = λ e. absurd (omega (arith, e)) };
@@ -154,6 +158,12 @@ module _ (before after : Touched) where
   mints_unserved fault.ReadFault bad why bytes r told is sf so = absurd (still before.file.faults after.file.faults sf why.1)
   mints_unserved fault.NoMemory bad why bytes r told is sf so = inr (inr refl)
 
+  passes_unserved : (f : FileFault) → FileFails path_means before.file after.file f → FaultHasCause before.file after.file f → PassesWell before after (file_status f)
+  passes_unserved (Refused line cause) bad why bytes ds told is sf si so = absurd (not_refused IsPathFile path_means path_files before.file after.file bytes ds (Line line cause) bad told is)
+  passes_unserved (Malformed offset) bad why bytes ds told is sf si so = absurd (not_refused IsPathFile path_means path_files before.file after.file bytes ds (Byte offset) bad told is)
+  passes_unserved fault.ReadFault bad why bytes ds told is sf si so = absurd (still before.file.faults after.file.faults sf why.1)
+  passes_unserved fault.NoMemory bad why bytes ds told is sf si so = inr (inr refl)
+
   decides_unserved : (wanted : Task) (f : FileFault) → FileFailsFor wanted before.file after.file f → FaultHasCause before.file after.file f → FileDecidesFor wanted before.file after.file (file_status f)
   decides_unserved (Run n) f bad why = decided_fault IsNodeFile node_means node_files before.file after.file f bad why
   decides_unserved Check f bad why = decided_fault IsNodeFile node_means node_files before.file after.file f bad why
@@ -163,6 +173,7 @@ module _ (before after : Touched) where
   decides_unserved (RelayServe l) f bad why = decided_fault IsRelayFile relay_means relay_files before.file after.file f bad why
   decides_unserved (Audit n) f bad why = decided_fault IsNodeFile node_means node_files before.file after.file f bad why
   decides_unserved (Drill d) f bad why = absurd bad
+  decides_unserved (Path p) f bad why = decided_fault IsPathFile path_means path_files before.file after.file f bad why
 
   pub not_caused : (status : ℕ) → status ≢ 3 → status ≢ 4 → status ≢ 5 → IsCaused before after status
   not_caused status r w c = record { read = λ e. absurd (r e); write = λ e. absurd (w e); clock = λ e. absurd (c e) }
@@ -193,8 +204,8 @@ not_five_file fault.NoMemory = λ e. omega (arith, e)
 
 -- the command's file was not served, and nothing else was touched
 module _ (words : List (String Global)) (before after : Touched) (wanted : Task) (f : FileFault) (command : Mean words wanted) (cause : FaultHasCause before.file after.file f) where
-  complete_unserved : FileFailsFor wanted before.file after.file f → (most : ℕ) → Mean words (Run most) → EndsWell IsNodeFile most before after (file_status f)
-  complete_unserved bad most is = ends_unserved before after IsNodeFile node_means node_files most f (of_command (λ w. FileFailsFor w before.file after.file f) words wanted (Run most) command is bad) cause
+  complete_unserved : FileFailsFor wanted before.file after.file f → (most : RunWords) → Mean words (Run most) → EndsWell IsNodeFile most.frames before after (file_status f)
+  complete_unserved bad most is = ends_unserved before after IsNodeFile node_means node_files most.frames f (of_command (λ w. FileFailsFor w before.file after.file f) words wanted (Run most) command is bad) cause
 
   audits_unserved : FileFailsFor wanted before.file after.file f → (most : ℕ) → Mean words (Audit most) → EndsWell IsNodeFile most before after (file_status f)
   audits_unserved bad most is = ends_unserved before after IsNodeFile node_means node_files most f (of_command (λ w. FileFailsFor w before.file after.file f) words wanted (Audit most) command is bad) cause
@@ -210,6 +221,7 @@ module _ (words : List (String Global)) (before after : Touched) (wanted : Task)
     checks_well = λ is. checks_unserved before after f (of_command (λ w. FileFailsFor w before.file after.file f) words wanted Check command is bad) cause;
     relays_well = λ most is. relays_unserved bad most is;
     mints_well = λ m is. mints_unserved before after f (of_command (λ w. FileFailsFor w before.file after.file f) words wanted (Mint m) command is bad) cause;
+    passes_well = λ p is. passes_unserved before after f (of_command (λ w. FileFailsFor w before.file after.file f) words wanted (Path p) command is bad) cause;
     audits_well = λ most is clock. audits_unserved bad most is;
     drills_well = λ d is so. absurd (of_command (λ w. FileFailsFor w before.file after.file f) words wanted (Drill d) command is bad);
     causes = file_caused before after f cause;
@@ -336,29 +348,31 @@ clockless i o i1 o1 c c1 (TooLong n) h other same = same_counts i o c i1 o1 c1 (
 clockless i o i1 o1 c c1 (Spent n) h other same = same_counts i o c i1 o1 c1 (ap (λ (f : FaultCounts). f.input) h) (ap (λ (f : FaultCounts). f.output) h) same
 clockless i o i1 o1 c c1 NoMemory h other same = same_counts i o c i1 o1 c1 (ap (λ (f : FaultCounts). f.input) h) (ap (λ (f : FaultCounts). f.output) h) same
 
-module _ (words : List (String Global)) (frames : ℕ) (before after : Touched) (outcome : Outcome) (same : after.file.faults ≡ before.file.faults) where
-  pub served : (o : Opening) → Mean words (Run frames) → OpensNode before.file after.file o → IsCompleteBy frames before.input.told (counts_of before) (counts_of after) outcome →
+module _ (words : List (String Global)) (r : RunWords) (before after : Touched) (outcome : Outcome) (same : after.file.faults ≡ before.file.faults) where
+  pub served : (o : Opening) → Mean words (Run r) → OpensNode before.file after.file o → IsCompleteBy r.frames before.input.told (counts_of before) (counts_of after) outcome →
       Causes before after outcome → IsStatus words before after (served_status outcome)
   served o run opens complete h = record {
-    usage = record { usage = λ e. absurd (not_one outcome e); no_command = λ none. absurd (none (Run frames, run)) };
-    file = λ other is. of_command (λ w. FileDecidesFor w before.file after.file (served_status outcome)) words (Run frames) other run is
+    usage = record { usage = λ e. absurd (not_one outcome e); no_command = λ none. absurd (none (Run r, run)) };
+    file = λ other is. of_command (λ w. FileDecidesFor w before.file after.file (served_status outcome)) words (Run r) other run is
         (decided_opened IsNodeFile node_means node_files before.file after.file o (served_status outcome) opens (not_two outcome));
-    complete = λ most is clock. ends_well before after IsNodeFile most before.clock.faults after.clock.faults outcome
+    complete = λ most is clock. ends_well before after IsNodeFile most.frames before.clock.faults after.clock.faults outcome
         (complete_for most is complete) clock;
-    checks_well = λ check. two_commands words (Run frames) Check run check (λ e. cc e);
-    relays_well = λ most is. two_commands words (Run frames) (Relay most) run is (λ e. cc e);
-    mints_well = λ m is. two_commands words (Run frames) (Mint m) run is (λ e. cc e);
-    audits_well = λ most is. two_commands words (Run frames) (Audit most) run is (λ e. cc e);
-    drills_well = λ d is. two_commands words (Run frames) (Drill d) run is (λ e. cc e);
+    checks_well = λ check. two_commands words (Run r) Check run check (λ e. cc e);
+    relays_well = λ most is. two_commands words (Run r) (Relay most) run is (λ e. cc e);
+    mints_well = λ m is. two_commands words (Run r) (Mint m) run is (λ e. cc e);
+    passes_well = λ p is. two_commands words (Run r) (Path p) run is (λ e. cc e);
+    audits_well = λ most is. two_commands words (Run r) (Audit most) run is (λ e. cc e);
+    drills_well = λ d is. two_commands words (Run r) (Drill d) run is (λ e. cc e);
     causes = serving_caused before after outcome h;
     told = streams_told before after (served_status outcome) (serving_told before after outcome same h);
     clock = λ _. (serving_told before after outcome same h).clock;
-    clock_of = λ _. inl (frames, run);
+    clock_of = λ _. inl (r, run);
   }
     where
-      complete_for : (most : ℕ) → Mean words (Run most) → IsCompleteBy frames before.input.told (counts_of before) (counts_of after) outcome → IsCompleteBy most before.input.told (counts_of before) (counts_of after) outcome
-      complete_for most is c = of_command (λ w. IsCompleteBy (frames_in w) before.input.told (counts_of before) (counts_of after) outcome) words (Run frames) (Run most) run is c
+      complete_for : (most : RunWords) → Mean words (Run most) → IsCompleteBy r.frames before.input.told (counts_of before) (counts_of after) outcome → IsCompleteBy most.frames before.input.told (counts_of before) (counts_of after) outcome
+      complete_for most is c = of_command (λ w. IsCompleteBy (frames_in w) before.input.told (counts_of before) (counts_of after) outcome) words (Run r) (Run most) run is c
 
+module _ (words : List (String Global)) (frames : ℕ) (before after : Touched) (outcome : Outcome) (same : after.file.faults ≡ before.file.faults) where
   pub relayed : (r : RelayFile) → Mean words (Relay frames) → OpensRelay before.file after.file r →
       IsCompleteBy frames before.input.told (counts before.input.faults before.output.faults 0) (counts after.input.faults after.output.faults 0) outcome →
       CountsCause (counts before.input.faults before.output.faults 0) (counts after.input.faults after.output.faults 0) outcome → outcome ≢ ClockFault → after.clock.faults ≡ before.clock.faults →
@@ -372,6 +386,7 @@ module _ (words : List (String Global)) (frames : ℕ) (before after : Touched) 
         complete = λ most is. two_commands words (Relay frames) (Run most) relay is (λ e. cc e);
         checks_well = λ check. two_commands words (Relay frames) Check relay check (λ e. cc e);
         mints_well = λ m is. two_commands words (Relay frames) (Mint m) relay is (λ e. cc e);
+        passes_well = λ p is. two_commands words (Relay frames) (Path p) relay is (λ e. cc e);
         relays_well = λ most is. ends_well before after IsRelayFile most 0 0 outcome (complete_for most is complete) (refl, omega arith);
         audits_well = λ most is. two_commands words (Relay frames) (Audit most) relay is (λ e. cc e);
         drills_well = λ d is. two_commands words (Relay frames) (Drill d) relay is (λ e. cc e);
@@ -452,6 +467,7 @@ checked words before after o end check opens same clock h = record {
   checks_well = λ _. check_well before after end h;
   relays_well = λ frames relay. two_commands words Check (Relay frames) check relay (λ e. cc e);
   mints_well = λ m is. two_commands words Check (Mint m) check is (λ e. cc e);
+  passes_well = λ p is. two_commands words Check (Path p) check is (λ e. cc e);
   audits_well = λ most is. two_commands words Check (Audit most) check is (λ e. cc e);
   drills_well = λ d is. two_commands words Check (Drill d) check is (λ e. cc e);
   causes = check_caused before after end h;
@@ -516,6 +532,7 @@ minted words m before after r end mint opens same input clock h = record {
   checks_well = λ check. two_commands words (Mint m) Check mint check (λ e. cc e);
   relays_well = λ frames relay. two_commands words (Mint m) (Relay frames) mint relay (λ e. cc e);
   mints_well = λ other is. mint_well before after end h;
+  passes_well = λ p is. two_commands words (Mint m) (Path p) mint is (λ e. cc e);
   audits_well = λ most is. two_commands words (Mint m) (Audit most) mint is (λ e. cc e);
   drills_well = λ d is. two_commands words (Mint m) (Drill d) mint is (λ e. cc e);
   causes = mint_caused before after end h;

@@ -12,9 +12,9 @@ use Rattle.frame_link.specs.Streams.{Stream, stream}
 use Rattle.taos_node.specs.declared.ending.FileFault.{FileFault}
 use Rattle.taos_node.specs.declared.ending.Ending.{Ending}
 use Rattle.taos_node.specs.declared.ending.Ending.TheVariants as ending
-use Rattle.taos_node.specs.declared.ending.Ending.TheVariants.{Usage, File, Served, Checked, Relayed, Minted, Lanes, RelayLanes, Audited, Drilled}
-use Rattle.taos_node.specs.Files.{IsNodeFile, IsRelayFile, OpensNode, OpensRelay, FileFails, FileDecides, HasFailed, IsSteady, node_means, relay_means}
-use Rattle.node_words.specs.Words.{Mean, MintWords, DrillWords, Task, Run, Check, Relay, Mint, Serve, RelayServe, Audit, Drill}
+use Rattle.taos_node.specs.declared.ending.Ending.TheVariants.{Usage, File, Served, Checked, Relayed, Minted, Lanes, RelayLanes, Audited, Drilled, Passed}
+use Rattle.taos_node.specs.Files.{IsNodeFile, IsPathFile, IsRelayFile, OpensNode, OpensPath, OpensRelay, FileFails, FileDecides, HasFailed, IsSteady, node_means, path_means, relay_means}
+use Rattle.node_words.specs.Words.{Mean, MintWords, DrillWords, PathWords, RunWords, ServeWords, Task, Run, Check, Relay, Mint, Serve, RelayServe, Audit, Drill, Path}
 use Rattle.node_check.specs.declared.check.CheckEnd.{CheckEnd}
 use Rattle.taos_node.specs.Ending.{status_of}
 use Rattle.taos_node.specs.Notes.{note_of, IsNoted}
@@ -32,6 +32,9 @@ use Rattle.node_file.specs.Opening.{Opening}
 use Rattle.node_file.specs.RelayFile.{RelayFile}
 use Rattle.taos_node.specs.declared.minting.MintEnd.{MintEnd}
 use Rattle.taos_node.specs.Minting.{Mints}
+use Rattle.relay_path.specs.Domains.{DomainKnows}
+use Rattle.taos_node.specs.declared.path.PathEnd.{PathEnd}
+use Rattle.taos_node.specs.Paths.{Passes}
 use Rattle.prin_text.specs.Labels.{Labels}
 use Rattle.relay_core.specs.declared.resealing.RelayTable.{RelayTable}
 use Rattle.relay_core.specs.Serving.{Answers, GivesUp}
@@ -48,7 +51,7 @@ IsCommand words = (task : Task) × Mean words task
 
 -- the words are the command that serves lanes
 abbrev pub IsServe : List (String Global) → Type 0
-IsServe words = (limits : Limits) × Mean words (Serve limits)
+IsServe words = (s : ServeWords) × Mean words (Serve s)
 
 -- the words are the command that serves lanes as a relay
 abbrev pub IsRelayServe : List (String Global) → Type 0
@@ -60,7 +63,7 @@ ServesDoors words = IsServe words ⊎ IsRelayServe words
 
 -- the words are a command that serves the first lane's connection, by that lane's clock
 abbrev pub ReadsClock : List (String Global) → Type 0
-ReadsClock words = ((frames : ℕ) × Mean words (Run frames)) ⊎ ((frames : ℕ) × Mean words (Audit frames))
+ReadsClock words = ((r : RunWords) × Mean words (Run r)) ⊎ ((frames : ℕ) × Mean words (Audit frames))
 
 -- ---- what a call touches
 
@@ -182,22 +185,30 @@ pub record MintsBy (r : RelayFile) (m : MintWords) (before after : Touched) (end
   pub input : Keeps before.input.told after.input.told
   pub lane : UsesNoLane before after
 
+-- the domains of the file pass the certificate of the input along the route, or it stops
+pub record PassesAlong (ds : List DomainKnows) (p : PathWords) (before after : Touched)
+    (end : PathEnd) : Type 0 where
+  pub passes : Passes ds p before.input.told after.input.told
+      before.output.told after.output.told end
+  pub lane : UsesNoLane before after
+
 -- the file that the command wants is refused by the fault
 abbrev pub FileFailsFor : Task → Stream → Stream → FileFault → Type 0
-FileFailsFor (Run frames) = FileFails node_means
+FileFailsFor (Run r) = FileFails node_means
 FileFailsFor Check = FileFails node_means
 FileFailsFor (Relay frames) = FileFails relay_means
 FileFailsFor (Mint m) = FileFails relay_means
-FileFailsFor (Serve limits) = FileFails node_means
+FileFailsFor (Serve s) = FileFails node_means
 FileFailsFor (RelayServe limits) = FileFails relay_means
 FileFailsFor (Audit frames) = FileFails node_means
 FileFailsFor (Drill d) = λ file0 file1 fault. ⊥
+FileFailsFor (Path p) = FileFails path_means
 
 -- What is done where no lanes are served, by how it ends. Other words do nothing, nor is anything
 -- done where memory is refused before the words are read. A file that is refused, or fails, and one
 -- for which memory is refused, leaves the rest untouched; every other opens a node that serves the
 -- connection, or by which a request and its reply are looked over, or a relay that serves it, or by
--- which a certificate is made.
+-- which a certificate is made, or domains along which one is passed.
 abbrev pub RunsAlone : List (String Global) → Touched → Touched → Ending → Type 0
 RunsAlone words before after Usage =
     (IsCommand words → ⊥) × Keeps before.file.told after.file.told × LeavesRest before after
@@ -207,8 +218,8 @@ RunsAlone words before after (File fault) =
     ((task : Task) × Mean words task × FileFailsFor task before.file after.file fault)
     × LeavesRest before after
 RunsAlone words before after (Served outcome) =
-    (frames : ℕ) × Mean words (Run frames) ×
-    ((o : Opening) × OpensNode before.file after.file o × ServesConnection o frames before after outcome)
+    (r : RunWords) × Mean words (Run r) ×
+    ((o : Opening) × OpensNode before.file after.file o × ServesConnection o r.frames before after outcome)
 RunsAlone words before after (Checked end) = Mean words Check × LooksOver before after end
 RunsAlone words before after (Relayed outcome) =
     (frames : ℕ) × Mean words (Relay frames) ×
@@ -221,6 +232,9 @@ RunsAlone words before after (Audited end) =
     ((o : Opening) × OpensNode before.file after.file o × Audits o frames before after end)
 RunsAlone words before after (Drilled end) =
     (d : DrillWords) × Mean words (Drill d) × DrillsAlone d before after end
+RunsAlone words before after (Passed end) =
+    (p : PathWords) × Mean words (Path p) ×
+    ((ds : List DomainKnows) × OpensPath before.file after.file ds × PassesAlong ds p before after end)
 RunsAlone words before after (Lanes end) = ⊥
 RunsAlone words before after (RelayLanes end) = ⊥
 
@@ -232,9 +246,9 @@ module _ {In Out : Type 0} (telling : Telling In Out) where
       Change (List (LaneShown (In × Out))) → Ending → Type 0
   Runs words t doors (Lanes end) =
       Keeps t.before.input.told t.after.input.told
-      × ((limits : Limits) × Mean words (Serve limits)
+      × ((s : ServeWords) × Mean words (Serve s)
       × ((o : Opening) × OpensNode t.before.file t.after.file o
-      × ServesLanes telling o limits doors (output_of t) end))
+      × ServesLanes telling o s.limits doors (output_of t) end))
   Runs words t doors (RelayLanes end) =
       Keeps t.before.input.told t.after.input.told
       × ((limits : Limits) × Mean words (RelayServe limits)
@@ -257,14 +271,15 @@ module _ {In Out : Type 0} (telling : Telling In Out) where
 
 -- which files are refused, by the file that the command wants
 abbrev pub FileDecidesFor : Task → Stream → Stream → ℕ → Type 0
-FileDecidesFor (Run frames) = FileDecides IsNodeFile
+FileDecidesFor (Run r) = FileDecides IsNodeFile
 FileDecidesFor Check = FileDecides IsNodeFile
 FileDecidesFor (Relay frames) = FileDecides IsRelayFile
 FileDecidesFor (Mint m) = FileDecides IsRelayFile
-FileDecidesFor (Serve limits) = FileDecides IsNodeFile
+FileDecidesFor (Serve s) = FileDecides IsNodeFile
 FileDecidesFor (RelayServe limits) = FileDecides IsRelayFile
 FileDecidesFor (Audit frames) = FileDecides IsNodeFile
 FileDecidesFor (Drill d) = λ file0 file1 status. status ≢ 2
+FileDecidesFor (Path p) = FileDecides IsPathFile
 
 -- An input of whole frames is answered to its end: where the file means something, the frames are
 -- not more than may be answered, and nothing fails, the status is 0, or 6 where memory was refused.
@@ -292,6 +307,15 @@ MintsWell before after status =
     IsSteady before.file after.file → IsSteady before.output after.output →
     (status ≡ 0) ⊎ ((status ≡ 12) ⊎ (status ≡ 6))
 
+-- A certificate is passed along, or a domain refuses it, or memory, where the file means something and
+-- nothing fails.
+abbrev pub PassesWell : Touched → Touched → ℕ → Type 0
+PassesWell before after status =
+    (bytes : List ℕ) (ds : List DomainKnows) → before.file.told ≡ Some bytes →
+    IsPathFile ds bytes → IsSteady before.file after.file →
+    IsSteady before.input after.input → IsSteady before.output after.output →
+    (status ≡ 0) ⊎ ((status ≡ 13) ⊎ (status ≡ 6))
+
 -- a fault is answered only where something failed
 pub record IsCaused (before after : Touched) (status : ℕ) : Type 0 where
   pub read : status ≡ 3 → HasFailed before.file after.file ⊎ HasFailed before.input after.input
@@ -316,8 +340,8 @@ pub record IsStatus (words : List (String Global)) (before after : Touched)
   pub usage : WordsDecide words status
   pub file : (task : Task) → Mean words task →
       FileDecidesFor task before.file after.file status
-  pub complete : (frames : ℕ) → Mean words (Run frames) → IsSteady before.clock after.clock →
-      EndsWell IsNodeFile frames before after status
+  pub complete : (r : RunWords) → Mean words (Run r) → IsSteady before.clock after.clock →
+      EndsWell IsNodeFile r.frames before after status
   pub checks_well : Mean words Check → ChecksWell before after status
   pub relays_well : (frames : ℕ) → Mean words (Relay frames) →
       EndsWell IsRelayFile frames before after status
@@ -326,6 +350,7 @@ pub record IsStatus (words : List (String Global)) (before after : Touched)
   pub drills_well : (d : DrillWords) → Mean words (Drill d) → IsSteady before.output after.output →
       (status ≡ 0) ⊎ (status ≡ 6)
   pub mints_well : (m : MintWords) → Mean words (Mint m) → MintsWell before after status
+  pub passes_well : (p : PathWords) → Mean words (Path p) → PassesWell before after status
   pub causes : IsCaused before after status
   pub told : TellsFaults before after status
   -- by a command that serves lanes a reading that fails ends its connection alone

@@ -7,7 +7,7 @@ use Rattle.taos_node.specs.declared.ending.FileFault.TheVariants as fault
 use Rattle.taos_node.specs.declared.ending.FileFault.TheVariants.{Malformed, Refused}
 use Rattle.taos_node.specs.declared.ending.Ending.{Ending}
 use Rattle.taos_node.specs.declared.ending.Ending.TheVariants as ending
-use Rattle.taos_node.specs.declared.ending.Ending.TheVariants.{Usage, File, Served, Checked, Relayed, Minted, Lanes, RelayLanes, Audited, Drilled}
+use Rattle.taos_node.specs.declared.ending.Ending.TheVariants.{Usage, File, Served, Checked, Relayed, Minted, Lanes, RelayLanes, Audited, Drilled, Passed}
 use Rattle.taos_node.specs.declared.ending.AuditEnd.{AuditEnd}
 use Rattle.taos_node.specs.declared.ending.AuditEnd.TheVariants as audit
 use Rattle.taos_node.specs.declared.ending.DrillEnd.{DrillEnd}
@@ -18,6 +18,7 @@ use Rattle.node_check.specs.declared.check.CheckEnd.{CheckEnd}
 use Rattle.node_check.specs.declared.check.CheckEnd.TheVariants as ends
 use Rattle.node_check.specs.Findings.{finding_status}
 use Rattle.taos_node.specs.Minting.{minted_status}
+use Rattle.taos_node.specs.Paths.{path_status}
 
 -- the exit status where the file is not served
 abbrev pub file_status : FileFault → ℕ
@@ -77,3 +78,4 @@ status_of (Lanes end) = lanes_status end
 status_of (RelayLanes end) = lanes_status end
 status_of (Audited end) = audited_status end
 status_of (Drilled end) = drilled_status end
+status_of (Passed end) = path_status end

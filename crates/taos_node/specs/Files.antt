@@ -10,6 +10,8 @@ use Rattle.node_file.specs.declared.limits.TheConstants.{MAX_FILE}
 use Rattle.node_file.specs.Opening.{Opening}
 use Rattle.node_file.specs.OpeningFile.{Means, opening_in}
 use Rattle.node_file.specs.RelayFile.{RelayFile, relay_in}
+use Rattle.relay_path.specs.Domains.{DomainKnows}
+use Rattle.relay_path.specs.PathFile.{path_in}
 use Rattle.taos_node.specs.declared.ending.FileFault.{FileFault}
 use Rattle.taos_node.specs.declared.ending.FileFault.TheVariants as fault
 use Rattle.taos_node.specs.declared.ending.FileFault.TheVariants.{Malformed, Refused}
@@ -30,6 +32,10 @@ IsNodeFile o bytes = Means o bytes × (length bytes ≤ MAX_FILE)
 abbrev pub IsRelayFile : RelayFile → List ℕ → Type 0
 IsRelayFile r bytes = relay_in bytes ≡ Ok r
 
+-- the file's bytes mean what domains know
+abbrev pub IsPathFile : List DomainKnows → List ℕ → Type 0
+IsPathFile ds bytes = path_in bytes ≡ Ok ds
+
 -- what bytes mean, or why they are refused
 abbrev pub Meaning : Type 0 → Type 0
 Meaning A = List ℕ → Result A Refusal
@@ -41,6 +47,10 @@ node_means = opening_in
 -- what the bytes of a relay file mean
 abbrev pub relay_means : Meaning RelayFile
 relay_means = relay_in
+
+-- what the bytes of a path file mean
+abbrev pub path_means : Meaning (List DomainKnows)
+path_means = path_in
 
 -- at most one byte more than there may be was taken of it
 abbrev pub TakesFew : Stream → Stream → Type 0
@@ -68,6 +78,10 @@ OpensNode = Opens IsNodeFile
 -- the file opens the relay
 abbrev pub OpensRelay : Stream → Stream → RelayFile → Type 0
 OpensRelay = Opens IsRelayFile
+
+-- the file opens the domains
+abbrev pub OpensPath : Stream → Stream → List DomainKnows → Type 0
+OpensPath = Opens IsPathFile
 
 -- what was read of the file is refused
 pub record IsRefused {A : Type 0} (means : Meaning A) (file0 file1 : Stream) (why : Refusal) :
@@ -113,6 +127,11 @@ NodeFileGives = FileGives IsNodeFile node_means
 abbrev pub RelayFileGives : {X : Type 0} → (RelayFile → X → Type 0) → Stream → Stream →
     Result X FileFault → Type 0
 RelayFileGives = FileGives IsRelayFile relay_means
+
+-- and of a path file
+abbrev pub PathFileGives : {X : Type 0} → (List DomainKnows → X → Type 0) → Stream → Stream →
+    Result X FileFault → Type 0
+PathFileGives = FileGives IsPathFile path_means
 
 -- the file's count of faults rose where a fault of reading is answered, and else stayed
 abbrev pub FaultHasCause : Stream → Stream → FileFault → Type 0

@@ -3,6 +3,7 @@ pub mod Ending
 pub mod Notes
 pub mod Files
 pub mod Minting
+pub mod Paths
 pub mod Summary
 pub mod Lanes
 pub mod RelayLanes

@@ -11,7 +11,7 @@ use Rattle.taos_node.specs.declared.ending.FileFault.TheVariants as fault
 use Rattle.taos_node.specs.declared.ending.FileFault.TheVariants.{Malformed, Refused}
 use Rattle.taos_node.specs.declared.ending.Ending.{Ending}
 use Rattle.taos_node.specs.declared.ending.Ending.TheVariants as ending
-use Rattle.taos_node.specs.declared.ending.Ending.TheVariants.{Usage, File, Served, Checked, Relayed, Minted, Lanes, RelayLanes, Audited, Drilled}
+use Rattle.taos_node.specs.declared.ending.Ending.TheVariants.{Usage, File, Served, Checked, Relayed, Minted, Lanes, RelayLanes, Audited, Drilled, Passed}
 use Rattle.taos_node.specs.declared.ending.AuditEnd.{AuditEnd}
 use Rattle.taos_node.specs.declared.ending.AuditEnd.TheVariants as audit
 use Rattle.taos_node.specs.declared.ending.DrillEnd.{DrillEnd}
@@ -19,6 +19,7 @@ use Rattle.taos_node.specs.declared.ending.DrillEnd.TheVariants as drill
 use Rattle.taos_node.specs.declared.ending.LanesEnd.{LanesEnd}
 use Rattle.taos_node.specs.declared.ending.LanesEnd.TheVariants as lanes
 use Rattle.taos_node.specs.Minting.{minted_note}
+use Rattle.taos_node.specs.Paths.{path_note}
 use Rattle.node_check.specs.declared.check.CheckEnd.{CheckEnd}
 use Rattle.node_check.specs.declared.check.CheckEnd.TheVariants as ends
 
@@ -102,6 +103,7 @@ note_of (Lanes end) = lanes_note end
 note_of (RelayLanes end) = lanes_note end
 note_of (Audited end) = audited_note end
 note_of (Drilled end) = drilled_note end
+note_of (Passed end) = path_note end
 
 -- the note was written, or a proper front of it where the notes failed; what was told of the notes,
 -- and how often they had failed, before and after

@@ -21,6 +21,7 @@ use agent_core::{MAX_SHARDS, Shard};
 use audit_text::{audit_object, audit_shard};
 use frame_link::{Clock, Door, Failed, Outcome, RelayLink, Sink, Source, pour};
 use goal_search::Workbench;
+use lemma_memo::Lemmas;
 use object_core::Object;
 use std::alloc::{AllocError, Global};
 use std::sync::Wait;
@@ -79,7 +80,7 @@ fn write_text<O: Sink>(alloc: Global, node: OpenNode, output: &mut O) -> AuditEn
 fn audit<W: Wait + Sync, I: Source, O: Sink, C: Clock, R: RelayLink, D: Door>(
     rt: &W,
     alloc: Global,
-    opened: (OpenNode, Workbench),
+    opened: (OpenNode, Lemmas<Workbench>),
     input: &mut I,
     output: &mut O,
     lanes: &mut [Lane<C, R, D>],
@@ -145,7 +146,7 @@ pub(crate) fn audit_by_file<
     ensures others { drop 1 lanes.new ≡ drop 1 lanes.old }
     ensures doors { doors_of lanes.new ≡ doors_of lanes.old }
 {
-    match node_file_of(alloc, file) {
+    match node_file_of(alloc, file, 0) {
         Ok(opened) => Ending::Audited(audit(rt, alloc, opened, input, output, lanes, frames)),
         Err(fault) => Ending::File(fault),
     }

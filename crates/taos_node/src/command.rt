@@ -26,23 +26,26 @@ use crate::file::file_opening;
 use crate::lanes::serve_by_file;
 use crate::note::tell;
 use crate::opened::{OpenNode, open_node};
+use crate::path::path_by_file;
 use crate::relay::{mint_by_file, relay_by_file};
 use crate::relay_lanes::serve_relay_by_file;
 use frame_link::{Clock, Door, Outcome, RelayLink, Sink, Source};
 use goal_search::Workbench;
+use lemma_memo::Lemmas;
 use node_check::check_connection;
 use node_words::{Wanted, wanted_of};
 use std::alloc::Global;
 use std::sync::Wait;
 use std::thread::Threads;
-use taos_lanes::Lane;
+use taos_lanes::{Lane, bench_of};
 use taos_monitor::serve_connection;
 
-/// The node that it opens, with the room that decisions take.
+/// The node that it opens, with the room that decisions take and that so many lemmas do.
 pub(crate) fn node_file_of<F: Source>(
     alloc: Global,
     file: &mut F,
-) -> Result<(OpenNode, Workbench), FileFault>
+    lemmas: u32,
+) -> Result<(OpenNode, Lemmas<Workbench>), FileFault>
     ensures gives { NodeFileGives (λ o x. IsOpenedBy o x.0) (F.shown file.old)
         (F.shown file.new) result }
     ensures planned { IfOk result (λ x. ArePlanned x.0.keys.channels.entries
@@ -52,15 +55,16 @@ pub(crate) fn node_file_of<F: Source>(
     ensures cause { FileHasCause (F.shown file.old) (F.shown file.new) result }
 {
     let opening = file_opening(alloc, file)?;
+    let bench = bench_of(alloc, &opening.anchors, &opening.commons, lemmas)?;
     let node = open_node(alloc, opening)?;
-    Ok((node, Workbench::reserve(alloc)?))
+    Ok((node, bench))
 }
 
 /// Serves the connection of the first lane, of at most so many frames.
 pub(crate) fn serve_first<W: Wait + Sync, I: Source, O: Sink, C: Clock, R: RelayLink, D: Door>(
     rt: &W,
     alloc: Global,
-    opened: &mut (OpenNode, Workbench),
+    opened: &mut (OpenNode, Lemmas<Workbench>),
     input: &mut I,
     output: &mut O,
     lanes: &mut [Lane<C, R, D>],
@@ -170,13 +174,16 @@ fn run<
         Wanted::Check => check_file(alloc, file, input, output),
         Wanted::Relay { frames } => relay_by_file(alloc, file, input, output, frames),
         Wanted::Mint(asked) => mint_by_file(alloc, file, output, &asked),
-        Wanted::Serve(limits) => serve_by_file(rt, alloc, file, output, lanes, limits),
+        Wanted::Path(asked) => path_by_file(alloc, file, input, output, &asked),
+        Wanted::Serve { limits, lemmas } => {
+            serve_by_file(rt, alloc, file, output, lanes, limits, lemmas)
+        }
         Wanted::RelayServe(limits) => {
             serve_relay_by_file(rt, alloc, file, output, lanes, limits)
         }
         Wanted::Drill(asked) => drill_asked(rt, alloc, asked, output),
         Wanted::Audit { frames } => { audit_by_file(rt, alloc, file, input, output, lanes, frames) }
-        Wanted::Run { frames } => match node_file_of(alloc, file) {
+        Wanted::Run { frames, lemmas } => match node_file_of(alloc, file, lemmas) {
             Ok(mut opened) => Ending::Served(serve_first(
                 rt,
                 alloc,
@@ -192,11 +199,12 @@ fn run<
 }
 
 /// Does all that the program does, and answers its exit status. The command lines are `run` with
-/// `--frames N` or without, `serve` with `--connections N` and `--frames N` or without, `check`,
-/// `relay` with `--frames N` or without, `relay-serve` with the options of `serve`, `mint` with what
-/// a certificate is to say, `audit` with `--frames N` or without, and `drill` with a number and how
-/// many requests and lanes. `run`, `serve`, `audit` and `check` read the file to a node's opening,
-/// `relay`, `relay-serve` and `mint` to what a relay knows; `drill` reads none. By `run` each request
+/// `--frames N` and `--lemmas N` or without, `serve` with these and `--connections N` or without,
+/// `check`, `relay` with `--frames N` or without, `relay-serve` with `--connections N` and
+/// `--frames N` or without, `mint` with what a certificate is to say, `path` with `--node N` and `--route LIST`, `audit` with `--frames N` or
+/// without, and `drill` with a number and how many requests and lanes. `run`, `serve`, `audit` and
+/// `check` read the file to a node's opening, `relay`, `relay-serve` and `mint` to what a relay knows,
+/// `path` to what domains of relays know; `drill` reads none. By `run` each request
 /// frame of the input, of at most N or a million, is answered by one reply frame of the output, by a
 /// node of that opening whose journals are empty at first, with the first lane's clock and its link
 /// to the relay.
@@ -206,7 +214,8 @@ fn run<
 /// By `check` the frames of a request and its reply are looked over, and one line of the output says
 /// what is found. By `relay` each frame of the input is answered by the relay's answer to a node; by
 /// `relay-serve` the lanes' doors are served so, and one line says what was counted. By `mint` one
-/// line of the output is the certificate. By `audit` a connection is served as by `run`, and the
+/// line of the output is the certificate. By `path` the certificate of the first frame passes along
+/// the route, and the output has a line of what each domain sealed. By `audit` a connection is served as by `run`, and the
 /// output has the text of the journals in place of the replies. By `drill` a node serves a load that
 /// is made of the number, and one line says what it came to. A note tells how it ended.
 pub fn taos<
@@ -236,7 +245,7 @@ pub fn taos<
     // by its own places, and each place of a journal is own of one connection, once, however the
     // lanes' steps interleave, and the line is written of what was counted; or the line of what a
     // request and its reply show; or a relay answers each frame; or the line of a certificate is
-    // written. The note and the status tell how it ended.
+    // written, or those of what domains sealed. The note and the status tell how it ended.
     ensures run { let before = touched (F.shown file.old) (I.shown input.old) (O.shown output.old)
         (first_clock C.shown lanes.old) (first_link R.shown lanes.old) in
         let after = touched (F.shown file.new) (I.shown input.new) (O.shown output.new)

@@ -73,7 +73,7 @@ fn serve_load<W: Threads + Wait + Sync>(
         connections: 1,
         frames: asked.requests as u64,
     };
-    let served = serve(rt, alloc, parts, &mut lanes, limits)?;
+    let served = serve(rt, alloc, parts, &mut lanes, limits, 0)?;
     Ok(served)
 }
 

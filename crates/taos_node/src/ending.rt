@@ -3,9 +3,11 @@
 ghost use Rattle.std.specs.Prelude.{◌≡◌};
 ghost use Rattle.taos_node.specs.declared.ending.FileFault.TheVariants as fault;
 ghost use Rattle.taos_node.specs.Minting.{minted_status};
+ghost use Rattle.taos_node.specs.Paths.{path_status};
 ghost use Rattle.taos_node.specs.Ending.{audited_status, checked_status, drilled_status, file_status, lanes_status, served_status, status_of};
 
 use crate::minting::MintEnd;
+use crate::path::PathEnd;
 use frame_link::Outcome;
 use node_check::{CheckEnd, finding_status};
 use node_file::FileCause;
@@ -95,6 +97,8 @@ pub enum Ending {
     Audited(AuditEnd),
     /// A load was served.
     Drilled(DrillEnd),
+    /// A certificate was passed along a route, or stopped.
+    Passed(PathEnd),
 }
 
 const USAGE: u8 = 1;
@@ -118,6 +122,8 @@ const DOOR_FAULT: u8 = 9;
 const SPENT: u8 = 10;
 
 const MINT_REFUSED: u8 = 12;
+
+const PATH_REFUSED: u8 = 13;
 
 fn file_status(fault: FileFault) -> u8
     ensures { result ≡ file_status fault }
@@ -198,6 +204,18 @@ fn drilled_status(end: DrillEnd) -> u8
     }
 }
 
+fn path_status(end: PathEnd) -> u8
+    ensures { result ≡ path_status end }
+{
+    match end {
+        PathEnd::Done => 0,
+        PathEnd::Refused { .. } => PATH_REFUSED,
+        PathEnd::ReadFault => READ_FAULT,
+        PathEnd::WriteFault => WRITE_FAULT,
+        PathEnd::NoMemory => MEMORY,
+    }
+}
+
 /// The exit status of an ending.
 pub fn status_of(ending: Ending) -> u8
     ensures { result ≡ status_of ending }
@@ -213,5 +231,6 @@ pub fn status_of(ending: Ending) -> u8
         Ending::Lanes(end) | Ending::RelayLanes(end) => lanes_status(end),
         Ending::Audited(end) => audited_status(end),
         Ending::Drilled(end) => drilled_status(end),
+        Ending::Passed(end) => path_status(end),
     }
 }

@@ -1,16 +1,20 @@
 //! The file of a command, read.
 
-ghost use Rattle.std.specs.Prelude.{◌≡◌, ◌≤◌, length, IfErr, IfOk};
+ghost use Rattle.std.specs.Prelude.{◌≡◌, ◌≤◌, Vec, length, map, IfErr, IfOk};
+ghost use Rattle.std.specs.declared.alloc.Global.{Global};
 ghost use Rattle.node_file.specs.Meaning.{opening, FitsByNumber};
 ghost use Rattle.node_file.specs.OpeningView.{Represents};
 ghost use Rattle.node_file.specs.RelayView.{StandsFor};
-ghost use Rattle.taos_node.specs.Files.{fault_of, FileHasCause, IsRead, IsUnread, NodeFileGives, RelayFileGives};
+ghost use Rattle.relay_path.specs.Domains.{LinksAgree, knows};
+ghost use Rattle.relay_path.specs.PathView.{StandForDomains, file_fault};
+ghost use Rattle.taos_node.specs.Files.{fault_of, FileHasCause, IsRead, IsUnread, NodeFileGives, PathFileGives, RelayFileGives};
 
 use crate::ending::FileFault;
 use frame_link::{Source, fill};
 use node_file::{
-    FileFault as Refusal, MAX_FILE, Opening, RelayFile, read_opening, read_relay_file,
+    FileCause, FileFault as Refusal, MAX_FILE, Opening, RelayFile, read_opening, read_relay_file,
 };
+use relay_path::{Domain, PathFault, read_path_file};
 use std::alloc::{AllocError, Global};
 
 fn zeros(alloc: Global, len: usize) -> Result<Vec<u8>, AllocError>
@@ -69,5 +73,32 @@ pub(crate) fn file_relay<F: Source>(alloc: Global, file: &mut F) -> Result<Relay
     match read_relay_file(alloc, &bytes) {
         Ok(relay) => Ok(relay),
         Err(refusal) => Err(fault_of(refusal)),
+    }
+}
+
+fn path_fault_of(refusal: PathFault) -> FileFault
+    ensures { result ≡ fault_of (file_fault refusal) }
+{
+    match refusal {
+        PathFault::Line { line, cause } => FileFault::Refused {
+            line,
+            cause: FileCause::from(cause),
+        },
+        PathFault::NoMemory => FileFault::NoMemory,
+    }
+}
+
+/// The domains of a path file.
+pub(crate) fn file_domains<F: Source>(alloc: Global, file: &mut F) -> Result<Vec<Domain>, FileFault>
+    ensures gives { PathFileGives (λ ds (v : Vec Domain Global). StandForDomains v.items ds)
+        (F.shown file.old) (F.shown file.new) result }
+    // Two domains that the file links have one key for each other.
+    ensures links { IfOk result (λ domains. LinksAgree (map knows domains.items)) }
+    ensures cause { FileHasCause (F.shown file.old) (F.shown file.new) result }
+{
+    let bytes = file_bytes(alloc, file)?;
+    match read_path_file(alloc, &bytes) {
+        Ok(domains) => Ok(domains),
+        Err(refusal) => Err(path_fault_of(refusal)),
     }
 }

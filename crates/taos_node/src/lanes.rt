@@ -13,7 +13,7 @@ ghost use Rattle.taos_node.specs.Command.{Does, first_clock, first_link, touched
 ghost use Rattle.taos_node.specs.Files.{FileHasCause, NodeFileGives};
 ghost use Rattle.taos_node.specs.Lanes.{LanesCauses, Prints, PrintsLine, ServesLanes};
 ghost use Rattle.taos_node.specs.Opened.{IsNodeOf};
-ghost use Rattle.node_words.specs.Words.{Mean, Serve};
+ghost use Rattle.node_words.specs.Words.{Mean, Serve, serve_words};
 
 use crate::ending::{Ending, FileFault, LanesEnd};
 use crate::file::file_opening;
@@ -82,6 +82,7 @@ fn serve_parts<
     output: &mut O,
     lanes: &mut [Lane<C, R, D>],
     limits: Limits,
+    lemmas: u32,
 ) -> LanesEnd
     requires some { 0 < length lanes.old }
     requires few { length lanes.old ≤ MAX_LANES }
@@ -93,7 +94,7 @@ fn serve_parts<
         (change (O.shown output.old).told (O.shown output.new).told) result }
     ensures cause { LanesCauses (O.shown output.old).faults (O.shown output.new).faults result }
 {
-    match serve(rt, alloc, parts, lanes, limits) {
+    match serve(rt, alloc, parts, lanes, limits, lemmas) {
         Ok(served) => print(output, &served),
         Err(AllocError) => LanesEnd::NoMemory,
     }
@@ -114,11 +115,13 @@ pub(crate) fn serve_by_file<
     output: &mut O,
     lanes: &mut [Lane<C, R, D>],
     limits: Limits,
+    lemmas: u32,
 ) -> Ending
     requires some { 0 < length lanes.old }
     requires few { length lanes.old ≤ MAX_LANES }
     // Whatever input there is.
-    ensures serves { (words : List (String Global)) (input : Stream) → Mean words (Serve limits)
+    ensures serves { (words : List (String Global)) (input : Stream)
+        → Mean words (Serve (serve_words limits lemmas))
         → let before = touched (F.shown file.old) input (O.shown output.old)
         (first_clock C.shown lanes.old) (first_link R.shown lanes.old) in
         let after = touched (F.shown file.new) input (O.shown output.new)
@@ -128,7 +131,7 @@ pub(crate) fn serve_by_file<
         (change (map shown lanes.old) (map shown lanes.new)) result }
 {
     match node_parts_of(alloc, file) {
-        Ok(parts) => Ending::Lanes(serve_parts(rt, alloc, parts, output, lanes, limits)),
+        Ok(parts) => Ending::Lanes(serve_parts(rt, alloc, parts, output, lanes, limits, lemmas)),
         Err(fault) => Ending::File(fault),
     }
 }

@@ -11,6 +11,7 @@ mod limits;
 mod minting;
 mod note;
 mod opened;
+mod path;
 mod relay;
 mod relay_lanes;
 mod summary;
@@ -27,7 +28,10 @@ pub use node_check::{
 pub use node_file::{
     FileCause, MAX_FILE, ObjectPlan, ObjectPlans, Opening, one_opening, read_opening,
 };
-pub use node_words::{Drill, LANE_CONNECTIONS, MAX_FRAMES, Mint, Wanted, one_meaning, wanted_of};
+pub use node_words::{
+    Drill, LANE_CONNECTIONS, MAX_FRAMES, Mint, Path, Route, Wanted, one_meaning, wanted_of,
+};
 pub use note::tell;
+pub use path::PathEnd;
 pub use taos_lanes::{Lane, MAX_LANES};
 pub use taos_monitor::{MAX_REQUEST, answer, serve_connection};

@@ -3,10 +3,12 @@
 ghost use Rattle.std.specs.Prelude.{◌≡◌, ◌⊎◌, ◌≤◌, ◌++◌, length, decimal};
 ghost use Rattle.taos_node.specs.Ending.{status_of};
 ghost use Rattle.taos_node.specs.Minting.{minted_note, word_text};
+ghost use Rattle.taos_node.specs.Paths.{path_note};
 ghost use Rattle.taos_node.specs.Notes.{audited_note, cause_text, checked_note, drilled_note, file_note, lanes_note, served_note, note_of, IsNoted};
 
 use crate::ending::{AuditEnd, DrillEnd, Ending, FileFault, LanesEnd};
 use crate::minting::{MintEnd, MintWord};
+use crate::path::PathEnd;
 use arrayvec::ArrayVec;
 use frame_link::{Outcome, Sink, pour};
 use itoa::Buffer;
@@ -14,7 +16,7 @@ use node_check::CheckEnd;
 use node_file::FileCause;
 
 // A note has no more bytes than this.
-const ROOM: usize = 96;
+const ROOM: usize = 112;
 
 fn plain(text: &[u8]) -> ArrayVec<u8, ROOM>
     requires { length text.now ≤ ROOM }
@@ -151,6 +153,30 @@ fn of_minted(end: MintEnd) -> ArrayVec<u8, ROOM>
     }
 }
 
+// The note of a route that stops at this place, by this code.
+fn of_stop(hop: u8, code: u8) -> ArrayVec<u8, ROOM>
+    ensures { result.items ≡ path_note (PathEnd.Refused hop code) }
+{
+    let mut digits = Buffer::new();
+    let mut line = numbered(b"taos: path refused: hop ", hop as u64, b" code ");
+    line.try_extend_from_slice(digits.format(code as u64).as_bytes())
+        .unwrap();
+    line.try_extend_from_slice(b"\n").unwrap();
+    line
+}
+
+fn of_passed(end: PathEnd) -> ArrayVec<u8, ROOM>
+    ensures { result.items ≡ path_note end }
+{
+    match end {
+        PathEnd::Done => plain(b""),
+        PathEnd::Refused { hop, code } => of_stop(hop, code),
+        PathEnd::ReadFault => plain(b"taos: read fault\n"),
+        PathEnd::WriteFault => plain(b"taos: write fault\n"),
+        PathEnd::NoMemory => plain(b"taos: no memory\n"),
+    }
+}
+
 fn of_lanes(end: LanesEnd) -> ArrayVec<u8, ROOM>
     ensures { result.items ≡ lanes_note end }
 {
@@ -197,6 +223,7 @@ fn note_of(ending: Ending) -> ArrayVec<u8, ROOM>
         Ending::Lanes(end) | Ending::RelayLanes(end) => of_lanes(end),
         Ending::Audited(end) => of_audited(end),
         Ending::Drilled(end) => of_drilled(end),
+        Ending::Passed(end) => of_passed(end),
     }
 }
 

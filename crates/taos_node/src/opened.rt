@@ -52,6 +52,7 @@ pub(crate) fn open_parts(alloc: Global, node: Opening) -> Result<NodeParts, Allo
         },
         shards,
         anchors: node.anchors,
+        commons: node.commons,
         objects,
     })
 }

@@ -125,7 +125,7 @@ fn work<W: Threads + Wait + Sync, N: Sink, C: Clock + Send, R: RelayLink + Send,
 
 // Whether a command serves the connections of doors, and leaves standard input alone.
 fn serves_doors(wanted: Wanted<'_>) -> bool {
-    matches!(wanted, Wanted::Serve(_) | Wanted::RelayServe(_))
+    matches!(wanted, Wanted::Serve { .. } | Wanted::RelayServe(_))
 }
 
 // What all lanes stand on.

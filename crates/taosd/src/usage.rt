@@ -7,7 +7,7 @@ taosd --print FILE
 taosd --help | --version | --key
 
 FILE    the path of a node file, or for relay, relay-serve and mint of a relay
-        file, or - for none
+        file, or for path of a path file, or - for none
 LISTEN  addresses HOST:PORT joined by commas, 16 at most, each with a lane, or
         - for none
 RELAY   the address HOST:PORT of the node's relay, or - for none
@@ -24,21 +24,23 @@ OPTION is one of
   --tell-denials    tells these and each denial
 
 COMMAND is one of
-  run [--frames N]  answers the request frames of standard input on standard
-                    output, N of them at most (1 or more; 1000000 without)
-  serve [--connections N] [--frames N]
+  run [--frames N] [--lemmas N]
+                    answers the request frames of standard input on standard
+                    output, N of them at most (1 or more; 1000000 without),
+                    and remembers N lemmas (1024 at most; 0 without)
+  serve [--connections N] [--frames N] [--lemmas N]
                     answers the connections of LISTEN, all lanes at the same
                     time, each one connection after the other: N of them at
-                    most (1 or more; 1 without), N frames each (as run); and
-                    prints what was counted
+                    most (1 or more; 1 without), N frames each and N lemmas
+                    a lane (as run); and prints what was counted
   check             reads a request frame and its reply frame, and prints what
                     the reply shows
   relay [--frames N]
                     answers the frames of a node on standard input as a relay,
                     N of them at most (1 or more; 1000000 without)
   relay-serve [--connections N] [--frames N]
-                    answers the connections of LISTEN as a relay, by the
-                    options of serve, and prints what was counted
+                    answers the connections of LISTEN as a relay, as serve
+                    does, and prints what was counted
   audit [--frames N]
                     serves standard input as run, and prints the journals in
                     place of the replies
@@ -50,6 +52,11 @@ COMMAND is one of
                     prints a certificate under the issuer's key, in hex: the
                     issuer, quoting P if so, says until TIME that the left P
                     speaks for the right P
+  path --node N --route LIST
+                    reads the frame of a certificate, passes it along the
+                    domains of LIST (1 to 4 numbers joined by commas), the
+                    last of which seals it for the node N, and prints what
+                    each sealed, in hex
 
 P is a principal such as key:2, alice or '(ws1 as taos) and key:14', by the
 texts of FILE; TIME an instant such as 2030-01-31T12:00:00Z.
@@ -68,6 +75,7 @@ Exit status, told on standard error but for 0 and 11:
   4  a write failed               10  N frames were answered, and more came
   5  the clock failed             11  check refused the reply
                                   12  mint refused a word
+                                  13  path stopped at a domain
 ";
 
 /// Its name and version.

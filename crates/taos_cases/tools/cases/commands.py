@@ -1,6 +1,6 @@
 """The other commands: a relay that serves lanes, an audit of a connection, and a drill."""
 from conversation import Case
-from formats import LAST, u16
+from formats import LAST, Fields, u16
 from .files import usage
 from .nodes import ask, node
 from .relaying import ANSWERS, FILE, MARK
@@ -62,6 +62,12 @@ def relayed():
               words=["--frames", "1"]),
         doors("connections to a relay that end inside a frame", "Each breaks, and the lane goes on.", ASKED + [u16(0)],
               ANSWERED + ANSWERED + [line(2, 2)], 2, 2),
+        doors("a connection to a relay whose first read fails", "Nothing is asked, and it breaks.", ASKED, [line(1, 1)], input_fails=[0],
+              byte_fails=[0], faults=1),
+        doors("connections to a relay whose first reads fail", "Each breaks, and the lane goes on.", ASKED, [line(2, 2)], 2, 2,
+              input_fails=[0], byte_fails=[0], faults=2),
+        doors("a connection to a relay that takes a byte too few", "It breaks behind a front of an answer.", ASKED,
+              [Fields(bytes(ANSWERED[0])[:-1]), line(1, 1)], output_room=len(ANSWERED[0]) - 1, faults=1),
     ]
 
 
@@ -72,6 +78,8 @@ def failing():
               faults=1, note=note),
         doors("a relay's door that fails behind a connection", "What was served is served, and no line written.", ASKED, ANSWERED,
               2, 2, door_fails=[1], status=9, faults=1, note=note),
+        doors("the second lane's door of a relay fails", "The other lane's connection is served whole, and no line written.", ASKED,
+              ANSWERED, second_door_fails=[0], status=9, faults=1, note="taos: door fault at lane 1"),
     ]
 
 

@@ -1,6 +1,6 @@
-"""The command that serves lanes, with one lane: its words, its line, its connections, its faults."""
+"""The command that serves lanes, two of them: its words, its line, its connections, its faults."""
 from conversation import Case
-from formats import replayed, u16
+from formats import Fields, replayed, u16
 from .files import usage
 from .nodes import ask, by_anchor, no_alice, node
 
@@ -13,6 +13,8 @@ WORDS = [
     ["serve", "--frames", "2"],
     ["serve", "--frames=3", "--connections", "4"],
     ["serve", "--connections", "4", "--frames=3"],
+    ["serve", "--lemmas", "0"],
+    ["serve", "--frames", "3", "--lemmas=1024", "--connections=4"],
 ]
 # Words that are no command.
 OTHERS = [
@@ -27,6 +29,12 @@ OTHERS = [
     ("connections of a relay", ["relay", "--connections", "1"], "It serves one connection."),
     ("lanes of an issuer", ["serve", "--issuer", "1"], "An option of another command."),
     ("a word behind", ["serve", "2"], "A command has options alone."),
+    ("a lemma more than there may be", ["serve", "--lemmas", "1025"], "There is room for 1,024 at most."),
+    ("lemmas of no number", ["run", "--lemmas", "all"], "A number is decimal digits."),
+    ("lemmas with a zero in front", ["run", "--lemmas=064"], "A number has no zero in front."),
+    ("lemmas twice", ["run", "--lemmas", "1", "--lemmas=1"], "Each option at most once."),
+    ("lemmas of a relay's lanes", ["relay-serve", "--lemmas", "1"], "A relay decides nothing."),
+    ("lemmas of an audit", ["audit", "--lemmas", "1"], "An option of another command."),
 ]
 
 
@@ -65,6 +73,9 @@ def served():
     about = "Each connection asks the same: what the first was granted is replayed in the second."
     return [
         doors("one connection", "Two Asks and a Keep.", ASKED, ANSWERED + [line(1, 0, 3, 2, 0)]),
+        doors("one connection to a lane that remembers", "Nothing shows it.", ASKED, ANSWERED + [line(1, 0, 3, 2, 0)],
+              words=["--lemmas", "64"]),
+        Case("a run that remembers", "Nothing shows it.", words=["run", "--lemmas", "64"], file=node(), input=ASKED, output=ANSWERED),
         doors("an empty connection", "It ends after a whole frame.", [], [line(1, 0, 0, 0, 0)]),
         doors("a denial", "Nobody speaks for alice.", [ask(2, 1)], [no_alice(2, 1), line(1, 0, 1, 0, 1)]),
         doors("two connections", about, ASKED, ANSWERED + REPLAYED + [line(2, 0, 5, 2, 0)], 2, 2),
@@ -82,6 +93,13 @@ def broken():
         doors("connections that end inside a frame", cut, [ask(1, 1), u16(0)],
               [by_anchor(1), replayed(1, 1, 1), line(2, 2, 3, 1, 0)], 2, 2),
         doors("a clock that fails once", cut, [ask(1, 1)], [by_anchor(1), line(2, 1, 2, 1, 0)], 2, 2, clock_fails=[0], faults=1),
+        doors("a connection whose first read fails", "Nothing is asked, and it breaks.", ASKED, [line(1, 1, 0, 0, 0)], input_fails=[0],
+              byte_fails=[0], faults=1),
+        doors("connections whose first reads fail", cut, ASKED, [line(2, 2, 0, 0, 0)], 2, 2, input_fails=[0], byte_fails=[0], faults=2),
+        doors("a connection whose second frame fails", "What came before it is answered.", ASKED, [by_anchor(1), line(1, 1, 2, 1, 0)],
+              input_fails=[2], byte_fails=[len(ASKED[0])], faults=1),
+        doors("a connection that takes a byte too few", "Its entries stand all the same.", ASKED,
+              [Fields(bytes(ANSWERED[0])[:-1]), line(1, 1, 2, 1, 0)], output_room=len(ANSWERED[0]) - 1, faults=1),
     ]
 
 
@@ -92,7 +110,13 @@ def failing():
               faults=1, note=note),
         doors("a door that fails behind a connection", "What was served is served, and no line written.", ASKED, ANSWERED, 2, 2,
               door_fails=[1], status=9, faults=1, note=note),
+        doors("the second lane's door fails", "The other lane's connection is served whole, and no line written.", ASKED, ANSWERED,
+              second_door_fails=[0], status=9, faults=1, note="taos: door fault at lane 1"),
+        doors("both doors fail", "The first lane is told.", ASKED, [], door_fails=[0], second_door_fails=[0], status=9, faults=2,
+              note=note),
+        doors("the second lane's door would fail at call 1", "It ends at its first.", ASKED, ANSWERED + [line(1, 0, 3, 2, 0)],
+              second_door_fails=[1]),
     ]
 
 
-THEMES = [("serve", "The command that serves lanes, of which there is one.", lanes)]
+THEMES = [("serve", "The command that serves lanes, two of them; the second's door has no connection.", lanes)]

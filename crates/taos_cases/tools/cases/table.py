@@ -1,7 +1,7 @@
 """One table of faults: a conversation of three requests with each call of each object failing, cut at each byte, and
 with each length replaced."""
 from conversation import Case, Grant, Named, joined
-from formats import Fields, anchor_proof, granted, key_of, relay_failed, resealed
+from formats import LAST, Fields, anchor_proof, granted, key_of, relay_failed, resealed
 from .nodes import ask, handing, issued, node, relayed
 
 # Channel 1 by its anchor, and channel 2 twice by a certificate under its issuer's own seal.
@@ -57,7 +57,19 @@ def failing():
         played("the link fails at call 1", "The certificate that is held is not looked at.", relay_fails=[1], faults=1,
                output=[*ANSWERS[:2], relay_failed(2, 2, 0)]),
     ]
-    return cases
+    return cases + at_last()
+
+
+def at_last():
+    """The link's count stands at the largest number."""
+    return [
+        played("a count at its last value", "No call fails.", relay_faults=LAST, faults=LAST),
+        played("the link fails at call 0, its count at its last value", "It fails as before, and the count stays.", relay_faults=LAST,
+               relay_fails=[0], faults=LAST, output=[ANSWERS[0], relay_failed(2, 1, 0), Grant(2, 2, 1, place=2)]),
+        played("the link fails at each call, its count before its last value", "The count stays at its last value.",
+               relay_faults=LAST - 1, relay_fails=[0, 1], faults=LAST,
+               output=[ANSWERS[0], relay_failed(2, 1, 0), relay_failed(2, 2, 0)]),
+    ]
 
 
 def by_streams():

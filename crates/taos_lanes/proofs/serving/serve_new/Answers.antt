@@ -17,8 +17,11 @@ use Rattle.taos_lanes.proofs.Opening.{opened_new, untouched}
 use Rattle.taos_lanes.proofs.Rows.{at_error}
 use Rattle.taos_lanes.proofs.serving.serve_new.Goals as goal
 
+pub returns-in_err-try_clone-clause-unserved : goal.returns-in_err-try_clone-clause-unserved
+returns-in_err-try_clone-clause-unserved g c = at_error c.from_residual.result (untouched _)
+
 pub returns-in_err-opened-clause-unserved : goal.returns-in_err-opened-clause-unserved
-returns-in_err-opened-clause-unserved g c = at_error c.from_residual.result (untouched _)
+returns-in_err-opened-clause-unserved g c = at_error c.from_residual-in_err-opened.result (untouched _)
 
 pub returns-in_err-racked-clause-unserved : goal.returns-in_err-racked-clause-unserved
 returns-in_err-racked-clause-unserved g c = at_error c.from_residual-in_err-racked.result (untouched _)

@@ -6,7 +6,7 @@ use Rattle.agent_shards.specs.Objects.{AreObjectPasses, ObjectCell}
 use Rattle.taos_lanes.specs.declared.lane.Stock.{Stock}
 use Rattle.taos_lanes.proofs.Sat.{seat_is, shelf_is, serves_at}
 use Rattle.taos_lanes.proofs.sitting.serve_lane.Goals as goal
-use Rattle.taos_lanes.proofs.sitting.serve_lane.Goals.{in-Some-1, in-None-1}
+use Rattle.taos_lanes.proofs.sitting.serve_lane.Goals.{in-None-1, in-Some+in-None-1, in-Some+in-Some-lane-2}
 
 pub returns : goal.returns
 returns g c =
@@ -19,7 +19,7 @@ returns g c =
       old = c.unwrap-passes.result;
       new = new;
       had = had;
-      has = elim c.match-lane.branch [ in-Some-1 w ↦ refl | in-None-1 w ↦ refl ];
+      has = elim c.match-lane.branch [ in-Some+in-None-1 w ↦ refl | in-Some+in-Some-lane-2 w ↦ refl | in-None-1 w ↦ refl ];
       of = record {
         shards = subst (λ (l : List ShardCell). ArePasses l c.rise.result) shards_at c.rise.ensures.of;
         objects = subst (λ (l : List ObjectCell). AreObjectPasses l c.rise-2.result) objects_at c.rise-2.ensures.of;

@@ -4,7 +4,7 @@ use Rattle.std.proofs.KnownBytes.{Keeps-refl}
 use Rattle.taos_lanes.specs.Stocked.{shown_by}
 use Rattle.taos_lanes.specs.Telling.{told_by}
 use Rattle.taos_node.specs.declared.ending.Ending.TheVariants.{Usage, File, Served}
-use Rattle.node_words.specs.Words.{Audit, Check, Drill, Mean, Mint, Relay, Run, drill_words, mint_words, task_of}
+use Rattle.node_words.specs.Words.{Audit, Check, Drill, Mean, Mint, Path, Relay, Run, drill_words, mint_words, path_words, run_words, serve_words, task_of}
 use Rattle.taos_node.specs.Command.{touched, first_clock, first_link, LeavesRest}
 use Rattle.taos_node.proofs.Statuses.{meant, none_meant, served, unread, unserved, unused}
 use Rattle.taos_node.proofs.LaneStatuses.{alone, none_serves, other_words, shown_others, unread_does}
@@ -48,6 +48,13 @@ returns-in-Mint-clause-runs g c =
     let f = shown_by g.C.Clock.shown g.R.RelayLink.shown g.D.Door.shown in
     alone (told_by g.D.In.Source.shown g.D.Out.Sink.shown) c.args.words.now _ _ (map f c.args.lanes.now) (map f c.args.lanes.now) c.mint_by_file.result did.0 did.1 refl (other_words c.args.words.now (Mint (mint_words c.in-Mint.asked)) is (λ no. no))
 
+pub returns-in-Path-clause-runs : goal.returns-in-Path-clause-runs
+returns-in-Path-clause-runs g c =
+    let is = subst (λ w. Mean c.args.words.now (task_of w)) c.in-Path.is (meant c.args.words.now c.in-Ok.found c.in-Some.wanted c.in-Ok.ensures c.in-Some.is) in
+    let did = c.path_by_file.ensures.passes c.args.words.now (first_clock g.C.Clock.shown c.args.lanes.now) (first_link g.R.RelayLink.shown c.args.lanes.now) is in
+    let f = shown_by g.C.Clock.shown g.R.RelayLink.shown g.D.Door.shown in
+    alone (told_by g.D.In.Source.shown g.D.Out.Sink.shown) c.args.words.now _ _ (map f c.args.lanes.now) (map f c.args.lanes.now) c.path_by_file.result did.0 did.1 refl (other_words c.args.words.now (Path (path_words c.in-Path.asked)) is (λ no. no))
+
 pub returns-in-Relay-clause-runs : goal.returns-in-Relay-clause-runs
 returns-in-Relay-clause-runs g c =
     let is = subst (λ w. Mean c.args.words.now (task_of w)) c.in-Relay.is (meant c.args.words.now c.in-Ok.found c.in-Some.wanted c.in-Ok.ensures c.in-Some.is) in
@@ -65,9 +72,9 @@ returns-in-Ok-node_file_of-clause-runs g c =
     let run = subst (λ w. Mean c.args.words.now (task_of w)) c.in-Run.is (meant c.args.words.now c.in-Ok.found c.in-Some.wanted c.in-Ok.ensures c.in-Some.is) in
     let f = shown_by g.C.Clock.shown g.R.RelayLink.shown g.D.Door.shown in
     alone (told_by g.D.In.Source.shown g.D.Out.Sink.shown) c.args.words.now before after (map f c.args.lanes.now) (map f c.serve_first.new.lanes) (Served c.serve_first.result)
-    (c.in-Run.frames, run, (gives.0, gives.1, (c.serve_first.ensures.connection gives.0 before.file after.file gives.2).0))
-    (served c.args.words.now c.in-Run.frames before after c.serve_first.result c.in-Ok-node_file_of.ensures.cause gives.0 run gives.1 c.serve_first.ensures.complete c.serve_first.ensures.causes)
-    (shown_others f c.serve_first.new.lanes c.args.lanes.now c.serve_first.ensures.others) (other_words c.args.words.now (Run c.in-Run.frames) run (λ no. no))
+    ((run_words c.in-Run.frames c.in-Run.lemmas), run, (gives.0, gives.1, (c.serve_first.ensures.connection gives.0 before.file after.file gives.2).0))
+    (served c.args.words.now (run_words c.in-Run.frames c.in-Run.lemmas) before after c.serve_first.result c.in-Ok-node_file_of.ensures.cause gives.0 run gives.1 c.serve_first.ensures.complete c.serve_first.ensures.causes)
+    (shown_others f c.serve_first.new.lanes c.args.lanes.now c.serve_first.ensures.others) (other_words c.args.words.now (Run (run_words c.in-Run.frames c.in-Run.lemmas)) run (λ no. no))
 
 pub returns-in-Err-clause-runs : goal.returns-in-Err-clause-runs
 returns-in-Err-clause-runs g c =
@@ -80,8 +87,8 @@ returns-in-Err-clause-runs g c =
     let rest : LeavesRest before after = record { input = Keeps-refl input.told; output = Keeps-refl output.told; lane = record { clock = refl; link = refl } } in
     let run = subst (λ w. Mean c.args.words.now (task_of w)) c.in-Run.is (meant c.args.words.now c.in-Ok.found c.in-Some.wanted c.in-Ok.ensures c.in-Some.is) in
     let f = shown_by g.C.Clock.shown g.R.RelayLink.shown g.D.Door.shown in
-    alone (told_by g.D.In.Source.shown g.D.Out.Sink.shown) c.args.words.now before after (map f c.args.lanes.now) (map f c.args.lanes.now) (File c.in-Err.fault) ((Run c.in-Run.frames, run, c.in-Err.ensures.gives), rest)
-    (unserved c.args.words.now before after (Run c.in-Run.frames) c.in-Err.fault run c.in-Err.ensures.cause c.in-Err.ensures.gives refl refl refl) refl (other_words c.args.words.now (Run c.in-Run.frames) run (λ no. no))
+    alone (told_by g.D.In.Source.shown g.D.Out.Sink.shown) c.args.words.now before after (map f c.args.lanes.now) (map f c.args.lanes.now) (File c.in-Err.fault) ((Run (run_words c.in-Run.frames c.in-Run.lemmas), run, c.in-Err.ensures.gives), rest)
+    (unserved c.args.words.now before after (Run (run_words c.in-Run.frames c.in-Run.lemmas)) c.in-Err.fault run c.in-Err.ensures.cause c.in-Err.ensures.gives refl refl refl) refl (other_words c.args.words.now (Run (run_words c.in-Run.frames c.in-Run.lemmas)) run (λ no. no))
 
 pub returns-in-Serve-clause-runs : goal.returns-in-Serve-clause-runs
 returns-in-Serve-clause-runs g c =
@@ -91,7 +98,7 @@ returns-in-Serve-clause-runs g c =
 pub returns-in-Serve-clause-others : goal.returns-in-Serve-clause-others
 returns-in-Serve-clause-others g c = λ none.
     let is = subst (λ w. Mean c.args.words.now (task_of w)) c.in-Serve.is (meant c.args.words.now c.in-Ok.found c.in-Some.wanted c.in-Ok.ensures c.in-Some.is) in
-    absurd (none (inl (c.in-Serve.limits, is)))
+    absurd (none (inl (serve_words c.in-Serve.limits c.in-Serve.lemmas, is)))
 
 pub returns-in-RelayServe-clause-runs : goal.returns-in-RelayServe-clause-runs
 returns-in-RelayServe-clause-runs g c =
@@ -123,7 +130,7 @@ returns-in-Audit-clause-runs g c =
 pub returns-in-Serve-clause-doors : goal.returns-in-Serve-clause-doors
 returns-in-Serve-clause-doors g c = λ none.
     let is = subst (λ w. Mean c.args.words.now (task_of w)) c.in-Serve.is (meant c.args.words.now c.in-Ok.found c.in-Some.wanted c.in-Ok.ensures c.in-Some.is) in
-    absurd (none (inl (c.in-Serve.limits, is)))
+    absurd (none (inl (serve_words c.in-Serve.limits c.in-Serve.lemmas, is)))
 
 pub returns-in-RelayServe-clause-doors : goal.returns-in-RelayServe-clause-doors
 returns-in-RelayServe-clause-doors g c = λ none.
