@@ -1,4 +1,4 @@
-//! Tests of principals, certificates, seals, credentials and operations, of frames, of relays and of their paths. A
+//! Tests of principals, certificates, seals, credentials and operations, of frames, of relays, of their paths and of wallets. A
 //! crate with tests is proved twice, so they stand here.
 #![tactic(auto)]
 
@@ -14,6 +14,8 @@ mod objects;
 mod operations;
 #[cfg(test)]
 mod paths;
+#[cfg(test)]
+mod pulls;
 #[cfg(test)]
 mod relays;
 #[cfg(test)]

@@ -1,0 +1,12 @@
+pub mod Exchanged
+pub mod Given
+pub mod Fetches
+pub mod Pulls
+pub mod Causes
+pub mod WalletRead
+pub mod Rows
+pub mod Asked
+pub mod Laid
+pub mod ByRows
+pub mod Bytes
+pub mod OnePull

@@ -1,0 +1,10 @@
+pub mod Fetching
+pub mod FetchMessages
+pub mod FetchLinks
+pub mod AnswersLeft
+pub mod Pulled
+pub mod Pulling
+pub mod PullReply
+pub mod WalletFile
+pub mod WalletView
+pub mod WalletServing
