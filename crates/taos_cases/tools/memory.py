@@ -288,7 +288,7 @@ class Lanes:
         words = ["--tell-addresses", "--stop-at-end", path, address, relay, "serve", "--connections", "1000"]
         self.run = subprocess.Popen([program.path, *words], stdin=subprocess.PIPE, stdout=subprocess.PIPE, stderr=subprocess.PIPE,
                                     env=env, bufsize=0)
-        self.talk, self.streams, self.lost, self.told = talk, {}, 0, b""
+        self.talk, self.streams, self.lost, self.ended, self.told = talk, {}, 0, 0, b""
 
     def __enter__(self):
         return self
@@ -327,7 +327,7 @@ class Lanes:
                 if is_new:
                     self.streams[number] = socket.create_connection(where, SECONDS)
                 self.streams[number].sendall(bytes(text))
-                payload = self.payload(self.streams[number])
+                payload = self.reply(number)
             except ConnectionError:
                 payload = None
             except TimeoutError as late:
@@ -342,6 +342,20 @@ class Lanes:
             if self.has_ended():
                 return None
         raise Difference("four connections are closed before a reply")
+
+    def reply(self, number):
+        """The payload of the connection's next frame. Where none comes in time the other connections end, once: where no thread could be started
+        for the second lane, its connection is served when the first's has ended."""
+        try:
+            return self.payload(self.streams[number])
+        except TimeoutError:
+            others = [each for each in self.streams if each != number]
+            if not others:
+                raise
+            for each in others:
+                self.streams.pop(each).close()
+            self.ended += len(others)
+            return self.payload(self.streams[number])
 
     def has_ended(self):
         try:
@@ -387,7 +401,7 @@ def serve_once(program, talk, path, relay, env):
                     break
                 asked.take(text, payload)
         status, output = lanes.stopped()
-        asked.refusals += bool(lanes.lost) or status == ENDED
+        asked.refusals += bool(lanes.lost or lanes.ended) or status == ENDED
         if status == ENDED and output == b"" and (lanes.lost or not asked.replies):
             return asked
         if status or asked.replies != len(talk.asked) or not is_line(output, lanes, asked):
@@ -401,7 +415,7 @@ def is_line(output, lanes, asked):
     if words[::2] != ["connections", "broken", "entries", "grants", "denials"] or not output.endswith(b"\n"):
         return False
     connections, broken, *counts = map(int, words[1::2])
-    may = range(lanes.talk.lanes, lanes.talk.lanes + lanes.lost + 1)
+    may = range(lanes.talk.lanes, lanes.talk.lanes + lanes.lost + lanes.ended + 1)
     return connections in may and broken == 0 and tuple(counts) in [world.counted() for world in asked.worlds]
 
 
