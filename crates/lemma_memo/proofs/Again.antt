@@ -1,6 +1,6 @@
 -- A lemma that serves is a proof of the question that is asked now, and a proof from commons is a
 -- lemma.
-use Rattle.std.proofs.Common.{◌≡◌, ◌≢◌, ℕ, ◌+◌, zero, suc, Bool, List, [], ◌∷◌, map, length, get_or, AllPairs, Option, Some, None, slice_get, Contains, refl, sym, ap, ap₂, subst, ◌∙◌, arith}
+use Rattle.std.proofs.Common.{◌≡◌, ◌≢◌, ℕ, ◌+◌, zero, suc, Bool, false, true, List, [], ◌∷◌, map, length, get_or, AllPairs, Option, Some, None, slice_get, Contains, refl, sym, ap, ap₂, subst, ◌∙◌, arith}
 use Rattle.std.specs.Prelude.{IsTrue, Result, Ok, Err, IsErr, IfOk}
 use Rattle.std.specs.List.{AllZip}
 use Rattle.std.specs.Option.{option_map}
@@ -135,6 +135,11 @@ cited_among chosen (a_cite has rest) (suc i) c e = cited_among chosen rest i c e
 
 pub may_answer : (q : Question) (left right : Principal) (lines : List Line) (places : List ℕ) → IsProofOf q left right lines places → MayAnswer q left right
 may_answer q left right lines places p = derives_more q.anchors p.said (claims_of q) (cited_among q.chosen p.cited) (SpeaksFor left right) (record { lines = lines; proves = p.proves })
+
+-- where no lemma is looked for none serves
+pub not_looked : {E : Type 0} (m : Memo) (left right : Principal) (r : Result Taken E) → m.same ≡ false → Remembers {E = E} m left right m r
+not_looked m left right (Ok t) off = passed (λ l s. absurd (let q : false ≡ true = sym off ∙ s.same in cc))
+not_looked m left right (Err e) off = failed
 
 module _ (q : Question) (m : Memo) (fits : FitsQuestion q m) (left right : Principal) where
   pub served : (l : Lemma) → IsSound m.anchors l → Serves m left right l → MayAnswer q left right

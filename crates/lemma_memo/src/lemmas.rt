@@ -117,6 +117,9 @@ impl<D: Decide + Drop> Decide for Lemmas<D> {
         ensures remembers { Remembers self.old.memo (principal left.now) (principal right.now)
             self.new.memo result }
     {
+        if !self.memory.looks() {
+            return self.inner.take_proof(alloc, left, right);
+        }
         if let Some(told) = self.memory.recall(alloc, left, right) {
             return told;
         }

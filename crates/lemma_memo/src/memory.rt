@@ -123,6 +123,13 @@ impl Memory {
         }
     }
 
+    /// Whether lemmas are looked for and kept at this question.
+    pub fn looks(&self) -> bool
+        ensures { result ≡ self.now.same }
+    {
+        self.same
+    }
+
     /// Whether a lemma serves. Takes no memory.
     pub fn serves(&mut self, left: &Term, right: &Term) -> bool
         ensures lemma { IsTrue result → (l : Lemma) × IsSound self.old.anchors l
