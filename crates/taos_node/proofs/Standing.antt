@@ -1,7 +1,6 @@
 -- Domains that stand for those of a file pass a certificate along as these do: keys are looked up.
-use Rattle.std.proofs.Common.{◌≡◌, ◌≢◌, ℕ, ◌+◌, Bool, true, false, cond, eqb, List, [], ◌∷◌, ◌++◌, map, Option, Some, None, refl, sym, ap, subst, ◌∙◌, inl, inr, All}
+use Rattle.std.proofs.Common.{◌≡◌, ℕ, Bool, true, false, cond, eqb, List, [], ◌∷◌, ◌++◌, map, Option, Some, None, refl, sym, subst, ◌∙◌, All}
 use Rattle.std.specs.Prelude.{IsSome, take, slice_index_or}
-use Rattle.std.proofs.lemmas.Bool.{cases_Bool}
 use Rattle.keyed_seal.specs.Keys.{key_of}
 use Rattle.stmt_codec.specs.Certificates.{Certificate}
 use Rattle.sealed_cert.specs.Seals.{sealed_after}
@@ -19,14 +18,14 @@ use Rattle.taos_node.specs.declared.path.PathEnd.TheVariants as ends
 use Rattle.taos_node.specs.Paths.{AreLines, Passes}
 
 -- they have one number, and each look-up gives the same
-pub record AreAlike (x y : DomainKnows) : Type 0 where
+record AreAlike (x y : DomainKnows) : Type 0 where
   pub number : x.number ≡ y.number
   pub issuers : (n : ℕ) → key_of x.issuers n ≡ key_of y.issuers n
   pub nodes : (n : ℕ) → key_of x.nodes n ≡ key_of y.nodes n
   pub peers : (n : ℕ) → key_of x.peers n ≡ key_of y.peers n
 
 -- neither was found, or two that are alike
-abbrev pub AreFound : Option DomainKnows → Option DomainKnows → Type 0
+abbrev AreFound : Option DomainKnows → Option DomainKnows → Type 0
 AreFound None None = Unit {0}
 AreFound None (Some y) = ⊥
 AreFound (Some x) None = ⊥
@@ -39,7 +38,7 @@ found_first : (c : Bool) (x y : DomainKnows) (o p : Option DomainKnows) → AreA
 found_first true x y o p same others = same
 found_first false x y o p same others = others
 
-pub looked_up : (domains : List Domain) (ds : List DomainKnows) → StandForDomains domains ds → (n : ℕ) → AreFound (domain_of (map knows domains) n) (domain_of ds n)
+looked_up : (domains : List Domain) (ds : List DomainKnows) → StandForDomains domains ds → (n : ℕ) → AreFound (domain_of (map knows domains) n) (domain_of ds n)
 looked_up [] [] all n = tt
 looked_up [] (d ∷ ds) all n = absurd all
 looked_up (x ∷ xs) [] all n = absurd all

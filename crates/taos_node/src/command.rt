@@ -201,23 +201,23 @@ fn run<
 /// Does all that the program does, and answers its exit status. The command lines are `run` with
 /// `--frames N` and `--lemmas N` or without, `serve` with these and `--connections N` or without,
 /// `check`, `relay` with `--frames N` or without, `relay-serve` with `--connections N` and
-/// `--frames N` or without, `mint` with what a certificate is to say, `path` with `--node N` and `--route LIST`, `audit` with `--frames N` or
-/// without, and `drill` with a number and how many requests and lanes. `run`, `serve`, `audit` and
-/// `check` read the file to a node's opening, `relay`, `relay-serve` and `mint` to what a relay knows,
-/// `path` to what domains of relays know; `drill` reads none. By `run` each request
-/// frame of the input, of at most N or a million, is answered by one reply frame of the output, by a
-/// node of that opening whose journals are empty at first, with the first lane's clock and its link
-/// to the relay.
-/// By `serve` a worker for each lane serves connections of the lane's door, all at the same time, by
-/// one node of that opening whose journals are empty at first, and one line of the output says what
-/// was counted.
-/// By `check` the frames of a request and its reply are looked over, and one line of the output says
-/// what is found. By `relay` each frame of the input is answered by the relay's answer to a node; by
+/// `--frames N` or without, `mint` with what a certificate is to say, `path` with `--node N` and
+/// `--route LIST`, `audit` with `--frames N` or without, and `drill` with a number and how many
+/// requests and lanes. `run`, `serve`, `audit` and `check` read the file to a node's opening,
+/// `relay`, `relay-serve` and `mint` to what a relay knows, `path` to what domains of relays know;
+/// `drill` reads none. By `run` each request frame of the input, of at most N or a million, is
+/// answered by one reply frame of the output, by a node of that opening whose journals are empty at
+/// first, with the first lane's clock and its link to the relay. By `serve` a worker for each lane
+/// serves connections of the lane's door, all at the same time, by one node of that opening whose
+/// journals are empty at first, and one line of the output says what was counted. By `check` the
+/// frames of a request and its reply are looked over, and one line of the output says what is
+/// found. By `relay` each frame of the input is answered by the relay's answer to a node; by
 /// `relay-serve` the lanes' doors are served so, and one line says what was counted. By `mint` one
 /// line of the output is the certificate. By `path` the certificate of the first frame passes along
-/// the route, and the output has a line of what each domain sealed. By `audit` a connection is served as by `run`, and the
-/// output has the text of the journals in place of the replies. By `drill` a node serves a load that
-/// is made of the number, and one line says what it came to. A note tells how it ended.
+/// the route, and the output has a line of what each domain sealed. By `audit` a connection is
+/// served as by `run`, and the output has the text of the journals in place of the replies. By
+/// `drill` a node serves a load that is made of the number, and one line says what it came to. A
+/// note tells how it ended.
 pub fn taos<
     W: Threads + Wait + Sync,
     F: Source,
