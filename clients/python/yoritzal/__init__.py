@@ -8,7 +8,7 @@ from .journals import Journals, read_journals
 from .names import Names, NoPrincipal
 from .numbers import FileNumbers, InUse, TimeNumbers
 from .proofs import Proof, ProofFault, read_proof
-from .replies import (BadSeal, CertificateRefused, ChannelFull, CommonsFull, Denied, Expired, Granted, JournalFull,
+from .replies import (BadSeal, CertificateRefused, ChannelFull, CommonsFull, Denied, Early, Expired, Granted, JournalFull,
                       MalformedRequest, Missing, NoEntry, NotHeld, OutOfMemory, RelayFailed, Replayed, Reply,
                       Unbelieved, UnknownChannel, UnknownObject, believed, is_unsealed, read_reply)
 from .requests import (CONTROL, MANAGE, READ, WRITE, Discard, Entry, Forget, Hold, Operation, Read, Request, SetList,

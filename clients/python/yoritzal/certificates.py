@@ -12,6 +12,8 @@ ISSUED, RELAYED = 1, 2
 # On its way, under the key that the domain which it visited last shares with the one that it comes to.
 CARRIED = 3
 MAX_VISITED = 3
+# The versions of a body: without a beginning, and with one.
+LASTING, BEGINNING = 1, 2
 
 
 def read_quoted(fields, most_nodes):
@@ -25,8 +27,8 @@ def quoted_field(quoted, most_nodes):
 
 @dataclass(frozen=True)
 class Body:
-    """What an issuer says: that `left` speaks for `right`, until a second since 1970. The serial number tells
-    certificates of one content apart."""
+    """What an issuer says: that `left` speaks for `right`, from one second since 1970 on until another. The serial
+    number tells certificates of one content apart."""
 
     issuer: int
     left: object
@@ -34,6 +36,7 @@ class Body:
     until: int
     serial: int
     quoted: object = None
+    begins: int = 0
 
     @property
     def speaker(self):
@@ -42,9 +45,11 @@ class Body:
     def __bytes__(self):
         if len(parts(self.speaker, self.left, self.right)) > MAX_PARTS:
             raise ValueError(f"a certificate of more than {MAX_PARTS} distinct parts")
-        head = b"\1" + number(self.issuer, 4) + quoted_field(self.quoted, STATED_NODES)
+        version = LASTING if self.begins == 0 else BEGINNING
+        head = number(version, 1) + number(self.issuer, 4) + quoted_field(self.quoted, STATED_NODES)
         stated = term(self.left, STATED_NODES) + term(self.right, STATED_NODES)
-        return head + stated + number(self.until, 8) + number(self.serial, 8)
+        begins = b"" if self.begins == 0 else number(self.begins, 8)
+        return head + stated + begins + number(self.until, 8) + number(self.serial, 8)
 
     @property
     def digest(self):
@@ -67,19 +72,27 @@ def parts(*principals):
     return found
 
 
+def read_beginning(fields):
+    """One that is named, and is not 0: a body without one has another version."""
+    at = fields.at
+    return fields.number(8) or fields.refuse("a beginning of 0", at)
+
+
 def read_body(data):
     """The body that is spelled by all these bytes."""
     fields = Reader(data)
-    if fields.number(1) != 1:
+    version = fields.number(1)
+    if version not in (LASTING, BEGINNING):
         fields.refuse("a certificate of another version", 0)
     issuer, quoted = fields.number(4), read_quoted(fields, STATED_NODES)
     left, right = read_term(fields, STATED_NODES), read_term(fields, STATED_NODES)
     body = Body(issuer, left, right, 0, 0, quoted)
     if len(parts(body.speaker, left, right)) > MAX_PARTS:
         fields.refuse("a certificate of too many distinct parts")
+    begins = read_beginning(fields) if version == BEGINNING else 0
     until, serial = fields.number(8), fields.number(8)
     fields.end()
-    return Body(issuer, left, right, until, serial, quoted)
+    return Body(issuer, left, right, until, serial, quoted, begins)
 
 
 def sealed(key, body, kind=ISSUED):

@@ -68,6 +68,14 @@ class Expired:
 
 
 @dataclass(frozen=True)
+class Early:
+    """An entry would be reached but for the certificate of this digest, which has not begun."""
+
+    entry: int
+    digest: bytes
+
+
+@dataclass(frozen=True)
 class Missing:
     """Nothing speaks for this part of the entry."""
 
@@ -82,7 +90,8 @@ class NoEntry:
 
 @dataclass(frozen=True)
 class Denied(Reply):
-    """Nothing was done. The link is the first that is missing: Expired, Missing or NoEntry."""
+    """Nothing was done. The link is the first that is missing: Expired, Early, Missing or
+    NoEntry."""
 
     shard: int
     place: int
@@ -200,6 +209,8 @@ def _read_link(fields):
         return Missing(fields.number(1), read_term(fields, ENTRY_NODES))
     if kind == 3:
         return NoEntry()
+    if kind == 4:
+        return Early(fields.number(1), fields.take(DIGEST_BYTES))
     return fields.refuse(f"a link of kind {kind}", at)
 
 

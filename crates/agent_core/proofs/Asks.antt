@@ -1,5 +1,5 @@
 -- A step of an Ask, and what it came to, make the whole of an ask.
-use Rattle.std.proofs.Common.{◌≡◌, ℕ, zero, suc, ◌+◌, ◌<◌, ◌≤◌, Bool, true, false, nat_le, nat_lt, List, [], ◌∷◌, ◌++◌, length, refl, sym, ap, ◌∙◌, arith, append-nil, length-append, replicate, slice_get, find, Some, subst, ◌⊎◌, inl, inr}
+use Rattle.std.proofs.Common.{◌≡◌, ℕ, zero, suc, ◌+◌, ◌<◌, ◌≤◌, true, false, nat_le, nat_lt, List, [], ◌∷◌, ◌++◌, length, refl, sym, ap, ◌∙◌, arith, append-nil, length-append, replicate, slice_get, find, Some, subst, ◌⊎◌, inl, inr}
 use Rattle.std.proofs.lemmas.List.{length-replicate}
 use Rattle.std.proofs.lemmas.Bool.{cond_both}
 use Rattle.std.specs.Prelude.{Result, Ok, Err, IfOk, OnErr}
@@ -38,13 +38,17 @@ use Rattle.agent_core.specs.Granted.{IsKeptProofFor}
 use Rattle.agent_core.specs.declared.asked.Denial.{Denial}
 use Rattle.agent_core.specs.State.{Plan, State, Ask, Event, Asks, Answer, Plain, swept, brought, asking, moment_of}
 use Rattle.agent_core.specs.Journals.{Entry, entry, state_after, cache_after, Stands, IsLegalJournal, IsJudged, granted}
-use Rattle.agent_core.specs.Steps.{StepAnswer, Hit, Miss, Other, IsAnswer, hit, miss, other, JournalSeen, StepsTo, StepRefused, seen_at}
-use Rattle.agent_core.specs.Asked.{FitsAsk, IsGrantedBy, IsDeniedBy, IsGrantedAt, IsHitAt, IsDeniedAt, IsTold, IsGrant, by_kept, EndsBy, Ends, AskEnds, Unanswered, AskedTo}
-use Rattle.agent_core.specs.Settling.{StepsAsk}
+use Rattle.agent_core.specs.Steps.{StepAnswer, Hit, Miss, Other, IsAnswer, hit, miss, other, JournalSeen, StepsTo, StepRefused}
+use Rattle.agent_core.specs.Shards.{LeavesShards, ShardsSeen, StepsShard, shard_at}
+use Rattle.agent_core.specs.Asked.{FitsAsk, IsGrantedBy, IsDeniedBy, IsGrantedAt, IsHitAt, IsDeniedAt, IsTold, IsGrant, by_kept, EndsBy, Ends, AskEnds, LacksMemory, AskedTo}
+use Rattle.agent_core.specs.Settling.{RefusesAsk, StepsAsk}
 
 pub on_err : {T E P : Type 0} (r : Result T E) → P → OnErr r P
 on_err (Ok x) p = tt
 on_err (Err e) p = p
+
+pub some_own : (place : ℕ) → place ∷ [] ≡ [] → ⊥
+some_own place e = cc
 
 -- ---- what a step of an Ask says
 
@@ -98,6 +102,10 @@ module _ {plan : Plan} {earlier later : JournalSeen} (a : Ask) where
     ascending = λ i j d lt within. absurd (omega arith);
     ends = ends;
   }
+
+  -- memory was refused for it
+  pub lacked_asks : RefusesAsk plan earlier later → AskedTo plan earlier later a (LacksMemory plan earlier.journal later.journal a)
+  lacked_asks r = refused_asks (LacksMemory plan earlier.journal later.journal a) r.refused (record { unanswered = inl refl; room = λ _. r.room })
 
   module _ (place : ℕ) (answer : StepAnswer) (s : StepsTo plan earlier later (Asks a) place answer) where
     stands_last : (told : Told) → s.steps.told ≡ told → Stands later.journal place s.before (entry (Asks a) told)
@@ -175,8 +183,11 @@ module _ {plan : Plan} {earlier later : JournalSeen} (a : Ask) where
     }
 
     -- the proof found no memory
-    pub unanswered_at_last : Grants plan.anchors (claims (live certs moment)) a.subject a.list a.right → Unanswered plan later.journal a (place ∷ [])
-    unanswered_at_last g = inr (place, s.before, stands_missed, granted judged_by g, refl)
+    pub unanswered_at_last : Grants plan.anchors (claims (live certs moment)) a.subject a.list a.right → LacksMemory plan earlier.journal later.journal a (place ∷ [])
+    unanswered_at_last g = record {
+      unanswered = inr (place, s.before, stands_missed, granted judged_by g, refl);
+      room = λ none. absurd (some_own place none);
+    }
 
     -- the live certificates grant none
     pub denied_asks : (anchors : List Anchor) → plan.anchors ≡ anchors → (b : Ask) → b ≡ a → (denial : Denial) → IsDeniedBy anchors certs moment b denial →
@@ -186,24 +197,42 @@ module _ {plan : Plan} {earlier later : JournalSeen} (a : Ask) where
         (denied_at_last denial (subst (λ l. IsDeniedBy l certs moment a denial) (sym same) (subst (λ x. IsDeniedBy anchors certs moment x denial) is d)), refl)
 
     pub unanswered_asks : (anchors : List Anchor) → plan.anchors ≡ anchors → (b : Ask) → b ≡ a → Grants anchors (claims (live certs moment)) b.subject b.list b.right →
-        AskedTo plan earlier later a (Unanswered plan later.journal a)
+        AskedTo plan earlier later a (LacksMemory plan earlier.journal later.journal a)
     unanswered_asks anchors same b is h =
-        stepped_asks place (Miss moment certs) s (Unanswered plan later.journal a) (unanswered_at_last (subst (λ l. Grants l (claims (live certs moment)) a.subject a.list a.right) (sym same)
+        stepped_asks place (Miss moment certs) s (LacksMemory plan earlier.journal later.journal a) (unanswered_at_last (subst (λ l. Grants l (claims (live certs moment)) a.subject a.list a.right) (sym same)
         (subst (λ (x : Ask). Grants anchors (claims (live certs moment)) x.subject x.list x.right) is h)))
+
+-- ---- the other shards
+
+-- where none is stepped
+pub leaves_itself : (s : ShardsSeen) (h : ℕ) → LeavesShards s s h
+leaves_itself s h = record { plans = refl; alone = refl; others = λ n not. (refl, refl) }
+
+-- where one is stepped, and then again
+pub leaves_twice : (a b c : ShardsSeen) (h k : ℕ) → k ≡ h → LeavesShards a b h → LeavesShards b c k → LeavesShards a c h
+leaves_twice a b c h k same s t = record {
+  plans = t.plans ∙ s.plans;
+  alone = t.alone ∙ s.alone;
+  others = λ n not.
+      let first = s.others n not in
+      let second = t.others n (λ is. not (is ∙ same)) in (second.0 ∙ first.0, second.1 ∙ first.1);
+}
 
 -- ---- what stands behind each answer
 
 -- the Ask's step where it came to its shard
-pub steps_here : {E : Type 0} (plan : Plan) (alone : Bool) (seen seen' : ℕ → List Entry) (own own' : ℕ → List ℕ) (b a : Ask) (i j : ℕ) (r : Result (ℕ × ValueOfAnswer) E) →
-    i ≡ j → b ≡ a →
-    IfOk r (λ x. SteppedTo plan (seen_at alone seen own i) (seen_at alone seen' own' i) (Asks b) x.0 x.1) →
-    IfOk r (λ x. StepsAsk plan (seen_at alone seen own j) (seen_at alone seen' own' j) a x.0 x.1)
-steps_here plan alone seen seen' own own' b a i j (Ok x) there is h =
-    record {
-      step = subst (λ k. SteppedTo plan (seen_at alone seen own k) (seen_at alone seen' own' k) (Asks a) x.0 x.1) there
-          (subst (λ z. SteppedTo plan (seen_at alone seen own i) (seen_at alone seen' own' i) (Asks z) x.0 x.1) is h);
-    }
-steps_here plan alone seen seen' own own' b a i j (Err e) there is h = tt
+module _ {E : Type 0} (plan : Plan) (before after : ShardsSeen) (b a : Ask) (i j : ℕ) (there : i ≡ j) (is : b ≡ a) where
+  pub steps_here : (r : Result (ℕ × ValueOfAnswer) E) → StepsShard plan (shard_at before i) (shard_at after i) (Asks b) r → IfOk r (λ x. StepsAsk plan (shard_at before j) (shard_at after j) a x.0 x.1)
+  steps_here (Ok x) s = record {
+    step = subst (λ k. SteppedTo plan (shard_at before k) (shard_at after k) (Asks a) x.0 x.1) there
+        (subst (λ z. SteppedTo plan (shard_at before i) (shard_at after i) (Asks z) x.0 x.1) is s.steps);
+  }
+  steps_here (Err e) s = tt
+
+  -- where memory was refused, the journal had room
+  pub refused_here : (r : Result (ℕ × ValueOfAnswer) E) → StepsShard plan (shard_at before i) (shard_at after i) (Asks b) r → OnErr r (RefusesAsk plan (shard_at before j) (shard_at after j))
+  refused_here (Ok x) s = tt
+  refused_here (Err e) s = subst (λ k. RefusesAsk plan (shard_at before k) (shard_at after k)) there (record { refused = s.refused; room = inr s.room })
 
 module _ {plan : Plan} {earlier later : JournalSeen} {a : Ask} {place : ℕ} {r : ValueOfAnswer} (s : StepsAsk plan earlier later a place r) where
   step_as : (x : ValueOfAnswer) → r ≡ x → SteppedTo plan earlier later (Asks a) place x

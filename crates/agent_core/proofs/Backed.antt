@@ -1,5 +1,5 @@
 -- After a legal journal each kept proof is backed: one lemma for each event.
-use Rattle.std.proofs.Common.{◌≡◌, ⊎_elim, ℕ, ◌+◌, ◌-◌, ◌<◌, ◌≤◌, max, Bool, true, false, not, ◌==◌, nat_le, nat_lt, List, [], ◌∷◌, ◌++◌, length, take, filter, find, All, Contains, Option, Some, None, bytes_eq, refl, sym, ◌∙◌, ap, subst, arith}
+use Rattle.std.proofs.Common.{◌≡◌, ⊎_elim, ℕ, ◌+◌, ◌-◌, ◌<◌, ◌≤◌, Bool, true, false, not, ◌==◌, nat_le, nat_lt, List, [], ◌∷◌, ◌++◌, length, take, filter, find, All, Contains, Option, Some, None, bytes_eq, refl, sym, ◌∙◌, ap, subst, arith}
 use Rattle.std.specs.List.{list_any}
 use Rattle.std.proofs.lemmas.Bool.{cond_both, cond-true, cond-false, leb-false, eqb-true, lt-leb, not-true, not-false, and_left, not_from_false, or_parts}
 use Rattle.std.proofs.lemmas.List.Elements.{All-nil, All-cons, All-append, All-filter, All-take, All-weaker, filter_passes, filter-append, Contains-append_left, Contains-append_right, Contains-append_cases}
@@ -7,19 +7,19 @@ use Rattle.std.proofs.lemmas.Map.Views.{Contains-from_any}
 use Rattle.std.proofs.lemmas.Option.{none-some}
 use Rattle.prin_term.specs.Principal.{Principal, Key, Name, And, Quoting, InRole, For}
 use Rattle.stmt_codec.specs.Certificates.{Certificate, digest_of}
-use Rattle.stmt_codec.specs.Equality.{same_certificate}
 use Rattle.stmt_codec.proofs.Equal.{same_certificate-true}
 use Rattle.denial_link.proofs.Members.{Contains-to_filter}
 use Rattle.proof_cache.specs.Cached.{Cached, lease_of}
-use Rattle.proof_cache.specs.Cache.{cites_it, has_lapsed, is_for, is_of_channel, keeping as keeping_in, speaks_on, to_front, without}
+use Rattle.proof_cache.specs.Cache.{cites_it, has_lapsed, is_for, is_of_channel, speaks_on, to_front, without}
 use Rattle.proof_cache.specs.declared.row.TheConstants.{MAX_KEPT}
 use Rattle.agent_core.specs.declared.told.Told.{Told}
 use Rattle.agent_core.specs.declared.told.DropCause.{DropCause}
 use Rattle.agent_core.specs.Held.{among, newly, channel_of}
-use Rattle.agent_core.specs.State.{Plan, State, Ask, Event, Asks, Keeps, Holds, Discards, Forgets, Expires, Answer, own_of, held_for, at_channel, keeping, is_gone, swept, brought, taking, asking, holding, forgetting, settled_by, first_missing, moment_of, next}
+use Rattle.agent_core.specs.State.{Plan, State, Ask, Event, Asks, Keeps, Holds, Discards, Forgets, Expires, Answer, own_of, held_for, keeping, is_gone, swept, brought, taking, asking, holding, forgetting, settled_by, first_missing, moment_of, next}
 use Rattle.agent_core.specs.Caches.{unlapsed, used, used_by, kept_by, who_at, cache_next}
-use Rattle.agent_core.specs.Journals.{Entry, state_after, cache_after, told_of, IsMeant, IsKeepable, MayFollow, IsLegalJournal}
+use Rattle.agent_core.specs.Journals.{Entry, state_after, cache_after, moment_at, told_of, IsMeant, IsKeepable, MayFollow, IsLegalJournal}
 use Rattle.agent_core.specs.Laws.{IsBacked, CacheIsBacked}
+use Rattle.agent_core.proofs.Clocks.{moment_before, moment_later}
 use Rattle.agent_core.proofs.Journaling.{state_from-push, cache_after-push}
 use Rattle.agent_core.proofs.Making.{journal_induction}
 use Rattle.agent_core.specs.State.{opened}
@@ -87,18 +87,20 @@ module _ (plan : Plan) where
       IsBacked plan s c → IsBacked plan t c
   backed_more s t c same more b = record {
     held = All-weaker (Contains (held_for s c.subject)) (Contains (held_for t c.subject)) more c.cites b.held;
+    begun = subst (λ n. All (λ (x : Certificate). x.from ≤ n) c.cites) (sym same) b.begun;
     ahead = subst (λ n. n < c.lease) (sym same) b.ahead;
     lease_is = b.lease_is;
     proves = b.proves;
   }
 
   -- each cite passes
-  backed_keeping : (p : Certificate → Bool) (m : ℕ) (s : State) (c : Cached) → m < c.lease → All (λ d. p d ≡ true) c.cites → IsBacked plan s c → IsBacked plan (keeping p m s) c
-  backed_keeping p m s c ahead pass b = record {
+  backed_keeping : (p : Certificate → Bool) (m : ℕ) (s : State) (c : Cached) → s.clock ≤ m → m < c.lease → All (λ d. p d ≡ true) c.cites → IsBacked plan s c → IsBacked plan (keeping p m s) c
+  backed_keeping p m s c later ahead pass b = record {
     held = subst (λ l. All (Contains l) c.cites) (sym (held_for-keeping p m s c.subject))
         (All-weaker (λ d. (p d ≡ true) × Contains (held_for s c.subject) d) (Contains (filter p (held_for s c.subject)))
         (λ d h. Contains-to_filter p (held_for s c.subject) d h.1 h.0) c.cites
         (All-both (λ d. p d ≡ true) (Contains (held_for s c.subject)) c.cites pass b.held));
+    begun = All-weaker (λ (x : Certificate). x.from ≤ s.clock) (λ (x : Certificate). x.from ≤ m) (λ x le. omega (arith, le, later)) c.cites b.begun;
     ahead = ahead;
     lease_is = b.lease_is;
     proves = b.proves;
@@ -108,17 +110,17 @@ module _ (plan : Plan) where
   not_gone keep moment d h =
       not_from_false (is_gone keep moment d) (and_left (nat_le d.until moment) (nat_le keep (moment - d.until)) (lt-leb d.until moment h))
 
-  backed_swept : (keep moment : ℕ) (s : State) (c : Cached) → (not (has_lapsed moment c) ≡ true) × IsBacked plan s c → IsBacked plan (swept keep moment s) c
-  backed_swept keep moment s c (t, b) =
+  backed_swept : (keep moment : ℕ) (s : State) → s.clock ≤ moment → (c : Cached) → (not (has_lapsed moment c) ≡ true) × IsBacked plan s c → IsBacked plan (swept keep moment s) c
+  backed_swept keep moment s later c (t, b) =
       let ahead : moment < c.lease = leb-false c.lease moment (not-true (has_lapsed moment c) t) in
       let late : All (λ (d : Certificate). c.lease ≤ d.until) c.cites =
       subst (λ n. All (λ (d : Certificate). n ≤ d.until) c.cites) (sym b.lease_is) (lease_of-least c.cites) in
-      backed_keeping (λ d. not (is_gone keep moment d)) moment s c ahead
+      backed_keeping (λ d. not (is_gone keep moment d)) moment s c later ahead
       (All-weaker (λ (d : Certificate). c.lease ≤ d.until) (λ d. not (is_gone keep moment d) ≡ true) (λ d h. not_gone keep moment d (omega (arith, ahead, h))) c.cites late) b
 
-  pub unlapsed_swept : (keep moment : ℕ) (s : State) (cache : List Cached) → All (IsBacked plan s) cache → All (IsBacked plan (swept keep moment s)) (unlapsed moment cache)
-  unlapsed_swept keep moment s cache all =
-      All-weaker (λ c. (not (has_lapsed moment c) ≡ true) × IsBacked plan s c) (IsBacked plan (swept keep moment s)) (backed_swept keep moment s) (unlapsed moment cache)
+  pub unlapsed_swept : (keep moment : ℕ) (s : State) (cache : List Cached) → s.clock ≤ moment → All (IsBacked plan s) cache → All (IsBacked plan (swept keep moment s)) (unlapsed moment cache)
+  unlapsed_swept keep moment s cache later all =
+      All-weaker (λ c. (not (has_lapsed moment c) ≡ true) × IsBacked plan s c) (IsBacked plan (swept keep moment s)) (backed_swept keep moment s later) (unlapsed moment cache)
       (All-both (λ c. not (has_lapsed moment c) ≡ true) (IsBacked plan s) (unlapsed moment cache) (filter_passes (λ c. not (has_lapsed moment c)) cache)
       (All-filter (λ c. not (has_lapsed moment c)) (IsBacked plan s) cache all))
 
@@ -185,6 +187,7 @@ module _ (plan : Plan) where
   backed_forgetting : (channel : ℕ) (s : State) (c : Cached) → is_of_channel channel c ≡ false → IsBacked plan s c → IsBacked plan (forgetting channel s) c
   backed_forgetting channel s c h b = record {
     held = subst (λ l. All (Contains (l ++ s.commons)) c.cites) (sym (other_channel channel s c.subject h)) b.held;
+    begun = b.begun;
     ahead = b.ahead;
     lease_is = b.lease_is;
     proves = b.proves;
@@ -202,7 +205,7 @@ module _ (plan : Plan) where
 
   backed_discarding : (digest : List ℕ) (s : State) (c : Cached) → cites_it digest c ≡ false → IsBacked plan s c → IsBacked plan (keeping (λ x. not (bytes_eq (digest_of x) digest)) s.clock s) c
   backed_discarding digest s c h b =
-      backed_keeping (λ x. not (bytes_eq (digest_of x) digest)) s.clock s c b.ahead
+      backed_keeping (λ x. not (bytes_eq (digest_of x) digest)) s.clock s c (omega arith) b.ahead
       (All-weaker (λ x. bytes_eq (digest_of x) digest ≡ false) (λ x. not (bytes_eq (digest_of x) digest) ≡ true) (λ x e. not_from_false (bytes_eq (digest_of x) digest) e) c.cites
       (All-of_none (λ x. bytes_eq (digest_of x) digest) c.cites h)) b
 
@@ -216,13 +219,14 @@ module _ (plan : Plan) where
         (λ h k. let no : ⊥ = cc in absurd no) (λ h k. leb-false lease clock h) e,
   )
 
-  backed_kept : (s : State) (before : List Entry) (ask e : ℕ) (c : Cached) → IsKeepable plan before ask e c → Told.Kept ≡ settled_by (first_missing s c) s.clock c.lease → IsBacked plan s c
-  backed_kept s before ask e c k told =
+  backed_kept : (s : State) (before : List Entry) (ask e : ℕ) (c : Cached) → moment_at plan before ask ≤ s.clock → IsKeepable plan before ask e c → Told.Kept ≡ settled_by (first_missing s c) s.clock c.lease → IsBacked plan s c
+  backed_kept s before ask e c later k told =
       let (none, ahead) = settled_kept (first_missing s c) s.clock c.lease told in
       record {
         held = All-weaker (λ d. not (among (held_for s c.subject) d) ≡ false) (Contains (held_for s c.subject))
             (λ d h. Contains-from_among (held_for s c.subject) d (not-false (among (held_for s c.subject) d) h)) c.cites
             (All-of_find (λ d. not (among (held_for s c.subject) d)) c.cites none);
+        begun = All-weaker (λ (x : Certificate). x.from ≤ moment_at plan before ask) (λ (x : Certificate). x.from ≤ s.clock) (λ x le. omega (arith, le, later)) c.cites k.begun;
         ahead = ahead;
         lease_is = k.lease_is;
         proves = k.proves;
@@ -236,27 +240,27 @@ module _ (plan : Plan) where
 
   -- ---- any event
 
-  backed_next : (s : State) (cache : List Cached) (before : List Entry) (event : Event) (told : Told) → IsMeant plan before event →
+  backed_next : (s : State) (cache : List Cached) (before : List Entry) (event : Event) (told : Told) → ((place : ℕ) → moment_at plan before place ≤ s.clock) → IsMeant plan before event →
       told ≡ told_of cache event (next plan s event).1 → All (IsBacked plan s) cache →
       All (IsBacked plan (next plan s event).0) (cache_next (next plan s event).0.clock event told cache)
-  backed_next s cache before (Asks a) told meant tells all =
+  backed_next s cache before (Asks a) told earlier meant tells all =
       let m : ℕ = moment_of s a.reading in
       let t : State = swept plan.keep m s in
       let backs : Backs t (asking t a).0 = asking_backs t a in
       All-used_by (IsBacked plan (asking t a).0) a told (unlapsed (asking t a).0.clock cache)
       (subst (λ n. All (IsBacked plan (asking t a).0) (unlapsed n cache)) (sym backs.0)
-      (All-weaker (IsBacked plan t) (IsBacked plan (asking t a).0) backs.1 (unlapsed m cache) (unlapsed_swept plan.keep m s cache all)))
-  backed_next s cache before (Keeps ask e c) told meant tells all =
-      All-kept_by s c told cache (λ k. backed_kept s before ask e c meant (k ∙ tells)) all
-  backed_next s cache before (Holds certs) told meant tells all =
+      (All-weaker (IsBacked plan t) (IsBacked plan (asking t a).0) backs.1 (unlapsed m cache) (unlapsed_swept plan.keep m s cache (moment_later s a.reading) all)))
+  backed_next s cache before (Keeps ask e c) told earlier meant tells all =
+      All-kept_by s c told cache (λ k. backed_kept s before ask e c (earlier ask) meant (k ∙ tells)) all
+  backed_next s cache before (Holds certs) told earlier meant tells all =
       let backs : Backs s (holding s (newly s.commons certs)).0 = holding_backs s (newly s.commons certs) in
       All-weaker (IsBacked plan s) (IsBacked plan (holding s (newly s.commons certs)).0) backs.1 cache all
-  backed_next s cache before (Discards d) told meant tells all =
+  backed_next s cache before (Discards d) told earlier meant tells all =
       All-without (cites_it d) s (keeping (λ x. not (bytes_eq (digest_of x) d)) s.clock s) cache (backed_discarding d s) all
-  backed_next s cache before (Forgets channel) told meant tells all =
+  backed_next s cache before (Forgets channel) told earlier meant tells all =
       All-without (is_of_channel channel) s (forgetting channel s) cache (backed_forgetting channel s) all
-  backed_next s cache before (Expires reading) told meant tells all =
-      unlapsed_swept plan.keep (moment_of s reading) s cache all
+  backed_next s cache before (Expires reading) told earlier meant tells all =
+      unlapsed_swept plan.keep (moment_of s reading) s cache (moment_later s reading) all
 
   abbrev Backed : List Entry → Type 0
   Backed j = All (IsBacked plan (state_after plan j)) (cache_after plan j)
@@ -265,7 +269,7 @@ module _ (plan : Plan) where
   backed_entry j e legal all may =
       subst (λ s. All (IsBacked plan s) (cache_after plan (j ++ e ∷ []))) (sym (state_from-push plan (opened plan) j e))
       (subst (λ (cs : List Cached). All (IsBacked plan (next plan (state_after plan j) e.event).0) cs) (sym (cache_after-push plan j e))
-      (backed_next (state_after plan j) (cache_after plan j) j e.event e.told may.meant may.tells all))
+      (backed_next (state_after plan j) (cache_after plan j) j e.event e.told (moment_before plan j) may.meant may.tells all))
 
   pub cache_backed : CacheIsBacked plan
   cache_backed j legal = journal_induction plan Backed backed_entry (All-nil (IsBacked plan (state_after plan []))) j legal

@@ -1,14 +1,13 @@
 -- A grant that was not kept before: the Ask's step, and what became of the proof that was made for it.
-use Rattle.std.proofs.Common.{◌≡◌, ℕ, ◌+◌, ◌<◌, ◌≤◌, Bool, true, false, nat_le, List, [], ◌∷◌, ◌++◌, length, Option, None, Some, slice_get, All, AllPairs, refl, sym, ap, ◌∙◌, subst, arith, append_assoc, length-append, inl, inr, ◌⊎◌}
+use Rattle.std.proofs.Common.{◌≡◌, ℕ, ◌+◌, ◌<◌, ◌≤◌, true, false, nat_le, List, [], ◌∷◌, ◌++◌, length, Option, None, Some, slice_get, refl, sym, ap, ◌∙◌, subst, arith, append_assoc, length-append, inl, inr, ◌⊎◌}
 use Rattle.std.specs.Option.{option_map}
 use Rattle.std.specs.Arc.{arc_value}
 use Rattle.std.proofs.lemmas.Bool.{cond_both}
-use Rattle.std.proofs.lemmas.List.Elements.{All-cons, All-nil}
+use Rattle.std.proofs.lemmas.List.Elements.{All-cons, All-nil, All-weaker}
 use Rattle.std.proofs.lemmas.List.Kept.{AllPairs-cons}
 use Rattle.prin_term.specs.declared.term.Anchor.{Anchor}
 use Rattle.prin_term.specs.View.{Grant}
-use Rattle.stmt_codec.specs.Certificates.{Certificate, live}
-use Rattle.denial_link.specs.Revived.{at_places}
+use Rattle.stmt_codec.specs.Certificates.{Certificate, IsLive}
 use Rattle.std.specs.declared.alloc.Global.{Global}
 use Rattle.std.specs.declared.sync.Arc.{Arc}
 use Rattle.stmt_codec.specs.View.{certificates}
@@ -22,16 +21,17 @@ use Rattle.agent_core.specs.declared.told.Answer.TheVariants as answer
 use Rattle.agent_core.specs.declared.told.DropCause.{DropCause}
 use Rattle.agent_core.specs.declared.told.Told.{Told}
 use Rattle.agent_core.specs.Answers.{SteppedTo}
-use Rattle.agent_core.specs.Asked.{IsGrantedBy, IsGrantedAt, IsToldOf, IsGrant, was_kept, was_dropped, had_no_room, Unanswered, AskedTo}
+use Rattle.agent_core.specs.Asked.{IsGrantedBy, IsGrantedAt, IsGrant, was_kept, was_dropped, had_no_room, LacksMemory, AskedTo}
 use Rattle.agent_core.specs.Granted.{IsProofFor}
-use Rattle.agent_core.specs.Journals.{Entry, entry, Stands, Begins, state_after, IsKeepable, granted}
+use Rattle.agent_core.specs.Journals.{Entry, entry, Stands, Begins, state_after, moment_at, IsKeepable, granted}
 use Rattle.agent_core.specs.Settling.{KeptAs}
 use Rattle.agent_core.specs.State.{Plan, Ask, Event, Asks, Keeps, Plain, first_missing, settled_by, next}
 use Rattle.agent_core.specs.Steps.{StepAnswer, Hit, Miss, Other, IsAnswer, hit, miss, other, JournalSeen, StepsTo, StepRefused}
 use Rattle.agent_core.proofs.Apart.{cites_apart}
-use Rattle.agent_core.proofs.Asks.{granted_at_last, told_other, stands_missed}
+use Rattle.agent_core.proofs.Asks.{granted_at_last, judged_by, some_own, told_other, stands_missed}
 use Rattle.agent_core.proofs.Bringing.{count_places}
-use Rattle.agent_core.proofs.Onward.{begins_on, stands_on, granted_stays}
+use Rattle.agent_core.proofs.Moments.{moment_judged}
+use Rattle.agent_core.proofs.Onward.{begins_on, granted_stays}
 use Rattle.agent_core.proofs.Opening.{slice_at}
 
 -- ---- what a Keep is told
@@ -129,6 +129,7 @@ module _ {plan : Plan} {earlier mid : JournalSeen} (a : Ask) (place moment : ℕ
   may_keep =
       let t = stands_missed a place moment certs s in
       let p : IsProofFor plan.anchors certs moment a e c = g.proof in
+      let at_moment : moment ≡ moment_at plan mid.journal place = moment_judged plan mid.journal s.before place moment a certs Told.Miss t (judged_by a place moment certs s) in
       record {
         asked = a;
         told = Told.Miss;
@@ -139,6 +140,7 @@ module _ {plan : Plan} {earlier mid : JournalSeen} (a : Ask) (place moment : ℕ
         proves = p.proves;
         lease_is = p.lease_is;
         apart = cites_apart plan.anchors c.cites c.proof p.places (ap (λ (l : List Certificate). length l) p.cites_are ∙ count_places certs p.places p.inside) p.proves.follow p.tidy;
+        begun = All-weaker (IsLive moment) (λ (x : Certificate). x.from ≤ moment_at plan mid.journal place) (λ x lives. omega (arith, lives.0, at_moment)) c.cites p.alive;
       }
 
   module _ (later : JournalSeen) (same : mid.alone ≡ earlier.alone) where
@@ -200,8 +202,10 @@ module _ {plan : Plan} {earlier mid : JournalSeen} (a : Ask) (place moment : ℕ
         (subst (λ k. IsGrant plan later.journal a place e c false (settled.NoRoom k) (place ∷ [])) (sym h.2) (had_no_room (granted_later h.0.goes_on) h.1))
 
     -- memory was refused for it
-    pub unkept_asks : StepRefused plan mid later → AskedTo plan earlier later a (Unanswered plan later.journal a)
+    pub unkept_asks : StepRefused plan mid later → AskedTo plan earlier later a (LacksMemory plan earlier.journal later.journal a)
     unkept_asks r =
         let t : IsGrantedAt plan later.journal a place e c = granted_later r.goes_on in
-        once_asks r (Unanswered plan later.journal a)
-        (inr (place, t.before, t.stands, granted t.judged (record { place = e; entry = t.granted.grant; stands = t.granted.first.stands; has_right = t.granted.first.has_right; speaks = t.granted.first.holds }), refl))
+        once_asks r (LacksMemory plan earlier.journal later.journal a) (record {
+          unanswered = inr (place, t.before, t.stands, granted t.judged (record { place = e; entry = t.granted.grant; stands = t.granted.first.stands; has_right = t.granted.first.has_right; speaks = t.granted.first.holds }), refl);
+          room = λ none. absurd (some_own place none);
+        })

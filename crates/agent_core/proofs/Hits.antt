@@ -1,10 +1,10 @@
 -- Where an Ask is told a hit, its entry is granted by a kept proof: cached equals uncached.
-use Rattle.std.proofs.Common.{◌≡◌, ℕ, ◌+◌, ◌<◌, ◌≤◌, ◌≢◌, max, Bool, true, false, not, ◌&&◌, ◌==◌, nat_le, nat_lt, List, [], ◌∷◌, ◌++◌, length, take, map}
-use Rattle.std.proofs.Common.{get_or, filter, find, bit_and, position, All, Contains, Option, Some, None, slice_get, zero, suc, inl, inr, refl, sym, ◌∙◌, ap, ap₂, subst, arith}
+use Rattle.std.proofs.Common.{◌≡◌, ℕ, ◌+◌, ◌<◌, ◌≤◌, Bool, true, ◌==◌, nat_le, nat_lt, List, [], ◌∷◌, ◌++◌, length}
+use Rattle.std.proofs.Common.{get_or, find, bit_and, position, All, Contains, Option, Some, None, slice_get, suc, inl, inr, refl, sym, ◌∙◌, ap, subst, arith}
 use Rattle.std.specs.List.{list_any}
 use Rattle.std.proofs.lemmas.Bool.{cond_both, cond-true, cond-false, and_parts, not-true, eqb-false, cases_Bool}
 use Rattle.std.proofs.lemmas.Option.{slice_get-get_or, same_Some, none-some}
-use Rattle.std.proofs.lemmas.List.Elements.{All-weaker, All-map, All-head, All-tail, Contains-append_left}
+use Rattle.std.proofs.lemmas.List.Elements.{All-weaker, All-map, Contains-append_left}
 use Rattle.std.proofs.lemmas.List.Folds.{Any-from_list_any}
 use Rattle.std.proofs.lemmas.List.Quantifiers.{position-Some}
 use Rattle.prin_term.specs.declared.term.Anchor.{Anchor}
@@ -12,7 +12,7 @@ use Rattle.prin_term.specs.Principal.{Principal}
 use Rattle.prin_term.specs.View.{Grant}
 use Rattle.stmt_codec.specs.Certificates.{Certificate, live}
 use Rattle.stmt_codec.proofs.Living.{live-to}
-use Rattle.taos_calculus.specs.Rules.{Claim, Judgement, SpeaksFor, Derivable, Proves}
+use Rattle.taos_calculus.specs.Rules.{Judgement, SpeaksFor, Derivable}
 use Rattle.taos_calculus.specs.Question.{claim_of}
 use Rattle.taos_calculus.specs.Monitor.{HasRight, MaySpeak}
 use Rattle.taos_calculus.proofs.Induction.{All-at}
@@ -24,11 +24,12 @@ use Rattle.proof_cache.specs.Cache.{is_for}
 use Rattle.proof_cache.proofs.Marks.{is_kept_for}
 use Rattle.agent_core.specs.declared.told.Told.{Told}
 use Rattle.agent_core.specs.Held.{channel_of}
-use Rattle.agent_core.specs.State.{Plan, State, Ask, Asks, Answer, Judged, Plain, own_of, held_for, swept, brought, asking, moment_of, next}
+use Rattle.agent_core.specs.State.{Plan, State, Ask, Asks, Answer, Judged, own_of, swept, brought, asking, moment_of, next}
 use Rattle.agent_core.specs.Caches.{unlapsed, gives_right, is_served, first_hit, hit_or_miss}
 use Rattle.agent_core.specs.Granted.{IsKeptProofFor}
 use Rattle.agent_core.specs.Journals.{Entry, entry, state_after, cache_after, told_of, IsJudged, MayFollow, IsLegalJournal, IsVerdict, Granted, granted}
 use Rattle.agent_core.specs.Laws.{IsBacked, HitIsGranted}
+use Rattle.agent_core.proofs.Clocks.{moment_later}
 use Rattle.agent_core.proofs.Making.{front_legal}
 use Rattle.agent_core.proofs.Backed.{All-both, unlapsed_swept, cache_backed, lease_of-least, own_more}
 
@@ -104,11 +105,12 @@ module _ (plan : Plan) (t : State) (a : Ask) (on : channel_of a.subject ≡ Some
       let here : All (Contains (t.own a.channel ++ t.commons)) c.cites =
       subst (λ o. All (Contains (own_of t o ++ t.commons)) c.cites) (ap channel_of same ∙ on) b.held in
       let ahead : t.clock < c.lease = b.ahead in
-      All-weaker (λ (d : Certificate). (c.lease ≤ d.until) × Contains (t.own a.channel ++ t.commons) d) (Contains (live (judged_certs t a) t.clock))
+      All-weaker (λ (d : Certificate). ((d.from ≤ t.clock) × (c.lease ≤ d.until)) × Contains (t.own a.channel ++ t.commons) d) (Contains (live (judged_certs t a) t.clock))
       (λ d h. live-to (judged_certs t a) t.clock d
       (own_more plan (t.own a.channel) (t.own a.channel ++ brought t a) t.commons (λ x i. Contains-append_left (t.own a.channel) (brought t a) x i) d h.1)
-      (omega (arith, h.0, ahead)))
-      c.cites (All-both (λ (d : Certificate). c.lease ≤ d.until) (Contains (t.own a.channel ++ t.commons)) c.cites late here)
+      (h.0.0, omega (arith, h.0.1, ahead)))
+      c.cites (All-both (λ (d : Certificate). (d.from ≤ t.clock) × (c.lease ≤ d.until)) (Contains (t.own a.channel ++ t.commons)) c.cites
+      (All-both (λ (d : Certificate). d.from ≤ t.clock) (λ (d : Certificate). c.lease ≤ d.until) c.cites b.begun late) here)
 
   -- a backed proof that is kept for an entry with the right grants it
   kept_for : (c : Cached) (e : ℕ) (g : Grant) → slice_get a.list e ≡ Some g → gives_right a.right g ≡ true → is_for a.subject g.who c ≡ true → IsBacked plan t c →
@@ -145,7 +147,7 @@ module _ (plan : Plan) (before : List Entry) (a : Ask) (e : ℕ) (legal : IsLega
 
   hit_backed : All (IsBacked plan hit_state) hit_cache
   hit_backed =
-      unlapsed_swept plan plan.keep (moment_of (state_after plan before) a.reading) (state_after plan before) (cache_after plan before)
+      unlapsed_swept plan plan.keep (moment_of (state_after plan before) a.reading) (state_after plan before) (cache_after plan before) (moment_later (state_after plan before) a.reading)
       (cache_backed plan before (front_legal plan before (entry (Asks a) (Told.Hit e) ∷ []) legal))
 
   -- the proof that is kept for the entry grants it

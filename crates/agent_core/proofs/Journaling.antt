@@ -1,8 +1,9 @@
 -- One more entry: what is kept stands for the state behind it.
-use Rattle.std.proofs.Common.{◌≡◌, ℕ, ◌+◌, ◌<◌, ◌≤◌, List, [], ◌∷◌, ◌++◌, length, map, refl, sym, ap, ap₂, ◌∙◌, subst, arith, vec_capacity, ◌⊎◌, inl, inr, length-append, zero, suc, Some, slice_get}
+use Rattle.std.proofs.Common.{◌≡◌, ℕ, ◌+◌, ◌<◌, ◌≤◌, List, [], ◌∷◌, ◌++◌, length, map, refl, sym, ap, ap₂, ◌∙◌, subst, arith, vec_capacity, ◌⊎◌, inl, inr, length-append, zero, suc, Some, slice_get, All}
 use Rattle.std.specs.declared.alloc.Global.{Global}
 use Rattle.std.specs.declared.vec.Vec.{Vec}
-use Rattle.std.proofs.lemmas.List.{map_push, length-map}
+use Rattle.std.proofs.lemmas.List.{map_push, length-map, take-append-le}
+use Rattle.std.proofs.lemmas.Option.{slice_get_within}
 use Rattle.stmt_codec.specs.Certificates.{Certificate}
 use Rattle.agent_core.specs.declared.event.ShardEntry.{ShardEntry}
 use Rattle.proof_cache.specs.Cached.{Cached}
@@ -12,7 +13,7 @@ use Rattle.agent_core.specs.declared.shard.store.Row.{Row}
 use Rattle.agent_core.specs.declared.shard.store.Store.{Store}
 use Rattle.agent_core.specs.declared.told.Told.{Told}
 use Rattle.agent_core.specs.State.{Plan, State, Ask, Event, Asks, Keeps, Answer, Plain, next, opened}
-use Rattle.agent_core.specs.Journals.{Entry, entry, state_from, state_after, cache_from, cache_after, told_of, told_at, IsKeepable, IsMeant, MayFollow, IsLegalJournal}
+use Rattle.agent_core.specs.Journals.{Entry, entry, state_from, state_after, cache_from, cache_after, moment_at, told_of, told_at, IsKeepable, IsMeant, MayFollow, IsLegalJournal}
 use Rattle.agent_core.specs.Kept.{row_certs, IsRow, IsStore, IsKept, Tells, now_at}
 use Rattle.agent_core.specs.Names.{named, AreNames}
 use Rattle.agent_core.specs.Views.{entry_of}
@@ -42,6 +43,10 @@ slice_front [] ys i x e = absurd cc
 slice_front (y ∷ xs) ys zero x e = e
 slice_front (y ∷ xs) ys (suc i) x e = slice_front xs ys i x e
 
+-- the moment of an entry stays so when the journal goes on
+moment_on : (plan : Plan) (journal more : List Entry) (place : ℕ) → place < length journal → moment_at plan (journal ++ more) place ≡ moment_at plan journal place
+moment_on plan journal more place within = ap (λ j. (state_after plan j).clock) (take-append-le (place + 1) journal more (omega (arith, within)))
+
 keepable_on : (plan : Plan) (xs more : List Entry) (ask e : ℕ) (c : Cached) → IsKeepable plan xs ask e c → IsKeepable plan (xs ++ more) ask e c
 keepable_on plan xs more ask e c k = record {
   asked = k.asked;
@@ -52,6 +57,7 @@ keepable_on plan xs more ask e c k = record {
   proves = k.proves;
   lease_is = k.lease_is;
   apart = k.apart;
+  begun = subst (λ (n : ℕ). All (λ (x : Certificate). x.from ≤ n) c.cites) (sym (moment_on plan xs more ask (slice_get_within xs ask (entry (Asks k.asked) k.told) k.stands))) k.begun;
 }
 
 -- what an event has to be stays so when the journal goes on

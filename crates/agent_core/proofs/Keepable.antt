@@ -1,8 +1,9 @@
 -- What makes a proof one that may be kept.
-use Rattle.std.proofs.Common.{◌≡◌, ◌≢◌, ◌↔◌, ℕ, zero, suc, ◌+◌, ◌<◌, ◌≤◌, List, [], ◌∷◌, length, get_or, map, AllPairs, Option, None, Some, slice_get, Global, inl, inr, refl, sym, ap, ◌∙◌, subst, arith}
+use Rattle.std.proofs.Common.{◌≡◌, ◌≢◌, ◌↔◌, ℕ, ◌+◌, ◌<◌, ◌≤◌, List, [], ◌∷◌, length, get_or, map, All, AllPairs, None, Some, slice_get, Global, inl, inr, refl, sym, ap, ◌∙◌, subst, arith}
 use Rattle.std.specs.declared.sync.Arc.{Arc}
-use Rattle.std.proofs.lemmas.Option.{same_Some, none-some}
+use Rattle.std.proofs.lemmas.Option.{same_Some, none-some, slice_get_within}
 use Rattle.std.proofs.lemmas.Bool.{cases_lt}
+use Rattle.std.proofs.lemmas.List.{length-map}
 use Rattle.prin_term.specs.declared.term.Anchor.{Anchor}
 use Rattle.prin_term.specs.Principal.{Principal}
 use Rattle.stmt_codec.specs.declared.cert.Cert.{Cert}
@@ -10,13 +11,15 @@ use Rattle.stmt_codec.specs.Certificates.{Certificate, certificate}
 use Rattle.stmt_codec.specs.View.{certificates}
 use Rattle.taos_calculus.specs.Checking.{said_by}
 use Rattle.taos_calculus.specs.Question.{claim_of}
-use Rattle.taos_calculus.specs.Rules.{Claim, Judgement, SpeaksFor, Line, Proves, last_fact}
+use Rattle.taos_calculus.specs.Rules.{Claim, SpeaksFor, Line, Proves}
 use Rattle.denial_link.specs.Revived.{claims}
 use Rattle.proof_cache.specs.Cached.{Cached, lease_of}
+use Rattle.agent_core.specs.declared.event.ShardEntry.{ShardEntry}
 use Rattle.agent_core.specs.Caches.{who_at}
-use Rattle.agent_core.specs.Journals.{Entry, entry, IsKeepable}
-use Rattle.agent_core.specs.Kept.{DiffersBefore, IsAsked, IsForEntry, ask_in}
+use Rattle.agent_core.specs.Journals.{Entry, entry, moment_at, IsKeepable}
+use Rattle.agent_core.specs.Kept.{DiffersBefore, HasBegun, IsAsked, IsForEntry, ask_in}
 use Rattle.agent_core.specs.State.{Plan, Ask, Event, Asks}
+use Rattle.agent_core.specs.Views.{entry_of}
 
 -- what handles say is what their certificates claim
 pub said_claims : (cites : List (Arc Cert Global)) → said_by cites ≡ claims (certificates cites)
@@ -33,8 +36,8 @@ pub proves_as : (anchors : List Anchor) (said : List Claim) (lines : List Line) 
 proves_as anchors said lines a b c d left right p = subst (λ (x : Principal). Proves anchors said lines (SpeaksFor c x)) right (subst (λ (x : Principal). Proves anchors said lines (SpeaksFor x b)) left p)
 
 pub keepable_made : (plan : Plan) (before : List Entry) (ask e : ℕ) (c : Cached) → IsAsked before ask e c → Proves plan.anchors (claims c.cites) c.proof (SpeaksFor c.subject c.who) →
-    c.lease ≡ lease_of c.cites → AllPairs (λ x y. x ≢ y) c.cites → IsKeepable plan before ask e c
-keepable_made plan before ask e c asked proves lease apart = record {
+    c.lease ≡ lease_of c.cites → AllPairs (λ x y. x ≢ y) c.cites → (m : ℕ) → m ≡ moment_at plan before ask → All (λ x. x.from ≤ m) c.cites → IsKeepable plan before ask e c
+keepable_made plan before ask e c asked proves lease apart m at begun = record {
   asked = asked.asked;
   told = asked.told;
   stands = asked.stands;
@@ -43,7 +46,11 @@ keepable_made plan before ask e c asked proves lease apart = record {
   proves = proves;
   lease_is = lease;
   apart = apart;
+  begun = subst (λ (n : ℕ). All (λ (x : Certificate). x.from ≤ n) c.cites) at begun;
 }
+
+pub keepable_begun : (plan : Plan) (before : List Entry) (ask e : ℕ) (c : Cached) (m : ℕ) → m ≡ moment_at plan before ask → IsKeepable plan before ask e c → All (λ x. x.from ≤ m) c.cites
+keepable_begun plan before ask e c m at k = subst (λ (n : ℕ). All (λ (x : Certificate). x.from ≤ n) c.cites) (sym at) k.begun
 
 pub keepable_asked : (plan : Plan) (before : List Entry) (ask e : ℕ) (c : Cached) → IsKeepable plan before ask e c → IsAsked before ask e c
 keepable_asked plan before ask e c k = record { asked = k.asked; told = k.told; stands = k.stands; subject_is = k.subject_is; who_is = k.who_is }
@@ -65,6 +72,14 @@ module _ (certs : List Certificate) where
 
   pub differs_from : AllPairs (λ x y. x ≢ y) certs → (place : ℕ) → place < length certs → DiffersBefore certs place place
   differs_from apart place within i d lt = apart i place d lt within
+
+-- ---- certificates that have begun
+
+pub begun_from : (certs : List Certificate) (moment count : ℕ) → count ≡ length certs → ((k : ℕ) → k < count → HasBegun certs moment k) → All (λ x. x.from ≤ moment) certs
+begun_from certs moment count all each k d lt = each k (omega (arith, all, lt)) d
+
+pub begun_at : (certs : List Certificate) (moment : ℕ) → All (λ x. x.from ≤ moment) certs → (place : ℕ) → place < length certs → HasBegun certs moment place
+begun_at certs moment all place lt d = all place d lt
 
 -- ---- the Ask that it is for
 
@@ -88,3 +103,7 @@ pub never_asked : (before : List Entry) (ask e : ℕ) (c : Cached) (x : Entry) �
 never_asked before ask e c x at none k =
     let same : x ≡ entry (Asks k.asked) k.told = same_Some x (entry (Asks k.asked) k.told) (sym at ∙ k.stands) in
     none-some k.asked (none ∙ ap (λ (y : Entry). ask_in y.event) same)
+
+-- an entry stands there
+pub asked_within : (entries : List ShardEntry) (ask e : ℕ) (c : Cached) → IsAsked (map entry_of entries) ask e c → ask < length entries
+asked_within entries ask e c k = omega (arith, slice_get_within (map entry_of entries) ask (entry (Asks k.asked) k.told) k.stands, length-map entries entry_of)

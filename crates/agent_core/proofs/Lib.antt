@@ -6,6 +6,7 @@ pub mod Places
 pub mod Stores
 pub mod TakingIn
 pub mod Journaling
+pub mod Clocks
 pub mod Channels
 pub mod Changing
 pub mod Bringing
@@ -22,6 +23,7 @@ pub mod Citing
 pub mod KeptFew
 pub mod Backed
 pub mod Hits
+pub mod Moments
 pub mod Apart
 pub mod Plainly
 pub mod Onward

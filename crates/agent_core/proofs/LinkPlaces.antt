@@ -6,14 +6,12 @@ use Rattle.prin_term.specs.Principal.{Principal}
 use Rattle.prin_term.specs.View.{Grant}
 use Rattle.stmt_codec.specs.Certificates.{Certificate}
 use Rattle.denial_link.specs.declared.link.Link.{Link}
-use Rattle.denial_link.specs.Links.{IsFirstLink, no_entry, expired, missing}
-use Rattle.denial_link.proofs.Members.{has-at}
+use Rattle.denial_link.specs.Links.{IsFirstLink, no_entry, expired, early, missing}
 use Rattle.agent_core.specs.Settling.{IsPlaceIn}
 
 pub link_within : (anchors : List Anchor) (certs : List Certificate) (moment : ℕ) (subject : Principal) (list : List Grant) (right : ℕ) (link : Link) →
     IsFirstLink anchors certs moment subject list right link → IsPlaceIn certs link
 link_within anchors certs moment subject list right link (no_entry none) = tt
-link_within anchors certs moment subject list right link (expired {k} {c} g first needed) =
-    let dead = (needed.in_order.dead c).0 (has-at needed.places needed.n c needed.stands) in
-    slice_get_within certs c dead.0 dead.1
+link_within anchors certs moment subject list right link (expired {k} {c} g first needed out) = slice_get_within certs c out.0 out.1
+link_within anchors certs moment subject list right link (early {k} {c} g first needed out) = slice_get_within certs c out.0 out.1
 link_within anchors certs moment subject list right link (missing {k} {n} g first none lacks) = tt

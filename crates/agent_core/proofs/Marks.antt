@@ -1,10 +1,12 @@
 -- A decider that was asked about the live certificates decides by what they say.
-use Rattle.std.proofs.Common.{◌≡◌, ℕ, ◌+◌, Bool, true, false, cond, List, [], ◌∷◌, map, Option, Some, None, MatchOption, refl, sym, ap, ◌∙◌, subst}
+use Rattle.std.proofs.Common.{◌≡◌, ℕ, ◌+◌, Bool, true, false, cond, List, [], ◌∷◌, map, length, replicate, All, Option, Some, None, MatchOption, refl, sym, ap, ap₂, ◌∙◌, subst}
 use Rattle.std.proofs.lemmas.List.{length-map}
+use Rattle.std.proofs.lemmas.List.Elements.{All-head, All-tail}
 use Rattle.prin_term.specs.declared.term.Anchor.{Anchor}
 use Rattle.prin_term.specs.Principal.{Principal}
 use Rattle.prin_term.specs.View.{Grant}
-use Rattle.stmt_codec.specs.Certificates.{Certificate, is_live, live}
+use Rattle.stmt_codec.specs.Certificates.{Certificate, is_live, live, IsLive}
+use Rattle.stmt_codec.proofs.Living.{live-is_live}
 use Rattle.taos_calculus.specs.Rules.{Claim}
 use Rattle.taos_calculus.specs.Monitor.{FirstEntry, Grants, MaySpeak}
 use Rattle.taos_calculus.specs.Question.{Question, question_of, claim_of, picked, IsAskable, MayAnswer}
@@ -14,6 +16,12 @@ use Rattle.denial_link.specs.Links.{NoEntryWith, no_entry}
 use Rattle.agent_core.specs.declared.whole_ask.verdict.Decision.TheVariants as finding
 use Rattle.agent_core.specs.Judged.{live_marks, Judges}
 use Rattle.agent_core.specs.State.{Ask}
+
+-- each is marked where all are live
+pub all_marked : (certs : List Certificate) (moment : ℕ) → All (IsLive moment) certs → live_marks certs moment ≡ replicate (length certs) true
+all_marked [] moment all = refl
+all_marked (c ∷ certs) moment all =
+    ap₂ (λ (b : Bool) (bs : List Bool). b ∷ bs) (live-is_live moment c (All-head (IsLive moment) c certs all)) (all_marked certs moment (All-tail (IsLive moment) c certs all))
 
 picked_one : (at : ℕ) (c : Claim) (cs : List Claim) (marks : List Bool) (rest : List Claim) → map (λ (x : ℕ × Claim). x.1) (picked (at + 1) cs marks) ≡ rest →
     (b : Bool) → map (λ (x : ℕ × Claim). x.1) (picked at (c ∷ cs) (b ∷ marks)) ≡ cond b (c ∷ rest) rest

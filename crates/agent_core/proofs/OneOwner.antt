@@ -14,7 +14,8 @@ use Rattle.agent_core.specs.Journals.{Entry, entry, Begins, ShardSeen, IsMeant, 
 use Rattle.agent_core.specs.Steps.{JournalSeen, StepAnswer, Steps, StepsTo, StepRefused}
 use Rattle.agent_core.specs.Answers.{Given, Handed, Full, given_by, OfGiven, OfAnswer, Stepped, SteppedTo, TakesMemory}
 use Rattle.agent_core.specs.Plans.{AreShards}
-use Rattle.agent_core.specs.Alone.{LoneSeen, plans_in, journal_of, seen_in, own_in, places_from, lone_at, HasLegalJournal, IsLone, StepsLone}
+use Rattle.agent_core.specs.Alone.{LoneSeen, plans_in, journal_of, seen_in, own_in, places_from, shards_seen, HasLegalJournal, IsLone}
+use Rattle.agent_core.specs.Shards.{LeavesShards, StepsAmong, shard_at}
 use Rattle.taos_calculus.proofs.Induction.{All-at}
 use Rattle.agent_core.proofs.Asks.{standing}
 use Rattle.agent_core.proofs.Onward.{begins_itself}
@@ -163,13 +164,13 @@ meant_here l v number s event same here meant =
     (subst (λ (x : LoneSeen). (plan : Plan) → slice_get (plans_in x.shards) number ≡ Some plan → IsMeant plan (seen_in x.shards number) event) (sym same) meant s.plan (plan_here l.shards number s s here refl))
 
 -- a plan is that of a shard
-shard_at : (shards : List ShardSeen) (number : ℕ) (plan : Plan) → slice_get (plans_in shards) number ≡ Some plan → (s : ShardSeen) × (slice_get shards number ≡ Some s)
-shard_at shards number plan at =
+standing_shard : (shards : List ShardSeen) (number : ℕ) (plan : Plan) → slice_get (plans_in shards) number ≡ Some plan → (s : ShardSeen) × (slice_get shards number ≡ Some s)
+standing_shard shards number plan at =
     standing shards number (let lt : number < length (plans_in shards) = slice_get_within (plans_in shards) number plan at in omega (arith, length-map shards plan_in))
 
 pub lone_legal : (shards : List ShardSeen) → All HasLegalJournal shards → (number : ℕ) (plan : Plan) → slice_get (plans_in shards) number ≡ Some plan → IsLegalJournal plan (seen_in shards number)
 lone_legal shards legal number plan at =
-    let (s, here) = shard_at shards number plan at in
+    let (s, here) = standing_shard shards number plan at in
     subst (λ p. IsLegalJournal p (seen_in shards number)) (plan_is shards number s s here refl plan at)
     (subst (IsLegalJournal s.plan) (sym (ap journal_of here)) (All-at HasLegalJournal shards number s legal here))
 
@@ -224,28 +225,33 @@ module _ (l : LoneSeen) (anchors : List Anchor) (is : IsLone l.shards l.opened a
       let same = seen_other l.shards number s s' here same_plan k other in
       (same, ap (λ (j : List Entry). places_from (slice_get l.opened k) (length j)) same)
 
+  lone_rest : LeavesShards (shards_seen l) (shards_seen after) number
+  lone_rest = record { plans = same_plans l.shards number s s' here same_plan; alone = refl; others = others_stay }
+
   pub lone_steps : {E : Type 0} (r : Result (ℕ × Answer) E) → IfOk r (λ x. Stepped s.plan s.journal event s'.journal x.0 x.1) → OnErr r (TakesMemory (told_at s.plan s.journal event)) →
-      OnErr r (length s.journal < s.plan.limit) → OnErr r (s' ≡ s) → StepsLone l after number event r
+      OnErr r (length s.journal < s.plan.limit) → OnErr r (s' ≡ s) → StepsAmong (shards_seen l) (shards_seen after) number event r
   lone_steps (Ok x) answered wanted room unchanged = record {
-    steps = λ plan at. subst (λ p. SteppedTo p (lone_at l number) (lone_at after number) event x.0 x.1)
-        (plan_is l.shards number s s' here same_plan plan at) (stepped_alone l.shards number s s' here same_plan l.opened anchors is event x.0 x.1 legal_here answered);
-    refused = λ plan at. tt;
-    wanted = λ plan at. tt;
-    room = λ plan at. tt;
-    others = others_stay;
-    plans = same_plans l.shards number s s' here same_plan;
+    here = λ plan at. record {
+      steps = subst (λ p. SteppedTo p (shard_at (shards_seen l) number) (shard_at (shards_seen after) number) event x.0 x.1)
+          (plan_is l.shards number s s' here same_plan plan at) (stepped_alone l.shards number s s' here same_plan l.opened anchors is event x.0 x.1 legal_here answered);
+      refused = tt;
+      wanted = tt;
+      room = tt;
+    };
+    rest = lone_rest;
   }
   lone_steps (Err e) answered wanted room unchanged =
       let same : after.shards ≡ l.shards = set_itself l.shards number s' (here ∙ ap Some (sym unchanged)) in
       let seen : seen_in after.shards number ≡ s.journal = ap (λ shards. seen_in shards number) same ∙ ap journal_of here in
       record {
-        steps = λ plan at. tt;
-        refused = λ plan at. subst (λ shards. StepRefused plan (lone_at l number) (lone_at (record { shards = shards; opened = l.opened }) number)) (sym same)
-            (record { goes_on = begins_itself (seen_in l.shards number); undisturbed = λ e. refl; legal = lone_legal l.shards is.legal number plan at; owned = refl });
-        wanted = λ plan at. subst (λ p. TakesMemory (told_at p (seen_in after.shards number) event)) (plan_is l.shards number s s' here same_plan plan at)
-            (subst (λ j. TakesMemory (told_at s.plan j event)) (sym seen) wanted);
-        room = λ plan at. subst (λ p. length (seen_in after.shards number) < p.limit) (plan_is l.shards number s s' here same_plan plan at)
-            (subst (λ (j : List Entry). length j < s.plan.limit) (sym seen) room);
-        others = others_stay;
-        plans = same_plans l.shards number s s' here same_plan;
+        here = λ plan at. record {
+          steps = tt;
+          refused = subst (λ shards. StepRefused plan (shard_at (shards_seen l) number) (shard_at (shards_seen (record { shards = shards; opened = l.opened })) number)) (sym same)
+              (record { goes_on = begins_itself (seen_in l.shards number); undisturbed = λ e. refl; legal = lone_legal l.shards is.legal number plan at; owned = refl });
+          wanted = subst (λ p. TakesMemory (told_at p (seen_in after.shards number) event)) (plan_is l.shards number s s' here same_plan plan at)
+              (subst (λ j. TakesMemory (told_at s.plan j event)) (sym seen) wanted);
+          room = subst (λ p. length (seen_in after.shards number) < p.limit) (plan_is l.shards number s s' here same_plan plan at)
+              (subst (λ (j : List Entry). length j < s.plan.limit) (sym seen) room);
+        };
+        rest = lone_rest;
       }

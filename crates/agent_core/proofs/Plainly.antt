@@ -1,5 +1,5 @@
 -- A shard with kept proofs gives the verdicts of the plain machine.
-use Rattle.std.proofs.Common.{◌≡◌, ℕ, zero, suc, ◌+◌, ◌≤◌, List, [], ◌∷◌, ◌++◌, length, map, take, drop, Option, None, Some, slice_get, refl, sym, ◌∙◌, ap, ap₂, subst, append_assoc, arith}
+use Rattle.std.proofs.Common.{◌≡◌, ℕ, zero, suc, ◌+◌, List, [], ◌∷◌, ◌++◌, map, take, drop, Option, None, Some, refl, sym, ◌∙◌, ap, subst, append_assoc}
 use Rattle.stmt_codec.specs.Certificates.{Certificate}
 use Rattle.proof_cache.specs.Cached.{Cached}
 use Rattle.proof_cache.proofs.Lists.{split_at}
@@ -7,9 +7,9 @@ use Rattle.agent_core.specs.declared.told.Told.{Told}
 use Rattle.agent_core.specs.Caches.{unlapsed, first_hit, hit_or_miss, cache_next}
 use Rattle.agent_core.specs.Granted.{IsKeptProofFor}
 use Rattle.agent_core.specs.State.{Plan, State, Ask, Event, Asks, Answer, Judged, Plain, opened, next}
-use Rattle.agent_core.specs.Journals.{Entry, entry, state_from, state_after, cache_after, told_of, MayFollow, IsLegalJournal}
-use Rattle.agent_core.specs.Laws.{journal_from, journal_of, plain_from, plain_answer, Agrees, GivesPlainVerdicts}
-use Rattle.agent_core.proofs.Hits.{judged_as, judged_certs, hit_state, hit_found}
+use Rattle.agent_core.specs.Journals.{Entry, entry, state_from, state_after, cache_after, told_of, IsLegalJournal}
+use Rattle.agent_core.specs.Laws.{journal_from, journal_of, plain_from, Agrees, GivesPlainVerdicts}
+use Rattle.agent_core.proofs.Hits.{judged_as, hit_state, hit_found}
 use Rattle.agent_core.proofs.Making.{front_legal, journal_legal}
 
 -- the events of what a shard makes of events are these

@@ -1,5 +1,5 @@
 -- What serves an Ask: the first entry for which a proof is kept whose lease has not ended.
-use Rattle.std.proofs.Common.{◌≡◌, ℕ, zero, suc, ◌+◌, ◌<◌, ◌≤◌, Bool, true, false, cond, not, ◌&&◌, nat_lt, List, [], ◌∷◌, length, get_or, filter, find, All, AllPairs, Option, None, Some, IsSome, slice_get, position, inl, inr, refl, sym, ap, ap₂, ◌∙◌, subst, arith}
+use Rattle.std.proofs.Common.{◌≡◌, ℕ, suc, ◌+◌, ◌<◌, ◌≤◌, Bool, true, false, cond, not, nat_lt, List, [], ◌∷◌, length, get_or, filter, find, All, AllPairs, Option, None, Some, slice_get, inl, inr, refl, sym, ap, ◌∙◌, subst, arith}
 use Rattle.std.specs.List.{list_any, position_or_len}
 use Rattle.std.proofs.lemmas.Bool.{cases_Bool, cases_lt, cond-true, cond-false, lt-ltb, le-leb, lt-leb, le-ltb, false≢true, and_from}
 use Rattle.std.proofs.lemmas.List.Sums.{position_or_len_is}
@@ -7,7 +7,7 @@ use Rattle.std.proofs.lemmas.Option.{same_Some, none-some, slice_get_within, get
 use Rattle.prin_term.specs.Principal.{Principal}
 use Rattle.prin_term.specs.View.{Grant}
 use Rattle.proof_cache.specs.Cached.{Cached}
-use Rattle.proof_cache.specs.Cache.{IsCache, has_lapsed, is_for, without}
+use Rattle.proof_cache.specs.Cache.{IsCache, has_lapsed, is_for}
 use Rattle.proof_cache.proofs.Marks.{is_kept_for}
 use Rattle.proof_cache.proofs.One.{found_none}
 use Rattle.stmt_codec.specs.Distinct.{same_principal}

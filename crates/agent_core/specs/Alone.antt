@@ -1,13 +1,11 @@
 -- Shards that nobody else steps.
-use Rattle.std.specs.Prelude.{◌≡◌, ◌≢◌, ℕ, ◌-◌, ◌<◌, ◌≤◌, true, List, [], length, map, Option, None, Some, slice_get, All, Result, IfOk, OnErr}
+use Rattle.std.specs.Prelude.{◌≡◌, ℕ, ◌-◌, ◌≤◌, true, List, [], length, map, Option, None, Some, slice_get, All}
 use Rattle.std.specs.List.{range_with_len}
 use Rattle.prin_term.specs.declared.term.Anchor.{Anchor}
-use Rattle.agent_core.specs.declared.told.Answer.{Answer}
-use Rattle.agent_core.specs.State.{Plan, Event}
-use Rattle.agent_core.specs.Answers.{SteppedTo, TakesMemory}
-use Rattle.agent_core.specs.Steps.{JournalSeen, StepRefused, seen_at}
+use Rattle.agent_core.specs.State.{Plan}
 use Rattle.agent_core.specs.Plans.{AreShards}
-use Rattle.agent_core.specs.Journals.{Entry, ShardSeen, IsLegalJournal, told_at}
+use Rattle.agent_core.specs.Journals.{Entry, ShardSeen, IsLegalJournal}
+use Rattle.agent_core.specs.Shards.{ShardsSeen}
 
 -- the shards in order, and how long each journal was at first
 pub record LoneSeen : Type 0 where
@@ -52,30 +50,11 @@ pub record IsLone (shards : List ShardSeen) (opened : List ℕ) (anchors : List 
       slice_get shards i ≡ Some s → n ≤ length s.journal
   pub legal : All HasLegalJournal shards
 
--- what is seen of the shard of this number: nobody else steps it
-abbrev pub lone_at : LoneSeen → ℕ → JournalSeen
-lone_at l number = seen_at true (λ s. seen_in l.shards s) (λ s. own_in l s) number
-
--- the shard of this number has this plan
-abbrev pub HasPlanAt : LoneSeen → ℕ → Plan → Type 0
-HasPlanAt l number plan = slice_get (plans_in l.shards) number ≡ Some plan
-
--- a step of the shard of this number; the other shards stay as they were
-pub record StepsLone {E : Type 0} (l l' : LoneSeen) (number : ℕ) (event : Event)
-    (r : Result (ℕ × Answer) E) : Type 0 where
-  -- a step that succeeds adds an entry, or finds the journal full
-  pub steps : (plan : Plan) → HasPlanAt l number plan →
-      IfOk r (λ x. SteppedTo plan (lone_at l number) (lone_at l' number) event x.0 x.1)
-  -- a step that fails adds no entry
-  pub refused : (plan : Plan) → HasPlanAt l number plan →
-      OnErr r (StepRefused plan (lone_at l number) (lone_at l' number))
-  -- a step fails only where something is kept or handed out
-  pub wanted : (plan : Plan) → HasPlanAt l number plan →
-      OnErr r (TakesMemory (told_at plan (seen_in l'.shards number) event))
-  -- a step fails only where the journal has room
-  pub room : (plan : Plan) → HasPlanAt l number plan →
-      OnErr r (length (seen_in l'.shards number) < plan.limit)
-  -- the journals and own places of the other shards stay
-  pub others : (s : ℕ) → s ≢ number →
-      (seen_in l'.shards s ≡ seen_in l.shards s) × (own_in l' s ≡ own_in l s)
-  pub plans : plans_in l'.shards ≡ plans_in l.shards
+-- what is shown of them: nobody else steps them
+abbrev pub shards_seen : LoneSeen → ShardsSeen
+shards_seen l = record {
+  plans = plans_in l.shards;
+  alone = true;
+  seen = λ number. seen_in l.shards number;
+  own = λ number. own_in l number;
+}

@@ -42,6 +42,9 @@ abbrev pub Names : List Certificate → Link → Denial → Type 0
 Names certs (links.Expired entry place) denial =
     (c : Certificate) × (slice_get certs place ≡ Some c)
     × (denial ≡ Denial.Expired entry (digest_of c))
+Names certs (links.Early entry place) denial =
+    (c : Certificate) × (slice_get certs place ≡ Some c)
+    × (denial ≡ Denial.Early entry (digest_of c))
 Names certs (links.Missing entry node) denial = denial ≡ Denial.Missing entry node
 Names certs links.NoEntry denial = denial ≡ Denial.NoEntry
 
@@ -143,6 +146,16 @@ module _ (plan : Plan) (journal : List Entry) (a : Ask) where
   Unanswered own = (own ≡ []) ⊎
       ((place : ℕ) × (before : List Entry) × Stands journal place before (entry (Asks a) Told.Miss)
       × IsVerdict plan before a Granted × (own ≡ place ∷ []))
+
+-- what is seen of the journal stayed as it was before, or has room
+abbrev pub FoundRoom : Plan → (past journal : List Entry) → Type 0
+FoundRoom plan past journal = (journal ≡ past) ⊎ (length journal < plan.limit)
+
+-- memory was refused, after what was seen before: with no own place the journal was not found full
+pub record LacksMemory (plan : Plan) (past journal : List Entry) (a : Ask) (own : List ℕ) :
+    Type 0 where
+  pub unanswered : Unanswered plan journal a own
+  pub room : own ≡ [] → FoundRoom plan past journal
 
 -- the whole of an ask: its own places are new, ascend, and are how it ended; others may have
 -- entries anywhere

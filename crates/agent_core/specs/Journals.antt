@@ -1,6 +1,6 @@
 -- The journal of a shard: what its entries make of the state and of the kept proofs, and which entry
 -- may come next.
-use Rattle.std.specs.Prelude.{◌≡◌, ℕ, ◌<◌, List, [], ◌∷◌, ◌++◌, length, Some, slice_get, AllPairs, Contains, ◌≢◌}
+use Rattle.std.specs.Prelude.{◌≡◌, ℕ, ◌+◌, ◌<◌, ◌≤◌, List, [], ◌∷◌, ◌++◌, length, take, Some, slice_get, All, AllPairs, Contains, ◌≢◌}
 use Rattle.prin_term.specs.Principal.{Principal}
 use Rattle.stmt_codec.specs.Certificates.{Certificate, live}
 use Rattle.taos_calculus.specs.Monitor.{Grants}
@@ -51,6 +51,10 @@ state_from plan s (e ∷ es) = state_from plan (next plan s e.event).0 es
 abbrev pub state_after : Plan → List Entry → State
 state_after plan journal = state_from plan (opened plan) journal
 
+-- the moment of the entry at this place: where the clock stands after it
+abbrev pub moment_at : Plan → List Entry → ℕ → ℕ
+moment_at plan journal place = (state_after plan (take (place + 1) journal)).clock
+
 -- the kept proofs that these entries make of some, from a state on
 abbrev pub cache_from : Plan → State → List Cached → List Entry → List Cached
 cache_from plan s cache [] = cache
@@ -94,6 +98,8 @@ pub record IsKeepable (plan : Plan) (before : List Entry) (ask e : ℕ) (c : Cac
   pub lease_is : c.lease ≡ lease_of c.cites
   -- it cites nothing twice
   pub apart : AllPairs (λ x y. x ≢ y) c.cites
+  -- each cite had begun at the moment of that Ask
+  pub begun : All (λ x. x.from ≤ moment_at plan before ask) c.cites
 
 -- what an event after these entries has to be, whoever brings it: an Ask is on a channel of the
 -- plan, and its subject speaks on it; what is to be kept is a proof for an Ask
@@ -123,7 +129,7 @@ abbrev pub IsJudged : Plan → List Entry → Ask → ℕ → List Certificate �
 IsJudged plan before a moment certs =
     (next plan (state_after plan before) (Asks a)).1 ≡ Judged moment certs
 
--- what an Ask comes to; a denial names the first link that is missing or has expired
+-- what an Ask comes to; a denial names the first link that is missing, has expired or is early
 pub data Verdict : Type 0 where
   Granted : Verdict
   Denied : Link → Verdict

@@ -153,6 +153,10 @@ pub record IsAsked (before : List Entry) (ask e : ℕ) (c : Cached) : Type 0 whe
   pub subject_is : c.subject ≡ asked.subject
   pub who_is : who_at asked.list e ≡ Some c.who
 
+-- the certificate at the place has begun at the moment
+abbrev pub HasBegun : List Certificate → (moment place : ℕ) → Type 0
+HasBegun certs moment place = (d : Certificate) → (get_or certs place d).from ≤ moment
+
 -- the certificate at the place is none of the first of these, so many
 abbrev pub DiffersBefore : List Certificate → (place count : ℕ) → Type 0
 DiffersBefore certs place count =

@@ -1,5 +1,5 @@
 -- What the definitions of a shard imply: each law is the contract of a function that does nothing.
-use Rattle.std.specs.Prelude.{◌≡◌, ℕ, ◌+◌, ◌<◌, ◌≤◌, ◌↔◌, Bool, false, List, [], ◌∷◌, ◌++◌, length, map, take, Some, slice_get, All, AllPairs, Contains}
+use Rattle.std.specs.Prelude.{◌≡◌, ◌⊎◌, ℕ, ◌+◌, ◌<◌, ◌≤◌, ◌↔◌, Bool, List, [], ◌∷◌, ◌++◌, length, map, take, Some, slice_get, All, Contains}
 use Rattle.prin_term.specs.declared.term.Anchor.{Anchor}
 use Rattle.stmt_codec.specs.Certificates.{Certificate}
 use Rattle.denial_link.specs.declared.link.Link.{Link}
@@ -14,13 +14,13 @@ use Rattle.agent_core.specs.declared.asked.Denial.{Denial}
 use Rattle.agent_core.specs.declared.told.Told.{Told}
 use Rattle.agent_core.specs.Asked.{IsGrantedAt, IsHitAt, IsDeniedAt, IsToldOf, IsGrant}
 use Rattle.agent_core.specs.declared.limits.TheConstants.{MAX_OWN, MAX_COMMONS}
-use Rattle.agent_core.specs.State.{Plan, State, Ask, Event, Asks, Answer, Judged, Plain, opened, held_for, next}
+use Rattle.agent_core.specs.State.{Plan, State, Ask, Event, Asks, Answer, Judged, Plain, opened, held_for, reading_of, next}
 use Rattle.agent_core.specs.Plans.{AreShards, home}
 use Rattle.agent_core.specs.Opened.{MayOpen, plans_for}
 use Rattle.agent_core.specs.declared.whole_ask.verdict.Decision.{Decision}
 use Rattle.agent_core.specs.Judged.{Judges, verdict_of}
 use Rattle.agent_core.specs.Steps.{JournalSeen, StepAnswer, Steps, StepsTo}
-use Rattle.agent_core.specs.Journals.{Entry, entry, Begins, Stands, state_after, cache_after, told_of, told_at, IsMeant, MayFollow, IsLegalJournal, IsJudged, IsVerdict, Granted, Denied}
+use Rattle.agent_core.specs.Journals.{Entry, entry, Begins, state_after, cache_after, told_of, told_at, IsMeant, MayFollow, IsLegalJournal, IsJudged, IsVerdict, Granted, Denied}
 
 -- the journal that a shard makes of events from a state and kept proofs on, one after another
 abbrev pub journal_from : Plan → State → List Cached → List Event → List Entry
@@ -53,11 +53,19 @@ Agrees plan a (Judged moment certs) (Told.Hit e) =
     (c : Cached) × IsKeptProofFor plan.anchors certs moment a e c
 Agrees plan a (Judged moment certs) told = told ≡ Told.Miss
 
+-- ---- the clock
+
+-- no number of the list is larger; it is one of them, or 0
+abbrev pub IsLargest : List ℕ → ℕ → Type 0
+IsLargest numbers n = All (λ m. m ≤ n) numbers × ((n ≡ 0) ⊎ Contains numbers n)
+
 -- ---- kept proofs
 
--- the proof holds for its subject, by certificates that are held, until its lease ends
+-- the proof holds for its subject, by certificates that are held and have begun, until its lease
+-- ends
 pub record IsBacked (plan : Plan) (s : State) (c : Cached) : Type 0 where
   pub held : All (Contains (held_for s c.subject)) c.cites
+  pub begun : All (λ x. x.from ≤ s.clock) c.cites
   pub ahead : s.clock < c.lease
   pub lease_is : c.lease ≡ lease_of c.cites
   pub proves : Proves plan.anchors (claims c.cites) c.proof (SpeaksFor c.subject c.who)
@@ -89,6 +97,18 @@ module _ (plan : Plan) where
   AreMeant before (e ∷ es) =
       IsMeant plan before e × AreMeant (before ++ entry e (told_at plan before e) ∷ []) es
 
+  -- the clock never falls
+  abbrev pub ClockNeverFalls : Type 0
+  ClockNeverFalls =
+      (journal more : List Entry) →
+      (state_after plan journal).clock ≤ (state_after plan (journal ++ more)).clock
+
+  -- the clock stands at the largest reading
+  abbrev pub ClockIsRead : Type 0
+  ClockIsRead =
+      (journal : List Entry) →
+      IsLargest (map (λ (e : Entry). reading_of e.event) journal) (state_after plan journal).clock
+
   -- the journal that a shard makes of events is legal, where each is meant and there is room
   abbrev pub JournalIsLegal : Type 0
   JournalIsLegal =
@@ -109,7 +129,8 @@ module _ (plan : Plan) where
       slice_get (journal_of plan events) place ≡ Some (entry (Asks a) told) →
       Agrees plan a (plain_answer plan (take place events) (Asks a)) told
 
-  -- after a legal journal each kept proof has only cites that are held, and its lease is ahead
+  -- after a legal journal each kept proof has only cites that are held and have begun, and its lease
+  -- is ahead
   abbrev pub CacheIsBacked : Type 0
   CacheIsBacked = (journal : List Entry) → IsLegalJournal plan journal →
       All (IsBacked plan (state_after plan journal)) (cache_after plan journal)

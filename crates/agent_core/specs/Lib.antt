@@ -11,6 +11,7 @@ pub mod Kept
 pub mod Letting
 pub mod Looking
 pub mod Answers
+pub mod Shards
 pub mod Judged
 pub mod Granted
 pub mod Asked

@@ -5,7 +5,7 @@ use Rattle.prin_term.specs.declared.term.Anchor.{Anchor}
 use Rattle.stmt_codec.specs.Certificates.{Certificate}
 use Rattle.denial_link.specs.declared.link.Link.{Link}
 use Rattle.denial_link.specs.declared.link.Link.TheVariants as links
-use Rattle.proof_cache.specs.Cached.{Cached, cached}
+use Rattle.proof_cache.specs.Cached.{cached}
 use Rattle.proof_cache.specs.declared.cached.Cached.{Cached as CachedValue}
 use Rattle.agent_core.specs.declared.asked.Settled.{Settled}
 use Rattle.agent_core.specs.declared.asked.Settled.TheVariants as settled
@@ -14,14 +14,14 @@ use Rattle.agent_core.specs.declared.whole_ask.settling.Settlement.TheVariants a
 use Rattle.agent_core.specs.declared.told.Told.{Told}
 use Rattle.agent_core.specs.declared.told.Answer.{Answer}
 use Rattle.agent_core.specs.State.{Plan, Ask, Event, Asks}
-use Rattle.agent_core.specs.Journals.{Entry}
 use Rattle.agent_core.specs.Answers.{SteppedTo}
-use Rattle.agent_core.specs.Asked.{IsGrantedBy, IsDeniedBy}
+use Rattle.agent_core.specs.Asked.{FoundRoom, IsGrantedBy, IsDeniedBy}
 use Rattle.agent_core.specs.Steps.{JournalSeen, Other, StepsTo, StepRefused}
 
 -- the certificate that a link names is one of these
 abbrev pub IsPlaceIn : List Certificate → Link → Type 0
 IsPlaceIn certs (links.Expired entry place) = place < length certs
+IsPlaceIn certs (links.Early entry place) = place < length certs
 IsPlaceIn certs (links.Missing entry node) = Unit {0}
 IsPlaceIn certs links.NoEntry = Unit {0}
 
@@ -47,3 +47,8 @@ KeptAs plan earlier later keeps (settled.Dropped cause) =
     (keep : ℕ) × StepsTo plan earlier later keeps keep (Other (Told.Dropped cause))
 KeptAs plan earlier later keeps (settled.NoRoom n) =
     StepRefused plan earlier later × (length later.journal ≡ plan.limit) × (n ≡ plan.limit)
+
+-- memory was refused to the Ask's step: the journal was not found full
+pub record RefusesAsk (plan : Plan) (earlier later : JournalSeen) : Type 0 where
+  pub refused : StepRefused plan earlier later
+  pub room : FoundRoom plan earlier.journal later.journal

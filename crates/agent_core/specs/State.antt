@@ -97,6 +97,12 @@ swept keep moment s = keeping (λ c. not (is_gone keep moment c)) moment s
 abbrev pub moment_of : State → ℕ → ℕ
 moment_of s reading = max s.clock reading
 
+-- what the clock read for an event, 0 where it was not read
+abbrev pub reading_of : Event → ℕ
+reading_of (Asks a) = a.reading
+reading_of (Expires reading) = reading
+reading_of _ = 0
+
 -- ---- an Ask
 
 -- the presented certificates that the channel does not hold yet

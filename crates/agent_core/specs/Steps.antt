@@ -46,10 +46,6 @@ pub record JournalSeen : Type 0 where
   -- the own places in it
   pub own : List ℕ
 
--- what is seen of one shard of many
-abbrev pub seen_at : Bool → (ℕ → List Entry) → (ℕ → List ℕ) → ℕ → JournalSeen
-seen_at alone seen own number = record { alone = alone; journal = seen number; own = own number }
-
 -- the same after what was seen of the shard and entries of others, where there are any; the place
 -- is an own one
 pub record StepsTo (plan : Plan) (earlier later : JournalSeen) (event : Event)

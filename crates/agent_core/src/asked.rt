@@ -9,6 +9,7 @@ use std::sync::Arc;
 #[derive(Clone, Copy, Debug, PartialEq, Eq)]
 pub enum Denial {
     Expired { entry: u8, digest: [u8; 32] },
+    Early { entry: u8, digest: [u8; 32] },
     Missing { entry: u8, node: u8 },
     NoEntry,
 }

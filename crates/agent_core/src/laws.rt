@@ -8,6 +8,7 @@ ghost use Rattle.agent_core.specs.Laws.{FrontIsLegal, OneMoreIsLegal, LegalIsAll
 ghost use Rattle.agent_core.specs.Laws.{HasOneJournal, HoldsFew, JudgesFew, OneVerdict, JudgedIsVerdict};
 ghost use Rattle.agent_core.specs.Laws.{MeantStays, StepsAlone, AsksAreVerdicts, AskStays};
 ghost use Rattle.agent_core.specs.Laws.{OpenedAreShards, EachChannelAtHome};
+ghost use Rattle.agent_core.specs.Laws.{ClockNeverFalls, ClockIsRead};
 ghost use Rattle.agent_core.specs.Laws.{GivesPlainVerdicts, CacheIsBacked, CacheIsSmall, HitIsGranted};
 
 /// A beginning of a legal journal is legal.
@@ -38,8 +39,14 @@ pub fn cached_equals_uncached()
     ensures { (plan : Plan) → GivesPlainVerdicts plan }
 {}
 
-/// After a legal journal each kept proof holds for its subject, by certificates that are held,
-/// until its lease ends.
+/// The clock never falls, and stands at the largest reading of Asks and Expires.
+pub fn the_clock_never_falls()
+    ensures rises { (plan : Plan) → ClockNeverFalls plan }
+    ensures read { (plan : Plan) → ClockIsRead plan }
+{}
+
+/// After a legal journal each kept proof holds for its subject, by certificates that are held and
+/// have begun, until its lease ends.
 pub fn kept_proofs_hold()
     ensures { (plan : Plan) → CacheIsBacked plan }
 {}

@@ -23,7 +23,7 @@ pub use laws::{
     asks_are_verdicts, cached_equals_uncached, decisions_are_verdicts, events_have_one_journal,
     few_proofs_are_kept, fronts_are_legal, hits_are_grants, how_an_ask_ended_stays,
     kept_proofs_hold, legal_is_allowed, one_more_is_legal, opened_are_shards, shards_hold_few,
-    steps_may_be_alone, verdicts_differ, what_is_meant_stays,
+    steps_may_be_alone, the_clock_never_falls, verdicts_differ, what_is_meant_stays,
 };
 pub use limit_laws::limits_are;
 pub use limits::{MAX_CHANNELS, MAX_COMMONS, MAX_JOURNAL, MAX_OWN, MAX_PRESENTED, MAX_SHARDS};

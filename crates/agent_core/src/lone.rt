@@ -1,10 +1,11 @@
 //! Shards that nobody else steps.
 
 ghost use Rattle.std.specs.Prelude.{◌≡◌, ◌↔◌, ◌<◌, ◌≤◌, IsTrue, true, ℕ, [], length, map, Some, slice_get, All, Contains};
-ghost use Rattle.agent_core.specs.Alone.{plans_in, seen_in, own_in, HasLegalJournal, StepsLone};
+ghost use Rattle.agent_core.specs.Alone.{plans_in, seen_in, own_in, shards_seen, HasLegalJournal};
 ghost use Rattle.agent_core.specs.Answers.{FitsEvent};
 ghost use Rattle.agent_core.specs.Journals.{ShardSeen, IsMeant};
 ghost use Rattle.agent_core.specs.Plans.{AreShards, home};
+ghost use Rattle.agent_core.specs.Shards.{IsMeantAt, StepsAmong};
 ghost use Rattle.agent_core.specs.State.{Plan};
 ghost use Rattle.agent_core.specs.Views.{event_of};
 
@@ -111,10 +112,10 @@ impl Lone {
         event: Event,
     ) -> Result<(u64, Answer), AllocError>
         requires there { number < length (plans_in self.old.shards) }
-        requires meant { (plan : Plan) → slice_get (plans_in self.old.shards) number ≡ Some plan
-            → IsMeant plan (seen_in self.old.shards number) (event_of event) }
+        requires meant { IsMeantAt (shards_seen self.old) number (event_of event) }
         requires fits { FitsEvent (event_of event) }
-        ensures { StepsLone self.old self.new number (event_of event) result }
+        ensures { StepsAmong (shards_seen self.old) (shards_seen self.new) number
+            (event_of event) result }
     {
         self.shards[number as usize].step(alloc, event)
     }
@@ -128,13 +129,12 @@ impl Lone {
 }
 
 impl Shards for Lone {
-    ghost plans = { λ l. plans_in l.shards };
+    ghost shown = { λ l. shards_seen l };
 
-    ghost seen = { λ l number. seen_in l.shards number };
-
-    ghost own = { λ l number. own_in l number };
-
-    ghost alone = { λ l. true };
+    fn known(&self) {
+        // What is kept says so.
+        let _shards = &self.shards;
+    }
 
     fn count(&self) -> u32 {
         self.shards.len() as u32

@@ -1,14 +1,14 @@
 //! An ask: its step at the shard of its channel, and the decision outside of it.
 
-ghost use Rattle.std.specs.Prelude.{◌≡◌, ◌≢◌, ◌<◌, ℕ, Some, slice_get, length, IfOk, OnErr};
+ghost use Rattle.std.specs.Prelude.{◌≡◌, ◌<◌, length, IfOk, OnErr};
 ghost use Rattle.proof_cache.specs.Cached.{cached};
 ghost use Rattle.agent_core.specs.declared.asked.Settled.TheVariants.{NoNeed};
-ghost use Rattle.agent_core.specs.Asked.{FitsAsk, AskedTo, AskEnds, Unanswered};
-ghost use Rattle.agent_core.specs.Journals.{IsKeepable, IsMeant};
-ghost use Rattle.agent_core.specs.Plans.{home};
-ghost use Rattle.agent_core.specs.Settling.{KeptAs, StepsAsk};
+ghost use Rattle.agent_core.specs.Asked.{FitsAsk, AskedTo, AskEnds, LacksMemory};
+ghost use Rattle.agent_core.specs.Journals.{IsKeepable};
+ghost use Rattle.agent_core.specs.Settling.{KeptAs, RefusesAsk, StepsAsk};
+ghost use Rattle.agent_core.specs.Shards.{AtHome, HasPlanAt, IsMeantAt, LeavesShards, home_of};
 ghost use Rattle.agent_core.specs.State.{Plan, Asks, Keeps};
-ghost use Rattle.agent_core.specs.Steps.{StepRefused, seen_at};
+ghost use Rattle.agent_core.specs.Steps.{StepRefused};
 ghost use Rattle.agent_core.specs.Views.{ask_of};
 
 mod grant;
@@ -35,28 +35,20 @@ fn step_at_home<W: Wait + Sync, S: Shards>(
     shards: &mut S,
     asked: &Arc<Ask>,
 ) -> Result<(u64, Answer), AllocError>
-    requires meant { (plan : Plan) →
-        slice_get (S.plans shards.old) (home (S.plans shards.old) asked.now.value.channel) ≡ Some plan →
-        IsMeant plan (S.seen shards.old (home (S.plans shards.old) asked.now.value.channel))
-        (Asks (ask_of asked.now.value)) }
+    requires meant { IsMeantAt (S.shown shards.old)
+        (home_of (S.shown shards.old) asked.now.value.channel) (Asks (ask_of asked.now.value)) }
     requires fits { FitsAsk (ask_of asked.now.value) }
-    ensures there { home (S.plans shards.old) asked.now.value.channel < length (S.plans shards.old) }
-    ensures steps { let s = home (S.plans shards.old) asked.now.value.channel in
-        (plan : Plan) → slice_get (S.plans shards.old) s ≡ Some plan →
-        IfOk result (λ r. StepsAsk plan
-        (seen_at (S.alone shards.old) (S.seen shards.old) (S.own shards.old) s)
-        (seen_at (S.alone shards.old) (S.seen shards.new) (S.own shards.new) s)
-        (ask_of asked.now.value) r.0 r.1) }
-    ensures refused { let s = home (S.plans shards.old) asked.now.value.channel in
-        (plan : Plan) → slice_get (S.plans shards.old) s ≡ Some plan →
-        OnErr result (StepRefused plan
-        (seen_at (S.alone shards.old) (S.seen shards.old) (S.own shards.old) s)
-        (seen_at (S.alone shards.old) (S.seen shards.new) (S.own shards.new) s)) }
-    ensures others { (s : ℕ) → s ≢ home (S.plans shards.old) asked.now.value.channel →
-        (S.seen shards.new s ≡ S.seen shards.old s) × (S.own shards.new s ≡ S.own shards.old s) }
-    ensures plans { S.plans shards.new ≡ S.plans shards.old }
-    ensures alone { S.alone shards.new ≡ S.alone shards.old }
+    ensures there { home_of (S.shown shards.old) asked.now.value.channel
+        < length (S.shown shards.old).plans }
+    ensures steps { AtHome (S.shown shards.old) (S.shown shards.new) asked.now.value.channel
+        (λ plan earlier later. IfOk result
+        (λ r. StepsAsk plan earlier later (ask_of asked.now.value) r.0 r.1)) }
+    ensures refused { AtHome (S.shown shards.old) (S.shown shards.new) asked.now.value.channel
+        (λ plan earlier later. OnErr result (RefusesAsk plan earlier later)) }
+    ensures rest { LeavesShards (S.shown shards.old) (S.shown shards.new)
+        (home_of (S.shown shards.old) asked.now.value.channel) }
 {
+    shards.known();
     let number = asked.channel % shards.count();
     let event = Event::Ask(Arc::try_clone(asked)?);
     shards.step(rt, alloc, number, event)
@@ -72,26 +64,19 @@ fn keep_at_home<W: Wait + Sync, S: Shards>(
     entry: u8,
     proof: &Arc<Cached>,
 ) -> Result<Settled, AllocError>
-    requires meant { (plan : Plan) →
-        slice_get (S.plans shards.old) (home (S.plans shards.old) channel) ≡ Some plan
-        → IsKeepable plan (S.seen shards.old (home (S.plans shards.old) channel)) place entry
-        (cached proof.now.value) }
-    ensures kept { let s = home (S.plans shards.old) channel in
-        (plan : Plan) → slice_get (S.plans shards.old) s ≡ Some plan →
-        IfOk result (λ r. KeptAs plan
-        (seen_at (S.alone shards.old) (S.seen shards.old) (S.own shards.old) s)
-        (seen_at (S.alone shards.old) (S.seen shards.new) (S.own shards.new) s)
-        (Keeps place entry (cached proof.now.value)) r) }
-    ensures refused { let s = home (S.plans shards.old) channel in
-        (plan : Plan) → slice_get (S.plans shards.old) s ≡ Some plan →
-        OnErr result (StepRefused plan
-        (seen_at (S.alone shards.old) (S.seen shards.old) (S.own shards.old) s)
-        (seen_at (S.alone shards.old) (S.seen shards.new) (S.own shards.new) s)) }
-    ensures others { (s : ℕ) → s ≢ home (S.plans shards.old) channel →
-        (S.seen shards.new s ≡ S.seen shards.old s) × (S.own shards.new s ≡ S.own shards.old s) }
-    ensures plans { S.plans shards.new ≡ S.plans shards.old }
-    ensures alone { S.alone shards.new ≡ S.alone shards.old }
+    requires meant { (plan : Plan)
+        → HasPlanAt (S.shown shards.old) (home_of (S.shown shards.old) channel) plan
+        → IsKeepable plan ((S.shown shards.old).seen (home_of (S.shown shards.old) channel)) place
+        entry (cached proof.now.value) }
+    ensures kept { AtHome (S.shown shards.old) (S.shown shards.new) channel
+        (λ plan earlier later. IfOk result
+        (KeptAs plan earlier later (Keeps place entry (cached proof.now.value)))) }
+    ensures refused { AtHome (S.shown shards.old) (S.shown shards.new) channel
+        (λ plan earlier later. OnErr result (StepRefused plan earlier later)) }
+    ensures rest { LeavesShards (S.shown shards.old) (S.shown shards.new)
+        (home_of (S.shown shards.old) channel) }
 {
+    shards.known();
     let number = channel % shards.count();
     let event = Event::Keep {
         ask: place,
@@ -138,30 +123,20 @@ pub fn ask<W: Wait + Sync, S: Shards, D: Decide, G: Gate>(
     gate: &mut G,
     asked: Arc<Ask>,
 ) -> Result<Asked, AllocError>
-    requires meant { (plan : Plan) →
-        slice_get (S.plans shards.old) (home (S.plans shards.old) asked.value.channel) ≡ Some plan →
-        IsMeant plan (S.seen shards.old (home (S.plans shards.old) asked.value.channel))
-        (Asks (ask_of asked.value)) }
+    requires meant { IsMeantAt (S.shown shards.old)
+        (home_of (S.shown shards.old) asked.value.channel) (Asks (ask_of asked.value)) }
     requires fits { FitsAsk (ask_of asked.value) }
-    ensures asked { let s = home (S.plans shards.old) asked.value.channel in
-        (plan : Plan) → slice_get (S.plans shards.old) s ≡ Some plan →
-        IfOk result (λ r. AskedTo plan
-        (seen_at (S.alone shards.old) (S.seen shards.old) (S.own shards.old) s)
-        (seen_at (S.alone shards.old) (S.seen shards.new) (S.own shards.new) s)
-        (ask_of asked.value) (AskEnds plan (S.seen shards.new s) (ask_of asked.value) r)) }
+    ensures asked { AtHome (S.shown shards.old) (S.shown shards.new) asked.value.channel
+        (λ plan earlier later. IfOk result (λ r. AskedTo plan earlier later (ask_of asked.value)
+        (AskEnds plan later.journal (ask_of asked.value) r))) }
 
     // Where memory was refused: before the Ask stood, or at a grant.
-    ensures unanswered { let s = home (S.plans shards.old) asked.value.channel in
-        (plan : Plan) → slice_get (S.plans shards.old) s ≡ Some plan →
-        OnErr result (AskedTo plan
-        (seen_at (S.alone shards.old) (S.seen shards.old) (S.own shards.old) s)
-        (seen_at (S.alone shards.old) (S.seen shards.new) (S.own shards.new) s)
-        (ask_of asked.value) (Unanswered plan (S.seen shards.new s) (ask_of asked.value))) }
+    ensures unanswered { AtHome (S.shown shards.old) (S.shown shards.new) asked.value.channel
+        (λ plan earlier later. OnErr result (AskedTo plan earlier later (ask_of asked.value)
+        (LacksMemory plan earlier.journal later.journal (ask_of asked.value)))) }
 
-    ensures others { (s : ℕ) → s ≢ home (S.plans shards.old) asked.value.channel →
-        (S.seen shards.new s ≡ S.seen shards.old s) × (S.own shards.new s ≡ S.own shards.old s) }
-    ensures plans { S.plans shards.new ≡ S.plans shards.old }
-    ensures alone { S.alone shards.new ≡ S.alone shards.old }
+    ensures rest { LeavesShards (S.shown shards.old) (S.shown shards.new)
+        (home_of (S.shown shards.old) asked.value.channel) }
 {
     let (place, answer) = step_at_home(rt, alloc, shards, &asked)?;
     match answer {

@@ -1,18 +1,17 @@
 -- What a step and an ask among others come to.
-use Rattle.std.proofs.Common.{◌≡◌, ℕ, zero, suc, ◌+◌, ◌<◌, ◌≤◌, Bool, List, [], ◌∷◌, ◌++◌, length, get_or, Some, refl, sym, ap, ◌∙◌, subst, arith, append_assoc, length-append}
+use Rattle.std.proofs.Common.{◌≡◌, ℕ, ◌+◌, ◌≤◌, Bool, List, [], ◌∷◌, ◌++◌, length, Some, refl, sym, ap, ◌∙◌, subst, arith, length-append}
 use Rattle.std.specs.Prelude.{All}
 use Rattle.std.specs.List.{slice_get}
 use Rattle.std.proofs.lemmas.List.Elements.{All-head}
 use Rattle.proof_cache.specs.Cached.{Cached}
-use Rattle.agent_core.specs.declared.asked.Denial.{Denial}
 use Rattle.agent_core.specs.declared.asked.Settled.{Settled}
 use Rattle.agent_core.specs.declared.told.Told.{Told}
-use Rattle.agent_core.specs.Asked.{AskedTo, IsGrant, IsDeniedAt, by_kept, was_kept, was_dropped, had_no_room}
-use Rattle.agent_core.specs.Journals.{Entry, entry, Begins, Granted, Denied}
-use Rattle.agent_core.specs.State.{Plan, Ask, Event}
-use Rattle.agent_core.specs.Steps.{JournalSeen, StepAnswer, StepsTo}
+use Rattle.agent_core.specs.Asked.{IsGrant, by_kept, was_kept, was_dropped, had_no_room}
+use Rattle.agent_core.specs.Journals.{Entry, entry, Granted}
+use Rattle.agent_core.specs.State.{Plan, Ask}
+use Rattle.agent_core.specs.Steps.{JournalSeen}
 use Rattle.agent_core.proofs.Onward.{begins_on, granted_verdict, hit_verdict, denied_verdict}
-use Rattle.agent_shards.specs.Laws.{AddsOneOwn, IsVerdictThere, StepsAddOne, GrantsAreVerdicts, DenialsAreVerdicts}
+use Rattle.agent_shards.specs.Laws.{IsVerdictThere, StepsAddOne, GrantsAreVerdicts, DenialsAreVerdicts}
 
 last_there : {X : Type 0} (xs : List X) (x : X) → slice_get (xs ++ x ∷ []) (length xs) ≡ Some x
 last_there [] x = refl

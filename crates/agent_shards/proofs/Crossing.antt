@@ -76,10 +76,10 @@ statement_sync : IsSync statement.the_row
 statement_sync = declared_sync statement.the_type (term_sync, (term_sync, tt))
 
 body_send : IsSend body.the_row
-body_send = declared_send body.the_type (u32s, (search (sendable, crosses, as_row_send, option.the_send, term_send), (statement_send, (u64s, (u64s, tt)))))
+body_send = declared_send body.the_type (u32s, (search (sendable, crosses, as_row_send, option.the_send, term_send), (statement_send, (u64s, (u64s, (u64s, tt))))))
 
 body_sync : IsSync body.the_row
-body_sync = declared_sync body.the_type (u32y, (search (sendable, crosses, as_row_sync, option.the_sync, term_sync), (statement_sync, (u64y, (u64y, tt)))))
+body_sync = declared_sync body.the_type (u32y, (search (sendable, crosses, as_row_sync, option.the_sync, term_sync), (statement_sync, (u64y, (u64y, (u64y, tt))))))
 
 pub cert_send : IsSend cert.the_row
 cert_send = declared_send cert.the_type (body_send, (term_send, (search (sendable, as_row_send), tt)))

@@ -1,17 +1,16 @@
 -- Seats at shards: what a pass tells is legal, and a step in a cell is one among others.
-use Rattle.std.proofs.Common.{◌≡◌, ◌≢◌, ℕ, ◌+◌, ◌<◌, ◌≤◌, false, Option, None, Some, List, [], ◌∷◌, ◌++◌, length, map, set, Result, Ok, Err, refl, sym, ap, ◌∙◌, subst, append_assoc, append-nil, arith}
+use Rattle.std.proofs.Common.{◌≡◌, ℕ, ◌<◌, false, Option, None, Some, List, [], ◌∷◌, ◌++◌, length, set, Result, Ok, Err, refl, sym, ap, ◌∙◌, subst, append_assoc, append-nil}
 use Rattle.std.specs.Prelude.{IfOk, OnErr}
 use Rattle.std.specs.List.{AllZip, slice_get}
 use Rattle.std.specs.Option.{option_map}
 use Rattle.std.proofs.lemmas.Bool.{false≢true}
 use Rattle.std.proofs.lemmas.List.{length-map}
 use Rattle.std.proofs.lemmas.Option.{same_Some, slice_get-map, slice_get_within}
-use Rattle.prin_term.specs.declared.term.Anchor.{Anchor}
 use Rattle.agent_core.specs.declared.told.Answer.{Answer}
 use Rattle.agent_core.specs.Answers.{Stepped, SteppedTo, TakesMemory}
 use Rattle.agent_core.specs.Alone.{plans_in}
 use Rattle.agent_core.specs.Journals.{Entry, entry, Begins, ShardSeen, IsMeant, MayFollow, IsLegalJournal, told_at}
-use Rattle.agent_core.specs.Plans.{AreShards}
+use Rattle.agent_core.specs.Shards.{HasPlanAt, StepsAmong, StepsShard, shard_at}
 use Rattle.agent_core.specs.State.{Plan, Event}
 use Rattle.agent_core.specs.Steps.{JournalSeen, StepAnswer, Steps, StepsTo, StepRefused}
 use Rattle.agent_core.proofs.Journaling.{legal_more, meant_on}
@@ -19,9 +18,8 @@ use Rattle.agent_core.proofs.OneOwner.{of_answer, from_answer}
 use Rattle.turn_cell.specs.declared.shares.TheConstants.{ALL_SHARES}
 use Rattle.turn_cell.specs.Journal.{AllAllowed, Grows}
 use Rattle.turn_cell.specs.Known.{Entered, IsPassOf}
-use Rattle.agent_shards.specs.Cells.{IsOpened, IsSplit, IsJoined, AreSplit, AreJoined}
-use Rattle.agent_shards.specs.Each.{Each4}
-use Rattle.agent_shards.specs.Shards.{KnownShard, ShardCell, IsShardPass, ArePasses, IsShardOpened, AreShardsOpened, SeatSeen, StepsInCell, StepsSeat, HasPlanAt, journal_at, journal_of, own_at, places_of, plans_of, sight_at, sight_of}
+use Rattle.agent_shards.specs.Cells.{IsOpened, AreSplit, AreJoined}
+use Rattle.agent_shards.specs.Shards.{KnownShard, ShardCell, IsShardPass, ArePasses, IsShardOpened, AreShardsOpened, SeatSeen, journal_at, journal_of, places_of, plans_of, seat_seen, sight_of}
 use Rattle.agent_shards.proofs.Rows.{each3_long, each3_map, each3_zip, set_other, set_same, zip_at, zip_long, zip_map, zip_there}
 
 -- which entry may follow which, as the cell has it
@@ -98,7 +96,7 @@ module _ (plan : Plan) (p q : KnownShard) (h : Entered Plan Entry) (m m' : Shard
   same_journal same = seen ∙ ap (λ (s : ShardSeen). s.journal) same
 
   pub cell_steps : {E : Type 0} (r : Result (ℕ × Answer) E) → IfOk r (λ x. Stepped m.plan m.journal event m'.journal x.0 x.1) → OnErr r (m' ≡ m) →
-      OnErr r (TakesMemory (told_at m.plan m.journal event)) → OnErr r (length m.journal < m.plan.limit) → StepsInCell plan p q event r
+      OnErr r (TakesMemory (told_at m.plan m.journal event)) → OnErr r (length m.journal < m.plan.limit) → StepsShard plan (sight_of p) (sight_of q) event r
   cell_steps (Ok x) answered unchanged wanted room = record {
     steps = stepped_among plan p q m.journal event grows legal kept' added' x.0 x.1 (stepped_as x answered);
     refused = tt;
@@ -186,7 +184,7 @@ module _ (cells : List ShardCell) (passes : List KnownShard) (are : ArePasses ce
         let (p, there, h) = zip_there IsShardPass cells passes number c are at in
         subst (λ (z : Plan × Option KnownShard). IsLegalJournal z.0 (journal_of z.1)) (λ k. (same_Some c.fixed plan is k, sym there k)) h.legal
 
-    pub seat_legal : HasPlanAt seat number plan → IsLegalJournal plan (journal_at seat number)
+    pub seat_legal : HasPlanAt (seat_seen seat) number plan → IsLegalJournal plan (journal_at seat number)
     seat_legal at = legal_here (slice_get cells number) refl (sym (slice_get-map (λ (x : ShardCell). x.fixed) cells number) ∙ at)
 
   module _ (number : ℕ) (c : ShardCell) (p : KnownShard) (at : slice_get cells number ≡ Some c) (there : slice_get passes number ≡ Some p) where
@@ -196,7 +194,7 @@ module _ (cells : List ShardCell) (passes : List KnownShard) (are : ArePasses ce
     plan_there : slice_get (plans_of cells) number ≡ Some c.fixed
     plan_there = slice_get-map (λ (x : ShardCell). x.fixed) cells number ∙ ap (option_map (λ (x : ShardCell). x.fixed)) at
 
-    pub seat_meant : (event : Event) → ((plan : Plan) → HasPlanAt seat number plan → IsMeant plan (journal_at seat number) event) → IsMeant c.fixed p.seen event
+    pub seat_meant : (event : Event) → ((plan : Plan) → HasPlanAt (seat_seen seat) number plan → IsMeant plan (journal_at seat number) event) → IsMeant c.fixed p.seen event
     seat_meant event meant = subst (λ (o : Option KnownShard). IsMeant c.fixed (journal_of o) event) there (meant c.fixed plan_there)
 
     module _ (q : KnownShard) where
@@ -206,23 +204,19 @@ module _ (cells : List ShardCell) (passes : List KnownShard) (are : ArePasses ce
       here : slice_get (set passes number q) number ≡ Some q
       here = set_same passes number q (slice_get_within passes number p there)
 
-      seen_now : sight_at after number ≡ sight_of q
+      seen_now : shard_at (seat_seen after) number ≡ sight_of q
       seen_now = λ k. record { alone = false; journal = journal_of (here k); own = places_of (here k) }
 
-      seen_then : sight_at seat number ≡ sight_of p
+      seen_then : shard_at (seat_seen seat) number ≡ sight_of p
       seen_then = λ k. record { alone = false; journal = journal_of (there k); own = places_of (there k) }
 
-      planned : (plan : Plan) → HasPlanAt seat number plan → c.fixed ≡ plan
+      planned : (plan : Plan) → HasPlanAt (seat_seen seat) number plan → c.fixed ≡ plan
       planned plan has = same_Some c.fixed plan (sym plan_there ∙ has)
 
-      pub seat_steps : {E : Type 0} (event : Event) (r : Result (ℕ × Answer) E) → StepsInCell c.fixed p q event r → StepsSeat seat after number event r
+      pub seat_steps : {E : Type 0} (event : Event) (r : Result (ℕ × Answer) E) → StepsShard c.fixed (sight_of p) (sight_of q) event r → StepsAmong (seat_seen seat) (seat_seen after) number event r
       seat_steps event r s = record {
-        steps = λ plan has. subst (λ (z : Plan × (JournalSeen × JournalSeen)). IfOk r (λ x. SteppedTo z.0 z.1.0 z.1.1 event x.0 x.1)) (λ k. (planned plan has k, (sym seen_then k, sym seen_now k))) s.steps;
-        refused = λ plan has. subst (λ (z : Plan × (JournalSeen × JournalSeen)). OnErr r (StepRefused z.0 z.1.0 z.1.1)) (λ k. (planned plan has k, (sym seen_then k, sym seen_now k))) s.refused;
-        wanted = λ plan has. subst (λ (z : Plan × JournalSeen). OnErr r (TakesMemory (told_at z.0 z.1.journal event))) (λ k. (planned plan has k, sym seen_now k)) s.wanted;
-        room = λ plan has. subst (λ (z : Plan × JournalSeen). OnErr r (length z.1.journal < z.0.limit)) (λ k. (planned plan has k, sym seen_now k)) s.room;
-        others = λ n other. let e = set_other passes number q n other in (ap journal_of e, ap places_of e);
-        cells = refl;
+        here = λ plan has. subst (λ (z : Plan × (JournalSeen × JournalSeen)). StepsShard z.0 z.1.0 z.1.1 event r) (λ k. (planned plan has k, (sym seen_then k, sym seen_now k))) s;
+        rest = record { plans = refl; alone = refl; others = λ n other. let e = set_other passes number q n other in (ap journal_of e, ap places_of e) };
       }
 
 -- ---- the end

@@ -1,6 +1,5 @@
 -- The shares of passes, place by place: what is divided adds up again.
-use Rattle.std.proofs.Common.{◌≡◌, ℕ, ◌+◌, List, [], ◌∷◌, length, map, refl, sym, ap, ◌∙◌, subst, arith}
-use Rattle.std.specs.Prelude.{All}
+use Rattle.std.proofs.Common.{◌≡◌, ℕ, ◌+◌, List, [], ◌∷◌, refl, ap, ◌∙◌}
 use Rattle.std.proofs.lemmas.List.Elements.{All-cons, All-head, All-nil, All-tail}
 use Rattle.turn_cell.specs.declared.shares.TheConstants.{ALL_SHARES}
 use Rattle.turn_cell.specs.Known.{Cell, Known}

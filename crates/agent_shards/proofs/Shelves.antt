@@ -1,9 +1,9 @@
 -- Seats at objects: what a pass tells is within the limit, and one object at a time is taken and given back.
-use Rattle.std.proofs.Common.{◌≡◌, ◌≢◌, ℕ, ◌+◌, ◌<◌, ◌≤◌, Bool, true, false, cond, Option, None, Some, List, [], ◌∷◌, ◌++◌, length, map, get_or, set, refl, sym, ap, ◌∙◌, subst, arith, inl, inr, length-append}
+use Rattle.std.proofs.Common.{◌≡◌, ℕ, ◌+◌, ◌<◌, ◌≤◌, Bool, true, false, cond, Option, None, Some, List, [], ◌∷◌, ◌++◌, length, map, get_or, set, refl, sym, ap, ◌∙◌, subst, arith, inl, inr, length-append}
 use Rattle.std.specs.Prelude.{◌==◌, is_some, ltb}
 use Rattle.std.specs.declared.alloc.Global.{Global}
 use Rattle.std.specs.declared.vec.Vec.{Vec}
-use Rattle.std.specs.List.{AllZip, position, position_or_len, slice_get}
+use Rattle.std.specs.List.{AllZip, position, slice_get}
 use Rattle.std.specs.Option.{option_map}
 use Rattle.std.proofs.lemmas.Bool.{false≢true, eqb-true}
 use Rattle.std.proofs.lemmas.Bool.Decides.{nat_tests}
@@ -11,17 +11,17 @@ use Rattle.std.proofs.lemmas.List.{length-map}
 use Rattle.std.proofs.lemmas.List.Sums.{passes_at_first}
 use Rattle.std.proofs.lemmas.Option.{cond_some, get_or_from_slice_get, same_Some, slice_get-map, slice_get-get_or, slice_get_past, slice_get_within}
 use Rattle.object_core.specs.Objects.{ObjectEntry, ObjectSeen}
-use Rattle.object_core.specs.Shelving.{ObjectFixed, AreWithin, GoesOn, HaveOwnNumbers, IsBack, fixed_at, fixed_of, numbers_of}
+use Rattle.object_core.specs.Shelving.{ObjectFixed, AreWithin, GivenBack, HaveOwnNumbers, IsBack, TakenFrom, fixed_at, fixed_of, numbers_of}
 use Rattle.object_core.proofs.FindingRows.{fixed_at-place, place_found}
 use Rattle.turn_cell.specs.declared.shares.TheConstants.{ALL_SHARES}
-use Rattle.turn_cell.specs.Journal.{Grows, MayLeave, longer}
-use Rattle.turn_cell.specs.Known.{Entered, IsPassOf}
+use Rattle.turn_cell.specs.Journal.{Grows, MayLeave}
+use Rattle.turn_cell.specs.Known.{IsPassOf}
 use Rattle.turn_cell.proofs.Journals.{longer_has}
 use Rattle.agent_shards.specs.declared.taking.Out.{Out}
 use Rattle.agent_shards.specs.Cells.{IsOpened, AreSplit, AreJoined}
-use Rattle.agent_shards.specs.Objects.{ObjectCell, KnownObject, IsObjectPass, AreObjectPasses, IsObjectOpened, AreObjectsOpened, ShelfSeen, TakesFrom, GivesTo, IsOutOf, IsGiven, IsOutAt, MayBeOut, fixed_in, journal_by, own_on, passes_told, place_among, places_by, seen_on, taken_as}
+use Rattle.agent_shards.specs.Objects.{ObjectCell, KnownObject, IsObjectPass, AreObjectPasses, IsObjectOpened, AreObjectsOpened, RackSeen, IsOutOf, IsGiven, IsOutAt, MayBeOut, fixed_in, journal_by, place_among, places_by, rack_seen, seen_on, taken_as}
 use Rattle.agent_shards.specs.Room.{HasRoom}
-use Rattle.agent_shards.proofs.Rows.{each3_long, each3_map, each3_zip, set_other, set_same, zip_at, zip_set, zip_there, zip_map}
+use Rattle.agent_shards.proofs.Rows.{each3_long, each3_map, each3_zip, set_other, set_same, zip_there, zip_map}
 
 -- ---- passes of all objects
 
@@ -179,34 +179,32 @@ module _ (cells : List ObjectCell) where
 -- ---- taking and giving back
 
 module _ (cells : List ObjectCell) (passes : List KnownObject) where
-  abbrev pub resting : ShelfSeen
+  abbrev pub resting : RackSeen
   resting = record { cells = cells; passes = passes; taken = None }
 
-  pub takes_none : (number : ℕ) → position (λ n. n == number) (numbers_of (fixed_in cells)) ≡ None → TakesFrom resting resting number None
+  pub takes_none : (number : ℕ) → position (λ n. n == number) (numbers_of (fixed_in cells)) ≡ None → TakenFrom (rack_seen resting) (rack_seen resting) number None
   takes_none number none = record {
     found = fixed_missing cells number none;
     journal = tt;
     taken = refl;
-    passes = refl;
-    cells = refl;
+    rest = record { objects = refl; alone = refl; seen = refl; own = refl };
   }
 
   module _ (place : ℕ) (c : ObjectCell) (p : KnownObject) (at : slice_get cells place ≡ Some c) (there : slice_get passes place ≡ Some p) where
-    abbrev out_with : ObjectSeen → ShelfSeen
+    abbrev out_with : ObjectSeen → RackSeen
     out_with o = record { cells = cells; passes = passes; taken = Some o }
 
-    pub takes_one : (number : ℕ) (o : ObjectSeen) → place_among cells number ≡ place → fixed_of o ≡ c.fixed → Grows HasRoom c.fixed p.seen o.journal → TakesFrom resting (out_with o) number (Some o)
+    pub takes_one : (number : ℕ) (o : ObjectSeen) → place_among cells number ≡ place → fixed_of o ≡ c.fixed → Grows HasRoom c.fixed p.seen o.journal → TakenFrom (rack_seen resting) (rack_seen (out_with o)) number (Some o)
     takes_one number o same fixed grows =
         let seen : seen_on resting number ≡ p.seen = ap (λ n. journal_by (slice_get passes n)) same ∙ ap journal_by there in record {
           found = fixed_found cells number place c same at ∙ ap Some (sym fixed);
           journal = record { others = grows.0; goes_on = grows.1 ∙ ap (λ (j : List ObjectEntry). j ++ grows.0) (sym seen); undisturbed = λ e. absurd (false≢true e) };
           taken = refl;
-          passes = refl;
-          cells = refl;
+          rest = record { objects = refl; alone = refl; seen = refl; own = refl };
         }
 
     module _ (was o : ObjectSeen) (q : KnownObject) (found : place_among cells c.fixed.plan.number ≡ place) (fixed : fixed_of was ≡ c.fixed) (back : IsBack was o) (g : IsGiven c was p q o) where
-      abbrev back_with : ShelfSeen
+      abbrev back_with : RackSeen
       back_with = record { cells = cells; passes = set passes place q; taken = None }
 
       its_number : o.plan.number ≡ c.fixed.plan.number
@@ -221,7 +219,7 @@ module _ (cells : List ObjectCell) (passes : List KnownObject) where
       was_there : slice_get passes (place_among cells o.plan.number) ≡ Some p
       was_there = ap (slice_get passes) its_place ∙ there
 
-      pub gives_one : GivesTo (out_with was) back_with o
+      pub gives_one : GivenBack (rack_seen (out_with was)) (rack_seen back_with) o
       gives_one = record {
         seen = ap journal_by now_there ∙ g.seen;
         kept = λ w is stays.
@@ -231,8 +229,11 @@ module _ (cells : List ObjectCell) (passes : List KnownObject) where
             ap places_by now_there ∙ (g.added e (more ∙ ap (λ (x : ObjectSeen). x.journal ++ e ∷ []) (sym same))
             ∙ (ap (λ (x : ObjectSeen). p.own ++ length x.journal ∷ []) same ∙ ap (λ (l : List ℕ). l ++ length w.journal ∷ []) (ap places_by (sym was_there))));
         taken = refl;
-        others = λ n ne. let e = set_other passes place q (place_among cells n) (elsewhere cells place c n at (λ same. ne (same ∙ sym its_number))) in (ap journal_by e, ap places_by e);
-        cells = refl;
+        rest = record {
+          objects = refl;
+          alone = refl;
+          others = λ n ne. let e = set_other passes place q (place_among cells n) (elsewhere cells place c n at (λ same. ne (same ∙ sym its_number))) in (ap journal_by e, ap places_by e);
+        };
       }
 
   module _ (now : Vec KnownObject Global) (out : Out) (place : ℕ) (c : ObjectCell) (at : slice_get cells place ≡ Some c) (is : IsOutOf c now out) (placed : out.place ≡ place) where
@@ -240,19 +241,19 @@ module _ (cells : List ObjectCell) (passes : List KnownObject) where
     out_at own = record { cell = c; its_cell = ap (slice_get cells) placed ∙ at; found = found_at cells own place c at ∙ sym placed; is = is }
 
     pub taken : (number : ℕ) (o : ObjectSeen) → place_among cells number ≡ place → out.passes.value.items ≡ passes → out.object.value ≡ o →
-        TakesFrom resting (record { cells = cells; passes = out.passes.value.items; taken = Some out.object.value }) number (Some o)
+        TakenFrom (rack_seen resting) (rack_seen (record { cells = cells; passes = out.passes.value.items; taken = Some out.object.value })) number (Some o)
     taken number o same before object =
         let there : slice_get passes place ≡ Some is.pass = (λ k. slice_get (sym before k) (sym placed k)) ∙ is.its_pass in
-        subst (λ (z : List KnownObject × Option ObjectSeen). TakesFrom resting (record { cells = cells; passes = z.0; taken = Some out.object.value }) number z.1) (λ k. (sym before k, Some (object k)))
+        subst (λ (z : List KnownObject × Option ObjectSeen). TakenFrom (rack_seen resting) (rack_seen (record { cells = cells; passes = z.0; taken = Some out.object.value })) number z.1) (λ k. (sym before k, Some (object k)))
         (takes_one place c is.pass at there number out.object.value same is.its_fixed is.grows)
 
 -- the object that is out is given back
 pub given : (cells : List ObjectCell) (now nows : Vec KnownObject Global) (out : Out) (one : IsOutAt cells now out) (c : ObjectCell) (p q : KnownObject) (was o : ObjectSeen) →
     slice_get cells out.place ≡ Some c → slice_get out.passes.value.items out.place ≡ Some p → nows.items ≡ set out.passes.value.items out.place q → IsGiven c out.object.value p q o → Some out.object.value ≡ Some was → IsBack was o →
-    GivesTo (record { cells = cells; passes = out.passes.value.items; taken = Some out.object.value }) (record { cells = cells; passes = nows.items; taken = None }) o
+    GivenBack (rack_seen (record { cells = cells; passes = out.passes.value.items; taken = Some out.object.value })) (rack_seen (record { cells = cells; passes = nows.items; taken = None })) o
 given cells now nows out one c p q was o at there put g told back =
     let same : one.cell ≡ c = same_Some one.cell c (sym one.its_cell ∙ at) in
-    subst (λ (l : List KnownObject). GivesTo (record { cells = cells; passes = out.passes.value.items; taken = Some out.object.value }) (record { cells = cells; passes = l; taken = None }) o) (sym put)
+    subst (λ (l : List KnownObject). GivenBack (rack_seen (record { cells = cells; passes = out.passes.value.items; taken = Some out.object.value })) (rack_seen (record { cells = cells; passes = l; taken = None })) o) (sym put)
     (gives_one cells out.passes.value.items out.place c p at there out.object.value o q
     (ap (λ (x : ObjectCell). place_among cells x.fixed.plan.number) (sym same) ∙ one.found)
     (one.is.its_fixed ∙ ap (λ (x : ObjectCell). x.fixed) same)
@@ -276,7 +277,7 @@ module _ (cells : List ObjectCell) (passes : List KnownObject) (are : AreObjectP
       let (p, there, h) = zip_there IsObjectPass cells passes (place_among cells number) c are here in
       subst (λ (z : ObjectFixed × Option KnownObject). length (journal_by z.1) ≤ z.0.limit) (λ k. (same_Some c.fixed f is k, sym there k)) h.within
 
-pub told_within : (s : ShelfSeen) → AreObjectPasses s.cells s.passes → AreWithin (fixed_in s.cells) (seen_on s)
+pub told_within : (s : RackSeen) → AreObjectPasses s.cells s.passes → AreWithin (fixed_in s.cells) (seen_on s)
 told_within s are number f at =
     within_at s.cells s.passes are number f (slice_get s.cells (place_among s.cells number)) refl
     (sym (slice_get-map (λ (x : ObjectCell). x.fixed) s.cells (place_among s.cells number)) ∙ (sym (fixed_at-place (fixed_in s.cells) number) ∙ at))

@@ -1,10 +1,10 @@
 -- Objects in cells, and a seat at them.
-use Rattle.std.specs.Prelude.{◌≡◌, ◌≢◌, ℕ, ◌<◌, ◌≤◌, ◌==◌, false, List, [], ◌∷◌, ◌++◌, length, map, Option, None, Some, slice_get, IfSome, MatchOption, vec_capacity, vec_len}
+use Rattle.std.specs.Prelude.{◌≡◌, ℕ, ◌<◌, ◌≤◌, ◌==◌, false, List, [], ◌∷◌, ◌++◌, length, map, Option, None, Some, slice_get, vec_capacity, vec_len}
 use Rattle.std.specs.declared.alloc.Global.{Global}
 use Rattle.std.specs.declared.vec.Vec.{Vec}
 use Rattle.std.specs.List.{AllZip, position_or_len, remove}
 use Rattle.object_core.specs.Objects.{ObjectEntry, ObjectSeen}
-use Rattle.object_core.specs.Shelving.{ObjectFixed, GoesOn, fixed_at, fixed_of, numbers_of}
+use Rattle.object_core.specs.Shelving.{ObjectFixed, ShelfSeen, fixed_of, numbers_of}
 use Rattle.turn_cell.specs.Journal.{Grows}
 use Rattle.turn_cell.specs.Known.{Cell, Known, IsHeldOf, IsPassOf}
 use Rattle.agent_shards.specs.declared.taking.Out.{Out}
@@ -56,7 +56,7 @@ AreObjectsClosed cells passes objects = Each3 IsObjectClosed cells passes object
 -- ---- a seat
 
 -- a seat at objects, as contracts see it
-pub record ShelfSeen : Type 0 where
+pub record RackSeen : Type 0 where
   pub cells : List ObjectCell
   -- the passes that sit there, in order; that of the object that is taken as it was before
   pub passes : List KnownObject
@@ -78,34 +78,22 @@ places_by None = []
 places_by (Some p) = p.own
 
 -- what was seen of the object of this number
-abbrev pub seen_on : ShelfSeen → ℕ → List ObjectEntry
+abbrev pub seen_on : RackSeen → ℕ → List ObjectEntry
 seen_on s number = journal_by (slice_get s.passes (place_among s.cells number))
 
 -- the own places in it
-abbrev pub own_on : ShelfSeen → ℕ → List ℕ
+abbrev pub own_on : RackSeen → ℕ → List ℕ
 own_on s number = places_by (slice_get s.passes (place_among s.cells number))
 
--- the object of the number is taken, if there is one
-pub record TakesFrom (s t : ShelfSeen) (number : ℕ) (r : Option ObjectSeen) : Type 0 where
-  pub found : MatchOption r (fixed_at (fixed_in s.cells) number ≡ None)
-      (λ o. fixed_at (fixed_in s.cells) number ≡ Some (fixed_of o))
-  pub journal : IfSome r (GoesOn false (seen_on s number))
-  pub taken : t.taken ≡ r
-  pub passes : t.passes ≡ s.passes
-  pub cells : t.cells ≡ s.cells
-
--- the object that was taken is given back
-pub record GivesTo (s t : ShelfSeen) (o : ObjectSeen) : Type 0 where
-  pub seen : seen_on t o.plan.number ≡ o.journal
-  pub kept : (was : ObjectSeen) → s.taken ≡ Some was → o.journal ≡ was.journal →
-      own_on t o.plan.number ≡ own_on s o.plan.number
-  pub added : (was : ObjectSeen) (e : ObjectEntry) → s.taken ≡ Some was →
-      o.journal ≡ was.journal ++ e ∷ [] →
-      own_on t o.plan.number ≡ own_on s o.plan.number ++ length was.journal ∷ []
-  pub taken : t.taken ≡ None
-  pub others : (n : ℕ) → n ≢ o.plan.number →
-      (seen_on t n ≡ seen_on s n) × (own_on t n ≡ own_on s n)
-  pub cells : t.cells ≡ s.cells
+-- what is shown at a seat: others may take the objects too
+abbrev pub rack_seen : RackSeen → ShelfSeen
+rack_seen s = record {
+  objects = fixed_in s.cells;
+  alone = false;
+  seen = λ number. seen_on s number;
+  own = λ number. own_on s number;
+  taken = s.taken;
+}
 
 -- ---- what is kept while an object is taken
 

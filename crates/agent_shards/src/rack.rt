@@ -125,6 +125,14 @@ impl Rack {
         close_objects(cells, passes.passes, room)
     }
 
+    // Says that the objects have numbers of their own.
+    pub(crate) fn known(&self)
+        ensures { HaveOwnNumbers (fixed_in self.now) }
+    {
+        // What is kept says so.
+        let _cells = &self.cells;
+    }
+
     // The place of the object of the number.
     pub(crate) fn place_of(&self, number: u32) -> Option<usize>
         ensures place { result ≡ position (λ n. n == number) (numbers_of (fixed_in self.now)) }

@@ -1,12 +1,11 @@
 //! A seat at the shards of an agent.
 
-ghost use Rattle.std.specs.Prelude.{◌≡◌, ◌<◌, Some, false, length, slice_get};
+ghost use Rattle.std.specs.Prelude.{◌≡◌, ◌<◌, length};
 ghost use Rattle.agent_core.specs.Answers.{FitsEvent};
-ghost use Rattle.agent_core.specs.Journals.{IsMeant};
-ghost use Rattle.agent_core.specs.State.{Plan};
+ghost use Rattle.agent_core.specs.Shards.{IsMeantAt, StepsAmong};
 ghost use Rattle.agent_core.specs.Views.{event_of};
 ghost use Rattle.agent_shards.specs.Cells.{shares_of};
-ghost use Rattle.agent_shards.specs.Shards.{ArePasses, StepsSeat, journal_at, own_at, plans_of};
+ghost use Rattle.agent_shards.specs.Shards.{ArePasses, plans_of, seat_seen};
 
 use crate::agent::Agent;
 use crate::cells::{put_back, take_out};
@@ -72,10 +71,10 @@ impl<'a, K: OfAgent> Seated<'a, K> {
         event: Event,
     ) -> Result<(u64, Answer), AllocError>
         requires there { number < length (plans_of self.old.cells) }
-        requires meant { (plan : Plan) → slice_get (plans_of self.old.cells) number ≡ Some plan
-            → IsMeant plan (journal_at self.old number) (event_of event) }
+        requires meant { IsMeantAt (seat_seen self.old) number (event_of event) }
         requires fits { FitsEvent (event_of event) }
-        ensures { StepsSeat self.old self.new number (event_of event) result }
+        ensures { StepsAmong (seat_seen self.old) (seat_seen self.new) number (event_of event)
+            result }
     {
         let place = number as usize;
         let pass = take_out(&mut self.passes, place);
@@ -86,13 +85,11 @@ impl<'a, K: OfAgent> Seated<'a, K> {
 }
 
 impl<'a, K: OfAgent> Shards for Seated<'a, K> {
-    ghost plans = { λ s. plans_of s.cells };
+    ghost shown = { λ s. seat_seen s };
 
-    ghost seen = { λ s number. journal_at s number };
-
-    ghost own = { λ s number. own_at s number };
-
-    ghost alone = { λ s. false };
+    fn known(&self) {
+        self.agent.known();
+    }
 
     fn count(&self) -> u32 {
         self.agent.count()

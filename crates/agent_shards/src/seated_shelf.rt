@@ -1,10 +1,10 @@
 //! A seat at the objects of a rack.
 
-ghost use Rattle.std.specs.Prelude.{◌≡◌, None, Some, false};
+ghost use Rattle.std.specs.Prelude.{◌≡◌, None, Some};
 ghost use Rattle.agent_shards.specs.Cells.{shares_of};
-ghost use Rattle.agent_shards.specs.Objects.{AreObjectPasses, GivesTo, TakesFrom, fixed_in, own_on, seen_on};
+ghost use Rattle.agent_shards.specs.Objects.{AreObjectPasses, rack_seen};
 ghost use Rattle.object_core.specs.Objects.{ObjectSeen};
-ghost use Rattle.object_core.specs.Shelving.{IsBack};
+ghost use Rattle.object_core.specs.Shelving.{GivenBack, IsBack, TakenFrom};
 
 use crate::guarded::Guarded;
 use crate::rack::Rack;
@@ -32,9 +32,9 @@ impl<'a, K: OfRack> Model for SeatedShelf<'a, K> {
     ghost use Rattle.std.specs.Coded.{codes};
     ghost use Rattle.prin_term.specs.Codes.{principal_code};
     ghost use Rattle.agent_shards.specs.Cells.{shares_of};
-    ghost use Rattle.agent_shards.specs.Objects.{AreObjectPasses, MayBeOut, ShelfSeen, passes_told, taken_as};
+    ghost use Rattle.agent_shards.specs.Objects.{AreObjectPasses, MayBeOut, RackSeen, passes_told, taken_as};
 
-    ghost Value = { ShelfSeen };
+    ghost Value = { RackSeen };
 
     ghost coded = { Prim.hlevel (codes, principal_code) };
 
@@ -74,7 +74,7 @@ impl<'a, K: OfRack> SeatedShelf<'a, K> {
     // The object of the number, if there is one.
     fn take_one<W: Wait>(&mut self, rt: &W, number: u32) -> Option<Object>
         requires { self.old.taken ≡ None }
-        ensures { TakesFrom self.old self.new number result }
+        ensures { TakenFrom (rack_seen self.old) (rack_seen self.new) number result }
     {
         let place = self.rack.place_of(number)?;
         let (object, out) = enter_at(rt, self.rack.cell(place), &mut self.passes, place);
@@ -86,7 +86,7 @@ impl<'a, K: OfRack> SeatedShelf<'a, K> {
     // The object that was taken is back.
     fn give_one(&mut self, object: Object)
         requires { (was : ObjectSeen) × (self.old.taken ≡ Some was) × IsBack was object }
-        ensures { GivesTo self.old self.new object }
+        ensures { GivenBack (rack_seen self.old) (rack_seen self.new) object }
     {
         let out = self.out.take().unwrap();
         leave_at(self.rack.cell(out.place), &mut self.passes, out, object);
@@ -94,15 +94,11 @@ impl<'a, K: OfRack> SeatedShelf<'a, K> {
 }
 
 impl<'a, K: OfRack> Shelf for SeatedShelf<'a, K> {
-    ghost objects = { λ s. fixed_in s.cells };
+    ghost shown = { λ s. rack_seen s };
 
-    ghost seen = { λ s number. seen_on s number };
-
-    ghost own = { λ s number. own_on s number };
-
-    ghost taken = { λ s. s.taken };
-
-    ghost alone = { λ s. false };
+    fn known(&self) {
+        self.rack.known();
+    }
 
     fn has(&self, number: u32) -> bool {
         self.rack.place_of(number).is_some()

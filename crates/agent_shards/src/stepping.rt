@@ -3,8 +3,9 @@
 ghost use Rattle.std.specs.Prelude.{◌≡◌};
 ghost use Rattle.agent_core.specs.Answers.{FitsEvent};
 ghost use Rattle.agent_core.specs.Journals.{IsMeant};
+ghost use Rattle.agent_core.specs.Shards.{StepsShard};
 ghost use Rattle.agent_core.specs.Views.{event_of};
-ghost use Rattle.agent_shards.specs.Shards.{IsShardPass, StepsInCell};
+ghost use Rattle.agent_shards.specs.Shards.{IsShardPass, sight_of};
 
 use crate::machine::Machine;
 use agent_core::{Answer, Event};
@@ -27,7 +28,8 @@ pub(crate) fn step_in<W: Wait>(
     requires fits { FitsEvent (event_of event) }
     ensures pass { IsShardPass cell.now result.1 }
     ensures shares { result.1.shares ≡ pass.shares }
-    ensures steps { StepsInCell cell.now.fixed pass result.1 (event_of event) result.0 }
+    ensures steps { StepsShard cell.now.fixed (sight_of pass) (sight_of result.1) (event_of event)
+        result.0 }
 {
     let (mut machine, held) = cell.enter(rt, pass);
     let answer = machine.step(alloc, event);

@@ -7,10 +7,10 @@ use std::test::*;
 use stmt_codec::{Cert, CertBody};
 use taos_calculus::{Fact, Line, Node, Proof, Step};
 
-// Key 1 says that key 2 speaks for name 10.
-fn hand_off(alloc: Global) -> Result<Arc<Cert>, Fail> {
+// Key 1 says that key 2 speaks for name 10, from a moment on.
+fn hand_off(alloc: Global, from: u64) -> Result<Arc<Cert>, Fail> {
     let body = CertBody::says(1, None, Term::Key(2), Term::Name(10), 2000, 1);
-    Ok(Arc::new(alloc, Cert::of(alloc, body)?)?)
+    Ok(Arc::new(alloc, Cert::of(alloc, body.beginning(from))?)?)
 }
 
 // That key 2 speaks for name 10, by the anchor of key 1 and its hand-off.
@@ -223,16 +223,74 @@ fn is_told(
     }
 }
 
+// The same, where what the proof cites begins at 1500: the Ask's moment counts, and not the clock
+// when the proof comes.
+const LATER: &[(u64, Deed, Option<Told>)] = &[
+    (
+        0,
+        Asks {
+            seq: 1,
+            reading: 1499,
+        },
+        Some(Told::Miss),
+    ),
+    (1, Keeps { ask: 0 }, None),
+    (
+        1,
+        Asks {
+            seq: 2,
+            reading: 1500,
+        },
+        Some(Told::Miss),
+    ),
+    (2, Keeps { ask: 0 }, None),
+    // a clock that goes back is not believed
+    (
+        2,
+        Asks {
+            seq: 3,
+            reading: 10,
+        },
+        Some(Told::Miss),
+    ),
+    (3, Keeps { ask: 2 }, Some(Told::Kept)),
+    (4, Keeps { ask: 1 }, Some(Told::Kept)),
+    (
+        5,
+        Asks {
+            seq: 4,
+            reading: 10,
+        },
+        Some(Told::Hit { entry: 1 }),
+    ),
+];
+
+// The place of the deed that is told otherwise, if there is one.
+fn odd_one(
+    alloc: Global,
+    cert: &Arc<Cert>,
+    deeds: &[(u64, Deed, Option<Told>)],
+) -> Result<Option<u64>, Fail> {
+    let mut shard = shard(alloc)?;
+    for &(place, deed, told) in deeds {
+        let event = event_of(alloc, deed, cert)?;
+        if !is_told(alloc, &mut shard, event, place, told)? {
+            return Ok(Some(place));
+        }
+    }
+    Ok(None)
+}
+
 #[test]
 fn a_proof_is_kept_until_its_lease_or_what_it_cites_ends(rt: HostRuntime) -> Result<(), Fail> {
-    let cert = hand_off(rt.alloc())?;
-    let mut shard = shard(rt.alloc())?;
-    for &(place, deed, told) in DEEDS {
-        let event = event_of(rt.alloc(), deed, &cert)?;
-        assert!(rt;
-            is_told(rt.alloc(), &mut shard, event, place, told)?,
-            "at {place}"
-        );
-    }
+    let cert = hand_off(rt.alloc(), 0)?;
+    assert!(rt; odd_one(rt.alloc(), &cert, DEEDS)? == None);
+    Ok(())
+}
+
+#[test]
+fn a_proof_is_kept_where_what_it_cites_had_begun(rt: HostRuntime) -> Result<(), Fail> {
+    let cert = hand_off(rt.alloc(), 1500)?;
+    assert!(rt; odd_one(rt.alloc(), &cert, LATER)? == None);
     Ok(())
 }

@@ -24,6 +24,18 @@ const QUOTING: [u8; 42] = [
     0, 7, 0, 0, 0, 0, 0, 0, 0, 8,
 ];
 
+// The hand-off from 1500 on: a body of version 2.
+const LATER: [u8; 40] = [
+    2, 0, 0, 0, 1, 0, 1, 0, 0, 0, 2, 2, 0, 0, 0, 10, 0, 0, 0, 0, 0, 0, 5, 220, 0, 0, 0, 0, 0, 0, 7,
+    208, 0, 0, 0, 0, 0, 0, 0, 1,
+];
+
+// Its SHA-256, by Python's hashlib.
+const LATER_DIGEST: [u8; 32] = [
+    234, 51, 195, 185, 214, 16, 19, 20, 7, 236, 140, 161, 132, 136, 226, 59, 48, 158, 50, 63, 154,
+    83, 201, 179, 17, 187, 220, 154, 106, 148, 35, 179,
+];
+
 // Key 1 says that the names 1 to 7 and 0, joined by seven Ands, speak for the name 0: with the key
 // sixteen distinct subterms.
 const JOINED: [u8; 74] = [
@@ -105,6 +117,15 @@ fn a_hand_off_is_read_and_written_back(rt: HostRuntime) -> Result<(), Fail> {
     Ok(())
 }
 
+#[test]
+fn a_body_that_begins_later_is_read_and_written_back(rt: HostRuntime) -> Result<(), Fail> {
+    assert!(rt; comes_back(rt.alloc(), &LATER)?);
+    assert!(rt; is_made_again(rt.alloc(), &LATER)?);
+    let cert = read(rt.alloc(), &LATER)?;
+    assert!(rt; cert.body.from == 1500 && cert.body.until == 2000 && cert.digest == LATER_DIGEST);
+    Ok(())
+}
+
 // Whether the speaker is key 9 quoting name 3.
 fn is_quoting(cert: &Cert) -> bool {
     matches!(cert.speaker.part(1), Some(Term::Key(9)))
@@ -132,6 +153,7 @@ fn a_body_is_the_same_as_itself_alone(rt: HostRuntime) -> Result<(), Fail> {
     assert!(rt; are_same(rt.alloc(), &HAND_OFF, &HAND_OFF)?);
     assert!(rt; !are_same(rt.alloc(), &HAND_OFF, &QUOTING)?);
     assert!(rt; !are_same(rt.alloc(), &QUOTING, &HAND_OFF)?);
+    assert!(rt; !are_same(rt.alloc(), &LATER, &HAND_OFF)?);
     Ok(())
 }
 
@@ -139,6 +161,15 @@ fn a_body_is_the_same_as_itself_alone(rt: HostRuntime) -> Result<(), Fail> {
 fn a_certificate_ends_at_its_moment(rt: HostRuntime) -> Result<(), Fail> {
     let cert = read(rt.alloc(), &HAND_OFF)?;
     assert!(rt; cert.is_live(1999) && !cert.is_live(2000) && !cert.is_live(2001));
+    Ok(())
+}
+
+#[test]
+fn a_certificate_begins_at_its_moment(rt: HostRuntime) -> Result<(), Fail> {
+    let cert = read(rt.alloc(), &LATER)?;
+    assert!(rt; !cert.is_live(0) && !cert.is_live(1499) && !cert.is_dead(1499));
+    assert!(rt; cert.is_live(1500) && cert.is_live(1999) && !cert.is_dead(1999));
+    assert!(rt; !cert.is_live(2000) && cert.is_dead(2000));
     Ok(())
 }
 
@@ -156,9 +187,10 @@ fn is_refused_when_cut(alloc: Global, bytes: &[u8]) -> bool {
 fn each_proper_prefix_is_refused_at_its_length(rt: HostRuntime) {
     assert!(rt; is_refused_when_cut(rt.alloc(), &HAND_OFF));
     assert!(rt; is_refused_when_cut(rt.alloc(), &QUOTING));
+    assert!(rt; is_refused_when_cut(rt.alloc(), &LATER));
 }
 
-const WRONG: &[(usize, u8)] = &[(0, 2), (0, 0), (5, 2), (6, 0), (11, 7)];
+const WRONG: &[(usize, u8)] = &[(0, 3), (0, 0), (5, 2), (6, 0), (11, 7)];
 
 // What is answered where another byte stands at a place.
 fn fault_with(alloc: Global, place: usize, byte: u8) -> Option<BodyFault> {
@@ -181,12 +213,24 @@ fn the_first_wrong_byte_is_named(rt: HostRuntime) {
 }
 
 #[test]
+fn a_beginning_of_0_is_refused_at_its_first_byte(rt: HostRuntime) {
+    let mut bytes = LATER;
+    bytes[22] = 0;
+    bytes[23] = 0;
+    assert!(rt; fault_of(rt.alloc(), &bytes, 0) == malformed(16));
+    assert!(rt; fault_of(rt.alloc(), &bytes[..24], 0) == malformed(16));
+    assert!(rt; fault_of(rt.alloc(), &bytes[..20], 0) == malformed(20));
+}
+
+#[test]
 fn sixteen_distinct_subterms_are_read_and_seventeen_refused(rt: HostRuntime) -> Result<(), Fail> {
     assert!(rt; comes_back(rt.alloc(), &JOINED)?);
     assert!(rt; is_made_again(rt.alloc(), &JOINED)?);
     // Another name besides.
     let mut more = JOINED;
     more[57] = 8;
+    assert!(rt; fault_of(rt.alloc(), &more, 0) == malformed(58));
+    more[0] = 2;
     assert!(rt; fault_of(rt.alloc(), &more, 0) == malformed(58));
     Ok(())
 }

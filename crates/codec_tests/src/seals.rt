@@ -160,7 +160,7 @@ fn the_other_kind_is_named(rt: HostRuntime) -> Result<(), Fail> {
 }
 
 // No kind, no version, neither quoting nor not, no term, no term.
-const WRONG: &[(usize, u8)] = &[(0, 0), (0, 3), (1, 2), (6, 2), (7, 0), (12, 7)];
+const WRONG: &[(usize, u8)] = &[(0, 0), (0, 3), (1, 3), (6, 2), (7, 0), (12, 7)];
 
 #[test]
 fn a_byte_that_cannot_stand_there_is_refused_at_its_place(rt: HostRuntime) {

@@ -1,18 +1,11 @@
 -- What is appended is made of bytes, opens again, and fits a request.
-use Rattle.std.proofs.Common.{ℕ, ◌-◌, ◌≤◌, List, [], ◌∷◌, ◌++◌, length, All, Option, Some, None, refl, sym, subst, append-nil, arith, length-append, length-take}
-use Rattle.std.specs.Int.{w32, w64, to_be_bytes}
+use Rattle.std.proofs.Common.{ℕ, ◌-◌, ◌≤◌, List, length, All, refl, sym, subst, arith, length-append, length-take}
 use Rattle.std.proofs.lemmas.List.{length-map}
 use Rattle.std.proofs.lemmas.List.Elements.{All-nil, All-cons, All-append}
-use Rattle.byte_fields.specs.Steps.{optional}
-use Rattle.byte_fields.proofs.FieldLaws.{IsBytes, IsBytes-append, IsBytes-cons, IsBytes-number, bytes_are}
-use Rattle.byte_fields.proofs.ReaderLaws.{IsBytes-front}
-use Rattle.keyed_seal.specs.Tag.{tag_of}
-use Rattle.keyed_seal.proofs.Tags.{bytes-tag_of}
-use Rattle.prin_term.specs.Principal.{Principal, spelling}
-use Rattle.prin_term.proofs.Terms.{spelling_bytes}
-use Rattle.sealed_cert.specs.Seals.{sealed, sealed_text, Opens}
+use Rattle.sealed_cert.specs.Seals.{sealed, Opens}
+use Rattle.sealed_cert.proofs.SealedBytes.{relayed_bytes}
 use Rattle.sealed_cert.proofs.Sizes.{short_sealed}
-use Rattle.stmt_codec.specs.Certificates.{Certificate, body_spelling, IsWithinLimits, HasBodySpelling}
+use Rattle.stmt_codec.specs.Certificates.{Certificate, IsWithinLimits, HasBodySpelling}
 use Rattle.relay_core.specs.Credentials.{LinkCall, Comes, by_node, by_relay}
 use Rattle.taos_wire.specs.Request.{Request, FitsRequest, IsCertText}
 use Rattle.cred_pull.specs.declared.pulling.Pulled.{Pulled}
@@ -43,35 +36,8 @@ pulled_open key texts calls certs (one_more (too_long long) behind) = pulled_ope
 
 -- ---- what is appended fits a request
 
-none : IsBytes []
-none i = omega arith
-
-optional_bytes : (o : Option Principal) → IsBytes (optional spelling o)
-optional_bytes None = IsBytes-cons 0 [] (omega arith) none
-optional_bytes (Some p) = IsBytes-cons 1 (spelling p) (omega arith) (spelling_bytes p)
-
-body_bytes : (c : Certificate) → IsBytes (body_spelling c)
-body_bytes c =
-    let one = 1 ∷ [] ++ to_be_bytes w32 c.issuer in
-    let two = one ++ optional spelling c.quoted in
-    let three = two ++ spelling c.left in
-    let four = three ++ spelling c.right in
-    let first : IsBytes one = IsBytes-cons 1 (to_be_bytes w32 c.issuer) (omega arith) (IsBytes-number w32 c.issuer) in
-    let second : IsBytes two = IsBytes-append one (optional spelling c.quoted) first (optional_bytes c.quoted) in
-    let third : IsBytes three = IsBytes-append two (spelling c.left) second (spelling_bytes c.left) in
-    let fourth : IsBytes four = IsBytes-append three (spelling c.right) third (spelling_bytes c.right) in
-    IsBytes-append (four ++ to_be_bytes w64 c.until) (to_be_bytes w64 c.serial) (IsBytes-append four (to_be_bytes w64 c.until) fourth (IsBytes-number w64 c.until)) (IsBytes-number w64 c.serial)
-
-sealed_bytes : (key : List ℕ) (c : Certificate) → IsBytes (sealed 2 key c)
-sealed_bytes key c =
-    let tag = tag_of key (sealed_text 2 c) in
-    IsBytes-append (sealed_text 2 c) tag (IsBytes-cons 2 (body_spelling c) (omega arith) (body_bytes c)) (bytes_are tag (bytes-tag_of key (sealed_text 2 c)))
-
 form_fits : (key : List ℕ) (c : Certificate) → IsSpelled c → IsCertText (sealed 2 key c)
-form_fits key c is = (
-  omega (arith, short_sealed 2 key c is.limits),
-  IsBytes-front (sealed 2 key c) [] (subst IsBytes (sym (append-nil (sealed 2 key c))) (sealed_bytes key c)),
-)
+form_fits key c is = (omega (arith, short_sealed 2 key c is.limits), relayed_bytes key c)
 
 forms_fit : (key : List ℕ) (texts : Texts) (calls : List LinkCall) (certs : List Certificate) → ArePulled key texts calls certs → All IsCertText (forms_of key certs)
 forms_fit key texts calls certs none_more = All-nil IsCertText

@@ -4,6 +4,7 @@ use Rattle.file_lines.specs.declared.fault.FileCause.{FileCause}
 use Rattle.file_lines.specs.declared.fault.FileCause.TheVariants as files
 use Rattle.file_lines.specs.declared.fault.FileFault.{FileFault}
 use Rattle.file_lines.specs.declared.fault.FileFault.TheVariants as faults
+use Rattle.file_lines.specs.FileLines.{IsFaultOf}
 use Rattle.file_lines.specs.LineView.{SoFar}
 use Rattle.cred_pull.specs.declared.wallet.Wallet.{Wallet}
 use Rattle.cred_pull.specs.declared.wallet.WalletLine.{WalletLine}
@@ -66,6 +67,4 @@ wallet_cause files.NoNode = causes.Words
 
 -- the fault is one of a wallet file
 abbrev pub IsWalletFault : FileFault → Type 0
-IsWalletFault (faults.Line line cause) = file_cause (wallet_cause cause) ≡ cause
-IsWalletFault (faults.Byte offset) = ⊥
-IsWalletFault faults.NoMemory = Unit {0}
+IsWalletFault fault = IsFaultOf (λ cause. file_cause (wallet_cause cause) ≡ cause) fault

@@ -17,8 +17,8 @@ claims_of certs = map claim_of certs
 abbrev pub HasAnchor : List Anchor → ℕ → ℕ → Type 0
 HasAnchor anchors key name = Contains anchors (record { key = key; name = name })
 
--- a certificate of this form is there, and has not ended at the moment; the form's end and serial
--- are the last that it takes
+-- a certificate of this form is there, and is live at the moment; the form's end and serial are the
+-- last that it takes
 pub record HasLive
     (certs : List Certificate) (moment : ℕ) (form : ℕ → ℕ → Certificate) : Type 0 where
   pub until : ℕ
@@ -26,7 +26,7 @@ pub record HasLive
   pub there : Contains certs (form until serial)
   pub lives : IsLive moment (form until serial)
 
--- `left => right` is derivable from the certificates that have not ended
+-- `left => right` is derivable from the live certificates
 abbrev pub Speaks : List Anchor → List Certificate → ℕ → Principal → Principal → Type 0
 Speaks anchors certs moment left right = MaySpeak anchors (claims_of (live certs moment)) left right
 

@@ -43,7 +43,7 @@ pub found_at_all : (o : Option ℕ) (list : List Grant) (right end : ℕ) (P : G
 found_at_all None list right end P h le = none_at_all list right P end h le
 found_at_all (Some k) list right end P h le = (h.1, h.2)
 
--- ---- a question about certificates that have ended
+-- ---- a question about the live certificates and others
 
 abbrev HasPart : Principal → List Principal → Type 0
 HasPart p ps = Any (λ (who : Principal). Contains (subterms who) p) ps

@@ -3,22 +3,25 @@ use Rattle.std.proofs.Common.{◌≡◌, inl, inr, ℕ, suc, ◌+◌, ◌<◌, �
 use Rattle.std.proofs.lemmas.Bool.{cases_lt}
 use Rattle.std.proofs.lemmas.Option.{same_Some}
 use Rattle.std.proofs.lemmas.List.Elements.{All-contains, Contains-append_right}
-use Rattle.std.specs.Ordering.{ordering_reverse}
+use Rattle.std.specs.Ordering.{nat_cmp, ordering_reverse, ordering_then}
+use Rattle.std.specs.Cmp.Lexicographic.{slice_cmp}
+use Rattle.std.specs.declared.cmp.Ordering.{Ordering}
 use Rattle.std.specs.declared.cmp.Ordering.TheVariants.{Less, Greater}
 use Rattle.prin_term.specs.declared.term.Anchor.{Anchor}
 use Rattle.prin_term.specs.Principal.{Principal, operands, node_count}
 use Rattle.prin_term.specs.View.{Grant}
-use Rattle.stmt_codec.specs.Certificates.{Certificate, digest_of}
+use Rattle.stmt_codec.specs.Certificates.{Certificate, digest_of, IsDead, IsEarly}
+use Rattle.stmt_codec.proofs.Living.{dead_not_early}
 use Rattle.taos_calculus.specs.Monitor.{MaySpeak, FirstEntry}
 use Rattle.denial_link.specs.declared.link.Link.{Link}
-use Rattle.denial_link.specs.declared.link.Link.TheVariants.{Expired, Missing}
-use Rattle.denial_link.specs.Keys.{Key}
-use Rattle.denial_link.specs.Order.{GoesBefore, IsDead, DeadInOrder}
+use Rattle.denial_link.specs.declared.link.Link.TheVariants.{Expired, Early, Missing}
+use Rattle.denial_link.specs.Keys.{Key, time_of}
+use Rattle.denial_link.specs.Order.{order, GoesBefore, IsAt, IsOut, OutInOrder}
 use Rattle.denial_link.specs.Needed.{IsNeeded}
 use Rattle.denial_link.specs.Revived.{claims, revived}
-use Rattle.denial_link.specs.Links.{IsReached, Lacks, here, below, IsFirstLink, no_entry, expired, missing}
+use Rattle.denial_link.specs.Links.{IsReached, Lacks, here, below, IsFirstLink, no_entry, expired, early, missing}
 use Rattle.denial_link.proofs.Members.{has-head, has-cons, has-cases, has-nil}
-use Rattle.denial_link.proofs.Sorting.{key_cmp, key_total}
+use Rattle.denial_link.proofs.Sorting.{in_time, key_cmp, key_total}
 
 -- of two numbers, neither of which is below the other
 neither_below : (m n : ℕ) → (m < n → ⊥) → (n < m → ⊥) → m ≡ n
@@ -35,7 +38,7 @@ same_entry : (list : List Grant) (right : ℕ) (P : Grant → Type 0) (j k : ℕ
 same_entry list right P j k d e f g =
     same_Some d e (sym f.stands ∙ ap (slice_get list) (same_place list right P j k d e f g) ∙ g.stands)
 
--- ---- the order of those that have ended
+-- ---- the order of those that are not live
 
 module _ (Dead : ℕ → Type 0) (R : ℕ → ℕ → Type 0) (not_both : (i j : ℕ) → Dead i → Dead j → R i j → R j i → ⊥) where
   later : (x : ℕ) (xs : List ℕ) → AllPairs R (x ∷ xs) → (z : ℕ) → Contains xs z → R x z
@@ -74,21 +77,25 @@ module _ (Dead : ℕ → Type 0) (R : ℕ → ℕ → Type 0) (not_both : (i j :
       ap₂ (λ (z : ℕ) (zs : List ℕ). z ∷ zs) heads
       (one_order xs ys (pairs_later x xs p) (pairs_later y ys q) (λ z h. d z (has-cons x xs z h)) (behind x y xs ys heads p dead_x f) (behind y x ys xs (sym heads) q dead_y g))
 
-abbrev key_of : ℕ → Certificate → Key
-key_of i c = (record { 0 = c.until }, digest_of c, i)
+abbrev key_of : ℕ → ℕ → Certificate → Key
+key_of moment i c = let t = time_of moment c in (t.0, record { 0 = t.1 }, t.2, digest_of c, i)
 
-one_way : (certs : List Certificate) (moment i j : ℕ) → IsDead certs moment i → IsDead certs moment j → GoesBefore certs i j → GoesBefore certs j i → ⊥
+-- keys have the order of the certificates
+by_keys : (moment i j : ℕ) (c d : Certificate) → key_cmp (key_of moment i c) (key_of moment j d) ≡ order moment i c j d
+by_keys moment i j c d = ap (λ (t : Ordering). ordering_then (ordering_then t (slice_cmp nat_cmp (digest_of c) (digest_of d))) (nat_cmp i j)) (in_time moment c d)
+
+one_way : (certs : List Certificate) (moment i j : ℕ) → IsOut certs moment i → IsOut certs moment j → GoesBefore moment certs i j → GoesBefore moment certs j i → ⊥
 one_way certs moment i j (c, sc, dc) (d, sd, dd) there back =
-    let e : key_cmp (key_of i c) (key_of j d) ≡ Less = there c d sc sd in
-    let f : key_cmp (key_of j d) (key_of i c) ≡ Less = back d c sd sc in
-    let g : key_cmp (key_of i c) (key_of j d) ≡ Greater = key_total.antisymm (key_of i c) (key_of j d) ∙ ap ordering_reverse f in
+    let e : key_cmp (key_of moment i c) (key_of moment j d) ≡ Less = by_keys moment i j c d ∙ there c d sc sd in
+    let f : key_cmp (key_of moment j d) (key_of moment i c) ≡ Less = by_keys moment j i d c ∙ back d c sd sc in
+    let g : key_cmp (key_of moment i c) (key_of moment j d) ≡ Greater = key_total.antisymm (key_of moment i c) (key_of moment j d) ∙ ap ordering_reverse f in
     let h : Less ≡ Greater = sym e ∙ g in
     absurd cc
 
-same_order : (certs : List Certificate) (moment : ℕ) (xs ys : List ℕ) → DeadInOrder certs moment xs → DeadInOrder certs moment ys → xs ≡ ys
+same_order : (certs : List Certificate) (moment : ℕ) (xs ys : List ℕ) → OutInOrder certs moment xs → OutInOrder certs moment ys → xs ≡ ys
 same_order certs moment xs ys a b =
-    one_order (IsDead certs moment) (GoesBefore certs) (one_way certs moment) xs ys a.in_order b.in_order (λ z h. (a.dead z).0 h)
-    (λ z h. (b.dead z).1 ((a.dead z).0 h)) (λ z h. (a.dead z).1 ((b.dead z).0 h))
+    one_order (IsOut certs moment) (GoesBefore moment certs) (one_way certs moment) xs ys a.in_order b.in_order (λ z h. (a.out z).0 h)
+    (λ z h. (b.out z).1 ((a.out z).0 h)) (λ z h. (a.out z).1 ((b.out z).0 h))
 
 -- ---- the one that is needed
 
@@ -143,22 +150,39 @@ module _ (R : Principal → Type 0) where
 
 -- ---- the first link
 
-pub one_link : (anchors : List Anchor) (certs : List Certificate) (moment : ℕ) (subject : Principal) (list : List Grant) (right : ℕ) (a b : Link) →
-    IsFirstLink anchors certs moment subject list right a → IsFirstLink anchors certs moment subject list right b → a ≡ b
-one_link anchors certs moment subject list right a b (no_entry none) (no_entry none') = refl
-one_link anchors certs moment subject list right a b (no_entry none) (expired {k} e f n) = absurd (none k e f.stands f.has_right tt)
-one_link anchors certs moment subject list right a b (no_entry none) (missing {k} e f n l) = absurd (none k e f.stands f.has_right tt)
-one_link anchors certs moment subject list right a b (expired {k} e f n) (no_entry none) = absurd (none k e f.stands f.has_right tt)
-one_link anchors certs moment subject list right a b (missing {k} e f n l) (no_entry none) = absurd (none k e f.stands f.has_right tt)
-one_link anchors certs moment subject list right a b (expired {k} e f n) (missing e' f' none l) = absurd (none k e f.stands f.has_right f.holds)
-one_link anchors certs moment subject list right a b (missing e' f' none l) (expired {k} e f n) = absurd (none k e f.stands f.has_right f.holds)
-one_link anchors certs moment subject list right a b (expired {k = i} {c = c} e f n) (expired {k = j} {c = d} e' f' n') =
-    let P : Grant → Type 0 = λ (g : Grant). MaySpeak anchors (claims certs) subject g.who in
-    let place : i ≡ j = same_place list right P i j e e' f f' in
-    let entry : e ≡ e' = same_entry list right P i j e e' f f' in
-    ap₂ Expired place (same_needed anchors certs moment subject e.who c d n (subst (λ (g : Grant). IsNeeded anchors certs moment subject g.who d) (sym entry) n'))
-one_link anchors certs moment subject list right a b (missing {k = i} {n = m} e f none l) (missing {k = j} {n = n} e' f' none' l') =
-    let P : Grant → Type 0 = λ (g : Grant). Unit {0} in
-    let place : i ≡ j = same_place list right P i j e e' f f' in
-    let entry : e ≡ e' = same_entry list right P i j e e' f f' in
-    ap₂ Missing place (same_part (IsReached anchors (claims certs) subject) e.who m n l (subst (λ (g : Grant). Lacks (IsReached anchors (claims certs) subject) g.who n) (sym entry) l'))
+module _ (anchors : List Anchor) (certs : List Certificate) (moment : ℕ) (subject : Principal) (list : List Grant) (right : ℕ) where
+  abbrev ByAll : Grant → Type 0
+  ByAll g = MaySpeak anchors (claims certs) subject g.who
+
+  same_revived : (i j c d : ℕ) (e e' : Grant) → FirstEntry list right ByAll i e → FirstEntry list right ByAll j e' → IsNeeded anchors certs moment subject e.who c → IsNeeded anchors certs moment subject e'.who d → (i ≡ j) × (c ≡ d)
+  same_revived i j c d e e' f f' n n' =
+      let entry : e ≡ e' = same_entry list right ByAll i j e e' f f' in
+      (same_place list right ByAll i j e e' f f', same_needed anchors certs moment subject e.who c d n (subst (λ (g : Grant). IsNeeded anchors certs moment subject g.who d) (sym entry) n'))
+
+  -- one that has ended is no early one
+  not_both : (c d : ℕ) → c ≡ d → IsAt certs (IsDead moment) c → IsAt certs (IsEarly moment) d → ⊥
+  not_both c d e (x, there, dead) (y, stands, ahead) =
+      let same : x ≡ y = same_Some x y (sym there ∙ ap (slice_get certs) e ∙ stands) in
+      dead_not_early moment x dead (subst (IsEarly moment) (sym same) ahead)
+
+  pub one_link : (a b : Link) → IsFirstLink anchors certs moment subject list right a → IsFirstLink anchors certs moment subject list right b → a ≡ b
+  one_link a b (no_entry none) (no_entry none') = refl
+  one_link a b (no_entry none) (expired {k} e f n out) = absurd (none k e f.stands f.has_right tt)
+  one_link a b (no_entry none) (early {k} e f n out) = absurd (none k e f.stands f.has_right tt)
+  one_link a b (no_entry none) (missing {k} e f n l) = absurd (none k e f.stands f.has_right tt)
+  one_link a b (expired {k} e f n out) (no_entry none) = absurd (none k e f.stands f.has_right tt)
+  one_link a b (early {k} e f n out) (no_entry none) = absurd (none k e f.stands f.has_right tt)
+  one_link a b (missing {k} e f n l) (no_entry none) = absurd (none k e f.stands f.has_right tt)
+  one_link a b (expired {k} e f n out) (missing e' f' none l) = absurd (none k e f.stands f.has_right f.holds)
+  one_link a b (early {k} e f n out) (missing e' f' none l) = absurd (none k e f.stands f.has_right f.holds)
+  one_link a b (missing e' f' none l) (expired {k} e f n out) = absurd (none k e f.stands f.has_right f.holds)
+  one_link a b (missing e' f' none l) (early {k} e f n out) = absurd (none k e f.stands f.has_right f.holds)
+  one_link a b (expired {k = i} {c = c} e f n out) (expired {k = j} {c = d} e' f' n' out') = let s = same_revived i j c d e e' f f' n n' in ap₂ Expired s.0 s.1
+  one_link a b (early {k = i} {c = c} e f n out) (early {k = j} {c = d} e' f' n' out') = let s = same_revived i j c d e e' f f' n n' in ap₂ Early s.0 s.1
+  one_link a b (expired {k = i} {c = c} e f n out) (early {k = j} {c = d} e' f' n' out') = absurd (not_both c d (same_revived i j c d e e' f f' n n').1 out out')
+  one_link a b (early {k = i} {c = c} e f n out) (expired {k = j} {c = d} e' f' n' out') = absurd (not_both d c (same_revived j i d c e' e f' f n' n).1 out' out)
+  one_link a b (missing {k = i} {n = m} e f none l) (missing {k = j} {n = n} e' f' none' l') =
+      let P : Grant → Type 0 = λ (g : Grant). Unit {0} in
+      let place : i ≡ j = same_place list right P i j e e' f f' in
+      let entry : e ≡ e' = same_entry list right P i j e e' f f' in
+      ap₂ Missing place (same_part (IsReached anchors (claims certs) subject) e.who m n l (subst (λ (g : Grant). Lacks (IsReached anchors (claims certs) subject) g.who n) (sym entry) l'))

@@ -1,22 +1,24 @@
 -- What is picked by marks says what the revived certificates say, and more of them derive more.
-use Rattle.std.proofs.Common.{◌≡◌, ◌⊎◌, ◌↔◌, inl, inr, ℕ, ◌+◌, ◌<◌, ◌≤◌, ◌∷◌, [], Bool, List, length, take, map, filter_map, Contains, Some, None, Option, slice_get, refl, sym, ◌∙◌, ap, subst, arith}
-use Rattle.std.proofs.lemmas.List.{append-nil, take_all}
+use Rattle.std.proofs.Common.{◌≡◌, ◌⊎◌, ◌↔◌, inl, inr, ℕ, ◌+◌, ◌<◌, ◌≤◌, ◌∷◌, ◌++◌, [], Bool, true, IsTrue, List, length, length-append, take, map, filter_map, Contains, Some, None, Option, slice_get, refl, sym, ◌∙◌, ap, ap₂, subst, arith}
+use Rattle.std.proofs.Math.Seq.{get_or-append_seam}
+use Rattle.std.proofs.lemmas.Bool.{cases_lt}
+use Rattle.std.proofs.lemmas.List.{append-nil, get_or_append_left, take_all}
 use Rattle.std.specs.List.{cons_option}
 use Rattle.std.specs.Option.{option_map, MatchOption}
-use Rattle.std.proofs.lemmas.Option.{none-some, same_Some, slice_get-map, slice_get_within}
+use Rattle.std.proofs.lemmas.Option.{none-some, same_Some, slice_get-get_or, slice_get-map, slice_get_within}
 use Rattle.std.proofs.lemmas.List.Elements.{Contains-append_left, Contains-append_right, Contains-append_cases}
 use Rattle.prin_term.specs.declared.term.Anchor.{Anchor}
 use Rattle.prin_term.specs.Principal.{Principal}
 use Rattle.prin_term.specs.View.{Grant}
-use Rattle.stmt_codec.specs.Certificates.{Certificate, IsLive, live}
-use Rattle.stmt_codec.proofs.Living.{cases_live, live-from, live-to}
+use Rattle.stmt_codec.specs.Certificates.{Certificate, IsDead, IsEarly, IsLive, live}
+use Rattle.stmt_codec.proofs.Living.{cases_live, dead_or_early, live-from, live-to}
 use Rattle.taos_calculus.specs.Rules.{Claim}
 use Rattle.taos_calculus.specs.Rules as rules
 use Rattle.taos_calculus.specs.Monitor.{FirstEntry, Grants, HasRight, MaySpeak}
 use Rattle.taos_calculus.specs.Question.{Question, question_of, MayAnswer, picked, claim_of}
 use Rattle.taos_calculus.proofs.Asking.{IsPicked, picked-at, has-picked}
 use Rattle.taos_calculus.proofs.Staying.{derives_more}
-use Rattle.denial_link.specs.Order.{DeadInOrder}
+use Rattle.denial_link.specs.Order.{IsAt, IsOut, OutInOrder}
 use Rattle.denial_link.specs.Keys.{AreMarked}
 use Rattle.denial_link.specs.Needed.{IsNeeded, IsRevived}
 use Rattle.denial_link.specs.Links.{NoEntryWith, NoneBefore}
@@ -142,13 +144,13 @@ speaks_by_more anchors certs moment places m n left right le =
       says = t.says;
     }
 
--- with none that has ended there are the live ones
+-- with none besides there are the live ones
 pub speaks_by_none : (anchors : List Anchor) (certs : List Certificate) (moment : ℕ) (places : List ℕ) (left right : Principal) → MaySpeak anchors (claims (revived certs moment (take 0 places))) left right → MaySpeak anchors (claims (live certs moment)) left right
 speaks_by_none anchors certs moment places left right =
     subst (λ said. MaySpeak anchors (claims said) left right) (append-nil (live certs moment))
 
--- with all that have ended there are all
-pub speaks_by_all : (anchors : List Anchor) (certs : List Certificate) (moment : ℕ) (places : List ℕ) (left right : Principal) → DeadInOrder certs moment places → MaySpeak anchors (claims certs) left right → MaySpeak anchors (claims (revived certs moment places)) left right
+-- with all that are not live there are all
+pub speaks_by_all : (anchors : List Anchor) (certs : List Certificate) (moment : ℕ) (places : List ℕ) (left right : Principal) → OutInOrder certs moment places → MaySpeak anchors (claims certs) left right → MaySpeak anchors (claims (revived certs moment places)) left right
 speaks_by_all anchors certs moment places left right d = speaks_more anchors _ _ left right each
   where
     each : (x : Claim) → Contains (claims certs) x → Contains (claims (revived certs moment places)) x
@@ -156,7 +158,7 @@ speaks_by_all anchors certs moment places left right d = speaks_more anchors _ _
         let (c, has, says) = Contains-from_map claim_of certs x h in
         let (i, at) = at-has certs c has in
         let which : IsLive moment c ⊎ Contains places i =
-        elim (cases_live moment c) [ inl l ↦ inl l | inr ended ↦ inr ((d.dead i).1 (c, at, ended)) ] in
+        elim (cases_live moment c) [ inl l ↦ inl l | inr out ↦ inr ((d.out i).1 (c, at, out)) ] in
         revived-taken certs moment places x (record { place = i; cert = c; stands = at; taken = which; says = says })
 
 -- what is asked by marks is asked about the live certificates and those at the places
@@ -176,7 +178,54 @@ asks_by_marks q anchors certs moment places n marks used subject list asked same
         let by = speaks_by_marks anchors certs moment places marks left right (subst (λ k. AreMarked certs moment places k marks) count m) in
         (λ d. by.0 (subst (λ (p : Question). MayAnswer p left right) e d), λ d. subst (λ (p : Question). MayAnswer p left right) (sym e) (by.1 d))
 
--- ---- certificates that have ended are added one after the other
+-- ---- marks, one after the other
+
+mark_before : (marks : List Bool) (b : Bool) (i : ℕ) → i < length marks → slice_get (marks ++ b ∷ []) i ≡ slice_get marks i
+mark_before marks b i lt =
+    slice_get-get_or (marks ++ b ∷ []) i b (omega (arith, lt, length-append marks (b ∷ []))) ∙ ap Some (get_or_append_left marks (b ∷ []) b i lt) ∙ sym (slice_get-get_or marks i b lt)
+
+mark_last : (marks : List Bool) (b : Bool) → slice_get (marks ++ b ∷ []) (length marks) ≡ Some b
+mark_last marks b = slice_get-get_or (marks ++ b ∷ []) (length marks) b (omega (arith, length-append marks (b ∷ []))) ∙ ap Some (get_or-append_seam marks b [] b)
+
+pub marks_push : (certs : List Certificate) (moment : ℕ) (places : List ℕ) (n : ℕ) (marks new : List Bool) (c : Certificate) (b : Bool) → AreMarked certs moment places n marks → slice_get certs n ≡ Some c →
+    IsTrue b ↔ (IsLive moment c ⊎ Contains places n) → new ≡ marks ++ b ∷ [] → AreMarked certs moment places (n + 1) new
+marks_push certs moment places n marks new c b m at is e = record { count = omega (arith, ap length e, length-append marks (b ∷ []), m.count); each = each }
+  where
+    each : (i : ℕ) (d : Certificate) → i < n + 1 → slice_get certs i ≡ Some d → (slice_get new i ≡ Some true) ↔ (IsLive moment d ⊎ Contains places i)
+    each i d lt there =
+        elim (cases_lt i n) [
+          | inl before ↦
+              let same : slice_get new i ≡ slice_get marks i = ap (λ ms. slice_get ms i) e ∙ mark_before marks b i (omega (arith, before, m.count)) in
+              let was = m.each i d before there in
+              (λ t. was.0 (sym same ∙ t), λ h. same ∙ was.1 h)
+          | inr past ↦
+              let last : i ≡ n = omega (arith, lt, past) in
+              let same : d ≡ c = same_Some d c (sym there ∙ ap (slice_get certs) last ∙ at) in
+              let mark : slice_get new i ≡ Some b = ap₂ (λ (ms : List Bool) (k : ℕ). slice_get ms k) e (last ∙ sym m.count) ∙ mark_last marks b in (
+                λ t. subst (λ k. IsLive moment d ⊎ Contains places k) (sym last) (subst (λ x. IsLive moment x ⊎ Contains places n) (sym same) (is.0 (same_Some b true (sym mark ∙ t)))),
+                λ h. mark ∙ ap Some (is.1 (subst (λ x. IsLive moment x ⊎ Contains places n) same (subst (λ k. IsLive moment d ⊎ Contains places k) last h))),
+              )
+        ]
+
+-- ---- the certificate that is needed
+
+module _ {anchors : List Anchor} {certs : List Certificate} {moment : ℕ} {subject who : Principal} {c : ℕ} (needed : IsNeeded anchors certs moment subject who c) where
+  -- it is not live
+  pub needed_out : IsOut certs moment c
+  needed_out = (needed.in_order.out c).0 (has-at needed.places needed.n c needed.stands)
+
+  pub needed_there : c < length certs
+  needed_there = slice_get_within certs c needed_out.0 needed_out.1
+
+  pub needed_dead : (d : Certificate) → slice_get certs c ≡ Some d → IsDead moment d → IsAt certs (IsDead moment) c
+  needed_dead d at dead = (d, at, dead)
+
+  pub needed_early : (d : Certificate) → slice_get certs c ≡ Some d → (IsDead moment d → ⊥) → IsAt certs (IsEarly moment) c
+  needed_early d at not_dead =
+      let same : needed_out.0 ≡ d = same_Some needed_out.0 d (sym needed_out.1 ∙ at) in
+      (d, at, elim (dead_or_early moment d (λ lives. needed_out.2 (subst (IsLive moment) (sym same) lives))) [ inl dead ↦ absurd (not_dead dead) | inr early ↦ early ])
+
+-- ---- certificates that are not live are added one after the other
 
 module _ (anchors : List Anchor) (certs : List Certificate) (moment : ℕ) (places : List ℕ) (subject : Principal) (list : List Grant) (right : ℕ) where
   abbrev pub Enough : ℕ → Grant → Type 0
@@ -198,7 +247,7 @@ module _ (anchors : List Anchor) (certs : List Certificate) (moment : ℕ) (plac
   found_still end n r (at, e, s, has, enough, needed) = (at, e, s, has, more n (n + 1) e (omega arith) enough, needed)
 
   -- one before it is, and was not before
-  pub found_now : (end n k c : ℕ) (e : Grant) (r : Revival) → DeadInOrder certs moment places → NoneBefore list right (Enough n) end → k < end → FirstEntry list right (Enough (n + 1)) k e →
+  pub found_now : (end n k c : ℕ) (e : Grant) (r : Revival) → OutInOrder certs moment places → NoneBefore list right (Enough n) end → k < end → FirstEntry list right (Enough (n + 1)) k e →
       slice_get places n ≡ Some c → r.entry ≡ k → r.cert ≡ c → IsFoundAt k (n + 1) r
   found_now end n k c e r d none lt f stands at is = (at, e, f.stands, f.has_right, f.holds, needed)
     where
@@ -231,7 +280,7 @@ module _ (anchors : List Anchor) (certs : List Certificate) (moment : ℕ) (plac
     }
 
   -- at the end there are all
-  module _ (d : DeadInOrder certs moment places) (n : ℕ) (all : length places ≤ n) where
+  module _ (d : OutInOrder certs moment places) (n : ℕ) (all : length places ≤ n) where
     by_all : (e : Grant) → MaySpeak anchors (claims certs) subject e.who → Enough n e
     by_all e h = subst (λ ps. MaySpeak anchors (claims (revived certs moment ps)) subject e.who) (sym (take_all n places all)) (speaks_by_all anchors certs moment places subject e.who d h)
 

@@ -3,12 +3,13 @@ use Rattle.std.specs.Prelude.{◌≡◌, ℕ, ◌+◌, ◌<◌, ◌++◌, List, 
 use Rattle.prin_term.specs.declared.term.Anchor.{Anchor}
 use Rattle.prin_term.specs.Principal.{Principal, operands, subterms, node_count}
 use Rattle.prin_term.specs.View.{Grant}
-use Rattle.stmt_codec.specs.Certificates.{Certificate}
+use Rattle.stmt_codec.specs.Certificates.{Certificate, IsDead, IsEarly}
 use Rattle.taos_calculus.specs.Rules.{Claim}
 use Rattle.taos_calculus.specs.Monitor.{HasRight, MaySpeak, FirstEntry}
 use Rattle.denial_link.specs.declared.link.Link.{Link}
-use Rattle.denial_link.specs.declared.link.Link.TheVariants.{Expired, Missing, NoEntry}
+use Rattle.denial_link.specs.declared.link.Link.TheVariants.{Expired, Early, Missing, NoEntry}
 use Rattle.denial_link.specs.Needed.{IsNeeded}
+use Rattle.denial_link.specs.Order.{IsAt}
 use Rattle.denial_link.specs.Revived.{claims}
 
 -- some part of the subject speaks for p
@@ -44,11 +45,16 @@ pub data IsFirstLink (anchors : List Anchor) (certs : List Certificate) (moment 
   no_entry : NoEntryWith list right (λ e. Unit {0}) →
       IsFirstLink anchors certs moment subject list right NoEntry
   -- all certificates together would do for some entry with the right: the first of these, and the
-  -- certificate that is needed
+  -- certificate that is needed, which has ended
   expired : {k c : ℕ} (e : Grant) →
       FirstEntry list right (λ g. MaySpeak anchors (claims certs) subject g.who) k e →
-      IsNeeded anchors certs moment subject e.who c →
+      IsNeeded anchors certs moment subject e.who c → IsAt certs (IsDead moment) c →
       IsFirstLink anchors certs moment subject list right (Expired k c)
+  -- the same, where that one has neither begun nor ended
+  early : {k c : ℕ} (e : Grant) →
+      FirstEntry list right (λ g. MaySpeak anchors (claims certs) subject g.who) k e →
+      IsNeeded anchors certs moment subject e.who c → IsAt certs (IsEarly moment) c →
+      IsFirstLink anchors certs moment subject list right (Early k c)
   -- they would do for none: the first entry with the right, and the first part of it that lacks
   missing : {k n : ℕ} (e : Grant) →
       FirstEntry list right (λ g. Unit {0}) k e →

@@ -1,4 +1,4 @@
--- The first certificate that has ended and would have been enough.
+-- The first certificate that is not live and would have been enough.
 use Rattle.std.specs.Prelude.{◌≡◌, ℕ, ◌+◌, ◌≤◌, List, Some, slice_get, take}
 use Rattle.prin_term.specs.declared.term.Anchor.{Anchor}
 use Rattle.prin_term.specs.Principal.{Principal}
@@ -6,18 +6,18 @@ use Rattle.stmt_codec.specs.Certificates.{Certificate}
 use Rattle.prin_term.specs.View.{Grant}
 use Rattle.taos_calculus.specs.Monitor.{FirstEntry, MaySpeak}
 use Rattle.denial_link.specs.declared.revive.Revival.{Revival}
-use Rattle.denial_link.specs.Order.{DeadInOrder}
+use Rattle.denial_link.specs.Order.{OutInOrder}
 use Rattle.denial_link.specs.Revived.{claims, revived}
 
--- The live certificates and those that have ended up to c are enough, and no fewer are: the n
+-- The live certificates and those up to c that are not live are enough, and no fewer are: the n
 -- before c in the order are not enough with the live ones, and with c they are.
 pub record IsNeeded (anchors : List Anchor) (certs : List Certificate)
     (moment : ℕ) (subject who : Principal) (c : ℕ) : Type 0 where
-  -- how many that have ended come before c in the order
+  -- how many that are not live come before c in the order
   pub n : ℕ
-  -- the places of all that have ended, in order
+  -- the places of all that are not live, in order
   pub places : List ℕ
-  pub in_order : DeadInOrder certs moment places
+  pub in_order : OutInOrder certs moment places
   -- with c, and those before it, there is enough
   pub enough : MaySpeak anchors (claims (revived certs moment (take (n + 1) places))) subject who
   -- without c there is not

@@ -1,4 +1,4 @@
--- Certificates that have ended, taken as if they had not.
+-- Certificates that are not live, taken as if they were.
 use Rattle.std.specs.Prelude.{◌≡◌, ◌↔◌, ℕ, ◌++◌, List, slice_get, map, filter_map}
 use Rattle.stmt_codec.specs.Certificates.{Certificate, live}
 use Rattle.taos_calculus.specs.Rules.{Claim}

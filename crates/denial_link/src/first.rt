@@ -1,4 +1,4 @@
-//! The first missing or expired link.
+//! The first missing, expired or early link.
 
 ghost use Rattle.std.specs.Prelude.{◌≡◌, ◌<◌, ◌≤◌, ℕ, true, map, length};
 ghost use Rattle.std.specs.Prelude.{replicate, slice_get, Some, MatchOption};
@@ -85,7 +85,7 @@ pub fn first_derivable<D: Decide>(
 }
 
 /// What is missing where nothing is granted: that an entry has the right; or, where the
-/// certificates that have ended would do, the first of these that is needed; or the first part of
+/// certificates that are not live would do, the first of these that is needed; or the first part of
 /// the first entry with the right that nobody whom the subject names speaks for. Takes no memory. A
 /// certificate is named by its place in `certs`, a part by its place in the entry, in pre-order.
 pub fn first_link<D: Decide>(
@@ -110,7 +110,11 @@ pub fn first_link<D: Decide>(
     if let Some(Revival { entry, cert }) = first_revived(
         bench, anchors, certs, moment, subject, list, right,
     ) {
-        return Link::Expired { entry, cert };
+        return if certs[cert as usize].is_dead(moment) {
+            Link::Expired { entry, cert }
+        } else {
+            Link::Early { entry, cert }
+        };
     }
     let all = [true; MAX_CERTS];
     bench.begin(anchors, certs, &all[..certs.len()], subject, list);
@@ -118,7 +122,7 @@ pub fn first_link<D: Decide>(
     Link::Missing { entry: first, node }
 }
 
-/// The first link, where `bench` was asked last about all certificates: where none has ended, it
+/// The first link, where `bench` was asked last about all certificates: where each is live, it
 /// was so by who looked for a grant, and nothing is decided anew. Takes no memory.
 pub fn first_link_by_all<D: Decide>(
     bench: &mut D,

@@ -1,4 +1,4 @@
-//! The first missing or expired link of a request that is denied.
+//! The first missing, expired or early link of a request that is denied.
 #![tactic(auto)]
 
 mod first;

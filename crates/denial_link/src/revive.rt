@@ -1,4 +1,4 @@
-//! Which of the certificates that have ended would have been enough.
+//! Which of the certificates that are not live would have been enough.
 
 ghost use Rattle.std.specs.Prelude.{◌≡◌, ◌≤◌, true, map, length, replicate, MatchOption};
 ghost use Rattle.prin_term.specs.View.{grant, principal};
@@ -12,7 +12,7 @@ ghost use Rattle.denial_link.specs.Keys.{AreMarked};
 ghost use Rattle.denial_link.specs.Links.{NoEntryWith};
 
 use crate::first::first_before;
-use crate::order::dead_in_order;
+use crate::order::out_in_order;
 use arrayvec::ArrayVec;
 use prin_term::{Anchor, Entry, Term};
 use std::sync::Arc;
@@ -58,7 +58,7 @@ fn ask_with<D: Decide>(
     bench.begin(anchors, these.certs, &marks, subject, list);
 }
 
-/// An entry, and the certificate that has ended with which its principal is derivable first.
+/// An entry, and the certificate that is not live with which its principal is derivable first.
 #[derive(Clone, Copy, Debug)]
 pub(crate) struct Revival {
     pub(crate) entry: u8,
@@ -66,7 +66,7 @@ pub(crate) struct Revival {
 }
 
 /// The first entry with the right that all certificates together are enough for, with the first of
-/// those that have ended with which the live ones are, all before it in their order taken too. They
+/// those that are not live with which the live ones are, all before it in their order taken too. They
 /// are added one after the other, so that the decider may keep what it knows.
 pub(crate) fn first_revived<D: Decide>(
     bench: &mut D,
@@ -87,7 +87,7 @@ pub(crate) fn first_revived<D: Decide>(
         (λ r. IsRevived anchors.now (certificates certs.now) moment (principal subject.now)
         (map grant list.now) right r) }
 {
-    let places = dead_in_order(certs, moment);
+    let places = out_in_order(certs, moment);
     let mut end = list.len();
     let mut found = None;
     for n in 0..places.len() {

@@ -11,7 +11,7 @@ use Rattle.taos_calculus.specs.Monitor.{Grants}
 use Rattle.denial_link.specs.declared.link.Link.{Link}
 use Rattle.denial_link.specs.declared.link.Link.TheVariants.{NoEntry}
 use Rattle.denial_link.specs.Revived.{claims}
-use Rattle.denial_link.specs.Links.{IsFirstLink, no_entry, expired, missing}
+use Rattle.denial_link.specs.Links.{IsFirstLink, no_entry, expired, early, missing}
 use Rattle.proof_cache.specs.Cached.{Cached}
 use Rattle.agent_core.specs.declared.told.Told.{Told}
 use Rattle.agent_core.specs.declared.asked.Denial.{Denial}
@@ -52,7 +52,8 @@ verdict_listed plan journal load place k n list told before s =
 denied_nothing : (anchors : List Anchor) (certs : List Certificate) (moment : ℕ) (subject : Principal) (right : ℕ) (link : Link) (denial : Denial) →
     IsFirstLink anchors certs moment subject [] right link → Names certs link denial → denial ≡ Denial.NoEntry
 denied_nothing anchors certs moment subject right link denial (no_entry h) names = names
-denied_nothing anchors certs moment subject right link denial (expired {k} {c} e first needed) names = absurd (none-some e first.stands)
+denied_nothing anchors certs moment subject right link denial (expired {k} {c} e first needed out) names = absurd (none-some e first.stands)
+denied_nothing anchors certs moment subject right link denial (early {k} {c} e first needed out) names = absurd (none-some e first.stands)
 denied_nothing anchors certs moment subject right link denial (missing {k} {n} e first others lacks) names = absurd (none-some e first.stands)
 
 -- an entry of a list of the load

@@ -8,3 +8,4 @@ pub mod Rows
 pub mod Taken
 pub mod Begun
 pub mod FileRead
+pub mod Causes

@@ -8,7 +8,7 @@ use Rattle.prin_text.specs.Labels.{Rows, is_label, number_of, text_of}
 use Rattle.file_lines.specs.declared.fault.FileCause.{FileCause}
 use Rattle.file_lines.specs.declared.fault.FileCause.TheVariants.{FirstLine, Text, Twice, Limit}
 use Rattle.file_lines.specs.declared.fault.FileFault.{FileFault}
-use Rattle.file_lines.specs.declared.fault.FileFault.TheVariants.{Line}
+use Rattle.file_lines.specs.declared.fault.FileFault.TheVariants.{Line, Byte, NoMemory}
 use Rattle.file_lines.specs.Fields.{keyed, numbered}
 use Rattle.file_lines.specs.Lines.{is_skipped, unblanked, word_off}
 
@@ -60,6 +60,12 @@ abbrev pub file_makes : {A : Type 0} → (List ℕ → Bool) → A → LineStep 
     Result A FileFault
 file_makes is_first empty step lines =
     lines_make (first_or is_first empty step) 1 None lines >>= begun (length lines)
+
+-- where a file is refused at a line, this holds of the cause; it is refused at no byte
+abbrev pub IsFaultOf : (FileCause → Type 0) → FileFault → Type 0
+IsFaultOf Has (Line line cause) = Has cause
+IsFaultOf Has (Byte offset) = ⊥
+IsFaultOf Has NoMemory = Unit {0}
 
 -- ---- numbers with texts and with keys
 

@@ -1,8 +1,7 @@
 //! Objects and shards that write into one log what is done to them.
 
-ghost use Rattle.std.specs.Prelude.{true};
-ghost use Rattle.object_core.specs.OneOwner.{fixed_on, own_on, seen_on, taken_from};
-ghost use Rattle.agent_core.specs.Alone.{own_in, plans_in, seen_in};
+ghost use Rattle.object_core.specs.OneOwner.{shelf_seen};
+ghost use Rattle.agent_core.specs.Alone.{shards_seen};
 
 use agent_core::{Answer, Event, Lone, Shards};
 use object_core::{LoneShelf, Object, Shelf};
@@ -32,15 +31,11 @@ pub(crate) struct LoggedShelf<'l> {
 }
 
 impl Shelf for LoggedShelf<'_> {
-    ghost objects = { λ s. fixed_on s.shelf };
+    ghost shown = { λ s. shelf_seen s.shelf };
 
-    ghost seen = { λ s number. seen_on s.shelf number };
-
-    ghost own = { λ s number. own_on s.shelf number };
-
-    ghost taken = { λ s. taken_from s.shelf };
-
-    ghost alone = { λ s. true };
+    fn known(&self) {
+        self.shelf.known();
+    }
 
     fn has(&self, number: u32) -> bool {
         self.shelf.has(number)
@@ -64,13 +59,11 @@ pub(crate) struct LoggedShards<'l> {
 }
 
 impl Shards for LoggedShards<'_> {
-    ghost plans = { λ s. plans_in s.shards.shards };
+    ghost shown = { λ s. shards_seen s.shards };
 
-    ghost seen = { λ s number. seen_in s.shards.shards number };
-
-    ghost own = { λ s number. own_in s.shards number };
-
-    ghost alone = { λ s. true };
+    fn known(&self) {
+        self.shards.known();
+    }
 
     fn count(&self) -> u32 {
         self.shards.count()

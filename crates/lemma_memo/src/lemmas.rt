@@ -103,6 +103,9 @@ impl<D: Decide + Drop> Decide for Lemmas<D> {
         ensures same { D.question self.new.inner ≡ D.question self.old.inner }
         ensures stays { self.new.memo ≡ self.old.memo }
     {
+        if !self.memory.looks() {
+            return self.inner.derives(left, right);
+        }
         self.memory.serves(left, right) || self.inner.derives(left, right)
     }
 

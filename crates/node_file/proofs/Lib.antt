@@ -24,7 +24,6 @@ pub mod PrintedFields
 pub mod PrintedSteps
 pub mod PrintedParts
 pub mod PrintedSettings
-pub mod PrintedBytes
 pub mod PrintedTables
 pub mod PrintedTexts
 pub mod PrintedObjects

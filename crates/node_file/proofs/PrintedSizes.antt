@@ -204,14 +204,14 @@ module _ (o : Opening) (fits : FitsOpening o) where
       (All-weaker IsAnchor (λ a. length (anchor_line o.names.names a) < 64)
       (λ a is. omega (arith, numbered_size (codes "anchor") a.key (named (text_of o.names.names a.name) (codes "name:") a.name) is.0, name_size o.names fits.names a.name is.1)) o.anchors fits.anchors)
 
-  common_size : (c : Certificate) → IsCommon c → length (common_line o.relay_key c) < 2048
+  common_size : (c : Certificate) → IsCommon c → length (common_line o.relay_key c) < 2064
   common_size c is =
       let bytes = sealed 2 o.relay_key c in
       omega (arith, length-append (codes "common ") (encode_lower bytes), length-encode_with lower_digits bytes, short_sealed 2 o.relay_key c is.1)
 
-  commons_size : length (text_of_lines (map (common_line o.relay_key) o.commons)) ≤ length o.commons * 2048
+  commons_size : length (text_of_lines (map (common_line o.relay_key) o.commons)) ≤ length o.commons * 2064
   commons_size =
-      line_size (common_line o.relay_key) 2048 o.commons (All-weaker IsCommon (λ c. length (common_line o.relay_key c) < 2048) (λ c is. common_size c is) o.commons fits.commons)
+      line_size (common_line o.relay_key) 2064 o.commons (All-weaker IsCommon (λ c. length (common_line o.relay_key c) < 2064) (λ c is. common_size c is) o.commons fits.commons)
 
   objects_size : length (text_of_lines (flat_map (object_lines o.names) o.objects)) ≤ length o.objects * 13400
   objects_size =
@@ -231,6 +231,6 @@ module _ (o : Opening) (fits : FitsOpening o) where
       let three = parts_size (first ++ names) roles 65736 16384 two (omega (arith, rows_size (codes "role") o.names.roles refl fits.names.roles.whole, fits.names.roles.within)) in
       let four = parts_size (first ++ names ++ roles) channels 82120 98304 three (omega (arith, channels_size, fits.few_channels)) in
       let five = parts_size (first ++ names ++ roles ++ channels) anchors 180424 4096 four (omega (arith, anchors_size, fits.few_anchors)) in
-      let six = parts_size (first ++ names ++ roles ++ channels ++ anchors) commons 184520 65536 five (omega (arith, commons_size, fits.few_commons)) in
-      let seven = parts_size (first ++ names ++ roles ++ channels ++ anchors ++ commons) objects 250056 3430400 six (omega (arith, objects_size, fits.few_objects)) in
+      let six = parts_size (first ++ names ++ roles ++ channels ++ anchors) commons 184520 66048 five (omega (arith, commons_size, fits.few_commons)) in
+      let seven = parts_size (first ++ names ++ roles ++ channels ++ anchors ++ commons) objects 250568 3430400 six (omega (arith, objects_size, fits.few_objects)) in
       omega (arith, seven)

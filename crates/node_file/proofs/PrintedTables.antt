@@ -22,6 +22,7 @@ use Rattle.prin_text.proofs.Wording.{begins_true, name_is_no_label}
 use Rattle.sealed_cert.specs.Refusals.{opened}
 use Rattle.sealed_cert.specs.Seals.{sealed}
 use Rattle.sealed_cert.proofs.Opened.{opened_again}
+use Rattle.sealed_cert.proofs.SealedBytes.{relayed_bytes}
 use Rattle.stmt_codec.specs.Certificates.{Certificate}
 use Rattle.stmt_codec.specs.Equality.{same_certificate}
 use Rattle.stmt_codec.proofs.Equal.{same_certificate-false}
@@ -38,7 +39,6 @@ use Rattle.node_file.specs.NodeLines.{anchor_said, anchors_and, anchors_with, co
 use Rattle.node_file.specs.Opening.{IsAnchor, IsChannel, IsCommon}
 use Rattle.node_file.specs.OpeningReading.{same_anchor}
 use Rattle.node_file.proofs.OpeningFields.{same_anchor-false}
-use Rattle.node_file.proofs.PrintedBytes.{sealed_bytes}
 use Rattle.node_file.proofs.PrintedFields.{decimal_word, digits_again, hex_word, key_word, keyed_again, label_word, number_again, numbered_again, tail_plain, word_append}
 use Rattle.node_file.proofs.PrintedParts.{each_taken, fewer, key_is_new, number_is_new, text_is_new, this_one}
 use Rattle.node_file.proofs.PrintedSteps.{Goes, Takes, takes_line}
@@ -212,12 +212,12 @@ module _ (node : ℕ) (key : List ℕ) (above rest : List Certificate) (c : Cert
 
   commons_again : commons_with (Some (node, key)) above (32 ∷ encode_lower bytes) ≡ Ok (above ++ c ∷ [])
   commons_again =
-      ap (λ r. r >>= λ bytes. commons_of (Some (node, key)) above bytes) (digits_again bytes (sealed_bytes key c) some_bytes)
+      ap (λ r. r >>= λ bytes. commons_of (Some (node, key)) above bytes) (digits_again bytes (relayed_bytes key c) some_bytes)
       ∙ ap (λ r. with_fault (λ _. causes.Certificate) r >>= λ c. commons_and above c) common_opens ∙ common_free
 
   pub common_taken : (d : Draft) → d.settings.node ≡ Some (node, key) → Takes (commons_in d above) (common_line key c) (commons_in d (above ++ c ∷ []))
   common_taken d said =
-      takes_line (commons_in d above) (commons_in d (above ++ c ∷ [])) kinds.Common (encode_lower bytes) (hex_word bytes (sealed_bytes key c) some_bytes).plain
+      takes_line (commons_in d above) (commons_in d (above ++ c ∷ [])) kinds.Common (encode_lower bytes) (hex_word bytes (relayed_bytes key c) some_bytes).plain
       (subst (λ (o : Option (ℕ × List ℕ)). with_value (commons_in d) (commons_with o above (32 ∷ encode_lower bytes)) ≡ Ok (commons_in d (above ++ c ∷ []))) (sym said)
       (ap (with_value (commons_in d)) commons_again))
 

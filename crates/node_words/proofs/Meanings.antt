@@ -115,13 +115,14 @@ same_mint : (text_of : Text → Option Text) (m n : MintWords) → GivesMint tex
 same_mint text_of m n a b = by
     (same_number (text_of (codes "issuer")) (2 ^ 32) m.issuer n.issuer (omega arith) a.issuer b.issuer)
     (same_number (text_of (codes "serial")) (2 ^ 64) m.serial n.serial (omega arith) a.serial b.serial)
+    (sym a.from ∙ b.from)
     (same_Some m.until n.until (sym a.until ∙ b.until))
     (sym a.quoted ∙ b.quoted)
     (same_Some m.left n.left (sym a.left ∙ b.left))
     (same_Some m.right n.right (sym a.right ∙ b.right))
   where
-    by : m.issuer ≡ n.issuer → m.serial ≡ n.serial → m.until ≡ n.until → m.quoted ≡ n.quoted → m.left ≡ n.left → m.right ≡ n.right → m ≡ n
-    by issuer serial until quoted left right = λ i. record { issuer = issuer i; serial = serial i; until = until i; quoted = quoted i; left = left i; right = right i }
+    by : m.issuer ≡ n.issuer → m.serial ≡ n.serial → m.from ≡ n.from → m.until ≡ n.until → m.quoted ≡ n.quoted → m.left ≡ n.left → m.right ≡ n.right → m ≡ n
+    by issuer serial from until quoted left right = λ i. record { issuer = issuer i; serial = serial i; from = from i; until = until i; quoted = quoted i; left = left i; right = right i }
 
 same_drill : (text_of : Text → Option Text) (m n : DrillWords) → GivesDrill text_of m → GivesDrill text_of n → m ≡ n
 same_drill text_of m n a b = by

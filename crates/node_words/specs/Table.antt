@@ -88,8 +88,8 @@ IsMade app c = (app_of c ≡ app) × ((out-Command c).has_globals ≡ false)
 -- all options of the table
 abbrev pub all_options : List Text
 all_options =
-    codes "connections" ∷ codes "frames" ∷ codes "issuer" ∷ codes "serial" ∷ codes "until"
-    ∷ codes "quoted" ∷ codes "left" ∷ codes "right" ∷ codes "node" ∷ codes "route"
+    codes "connections" ∷ codes "frames" ∷ codes "issuer" ∷ codes "serial" ∷ codes "from"
+    ∷ codes "until" ∷ codes "quoted" ∷ codes "left" ∷ codes "right" ∷ codes "node" ∷ codes "route"
     ∷ codes "lemmas" ∷ []
 
 -- the word is the option of this name, in one of its ways: `--name`, or `--name=value`

@@ -38,6 +38,7 @@ serve_words limits lemmas = record { limits = limits; lemmas = lemmas }
 pub record MintWords : Type 0 where
   pub issuer : ℕ
   pub serial : ℕ
+  pub from : Option Text
   pub until : Text
   pub quoted : Option Text
   pub left : Text
@@ -48,6 +49,7 @@ abbrev pub mint_words : MintAsked → MintWords
 mint_words m = record {
   issuer = m.issuer;
   serial = m.serial;
+  from = option_map (λ s. s.now) m.from;
   until = m.until.now;
   quoted = option_map (λ s. s.now) m.quoted;
   left = m.left.now;
@@ -276,6 +278,7 @@ pub record GivesServe (text_of : Text → Option Text) (s : ServeWords) : Type 0
 pub record GivesMint (text_of : Text → Option Text) (m : MintWords) : Type 0 where
   pub issuer : HasNumber (2 ^ 32) (text_of (codes "issuer")) m.issuer
   pub serial : HasNumber (2 ^ 64) (text_of (codes "serial")) m.serial
+  pub from : text_of (codes "from") ≡ m.from
   pub until : text_of (codes "until") ≡ Some m.until
   pub quoted : text_of (codes "quoted") ≡ m.quoted
   pub left : text_of (codes "left") ≡ Some m.left
@@ -314,8 +317,8 @@ serve_options =
 -- the options of `mint`
 abbrev pub mint_options : List Argument
 mint_options =
-    valued (codes "issuer") ∷ valued (codes "serial") ∷ valued (codes "until")
-    ∷ valued (codes "quoted") ∷ valued (codes "left") ∷ valued (codes "right") ∷ []
+    valued (codes "issuer") ∷ valued (codes "serial") ∷ valued (codes "from")
+    ∷ valued (codes "until") ∷ valued (codes "quoted") ∷ valued (codes "left") ∷ valued (codes "right") ∷ []
 
 -- the options of `path`
 abbrev pub path_options : List Argument

@@ -32,9 +32,10 @@ const LANES: [Argument; 2] = [Valued("connections"), Valued("frames")];
 
 const SERVE: [Argument; 3] = [Valued("connections"), Valued("frames"), Valued("lemmas")];
 
-const MINT: [Argument; 6] = [
+const MINT: [Argument; 7] = [
     Valued("issuer"),
     Valued("serial"),
+    Valued("from"),
     Valued("until"),
     Valued("quoted"),
     Valued("left"),

@@ -17,6 +17,8 @@ pub const LANE_CONNECTIONS: u64 = 1;
 pub struct Mint<'a> {
     pub issuer: u32,
     pub serial: u64,
+    /// The instant at which it begins, if one is named.
+    pub from: Option<&'a str>,
     /// The instant at which it ends.
     pub until: &'a str,
     /// The principal that the issuer quotes, if it quotes any.

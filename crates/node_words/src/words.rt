@@ -18,11 +18,12 @@ use std::alloc::{AllocError, Global};
 use taos_drill::{MAX_LANES, MAX_REQUESTS};
 
 // The options of all commands.
-const OPTIONS: [&str; 11] = [
+const OPTIONS: [&str; 12] = [
     "connections",
     "frames",
     "issuer",
     "serial",
+    "from",
     "until",
     "quoted",
     "left",
@@ -285,6 +286,7 @@ fn mint_of<'a>(options: &ArgMatches<'a>) -> Option<Mint<'a>>
 {
     let issuer = needed_u32(text_of(options, "issuer"))?;
     let serial = needed_number(text_of(options, "serial"))?;
+    let from = text_of(options, "from");
     let until = text_of(options, "until")?;
     let quoted = text_of(options, "quoted");
     let left = text_of(options, "left")?;
@@ -292,6 +294,7 @@ fn mint_of<'a>(options: &ArgMatches<'a>) -> Option<Mint<'a>>
     Some(Mint {
         issuer,
         serial,
+        from,
         until,
         quoted,
         left,

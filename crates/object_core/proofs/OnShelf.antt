@@ -12,8 +12,8 @@ use Rattle.object_core.specs.declared.rows.Row.{Row}
 use Rattle.object_core.specs.declared.taken.Taken.{Taken}
 use Rattle.object_core.specs.Objects.{ObjectEntry, ObjectSeen}
 use Rattle.object_core.specs.Numbered.{row, AreRowsOf, AreAscending, LacksNumber}
-use Rattle.object_core.specs.Shelving.{ObjectFixed, fixed_of, fixed_at, numbers_of, HaveOwnNumbers, AreWithin, IsBack}
-use Rattle.object_core.specs.OneOwner.{LoneShelfSeen, fixed_on, place_on, journal_of, seen_on, places_from, own_on, object_there, taken_from, as_taken, place_taken, FitsLimit, IsLoneShelf, HasStandIn, TakesOne, GivesOne}
+use Rattle.object_core.specs.Shelving.{ObjectFixed, fixed_of, fixed_at, numbers_of, HaveOwnNumbers, AreWithin, GivenBack, IsBack, TakenFrom}
+use Rattle.object_core.specs.OneOwner.{LoneShelfSeen, fixed_on, place_on, journal_of, seen_on, places_from, own_on, object_there, taken_from, as_taken, place_taken, FitsLimit, IsLoneShelf, HasStandIn, shelf_seen}
 use Rattle.object_core.proofs.FindingRows.{place_found, place_missing, number_there, number_missing, fixed_at-place}
 
 -- ---- lists by place
@@ -118,17 +118,16 @@ module _ (objects : List ObjectSeen) (opened : List ℕ) (are : opened ≡ map e
 abbrev pub shelf_of : List ObjectSeen → List ℕ → Option Taken → LoneShelfSeen
 shelf_of objects opened taken = record { objects = as_taken objects taken; opened = opened; taken = place_taken taken }
 
-none_taken : (l : LoneShelfSeen) (rows : List Row) (is : IsLoneShelf l.objects l.opened rows) (number : ℕ) → l.taken ≡ None → LacksNumber rows number → TakesOne l l number None
+none_taken : (l : LoneShelfSeen) (rows : List Row) (is : IsLoneShelf l.objects l.opened rows) (number : ℕ) → l.taken ≡ None → LacksNumber rows number → TakenFrom (shelf_seen l) (shelf_seen l) number None
 none_taken l rows is number none lacks = record {
   found = fixed_none l rows is number lacks;
   journal = tt;
   taken = ap (object_there l.objects) none;
-  stays = λ n. (refl, refl);
-  objects = refl;
+  rest = record { objects = refl; alone = refl; seen = refl; own = refl };
 }
 
 one_taken : (l : LoneShelfSeen) (rows : List Row) (is : IsLoneShelf l.objects l.opened rows) (number place : ℕ) (o : ObjectSeen) → Contains rows (row number place) → slice_get l.objects place ≡ Some o →
-    TakesOne l (record { objects = l.objects; opened = l.opened; taken = Some place }) number (Some o)
+    TakenFrom (shelf_seen l) (shelf_seen (record { objects = l.objects; opened = l.opened; taken = Some place })) number (Some o)
 one_taken l rows is number place o there here =
     let at : place_on l number ≡ place = place_is l rows is number place there in
     let seen : seen_on l number ≡ o.journal = ap (λ p. journal_of (slice_get l.objects p)) at ∙ ap journal_of here in
@@ -136,8 +135,7 @@ one_taken l rows is number place o there here =
       found = fixed_here l rows is number place o at here;
       journal = record { others = []; goes_on = sym seen ∙ sym (append-nil (seen_on l number)); undisturbed = λ _. sym seen };
       taken = here;
-      stays = λ n. (refl, refl);
-      objects = refl;
+      rest = record { objects = refl; alone = refl; seen = refl; own = refl };
     }
 
 -- the object that stands in is hidden by the one that was taken
@@ -146,18 +144,18 @@ hidden objects later place o stand_in remembered here stood same =
     ap (λ os. set os place remembered) stood ∙ set-set objects place stand_in remembered ∙ set_itself objects place remembered (here ∙ ap Some (sym same))
 
 module _ (objects : List ObjectSeen) (opened : List ℕ) (rows : List Row) (number : ℕ) where
-  pub takes_none : (taken : Option Taken) → IsLoneShelf (as_taken objects taken) opened rows → place_taken taken ≡ None → LacksNumber rows number → TakesOne (shelf_of objects opened taken) (shelf_of objects opened taken) number None
+  pub takes_none : (taken : Option Taken) → IsLoneShelf (as_taken objects taken) opened rows → place_taken taken ≡ None → LacksNumber rows number → TakenFrom (shelf_seen (shelf_of objects opened taken)) (shelf_seen (shelf_of objects opened taken)) number None
   takes_none taken is none lacks = none_taken (shelf_of objects opened taken) rows is number none lacks
 
   module _ (place : ℕ) (o stand_in : ObjectSeen) (later : List ObjectSeen) (t : Taken) (there : Contains rows (row number place)) (here : slice_get objects place ≡ Some o) (stood : later ≡ set objects place stand_in) (at : t.place ≡ place) (same : t.object.value ≡ o) where
     covered : set later t.place t.object.value ≡ objects
     covered = ap (λ p. set later p t.object.value) at ∙ hidden objects later place o stand_in t.object.value here stood same
 
-    pub takes_one : (taken : Option Taken) → IsLoneShelf (as_taken objects taken) opened rows → place_taken taken ≡ None → TakesOne (shelf_of objects opened taken) (shelf_of later opened (Some t)) number (Some o)
+    pub takes_one : (taken : Option Taken) → IsLoneShelf (as_taken objects taken) opened rows → place_taken taken ≡ None → TakenFrom (shelf_seen (shelf_of objects opened taken)) (shelf_seen (shelf_of later opened (Some t))) number (Some o)
     takes_one (Some t') is none = absurd cc
     takes_one None is none =
-        subst (λ os. TakesOne (shelf_of objects opened None) (record { objects = os; opened = opened; taken = Some t.place }) number (Some o)) (sym covered)
-        (subst (λ p. TakesOne (shelf_of objects opened None) (record { objects = objects; opened = opened; taken = Some p }) number (Some o)) (sym at)
+        subst (λ os. TakenFrom (shelf_seen (shelf_of objects opened None)) (shelf_seen (record { objects = os; opened = opened; taken = Some t.place })) number (Some o)) (sym covered)
+        (subst (λ p. TakenFrom (shelf_seen (shelf_of objects opened None)) (shelf_seen (record { objects = objects; opened = opened; taken = Some p })) number (Some o)) (sym at)
         (one_taken (shelf_of objects opened None) rows is number place o there here))
 
     pub kept_taken : (taken : Option Taken) (stand : Option ObjectSeen) → IsLoneShelf (as_taken objects taken) opened rows → place_taken taken ≡ None → IsLoneShelf (as_taken later (Some t)) opened rows × HasStandIn later (Some t) stand
@@ -267,7 +265,7 @@ module _ (l : LoneShelfSeen) (rows : List Row) (is : IsLoneShelf l.objects l.ope
       ap (λ p. journal_of (slice_get (set l.objects place o) p)) (same_place n)
       ∙ ap journal_of (set_other l.objects place o (place_on l n) (other_place n ne))
 
-  pub gives_one : l.taken ≡ Some place → GivesOne l l' o
+  pub gives_one : l.taken ≡ Some place → GivenBack (shelf_seen l) (shelf_seen l') o
   gives_one taken =
       let was_taken : taken_from l ≡ Some was = ap (object_there l.objects) taken ∙ here in
       record {
@@ -280,11 +278,14 @@ module _ (l : LoneShelfSeen) (rows : List Row) (is : IsLoneShelf l.objects l.ope
             own_after ∙ own_more e (more ∙ ap (λ (x : ObjectSeen). x.journal ++ e ∷ []) equal)
             ∙ ap₂ (λ (own : List ℕ) (x : ObjectSeen). own ++ length x.journal ∷ []) (sym own_before) (sym equal);
         taken = refl;
-        others = λ n ne. (
-          other_seen n ne,
-          ap₂ (λ p (j : List ObjectEntry). places_from (slice_get l.opened p) (length j)) (same_place n) (other_seen n ne),
-        );
-        objects = same_fixed;
+        rest = record {
+          objects = same_fixed;
+          alone = refl;
+          others = λ n ne. (
+            other_seen n ne,
+            ap₂ (λ p (j : List ObjectEntry). places_from (slice_get l.opened p) (length j)) (same_place n) (other_seen n ne),
+          );
+        };
       }
 
 -- by what is kept
@@ -292,14 +293,14 @@ module _ (objects later : List ObjectSeen) (opened : List ℕ) (rows : List Row)
   abbrev Given : Option Taken → Type 0
   Given taken =
       IsLoneShelf (as_taken objects taken) opened rows → (was : ObjectSeen) → taken_from (shelf_of objects opened taken) ≡ Some was → IsBack was o → FitsLimit o →
-      IsLoneShelf later opened rows × GivesOne (shelf_of objects opened taken) (shelf_of later opened None) o
+      IsLoneShelf later opened rows × GivenBack (shelf_seen (shelf_of objects opened taken)) (shelf_seen (shelf_of later opened None)) o
 
   given_some : Given (Some t)
   given_some is was at back fits =
       let l : LoneShelfSeen = shelf_of objects opened (Some t) in
       let same : set l.objects t.place o ≡ later = set-set objects t.place t.object.value o ∙ sym set_back in (
         subst (λ os. IsLoneShelf os opened rows) same (kept_given l rows is t.place was o at back fits),
-        subst (λ os. GivesOne l (record { objects = os; opened = opened; taken = None }) o) same (gives_one l rows is t.place was o at back refl),
+        subst (λ os. GivenBack (shelf_seen l) (shelf_seen (record { objects = os; opened = opened; taken = None })) o) same (gives_one l rows is t.place was o at back refl),
       )
 
   pub given : (taken : Option Taken) → taken ≡ Some t → Given taken

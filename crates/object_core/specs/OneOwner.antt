@@ -1,11 +1,11 @@
 -- Objects that nobody else takes.
-use Rattle.std.specs.Prelude.{◌≡◌, ◌≢◌, ℕ, ◌-◌, ◌<◌, ◌≤◌, ◌==◌, true, List, [], ◌∷◌, ◌++◌, length, map, Option, None, Some, IsSome, slice_get, slice_set, All, IfSome, MatchOption}
+use Rattle.std.specs.Prelude.{◌≡◌, ℕ, ◌-◌, ◌<◌, ◌≤◌, ◌==◌, true, List, [], length, map, Option, None, Some, IsSome, slice_get, slice_set, All}
 use Rattle.std.specs.List.{position_or_len, range_with_len}
 use Rattle.object_core.specs.declared.rows.Row.{Row}
 use Rattle.object_core.specs.declared.taken.Taken.{Taken}
 use Rattle.object_core.specs.Objects.{ObjectEntry, ObjectSeen}
 use Rattle.object_core.specs.Numbered.{AreRowsOf, AreAscending}
-use Rattle.object_core.specs.Shelving.{ObjectFixed, fixed_of, fixed_at, numbers_of, HaveOwnNumbers, GoesOn}
+use Rattle.object_core.specs.Shelving.{ObjectFixed, ShelfSeen, fixed_of, numbers_of, HaveOwnNumbers}
 
 -- objects of one owner, as contracts see them
 pub record LoneShelfSeen : Type 0 where
@@ -51,6 +51,16 @@ object_there objects (Some place) = slice_get objects place
 abbrev pub taken_from : LoneShelfSeen → Option ObjectSeen
 taken_from l = object_there l.objects l.taken
 
+-- what is shown of them: nobody else takes them
+abbrev pub shelf_seen : LoneShelfSeen → ShelfSeen
+shelf_seen l = record {
+  objects = fixed_on l;
+  alone = true;
+  seen = λ number. seen_on l number;
+  own = λ number. own_on l number;
+  taken = taken_from l;
+}
+
 -- ---- what is kept
 
 -- the objects, where one may be taken: it stands as it was then
@@ -84,27 +94,3 @@ pub record IsLoneShelf (objects : List ObjectSeen) (opened : List ℕ) (rows : L
 abbrev pub HasStandIn : List ObjectSeen → Option Taken → Option ObjectSeen → Type 0
 HasStandIn objects None stand_in = IsSome stand_in
 HasStandIn objects (Some t) stand_in = t.place < length objects
-
--- ---- taking and giving back
-
--- the object of the number is taken, if there is one
-pub record TakesOne (l l' : LoneShelfSeen) (number : ℕ) (r : Option ObjectSeen) : Type 0 where
-  pub found : MatchOption r (fixed_at (fixed_on l) number ≡ None)
-      (λ o. fixed_at (fixed_on l) number ≡ Some (fixed_of o))
-  pub journal : IfSome r (GoesOn true (seen_on l number))
-  pub taken : taken_from l' ≡ r
-  pub stays : (n : ℕ) → (seen_on l' n ≡ seen_on l n) × (own_on l' n ≡ own_on l n)
-  pub objects : fixed_on l' ≡ fixed_on l
-
--- the object that was taken is given back
-pub record GivesOne (l l' : LoneShelfSeen) (o : ObjectSeen) : Type 0 where
-  pub seen : seen_on l' o.plan.number ≡ o.journal
-  pub kept : (was : ObjectSeen) → taken_from l ≡ Some was → o.journal ≡ was.journal →
-      own_on l' o.plan.number ≡ own_on l o.plan.number
-  pub added : (was : ObjectSeen) (e : ObjectEntry) → taken_from l ≡ Some was →
-      o.journal ≡ was.journal ++ e ∷ [] →
-      own_on l' o.plan.number ≡ own_on l o.plan.number ++ length was.journal ∷ []
-  pub taken : taken_from l' ≡ None
-  pub others : (n : ℕ) → n ≢ o.plan.number →
-      (seen_on l' n ≡ seen_on l n) × (own_on l' n ≡ own_on l n)
-  pub objects : fixed_on l' ≡ fixed_on l

@@ -1,9 +1,9 @@
 //! Objects that nobody else takes.
 
-ghost use Rattle.std.specs.Prelude.{◌≡◌, ◌<◌, [], ℕ, None, Some, true, length, map, All, IfOk, slice_get, slice_set};
+ghost use Rattle.std.specs.Prelude.{◌≡◌, ◌<◌, [], ℕ, None, Some, length, map, All, IfOk, slice_get, slice_set};
 ghost use Rattle.object_core.specs.Objects.{ObjectSeen};
-ghost use Rattle.object_core.specs.OneOwner.{FitsLimit, GivesOne, TakesOne, fixed_on, own_on, seen_on, taken_from};
-ghost use Rattle.object_core.specs.Shelving.{HaveOwnNumbers, IsBack, fixed_of};
+ghost use Rattle.object_core.specs.OneOwner.{FitsLimit, own_on, shelf_seen, taken_from};
+ghost use Rattle.object_core.specs.Shelving.{GivenBack, HaveOwnNumbers, IsBack, TakenFrom, fixed_of};
 
 use crate::object::Object;
 use crate::rows::{Row, place_in, rows_of};
@@ -99,7 +99,7 @@ impl LoneShelf {
     // The object of the number, if there is one.
     fn take_one(&mut self, number: u32) -> Option<Object>
         requires { taken_from self.old ≡ None }
-        ensures { TakesOne self.old self.new number result }
+        ensures { TakenFrom (shelf_seen self.old) (shelf_seen self.new) number result }
     {
         let place = place_in(&self.rows, number)?;
         let stand_in = self.stand_in.take().unwrap();
@@ -114,7 +114,7 @@ impl LoneShelf {
     // The object that was taken is back.
     fn give_one(&mut self, object: Object)
         requires { (was : ObjectSeen) × (taken_from self.old ≡ Some was) × IsBack was object }
-        ensures { GivesOne self.old self.new object }
+        ensures { GivenBack (shelf_seen self.old) (shelf_seen self.new) object }
     {
         // It says that the journal is within its limit.
         let _journal = object.journal();
@@ -133,15 +133,12 @@ impl LoneShelf {
 }
 
 impl Shelf for LoneShelf {
-    ghost objects = { λ s. fixed_on s };
+    ghost shown = { λ s. shelf_seen s };
 
-    ghost seen = { λ s number. seen_on s number };
-
-    ghost own = { λ s number. own_on s number };
-
-    ghost taken = { λ s. taken_from s };
-
-    ghost alone = { λ s. true };
+    fn known(&self) {
+        // What is kept says so.
+        let _objects = &self.objects;
+    }
 
     fn has(&self, number: u32) -> bool {
         place_in(&self.rows, number).is_some()

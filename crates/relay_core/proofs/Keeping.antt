@@ -1,6 +1,6 @@
 -- What is kept by bytes: what a look-up finds, what a call leaves, and that all of it stays open.
 use Rattle.std.proofs.Common.{◌≡◌, ◌⊎◌, ℕ, true, List, Contains, Some, refl, sym, ap, subst, ◌∙◌, inl, inr, nat_eq, Global}
-use Rattle.std.specs.Prelude.{Vec, OnOk, OnErr, Result, Ok, Err}
+use Rattle.std.specs.Prelude.{Vec, IfSome, OnOk, OnErr, Option, None, Result, Ok, Err}
 use Rattle.std.specs.declared.sync.Arc.{Arc}
 use Rattle.std.specs.Arc.{arc_value}
 use Rattle.std.specs.Cmp.Lexicographic.{pointwise, same_text}
@@ -10,7 +10,7 @@ use Rattle.lru.proofs.CallerLemmas.{Contains-lookup, Contains-put_entries}
 use Rattle.stmt_codec.specs.declared.cert.Cert.{Cert}
 use Rattle.stmt_codec.specs.Certificates.{certificate}
 use Rattle.sealed_cert.specs.Seals.{Opens}
-use Rattle.relay_core.specs.Opened.{Kept, AreOpen, IsKeptBy, KeepsAtMost}
+use Rattle.relay_core.specs.Opened.{Kept, AreOpen, HoldsOpen, IsKeptBy, KeepsAtMost}
 
 -- a look-up by bytes finds one that is kept by these very bytes
 pub found : (kept : List Kept) (text : List ℕ) (cert : Arc Cert Global) → lookup (λ (k : Vec ℕ Global). pointwise nat_eq text k.items) kept ≡ Some cert → IsKeptBy kept text (arc_value cert)
@@ -37,9 +37,18 @@ pub after_put : {A E : Type 0} (r : Result A E) (c after : LruCache (Vec ℕ Glo
 after_put (Ok a) c after k cert text value went stayed is same = subst (λ (x : LruCache (Vec ℕ Global) (Arc Cert Global)). KeepsAtMost c.entries x.entries text value) (sym went) (put c k cert text value is same)
 after_put (Err x) c after k cert text value went stayed is same = λ e there. inl (subst (λ (x : LruCache (Vec ℕ Global) (Arc Cert Global)). Contains x.entries e) stayed there)
 
-pub opens_by : (key : List ℕ) (kept : List Kept) (text : List ℕ) (value : Cert) → AreOpen key kept → IsKeptBy kept text value → Opens key text (certificate value.body)
+opens_by : (key : List ℕ) (kept : List Kept) (text : List ℕ) (value : Cert) → AreOpen key kept → IsKeptBy kept text value → Opens key text (certificate value.body)
 opens_by key kept text value all (e, there, same, is) =
     subst (λ (v : Cert). Opens key text (certificate v.body)) is (subst (λ (l : List ℕ). Opens key l (certificate (arc_value e.1).body)) same (all e there))
+
+-- the certificate that is given, if there is one, is what the bytes open to
+abbrev pub OpensIfSome : (key text : List ℕ) → Option (Arc Cert Global) → Type 0
+OpensIfSome key text given = IfSome given (λ c. Opens key text (certificate (arc_value c).body))
+
+pub opens_if_some : (key : List ℕ) (held : Option (LruCache (Vec ℕ Global) (Arc Cert Global))) (certs : LruCache (Vec ℕ Global) (Arc Cert Global)) (text : List ℕ) (given : Option (Arc Cert Global)) →
+    HoldsOpen key held → held ≡ Some certs → IfSome given (λ c. IsKeptBy certs.entries text (arc_value c)) → OpensIfSome key text given
+opens_if_some key held certs text None all is kept = tt
+opens_if_some key held certs text (Some cert) all is kept = opens_by key certs.entries text (arc_value cert) (subst (HoldsOpen key) is all) kept
 
 pub stays_open : (key : List ℕ) (before after : List Kept) → AreOpen key before → ((e : Kept) → Contains after e → Contains before e) → AreOpen key after
 stays_open key before after all no_more = λ e there. all e (no_more e there)

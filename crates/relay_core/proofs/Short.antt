@@ -7,5 +7,5 @@ use Rattle.sealed_cert.proofs.Sizes.{short_sealed}
 pub has_room : (key old bytes : List ℕ) (c : Certificate) → IsWithinLimits c → old ≡ [] → bytes ≡ sealed 2 key c → length old + length bytes ≤ 2048
 has_room key old bytes c limits none is = sum (sealed 2 key c) (short_sealed 2 key c limits) is
   where
-    sum : (text : List ℕ) → length text ≤ 1015 → bytes ≡ text → length old + length bytes ≤ 2048
+    sum : (text : List ℕ) → length text ≤ 1023 → bytes ≡ text → length old + length bytes ≤ 2048
     sum text fits e = omega (arith, ap length none, ap length e, fits)

@@ -21,10 +21,10 @@ pub fn one_case_holds()
         → said ≡ resealed issuers nodes node bytes }
 {}
 
-/// A certificate within the limits is at most 1,015 bytes long under a seal.
+/// A certificate within the limits is at most 1,023 bytes long under a seal.
 pub fn sealed_certificates_are_short()
     ensures { (kind : ℕ) (key : List ℕ) (c : Certificate) → IsWithinLimits c
-        → length (sealed kind key c) ≤ 1015 }
+        → length (sealed kind key c) ≤ 1023 }
 {}
 
 /// Each turn of a connection that a table serves has the reply of a relay with the table's keys,

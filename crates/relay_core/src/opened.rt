@@ -95,7 +95,6 @@ impl OpenedCerts {
         }
     }
 
-    #[tactic(auto, using(crate::proofs::Keeping::opens_by))]
     fn recall(&mut self, text: &[u8]) -> Option<Arc<Cert>>
         ensures opens { IfSome result
             (λ c. Opens self.old text.now (certificate (arc_value c).body)) }

@@ -1,15 +1,9 @@
 -- What a domain seals is made of bytes.
-use Rattle.std.proofs.Common.{ℕ, ◌+◌, ◌≤◌, ◌<◌, List, [], ◌∷◌, ◌++◌, length, Option, Some, None, arith, length-append}
-use Rattle.std.specs.Int.{w32, w64, to_be_bytes}
+use Rattle.std.proofs.Common.{ℕ, ◌<◌, List, [], ◌∷◌, ◌++◌, length, arith, length-append}
+use Rattle.std.specs.Int.{w32, to_be_bytes}
 use Rattle.std.specs.List.{flat_map}
-use Rattle.byte_fields.specs.Steps.{optional}
-use Rattle.byte_fields.proofs.FieldLaws.{IsBytes, IsBytes-append, IsBytes-cons, IsBytes-number, bytes_are}
-use Rattle.keyed_seal.specs.Tag.{tag_of}
-use Rattle.keyed_seal.proofs.Tags.{bytes-tag_of}
-use Rattle.prin_term.specs.Principal.{Principal, spelling}
-use Rattle.prin_term.proofs.Terms.{spelling_bytes}
-use Rattle.stmt_codec.specs.Certificates.{Certificate, body_spelling}
-use Rattle.sealed_cert.specs.Seals.{sealed_after, text_after}
+use Rattle.byte_fields.proofs.FieldLaws.{IsBytes, IsBytes-append, IsBytes-cons, IsBytes-number}
+use Rattle.sealed_cert.proofs.SealedBytes.{no_bytes, sealed_bytes}
 use Rattle.frame_link.specs.Relay.{Said, Gave, Refuses}
 use Rattle.relay_path.specs.declared.answer.Target.{Target}
 use Rattle.relay_path.specs.declared.answer.Target.TheVariants.{Node, Peer}
@@ -18,42 +12,18 @@ use Rattle.relay_path.specs.Domains.{DomainKnows}
 use Rattle.relay_path.specs.Hopping.{front_for, IsHop}
 use Rattle.relay_path.specs.Hopping.{is_of_wrong_kind, is_malformed, is_of_nobody_known, is_badly_sealed, is_a_loop, goes_too_far, is_for_nobody_known, is_passed}
 
-none : IsBytes []
-none i = omega arith
-
-optional_bytes : (o : Option Principal) → IsBytes (optional spelling o)
-optional_bytes None = IsBytes-cons 0 [] (omega arith) none
-optional_bytes (Some p) = IsBytes-cons 1 (spelling p) (omega arith) (spelling_bytes p)
-
-body_bytes : (c : Certificate) → IsBytes (body_spelling c)
-body_bytes c =
-    let one = 1 ∷ [] ++ to_be_bytes w32 c.issuer in
-    let two = one ++ optional spelling c.quoted in
-    let three = two ++ spelling c.left in
-    let four = three ++ spelling c.right in
-    let first : IsBytes one = IsBytes-cons 1 (to_be_bytes w32 c.issuer) (omega arith) (IsBytes-number w32 c.issuer) in
-    let second : IsBytes two = IsBytes-append one (optional spelling c.quoted) first (optional_bytes c.quoted) in
-    let third : IsBytes three = IsBytes-append two (spelling c.left) second (spelling_bytes c.left) in
-    let fourth : IsBytes four = IsBytes-append three (spelling c.right) third (spelling_bytes c.right) in
-    IsBytes-append (four ++ to_be_bytes w64 c.until) (to_be_bytes w64 c.serial) (IsBytes-append four (to_be_bytes w64 c.until) fourth (IsBytes-number w64 c.until)) (IsBytes-number w64 c.serial)
-
 numbers_bytes : (xs : List ℕ) → IsBytes (flat_map (to_be_bytes w32) xs)
-numbers_bytes [] = none
+numbers_bytes [] = no_bytes
 numbers_bytes (x ∷ xs) = IsBytes-append (to_be_bytes w32 x) (flat_map (to_be_bytes w32) xs) (IsBytes-number w32 x) (numbers_bytes xs)
 
 front_bytes : (visited : List ℕ) → length visited < 256 → IsBytes (front_of visited)
-front_bytes [] few = IsBytes-cons 1 [] (omega arith) none
+front_bytes [] few = IsBytes-cons 1 [] (omega arith) no_bytes
 front_bytes (v ∷ vs) few =
     IsBytes-cons 3 (length (v ∷ vs) ∷ flat_map (to_be_bytes w32) (v ∷ vs)) (omega arith) (IsBytes-cons (length (v ∷ vs)) (flat_map (to_be_bytes w32) (v ∷ vs)) few (numbers_bytes (v ∷ vs)))
 
 target_bytes : (target : Target) (visited : List ℕ) → length visited < 256 → IsBytes (front_for target visited)
-target_bytes (Node node) visited few = IsBytes-cons 2 [] (omega arith) none
+target_bytes (Node node) visited few = IsBytes-cons 2 [] (omega arith) no_bytes
 target_bytes (Peer peer) visited few = front_bytes visited few
-
-sealed_bytes : (front key : List ℕ) (c : Certificate) → IsBytes front → IsBytes (sealed_after front key c)
-sealed_bytes front key c is =
-    let tag = tag_of key (text_after front c) in
-    IsBytes-append (text_after front c) tag (IsBytes-append front (body_spelling c) is (body_bytes c)) (bytes_are tag (bytes-tag_of key (text_after front c)))
 
 -- the bytes that are given
 abbrev pub GivesBytes : Said → Type 0

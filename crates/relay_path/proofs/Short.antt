@@ -6,7 +6,7 @@ use Rattle.stmt_codec.specs.Certificates.{Certificate, body_spelling, IsWithinLi
 use Rattle.stmt_codec.proofs.BodyLengths.{short_body}
 use Rattle.sealed_cert.specs.Seals.{sealed_after, text_after}
 
-sum : (front body tag : List ℕ) → length front ≤ 14 → length body ≤ 982 → length tag ≡ 32 → length ((front ++ body) ++ tag) ≤ 2048
+sum : (front body tag : List ℕ) → length front ≤ 14 → length body ≤ 990 → length tag ≡ 32 → length ((front ++ body) ++ tag) ≤ 2048
 sum front body tag few fits whole = omega (arith, length-append (front ++ body) tag, length-append front body)
 
 pub has_room : (front key old bytes : List ℕ) (c : Certificate) → IsWithinLimits c → length front ≤ 14 → old ≡ [] → bytes ≡ sealed_after front key c → length old + length bytes ≤ 2048

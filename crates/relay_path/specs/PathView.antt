@@ -6,6 +6,7 @@ use Rattle.file_lines.specs.declared.fault.FileCause.{FileCause}
 use Rattle.file_lines.specs.declared.fault.FileCause.TheVariants as files
 use Rattle.file_lines.specs.declared.fault.FileFault.{FileFault}
 use Rattle.file_lines.specs.declared.fault.FileFault.TheVariants as faults
+use Rattle.file_lines.specs.FileLines.{IsFaultOf}
 use Rattle.file_lines.specs.Held.{HoldsKeys}
 use Rattle.file_lines.specs.LineView.{SoFar}
 use Rattle.relay_path.specs.declared.domain.Domain.{Domain}
@@ -86,6 +87,4 @@ path_cause files.NoNode = causes.Words
 
 -- the fault is one of a path file
 abbrev pub IsPathFault : FileFault → Type 0
-IsPathFault (faults.Line line cause) = file_cause (path_cause cause) ≡ cause
-IsPathFault (faults.Byte offset) = ⊥
-IsPathFault faults.NoMemory = Unit {0}
+IsPathFault fault = IsFaultOf (λ cause. file_cause (path_cause cause) ≡ cause) fault

@@ -4,3 +4,4 @@ pub mod Lengths
 pub mod Judged
 pub mod Refused
 pub mod Sizes
+pub mod SealedBytes

@@ -7,8 +7,8 @@ use Rattle.stmt_codec.proofs.BodyLengths.{short_body}
 use Rattle.sealed_cert.specs.Seals.{sealed, sealed_text}
 
 -- a text and its tag
-sealed_length : (kind : ℕ) (body tag : List ℕ) → length body ≤ 982 → length tag ≡ 32 → length ((kind ∷ body) ++ tag) ≤ 1015
+sealed_length : (kind : ℕ) (body tag : List ℕ) → length body ≤ 990 → length tag ≡ 32 → length ((kind ∷ body) ++ tag) ≤ 1023
 sealed_length kind body tag fits whole = omega (arith, length-append (kind ∷ body) tag)
 
-pub short_sealed : (kind : ℕ) (key : List ℕ) (c : Certificate) → IsWithinLimits c → length (sealed kind key c) ≤ 1015
+pub short_sealed : (kind : ℕ) (key : List ℕ) (c : Certificate) → IsWithinLimits c → length (sealed kind key c) ≤ 1023
 short_sealed kind key c limits = sealed_length kind (body_spelling c) (tag_of key (sealed_text kind c)) (short_body c limits) (length-tag_of key (sealed_text kind c))

@@ -69,10 +69,9 @@ fn step_first<W: Wait + Sync, S: Shards>(
 ) -> Result<u64, AllocError>
     requires meant { IsAlwaysMeant (event_of event) }
     requires fits { FitsEvent (event_of event) }
-    ensures { S.plans shards.new ≡ S.plans shards.old }
+    ensures { (S.shown shards.new).plans ≡ (S.shown shards.old).plans }
 {
-    // It says that there is a shard.
-    let _count = shards.count();
+    shards.known();
     let (place, _) = shards.step(rt, alloc, 0, event)?;
     Ok(place)
 }
@@ -132,10 +131,10 @@ fn ask_once<W: Wait + Sync, S: Shards>(
     meeting: &mut Meeting<'_>,
     asked: Arc<Ask>,
 ) -> Result<Deed, AllocError>
-    requires planned { HasChannel (S.plans shards.old) asked.value.channel }
+    requires planned { HasChannel (S.shown shards.old).plans asked.value.channel }
     requires on { IsOn asked.value.channel (principal asked.value.subject) }
     requires fits { FitsAsk (ask_of asked.value) }
-    ensures { S.plans shards.new ≡ S.plans shards.old }
+    ensures { (S.shown shards.new).plans ≡ (S.shown shards.old).plans }
 {
     let ended = ask(rt, alloc, shards, bench, meeting, asked)?;
     let is_granted = match ended.verdict {
@@ -154,7 +153,7 @@ fn present<W: Wait + Sync, S: Shards>(
     first: u64,
     count: u64,
 ) -> Result<Deed, AllocError>
-    requires { HasChannel (S.plans shards.old) 2 }
+    requires { HasChannel (S.shown shards.old).plans 2 }
 {
     let mut bench = Workbench::reserve(alloc)?;
     for more in 0..count {
@@ -174,8 +173,8 @@ fn take<W: Wait + Sync, H: Shelf>(
     number: u32,
     meeting: &mut Meeting<'_>,
 ) -> Option<u32>
-    requires { H.taken shelf.old ≡ None }
-    ensures { H.taken shelf.new ≡ None }
+    requires { (H.shown shelf.old).taken ≡ None }
+    ensures { (H.shown shelf.new).taken ≡ None }
 {
     let object = shelf.take(rt, number)?;
     let taken = object.number();
@@ -192,9 +191,9 @@ fn do_task<W: Wait + Sync, S: Shards, H: Shelf>(
     task: Task,
     meeting: &mut Meeting<'_>,
 ) -> Result<Deed, AllocError>
-    requires planned { HasChannel (S.plans shards.old) 2 }
-    requires none_taken { H.taken shelf.old ≡ None }
-    ensures { H.taken shelf.new ≡ None }
+    requires planned { HasChannel (S.shown shards.old).plans 2 }
+    requires none_taken { (H.shown shelf.old).taken ≡ None }
+    ensures { (H.shown shelf.new).taken ≡ None }
 {
     match task {
         Task::Expire(times) => Ok(Deed::Stepped(expire(rt, alloc, shards, times)?)),
@@ -222,9 +221,9 @@ pub(crate) fn work<W: Wait + Sync, S: Shards, H: Shelf>(
     task: Task,
     meeting: Meeting<'_>,
 ) -> Result<Report, AllocError>
-    requires planned { HasChannel (S.plans shards.old) 2 }
-    requires none_taken { H.taken shelf.old ≡ None }
-    ensures { H.taken shelf.new ≡ None }
+    requires planned { HasChannel (S.shown shards.old).plans 2 }
+    requires none_taken { (H.shown shelf.old).taken ≡ None }
+    ensures { (H.shown shelf.new).taken ≡ None }
 {
     let mut meeting = meeting;
     meeting.begin();

@@ -1,6 +1,6 @@
 -- A body that is read was spelled there, and one that is spelled there is read.
-use Rattle.std.proofs.Common.{◌≡◌, ℕ, ◌+◌, ◌-◌, ◌^◌, ◌<◌, ◌≤◌, true, List, [], ◌∷◌, ◌++◌, length, drop, take, Option, Some, None, Ok, refl, sym, ap, subst, ◌∙◌, append_assoc, arith}
-use Rattle.std.specs.Prelude.{◌↔◌, nat_le, if◌then◌else◌, Err, IfSome}
+use Rattle.std.proofs.Common.{◌≡◌, ℕ, zero, suc, ◌+◌, ◌-◌, ◌^◌, ◌<◌, ◌≤◌, true, List, [], ◌∷◌, ◌++◌, length, drop, take, Option, Some, None, Ok, refl, sym, ap, ap₂, subst, ◌∙◌, append_assoc, arith}
+use Rattle.std.specs.Prelude.{◌↔◌, ◌==◌, not, nat_le, if◌then◌else◌, Err, IfSome}
 use Rattle.std.specs.Int.{w32, w64, to_be_bytes}
 use Rattle.std.proofs.lemmas.Bool.{leb-true, le-leb}
 use Rattle.std.proofs.lemmas.List.{take_at}
@@ -8,14 +8,18 @@ use Rattle.prin_term.specs.Principal.{Principal, spelling, HasSpelling}
 use Rattle.prin_term.specs.Refusal.{FitsLimits}
 use Rattle.prin_term.specs.TermFields.{seen_as, term_in}
 use Rattle.prin_term.proofs.TermReaders.{reads_term, reads_optional_term}
+use Rattle.byte_fields.specs.Formats.{u64_in}
+use Rattle.byte_fields.specs.Readers.{given, passing}
 use Rattle.byte_fields.specs.Steps.{optional}
+use Rattle.byte_fields.specs.declared.fault.FormatFault.{FormatFault}
 use Rattle.byte_fields.specs.declared.fault.FormatFault.TheVariants.{Malformed}
-use Rattle.byte_fields.proofs.FieldLaws.{IsBytes, TakesAt}
+use Rattle.byte_fields.proofs.FieldLaws.{IsBytes, TakesAt, took}
 use Rattle.byte_fields.proofs.FormatFields.{reads_u8_in, reads_u32, reads_u64}
-use Rattle.byte_fields.proofs.ReaderLaws.{Reads, reads_followed, reads_made}
-use Rattle.byte_fields.proofs.Results.{bind_ok, chosen_ok}
-use Rattle.stmt_codec.specs.Certificates.{Certificate, body_spelling, key_quoting, distinct_parts, FitsBody, IsSmall, IsWithinLimits, HasBodySpelling, IsBodyAt}
-use Rattle.stmt_codec.specs.Reading.{right_at, body_at}
+use Rattle.byte_fields.proofs.ReaderLaws.{Reads, reads_as, reads_followed, reads_made, reads_passing}
+use Rattle.byte_fields.proofs.Results.{bind_ok, chosen_ok, ok_is}
+use Rattle.stmt_codec.specs.Certificates.{Certificate, body_spelling, from_bytes, version_of, key_quoting, distinct_parts, FitsBody, IsSmall, IsWithinLimits, HasBodySpelling, IsBodyAt}
+use Rattle.stmt_codec.specs.Reading.{right_at, from_at, body_at}
+use Rattle.stmt_codec.proofs.Beginnings.{BeginsBy, begins_some, none_is, some_is, version_within}
 
 -- ---- the limits of terms, in their two parts
 
@@ -50,44 +54,82 @@ reads_right speaker left bytes = record {
       rw (read, test) refl;
 }
 
+-- ---- the beginning
+
+reads_none : (bytes : List ℕ) → Reads {E = FormatFault} bytes (given 0) from_bytes (BeginsBy 1)
+reads_none bytes = record {
+  takes = λ ok at x le e.
+      let none : TakesAt bytes at [] at = took bytes [] (drop at bytes) at at refl (omega arith) in
+      subst (λ (y : ℕ × ℕ). TakesAt bytes at (from_bytes y.0) y.1 × BeginsBy 1 y.0) (ok_is FormatFault (0, at) x e) (none, (omega arith, refl));
+  again = λ at n rest fits e.
+      let none : n ≡ 0 = none_is n fits in
+      let place : at ≡ at + length (from_bytes n) = omega (arith, ap (λ (k : ℕ). length (from_bytes k)) none) in
+      ap₂ (λ (k end : ℕ). Ok (k, end)) (sym none) place;
+}
+
+reads_some : (bytes : List ℕ) → Reads bytes (passing (λ n. not (n == 0)) Malformed (u64_in bytes)) from_bytes (BeginsBy 2)
+reads_some bytes = reads_as from_bytes (BeginsBy 2) (reads_passing (λ n. not (n == 0)) Malformed (reads_u64 bytes)) some_is begins_some
+
+pub reads_from : (version : ℕ) → (1 ≤ version) × (version ≤ 2) → (bytes : List ℕ) → Reads bytes (from_at version bytes) from_bytes (BeginsBy version)
+unfolding from_at
+reads_from zero within bytes = absurd (omega (arith, within.0))
+reads_from (suc zero) within bytes = reads_none bytes
+reads_from (suc (suc zero)) within bytes = reads_some bytes
+reads_from (suc (suc (suc n))) within bytes = absurd (omega (arith, within.1))
+
 -- ---- the body
 
 -- the version and the fields, in their order
 abbrev Parts : Type 0
-Parts = ℕ × (ℕ × (Option Principal × (Principal × (Principal × (ℕ × ℕ)))))
+Parts = ℕ × (ℕ × (Option Principal × (Principal × (Principal × (ℕ × (ℕ × ℕ))))))
 
 abbrev pub parts_of : Certificate → Parts
-parts_of c = (1, (c.issuer, (c.quoted, (c.left, (c.right, (c.until, c.serial))))))
+parts_of c = (version_of c.from, (c.issuer, (c.quoted, (c.left, (c.right, (c.from, (c.until, c.serial)))))))
 
 abbrev pub parts_spelling : Parts → List ℕ
 parts_spelling x =
-    (x.0 ∷ []) ++ (to_be_bytes w32 x.1.0 ++ (optional spelling x.1.1.0 ++ (spelling x.1.1.1.0 ++ (spelling x.1.1.1.1.0 ++ (to_be_bytes w64 x.1.1.1.1.1.0 ++ to_be_bytes w64 x.1.1.1.1.1.1)))))
+    (x.0 ∷ []) ++ (to_be_bytes w32 x.1.0 ++ (optional spelling x.1.1.0 ++ (spelling x.1.1.1.0 ++ (spelling x.1.1.1.1.0 ++ (from_bytes x.1.1.1.1.1.0 ++ (to_be_bytes w64 x.1.1.1.1.1.1.0 ++ to_be_bytes w64 x.1.1.1.1.1.1.1))))))
 
 abbrev pub FitParts : Parts → Type 0
 FitParts x =
-    ((1 ≤ x.0) × (x.0 ≤ 1)) × ((x.1.0 < 2 ^ 32) × (IfSome x.1.1.0 (FitsLimits 64) × (FitsLimits 64 x.1.1.1.0 × (IsRight (key_quoting x.1.0 x.1.1.0) x.1.1.1.0 x.1.1.1.1.0 × ((x.1.1.1.1.1.0 < 2 ^ 64) × (x.1.1.1.1.1.1 < 2 ^ 64))))))
+    ((1 ≤ x.0) × (x.0 ≤ 2)) × ((x.1.0 < 2 ^ 32) × (IfSome x.1.1.0 (FitsLimits 64) × (FitsLimits 64 x.1.1.1.0 × (IsRight (key_quoting x.1.0 x.1.1.0) x.1.1.1.0 x.1.1.1.1.0 × (BeginsBy x.0 x.1.1.1.1.1.0 × ((x.1.1.1.1.1.1.0 < 2 ^ 64) × (x.1.1.1.1.1.1.1 < 2 ^ 64)))))))
 
 pub parts_fit : (c : Certificate) → FitsBody c → FitParts (parts_of c)
 parts_fit c is = (
-  (omega arith, omega arith),
+  version_within c.from,
   (
     is.numbers.issuer,
-    (quoted_fitting c.quoted is.numbers.quoted is.limits.quoted_fits, (fitting c.left is.numbers.left is.limits.left_fits, ((fitting c.right is.numbers.right is.limits.right_fits, is.limits.few_subterms), (is.numbers.until, is.numbers.serial)))),
+    (
+      quoted_fitting c.quoted is.numbers.quoted is.limits.quoted_fits,
+      (
+        fitting c.left is.numbers.left is.limits.left_fits,
+        ((fitting c.right is.numbers.right is.limits.right_fits, is.limits.few_subterms), ((is.numbers.from, refl), (is.numbers.until, is.numbers.serial))),
+      ),
+    ),
   ),
 )
 
-grouped : (version : ℕ) (issuer quoted left right until serial : List ℕ) → version ≡ 1
-    → (version ∷ []) ++ (issuer ++ (quoted ++ (left ++ (right ++ (until ++ serial))))) ≡ 1 ∷ [] ++ issuer ++ quoted ++ left ++ right ++ until ++ serial
-grouped version issuer quoted left right until serial e = rw e (simp append_assoc)
+grouped : (version from_version : ℕ) (issuer quoted left right from until serial : List ℕ) → version ≡ from_version
+    → (version ∷ []) ++ (issuer ++ (quoted ++ (left ++ (right ++ (from ++ (until ++ serial)))))) ≡ from_version ∷ [] ++ issuer ++ quoted ++ left ++ right ++ from ++ until ++ serial
+grouped version from_version issuer quoted left right from until serial e = rw e (simp append_assoc)
 
-in_parts : (version : ℕ) (c : Certificate) → version ≡ 1 → parts_spelling (version, (parts_of c).1) ≡ body_spelling c
-in_parts version c e = grouped version (to_be_bytes w32 c.issuer) (optional spelling c.quoted) (spelling c.left) (spelling c.right) (to_be_bytes w64 c.until) (to_be_bytes w64 c.serial) e
+in_parts : (version : ℕ) (c : Certificate) → version ≡ version_of c.from → parts_spelling (version, (parts_of c).1) ≡ body_spelling c
+in_parts version c e =
+    grouped version (version_of c.from) (to_be_bytes w32 c.issuer) (optional spelling c.quoted) (spelling c.left) (spelling c.right) (from_bytes c.from) (to_be_bytes w64 c.until) (to_be_bytes w64 c.serial) e
 
 pub of_parts : (c : Certificate) → body_spelling c ≡ parts_spelling (parts_of c)
-of_parts c = sym (in_parts 1 c refl)
+of_parts c = sym (in_parts (version_of c.from) c refl)
 
 abbrev whole : Parts → Certificate
-whole x = record { issuer = x.1.0; quoted = x.1.1.0; left = x.1.1.1.0; right = x.1.1.1.1.0; until = x.1.1.1.1.1.0; serial = x.1.1.1.1.1.1 }
+whole x = record {
+  issuer = x.1.0;
+  quoted = x.1.1.0;
+  left = x.1.1.1.0;
+  right = x.1.1.1.1.0;
+  from = x.1.1.1.1.1.0;
+  until = x.1.1.1.1.1.1.0;
+  serial = x.1.1.1.1.1.1.1;
+}
 
 whole_fits : (x : Parts) → FitParts x → FitsBody (whole x)
 whole_fits x is =
@@ -95,7 +137,7 @@ whole_fits x is =
     let left = is.1.1.1.0 in
     let right = is.1.1.1.1.0 in
     record {
-      numbers = record { issuer = is.1.0; quoted = quoted.0; left = left.numbers; right = right.0.numbers; until = is.1.1.1.1.1.0; serial = is.1.1.1.1.1.1 };
+      numbers = record { issuer = is.1.0; quoted = quoted.0; left = left.numbers; right = right.0.numbers; from = is.1.1.1.1.1.0.0; until = is.1.1.1.1.1.1.0; serial = is.1.1.1.1.1.1.1 };
       limits = record { quoted_fits = quoted.1; left_fits = (left.nodes_fit, left.depth_fits); right_fits = (right.0.nodes_fit, right.0.depth_fits); few_subterms = right.1 };
     }
 
@@ -103,9 +145,9 @@ pub reads_body : (bytes : List ℕ) → Reads bytes (body_at bytes) body_spellin
 unfolding body_at
 reads_body bytes =
     reads_made whole parts_of body_spelling FitsBody
-    (reads_followed (reads_u8_in bytes 1 1 (omega arith)) (λ _ _. reads_followed (reads_u32 bytes) (λ issuer _. reads_followed (reads_optional_term bytes 64) (λ quoted _. reads_followed (reads_term seen_as 64 bytes)
-    (λ left _. reads_followed (reads_right (key_quoting issuer quoted) left bytes) (λ _ _. reads_followed (reads_u64 bytes) (λ _ _. reads_u64 bytes)))))))
-    (λ x is. (whole_fits x is, in_parts x.0 (whole x) (omega (arith, is.0))))
+    (reads_followed (reads_u8_in bytes 1 2 (omega arith)) (λ version within. reads_followed (reads_u32 bytes) (λ issuer _. reads_followed (reads_optional_term bytes 64) (λ quoted _. reads_followed (reads_term seen_as 64 bytes)
+    (λ left _. reads_followed (reads_right (key_quoting issuer quoted) left bytes) (λ _ _. reads_followed (reads_from version within bytes) (λ _ _. reads_followed (reads_u64 bytes) (λ _ _. reads_u64 bytes))))))))
+    (λ x is. (whole_fits x is, in_parts x.0 (whole x) is.1.1.1.1.1.0.1))
     (λ c is. (parts_fit c is, of_parts c, refl))
 
 -- what is read stands there, and within the limits

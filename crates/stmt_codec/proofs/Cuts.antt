@@ -38,7 +38,7 @@ pub record Lacks {A E : Type 0} (bytes : List ℕ) (short : E) (r : Reader A E) 
 -- ---- one behind another, a test, another value
 
 pub lacks_followed : {A B E : Type 0} {bytes : List ℕ} {short : E} {first : Reader A E} {second : A → Reader B E} {sa : A → List ℕ} {sb : B → List ℕ} {Fa : A → Type 0} {Fb : A → B → Type 0}
-    → Reads bytes first sa Fa → Lacks bytes short first sa Fa → ((a : A) → Lacks bytes short (second a) sb (Fb a)) → Lacks bytes short (followed first second) (λ p. sa p.0 ++ sb p.1) (λ p. Fa p.0 × Fb p.0 p.1)
+    → Reads bytes first sa Fa → Lacks bytes short first sa Fa → ((a : A) → Fa a → Lacks bytes short (second a) sb (Fb a)) → Lacks bytes short (followed first second) (λ p. sa p.0 ++ sb p.1) (λ p. Fa p.0 × Fb p.0 p.1)
 lacks_followed {A} {B} {E} {bytes} {short} {first} {second} {sa} {sb} {Fa} {Fb} reads one two = record {
   at_end = λ at p m le fits e some. by at p m le fits some (splits (drop at bytes) m (sa p.0) (sb p.1) (sym e));
 }
@@ -48,7 +48,7 @@ lacks_followed {A} {B} {E} {bytes} {short} {first} {second} {sa} {sb} {Fa} {Fb} 
         let end = at + length (sa p.0) in
         let read = reads.again at p.0 r fits.0 front in
         let left : sb p.1 ≡ drop end bytes ++ m = sym tail ∙ ap (λ (l : List ℕ). l ++ m) (sym (behind bytes (sa p.0) r at front)) in
-        let lacking = (two p.0).at_end end p.1 m (TakesAt-within bytes at (sa p.0) end le (took bytes (sa p.0) r at end front refl)) fits.1 left some in
+        let lacking = (two p.0 fits.0).at_end end p.1 m (TakesAt-within bytes at (sa p.0) end le (took bytes (sa p.0) r at end front refl)) fits.1 left some in
         rw (read, lacking) refl
     by at p m le fits some (cut n text more) = rw (one.at_end at p.0 n le fits.0 text more) refl
 

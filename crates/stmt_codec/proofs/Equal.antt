@@ -1,5 +1,5 @@
 -- The test of equality of certificates decides it.
-use Rattle.std.proofs.Common.{◌≡◌, ◌↔◌, ℕ, Bool, true, false, ◌==◌, Option, Some, None, refl, sym, subst, ap, ◌∙◌}
+use Rattle.std.proofs.Common.{◌≡◌, ◌↔◌, Bool, true, false, ◌==◌, Option, Some, None, refl, sym, subst, ap, ◌∙◌}
 use Rattle.std.specs.Prelude.{IsTrue}
 use Rattle.std.proofs.lemmas.Bool.{and_parts, and_from, eqb-true, eq-eqb, false≢true}
 use Rattle.prin_term.specs.Principal.{Principal}
@@ -18,16 +18,9 @@ same_quoted-itself : (o : Option Principal) → same_quoted o o ≡ true
 same_quoted-itself None = refl
 same_quoted-itself (Some p) = same_principal-itself p
 
--- six equal parts
-from_parts : (c d : Certificate) → c.issuer ≡ d.issuer → c.quoted ≡ d.quoted → c.left ≡ d.left → c.right ≡ d.right → c.until ≡ d.until → c.serial ≡ d.serial → c ≡ d
-from_parts c d issuer quoted left right until serial =
-    let made : ℕ → Option Principal → Principal → Principal → ℕ → ℕ → Certificate = λ i q l r u s. record { issuer = i; quoted = q; left = l; right = r; until = u; serial = s } in
-    ap (λ i. made i c.quoted c.left c.right c.until c.serial) issuer
-    ∙ ap (λ q. made d.issuer q c.left c.right c.until c.serial) quoted
-    ∙ ap (λ l. made d.issuer d.quoted l c.right c.until c.serial) left
-    ∙ ap (λ r. made d.issuer d.quoted d.left r c.until c.serial) right
-    ∙ ap (λ u. made d.issuer d.quoted d.left d.right u c.serial) until
-    ∙ ap (λ s. made d.issuer d.quoted d.left d.right d.until s) serial
+-- seven equal parts
+pub from_parts : (c d : Certificate) → c.issuer ≡ d.issuer → c.quoted ≡ d.quoted → c.left ≡ d.left → c.right ≡ d.right → c.from ≡ d.from → c.until ≡ d.until → c.serial ≡ d.serial → c ≡ d
+from_parts c d issuer quoted left right from until serial = λ k. record { issuer = issuer k; quoted = quoted k; left = left k; right = right k; from = from k; until = until k; serial = serial k }
 
 pub same_certificate-true : (c d : Certificate) → same_certificate c d ≡ true → c ≡ d
 same_certificate-true c d h =
@@ -35,9 +28,10 @@ same_certificate-true c d h =
     let b = and_parts (same_quoted c.quoted d.quoted) _ a.1 in
     let e = and_parts (same_principal c.left d.left) _ b.1 in
     let f = and_parts (same_principal c.right d.right) _ e.1 in
-    let g = and_parts (c.until == d.until) (c.serial == d.serial) f.1 in
+    let g = and_parts (c.from == d.from) _ f.1 in
+    let h = and_parts (c.until == d.until) (c.serial == d.serial) g.1 in
     from_parts c d (eqb-true c.issuer d.issuer a.0) (same_quoted-true c.quoted d.quoted b.0) (same_principal-true c.left d.left e.0) (same_principal-true c.right d.right f.0)
-    (eqb-true c.until d.until g.0) (eqb-true c.serial d.serial g.1)
+    (eqb-true c.from d.from g.0) (eqb-true c.until d.until h.0) (eqb-true c.serial d.serial h.1)
 
 pub same_certificate-itself : (c : Certificate) → same_certificate c c ≡ true
 same_certificate-itself c =
@@ -45,7 +39,8 @@ same_certificate-itself c =
     (and_from (same_quoted c.quoted c.quoted) _ (same_quoted-itself c.quoted)
     (and_from (same_principal c.left c.left) _ (same_principal-itself c.left)
     (and_from (same_principal c.right c.right) _ (same_principal-itself c.right)
-    (and_from (c.until == c.until) (c.serial == c.serial) (eq-eqb c.until c.until refl) (eq-eqb c.serial c.serial refl)))))
+    (and_from (c.from == c.from) _ (eq-eqb c.from c.from refl)
+    (and_from (c.until == c.until) (c.serial == c.serial) (eq-eqb c.until c.until refl) (eq-eqb c.serial c.serial refl))))))
 
 pub same_certificate-false : (c d : Certificate) → (c ≡ d → ⊥) → same_certificate c d ≡ false
 same_certificate-false c d differ = by (same_certificate c d) refl

@@ -3,6 +3,7 @@ pub mod Firsts
 pub mod Tables
 pub mod Counts
 pub mod Few
+pub mod Beginnings
 pub mod Bodies
 pub mod Certs
 pub mod Once

@@ -1,5 +1,5 @@
 -- No body's spelling begins another's.
-use Rattle.std.proofs.Common.{◌≡◌, ℕ, ◌^◌, ◌<◌, List, [], ◌∷◌, ◌++◌, Option, Some, None, refl, sym, ap, ◌∙◌, append_assoc}
+use Rattle.std.proofs.Common.{◌≡◌, ℕ, zero, suc, ◌^◌, ◌<◌, List, [], ◌∷◌, ◌++◌, Option, Some, None, refl, sym, ap, ◌∙◌, append_assoc, arith}
 use Rattle.std.specs.Prelude.{IfSome}
 use Rattle.std.specs.Int.{Width, w32, w64, to_be_bytes}
 use Rattle.prin_term.specs.declared.fault.TermFault.{TermFault}
@@ -9,7 +9,9 @@ use Rattle.byte_fields.specs.Steps.{front_number, optional}
 use Rattle.byte_fields.proofs.Results.{ok_is}
 use Rattle.byte_fields.proofs.FieldLaws.{IsWide, wide32, wide64, front_number_again}
 use Rattle.prin_term.proofs.Whole.{spelled_once}
-use Rattle.stmt_codec.specs.Certificates.{Certificate, body_spelling, HasBodySpelling}
+use Rattle.stmt_codec.specs.Certificates.{Certificate, body_spelling, from_bytes, version_of, HasBodySpelling}
+use Rattle.stmt_codec.proofs.Beginnings.{from_bytes-suc, version_of-suc}
+use Rattle.stmt_codec.proofs.Equal.{from_parts}
 
 number_once : (w : Width) (limit : ℕ) (wide : IsWide w limit) (m n : ℕ) (x y : List ℕ) → m < limit → n < limit → to_be_bytes w m ++ x ≡ to_be_bytes w n ++ y → (m ≡ n) × (x ≡ y)
 number_once w limit wide m n x y mf nf e =
@@ -33,25 +35,31 @@ optional_once (Some p) (Some q) x y ho hp e =
     let same = spelled_once p q x y ho hp rest in
     (ap Some same.0, same.1)
 
-regrouped : (a b c d e f g r : List ℕ) → (a ++ b ++ c ++ d ++ e ++ f ++ g) ++ r ≡ a ++ (b ++ (c ++ (d ++ (e ++ (f ++ (g ++ r))))))
-regrouped a b c d e f g r = simp append_assoc
+-- two versions differ where one beginning is 0 and the other is not
+from_once : (m n : ℕ) (x y : List ℕ) → m < 2 ^ 64 → n < 2 ^ 64 → version_of m ≡ version_of n → from_bytes m ++ x ≡ from_bytes n ++ y → (m ≡ n) × (x ≡ y)
+from_once zero zero x y hm hn v e = (refl, e)
+from_once zero (suc n) x y hm hn v e = absurd (omega (arith, v, version_of-suc n))
+from_once (suc m) zero x y hm hn v e = absurd (omega (arith, v, version_of-suc m))
+from_once (suc m) (suc n) x y hm hn v e =
+    number_once w64 (2 ^ 64) wide64 (suc m) (suc n) x y hm hn (ap (λ (l : List ℕ). l ++ x) (sym (from_bytes-suc m)) ∙ e ∙ ap (λ (l : List ℕ). l ++ y) (from_bytes-suc n))
 
-text : (c : Certificate) (x : List ℕ) → body_spelling c ++ x ≡ 1 ∷ (to_be_bytes w32 c.issuer ++ (optional spelling c.quoted ++ (spelling c.left ++ (spelling c.right ++ (to_be_bytes w64 c.until ++ (to_be_bytes w64 c.serial ++ x))))))
-text c x = regrouped (1 ∷ []) (to_be_bytes w32 c.issuer) (optional spelling c.quoted) (spelling c.left) (spelling c.right) (to_be_bytes w64 c.until) (to_be_bytes w64 c.serial) x
+regrouped : (a b c d e f g h r : List ℕ) → (a ++ b ++ c ++ d ++ e ++ f ++ g ++ h) ++ r ≡ a ++ (b ++ (c ++ (d ++ (e ++ (f ++ (g ++ (h ++ r)))))))
+regrouped a b c d e f g h r = simp append_assoc
 
-behind_one : (x y : List ℕ) → 1 ∷ x ≡ 1 ∷ y → x ≡ y
-behind_one x y e = cc
+text : (c : Certificate) (x : List ℕ) → body_spelling c ++ x ≡ version_of c.from ∷ (to_be_bytes w32 c.issuer ++ (optional spelling c.quoted ++ (spelling c.left ++ (spelling c.right ++ (from_bytes c.from ++ (to_be_bytes w64 c.until ++ (to_be_bytes w64 c.serial ++ x)))))))
+text c x = regrouped (version_of c.from ∷ []) (to_be_bytes w32 c.issuer) (optional spelling c.quoted) (spelling c.left) (spelling c.right) (from_bytes c.from) (to_be_bytes w64 c.until) (to_be_bytes w64 c.serial) x
 
-same_fields : (a b : Certificate) → a.issuer ≡ b.issuer → a.quoted ≡ b.quoted → a.left ≡ b.left → a.right ≡ b.right → a.until ≡ b.until → a.serial ≡ b.serial → a ≡ b
-same_fields a b i q l r u s = λ k. record { issuer = i k; quoted = q k; left = l k; right = r k; until = u k; serial = s k }
+behind_one : (v w : ℕ) (x y : List ℕ) → v ∷ x ≡ w ∷ y → (v ≡ w) × (x ≡ y)
+behind_one v w x y e = (cc, cc)
 
 pub body_once : (a b : Certificate) (x y : List ℕ) → HasBodySpelling a → HasBodySpelling b → body_spelling a ++ x ≡ body_spelling b ++ y → (a ≡ b) × (x ≡ y)
 body_once a b x y ha hb e =
-    let e0 = behind_one _ _ (sym (text a x) ∙ e ∙ text b y) in
+    let (v, e0) = behind_one _ _ _ _ (sym (text a x) ∙ e ∙ text b y) in
     let i = number_once w32 (2 ^ 32) wide32 a.issuer b.issuer _ _ ha.issuer hb.issuer e0 in
     let q = optional_once a.quoted b.quoted _ _ ha.quoted hb.quoted i.1 in
     let l = spelled_once a.left b.left _ _ ha.left hb.left q.1 in
     let r = spelled_once a.right b.right _ _ ha.right hb.right l.1 in
-    let u = number_once w64 (2 ^ 64) wide64 a.until b.until _ _ ha.until hb.until r.1 in
+    let f = from_once a.from b.from _ _ ha.from hb.from v r.1 in
+    let u = number_once w64 (2 ^ 64) wide64 a.until b.until _ _ ha.until hb.until f.1 in
     let s = number_once w64 (2 ^ 64) wide64 a.serial b.serial x y ha.serial hb.serial u.1 in
-    (same_fields a b i.0 q.0 l.0 r.0 u.0 s.0, s.1)
+    (from_parts a b i.0 q.0 l.0 r.0 f.0 u.0 s.0, s.1)

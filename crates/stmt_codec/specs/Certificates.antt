@@ -1,6 +1,7 @@
 -- Certificates, as mathematics has them, and the one spelling of their bodies.
 use Rattle.std.specs.Prelude.{◌≡◌, ℕ, ◌<◌, ◌≤◌, ◌^◌, drop, List, [], ◌∷◌, ◌++◌, length, filter}
-use Rattle.std.specs.Prelude.{Bool, nat_lt, Option, None, Some, IfSome}
+use Rattle.std.specs.Prelude.{Bool, ◌&&◌, ◌==◌, if◌then◌else◌, nat_le, nat_lt}
+use Rattle.std.specs.Prelude.{Option, None, Some, IfSome}
 use Rattle.std.specs.Option.{option_map}
 use Rattle.std.specs.Int.{w32, w64, to_be_bytes}
 use Rattle.sha2.specs.Sha256.{sha256}
@@ -13,7 +14,7 @@ use Rattle.stmt_codec.specs.declared.body.CertBody.{CertBody}
 use Rattle.stmt_codec.specs.declared.limits.TheConstants.{MAX_DISTINCT}
 use Rattle.stmt_codec.specs.Distinct.{first_of_each}
 
--- who says that left speaks for right, and until when
+-- who says that left speaks for right, from when on and until when
 pub record Certificate : Type 0 where
   -- the key that says it
   pub issuer : ℕ
@@ -21,7 +22,9 @@ pub record Certificate : Type 0 where
   pub quoted : Option Principal
   pub left : Principal
   pub right : Principal
-  -- the moment at which it ends, in the unit of the service's clock
+  -- the moment at which it begins, in the unit of the service's clock; 0 where none is named
+  pub from : ℕ
+  -- the moment at which it ends
   pub until : ℕ
   -- tells certificates apart that are otherwise equal
   pub serial : ℕ
@@ -33,19 +36,33 @@ certificate b = record {
   quoted = option_map principal b.quoted;
   left = principal b.statement.left;
   right = principal b.statement.right;
+  from = b.from;
   until = b.until;
   serial = b.serial;
 }
 
--- the issuer, which may quote a principal, says that left speaks for right
+-- the issuer, which may quote a principal, says that left speaks for right, without a beginning
 abbrev pub says : ℕ → Option Principal → Principal → Principal → ℕ → ℕ → Certificate
 says issuer quoted left right until serial = record {
   issuer = issuer;
   quoted = quoted;
   left = left;
   right = right;
+  from = 0;
   until = until;
   serial = serial;
+}
+
+-- the same, with this beginning
+abbrev pub beginning : ℕ → Certificate → Certificate
+beginning from c = record {
+  issuer = c.issuer;
+  quoted = c.quoted;
+  left = c.left;
+  right = c.right;
+  from = from;
+  until = c.until;
+  serial = c.serial;
 }
 
 -- the key, or the key quoting another principal
@@ -57,11 +74,20 @@ key_quoting key (Some quoted) = Quoting (Key key) quoted
 abbrev pub speaker_of : Certificate → Principal
 speaker_of c = key_quoting c.issuer c.quoted
 
--- the bytes of the body: version 1, then the fields in their order, the numbers big-endian
+-- version 1 has no beginning, version 2 has one, which is not 0
+abbrev pub version_of : ℕ → ℕ
+version_of from = if from == 0 then 1 else 2
+
+-- the beginning, where there is one
+abbrev pub from_bytes : ℕ → List ℕ
+from_bytes from = if from == 0 then [] else to_be_bytes w64 from
+
+-- the bytes of the body: its version, then the fields in their order, the numbers big-endian
 abbrev pub body_spelling : Certificate → List ℕ
 body_spelling c =
-    1 ∷ [] ++ to_be_bytes w32 c.issuer ++ optional spelling c.quoted ++ spelling c.left
-    ++ spelling c.right ++ to_be_bytes w64 c.until ++ to_be_bytes w64 c.serial
+    version_of c.from ∷ [] ++ to_be_bytes w32 c.issuer ++ optional spelling c.quoted
+    ++ spelling c.left ++ spelling c.right ++ from_bytes c.from ++ to_be_bytes w64 c.until
+    ++ to_be_bytes w64 c.serial
 
 -- the SHA-256 of the body's bytes
 abbrev pub digest_of : Certificate → List ℕ
@@ -94,6 +120,7 @@ pub record HasBodySpelling (c : Certificate) : Type 0 where
   pub quoted : IfSome c.quoted HasSpelling
   pub left : HasSpelling c.left
   pub right : HasSpelling c.right
+  pub from : c.from < 2 ^ 64
   pub until : c.until < 2 ^ 64
   pub serial : c.serial < 2 ^ 64
 
@@ -111,11 +138,23 @@ pub record IsBodyAt (bytes : List ℕ) (at : ℕ) (c : Certificate) : Type 0 whe
 
 -- whether it is live at the moment
 abbrev pub is_live : ℕ → Certificate → Bool
-is_live moment c = nat_lt moment c.until
+is_live moment c = nat_le c.from moment && nat_lt moment c.until
 
--- it has not ended at the moment
+-- it has begun and has not ended at the moment
 abbrev pub IsLive : ℕ → Certificate → Type 0
-IsLive moment c = moment < c.until
+IsLive moment c = (c.from ≤ moment) × (moment < c.until)
+
+-- whether it has ended at the moment
+abbrev pub is_dead : ℕ → Certificate → Bool
+is_dead moment c = nat_le c.until moment
+
+-- it has ended at the moment, whether it ever began or not
+abbrev pub IsDead : ℕ → Certificate → Type 0
+IsDead moment c = c.until ≤ moment
+
+-- it has neither begun nor ended at the moment
+abbrev pub IsEarly : ℕ → Certificate → Type 0
+IsEarly moment c = (moment < c.from) × (moment < c.until)
 
 -- those that are live at the moment, in order
 abbrev pub live : List Certificate → ℕ → List Certificate

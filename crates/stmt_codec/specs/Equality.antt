@@ -15,4 +15,4 @@ abbrev pub same_certificate : Certificate → Certificate → Bool
 same_certificate c d =
     (c.issuer == d.issuer) && (same_quoted c.quoted d.quoted
     && (same_principal c.left d.left && (same_principal c.right d.right
-    && ((c.until == d.until) && (c.serial == d.serial)))))
+    && ((c.from == d.from) && ((c.until == d.until) && (c.serial == d.serial))))))

@@ -48,6 +48,7 @@ HasBodySpelling-prop c x y = λ i. record {
   quoted = quoted_spelling-prop c.quoted x.quoted y.quoted i;
   left = HasSpelling-prop c.left x.left y.left i;
   right = HasSpelling-prop c.right x.right y.right i;
+  from = le_prop x.from y.from i;
   until = le_prop x.until y.until i;
   serial = le_prop x.serial y.serial i;
 }

@@ -9,13 +9,16 @@ ghost use Rattle.stmt_codec.specs.Equality.{same_quoted, same_certificate};
 use crate::distinct::same;
 use prin_term::{Statement, Term};
 
-/// What the key `issuer` says, alone or quoting another principal. It ends at `until`, a moment in
-/// the unit of the service's clock; `serial` tells bodies apart that are otherwise equal.
+/// What the key `issuer` says, alone or quoting another principal. It holds from `from` on and ends at
+/// `until`, moments in the unit of the service's clock; `serial` tells bodies apart that are
+/// otherwise equal.
 #[derive(Debug, Drop)]
 pub struct CertBody {
     pub issuer: u32,
     pub quoted: Option<Term>,
     pub statement: Statement,
+    /// 0 where no beginning is named.
+    pub from: u64,
     pub until: u64,
     pub serial: u64,
 }
@@ -24,10 +27,11 @@ impl CertBody {
     ghost use Rattle.std.specs.Prelude.{◌≡◌, ◌↔◌, IsTrue};
     ghost use Rattle.std.specs.Option.{option_map};
     ghost use Rattle.prin_term.specs.View.{principal};
-    ghost use Rattle.stmt_codec.specs.Certificates.{certificate, says};
+    ghost use Rattle.stmt_codec.specs.Certificates.{certificate, says, beginning};
     ghost use Rattle.stmt_codec.specs.Equality.{same_certificate};
 
-    /// That `left` speaks for `right`, as the issuer says, quoting the principal if there is one.
+    /// That `left` speaks for `right`, as the issuer says, quoting the principal if there is one. It
+    /// has no beginning.
     pub fn says(
         issuer: u32,
         quoted: Option<Term>,
@@ -43,9 +47,17 @@ impl CertBody {
             issuer,
             quoted,
             statement: Statement { left, right },
+            from: 0,
             until,
             serial,
         }
+    }
+
+    /// The same, from this moment on.
+    pub fn beginning(self, from: u64) -> CertBody
+        ensures { certificate result ≡ beginning from (certificate self) }
+    {
+        CertBody { from, ..self }
     }
 
     /// Whether the two say the same.
@@ -75,6 +87,7 @@ fn is_same(body: &CertBody, other: &CertBody) -> bool
         && same_quoted(&body.quoted, &other.quoted)
         && same(&body.statement.left, &other.statement.left)
         && same(&body.statement.right, &other.statement.right)
+        && body.from == other.from
         && body.until == other.until
         && body.serial == other.serial
 }

@@ -6,7 +6,8 @@ ghost use Rattle.prin_term.specs.View.{principal};
 ghost use Rattle.stmt_codec.specs.declared.fault.CertFault.TheVariants.{TooLarge, NoMemory};
 ghost use Rattle.stmt_codec.specs.Certificates.{certificate, key_quoting, speaker_of};
 ghost use Rattle.stmt_codec.specs.Certificates.{body_spelling, digest_of, IsSmall};
-ghost use Rattle.stmt_codec.specs.Certificates.{HasBodySpelling, IsLive, IsWithinLimits};
+ghost use Rattle.stmt_codec.specs.Certificates.{HasBodySpelling, IsDead, IsLive, IsWithinLimits};
+ghost use Rattle.stmt_codec.specs.Certificates.{is_dead, is_live};
 ghost use Rattle.stmt_codec.specs.Unique.{HasBodySpelling-prop, IsWithinLimits-prop, principal-set};
 
 use crate::body::CertBody;
@@ -68,11 +69,20 @@ impl Cert {
         })
     }
 
-    /// Whether the certificate has not yet ended at the moment.
+    /// Whether the certificate has begun and not yet ended at the moment.
     pub fn is_live(&self, moment: u64) -> bool
-        ensures { IsTrue result ↔ IsLive moment (certificate self.now.body) }
+        ensures live { IsTrue result ↔ IsLive moment (certificate self.now.body) }
+        ensures test { result ≡ is_live moment (certificate self.now.body) }
     {
-        moment < self.body.until
+        self.body.from <= moment && moment < self.body.until
+    }
+
+    /// Whether the certificate has ended at the moment, whether it ever began or not.
+    pub fn is_dead(&self, moment: u64) -> bool
+        ensures dead { IsTrue result ↔ IsDead moment (certificate self.now.body) }
+        ensures test { result ≡ is_dead moment (certificate self.now.body) }
+    {
+        self.body.until <= moment
     }
 }
 

@@ -2,7 +2,7 @@
 
 ghost use Rattle.std.specs.Prelude.{◌≡◌, ◌≢◌, ◌↔◌, ◌+◌, ◌<◌, ◌≤◌, ◌++◌};
 ghost use Rattle.std.specs.Prelude.{ℕ, List, length, drop, Ok, Err, All, AllPairs, Contains};
-ghost use Rattle.std.specs.Prelude.{IsTrue};
+ghost use Rattle.std.specs.Prelude.{◌⊎◌, IsTrue};
 ghost use Rattle.prin_term.specs.Principal.{Principal};
 ghost use Rattle.byte_fields.specs.declared.fault.FormatFault.{FormatFault};
 ghost use Rattle.byte_fields.specs.declared.fault.FormatFault.TheVariants.{Malformed};
@@ -11,7 +11,7 @@ ghost use Rattle.byte_fields.specs.Steps.{IsByte};
 ghost use Rattle.stmt_codec.specs.declared.limits.TheConstants.{MAX_BODY_LEN};
 ghost use Rattle.stmt_codec.specs.Certificates.{Certificate, body_spelling};
 ghost use Rattle.stmt_codec.specs.Certificates.{HasBodySpelling, IsBodyAt, IsWithinLimits};
-ghost use Rattle.stmt_codec.specs.Certificates.{is_live, IsLive, live};
+ghost use Rattle.stmt_codec.specs.Certificates.{is_live, is_dead, IsLive, IsDead, IsEarly, live};
 ghost use Rattle.stmt_codec.specs.Distinct.{first_of_each};
 ghost use Rattle.stmt_codec.specs.Reading.{body_at};
 
@@ -51,9 +51,14 @@ pub fn a_body_has_at_most()
     ensures { (c : Certificate) → IsWithinLimits c → length (body_spelling c) ≤ MAX_BODY_LEN }
 {}
 
-/// The test tells which certificates are live, and those of a list are its members that are.
+/// The tests tell which certificates are live and which have ended. One that is not live has ended or
+/// is early, never both. The live ones of a list are its members that are.
 pub fn the_live_are_told()
     ensures told { (moment : ℕ) (c : Certificate) → IsTrue (is_live moment c) ↔ IsLive moment c }
+    ensures ended { (moment : ℕ) (c : Certificate) → IsTrue (is_dead moment c) ↔ IsDead moment c }
+    ensures others { (moment : ℕ) (c : Certificate)
+        → (¬ IsLive moment c) ↔ (IsDead moment c ⊎ IsEarly moment c) }
+    ensures apart { (moment : ℕ) (c : Certificate) → IsDead moment c → ¬ IsEarly moment c }
     ensures members { (certs : List Certificate) (moment : ℕ) (c : Certificate)
         → Contains (live certs moment) c ↔ (Contains certs c × IsLive moment c) }
 {}

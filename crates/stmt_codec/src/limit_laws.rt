@@ -6,5 +6,5 @@ ghost use Rattle.stmt_codec.specs.declared.limits.TheConstants.{MAX_DISTINCT, MA
 /// Distinct subterms of a body, and its bytes: each limit is this number.
 pub fn limits_are()
     ensures distinct { MAX_DISTINCT ≡ 16 }
-    ensures length { MAX_BODY_LEN ≡ 982 }
+    ensures length { MAX_BODY_LEN ≡ 990 }
 {}

@@ -9,7 +9,7 @@ ghost use Rattle.prin_term.specs.View.{principal};
 ghost use Rattle.byte_fields.specs.declared.fault.FormatFault.TheVariants.{NoMemory};
 ghost use Rattle.stmt_codec.specs.Certificates.{Certificate, certificate, key_quoting};
 ghost use Rattle.stmt_codec.specs.Certificates.{body_spelling, IsBodyAt};
-ghost use Rattle.stmt_codec.specs.Reading.{right_at, body_at};
+ghost use Rattle.stmt_codec.specs.Reading.{right_at, from_at, body_at};
 
 use crate::body::CertBody;
 use crate::cert::Cert;
@@ -52,6 +52,23 @@ fn right_of(
     }
 }
 
+// The beginning, 0 where the version has none.
+#[tactic(auto, unfolding(crate::specs::Reading::from_at))]
+fn from_of(bytes: &[u8], at: usize, version: u8) -> Result<(u64, usize), BodyFault>
+    requires { at ≤ length bytes.now }
+    ensures value { Gives NoMemory (λ x. x) result (from_at version bytes.now at) }
+    ensures within { IfOk result (λ x. x.1 ≤ length bytes.now) }
+{
+    if version == 1 {
+        return Ok((0, at));
+    }
+    let (from, next) = u64_at(bytes, at, ended(bytes))?;
+    if from == 0 {
+        return Err(BodyFault::Malformed { offset: at });
+    }
+    Ok((from, next))
+}
+
 #[tactic(auto, unfolding(crate::specs::Reading::body_at))]
 fn fields_of(alloc: Global, bytes: &[u8], at: usize) -> Result<(CertBody, usize), BodyFault>
     requires { at ≤ length bytes.now }
@@ -59,11 +76,12 @@ fn fields_of(alloc: Global, bytes: &[u8], at: usize) -> Result<(CertBody, usize)
     ensures within { IfOk result (λ x. x.1 ≤ length bytes.now) }
 {
     let short = ended(bytes);
-    let (_, next) = byte_within(bytes, at, 1, 1)?;
+    let (version, next) = byte_within(bytes, at, 1, 2)?;
     let (issuer, next) = u32_at(bytes, next, short)?;
     let (quoted, next) = read_optional_term(alloc, bytes, next, CERT_NODES)?;
     let (left, next) = term_of(alloc, bytes, next)?;
     let (right, next) = right_of(alloc, bytes, next, issuer, &quoted, &left)?;
+    let (from, next) = from_of(bytes, next, version)?;
     let (until, next) = u64_at(bytes, next, short)?;
     let (serial, next) = u64_at(bytes, next, short)?;
     let statement = Statement { left, right };
@@ -71,6 +89,7 @@ fn fields_of(alloc: Global, bytes: &[u8], at: usize) -> Result<(CertBody, usize)
         issuer,
         quoted,
         statement,
+        from,
         until,
         serial,
     };
@@ -107,7 +126,8 @@ fn cert_at(alloc: Global, bytes: &[u8], at: usize) -> Result<(Cert, usize), Body
 }
 
 /// The certificate whose body is spelled at `at`, and the offset after it. Bytes may follow it.
-/// Where the limit of distinct subterms is passed, the fault is at the first byte of `until`.
+/// Where the limit of distinct subterms is passed, the fault is at the byte after the terms; where a
+/// beginning is 0, at its first byte.
 pub fn read_body(alloc: Global, bytes: &[u8], at: usize) -> Result<(Cert, usize), BodyFault>
     requires { at ≤ length bytes.now }
     // What is read is spelled there, within the limits, and ends at the offset.

@@ -107,9 +107,10 @@ def maybe_quoted(quoted):
 # Certificates.
 
 
-def body(issuer, left, right, until, serial, quoted=None):
-    head = b"\x01" + u32(issuer)
-    return Fields(head, maybe_quoted(quoted), left, right, u64(until), u64(serial))
+def body(issuer, left, right, until, serial, quoted=None, begins=0):
+    """Of version 2 where it names a beginning, and else of version 1."""
+    head = (b"\x02" if begins else b"\x01") + u32(issuer)
+    return Fields(head, maybe_quoted(quoted), left, right, u64(begins) if begins else b"", u64(until), u64(serial))
 
 
 def certificate(kind, secret, text):
@@ -215,6 +216,11 @@ def denied(channel, number, shard, place, link):
 def expired(channel, number, text, entry=0, shard=0, place=0):
     """The certificate of this body ended too early."""
     return denied(channel, number, shard, place, Fields(u8(1), u8(entry), digest(text)))
+
+
+def early(channel, number, text, entry=0, shard=0, place=0):
+    """The certificate of this body has not begun."""
+    return denied(channel, number, shard, place, Fields(u8(4), u8(entry), digest(text)))
 
 
 def missing(channel, number, part, entry=0, shard=0, place=0):

@@ -50,7 +50,8 @@ class Text:
 def issuer_of(body):
     """The issuer, where the bytes are a body and nothing else."""
     text, parts = Text(body), set()
-    if text.number(1) != 1:
+    version = text.number(1)
+    if version not in (1, 2):
         raise NoCertificate
     issuer = text.number(4)
     key = b"\1" + struct.pack(">I", issuer)
@@ -62,6 +63,8 @@ def issuer_of(body):
         parts.add(b"\4" + key + text.term(parts))
     text.term(parts)
     text.term(parts)
+    if version == 2 and text.number(8) == 0:
+        raise NoCertificate
     text.take(16)
     if len(parts) > MAX_PARTS or text.at != len(body):
         raise NoCertificate

@@ -9,11 +9,11 @@ use Rattle.std.proofs.lemmas.List.Elements.{All-cons, All-nil}
 use Rattle.keyed_seal.proofs.Tags.{length-tag_of}
 use Rattle.keyed_seal.specs.Keys.{key_of}
 use Rattle.keyed_seal.specs.Tag.{tag_of}
-use Rattle.node_file.proofs.PrintedBytes.{sealed_bytes}
 use Rattle.prin_term.specs.Principal.{Key, Name, Principal}
 use Rattle.sealed_cert.specs.declared.kind.TheConstants.{RELAYED}
 use Rattle.sealed_cert.specs.Seals as seals
 use Rattle.sealed_cert.specs.Seals.{Opens, sealed_text}
+use Rattle.sealed_cert.proofs.SealedBytes.{relayed_bytes}
 use Rattle.stmt_codec.specs.Certificates.{IsWithinLimits}
 use Rattle.stmt_codec.specs.Distinct.{first_of_each, same_principal}
 use Rattle.taos_wire.proofs.RequestLaws.{sealed_spells}
@@ -69,13 +69,13 @@ certificate_fits channel = record {
 pub certificate_opens : (seed channel : ℕ) → channel < 2 ^ 32 → Opens (key_at seed 0) (presented seed channel) (drill_certificate channel)
 certificate_opens seed channel small = record {
   text = refl;
-  numbers = record { issuer = omega arith; quoted = tt; left = small; right = omega arith; until = omega arith; serial = omega (arith, small) };
+  numbers = record { issuer = omega arith; quoted = tt; left = small; right = omega arith; from = omega arith; until = omega arith; serial = omega (arith, small) };
   limits = certificate_fits channel;
 }
 
 -- what is presented is a certificate's text, under any key
 pub certificate_text : (key : List ℕ) (channel : ℕ) → IsCertText (seals.sealed RELAYED key (drill_certificate channel))
-certificate_text key channel = (omega (arith, length-sealed key channel), sealed_bytes key (drill_certificate channel))
+certificate_text key channel = (omega (arith, length-sealed key channel), relayed_bytes key (drill_certificate channel))
 
 -- ---- the channels of the opening
 

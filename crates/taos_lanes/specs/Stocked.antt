@@ -7,7 +7,7 @@ use Rattle.frame_link.specs.Streams.{Stream}
 use Rattle.agent_core.specs.Journals.{Entry}
 use Rattle.agent_shards.specs.Cells.{shares_of}
 use Rattle.agent_shards.specs.Shards.{ShardCell, KnownShard, ArePasses, SeatSeen, journal_at, own_at, plans_of}
-use Rattle.agent_shards.specs.Objects.{ObjectCell, KnownObject, AreObjectPasses, ShelfSeen, seen_on, own_on, fixed_in}
+use Rattle.agent_shards.specs.Objects.{ObjectCell, KnownObject, AreObjectPasses, RackSeen, seen_on, own_on, fixed_in}
 use Rattle.object_core.specs.Objects.{ObjectEntry}
 use Rattle.taos_lanes.specs.declared.lane.Lane.{Lane}
 use Rattle.frame_link.specs.declared.limits.Limits.{Limits}
@@ -38,7 +38,7 @@ abbrev pub seat : List ShardCell → List KnownShard → SeatSeen
 seat cells passes = record { cells = cells; passes = passes }
 
 -- a seat at objects with these passes, where no object is taken
-abbrev pub shelf : List ObjectCell → List KnownObject → ShelfSeen
+abbrev pub shelf : List ObjectCell → List KnownObject → RackSeen
 shelf cells passes = record { cells = cells; passes = passes; taken = None }
 
 -- what passes have seen of the shards, and their own places

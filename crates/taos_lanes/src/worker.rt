@@ -6,9 +6,8 @@ ghost use Rattle.frame_link.specs.Outside.{outside_of};
 ghost use Rattle.taos_lanes.specs.Telling.{change, told_by};
 ghost use Rattle.taos_lanes.specs.Working.{ServesDoor, lane_of};
 ghost use Rattle.taos_monitor.specs.Arriving.{node_of};
-ghost use Rattle.taos_monitor.specs.Cells.{viewed};
 ghost use Rattle.taos_monitor.specs.Planned.{ArePlanned};
-ghost use Rattle.taos_monitor.specs.World.{world_of};
+ghost use Rattle.taos_monitor.specs.World.{world_by};
 
 use crate::lane::Lane;
 use crate::tally::Tally;
@@ -45,24 +44,22 @@ pub(crate) fn serve_door<
     lane: &mut Lane<C, R, D>,
     limits: Limits,
 ) -> Tally
-    requires planned { ArePlanned keys.now.channels.entries (S.plans desk.old.shards) }
-    requires none_taken { H.taken desk.old.shelf ≡ None }
-    requires shards_among { S.alone desk.old.shards ≡ false }
-    requires objects_among { H.alone desk.old.shelf ≡ false }
+    requires planned { ArePlanned keys.now.channels.entries (S.shown desk.old.shards).plans }
+    requires none_taken { (H.shown desk.old.shelf).taken ≡ None }
+    requires shards_among { (S.shown desk.old.shards).alone ≡ false }
+    requires objects_among { (H.shown desk.old.shelf).alone ≡ false }
     ensures served { ServesDoor (told_by D.In.shown D.Out.shown)
-        (node_of keys.now (S.plans desk.old.shards) (H.objects desk.old.shelf)) limits
-        (change (lane_of (world_of (outside_of (C.shown lane.old.clock) (R.shown lane.old.relay))
-        (viewed (S.seen desk.old.shards) (S.own desk.old.shards))
-        (viewed (H.seen desk.old.shelf) (H.own desk.old.shelf)))
+        (node_of keys.now (S.shown desk.old.shards).plans (H.shown desk.old.shelf).objects) limits
+        (change (lane_of (world_by (outside_of (C.shown lane.old.clock) (R.shown lane.old.relay))
+        (S.shown desk.old.shards) (H.shown desk.old.shelf))
         (D.shown lane.old.door))
-        (lane_of (world_of (outside_of (C.shown lane.new.clock) (R.shown lane.new.relay))
-        (viewed (S.seen desk.new.shards) (S.own desk.new.shards))
-        (viewed (H.seen desk.new.shelf) (H.own desk.new.shelf)))
+        (lane_of (world_by (outside_of (C.shown lane.new.clock) (R.shown lane.new.relay))
+        (S.shown desk.new.shards) (H.shown desk.new.shelf))
         (D.shown lane.new.door))) result }
     ensures work { lane.new.work ≡ lane.old.work }
-    ensures taken { H.taken desk.new.shelf ≡ None }
-    ensures plans { S.plans desk.new.shards ≡ S.plans desk.old.shards }
-    ensures objects { H.objects desk.new.shelf ≡ H.objects desk.old.shelf }
+    ensures taken { (H.shown desk.new.shelf).taken ≡ None }
+    ensures plans { (S.shown desk.new.shards).plans ≡ (S.shown desk.old.shards).plans }
+    ensures objects { (H.shown desk.new.shelf).objects ≡ (H.shown desk.old.shelf).objects }
 {
     let mut tally = Tally::new();
     while tally.served < limits.connections {

@@ -340,6 +340,7 @@ module _ (s : Setting) (before after : World) where
     goes_on = c.goes_on;
     legal = c.legal;
     course = more c.used c.sent c.legal (steady_calls before.outside.link.faults after.outside.link.faults c.used.calls still c.linked.failed) c.course;
+    tells_full = c.tells_full;
     gave = c.gave;
     linked = c.linked;
     spelled = c.spelled;

@@ -1,5 +1,5 @@
 -- The course of a request, from what was done for it.
-use Rattle.std.proofs.Common.{◌≡◌, ◌<◌, ◌^◌, ℕ, Bool, List, [], ◌∷◌, length, map, Some, refl, sym, subst, ◌∙◌}
+use Rattle.std.proofs.Common.{◌≡◌, ◌<◌, ◌^◌, ℕ, Bool, List, [], ◌∷◌, ◌++◌, length, map, Some, inl, refl, sym, subst, ◌∙◌}
 use Rattle.std.specs.Io.KnownBytes.{Keeps}
 use Rattle.std.proofs.KnownBytes.{Keeps-refl}
 use Rattle.std.proofs.lemmas.Option.{same_Some}
@@ -22,7 +22,7 @@ use Rattle.taos_monitor.specs.declared.handling.Handled.TheVariants as handled
 use Rattle.taos_monitor.specs.declared.node_keys.NodeKeys.{NodeKeys}
 use Rattle.taos_monitor.specs.declared.refusal.Refusal.{Refusal}
 use Rattle.taos_monitor.specs.Refusals.{refusal}
-use Rattle.taos_monitor.specs.Cells.{Node, Cell, Journals, Viewed, seen_of, AreLegalIn}
+use Rattle.taos_monitor.specs.Cells.{Node, Cell, Journals, Viewed, in_shard, seen_of, AreLegalIn}
 use Rattle.taos_monitor.specs.World.{Setting, World, setting_of, world_of}
 use Rattle.taos_monitor.specs.Credentials.{link_use}
 use Rattle.taos_monitor.specs.AtObject.{Seeking, places_at}
@@ -32,6 +32,11 @@ use Rattle.taos_monitor.specs.Ruling.{Leaves, GuardedTo, standing_of}
 use Rattle.taos_monitor.specs.Handling.{HandledTo, StoppedAtClock, Handles, Answers}
 use Rattle.taos_monitor.proofs.Going.{stood}
 use Rattle.taos_monitor.proofs.Presenting.{none_called, quiet_linked}
+
+-- where there are no places, none is that of an Ask
+no_asks : {X : Type 0} (f : ℕ → X) (asks : List ℕ) (ruling steps : List X) → map f asks ++ ruling ++ steps ≡ [] → asks ≡ []
+no_asks f [] ruling steps none = refl
+no_asks f (place ∷ asks) ruling steps none = absurd cc
 
 module _ (keys : NodeKeys) (plans : List Plan) (objects : List ObjectFixed) (alone : Cell → Bool) (link0 link1 : Link)
     (shards0 : Viewed Entry) (objects0 : Viewed ObjectEntry) (r : Request) (key : List ℕ) (known : key_of keys.channels.entries r.channel ≡ Some key) where
@@ -55,6 +60,7 @@ module _ (keys : NodeKeys) (plans : List Plan) (objects : List ObjectFixed) (alo
     legal = legal;
     course = under_key (seen_of shards0 objects0).journals (seen_of shards0 objects0).journals (only_calls stops.calls) (refusal f)
         (λ payload k asked. stops.course plans (seen_of shards0 objects0).journals (seen_of shards0 objects0).journals payload k asked);
+    tells_full = λ shard plan at lacks none. inl refl;
     gave = Keeps-refl clock.told;
     linked = stops.linked;
     spelled = spelled;
@@ -90,6 +96,7 @@ module _ (keys : NodeKeys) (plans : List Plan) (objects : List ObjectFixed) (alo
           goes_on = x.goes_on;
           legal = x.legal;
           course = under_key (seen_of shards0 objects0).journals (seen_of shards1 objects1).journals used left.reply (λ payload k asked. ruled (arrival payload k asked) reading x.plan x.planned x.guarded);
+          tells_full = λ shard plan at lacks none. x.tells_full shard plan at lacks (no_asks (in_shard (home plans r.channel)) x.own.asks _ _ none);
           gave = (clock1.told, shows, Keeps-refl clock1.told);
           linked = came.linked;
           spelled = left.spelled;
@@ -108,6 +115,7 @@ unasked_to keys plans objects alone relay shards0 objects0 clock payload f bytes
   goes_on = stood alone (seen_of shards0 objects0);
   legal = legal;
   course = stops plans objects (seen_of shards0 objects0).journals (seen_of shards0 objects0).journals;
+  tells_full = λ shard plan at lacks none. inl refl;
   gave = Keeps-refl clock.told;
   linked = quiet_linked keys.node relay relay [] (none_called keys.node relay);
   spelled = spelled;
@@ -122,6 +130,7 @@ answers_as s w0 w1 r payload key bytes asked handled.Replied t = record {
   goes_on = t.goes_on;
   legal = t.legal;
   course = t.course payload key asked;
+  tells_full = t.tells_full;
   gave = t.gave;
   linked = t.linked;
   spelled = t.spelled;

@@ -1,5 +1,5 @@
 -- The steps of an effect: what one is told, and how they go on from shard to shard.
-use Rattle.std.proofs.Common.{◌≡◌, ◌≢◌, ℕ, zero, suc, ◌+◌, ◌<◌, Bool, false, nat_lt, List, [], ◌∷◌, ◌++◌, length, map, get_or, Option, Some, slice_get, refl, sym, ap, subst, ◌∙◌, arith, inl, inr, append-nil, length-append}
+use Rattle.std.proofs.Common.{◌≡◌, ◌≢◌, ℕ, zero, suc, ◌+◌, ◌<◌, Bool, false, nat_lt, List, [], ◌∷◌, ◌++◌, length, map, get_or, Option, Some, slice_get, refl, sym, ap, subst, subst₂, ◌∙◌, arith, inl, inr, append-nil, length-append}
 use Rattle.std.specs.Prelude.{All, IsTrue, ◌↔◌, ◌⊎◌}
 use Rattle.std.specs.List.{range_with_len, sum_by}
 use Rattle.std.proofs.lemmas.Bool.{cases_eq, cond_both}
@@ -27,14 +27,15 @@ use Rattle.std.specs.declared.sync.Arc.{Arc}
 use Rattle.stmt_codec.specs.View.{certificates}
 use Rattle.proof_cache.specs.Cached.{cached}
 use Rattle.proof_cache.specs.declared.cached.Cached.{Cached as CachedValue}
-use Rattle.agent_core.specs.Steps.{StepAnswer, Hit, Miss, Other, IsAnswer, hit, miss, other, JournalSeen, StepsTo, StepRefused, seen_at}
+use Rattle.agent_core.specs.Steps.{StepAnswer, Hit, Miss, Other, IsAnswer, hit, miss, other, JournalSeen, StepsTo, StepRefused}
+use Rattle.agent_core.specs.Shards.{HasPlanAt, LeavesShards, ShardsSeen, shard_at}
 use Rattle.agent_core.proofs.Onward.{stands_on}
 use Rattle.agent_core.specs.declared.event.Event.{Event as EventValue}
 use Rattle.agent_core.specs.Views.{event_of}
 use Rattle.agent_core.proofs.Asks.{standing}
 use Rattle.taos_monitor.specs.declared.stepping.Went.{Went}
 use Rattle.taos_monitor.specs.declared.stepping.Went.TheVariants as how
-use Rattle.taos_monitor.specs.Cells.{in_shard, Viewed, viewed, ShardsGoOn, AreLegalShards}
+use Rattle.taos_monitor.specs.Cells.{in_shard, ShardsGoOn, AreLegalShards, shards_in}
 use Rattle.taos_monitor.specs.Operations.{IsEffect}
 use Rattle.taos_monitor.specs.Effects.{IsDone, WantsRoom, removed_by, WentAs, ShardStep, step_at, its_place, LetsGo, IsStep, AreDone, WentThrough, FoundNoRoom, FoundNoPlace, SteppedBy, CanStep}
 use Rattle.taos_monitor.proofs.Going.{OneGoesOn, one_place, no_places, shard_went_on, shards_twice, shards_stood, shards_begin}
@@ -138,10 +139,10 @@ module _ {plan : Plan} {earlier later : JournalSeen} {event : Event} where
 -- ---- and so on
 
 -- so far each of these shards was stepped
-pub record AreStepped (plans : List Plan) (alone : Bool) (old now : Viewed Entry) (effect : Option Event) (shards : List ℕ) (removed : Bool) : Type 0 where
+pub record AreStepped (old now : ShardsSeen) (effect : Option Event) (shards : List ℕ) (removed : Bool) : Type 0 where
   pub steps : List ShardStep
-  pub goes_on : ShardsGoOn alone old now (map its_place steps)
-  pub legal : AreLegalShards plans now.seen
+  pub goes_on : ShardsGoOn old.alone (shards_in old) (shards_in now) (map its_place steps)
+  pub legal : AreLegalShards old.plans now.seen
   pub through : WentThrough now.seen effect shards steps
   pub removed_is : IsTrue removed ↔ LetsGo steps
 
@@ -153,44 +154,44 @@ steps_stay J K effect steps goes are = record {
   done = are.done;
 }
 
-module _ (plans : List Plan) (alone : Bool) (old : Viewed Entry) (seen0 seen1 : ℕ → List Entry) (own0 own1 : ℕ → List ℕ) (effect : Option Event) (shards : List ℕ) (removed : Bool)
-    (so_far : AreStepped plans alone old (viewed seen0 own0) effect shards removed)
-    (h : ℕ) (plan : Plan) (planned : slice_get plans h ≡ Some plan) (event : Event) (effect_is : effect ≡ Some event)
-    (others : (s : ℕ) → s ≢ h → (seen1 s ≡ seen0 s) × (own1 s ≡ own0 s)) where
+module _ (old before after : ShardsSeen) (effect : Option Event) (shards : List ℕ) (removed : Bool)
+    (so_far : AreStepped old before effect shards removed)
+    (h : ℕ) (plan : Plan) (planned : slice_get old.plans h ≡ Some plan) (event : Event) (effect_is : effect ≡ Some event)
+    (others : (s : ℕ) → s ≢ h → (after.seen s ≡ before.seen s) × (after.own s ≡ before.own s)) where
   abbrev earlier : JournalSeen
-  earlier = seen_at alone seen0 own0 h
+  earlier = record { alone = old.alone; journal = before.seen h; own = before.own h }
 
   abbrev later : JournalSeen
-  later = seen_at alone seen1 own1 h
+  later = record { alone = old.alone; journal = after.seen h; own = after.own h }
 
-  legal_now : IsLegalJournal plan (seen1 h) → AreLegalShards plans seen1
+  legal_now : IsLegalJournal plan (after.seen h) → AreLegalShards old.plans after.seen
   legal_now legal s p at = elim (cases_eq s h) [
     | inl e ↦
-        let is : p ≡ plan = same_Some p plan (sym at ∙ ap (slice_get plans) e ∙ planned) in
-        subst (λ (q : Plan). IsLegalJournal q (seen1 s)) (sym is) (subst (λ (t : ℕ). IsLegalJournal plan (seen1 t)) (sym e) legal)
+        let is : p ≡ plan = same_Some p plan (sym at ∙ ap (slice_get old.plans) e ∙ planned) in
+        subst (λ (q : Plan). IsLegalJournal q (after.seen s)) (sym is) (subst (λ (t : ℕ). IsLegalJournal plan (after.seen t)) (sym e) legal)
     | inr ne ↦ subst (IsLegalJournal p) (sym (others s ne).0) (so_far.legal s p at)
   ]
 
   -- a step more
   module _ (place : ℕ) (told : Told) (s : StepsTo plan earlier later event place (Other told)) where
-    went : ShardsGoOn alone (viewed seen0 own0) (viewed seen1 own1) (in_shard h place ∷ [])
-    went = shard_went_on h seen0 seen1 own0 own1 others alone (place ∷ []) (goes_stepped place (Other told) s)
+    went : ShardsGoOn old.alone (shards_in before) (shards_in after) (in_shard h place ∷ [])
+    went = shard_went_on h before.seen after.seen before.own after.own others old.alone (place ∷ []) (goes_stepped place (Other told) s)
 
     this : ShardStep
     this = step_at h place told
 
-    both_went : ShardsGoOn alone old (viewed seen1 own1) (map its_place (so_far.steps ++ step_at h place told ∷ []))
+    both_went : ShardsGoOn old.alone (shards_in old) (shards_in after) (map its_place (so_far.steps ++ step_at h place told ∷ []))
     both_went =
-        subst (ShardsGoOn alone old (viewed seen1 own1)) (sym (map-append its_place so_far.steps (step_at h place told ∷ [])))
-        (shards_twice alone old (viewed seen0 own0) (viewed seen1 own1) (map its_place so_far.steps) (in_shard h place ∷ []) so_far.goes_on went)
+        subst (ShardsGoOn old.alone (shards_in old) (shards_in after)) (sym (map-append its_place so_far.steps (step_at h place told ∷ [])))
+        (shards_twice old.alone (shards_in old) (shards_in before) (shards_in after) (map its_place so_far.steps) (in_shard h place ∷ []) so_far.goes_on went)
 
-    is_step : IsStep seen1 effect (step_at h place told)
+    is_step : IsStep after.seen effect (step_at h place told)
     is_step = record { event = event; effect_is = effect_is; before = s.before; stands = stands_here place told s }
 
-    before_done : AreDone seen1 effect so_far.steps
-    before_done = steps_stay seen0 seen1 effect so_far.steps (shards_begin alone (viewed seen0 own0) (viewed seen1 own1) (in_shard h place ∷ []) went) so_far.through.are_done
+    before_done : AreDone after.seen effect so_far.steps
+    before_done = steps_stay before.seen after.seen effect so_far.steps (shards_begin old.alone (shards_in before) (shards_in after) (in_shard h place ∷ []) went) so_far.through.are_done
 
-    pub one_more : IsDone told → (n : ℕ) → n ≡ removed_by told → (any : Bool) → (IsTrue any ↔ (IsTrue removed ⊎ (0 < n))) → AreStepped plans alone old (viewed seen1 own1) effect (shards ++ h ∷ []) any
+    pub one_more : IsDone told → (n : ℕ) → n ≡ removed_by told → (any : Bool) → (IsTrue any ↔ (IsTrue removed ⊎ (0 < n))) → AreStepped old after effect (shards ++ h ∷ []) any
     one_more is_done n count any tells = record {
       steps = so_far.steps ++ step_at h place told ∷ [];
       goes_on = both_went;
@@ -198,7 +199,7 @@ module _ (plans : List Plan) (alone : Bool) (old : Viewed Entry) (seen0 seen1 : 
       through = record {
         order = map-append (λ (x : ShardStep). x.shard) so_far.steps (step_at h place told ∷ []) ∙ ap (λ (l : List ℕ). l ++ h ∷ []) so_far.through.order;
         are_done = record {
-          stand = All-append (IsStep seen1 effect) so_far.steps (step_at h place told ∷ []) before_done.stand (All-cons (IsStep seen1 effect) (step_at h place told) [] is_step (All-nil (IsStep seen1 effect)));
+          stand = All-append (IsStep after.seen effect) so_far.steps (step_at h place told ∷ []) before_done.stand (All-cons (IsStep after.seen effect) (step_at h place told) [] is_step (All-nil (IsStep after.seen effect)));
           done = All-append (λ (x : ShardStep). IsDone x.told) so_far.steps (step_at h place told ∷ []) before_done.done
               (All-cons (λ (x : ShardStep). IsDone x.told) (step_at h place told) [] is_done (All-nil (λ (x : ShardStep). IsDone x.told)));
         };
@@ -220,7 +221,7 @@ module _ (plans : List Plan) (alone : Bool) (old : Viewed Entry) (seen0 seen1 : 
 
   -- a shard that has no room
   pub stopped_no_room : (rest : List ℕ) (place : ℕ) (told : Told) → WantsRoom told → StepsTo plan earlier later event place (Other told) →
-      SteppedBy plans alone old (viewed seen1 own1) (λ steps. FoundNoRoom seen1 effect (shards ++ h ∷ rest) steps h told × WantsRoom told)
+      SteppedBy old after (λ steps. FoundNoRoom after.seen effect (shards ++ h ∷ rest) steps h told × WantsRoom told)
   stopped_no_room rest place told lacks s = record {
     steps = so_far.steps ++ step_at h place told ∷ [];
     goes_on = both_went place told s;
@@ -240,19 +241,19 @@ module _ (plans : List Plan) (alone : Bool) (old : Viewed Entry) (seen0 seen1 : 
   }
 
   -- a journal that is full
-  pub stopped_full : (rest : List ℕ) (n : ℕ) → StepRefused plan earlier later → length (seen1 h) ≡ plan.limit → n ≡ plan.limit →
-      SteppedBy plans alone old (viewed seen1 own1) (λ steps. FoundNoPlace seen1 effect plans (shards ++ h ∷ rest) steps h n)
+  pub stopped_full : (rest : List ℕ) (n : ℕ) → StepRefused plan earlier later → length (after.seen h) ≡ plan.limit → n ≡ plan.limit →
+      SteppedBy old after (λ steps. FoundNoPlace after.seen effect old.plans (shards ++ h ∷ rest) steps h n)
   stopped_full rest n s full limit =
-      let stayed : ShardsGoOn alone (viewed seen0 own0) (viewed seen1 own1) [] = shard_went_on h seen0 seen1 own0 own1 others alone [] (goes_refused s) in
+      let stayed : ShardsGoOn old.alone (shards_in before) (shards_in after) [] = shard_went_on h before.seen after.seen before.own after.own others old.alone [] (goes_refused s) in
       record {
         steps = so_far.steps;
-        goes_on = subst (ShardsGoOn alone old (viewed seen1 own1)) (append-nil (map its_place so_far.steps))
-            (shards_twice alone old (viewed seen0 own0) (viewed seen1 own1) (map its_place so_far.steps) [] so_far.goes_on stayed);
+        goes_on = subst (ShardsGoOn old.alone (shards_in old) (shards_in after)) (append-nil (map its_place so_far.steps))
+            (shards_twice old.alone (shards_in old) (shards_in before) (shards_in after) (map its_place so_far.steps) [] so_far.goes_on stayed);
         legal = legal_now s.legal;
         ends = record {
           rest = rest;
           order = ap (λ (l : List ℕ). l ++ h ∷ rest) (sym so_far.through.order);
-          are_done = steps_stay seen0 seen1 effect so_far.steps (shards_begin alone (viewed seen0 own0) (viewed seen1 own1) [] stayed) so_far.through.are_done;
+          are_done = steps_stay before.seen after.seen effect so_far.steps (shards_begin old.alone (shards_in before) (shards_in after) [] stayed) so_far.through.are_done;
           plan = plan;
           planned = planned;
           limit_is = limit;
@@ -261,14 +262,14 @@ module _ (plans : List Plan) (alone : Bool) (old : Viewed Entry) (seen0 seen1 : 
       }
 
 -- no shard was stepped yet
-pub none_stepped : (plans : List Plan) (alone : Bool) (seen : ℕ → List Entry) (own : ℕ → List ℕ) (effect : Option Event) → AreLegalShards plans seen → AreStepped plans alone (viewed seen own) (viewed seen own) effect [] false
-none_stepped plans alone seen own effect legal = record {
+pub none_stepped : (old : ShardsSeen) (effect : Option Event) → AreLegalShards old.plans old.seen → AreStepped old old effect [] false
+none_stepped old effect legal = record {
   steps = [];
-  goes_on = shards_stood alone (viewed seen own);
+  goes_on = shards_stood old.alone (shards_in old);
   legal = legal;
   through = record {
     order = refl;
-    are_done = record { stand = All-nil (IsStep seen effect); done = All-nil (λ (x : ShardStep). IsDone x.told) };
+    are_done = record { stand = All-nil (IsStep old.seen effect); done = All-nil (λ (x : ShardStep). IsDone x.told) };
   };
   removed_is = (λ t. absurd cc, λ lets. absurd (omega (arith, lets)));
 }
@@ -304,49 +305,52 @@ popped {X = X} P old new r x all is some =
 pub popped_length : {X : Type 0} (old new : List X) (r : Option X) (x : X) → old ≡ new ++ option_to_list r → r ≡ Some x → length old ≡ length new + 1
 popped_length {X = X} old new r x is some = ap (λ l. length l) (is ∙ ap (λ (o : Option X). new ++ option_to_list o) some) ∙ length-append new (x ∷ [])
 
-module _ (plans plans' : List Plan) (alone alone' : Bool) (same_plans : plans' ≡ plans) (same_alone : alone' ≡ alone) (old : Viewed Entry) (seen0 seen1 : ℕ → List Entry) (own0 own1 : ℕ → List ℕ)
-    (effect : Option Event) (first place : ℕ) (removed : Bool) (so_far : AreStepped plans alone old (viewed seen0 own0) effect (range_with_len first place) removed)
-    (h : ℕ) (h_is : h ≡ first + place) (within : h < length plans) (e : EventValue) (can : CanStep effect e)
-    (others : (s : ℕ) → s ≢ h → (seen1 s ≡ seen0 s) × (own1 s ≡ own0 s)) where
+module _ (old before after : ShardsSeen) (same_plans : before.plans ≡ old.plans) (same_alone : before.alone ≡ old.alone)
+    (effect : Option Event) (first place : ℕ) (removed : Bool) (so_far : AreStepped old before effect (range_with_len first place) removed)
+    (h : ℕ) (h_is : h ≡ first + place) (within : h < length old.plans) (e : EventValue) (can : CanStep effect e) (rest : LeavesShards before after h) where
   abbrev WentHere : Went → Type 0
-  WentHere w = (plan : Plan) → slice_get plans' h ≡ Some plan → WentAs plan (seen_at alone' seen0 own0 h) (seen_at alone' seen1 own1 h) (event_of e) w
+  WentHere w = (plan : Plan) → HasPlanAt before h plan → WentAs plan (shard_at before h) (shard_at after h) (event_of e) w
 
-  went_here : (w : Went) → WentHere w → (plan : Plan) × (slice_get plans h ≡ Some plan) × WentAs plan (seen_at alone seen0 own0 h) (seen_at alone seen1 own1 h) (event_of e) w
+  -- as nobody else steps the shards, or others do, from the first step on
+  abbrev at_first : ShardsSeen → Bool → JournalSeen
+  at_first s alone = record { alone = alone; journal = s.seen h; own = s.own h }
+
+  went_here : (w : Went) → WentHere w → (plan : Plan) × (slice_get old.plans h ≡ Some plan) × WentAs plan (at_first before old.alone) (at_first after old.alone) (event_of e) w
   went_here w went =
-      let (plan, planned) = standing plans h within in
-      (plan, planned, subst (λ b. WentAs plan (seen_at b seen0 own0 h) (seen_at b seen1 own1 h) (event_of e) w) same_alone (went plan (ap (λ ps. slice_get ps h) same_plans ∙ planned)))
+      let (plan, planned) = standing old.plans h within in
+      (plan, planned, subst₂ (λ (a b : Bool). WentAs plan (at_first before a) (at_first after b) (event_of e) w) same_alone (rest.alone ∙ same_alone) (went plan (ap (λ ps. slice_get ps h) same_plans ∙ planned)))
 
-  pub done_more : (n : ℕ) → WentHere (how.Done n) → (any : Bool) → (IsTrue any ↔ (IsTrue removed ⊎ (0 < n))) → AreStepped plans alone old (viewed seen1 own1) effect (range_with_len first (place + 1)) any
+  pub done_more : (n : ℕ) → WentHere (how.Done n) → (any : Bool) → (IsTrue any ↔ (IsTrue removed ⊎ (0 < n))) → AreStepped old after effect (range_with_len first (place + 1)) any
   done_more n went any tells =
       let (plan, planned, here) = went_here (how.Done n) went in
       let (at, told, s, done, count) = here in
       let next : range_with_len first place ++ h ∷ [] ≡ range_with_len first (place + 1) = ap (λ k. range_with_len first place ++ k ∷ []) h_is ∙ sym (range_more first place) in
-      subst (λ ss. AreStepped plans alone old (viewed seen1 own1) effect ss any) next
-      (one_more plans alone old seen0 seen1 own0 own1 effect (range_with_len first place) removed so_far h plan planned (event_of e) can.same others at told s done n count any tells)
+      subst (λ ss. AreStepped old after effect ss any) next
+      (one_more old before after effect (range_with_len first place) removed so_far h plan planned (event_of e) can.same rest.others at told s done n count any tells)
 
   pub no_room : (told : Told) (count : ℕ) → place < count → WentHere (how.NoRoom told) →
-      SteppedBy plans alone old (viewed seen1 own1) (λ steps. FoundNoRoom seen1 effect (range_with_len first count) steps h told × WantsRoom told)
+      SteppedBy old after (λ steps. FoundNoRoom after.seen effect (range_with_len first count) steps h told × WantsRoom told)
   no_room told count lt went =
       let (plan, planned, here) = went_here (how.NoRoom told) went in
       let (at, s, lacks) = here in
-      let (rest, split) = range_split first count place lt in
-      let all : range_with_len first place ++ h ∷ rest ≡ range_with_len first count = ap (λ k. range_with_len first place ++ k ∷ rest) h_is ∙ sym split in
-      subst (λ ss. SteppedBy plans alone old (viewed seen1 own1) (λ steps. FoundNoRoom seen1 effect ss steps h told × WantsRoom told)) all
-      (stopped_no_room plans alone old seen0 seen1 own0 own1 effect (range_with_len first place) removed so_far h plan planned (event_of e) can.same others rest at told lacks s)
+      let (rest', split) = range_split first count place lt in
+      let all : range_with_len first place ++ h ∷ rest' ≡ range_with_len first count = ap (λ k. range_with_len first place ++ k ∷ rest') h_is ∙ sym split in
+      subst (λ ss. SteppedBy old after (λ steps. FoundNoRoom after.seen effect ss steps h told × WantsRoom told)) all
+      (stopped_no_room old before after effect (range_with_len first place) removed so_far h plan planned (event_of e) can.same rest.others rest' at told lacks s)
 
-  pub no_place : (n count : ℕ) → place < count → WentHere (how.Full n) → SteppedBy plans alone old (viewed seen1 own1) (λ steps. FoundNoPlace seen1 effect plans (range_with_len first count) steps h n)
+  pub no_place : (n count : ℕ) → place < count → WentHere (how.Full n) → SteppedBy old after (λ steps. FoundNoPlace after.seen effect old.plans (range_with_len first count) steps h n)
   no_place n count lt went =
       let (plan, planned, here) = went_here (how.Full n) went in
       let (s, full, limit) = here in
-      let (rest, split) = range_split first count place lt in
-      let all : range_with_len first place ++ h ∷ rest ≡ range_with_len first count = ap (λ k. range_with_len first place ++ k ∷ rest) h_is ∙ sym split in
-      subst (λ ss. SteppedBy plans alone old (viewed seen1 own1) (λ steps. FoundNoPlace seen1 effect plans ss steps h n)) all
-      (stopped_full plans alone old seen0 seen1 own0 own1 effect (range_with_len first place) removed so_far h plan planned (event_of e) can.same others rest n s full limit)
+      let (rest', split) = range_split first count place lt in
+      let all : range_with_len first place ++ h ∷ rest' ≡ range_with_len first count = ap (λ k. range_with_len first place ++ k ∷ rest') h_is ∙ sym split in
+      subst (λ ss. SteppedBy old after (λ steps. FoundNoPlace after.seen effect old.plans ss steps h n)) all
+      (stopped_full old before after effect (range_with_len first place) removed so_far h plan planned (event_of e) can.same rest.others rest' n s full limit)
 
 -- all were stepped
-pub all_stepped : (plans : List Plan) (alone : Bool) (old now : Viewed Entry) (effect : Option Event) (first place count : ℕ) (removed : Bool) → AreStepped plans alone old now effect (range_with_len first place) removed → place ≡ count →
-    SteppedBy plans alone old now (λ steps. WentThrough now.seen effect (range_with_len first count) steps × (IsTrue removed ↔ LetsGo steps))
-all_stepped plans alone old now effect first place count removed so_far same = record {
+pub all_stepped : (old now : ShardsSeen) (effect : Option Event) (first place count : ℕ) (removed : Bool) → AreStepped old now effect (range_with_len first place) removed → place ≡ count →
+    SteppedBy old now (λ steps. WentThrough now.seen effect (range_with_len first count) steps × (IsTrue removed ↔ LetsGo steps))
+all_stepped old now effect first place count removed so_far same = record {
   steps = so_far.steps;
   goes_on = so_far.goes_on;
   legal = so_far.legal;

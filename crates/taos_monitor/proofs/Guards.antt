@@ -1,12 +1,12 @@
 -- What came of a request at its object: it was ruled on or not, the object given back, and what was granted performed.
-use Rattle.std.proofs.Common.{◌≡◌, ◌≢◌, ℕ, ◌<◌, ◌≤◌, Bool, true, false, cond, List, [], ◌∷◌, ◌++◌, length, map, All, Option, None, Some, refl, sym, ap, subst, subst₂, ◌∙◌, inl, inr, arith, length-append}
+use Rattle.std.proofs.Common.{◌≡◌, ◌≢◌, ℕ, ◌<◌, ◌≤◌, Bool, true, false, cond, List, [], ◌∷◌, ◌++◌, length, map, All, Option, None, Some, slice_get, refl, sym, ap, subst, subst₂, ◌∙◌, inl, inr, arith, length-append}
 use Rattle.std.specs.Prelude.{◌==◌}
 use Rattle.std.proofs.lemmas.Bool.{cases_eq, eqb-true}
 use Rattle.std.proofs.lemmas.List.{get_or-map, length-map}
 use Rattle.std.proofs.lemmas.Option.{none-some, same_Some}
 use Rattle.object_core.specs.Objects.{ObjectEntry, ObjectSeen}
 use Rattle.object_core.specs.Operation.{Op}
-use Rattle.object_core.specs.Shelving.{ObjectFixed, fixed_of, fixed_at, AreWithin}
+use Rattle.object_core.specs.Shelving.{ObjectFixed, ShelfSeen, fixed_of, fixed_at, AreWithin}
 use Rattle.object_core.specs.Shelving.{GoesOn as TakenOn}
 use Rattle.object_core.specs.declared.ruling.Ruling.{Ruling}
 use Rattle.object_core.specs.declared.ruling.Ruling.TheVariants as rulings
@@ -17,22 +17,24 @@ use Rattle.taos_wire.specs.View.{request}
 use Rattle.proof_cache.specs.Cached.{Cached}
 use Rattle.agent_core.specs.declared.asked.Settled.{Settled}
 use Rattle.agent_core.specs.State.{Plan, Ask}
-use Rattle.agent_core.specs.Journals.{Entry, Begins, Stands}
-use Rattle.agent_core.specs.Asked.{IsGrant, by_kept, was_kept, was_dropped, had_no_room}
-use Rattle.agent_core.proofs.Asks.{standing}
+use Rattle.agent_core.specs.Journals.{Entry, Begins, ShardSeen, Stands}
+use Rattle.agent_core.specs.Shards.{ShardsSeen}
+use Rattle.agent_core.specs.Asked.{FoundRoom, IsGrant, by_kept, was_kept, was_dropped, had_no_room}
+use Rattle.agent_core.proofs.Asks.{some_own, standing}
 use Rattle.agent_core.proofs.Onward.{begins_itself, denied_stays, grant_stays}
 use Rattle.taos_monitor.specs.declared.deciding.Came.{Came}
 use Rattle.taos_monitor.specs.declared.deciding.Ruled.{Ruled}
-use Rattle.taos_monitor.specs.Asking.{unanswered}
-use Rattle.taos_monitor.specs.AtObject.{Seeking, Own, own_at, places_at, ruled_as, told_or, LeavesOut, IsGuardedAfter, object_is_full, no_ruling, asks_for}
+use Rattle.taos_monitor.specs.Asking.{TellsFull, unanswered}
+use Rattle.taos_monitor.specs.AtObject.{Seeking, Own, own_at, places_at, ruled_as, told_or, HasLooked, LeavesOut, IsGuardedAfter, object_is_full, no_ruling, asks_for}
 use Rattle.taos_monitor.specs.AtObject as guarded
-use Rattle.taos_monitor.specs.Cells.{Journals, Place, entries_in, in_shard, in_object, Viewed, viewed, seen_of, alone_of, AreLegalShards}
+use Rattle.taos_monitor.specs.Cells.{Cell, Journals, Place, entries_in, in_shard, in_object, objects_in, shards_in, seen_by, alone_of, AreLegalShards}
 use Rattle.taos_monitor.specs.Effects.{ShardStep, its_place, IsPerformed, PerformedAs, SteppedBy}
 use Rattle.taos_monitor.specs.Operations.{effect_of}
-use Rattle.taos_monitor.specs.Ruling.{AskedAt, DecidedTo, GuardedTo, IsRuled, at_limit, unruled, shard_of, standing_of, ruled_at, seeking_of}
+use Rattle.taos_monitor.specs.Ruling.{DecidedTo, GuardedTo, IsRuled, at_limit, unruled, shard_of, standing_by, ruled_at, seeking_of}
 use Rattle.taos_monitor.specs.Ruling as ruling
 use Rattle.taos_monitor.proofs.Going.{OneGoesOn, one_place, no_places, object_went_on, goes_on_twice, stood, shards_begin}
 use Rattle.taos_monitor.proofs.Short.{short}
+use Rattle.taos_monitor.proofs.Telling.{has_places}
 
 -- ---- objects by their numbers
 
@@ -126,78 +128,113 @@ module _ (plans : List Plan) (plan : Plan) (past : Journals) (shards later : ℕ
       (performed_as (ruled_at x.shard place (rulings.Granted entry)) is)
       (left_out (asks_for x before) place entry c kept settled asks g)
 
--- the steps of what was performed, by the plans that stayed
-pub stepped_over : (plans other : List Plan) (alone lone : Bool) → other ≡ plans → lone ≡ alone → (old new : Viewed Entry) (r : Ruling) (op same_op : Op) → same_op ≡ op → (certs : List Certificate) (reading : ℕ) (answer refused : Option Reply) → answer ≡ refused →
-    SteppedBy other lone old new (λ steps. PerformedAs r (IsPerformed other new.seen same_op (effect_of same_op certs reading)) steps answer) → SteppedBy plans alone old new (λ steps. PerformedAs r (IsPerformed plans new.seen op (effect_of op certs reading)) steps refused)
-stepped_over plans other alone lone same solo old new r op same_op op_is certs reading answer refused is s =
-    subst (λ (o : Option Reply). SteppedBy plans alone old new (λ steps. PerformedAs r (IsPerformed plans new.seen op (effect_of op certs reading)) steps o)) is
-    (subst₂ (λ (ps : List Plan) (b : Bool). SteppedBy ps b old new (λ steps. PerformedAs r (IsPerformed ps new.seen op (effect_of op certs reading)) steps answer)) same solo
-    (subst (λ (o : Op). SteppedBy other lone old new (λ steps. PerformedAs r (IsPerformed other new.seen o (effect_of o certs reading)) steps answer)) op_is s))
+-- the shards as they are, by the plans that stayed
+abbrev pub as_at_first : (first now : ShardsSeen) → ShardsSeen
+as_at_first first now = record { plans = first.plans; alone = first.alone; seen = now.seen; own = now.own }
+
+-- the steps of what was performed, by these plans
+pub stepped_over : (first old new : ShardsSeen) → old.plans ≡ first.plans → old.alone ≡ first.alone → (r : Ruling) (op same_op : Op) → same_op ≡ op → (certs : List Certificate) (reading : ℕ) (answer refused : Option Reply) → answer ≡ refused →
+    SteppedBy old new (λ steps. PerformedAs r (IsPerformed old.plans new.seen same_op (effect_of same_op certs reading)) steps answer) → SteppedBy (as_at_first first old) new (λ steps. PerformedAs r (IsPerformed first.plans new.seen op (effect_of op certs reading)) steps refused)
+stepped_over first old new same solo r op same_op op_is certs reading answer refused is s =
+    subst (λ (o : Option Reply). SteppedBy (as_at_first first old) new (λ steps. PerformedAs r (IsPerformed first.plans new.seen op (effect_of op certs reading)) steps o)) is
+    (subst₂ (λ (ps : List Plan) (b : Bool). SteppedBy (record { plans = ps; alone = b; seen = old.seen; own = old.own }) new (λ steps. PerformedAs r (IsPerformed ps new.seen op (effect_of op certs reading)) steps answer)) same solo
+    (subst (λ (o : Op). SteppedBy old new (λ steps. PerformedAs r (IsPerformed old.plans new.seen o (effect_of o certs reading)) steps answer)) op_is s))
+
+-- what is ruled has its Ask
+pub ruled_has : (s : ShardSeen) (x : Seeking) (before : List ObjectEntry) (r : Ruled) (ruled : Option Ruled) (own : List ℕ) (reply : Reply) → IsRuled s x before ruled own reply → ruled ≡ Some r → own ≡ [] → ⊥
+ruled_has s x before r ruled own reply (at_limit full) some none = absurd cc
+ruled_has s x before r ruled own reply (unruled room u) some none = absurd cc
+ruled_has s x before r ruled own reply (ruling.denied {place} d tells) some none = some_own place none
+ruled_has s x before r ruled own reply (ruling.granted {place} {entry} {c} {kept} {settled} {own = asks} g) some none = has_places s.plan s.journal (asks_for x before) place entry c kept settled asks g none
+
+-- no shard's journal was found full, where that of the shard that was asked was not
+full_told : (before after : ShardsSeen) (h : ℕ) (plan : Plan) (own : List ℕ) (reply : Reply) → slice_get before.plans h ≡ Some plan → TellsFull plan (before.seen h) (after.seen h) own reply → ((n : ℕ) → n ≢ h → after.seen n ≡ before.seen n) →
+    (shard : ℕ) (p : Plan) → slice_get before.plans shard ≡ Some p → TellsFull p (before.seen shard) (after.seen shard) own reply
+full_told before after h plan own reply planned here others shard p at lacks none = elim (cases_eq shard h) [
+  | inl same ↦
+      let is : p ≡ plan = same_Some p plan (sym at ∙ ap (slice_get before.plans) same ∙ planned) in
+      subst (λ (n : ℕ). FoundRoom p (before.seen n) (after.seen n)) (sym same) (subst (λ (q : Plan). FoundRoom q (before.seen h) (after.seen h)) (sym is) (here lacks none))
+  | inr not ↦ inl (others shard not)
+]
+
+-- no Ask stands, and memory lacks
+unasked : HasLooked [] replies.NoMemory → ⊥
+unasked (inl some) = some refl
+unasked (inr told) = told refl
 
 -- ---- the whole
 
-module _ (plans : List Plan) (objects : List ObjectFixed) (alone lone : Bool) (shards0 : Viewed Entry) (seen0 : ℕ → List ObjectEntry) (own0 : ℕ → List ℕ) (c : Came) (within : AreWithin objects seen0) where
+module _ (shards0 : ShardsSeen) (shelf0 : ShelfSeen) (c : Came) (within : AreWithin shelf0.objects shelf0.seen) where
   abbrev number : ℕ
   number = (request c.asked.now).object
 
+  abbrev alone : Cell → Bool
+  alone = alone_of shards0.alone shelf0.alone
+
   -- memory was refused before the object was taken
-  pub unready : (fixed : ObjectFixed) → AreLegalShards plans shards0.seen → c.shard < length plans →
-      GuardedTo (standing_of plans objects (alone_of alone lone)) (seen_of shards0 (viewed seen0 own0)) (seen_of shards0 (viewed seen0 own0)) (seeking_of c fixed) replies.NoMemory
+  pub unready : (fixed : ObjectFixed) → AreLegalShards shards0.plans shards0.seen → c.shard < length shards0.plans →
+      GuardedTo (standing_by shards0 shelf0) (seen_by shards0 shelf0) (seen_by shards0 shelf0) (seeking_of c fixed) replies.NoMemory
   unready fixed legal there =
-      let (plan, planned) = standing plans c.shard there in
+      let (plan, planned) = standing shards0.plans c.shard there in
       record {
         plan = plan;
         planned = planned;
         own = own_at [] [] [];
-        goes_on = stood (alone_of alone lone) (seen_of shards0 (viewed seen0 own0));
+        goes_on = stood alone (seen_by shards0 shelf0);
         legal = record { shards = legal; objects = within };
-        guarded = no_ruling [] (record { begins = record { rest = seen0 number; is = refl }; after = λ told. absurd (told refl); room = λ told. absurd (told refl) }) (unanswered (inl refl));
+        tells_full = λ shard p is lacks none. inl refl;
+        guarded = no_ruling [] (record { begins = record { rest = shelf0.seen number; is = refl }; after = λ told. absurd (unasked told); room = λ told. absurd (unasked told) }) (unanswered (inl refl));
       }
 
-  module _ (o : ObjectSeen) (at : fixed_at objects number ≡ Some (fixed_of o)) (taken : TakenOn lone (seen0 number) o)
-      (seen1 : ℕ → List ObjectEntry) (own1 : ℕ → List ℕ) (others : (n : ℕ) → n ≢ number → (seen1 n ≡ seen0 n) × (own1 n ≡ own0 n)) (shards1 : Viewed Entry) where
+  module _ (o : ObjectSeen) (at : fixed_at shelf0.objects number ≡ Some (fixed_of o)) (taken : TakenOn shelf0.alone (shelf0.seen number) o)
+      (shelf1 : ShelfSeen) (others : (n : ℕ) → n ≢ number → (shelf1.seen n ≡ shelf0.seen n) × (shelf1.own n ≡ shelf0.own n)) (shards1 : ShardsSeen) where
     -- there is no ruling
-    pub guarded_unruled : (ruled : Option Ruled) (reply : Reply) → DecidedTo plans alone shards0 shards1 (c, o, ruled) reply → ruled ≡ None → seen1 number ≡ o.journal → own1 number ≡ own0 number → length o.journal ≤ o.limit →
-        GuardedTo (standing_of plans objects (alone_of alone lone)) (seen_of shards0 (viewed seen0 own0)) (seen_of shards1 (viewed seen1 own1)) (seeking_of c (fixed_of o)) reply
+    pub guarded_unruled : (ruled : Option Ruled) (reply : Reply) → DecidedTo shards0 shards1 (c, o, ruled) reply → ruled ≡ None → shelf1.seen number ≡ o.journal → shelf1.own number ≡ shelf0.own number → length o.journal ≤ o.limit →
+        GuardedTo (standing_by shards0 shelf0) (seen_by shards0 shelf0) (seen_by shards1 shelf1) (seeking_of c (fixed_of o)) reply
     guarded_unruled ruled reply d none seen own fits = record {
       plan = d.plan;
       planned = d.planned;
       own = own_at d.own [] [];
       goes_on =
-          goes_on_twice (alone_of alone lone) (seen_of shards0 (viewed seen0 own0)) (seen_of shards1 (viewed seen1 own1)) (seen_of shards1 (viewed seen1 own1)) (map (in_shard c.shard) d.own ++ []) []
-          (goes_on_twice (alone_of alone lone) (seen_of shards0 (viewed seen0 own0)) (seen_of shards1 (viewed seen0 own0)) (seen_of shards1 (viewed seen1 own1)) (map (in_shard c.shard) d.own) []
-          (d.goes_on lone (viewed seen0 own0)) (object_went_on number seen0 seen1 own0 own1 others alone lone shards1 [] (given_unruled number o lone seen0 seen1 own0 own1 taken seen own)))
-          (stood (alone_of alone lone) (seen_of shards1 (viewed seen1 own1)));
+          goes_on_twice alone (seen_by shards0 shelf0) (seen_by shards1 shelf1) (seen_by shards1 shelf1) (map (in_shard c.shard) d.own ++ []) []
+          (goes_on_twice alone (seen_by shards0 shelf0) (seen_by shards1 shelf0) (seen_by shards1 shelf1) (map (in_shard c.shard) d.own) []
+          (d.goes_on shelf0.alone (objects_in shelf0)) (object_went_on number shelf0.seen shelf1.seen shelf0.own shelf1.own others shards0.alone shelf0.alone (shards_in shards1) []
+          (given_unruled number o shelf0.alone shelf0.seen shelf1.seen shelf0.own shelf1.own taken seen own)))
+          (stood alone (seen_by shards1 shelf1));
       legal = record {
         shards = d.legal;
-        objects = within_after objects seen0 seen1 number o at within (λ n not. (others n not).0) (omega (arith, ap (λ (l : List ObjectEntry). length l) seen, fits));
+        objects = within_after shelf0.objects shelf0.seen shelf1.seen number o at within (λ n not. (others n not).0) (omega (arith, ap (λ (l : List ObjectEntry). length l) seen, fits));
       };
-      guarded = unruled_as plans d.plan (seen_of shards0 (viewed seen0 own0)).journals shards1.seen seen1 (seeking_of c (fixed_of o)) o.journal (as_taken number o lone seen0 seen1 own0 own1 taken) ruled d.own reply d.ends none seen;
+      tells_full = full_told shards0 shards1 c.shard d.plan d.own reply d.planned d.ends.1 d.others;
+      guarded = unruled_as shards0.plans d.plan (seen_by shards0 shelf0).journals shards1.seen shelf1.seen (seeking_of c (fixed_of o)) o.journal
+          (as_taken number o shelf0.alone shelf0.seen shelf1.seen shelf0.own shelf1.own taken) ruled d.own reply d.ends.0 none seen;
     }
 
-    module _ (r : Ruled) (seen : seen1 number ≡ o.journal ++ ruled_as r.shard r.place (request c.asked.now).op r.ruling ∷ []) (own : own1 number ≡ own0 number ++ length o.journal ∷ []) (room : length o.journal < o.limit) (shards2 : Viewed Entry) where
+    module _ (r : Ruled) (seen : shelf1.seen number ≡ o.journal ++ ruled_as r.shard r.place (request c.asked.now).op r.ruling ∷ []) (own : shelf1.own number ≡ shelf0.own number ++ length o.journal ∷ []) (room : length o.journal < o.limit) (shards2 : ShardsSeen) where
       -- there is one, and what it grants was performed
-      pub guarded_ruled : (ruled : Option Ruled) (reply : Reply) (refused : Option Reply) → DecidedTo plans alone shards0 shards1 (c, o, ruled) reply → ruled ≡ Some r →
-          SteppedBy plans alone shards1 shards2 (λ steps. PerformedAs r.ruling (IsPerformed plans shards2.seen (request c.asked.now).op (effect_of (request c.asked.now).op (seeking_of c (fixed_of o)).certs c.reading)) steps refused) →
-          GuardedTo (standing_of plans objects (alone_of alone lone)) (seen_of shards0 (viewed seen0 own0)) (seen_of shards2 (viewed seen1 own1)) (seeking_of c (fixed_of o)) (told_or refused reply)
+      pub guarded_ruled : (ruled : Option Ruled) (reply : Reply) (refused : Option Reply) → DecidedTo shards0 shards1 (c, o, ruled) reply → ruled ≡ Some r →
+          SteppedBy (as_at_first shards0 shards1) shards2 (λ steps. PerformedAs r.ruling (IsPerformed shards0.plans shards2.seen (request c.asked.now).op (effect_of (request c.asked.now).op (seeking_of c (fixed_of o)).certs c.reading)) steps refused) →
+          GuardedTo (standing_by shards0 shelf0) (seen_by shards0 shelf0) (seen_by shards2 shelf1) (seeking_of c (fixed_of o)) (told_or refused reply)
       guarded_ruled ruled reply refused d some s = record {
         plan = d.plan;
         planned = d.planned;
         own = own_at d.own (length o.journal ∷ []) s.steps;
         goes_on =
-            goes_on_twice (alone_of alone lone) (seen_of shards0 (viewed seen0 own0)) (seen_of shards1 (viewed seen1 own1)) (seen_of shards2 (viewed seen1 own1))
+            goes_on_twice alone (seen_by shards0 shelf0) (seen_by shards1 shelf1) (seen_by shards2 shelf1)
             (map (in_shard c.shard) d.own ++ map (in_object number) (length o.journal ∷ [])) (map its_place s.steps)
-            (goes_on_twice (alone_of alone lone) (seen_of shards0 (viewed seen0 own0)) (seen_of shards1 (viewed seen0 own0)) (seen_of shards1 (viewed seen1 own1)) (map (in_shard c.shard) d.own) (map (in_object number) (length o.journal ∷ []))
-            (d.goes_on lone (viewed seen0 own0))
-            (object_went_on number seen0 seen1 own0 own1 others alone lone shards1 (length o.journal ∷ [])
-            (given_ruled number o lone seen0 seen1 own0 own1 taken (ruled_as r.shard r.place (request c.asked.now).op r.ruling) seen own)))
-            (s.goes_on lone (viewed seen1 own1));
+            (goes_on_twice alone (seen_by shards0 shelf0) (seen_by shards1 shelf0) (seen_by shards1 shelf1) (map (in_shard c.shard) d.own) (map (in_object number) (length o.journal ∷ []))
+            (d.goes_on shelf0.alone (objects_in shelf0))
+            (object_went_on number shelf0.seen shelf1.seen shelf0.own shelf1.own others shards0.alone shelf0.alone (shards_in shards1) (length o.journal ∷ [])
+            (given_ruled number o shelf0.alone shelf0.seen shelf1.seen shelf0.own shelf1.own taken (ruled_as r.shard r.place (request c.asked.now).op r.ruling) seen own)))
+            (s.goes_on shelf0.alone (objects_in shelf1));
         legal = record {
           shards = s.legal;
-          objects = within_after objects seen0 seen1 number o at within (λ n not. (others n not).0)
+          objects = within_after shelf0.objects shelf0.seen shelf1.seen number o at within (λ n not. (others n not).0)
               (omega (arith, ap (λ (l : List ObjectEntry). length l) seen, length-append o.journal (ruled_as r.shard r.place (request c.asked.now).op r.ruling ∷ []), room));
         };
-        guarded = ruled_on plans d.plan (seen_of shards0 (viewed seen0 own0)).journals shards1.seen shards2.seen seen1 (seeking_of c (fixed_of o)) o.journal (shards_begin alone shards1 shards2 (map its_place s.steps) s.goes_on c.shard)
+        tells_full = λ shard p is lacks none. absurd (ruled_has (shard_of d.plan (shards1.seen c.shard)) (seeking_of c (fixed_of o)) o.journal r ruled d.own reply d.ends.0 some none);
+        guarded = ruled_on shards0.plans d.plan (seen_by shards0 shelf0).journals shards1.seen shards2.seen shelf1.seen (seeking_of c (fixed_of o)) o.journal
+            (shards_begin shards0.alone (shards_in shards1) (shards_in shards2) (map its_place s.steps) s.goes_on c.shard)
             (short d.plan (shards2.seen c.shard) (s.legal c.shard d.plan d.planned)) r [] seen s.steps refused s.ends
-            (s.goes_on lone (viewed seen1 own1)).new_places (s.goes_on lone (viewed seen1 own1)).there ruled d.own reply d.ends some;
+            (s.goes_on shelf0.alone (objects_in shelf1)).new_places (s.goes_on shelf0.alone (objects_in shelf1)).there ruled d.own reply d.ends.0 some;
       }

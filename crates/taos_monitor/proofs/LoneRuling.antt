@@ -65,11 +65,11 @@ module _ (plans : List Plan) (plan : Plan) (x : Seeking) (K J : Journals) (plann
   in_shards o [] = All-nil (λ (p : Place). p.cell ≢ OfObject o)
   in_shards o (p ∷ own) = All-cons (λ (p : Place). p.cell ≢ OfObject o) (in_shard x.shard p) (map (in_shard x.shard) own) (λ e. cc) (in_shards o own)
 
-  unruled_front : (own : List ℕ) (before : List ObjectEntry) (reply : Reply) → reply ≢ replies.NoMemory → Grows K J ((map (in_shard x.shard) own ++ []) ++ []) → IsAskedWith there (J.objects x.request.object) before x.fixed.limit reply → before ≡ there
+  unruled_front : (own : List ℕ) (before : List ObjectEntry) (reply : Reply) → reply ≢ replies.NoMemory → Grows K J ((map (in_shard x.shard) own ++ []) ++ []) → IsAskedWith there (J.objects x.request.object) before x.fixed.limit own reply → before ≡ there
   unruled_front own before reply known g b =
       let all = subst (All (λ (p : Place). p.cell ≢ OfObject x.request.object)) (sym (append-nil (map (in_shard x.shard) own ++ []) ∙ append-nil (map (in_shard x.shard) own))) (in_shards x.request.object own) in
       let same : length (J.objects x.request.object) ≡ length there = unchanged_in K J ((map (in_shard x.shard) own ++ []) ++ []) (OfObject x.request.object) g all in
-      same_front there before (b.after known) (omega (arith, same, longer_by (b.after known), longer_by b.begins))
+      same_front there before (b.after (inr known)) (omega (arith, same, longer_by (b.after (inr known)), longer_by b.begins))
 
   by_unruled : (own : List ℕ) (reply : Reply) (choice : Option Cached) → IsUnruled plan (J.shards x.shard) x.shard the_ask own reply → reply ≢ replies.NoMemory → Grows K J ((map (in_shard x.shard) own ++ []) ++ []) → length there < x.fixed.limit → Guarded plans plan x K J reply choice
   by_unruled own reply choice (full at) known g room =
@@ -242,7 +242,7 @@ module _ (plans : List Plan) (plan : Plan) (x : Seeking) (K J : Journals) (plann
         inl (ap (λ (I : Journals). length (I.objects x.request.object)) (sym same) ∙ at, (same, refl))
     guarded_by own reply (no_ruling {own = asks} before b u) known g =
         let is = unruled_front asks before reply known g b in
-        by_unruled asks reply None (subst (λ (l : List ObjectEntry). IsUnruled plan (J.shards x.shard) x.shard (asks_for x l) asks reply) is u) known g (subst (λ (l : List ObjectEntry). length l < x.fixed.limit) is (b.room known))
+        by_unruled asks reply None (subst (λ (l : List ObjectEntry). IsUnruled plan (J.shards x.shard) x.shard (asks_for x l) asks reply) is u) known g (subst (λ (l : List ObjectEntry). length l < x.fixed.limit) is (b.room (inr known)))
     guarded_by own reply (denied {place} {at} {denial} {told} before s d tells) known g =
         let e = ruled_as x.shard place x.request.op rulings.Denied in
         let is = denied_front place at (asks_for x before) before d.before e d.stands s g in

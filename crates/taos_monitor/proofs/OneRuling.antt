@@ -96,11 +96,13 @@ module _ (plan : Plan) (k : List Entry) (a : Ask) where
 
   same_name : (certs : List Certificate) (link : Link) (x y : Denial) → Names certs link x → Names certs link y → x ≡ y
   same_name certs (links.Expired e place) x y (c, at, is) (d, there, also) = is ∙ ap (λ (z : Certificate). denials.Expired e (digest_of z)) (same_Some c d (sym at ∙ there)) ∙ sym also
+  same_name certs (links.Early e place) x y (c, at, is) (d, there, also) = is ∙ ap (λ (z : Certificate). denials.Early e (digest_of z)) (same_Some c d (sym at ∙ there)) ∙ sym also
   same_name certs (links.Missing e node) x y is also = is ∙ sym also
   same_name certs links.NoEntry x y is also = is ∙ sym also
 
   same_told : (list : List Grant) (denial : Denial) (x y : LinkSent) → TellsDenial list denial x → TellsDenial list denial y → x ≡ y
   same_told list (denials.Expired e digest) x y is also = is ∙ sym also
+  same_told list (denials.Early e digest) x y is also = is ∙ sym also
   same_told list (denials.Missing e node) x y (g, part, at, there, is) (h, other, stands, also, so) =
       let same : g ≡ h = same_Some g h (sym at ∙ stands) in
       let parts : part ≡ other = same_Some part other (sym there ∙ ap (λ (z : Grant). slice_get (subterms z.who) node) same ∙ also) in

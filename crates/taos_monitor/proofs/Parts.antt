@@ -21,7 +21,7 @@ use Rattle.prin_term.proofs.Parts.{length-parts, first_part}
 use Rattle.stmt_codec.specs.Certificates.{Certificate, body_spelling, digest_of}
 use Rattle.denial_link.specs.declared.link.Link.{Link}
 use Rattle.denial_link.specs.declared.link.Link.TheVariants as links
-use Rattle.denial_link.specs.Links.{Lacks, here, below, IsFirstLink, no_entry, expired, missing}
+use Rattle.denial_link.specs.Links.{Lacks, here, below, IsFirstLink, no_entry, expired, early, missing}
 use Rattle.denial_link.proofs.Members.{has-at, has-cases, has-nil}
 use Rattle.agent_core.specs.declared.asked.Denial.{Denial}
 use Rattle.agent_core.specs.declared.asked.Settled.{Settled}
@@ -148,19 +148,24 @@ digest_fits digest c is = subst IsDigest (sym is) (length-sha256 (body_spelling 
 -- ---- what is named
 
 module _ (anchors : List Anchor) (certs : List Certificate) (moment : ℕ) (subject : Principal) (list : List Grant) (right : ℕ) where
-  pub ended : (link : Link) (entry place : ℕ) → link ≡ links.Expired entry place → IsFirstLink anchors certs moment subject list right link → (entry < length list) × ((c : Certificate) × (slice_get certs place ≡ Some c))
-  ended link entry place e (no_entry none) = absurd cc
-  ended link entry place e (expired {k} {c} g first needed) =
-      let same_entry : k ≡ entry = cc in
-      let same : c ≡ place = cc in
-      let dead = (needed.in_order.dead c).0 (has-at needed.places needed.n c needed.stands) in
-      (omega (arith, same_entry, slice_get_within list k g first.stands), (dead.0, ap (slice_get certs) (sym same) ∙ dead.1))
-  ended link entry place e (missing {k} {n} g first none lacks) = absurd cc
+  -- a link that names a certificate names an entry that is there
+  abbrev IsInList : Link → Type 0
+  IsInList (links.Expired entry place) = entry < length list
+  IsInList (links.Early entry place) = entry < length list
+  IsInList (links.Missing entry node) = Unit {0}
+  IsInList links.NoEntry = Unit {0}
+
+  pub in_list : (link : Link) → IsFirstLink anchors certs moment subject list right link → IsInList link
+  in_list link (no_entry none) = tt
+  in_list link (expired {k} {c} g first needed out) = slice_get_within list k g first.stands
+  in_list link (early {k} {c} g first needed out) = slice_get_within list k g first.stands
+  in_list link (missing {k} {n} g first none lacks) = tt
 
   pub named : (link : Link) (entry node : ℕ) → link ≡ links.Missing entry node → IsFirstLink anchors certs moment subject list right link →
       (g : Grant) × (part : Principal) × (slice_get list entry ≡ Some g) × (slice_get (subterms g.who) node ≡ Some part)
   named link entry node e (no_entry none) = absurd cc
-  named link entry node e (expired {k} {c} g first needed) = absurd cc
+  named link entry node e (expired {k} {c} g first needed out) = absurd cc
+  named link entry node e (early {k} {c} g first needed out) = absurd cc
   named link entry node e (missing {k} {n} g first none lacks) =
       let same_entry : k ≡ entry = cc in
       let same_node : n ≡ node = cc in
@@ -173,7 +178,10 @@ is_some f (Some x) y e = refl
 
 has_part : (plan : Plan) (journal : List Entry) (a : Ask) (place : ℕ) (denial : Denial) (link : Link) → length a.list ≤ 8 → (d : IsDeniedAt plan journal a place denial) → d.denied.link ≡ link → Names d.certs link denial → HasPart a.list denial
 has_part plan journal a place denial (links.Expired k i) few d at (c, stands, is) =
-    let (within, found) = ended plan.anchors d.certs d.moment a.subject a.list a.right d.denied.link k i at d.denied.first in
+    let within : k < length a.list = subst (IsInList plan.anchors d.certs d.moment a.subject a.list a.right) at (in_list plan.anchors d.certs d.moment a.subject a.list a.right d.denied.link d.denied.first) in
+    subst (HasPart a.list) (sym is) (omega (arith, within, few), digest_fits (digest_of c) c refl)
+has_part plan journal a place denial (links.Early k i) few d at (c, stands, is) =
+    let within : k < length a.list = subst (IsInList plan.anchors d.certs d.moment a.subject a.list a.right) at (in_list plan.anchors d.certs d.moment a.subject a.list a.right d.denied.link d.denied.first) in
     subst (HasPart a.list) (sym is) (omega (arith, within, few), digest_fits (digest_of c) c refl)
 has_part plan journal a place denial (links.Missing k n) few d at is = subst (HasPart a.list) (sym is) (named plan.anchors d.certs d.moment a.subject a.list a.right d.denied.link k n at d.denied.first)
 has_part plan journal a place denial links.NoEntry few d at is = subst (HasPart a.list) (sym is) tt

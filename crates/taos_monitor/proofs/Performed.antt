@@ -5,31 +5,29 @@ use Rattle.object_core.specs.Operation.{Op}
 use Rattle.stmt_codec.specs.Certificates.{Certificate}
 use Rattle.taos_wire.specs.Reply.{Reply}
 use Rattle.agent_core.specs.declared.told.Told.{Told}
-use Rattle.agent_core.specs.State.{Plan}
-use Rattle.agent_core.specs.Journals.{Entry}
+use Rattle.agent_core.specs.Shards.{ShardsSeen}
 use Rattle.taos_monitor.specs.declared.due.Due.{Due}
 use Rattle.taos_monitor.specs.declared.performing.Effected.{Effected}
 use Rattle.taos_monitor.specs.declared.performing.Effected.TheVariants as effected
-use Rattle.taos_monitor.specs.Cells.{Viewed}
 use Rattle.taos_monitor.specs.Asking.{shard_full}
 use Rattle.taos_monitor.specs.Operations.{effect_of, targets_of}
 use Rattle.taos_monitor.specs.Effects.{ShardStep, EndAs, FoundNoRoom, lacks_room, IsPerformed, through, not_held, no_room, no_place, TellsHeld, SteppedBy, effect_due, shards_due, IsDueOf}
 
-module _ (plans : List Plan) (alone : Bool) (old new : Viewed Entry) where
-  stepped_as : (E F : List ShardStep → Type 0) → ((steps : List ShardStep) → E steps → F steps) → SteppedBy plans alone old new E → SteppedBy plans alone old new F
+module _ (old new : ShardsSeen) where
+  stepped_as : (E F : List ShardStep → Type 0) → ((steps : List ShardStep) → E steps → F steps) → SteppedBy old new E → SteppedBy old new F
   stepped_as E F f s = record { steps = s.steps; goes_on = s.goes_on; legal = s.legal; ends = f s.steps s.ends }
 
-  module _ (op : Op) (certs : List Certificate) (reading : ℕ) (due : Due) (is_due : IsDueOf plans op certs reading due) where
+  module _ (op : Op) (certs : List Certificate) (reading : ℕ) (due : Due) (is_due : IsDueOf old.plans op certs reading due) where
     abbrev Ended : Effected → Type 0
-    Ended r = SteppedBy plans alone old new (λ steps. EndAs new.seen (effect_due due) plans (shards_due due) steps r)
+    Ended r = SteppedBy old new (λ steps. EndAs new.seen (effect_due due) old.plans (shards_due due) steps r)
 
     abbrev Performed : Option Reply → Type 0
-    Performed answer = SteppedBy plans alone old new (λ steps. IsPerformed plans new.seen op (effect_of op certs reading) steps answer)
+    Performed answer = SteppedBy old new (λ steps. IsPerformed old.plans new.seen op (effect_of op certs reading) steps answer)
 
-    as_due : (r : Effected) → Ended r → SteppedBy plans alone old new (λ steps. EndAs new.seen (effect_of op certs reading) plans (targets_of plans op) steps r)
+    as_due : (r : Effected) → Ended r → SteppedBy old new (λ steps. EndAs new.seen (effect_of op certs reading) old.plans (targets_of old.plans op) steps r)
     as_due r ended =
-        subst (λ ss. SteppedBy plans alone old new (λ steps. EndAs new.seen (effect_of op certs reading) plans ss steps r)) is_due.shards_are
-        (subst (λ e. SteppedBy plans alone old new (λ steps. EndAs new.seen e plans (shards_due due) steps r)) is_due.effect_is ended)
+        subst (λ ss. SteppedBy old new (λ steps. EndAs new.seen (effect_of op certs reading) old.plans ss steps r)) is_due.shards_are
+        (subst (λ e. SteppedBy old new (λ steps. EndAs new.seen e old.plans (shards_due due) steps r)) is_due.effect_is ended)
 
     pub through_all : (removed : Bool) (answer : Option Reply) → TellsHeld op removed answer → Ended (effected.Through removed) → Performed answer
     through_all removed None tells ended =
@@ -38,8 +36,8 @@ module _ (plans : List Plan) (alone : Bool) (old new : Viewed Entry) where
         subst (λ r. Performed (Some r)) (sym said)
         (stepped_as _ _ (λ steps ends. not_held digest is ends.0 (λ lets. none (ends.1.1 lets))) (as_due (effected.Through removed) ended))
 
-    refused_so : (shard : ℕ) (told : Told) (steps : List ShardStep) (answer : Option Reply) → answer ≡ lacks_room shard told → IsSome answer → FoundNoRoom new.seen (effect_of op certs reading) (targets_of plans op) steps shard told →
-        IsPerformed plans new.seen op (effect_of op certs reading) steps answer
+    refused_so : (shard : ℕ) (told : Told) (steps : List ShardStep) (answer : Option Reply) → answer ≡ lacks_room shard told → IsSome answer → FoundNoRoom new.seen (effect_of op certs reading) (targets_of old.plans op) steps shard told →
+        IsPerformed old.plans new.seen op (effect_of op certs reading) steps answer
     refused_so shard told steps None is some found = absurd cc
     refused_so shard told steps (Some reply) is some found = no_room (sym is) found
 

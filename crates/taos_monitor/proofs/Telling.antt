@@ -6,9 +6,12 @@ use Rattle.taos_wire.specs.Reply.{Reply}
 use Rattle.agent_core.specs.declared.asked.Verdict.{Verdict}
 use Rattle.agent_core.specs.declared.asked.Verdict.TheVariants as verdict
 use Rattle.agent_core.specs.declared.asked.Settled.{Settled}
-use Rattle.agent_core.specs.State.{Plan}
+use Rattle.agent_core.specs.State.{Plan, Ask}
 use Rattle.agent_core.specs.Journals.{Entry}
-use Rattle.agent_core.specs.Asked.{Ends}
+use Rattle.agent_core.specs.Asked.{Ends, IsGrant, by_kept, was_kept, was_dropped, had_no_room}
+use Rattle.proof_cache.specs.Cached.{Cached, cached}
+use Rattle.proof_cache.specs.declared.cached.Cached.{Cached as CachedValue}
+use Rattle.std.specs.Arc.{arc_value}
 use Rattle.taos_monitor.specs.declared.deciding.Ruled.{Ruled}
 use Rattle.taos_monitor.specs.Asking.{full, replayed, channel_full, untold, shard_full}
 use Rattle.taos_monitor.specs.AtObject.{Seeking, asks_for, gives_for}
@@ -35,3 +38,26 @@ module _ (plan : Plan) (journal : List Entry) (x : Seeking) (before : List Objec
   ruled_by place (verdict.Full held) kept settled own ruled reply ((t, is), plain, never) (none, said) = by_own ruled None own (place ∷ []) reply _ none is said (unruled room (channel_full t))
   ruled_by place (verdict.JournalFull n) kept settled own ruled reply ((at_limit, n_is, place_is, is), plain, never) (none, said) =
       by_own ruled None own [] reply _ none is (said ∙ ap (λ (k : ℕ). shard_full x.shard k) n_is) (unruled room (full at_limit))
+
+-- ---- where memory lacks for the reply, the Ask stands
+
+some_places : (place : ℕ) (places : List ℕ) → place ∷ places ≡ [] → ⊥
+some_places place places e = cc
+
+told_apart : (shard limit : ℕ) → shard_full shard limit ≡ replies.NoMemory → ⊥
+told_apart shard limit e = cc
+
+module _ (plan : Plan) (journal : List Entry) (a : Ask) (place : ℕ) where
+  pub has_places : (e : ℕ) (c : Cached) (kept : Bool) (settled : Settled) (own : List ℕ) → IsGrant plan journal a place e c kept settled own → own ≡ [] → ⊥
+  has_places e c kept settled own (by_kept h) none = some_places place [] none
+  has_places e c kept settled own (was_kept {keep} g t) none = some_places place (keep ∷ []) none
+  has_places e c kept settled own (was_dropped {keep} g t) none = some_places place (keep ∷ []) none
+  has_places e c kept settled own (had_no_room g at) none = some_places place [] none
+
+  pub never_lacking : (v : Verdict) (kept : Bool) (settled : Settled) (own : List ℕ) → Ends plan journal a place v kept settled own →
+      (t : Telling) (ruled : Option Ruled) (reply : Reply) → IsToldBy t v ruled reply → reply ≡ replies.NoMemory → own ≡ [] → ⊥
+  never_lacking (verdict.Granted e c) kept settled own g t ruled reply told lacks none = has_places e (cached (arc_value {X = CachedValue} c)) kept settled own g none
+  never_lacking (verdict.Denied denial) kept settled own h t ruled reply told lacks none = some_places place [] (sym h.0.1 ∙ none)
+  never_lacking (verdict.Replayed last) kept settled own h t ruled reply told lacks none = some_places place [] (sym h.0.1 ∙ none)
+  never_lacking (verdict.Full held) kept settled own h t ruled reply told lacks none = some_places place [] (sym h.0.1 ∙ none)
+  never_lacking (verdict.JournalFull n) kept settled own h t ruled reply told lacks none = told_apart t.shard n (sym told.1 ∙ lacks)

@@ -15,7 +15,7 @@ use Rattle.agent_core.specs.declared.asked.Denial.TheVariants as denials
 use Rattle.agent_core.specs.declared.asked.Settled.{Settled}
 use Rattle.agent_core.specs.State.{Plan, Ask}
 use Rattle.agent_core.specs.Journals.{Entry}
-use Rattle.agent_core.specs.Asked.{IsGrant, IsTold, Unanswered}
+use Rattle.agent_core.specs.Asked.{FoundRoom, IsGrant, IsTold, Unanswered}
 
 -- the ask that a request makes, of the certificates that it presents, the access list of its object
 -- and a reading of the clock
@@ -33,6 +33,7 @@ ask_of r certs list reading = record {
 -- what a denial tells: a part of an entry by itself
 abbrev pub TellsDenial : List Grant → Denial → LinkSent → Type 0
 TellsDenial list (denials.Expired entry digest) told = told ≡ replies.Expired entry digest
+TellsDenial list (denials.Early entry digest) told = told ≡ replies.Early entry digest
 TellsDenial list (denials.Missing entry node) told =
     (g : Grant) × (part : Principal) × (slice_get list entry ≡ Some g)
     × (slice_get (subterms g.who) node ≡ Some part) × (told ≡ replies.Missing entry part)
@@ -61,3 +62,9 @@ pub data IsUnruled (plan : Plan) (journal : List Entry) (shard : ℕ) (a : Ask) 
   unanswered : {own : List ℕ} →
       Unanswered plan journal a own →
       IsUnruled plan journal shard a own replies.NoMemory
+
+-- Where the reply tells that memory is lacking, and there is no own place, the journal was not found
+-- full: what is seen of it is what was seen before, or has room.
+abbrev pub TellsFull : {P : Type 0} → Plan → (past journal : List Entry) → List P → Reply → Type 0
+TellsFull plan past journal own reply =
+    reply ≡ replies.NoMemory → own ≡ [] → FoundRoom plan past journal

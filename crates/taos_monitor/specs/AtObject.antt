@@ -1,6 +1,6 @@
 -- What comes of a request at its object: it is taken, asked for, ruled on and given back; what was
 -- granted is performed.
-use Rattle.std.specs.Prelude.{◌≡◌, ◌≢◌, ℕ, ◌<◌, Bool, List, [], ◌∷◌, ◌++◌, length, map, Option, None, Some, All}
+use Rattle.std.specs.Prelude.{◌≡◌, ◌≢◌, ◌⊎◌, ℕ, ◌<◌, Bool, List, [], ◌∷◌, ◌++◌, length, map, Option, None, Some, All}
 use Rattle.object_core.specs.Objects.{ObjectEntry, content_after, list_after}
 use Rattle.object_core.specs.Operation.{Op}
 use Rattle.object_core.specs.Shelving.{ObjectFixed}
@@ -73,14 +73,19 @@ abbrev pub told_or : Option Reply → Reply → Reply
 told_or None reply = reply
 told_or (Some refused) reply = refused
 
+-- the object was looked at: the Ask stands at these places, or the reply tells something else than
+-- that memory is lacking
+abbrev pub HasLooked : List ℕ → Reply → Type 0
+HasLooked own reply = (own ≢ []) ⊎ (reply ≢ replies.NoMemory)
+
 -- The object was asked for with these entries, and there is no ruling. They begin with those that
 -- were seen before, and there is room for one more; but a node that is out of memory may say so before
 -- it looks at the object.
-pub record IsAskedWith (past journal before : List ObjectEntry) (limit : ℕ) (reply : Reply) :
-    Type 0 where
+pub record IsAskedWith (past journal before : List ObjectEntry) (limit : ℕ) (own : List ℕ)
+    (reply : Reply) : Type 0 where
   pub begins : Begins before journal
-  pub after : reply ≢ replies.NoMemory → Begins past before
-  pub room : reply ≢ replies.NoMemory → length before < limit
+  pub after : HasLooked own reply → Begins past before
+  pub room : HasLooked own reply → length before < limit
 
 -- a shard that had no room for the proof of a grant has none for a step
 abbrev pub LeavesOut : Settled → ℕ → List ShardStep → Type 0
@@ -97,7 +102,7 @@ pub data IsGuardedAfter (plans : List Plan) (plan : Plan) (seen : Journals × Jo
       (object_full x.request.object x.fixed.limit)
   no_ruling : {own : List ℕ} {reply : Reply} (before : List ObjectEntry) →
       IsAskedWith (seen.0.objects x.request.object) (seen.1.objects x.request.object) before
-      x.fixed.limit reply →
+      x.fixed.limit own reply →
       IsUnruled plan (seen.1.shards x.shard) x.shard (asks_for x before) own reply →
       IsGuardedAfter plans plan seen x (own_at own [] []) reply
   denied : {place at : ℕ} {denial : Denial} {told : LinkSent} (before : List ObjectEntry) →

@@ -3,10 +3,12 @@
 use Rattle.std.specs.Prelude.{◌≡◌, ℕ, ◌+◌, ◌<◌, ◌≤◌, ◌==◌, if◌then◌else◌, Bool, true, false, List, [], ◌++◌, length, filter_map, Option, Some, None, slice_get, All, AllPairs}
 use Rattle.keyed_seal.specs.Keys.{Entries}
 use Rattle.object_core.specs.Objects.{ObjectEntry}
-use Rattle.object_core.specs.Shelving.{ObjectFixed, AreWithin}
+use Rattle.object_core.specs.Shelving.{ObjectFixed, ShelfSeen, AreWithin}
 use Rattle.agent_core.specs.State.{Plan}
 use Rattle.agent_core.specs.Plans.{home as home_among}
-use Rattle.agent_core.specs.Journals.{Entry, Begins, IsLegalJournal}
+use Rattle.agent_core.specs.Journals.{Entry, Begins}
+use Rattle.agent_core.specs.Shards.{ShardsSeen}
+pub use Rattle.agent_core.specs.Shards.{AreLegalShards}
 
 -- the keys of a node, and what its cells are opened with
 pub record Node : Type 0 where
@@ -64,11 +66,6 @@ in_object object number = record { cell = OfObject object; number = number }
 abbrev pub entries_in : Journals → Cell → ℕ
 entries_in J (OfShard s) = length (J.shards s)
 entries_in J (OfObject o) = length (J.objects o)
-
--- the journal of each shard that has a plan is legal
-abbrev pub AreLegalShards : List Plan → (ℕ → List Entry) → Type 0
-AreLegalShards plans shards =
-    (s : ℕ) (plan : Plan) → slice_get plans s ≡ Some plan → IsLegalJournal plan (shards s)
 
 -- the journal of each shard that has a plan is legal, and that of each object within its limit
 pub record AreLegalIn (plans : List Plan) (fixed : List ObjectFixed) (J : Journals) :
@@ -138,6 +135,14 @@ pub record Viewed (E : Type 0) : Type 0 where
 abbrev pub viewed : {E : Type 0} → (ℕ → List E) → (ℕ → List ℕ) → Viewed E
 viewed seen own = record { seen = seen; own = own }
 
+-- the shards, as they are shown
+abbrev pub shards_in : ShardsSeen → Viewed Entry
+shards_in s = viewed s.seen s.own
+
+-- the objects, as they are shown
+abbrev pub objects_in : ShelfSeen → Viewed ObjectEntry
+objects_in h = viewed h.seen h.own
+
 -- the own places in a cell, by those in each shard and in each object
 abbrev pub own_of : Viewed Entry → Viewed ObjectEntry → Cell → List ℕ
 own_of shards objects (OfShard s) = shards.own s
@@ -149,6 +154,10 @@ seen_of shards objects = record {
   journals = record { shards = shards.seen; objects = objects.seen };
   own = own_of shards objects;
 }
+
+-- the same, as they are shown
+abbrev pub seen_by : ShardsSeen → ShelfSeen → Seen
+seen_by s h = seen_of (shards_in s) (objects_in h)
 
 -- which cells nobody else steps: the shards, or the objects
 abbrev pub alone_of : Bool → Bool → Cell → Bool

@@ -13,6 +13,7 @@ use Rattle.agent_core.specs.declared.told.Told.{Told}
 use Rattle.agent_core.specs.Answers.{FitsEvent}
 use Rattle.agent_core.specs.State.{Plan, Event}
 use Rattle.agent_core.specs.Journals.{Entry, entry, Stands}
+use Rattle.agent_core.specs.Shards.{ShardsSeen}
 use Rattle.agent_core.specs.Steps.{JournalSeen, Other, StepsTo, StepRefused}
 use Rattle.agent_core.specs.Views.{event_of}
 use Rattle.taos_monitor.specs.declared.stepping.Went.{Went}
@@ -20,7 +21,7 @@ use Rattle.taos_monitor.specs.declared.stepping.Went.TheVariants as went
 use Rattle.taos_monitor.specs.declared.performing.Effected.{Effected}
 use Rattle.taos_monitor.specs.declared.performing.Effected.TheVariants as effected
 use Rattle.taos_monitor.specs.declared.due.Due.{Due}
-use Rattle.taos_monitor.specs.Cells.{Place, in_shard, Viewed, ShardsGoOn, AreLegalShards}
+use Rattle.taos_monitor.specs.Cells.{Place, in_shard, ShardsGoOn, AreLegalShards, shards_in}
 use Rattle.taos_monitor.specs.Asking.{shard_full}
 use Rattle.taos_monitor.specs.Operations.{effect_of, targets_of, IsEffect}
 
@@ -169,11 +170,11 @@ TellsHeld op removed (Some reply) =
     × (reply ≡ replies.NotHeld digest)
 
 -- what was seen of the shards went on by the steps of an effect, of which this holds
-pub record SteppedBy (plans : List Plan) (alone : Bool) (old new : Viewed Entry)
-    (Ends : List ShardStep → Type 0) : Type 0 where
+pub record SteppedBy (before after : ShardsSeen) (Ends : List ShardStep → Type 0) :
+    Type 0 where
   pub steps : List ShardStep
-  pub goes_on : ShardsGoOn alone old new (map its_place steps)
-  pub legal : AreLegalShards plans new.seen
+  pub goes_on : ShardsGoOn before.alone (shards_in before) (shards_in after) (map its_place steps)
+  pub legal : AreLegalShards before.plans after.seen
   pub ends : Ends steps
 
 -- ---- what is due

@@ -9,7 +9,9 @@ use Rattle.taos_wire.specs.Reply.{Sent, spelling}
 use Rattle.taos_monitor.specs.declared.handling.Handled.{Handled}
 use Rattle.taos_monitor.specs.declared.handling.Handled.TheVariants as handled
 use Rattle.object_core.specs.Shelving.{ObjectFixed}
-use Rattle.taos_monitor.specs.Cells.{AreLegal, GoesOn}
+use Rattle.agent_core.specs.State.{Plan}
+use Rattle.taos_monitor.specs.Asking.{TellsFull}
+use Rattle.taos_monitor.specs.Cells.{AreLegal, GoesOn, HasPlan}
 use Rattle.taos_monitor.specs.World.{Setting, World}
 use Rattle.taos_monitor.specs.Credentials.{LinkCall, IsLinked}
 use Rattle.taos_monitor.specs.Course.{brought, HasArrived, Arrival, Used, CourseAfter}
@@ -29,6 +31,9 @@ module _ (s : Setting) (before after : World) where
     pub goes_on : GoesOn s.alone before.seen after.seen used.places
     pub legal : AreLegal s.node after.seen.journals
     pub course : IsTaken used sent
+    pub tells_full : (shard : ℕ) (plan : Plan) → HasPlan s.node shard plan →
+        TellsFull plan (before.seen.journals.shards shard) (after.seen.journals.shards shard)
+        used.places sent.reply
     pub gave : Gave before.outside.clock.told after.outside.clock.told used.readings
     pub linked : IsLinked s.node.number before.outside.link after.outside.link used.calls
     -- the bytes are those of the reply, with its tag

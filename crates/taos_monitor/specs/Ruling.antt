@@ -1,10 +1,10 @@
 -- What is promised of a ruling: of the ask that a request makes, of the reply that is left, and of
 -- what is done at the object and in the shards.
-use Rattle.std.specs.Prelude.{◌≡◌, ◌⊎◌, ℕ, ◌<◌, ◌≤◌, ◌^◌, Bool, List, [], ◌∷◌, length, map, Option, None, Some, slice_get}
+use Rattle.std.specs.Prelude.{◌≡◌, ◌≢◌, ◌⊎◌, ℕ, ◌<◌, ◌≤◌, ◌^◌, Bool, List, [], ◌∷◌, length, map, Option, None, Some, slice_get}
 use Rattle.std.specs.Arc.{arc_value}
 use Rattle.object_core.specs.Objects.{ObjectEntry, ObjectSeen, content_after, list_after}
 use Rattle.object_core.specs.Operation.{IsDigest}
-use Rattle.object_core.specs.Shelving.{ObjectFixed, fixed_of}
+use Rattle.object_core.specs.Shelving.{ObjectFixed, ShelfSeen, fixed_of}
 use Rattle.object_core.specs.declared.ruling.Ruling.{Ruling}
 use Rattle.object_core.specs.declared.ruling.Ruling.TheVariants as rulings
 use Rattle.byte_fields.specs.Steps.{IsByte}
@@ -25,11 +25,12 @@ use Rattle.agent_core.specs.declared.asked.Verdict.TheVariants as verdict
 use Rattle.agent_core.specs.State.{Plan, Ask}
 use Rattle.agent_core.specs.Journals.{Entry, ShardSeen}
 use Rattle.agent_core.specs.Asked.{IsGrant, IsDeniedAt}
+use Rattle.agent_core.specs.Shards.{HasPlanAt, ShardsSeen}
 use Rattle.taos_monitor.specs.declared.arrival.Arrived.{Arrived}
 use Rattle.taos_monitor.specs.declared.deciding.Came.{Came}
 use Rattle.taos_monitor.specs.declared.deciding.Ruled.{Ruled}
-use Rattle.taos_monitor.specs.Cells.{Cell, Seen, GoesOn, Viewed, ShardsGoOn, AreLegalIn, AreLegalShards, in_shard}
-use Rattle.taos_monitor.specs.Asking.{TellsDenial, IsUnruled, shard_full}
+use Rattle.taos_monitor.specs.Cells.{Cell, Seen, GoesOn, ShardsGoOn, AreLegalIn, AreLegalShards, alone_of, in_shard, shards_in}
+use Rattle.taos_monitor.specs.Asking.{TellsDenial, IsUnruled, TellsFull, shard_full}
 use Rattle.taos_monitor.specs.Operations.{result_of}
 use Rattle.taos_monitor.specs.AtObject.{Seeking, Own, places_at, asks_for, gives_for, object_full, IsGuardedAfter}
 
@@ -61,6 +62,7 @@ HasPart list (denials.Missing entry node) =
     (g : Grant) × (part : Principal) × (slice_get list entry ≡ Some g)
     × (slice_get (subterms g.who) node ≡ Some part)
 HasPart list (denials.Expired entry digest) = IsByte entry × IsDigest digest
+HasPart list (denials.Early entry digest) = IsByte entry × IsDigest digest
 HasPart list denials.NoEntry = Unit {0}
 
 -- what a verdict names is there, and may be told
@@ -141,14 +143,16 @@ Drafts channel seq bytes Holds = Leaves channel seq None bytes Holds
 
 -- the ask was made at the shard, and this holds of how it ended in its journal, with these own
 -- places
-pub record AskedAt (plans : List Plan) (alone : Bool) (old new : Viewed Entry) (shard : ℕ)
+pub record AskedAt (before after : ShardsSeen) (shard : ℕ)
     (Ends : Plan → List Entry → List ℕ → Type 0) : Type 0 where
   pub plan : Plan
-  pub planned : slice_get plans shard ≡ Some plan
+  pub planned : HasPlanAt before shard plan
   pub own : List ℕ
-  pub goes_on : ShardsGoOn alone old new (map (in_shard shard) own)
-  pub legal : AreLegalShards plans new.seen
-  pub ends : Ends plan (new.seen shard) own
+  pub goes_on : ShardsGoOn before.alone (shards_in before) (shards_in after)
+      (map (in_shard shard) own)
+  pub others : (n : ℕ) → n ≢ shard → after.seen n ≡ before.seen n
+  pub legal : AreLegalShards before.plans after.seen
+  pub ends : Ends plan (after.seen shard) own
 
 -- what is sought of an object by what came to it and to the clock
 abbrev pub seeking_of : Came → ObjectFixed → Seeking
@@ -184,11 +188,12 @@ abbrev pub shard_of : Plan → List Entry → ShardSeen
 shard_of plan journal = record { plan = plan; journal = journal }
 
 -- the ask was made for the object as it was taken, unless that was full, and this was ruled
-abbrev pub DecidedTo : List Plan → Bool → (old new : Viewed Entry) →
-    Came × ObjectSeen × Option Ruled → Reply → Type 0
-DecidedTo plans alone old new (c, o, ruled) reply =
-    AskedAt plans alone old new c.shard (λ plan journal own.
-    IsRuled (shard_of plan journal) (seeking_of c (fixed_of o)) o.journal ruled own reply)
+abbrev pub DecidedTo : (before after : ShardsSeen) → Came × ObjectSeen × Option Ruled → Reply →
+    Type 0
+DecidedTo before after (c, o, ruled) reply =
+    AskedAt before after c.shard (λ plan journal own.
+    IsRuled (shard_of plan journal) (seeking_of c (fixed_of o)) o.journal ruled own reply
+    × TellsFull plan (before.seen c.shard) journal own reply)
 
 -- ---- the whole
 
@@ -204,6 +209,10 @@ abbrev pub standing_of : List Plan → List ObjectFixed → (Cell → Bool) → 
 standing_of plans objects alone =
     record { plans = plans; objects = objects; alone = alone }
 
+-- what stays, as it is shown
+abbrev pub standing_by : ShardsSeen → ShelfSeen → Standing
+standing_by s h = standing_of s.plans h.objects (alone_of s.alone h.alone)
+
 -- the object was taken and given back, and what came of that is the reply
 pub record GuardedTo (s : Standing) (old new : Seen) (x : Seeking) (reply : Reply) :
     Type 0 where
@@ -212,4 +221,6 @@ pub record GuardedTo (s : Standing) (old new : Seen) (x : Seeking) (reply : Repl
   pub own : Own
   pub goes_on : GoesOn s.alone old new (places_at x own)
   pub legal : AreLegalIn s.plans s.objects new.journals
+  pub tells_full : (shard : ℕ) (p : Plan) → slice_get s.plans shard ≡ Some p →
+      TellsFull p (old.journals.shards shard) (new.journals.shards shard) own.asks reply
   pub guarded : IsGuardedAfter s.plans plan (old.journals, new.journals) x own reply

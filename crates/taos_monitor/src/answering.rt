@@ -3,12 +3,11 @@
 ghost use Rattle.std.specs.Prelude.{◌≡◌, ◌≤◌, IfErr, IfOk, None, length};
 ghost use Rattle.taos_wire.specs.View.{request as request_of};
 ghost use Rattle.frame_link.specs.Outside.{outside_of};
-ghost use Rattle.taos_monitor.specs.Arriving.{IsAskedBy, IsNotAsked, node_of};
-ghost use Rattle.taos_monitor.specs.Cells.{alone_of, viewed};
+ghost use Rattle.taos_monitor.specs.Arriving.{IsAskedBy, IsNotAsked};
 ghost use Rattle.taos_monitor.specs.Completeness.{AnswersPayload};
 ghost use Rattle.taos_monitor.specs.Handling.{Answers, HandlesCause, LeavesReply};
 ghost use Rattle.taos_monitor.specs.Planned.{ArePlanned};
-ghost use Rattle.taos_monitor.specs.World.{setting_of, world_of};
+ghost use Rattle.taos_monitor.specs.World.{setting_by, world_by};
 
 use crate::connection::MAX_REQUEST;
 use crate::handling::{Handled, request_with};
@@ -70,18 +69,15 @@ pub fn answer_with<W: Wait + Sync, H: Shelf, S: Shards, R: RelayLink, C: Clock, 
     out: &mut ReplyBuf,
 ) -> Handled
     requires short { length payload.now ≤ MAX_REQUEST }
-    requires planned { ArePlanned keys.now.channels.entries (S.plans shards.old) }
+    requires planned { ArePlanned keys.now.channels.entries (S.shown shards.old).plans }
     requires key { opened.old ≡ keys.now.relay_key }
-    requires none_taken { H.taken shelf.old ≡ None }
+    requires none_taken { (H.shown shelf.old).taken ≡ None }
     ensures answered { Answers
-        (setting_of (node_of keys.now (S.plans shards.old) (H.objects shelf.old))
-        (alone_of (S.alone shards.old) (H.alone shelf.old)))
-        (world_of (outside_of (C.shown clock.old) (R.shown relay.old))
-        (viewed (S.seen shards.old) (S.own shards.old))
-        (viewed (H.seen shelf.old) (H.own shelf.old)))
-        (world_of (outside_of (C.shown clock.new) (R.shown relay.new))
-        (viewed (S.seen shards.new) (S.own shards.new))
-        (viewed (H.seen shelf.new) (H.own shelf.new))) payload.now out.new result }
+        (setting_by keys.now (S.shown shards.old) (H.shown shelf.old))
+        (world_by (outside_of (C.shown clock.old) (R.shown relay.old)) (S.shown shards.old)
+        (H.shown shelf.old))
+        (world_by (outside_of (C.shown clock.new) (R.shown relay.new)) (S.shown shards.new)
+        (H.shown shelf.new)) payload.now out.new result }
     ensures cause { HandlesCause (C.shown clock.old).faults (C.shown clock.new).faults result }
     ensures left { LeavesReply out.old out.new result }
 
@@ -89,13 +85,13 @@ pub fn answer_with<W: Wait + Sync, H: Shelf, S: Shards, R: RelayLink, C: Clock, 
     ensures key { opened.new ≡ opened.old }
 
     // No object is left taken.
-    ensures taken { H.taken shelf.new ≡ None }
+    ensures taken { (H.shown shelf.new).taken ≡ None }
 
     // What nobody changes.
-    ensures plans { S.plans shards.new ≡ S.plans shards.old }
-    ensures alone { S.alone shards.new ≡ S.alone shards.old }
-    ensures objects { H.objects shelf.new ≡ H.objects shelf.old }
-    ensures others_take { H.alone shelf.new ≡ H.alone shelf.old }
+    ensures plans { (S.shown shards.new).plans ≡ (S.shown shards.old).plans }
+    ensures alone { (S.shown shards.new).alone ≡ (S.shown shards.old).alone }
+    ensures objects { (H.shown shelf.new).objects ≡ (H.shown shelf.old).objects }
+    ensures others_take { (H.shown shelf.new).alone ≡ (H.shown shelf.old).alone }
 {
     are_legal(shelf, shards);
     match asked_of(alloc, keys, payload) {
@@ -124,27 +120,24 @@ pub fn answer<W: Wait + Sync, H: Shelf, S: Shards, R: RelayLink, C: Clock, D: De
     out: &mut ReplyBuf,
 ) -> Handled
     requires short { length payload.now ≤ MAX_REQUEST }
-    requires planned { ArePlanned keys.now.channels.entries (S.plans shards.old) }
-    requires none_taken { H.taken shelf.old ≡ None }
+    requires planned { ArePlanned keys.now.channels.entries (S.shown shards.old).plans }
+    requires none_taken { (H.shown shelf.old).taken ≡ None }
     ensures answered { AnswersPayload
-        (setting_of (node_of keys.now (S.plans shards.old) (H.objects shelf.old))
-        (alone_of (S.alone shards.old) (H.alone shelf.old)))
-        (world_of (outside_of (C.shown clock.old) (R.shown relay.old))
-        (viewed (S.seen shards.old) (S.own shards.old))
-        (viewed (H.seen shelf.old) (H.own shelf.old)))
-        (world_of (outside_of (C.shown clock.new) (R.shown relay.new))
-        (viewed (S.seen shards.new) (S.own shards.new))
-        (viewed (H.seen shelf.new) (H.own shelf.new))) payload.now out.new result }
+        (setting_by keys.now (S.shown shards.old) (H.shown shelf.old))
+        (world_by (outside_of (C.shown clock.old) (R.shown relay.old)) (S.shown shards.old)
+        (H.shown shelf.old))
+        (world_by (outside_of (C.shown clock.new) (R.shown relay.new)) (S.shown shards.new)
+        (H.shown shelf.new)) payload.now out.new result }
     ensures left { LeavesReply out.old out.new result }
 
     // No object is left taken.
-    ensures taken { H.taken shelf.new ≡ None }
+    ensures taken { (H.shown shelf.new).taken ≡ None }
 
     // What nobody changes.
-    ensures plans { S.plans shards.new ≡ S.plans shards.old }
-    ensures alone { S.alone shards.new ≡ S.alone shards.old }
-    ensures objects { H.objects shelf.new ≡ H.objects shelf.old }
-    ensures others_take { H.alone shelf.new ≡ H.alone shelf.old }
+    ensures plans { (S.shown shards.new).plans ≡ (S.shown shards.old).plans }
+    ensures alone { (S.shown shards.new).alone ≡ (S.shown shards.old).alone }
+    ensures objects { (H.shown shelf.new).objects ≡ (H.shown shelf.old).objects }
+    ensures others_take { (H.shown shelf.new).alone ≡ (H.shown shelf.old).alone }
 {
     let mut opened = OpenedCerts::keeping_none(&keys.relay_key);
     answer_with(

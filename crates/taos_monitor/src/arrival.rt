@@ -38,10 +38,10 @@ pub(crate) fn arrive<H: Shelf, R: RelayLink>(
     requires limits { FitsRequest (request asked.now) }
     requires short { All (λ t. length t ≤ 65531) (request asked.now).certs }
     requires key { opened.old ≡ keys.now.relay_key }
-    ensures arrived { IfOk result (Arrives keys.now (H.objects shelf.now)
+    ensures arrived { IfOk result (Arrives keys.now (H.shown shelf.now).objects
         (link_use keys.now.node (R.shown relay.old) (R.shown relay.new))
         (request asked.now)) }
-    ensures refused { IfErr result (NotArrives keys.now (H.objects shelf.now)
+    ensures refused { IfErr result (NotArrives keys.now (H.shown shelf.now).objects
         (link_use keys.now.node (R.shown relay.old) (R.shown relay.new))
         (request asked.now)) }
     ensures key { opened.new ≡ opened.old }

@@ -4,12 +4,11 @@ ghost use Rattle.std.specs.Prelude.{◌≡◌, IfOk, None};
 ghost use Rattle.std.specs.Thread.{IsSync};
 ghost use Rattle.frame_link.specs.Served.{line};
 ghost use Rattle.frame_link.specs.Outside.{outside_of};
-ghost use Rattle.taos_monitor.specs.Arriving.{node_of};
-ghost use Rattle.taos_monitor.specs.Cells.{AreLegalIn, alone_of, seen_of, viewed};
+ghost use Rattle.taos_monitor.specs.Cells.{AreLegalIn, seen_by};
 ghost use Rattle.taos_monitor.specs.Connection.{Connects};
 ghost use Rattle.taos_monitor.specs.Planned.{ArePlanned};
 ghost use Rattle.taos_monitor.specs.Serving.{StepsTo, StopsIn, four, state_of};
-ghost use Rattle.taos_monitor.specs.World.{setting_of, world_of};
+ghost use Rattle.taos_monitor.specs.World.{setting_by, world_by};
 
 use crate::answering::answer_with;
 use crate::handling::Handled;
@@ -47,36 +46,28 @@ struct Answering<'w, 'k, 'o, 'h, 's, 'r, 'c, 'd, 'b, W, H, S, R, C, D> {
 impl<W: Wait + Sync, H: Shelf, S: Shards, R: RelayLink, C: Clock, D: Decide> Service
     for Answering<'_, '_, '_, '_, '_, '_, '_, '_, '_, W, H, S, R, C, D> {
     ghost answers = { λ s payload reply t. StepsTo
-        (state_of (setting_of (node_of s.keys.now (S.plans s.shards.now) (H.objects s.shelf.now))
-        (alone_of (S.alone s.shards.now) (H.alone s.shelf.now)))
-        (world_of (outside_of (C.shown s.clock.now) (R.shown s.relay.now))
-        (viewed (S.seen s.shards.now) (S.own s.shards.now))
-        (viewed (H.seen s.shelf.now) (H.own s.shelf.now)))) payload reply
-        (state_of (setting_of (node_of t.keys.now (S.plans t.shards.now) (H.objects t.shelf.now))
-        (alone_of (S.alone t.shards.now) (H.alone t.shelf.now)))
-        (world_of (outside_of (C.shown t.clock.now) (R.shown t.relay.now))
-        (viewed (S.seen t.shards.now) (S.own t.shards.now))
-        (viewed (H.seen t.shelf.now) (H.own t.shelf.now)))) };
+        (state_of (setting_by s.keys.now (S.shown s.shards.now) (H.shown s.shelf.now))
+        (world_by (outside_of (C.shown s.clock.now) (R.shown s.relay.now)) (S.shown s.shards.now)
+        (H.shown s.shelf.now))) payload reply
+        (state_of (setting_by t.keys.now (S.shown t.shards.now) (H.shown t.shelf.now))
+        (world_by (outside_of (C.shown t.clock.now) (R.shown t.relay.now)) (S.shown t.shards.now)
+        (H.shown t.shelf.now))) };
 
     ghost gives_up = { λ s payload t. StopsIn
-        (state_of (setting_of (node_of s.keys.now (S.plans s.shards.now) (H.objects s.shelf.now))
-        (alone_of (S.alone s.shards.now) (H.alone s.shelf.now)))
-        (world_of (outside_of (C.shown s.clock.now) (R.shown s.relay.now))
-        (viewed (S.seen s.shards.now) (S.own s.shards.now))
-        (viewed (H.seen s.shelf.now) (H.own s.shelf.now)))) payload
-        (state_of (setting_of (node_of t.keys.now (S.plans t.shards.now) (H.objects t.shelf.now))
-        (alone_of (S.alone t.shards.now) (H.alone t.shelf.now)))
-        (world_of (outside_of (C.shown t.clock.now) (R.shown t.relay.now))
-        (viewed (S.seen t.shards.now) (S.own t.shards.now))
-        (viewed (H.seen t.shelf.now) (H.own t.shelf.now)))) };
+        (state_of (setting_by s.keys.now (S.shown s.shards.now) (H.shown s.shelf.now))
+        (world_by (outside_of (C.shown s.clock.now) (R.shown s.relay.now)) (S.shown s.shards.now)
+        (H.shown s.shelf.now))) payload
+        (state_of (setting_by t.keys.now (S.shown t.shards.now) (H.shown t.shelf.now))
+        (world_by (outside_of (C.shown t.clock.now) (R.shown t.relay.now)) (S.shown t.shards.now)
+        (H.shown t.shelf.now))) };
 
     ghost ready = { λ s. s.reply.now };
 
     ghost faults = { λ s. (C.shown s.clock.now).faults };
 
     ghost stands = { λ s. IsSync W.row
-        × ArePlanned s.keys.now.channels.entries (S.plans s.shards.now)
-        × (H.taken s.shelf.now ≡ None) × (s.opened.now ≡ s.keys.now.relay_key) };
+        × ArePlanned s.keys.now.channels.entries (S.shown s.shards.now).plans
+        × ((H.shown s.shelf.now).taken ≡ None) × (s.opened.now ≡ s.keys.now.relay_key) };
 
     ghost borrows = { λ s. four s.shelf.ghost_name s.shards.ghost_name s.relay.ghost_name
         s.clock.ghost_name };
@@ -125,30 +116,31 @@ fn serve_by<
     frames: u64,
 ) -> Outcome
     requires planned { ArePlanned service.old.keys.now.channels.entries
-        (S.plans service.old.shards.now) }
-    requires none_taken { H.taken service.old.shelf.now ≡ None }
+        (S.shown service.old.shards.now).plans }
+    requires none_taken { (H.shown service.old.shelf.now).taken ≡ None }
     requires key { service.old.opened.now ≡ service.old.keys.now.relay_key }
-    requires legal { AreLegalIn (S.plans service.old.shards.now) (H.objects service.old.shelf.now)
-        (seen_of (viewed (S.seen service.old.shards.now) (S.own service.old.shards.now))
-        (viewed (H.seen service.old.shelf.now) (H.own service.old.shelf.now))).journals }
+    requires legal { AreLegalIn (S.shown service.old.shards.now).plans
+        (H.shown service.old.shelf.now).objects
+        (seen_by (S.shown service.old.shards.now) (H.shown service.old.shelf.now)).journals }
     requires limit { buf.old.limit ≡ MAX_REQUEST }
     ensures connection { Connects
-        (setting_of (node_of service.old.keys.now (S.plans service.old.shards.now)
-        (H.objects service.old.shelf.now))
-        (alone_of (S.alone service.old.shards.now) (H.alone service.old.shelf.now))) frames
+        (setting_by service.old.keys.now (S.shown service.old.shards.now)
+        (H.shown service.old.shelf.now)) frames
         (line (I.shown input.old) (O.shown output.old)
-        (world_of (outside_of (C.shown service.old.clock.now) (R.shown service.old.relay.now))
-        (viewed (S.seen service.old.shards.now) (S.own service.old.shards.now))
-        (viewed (H.seen service.old.shelf.now) (H.own service.old.shelf.now))))
+        (world_by (outside_of (C.shown service.old.clock.now) (R.shown service.old.relay.now))
+        (S.shown service.old.shards.now) (H.shown service.old.shelf.now)))
         (line (I.shown input.new) (O.shown output.new)
-        (world_of (outside_of (C.shown service.new.clock.now) (R.shown service.new.relay.now))
-        (viewed (S.seen service.new.shards.now) (S.own service.new.shards.now))
-        (viewed (H.seen service.new.shelf.now) (H.own service.new.shelf.now)))) result }
-    ensures taken { H.taken service.new.shelf.now ≡ None }
-    ensures plans { S.plans service.new.shards.now ≡ S.plans service.old.shards.now }
-    ensures alone { S.alone service.new.shards.now ≡ S.alone service.old.shards.now }
-    ensures objects { H.objects service.new.shelf.now ≡ H.objects service.old.shelf.now }
-    ensures others_take { H.alone service.new.shelf.now ≡ H.alone service.old.shelf.now }
+        (world_by (outside_of (C.shown service.new.clock.now) (R.shown service.new.relay.now))
+        (S.shown service.new.shards.now) (H.shown service.new.shelf.now))) result }
+    ensures taken { (H.shown service.new.shelf.now).taken ≡ None }
+    ensures plans { (S.shown service.new.shards.now).plans
+        ≡ (S.shown service.old.shards.now).plans }
+    ensures alone { (S.shown service.new.shards.now).alone
+        ≡ (S.shown service.old.shards.now).alone }
+    ensures objects { (H.shown service.new.shelf.now).objects
+        ≡ (H.shown service.old.shelf.now).objects }
+    ensures others_take { (H.shown service.new.shelf.now).alone
+        ≡ (H.shown service.old.shelf.now).alone }
     ensures same_shelf { service.new.shelf.ghost_name ≡ service.old.shelf.ghost_name }
     ensures same_shards { service.new.shards.ghost_name ≡ service.old.shards.ghost_name }
     ensures same_relay { service.new.relay.ghost_name ≡ service.old.relay.ghost_name }
@@ -188,28 +180,25 @@ pub fn serve_connection<
     output: &mut O,
     frames: u64,
 ) -> Outcome
-    requires planned { ArePlanned keys.now.channels.entries (S.plans shards.old) }
-    requires none_taken { H.taken shelf.old ≡ None }
+    requires planned { ArePlanned keys.now.channels.entries (S.shown shards.old).plans }
+    requires none_taken { (H.shown shelf.old).taken ≡ None }
     ensures connection { Connects
-        (setting_of (node_of keys.now (S.plans shards.old) (H.objects shelf.old))
-        (alone_of (S.alone shards.old) (H.alone shelf.old))) frames
+        (setting_by keys.now (S.shown shards.old) (H.shown shelf.old)) frames
         (line (I.shown input.old) (O.shown output.old)
-        (world_of (outside_of (C.shown clock.old) (R.shown relay.old))
-        (viewed (S.seen shards.old) (S.own shards.old))
-        (viewed (H.seen shelf.old) (H.own shelf.old))))
+        (world_by (outside_of (C.shown clock.old) (R.shown relay.old)) (S.shown shards.old)
+        (H.shown shelf.old)))
         (line (I.shown input.new) (O.shown output.new)
-        (world_of (outside_of (C.shown clock.new) (R.shown relay.new))
-        (viewed (S.seen shards.new) (S.own shards.new))
-        (viewed (H.seen shelf.new) (H.own shelf.new)))) result }
+        (world_by (outside_of (C.shown clock.new) (R.shown relay.new)) (S.shown shards.new)
+        (H.shown shelf.new))) result }
 
     // No object is left taken.
-    ensures taken { H.taken shelf.new ≡ None }
+    ensures taken { (H.shown shelf.new).taken ≡ None }
 
     // What nobody changes.
-    ensures plans { S.plans shards.new ≡ S.plans shards.old }
-    ensures alone { S.alone shards.new ≡ S.alone shards.old }
-    ensures objects { H.objects shelf.new ≡ H.objects shelf.old }
-    ensures others_take { H.alone shelf.new ≡ H.alone shelf.old }
+    ensures plans { (S.shown shards.new).plans ≡ (S.shown shards.old).plans }
+    ensures alone { (S.shown shards.new).alone ≡ (S.shown shards.old).alone }
+    ensures objects { (H.shown shelf.new).objects ≡ (H.shown shelf.old).objects }
+    ensures others_take { (H.shown shelf.new).alone ≡ (H.shown shelf.old).alone }
 {
     are_legal(shelf, shards);
     let Ok((mut buf, mut reply)) = room_of(alloc) else {

@@ -6,13 +6,14 @@ ghost use Rattle.object_core.specs.Operation.{IsAccessList, IsContent};
 ghost use Rattle.object_core.specs.declared.ruling.Ruling.TheVariants as rulings;
 ghost use Rattle.object_core.specs.View.{operation};
 ghost use Rattle.prin_term.specs.View.{grant};
-ghost use Rattle.agent_core.specs.Asked.{AskEnds, Unanswered};
-ghost use Rattle.agent_core.specs.Plans.{IsPlan, home};
+ghost use Rattle.agent_core.specs.Asked.{AskEnds, LacksMemory};
+ghost use Rattle.agent_core.specs.Plans.{IsPlan};
+ghost use Rattle.agent_core.specs.Shards.{home_of};
 ghost use Rattle.agent_core.specs.Views.{ask_of};
 ghost use Rattle.taos_wire.specs.Request.{FitsRequest};
 ghost use Rattle.taos_wire.specs.View.{lent_grant, request};
 ghost use Rattle.taos_monitor.specs.Arriving.{StandsFor};
-ghost use Rattle.taos_monitor.specs.Cells.{AreLegalShards, viewed};
+ghost use Rattle.taos_monitor.specs.Cells.{AreLegalShards};
 ghost use Rattle.taos_monitor.specs.Operations.{result_of};
 ghost use Rattle.taos_monitor.specs.Planned.{IsPlanned};
 ghost use Rattle.taos_monitor.specs.Ruling.{AskedAt, DecidedTo, Drafts, HasPart, IsToldBy, MayTell, TellsDenied, TellsGrant, ask_came, ask_seen, list_of, ruled_at, telling};
@@ -93,22 +94,20 @@ fn ask_at_home<W: Wait + Sync, S: Shards, D: Decide, G: Gate>(
     requires limits { FitsRequest (request came.asked.now) }
     requires stands { StandsFor (request came.asked.now) came.arrived }
     requires list { IsAccessList (map grant list.now.value.items) }
-    requires there { home (S.plans shards.old) came.asked.now.channel
-        < length (S.plans shards.old) }
-    requires legal { AreLegalShards (S.plans shards.old) (S.seen shards.old) }
-    requires planned { IsPlanned (S.plans shards.old) came.asked.now.channel }
-    ensures ended { IfOk result (λ r. AskedAt (S.plans shards.old) (S.alone shards.old)
-        (viewed (S.seen shards.old) (S.own shards.old))
-        (viewed (S.seen shards.new) (S.own shards.new))
-        (home (S.plans shards.old) came.entry.asked.now.channel) (λ plan journal own.
+    requires there { home_of (S.shown shards.old) came.asked.now.channel
+        < length (S.shown shards.old).plans }
+    requires legal { AreLegalShards (S.shown shards.old).plans (S.shown shards.old).seen }
+    requires planned { IsPlanned (S.shown shards.old).plans came.asked.now.channel }
+    ensures ended { IfOk result (λ r. AskedAt (S.shown shards.old) (S.shown shards.new)
+        (home_of (S.shown shards.old) came.entry.asked.now.channel) (λ plan journal own.
         AskEnds plan journal (ask_came came.entry (map grant list.now.value.items)) r own)) }
-    ensures lacked { OnErr result (AskedAt (S.plans shards.old) (S.alone shards.old)
-        (viewed (S.seen shards.old) (S.own shards.old))
-        (viewed (S.seen shards.new) (S.own shards.new))
-        (home (S.plans shards.old) came.entry.asked.now.channel) (λ plan journal own.
-        Unanswered plan journal (ask_came came.entry (map grant list.now.value.items)) own)) }
-    ensures plans { S.plans shards.new ≡ S.plans shards.old }
-    ensures alone { S.alone shards.new ≡ S.alone shards.old }
+    ensures lacked { OnErr result (AskedAt (S.shown shards.old) (S.shown shards.new)
+        (home_of (S.shown shards.old) came.entry.asked.now.channel) (λ plan journal own.
+        LacksMemory plan
+        ((S.shown shards.old).seen (home_of (S.shown shards.old) came.entry.asked.now.channel))
+        journal (ask_came came.entry (map grant list.now.value.items)) own)) }
+    ensures plans { (S.shown shards.new).plans ≡ (S.shown shards.old).plans }
+    ensures alone { (S.shown shards.new).alone ≡ (S.shown shards.old).alone }
 {
     let made = ask_for(alloc, came.asked, came.arrived, list, came.reading)?;
     let Deciding { bench, gate } = by;
@@ -143,6 +142,7 @@ fn draft_denied(
             return;
         }
         Denial::Expired { entry, digest } => LinkSent::Expired { entry, digest },
+        Denial::Early { entry, digest } => LinkSent::Early { entry, digest },
         Denial::NoEntry => LinkSent::NoEntry,
     };
     let answer = Reply::Denied { shard, place, link };
@@ -238,21 +238,19 @@ pub(crate) fn decide<W: Wait + Sync, S: Shards, D: Decide, G: Gate>(
     object: &Object,
     out: &mut ReplyBuf,
 ) -> Option<Ruled>
-    requires shard { came.shard ≡ home (S.plans shards.old) came.asked.now.channel }
-    requires there { home (S.plans shards.old) came.asked.now.channel
-        < length (S.plans shards.old) }
-    requires sound { All IsPlan (S.plans shards.old) }
-    requires legal { AreLegalShards (S.plans shards.old) (S.seen shards.old) }
+    requires shard { came.shard ≡ home_of (S.shown shards.old) came.asked.now.channel }
+    requires there { home_of (S.shown shards.old) came.asked.now.channel
+        < length (S.shown shards.old).plans }
+    requires sound { All IsPlan (S.shown shards.old).plans }
+    requires legal { AreLegalShards (S.shown shards.old).plans (S.shown shards.old).seen }
     requires limits { FitsRequest (request came.asked.now) }
     requires stands { StandsFor (request came.asked.now) came.arrived }
-    requires planned { IsPlanned (S.plans shards.old) came.asked.now.channel }
+    requires planned { IsPlanned (S.shown shards.old).plans came.asked.now.channel }
     ensures decided { Drafts came.entry.asked.now.channel came.entry.asked.now.seq out.new
-        (DecidedTo (S.plans shards.old) (S.alone shards.old)
-        (viewed (S.seen shards.old) (S.own shards.old))
-        (viewed (S.seen shards.new) (S.own shards.new)) (came.entry, object.now, result)) }
+        (DecidedTo (S.shown shards.old) (S.shown shards.new) (came.entry, object.now, result)) }
     ensures room { IfSome result (λ r. length object.now.journal < object.now.limit) }
-    ensures plans { S.plans shards.new ≡ S.plans shards.old }
-    ensures alone { S.alone shards.new ≡ S.alone shards.old }
+    ensures plans { (S.shown shards.new).plans ≡ (S.shown shards.old).plans }
+    ensures alone { (S.shown shards.new).alone ≡ (S.shown shards.old).alone }
 {
     let (asked, shard) = (came.asked, came.shard);
     if !object.has_room() {

@@ -5,12 +5,10 @@ ghost use Rattle.keyed_seal.specs.Keys.{key_of};
 ghost use Rattle.taos_wire.specs.Request.{FitsRequest};
 ghost use Rattle.taos_wire.specs.View.{request as request_of};
 ghost use Rattle.frame_link.specs.Outside.{outside_of};
-ghost use Rattle.taos_monitor.specs.Arriving.{node_of};
-ghost use Rattle.taos_monitor.specs.Cells.{alone_of, viewed};
 ghost use Rattle.taos_monitor.specs.Completeness.{AnswersRequest};
 ghost use Rattle.taos_monitor.specs.Handling.{Handles, HandlesCause, LeavesReply};
 ghost use Rattle.taos_monitor.specs.Planned.{IsPlanned};
-ghost use Rattle.taos_monitor.specs.World.{setting_of, world_of};
+ghost use Rattle.taos_monitor.specs.World.{setting_by, world_by};
 
 use crate::arrival::arrive;
 use crate::deciding::{Came, Deciding};
@@ -64,18 +62,15 @@ pub fn request_with<
     requires limits { FitsRequest (request_of asked.now) }
     requires short { All (λ t. length t ≤ 65531) (request_of asked.now).certs }
     requires keyed { IsSome (key_of keys.now.channels.entries asked.now.channel) }
-    requires planned { IsPlanned (S.plans shards.old) asked.now.channel }
+    requires planned { IsPlanned (S.shown shards.old).plans asked.now.channel }
     requires key { opened.old ≡ keys.now.relay_key }
-    requires none_taken { H.taken shelf.old ≡ None }
+    requires none_taken { (H.shown shelf.old).taken ≡ None }
     ensures handled { Handles
-        (setting_of (node_of keys.now (S.plans shards.old) (H.objects shelf.old))
-        (alone_of (S.alone shards.old) (H.alone shelf.old)))
-        (world_of (outside_of (C.shown clock.old) (R.shown relay.old))
-        (viewed (S.seen shards.old) (S.own shards.old))
-        (viewed (H.seen shelf.old) (H.own shelf.old)))
-        (world_of (outside_of (C.shown clock.new) (R.shown relay.new))
-        (viewed (S.seen shards.new) (S.own shards.new))
-        (viewed (H.seen shelf.new) (H.own shelf.new))) (request_of asked.now) out.new result }
+        (setting_by keys.now (S.shown shards.old) (H.shown shelf.old))
+        (world_by (outside_of (C.shown clock.old) (R.shown relay.old)) (S.shown shards.old)
+        (H.shown shelf.old))
+        (world_by (outside_of (C.shown clock.new) (R.shown relay.new)) (S.shown shards.new)
+        (H.shown shelf.new)) (request_of asked.now) out.new result }
     ensures cause { HandlesCause (C.shown clock.old).faults (C.shown clock.new).faults result }
     ensures left { LeavesReply out.old out.new result }
 
@@ -83,13 +78,13 @@ pub fn request_with<
     ensures key { opened.new ≡ opened.old }
 
     // No object is left taken.
-    ensures taken { H.taken shelf.new ≡ None }
+    ensures taken { (H.shown shelf.new).taken ≡ None }
 
     // What nobody changes.
-    ensures plans { S.plans shards.new ≡ S.plans shards.old }
-    ensures alone { S.alone shards.new ≡ S.alone shards.old }
-    ensures objects { H.objects shelf.new ≡ H.objects shelf.old }
-    ensures others_take { H.alone shelf.new ≡ H.alone shelf.old }
+    ensures plans { (S.shown shards.new).plans ≡ (S.shown shards.old).plans }
+    ensures alone { (S.shown shards.new).alone ≡ (S.shown shards.old).alone }
+    ensures objects { (H.shown shelf.new).objects ≡ (H.shown shelf.old).objects }
+    ensures others_take { (H.shown shelf.new).alone ≡ (H.shown shelf.old).alone }
 {
     are_legal(shelf, shards);
     let sealer = keys.channels.sealer(asked.channel).unwrap();
@@ -140,27 +135,24 @@ pub fn request<W: Wait + Sync, H: Shelf, S: Shards, R: RelayLink, C: Clock, D: D
     requires limits { FitsRequest (request_of asked.now) }
     requires short { All (λ t. length t ≤ 65531) (request_of asked.now).certs }
     requires keyed { IsSome (key_of keys.now.channels.entries asked.now.channel) }
-    requires planned { IsPlanned (S.plans shards.old) asked.now.channel }
-    requires none_taken { H.taken shelf.old ≡ None }
+    requires planned { IsPlanned (S.shown shards.old).plans asked.now.channel }
+    requires none_taken { (H.shown shelf.old).taken ≡ None }
     ensures handled { AnswersRequest
-        (setting_of (node_of keys.now (S.plans shards.old) (H.objects shelf.old))
-        (alone_of (S.alone shards.old) (H.alone shelf.old)))
-        (world_of (outside_of (C.shown clock.old) (R.shown relay.old))
-        (viewed (S.seen shards.old) (S.own shards.old))
-        (viewed (H.seen shelf.old) (H.own shelf.old)))
-        (world_of (outside_of (C.shown clock.new) (R.shown relay.new))
-        (viewed (S.seen shards.new) (S.own shards.new))
-        (viewed (H.seen shelf.new) (H.own shelf.new))) (request_of asked.now) out.new result }
+        (setting_by keys.now (S.shown shards.old) (H.shown shelf.old))
+        (world_by (outside_of (C.shown clock.old) (R.shown relay.old)) (S.shown shards.old)
+        (H.shown shelf.old))
+        (world_by (outside_of (C.shown clock.new) (R.shown relay.new)) (S.shown shards.new)
+        (H.shown shelf.new)) (request_of asked.now) out.new result }
     ensures left { LeavesReply out.old out.new result }
 
     // No object is left taken.
-    ensures taken { H.taken shelf.new ≡ None }
+    ensures taken { (H.shown shelf.new).taken ≡ None }
 
     // What nobody changes.
-    ensures plans { S.plans shards.new ≡ S.plans shards.old }
-    ensures alone { S.alone shards.new ≡ S.alone shards.old }
-    ensures objects { H.objects shelf.new ≡ H.objects shelf.old }
-    ensures others_take { H.alone shelf.new ≡ H.alone shelf.old }
+    ensures plans { (S.shown shards.new).plans ≡ (S.shown shards.old).plans }
+    ensures alone { (S.shown shards.new).alone ≡ (S.shown shards.old).alone }
+    ensures objects { (H.shown shelf.new).objects ≡ (H.shown shelf.old).objects }
+    ensures others_take { (H.shown shelf.new).alone ≡ (H.shown shelf.old).alone }
 {
     let mut opened = OpenedCerts::keeping_none(&keys.relay_key);
     request_with(

@@ -7,7 +7,7 @@ ghost use Rattle.object_core.specs.View.{operation};
 ghost use Rattle.stmt_codec.specs.Certificates.{Certificate};
 ghost use Rattle.taos_wire.specs.Reply.{FitsReply, status_of};
 ghost use Rattle.taos_wire.specs.View.{reply};
-ghost use Rattle.taos_monitor.specs.Cells.{AreLegalShards, viewed};
+ghost use Rattle.taos_monitor.specs.Cells.{AreLegalShards};
 ghost use Rattle.taos_monitor.specs.Effects.{EndAs, IsDueOf, IsPerformed, IsReady, PerformedAs, SteppedBy, TellsHeld, effect_due, lacks_room, shards_due};
 ghost use Rattle.taos_monitor.specs.Operations.{effect_of};
 
@@ -42,15 +42,13 @@ fn is_any(before: bool, count: u32) -> bool
 
 // Steps the shards that are due, up to one that does not do it.
 fn step_due<W: Wait + Sync, S: Shards>(rt: &W, alloc: Global, shards: &mut S, due: Due) -> Effected
-    requires ready { IsReady (S.plans shards.old) due }
-    requires legal { AreLegalShards (S.plans shards.old) (S.seen shards.old) }
-    ensures ends { SteppedBy (S.plans shards.old) (S.alone shards.old)
-        (viewed (S.seen shards.old) (S.own shards.old))
-        (viewed (S.seen shards.new) (S.own shards.new))
-        (λ steps. EndAs (S.seen shards.new) (effect_due due) (S.plans shards.old)
+    requires ready { IsReady (S.shown shards.old).plans due }
+    requires legal { AreLegalShards (S.shown shards.old).plans (S.shown shards.old).seen }
+    ensures ends { SteppedBy (S.shown shards.old) (S.shown shards.new)
+        (λ steps. EndAs (S.shown shards.new).seen (effect_due due) (S.shown shards.old).plans
         (shards_due due) steps result) }
-    ensures plans { S.plans shards.new ≡ S.plans shards.old }
-    ensures alone { S.alone shards.new ≡ S.alone shards.old }
+    ensures plans { (S.shown shards.new).plans ≡ (S.shown shards.old).plans }
+    ensures alone { (S.shown shards.new).alone ≡ (S.shown shards.old).alone }
 {
     let first = due.first;
     let mut events = due.events;
@@ -113,19 +111,18 @@ fn perform<W: Wait + Sync, S: Shards>(
     op: &Op,
     due: Due,
 ) -> Option<Reply>
-    requires ready { IsReady (S.plans shards.old) due }
-    requires legal { AreLegalShards (S.plans shards.old) (S.seen shards.old) }
+    requires ready { IsReady (S.shown shards.old).plans due }
+    requires legal { AreLegalShards (S.shown shards.old).plans (S.shown shards.old).seen }
     requires limits { FitsOperation (operation op.now) }
     ensures performed { (certs : List Certificate) (reading : ℕ)
-        → IsDueOf (S.plans shards.old) (operation op.now) certs reading due
-        → SteppedBy (S.plans shards.old) (S.alone shards.old)
-        (viewed (S.seen shards.old) (S.own shards.old))
-        (viewed (S.seen shards.new) (S.own shards.new))
-        (λ steps. IsPerformed (S.plans shards.old) (S.seen shards.new) (operation op.now)
+        → IsDueOf (S.shown shards.old).plans (operation op.now) certs reading due
+        → SteppedBy (S.shown shards.old) (S.shown shards.new)
+        (λ steps. IsPerformed (S.shown shards.old).plans (S.shown shards.new).seen
+        (operation op.now)
         (effect_of (operation op.now) certs reading) steps (option_map reply result)) }
     ensures fits { IfSome result (λ r. FitsReply (reply r) × (0 < status_of (reply r))) }
-    ensures plans { S.plans shards.new ≡ S.plans shards.old }
-    ensures alone { S.alone shards.new ≡ S.alone shards.old }
+    ensures plans { (S.shown shards.new).plans ≡ (S.shown shards.old).plans }
+    ensures alone { (S.shown shards.new).alone ≡ (S.shown shards.old).alone }
 {
     match step_due(rt, alloc, shards, due) {
         Effected::Through { removed } => not_held(op, removed),
@@ -148,20 +145,19 @@ pub(crate) fn perform_ruled<W: Wait + Sync, S: Shards>(
     due: Due,
     ruling: Ruling,
 ) -> Option<Reply>
-    requires ready { IsReady (S.plans shards.old) due }
-    requires legal { AreLegalShards (S.plans shards.old) (S.seen shards.old) }
+    requires ready { IsReady (S.shown shards.old).plans due }
+    requires legal { AreLegalShards (S.shown shards.old).plans (S.shown shards.old).seen }
     requires limits { FitsOperation (operation op.now) }
     ensures performed { (certs : List Certificate) (reading : ℕ)
-        → IsDueOf (S.plans shards.old) (operation op.now) certs reading due
-        → SteppedBy (S.plans shards.old) (S.alone shards.old)
-        (viewed (S.seen shards.old) (S.own shards.old))
-        (viewed (S.seen shards.new) (S.own shards.new))
-        (λ steps. PerformedAs ruling (IsPerformed (S.plans shards.old) (S.seen shards.new)
+        → IsDueOf (S.shown shards.old).plans (operation op.now) certs reading due
+        → SteppedBy (S.shown shards.old) (S.shown shards.new)
+        (λ steps. PerformedAs ruling
+        (IsPerformed (S.shown shards.old).plans (S.shown shards.new).seen
         (operation op.now) (effect_of (operation op.now) certs reading)) steps
         (option_map reply result)) }
     ensures fits { IfSome result (λ r. FitsReply (reply r) × (0 < status_of (reply r))) }
-    ensures plans { S.plans shards.new ≡ S.plans shards.old }
-    ensures alone { S.alone shards.new ≡ S.alone shards.old }
+    ensures plans { (S.shown shards.new).plans ≡ (S.shown shards.old).plans }
+    ensures alone { (S.shown shards.new).alone ≡ (S.shown shards.old).alone }
 {
     match ruling {
         Ruling::Granted { .. } => perform(rt, alloc, shards, op, due),

@@ -12,10 +12,10 @@ ghost use Rattle.taos_wire.specs.Request.{FitsRequest};
 ghost use Rattle.taos_wire.specs.View.{request};
 ghost use Rattle.taos_monitor.specs.Arriving.{StandsFor};
 ghost use Rattle.taos_monitor.specs.AtObject.{ruled_as};
-ghost use Rattle.taos_monitor.specs.Cells.{AreLegalShards, alone_of, seen_of, viewed};
+ghost use Rattle.taos_monitor.specs.Cells.{AreLegalShards, seen_by};
 ghost use Rattle.taos_monitor.specs.Effects.{IsDueOf, IsReady};
 ghost use Rattle.taos_monitor.specs.Planned.{IsPlanned};
-ghost use Rattle.taos_monitor.specs.Ruling.{Drafts, GuardedTo, seeking_of, standing_of};
+ghost use Rattle.taos_monitor.specs.Ruling.{Drafts, GuardedTo, seeking_of, standing_by};
 
 use crate::deciding::{Came, Deciding, Ruled, decide};
 use crate::due::{Due, due_for};
@@ -84,29 +84,26 @@ pub(crate) fn rule<W: Wait + Sync, H: Shelf, S: Shards, D: Decide, G: Gate>(
     came: Came<'_>,
     out: &mut ReplyBuf,
 )
-    requires shard { came.shard ≡ home (S.plans shards.old) came.asked.now.channel }
-    requires sound { All IsPlan (S.plans shards.old) }
-    requires legal { AreLegalShards (S.plans shards.old) (S.seen shards.old) }
-    requires within { AreWithin (H.objects shelf.old) (H.seen shelf.old) }
-    requires none_taken { H.taken shelf.old ≡ None }
-    requires there { IsSome (fixed_at (H.objects shelf.old) came.asked.now.object) }
+    requires shard { came.shard ≡ home (S.shown shards.old).plans came.asked.now.channel }
+    requires sound { All IsPlan (S.shown shards.old).plans }
+    requires legal { AreLegalShards (S.shown shards.old).plans (S.shown shards.old).seen }
+    requires within { AreWithin (H.shown shelf.old).objects (H.shown shelf.old).seen }
+    requires none_taken { (H.shown shelf.old).taken ≡ None }
+    requires there { IsSome (fixed_at (H.shown shelf.old).objects came.asked.now.object) }
     requires limits { FitsRequest (request came.asked.now) }
     requires stands { StandsFor (request came.asked.now) came.arrived }
-    requires planned { IsPlanned (S.plans shards.old) came.asked.now.channel }
+    requires planned { IsPlanned (S.shown shards.old).plans came.asked.now.channel }
     ensures guarded { (fixed : ObjectFixed)
-        → fixed_at (H.objects shelf.old) came.entry.asked.now.object ≡ Some fixed
+        → fixed_at (H.shown shelf.old).objects came.entry.asked.now.object ≡ Some fixed
         → Drafts came.entry.asked.now.channel came.entry.asked.now.seq out.new
-        (GuardedTo (standing_of (S.plans shards.old) (H.objects shelf.old)
-        (alone_of (S.alone shards.old) (H.alone shelf.old)))
-        (seen_of (viewed (S.seen shards.old) (S.own shards.old))
-        (viewed (H.seen shelf.old) (H.own shelf.old)))
-        (seen_of (viewed (S.seen shards.new) (S.own shards.new))
-        (viewed (H.seen shelf.new) (H.own shelf.new))) (seeking_of came.entry fixed)) }
-    ensures taken { H.taken shelf.new ≡ None }
-    ensures objects { H.objects shelf.new ≡ H.objects shelf.old }
-    ensures others_take { H.alone shelf.new ≡ H.alone shelf.old }
-    ensures plans { S.plans shards.new ≡ S.plans shards.old }
-    ensures alone { S.alone shards.new ≡ S.alone shards.old }
+        (GuardedTo (standing_by (S.shown shards.old) (H.shown shelf.old))
+        (seen_by (S.shown shards.old) (H.shown shelf.old))
+        (seen_by (S.shown shards.new) (H.shown shelf.new)) (seeking_of came.entry fixed)) }
+    ensures taken { (H.shown shelf.new).taken ≡ None }
+    ensures objects { (H.shown shelf.new).objects ≡ (H.shown shelf.old).objects }
+    ensures others_take { (H.shown shelf.new).alone ≡ (H.shown shelf.old).alone }
+    ensures plans { (S.shown shards.new).plans ≡ (S.shown shards.old).plans }
+    ensures alone { (S.shown shards.new).alone ≡ (S.shown shards.old).alone }
 {
     let asked = came.asked;
     let Ok(ready) = ready_for(alloc, shards.count(), &came) else {

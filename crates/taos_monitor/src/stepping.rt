@@ -1,9 +1,9 @@
 //! One step of a granted operation, in one shard.
 
-ghost use Rattle.std.specs.Prelude.{◌≡◌, ◌≢◌, ◌<◌, ℕ, List, length, Some, slice_get};
+ghost use Rattle.std.specs.Prelude.{◌<◌, length};
 ghost use Rattle.agent_core.specs.Answers.{FitsEvent};
+ghost use Rattle.agent_core.specs.Shards.{HasPlanAt, LeavesShards, shard_at};
 ghost use Rattle.agent_core.specs.State.{Plan};
-ghost use Rattle.agent_core.specs.Steps.{seen_at};
 ghost use Rattle.agent_core.specs.Views.{event_of};
 ghost use Rattle.taos_monitor.specs.Effects.{WentAs};
 ghost use Rattle.taos_monitor.specs.Operations.{IsEffect};
@@ -31,17 +31,13 @@ pub(crate) fn step_one<W: Wait + Sync, S: Shards>(
     number: u32,
     event: Event,
 ) -> Went
-    requires there { number < length (S.plans shards.old) }
+    requires there { number < length (S.shown shards.old).plans }
     requires effect { IsEffect (event_of event) }
     requires fits { FitsEvent (event_of event) }
-    ensures went { (plan : Plan) → slice_get (S.plans shards.old) number ≡ Some plan
-        → WentAs plan (seen_at (S.alone shards.old) (S.seen shards.old) (S.own shards.old) number)
-        (seen_at (S.alone shards.old) (S.seen shards.new) (S.own shards.new) number)
+    ensures went { (plan : Plan) → HasPlanAt (S.shown shards.old) number plan
+        → WentAs plan (shard_at (S.shown shards.old) number) (shard_at (S.shown shards.new) number)
         (event_of event) result }
-    ensures others { (s : ℕ) → s ≢ number → (S.seen shards.new s ≡ S.seen shards.old s)
-        × (S.own shards.new s ≡ S.own shards.old s) }
-    ensures plans { S.plans shards.new ≡ S.plans shards.old }
-    ensures alone { S.alone shards.new ≡ S.alone shards.old }
+    ensures rest { LeavesShards (S.shown shards.old) (S.shown shards.new) number }
 {
     // Only an Ask takes memory, or a Keep.
     let Ok((_, answer)) = shards.step(rt, alloc, number, event) else {

@@ -15,7 +15,7 @@ use Rattle.std.specs.Prelude.{IfErr}
 use Rattle.stmt_codec.specs.Certificates.{Certificate, IsWithinLimits}
 use Rattle.file_lines.specs.Held.{HoldsRows}
 use Rattle.node_words.specs.Words.{MintWords}
-use Rattle.taos_node.specs.Minting.{AsksFor, IsBadQuote, IsFirstWrong, IsMinted, IsMoment, IsNobody, IsQuoted, IsStopped, IsWrong, Mints, rank}
+use Rattle.taos_node.specs.Minting.{Begins, AsksFor, IsBadQuote, IsFirstWrong, IsMinted, IsMoment, IsNobody, IsQuoted, IsStopped, IsWrong, Mints, rank}
 use Rattle.taos_node.specs.declared.minting.MintWord.{MintWord}
 use Rattle.taos_node.specs.declared.minting.MintWord.TheVariants as word
 use Rattle.taos_node.specs.declared.minting.MintStop.{MintStop}
@@ -60,15 +60,15 @@ module _ (issuers : Entries) (labels : Labels) (m : MintWords) where
     not_unknown : key_of issuers m.issuer ≡ None → ⊥
     not_unknown none = absurd (cc (known, none))
 
-    pub time_wrong : ((until : ℕ) → IsMoment m.until until → ⊥) → IsFirstWrong issuers labels m word.Time
+    pub time_wrong : ((from until : ℕ) → Begins m.from from → IsMoment m.until until → ⊥) → IsFirstWrong issuers labels m word.Time
     time_wrong none = record {
       wrong = none;
       right_before = rights 1 (λ lt. not_unknown) (λ lt. omega (arith, lt)) (λ lt. omega (arith, lt)) (λ lt. omega (arith, lt)) (λ lt. omega (arith, lt)) (omega arith);
     }
 
-    module _ (until : ℕ) (moment : IsMoment m.until until) where
-      not_none : ((u : ℕ) → IsMoment m.until u → ⊥) → ⊥
-      not_none none = none until moment
+    module _ (from until : ℕ) (begins : Begins m.from from) (moment : IsMoment m.until until) where
+      not_none : ((f u : ℕ) → Begins m.from f → IsMoment m.until u → ⊥) → ⊥
+      not_none none = none from until begins moment
 
       pub quoted_wrong : IsBadQuote labels m.quoted → IsFirstWrong issuers labels m word.Quoted
       quoted_wrong bad = record {
@@ -92,7 +92,7 @@ module _ (issuers : Entries) (labels : Labels) (m : MintWords) where
     pub large_wrong : (c : Certificate) → AsksFor labels m c → IsWrong issuers labels m word.Large → IsFirstWrong issuers labels m word.Large
     large_wrong c asks large = record {
       wrong = large;
-      right_before = rights 5 (λ lt. not_unknown) (λ lt none. none c.until asks.moment) (λ lt. well_quoted labels m.quoted c.quoted asks.quoted) (λ lt none. none c.left asks.left) (λ lt none. none c.right asks.right) (omega arith);
+      right_before = rights 5 (λ lt. not_unknown) (λ lt none. none c.from c.until asks.begins asks.moment) (λ lt. well_quoted labels m.quoted c.quoted asks.quoted) (λ lt none. none c.left asks.left) (λ lt none. none c.right asks.right) (omega arith);
     }
 
 -- ---- why there is no certificate
@@ -104,12 +104,15 @@ module _ (issuers : Entries) (labels : Labels) (m : MintWords) where
   stops_by w stop first (inr is) = subst (IsStopped issuers labels m) (sym is.0) (first is.1)
 
   module _ (key : List ℕ) (known : key_of issuers m.issuer ≡ Some key) where
-    pub left_stops : (until : ℕ) → IsMoment m.until until → (quoted : Option Principal) → IsQuoted labels m.quoted quoted → (stop : MintStop) → (stop ≡ stops.NoMemory) ⊎ ((stop ≡ stops.Wrong word.Left) × IsNobody labels m.left) → IsStopped issuers labels m stop
-    left_stops until moment quoted is_quoted stop = stops_by word.Left stop (left_wrong issuers labels m key known until moment quoted is_quoted)
+    pub quoted_stops : (from until : ℕ) → Begins m.from from → IsMoment m.until until → (stop : MintStop) → (stop ≡ stops.NoMemory) ⊎ ((stop ≡ stops.Wrong word.Quoted) × IsBadQuote labels m.quoted) → IsStopped issuers labels m stop
+    quoted_stops from until begins moment stop = stops_by word.Quoted stop (quoted_wrong issuers labels m key known from until begins moment)
 
-    pub right_stops : (until : ℕ) → IsMoment m.until until → (quoted : Option Principal) → IsQuoted labels m.quoted quoted → (left : Principal) → IsTextWithin labels left m.left → (stop : MintStop) →
+    pub left_stops : (from until : ℕ) → Begins m.from from → IsMoment m.until until → (quoted : Option Principal) → IsQuoted labels m.quoted quoted → (stop : MintStop) → (stop ≡ stops.NoMemory) ⊎ ((stop ≡ stops.Wrong word.Left) × IsNobody labels m.left) → IsStopped issuers labels m stop
+    left_stops from until begins moment quoted is_quoted stop = stops_by word.Left stop (left_wrong issuers labels m key known from until begins moment quoted is_quoted)
+
+    pub right_stops : (from until : ℕ) → Begins m.from from → IsMoment m.until until → (quoted : Option Principal) → IsQuoted labels m.quoted quoted → (left : Principal) → IsTextWithin labels left m.left → (stop : MintStop) →
         (stop ≡ stops.NoMemory) ⊎ ((stop ≡ stops.Wrong word.Right) × IsNobody labels m.right) → IsStopped issuers labels m stop
-    right_stops until moment quoted is_quoted left is_left stop = stops_by word.Right stop (right_wrong issuers labels m key known until moment quoted is_quoted left is_left)
+    right_stops from until begins moment quoted is_quoted left is_left stop = stops_by word.Right stop (right_wrong issuers labels m key known from until begins moment quoted is_quoted left is_left)
 
     pub sealed_stops : {T : Type 0} (c : Certificate) → AsksFor labels m c → (r : Result T MintStop) → IfErr r (λ stop. (stop ≡ stops.NoMemory) ⊎ ((stop ≡ stops.Wrong word.Large) × ¬ IsWithinLimits c)) → IfErr r (IsStopped issuers labels m)
     sealed_stops c asks (Ok x) h = h
@@ -171,6 +174,7 @@ same_asked : (a b : Labels) → AreAlike a b → (m : MintWords) (c : Certificat
 same_asked a b same m c is = record {
   issuer = is.issuer;
   serial = is.serial;
+  begins = is.begins;
   moment = is.moment;
   quoted = same_quoted a b same m.quoted c.quoted is.quoted;
   left = same.there c.left m.left is.left;

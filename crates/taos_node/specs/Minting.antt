@@ -23,6 +23,11 @@ abbrev pub IsMoment : List ℕ → ℕ → Type 0
 IsMoment text seconds =
     (parse_timestamp text ≡ Ok (pos (seconds * 1000000000))) × (seconds < 2 ^ 64)
 
+-- the text is that of the beginning, or there is none and the beginning is 0
+abbrev pub Begins : Option (List ℕ) → ℕ → Type 0
+Begins None from = from ≡ 0
+Begins (Some text) from = IsMoment text from
+
 -- the text is no principal
 abbrev pub IsNobody : Labels → List ℕ → Type 0
 IsNobody labels text = (p : Principal) → IsTextWithin labels p text → ⊥
@@ -43,6 +48,7 @@ IsBadQuote labels (Some text) = IsNobody labels text
 pub record AsksFor (labels : Labels) (m : MintWords) (c : Certificate) : Type 0 where
   pub issuer : c.issuer ≡ m.issuer
   pub serial : c.serial ≡ m.serial
+  pub begins : Begins m.from c.from
   pub moment : IsMoment m.until c.until
   pub quoted : IsQuoted labels m.quoted c.quoted
   pub left : IsTextWithin labels c.left m.left
@@ -61,7 +67,7 @@ module _ (issuers : Entries) (labels : Labels) (m : MintWords) where
   -- what is wrong where a word is refused
   abbrev pub IsWrong : MintWord → Type 0
   IsWrong word.Issuer = key_of issuers m.issuer ≡ None
-  IsWrong word.Time = (until : ℕ) → IsMoment m.until until → ⊥
+  IsWrong word.Time = (from until : ℕ) → Begins m.from from → IsMoment m.until until → ⊥
   IsWrong word.Quoted = IsBadQuote labels m.quoted
   IsWrong word.Left = IsNobody labels m.left
   IsWrong word.Right = IsNobody labels m.right

@@ -7,7 +7,7 @@ ghost use Rattle.prin_term.specs.View.{principal};
 ghost use Rattle.prin_text.specs.Meaning.{IsTextWithin};
 ghost use Rattle.sealed_cert.specs.Seals.{OpensIssued};
 ghost use Rattle.stmt_codec.specs.Certificates.{certificate, IsWithinLimits};
-ghost use Rattle.taos_node.specs.Minting.{AsksFor, IsBadQuote, IsMinted, IsMoment, IsNobody, IsQuoted, IsStopped, MintCauses, Mints, minted_line};
+ghost use Rattle.taos_node.specs.Minting.{AsksFor, Begins, IsBadQuote, IsMinted, IsMoment, IsNobody, IsQuoted, IsStopped, MintCauses, Mints, minted_line};
 ghost use Rattle.node_words.specs.Words.{mint_words};
 
 use credential_kit::{Signer, issue_body};
@@ -25,7 +25,8 @@ use stmt_codec::{Cert, CertBody, CertFault};
 pub enum MintWord {
     /// The relay has no key of the issuer.
     Issuer,
-    /// The text is no instant, or one before 1970 or with a fraction of a second.
+    /// The text of the beginning or of the end is no instant, or one before 1970 or with a fraction of
+    /// a second.
     Time,
     /// The text of the one that is quoted is no principal.
     Quoted,
@@ -84,6 +85,26 @@ fn seconds_of(text: &str) -> Option<u64>
     }
 }
 
+// The beginning: 0 where there is no text.
+fn beginning_of(text: Option<&str>) -> Option<u64>
+    ensures { MatchOption result ((s : ℕ) → Begins (option_map (λ s. s.now) text.entry) s → ⊥)
+        (Begins (option_map (λ s. s.now) text.entry)) }
+{
+    match text {
+        Some(text) => seconds_of(text),
+        None => Some(0),
+    }
+}
+
+// From when on and until when.
+fn times_of(mint: &Mint<'_>) -> Option<(u64, u64)>
+    ensures { MatchOption result ((from until : ℕ) → Begins (mint_words mint.now).from from
+        → IsMoment (mint_words mint.now).until until → ⊥)
+        (λ t. Begins (mint_words mint.now).from t.0 × IsMoment (mint_words mint.now).until t.1) }
+{
+    Some((beginning_of(mint.from)?, seconds_of(mint.until)?))
+}
+
 // The principal that a text is. Where it is none, the word is refused.
 fn principal_of(alloc: Global, names: &Names, text: &str, word: MintWord) -> Result<Term, MintStop>
     ensures read { IfOk result (λ t. IsTextWithin names.now (principal t) text.now) }
@@ -119,13 +140,14 @@ fn body_of(alloc: Global, names: &Names, mint: &Mint<'_>) -> Result<CertBody, Mi
         → key_of issuers mint.now.issuer ≡ Some key
         → IfErr result (IsStopped issuers names.now (mint_words mint.now)) }
 {
-    let Some(until) = seconds_of(mint.until) else {
+    let Some((from, until)) = times_of(mint) else {
         return Err(MintStop::Wrong(MintWord::Time));
     };
     let quoted = quoted_of(alloc, names, mint.quoted)?;
     let left = principal_of(alloc, names, mint.left, MintWord::Left)?;
     let right = principal_of(alloc, names, mint.right, MintWord::Right)?;
-    Ok(CertBody::says(mint.issuer, quoted, left, right, until, mint.serial))
+    let body = CertBody::says(mint.issuer, quoted, left, right, until, mint.serial);
+    Ok(body.beginning(from))
 }
 
 // The certificate of a body under its issuer's seal, where it is within the limits.

@@ -10,7 +10,7 @@ use Rattle.prin_term.specs.declared.limits.TheConstants.{ENTRY_NODES}
 use Rattle.prin_term.specs.Principal.{Principal, spelling as term_spelling}
 use Rattle.byte_fields.specs.Readers.{given, made, followed}
 use Rattle.prin_term.specs.Refusal.{FitsLimits}
-use Rattle.byte_fields.specs.Steps.{bytes_at, counted, counted_at}
+use Rattle.byte_fields.specs.Steps.{counted, counted_at}
 use Rattle.byte_fields.proofs.FieldLaws.{wide16}
 use Rattle.byte_fields.proofs.FieldReaders.{reads_counted_bytes}
 use Rattle.prin_term.proofs.TermReaders.{reads_term}
@@ -26,9 +26,9 @@ use Rattle.taos_wire.specs.declared.reply.TheConstants.{MAX_CITED}
 use Rattle.byte_fields.specs.Formats.{FormatReader, ended, u8_in, u32_in, u64_in, within}
 use Rattle.prin_term.specs.TermFields.{seen_as, term_in}
 use Rattle.taos_wire.specs.Reply.{Reply, Granted, Denied, Malformed, UnknownChannel, BadSeal, Replayed, CertRefused, ChannelFull, RelayFailed, UnknownObject, JournalFull, NoMemory, CommonsFull}
-use Rattle.taos_wire.specs.Reply.{NotHeld, LinkSent, Expired, Missing, NoEntry, flag, link_bytes, status_of, fields_of, answered_bytes}
+use Rattle.taos_wire.specs.Reply.{NotHeld, LinkSent, Expired, Missing, NoEntry, Early, flag, link_bytes, status_of, fields_of, answered_bytes}
 use Rattle.taos_wire.specs.Reply.{FitsLink, FitsReply, FitsGranted}
-use Rattle.taos_wire.specs.ReplyReading.{answered_at, place_at, granted_at, named_at, link_at, denied_at, is_status, fields_at, status_at}
+use Rattle.taos_wire.specs.ReplyReading.{answered_at, place_at, granted_at, digest_at, named_at, link_at, denied_at, is_status, fields_at, status_at}
 use Rattle.stmt_codec.proofs.Listed.{reads_cited}
 use Rattle.byte_fields.proofs.FormatFields.{reads_u8, reads_u32, reads_u64, reads_u8_in}
 use Rattle.stmt_codec.specs.Lists.{cited_at, cited_bytes}
@@ -39,24 +39,28 @@ abbrev link_kind : LinkSent → ℕ
 link_kind (Expired entry digest) = 1
 link_kind (Missing entry part) = 2
 link_kind NoEntry = 3
+link_kind (Early entry digest) = 4
 
 abbrev link_fields : LinkSent → List ℕ
 link_fields (Expired entry digest) = entry ∷ digest
 link_fields (Missing entry part) = entry ∷ term_spelling part
 link_fields NoEntry = []
+link_fields (Early entry digest) = entry ∷ digest
 
 link_is : (l : LinkSent) → link_bytes l ≡ link_kind l ∷ link_fields l
 link_is (Expired entry digest) = refl
 link_is (Missing entry part) = refl
 link_is NoEntry = refl
+link_is (Early entry digest) = refl
 
 abbrev IsKind : ℕ → LinkSent → Type 0
 IsKind kind l = FitsLink l × (link_kind l ≡ kind)
 
-kind_within : (l : LinkSent) → (1 ≤ link_kind l) × (link_kind l ≤ 3)
+kind_within : (l : LinkSent) → (1 ≤ link_kind l) × (link_kind l ≤ 4)
 kind_within (Expired entry digest) = (omega arith, omega arith)
 kind_within (Missing entry part) = (omega arith, omega arith)
 kind_within NoEntry = (omega arith, omega arith)
+kind_within (Early entry digest) = (omega arith, omega arith)
 
 -- ---- a grant
 
@@ -174,32 +178,37 @@ module _ (bytes : List ℕ) where
 
   -- ---- a denial
 
-  reads_expired : Reads bytes (followed (u8_in bytes) (λ _. bytes_at (ended bytes) 32 bytes)) (λ p. (p.0 ∷ []) ++ p.1) (λ p. (p.0 < 256) × IsDigest p.1)
-  reads_expired = reads_followed (reads_u8 bytes) (λ _ _. reads_bytes (ended bytes) 32 bytes)
+  reads_digest : Reads bytes (digest_at bytes) (λ p. (p.0 ∷ []) ++ p.1) (λ p. (p.0 < 256) × IsDigest p.1)
+  unfolding digest_at
+  reads_digest = reads_followed (reads_u8 bytes) (λ _ _. reads_bytes (ended bytes) 32 bytes)
 
   reads_missing : Reads bytes (followed (u8_in bytes) (λ _. term_in ENTRY_NODES bytes)) (λ p. (p.0 ∷ []) ++ term_spelling p.1) (λ p. (p.0 < 256) × FitsLimits ENTRY_NODES p.1)
   reads_missing = reads_followed (reads_u8 bytes) (λ _ _. reads_term seen_as ENTRY_NODES bytes)
 
-  named_takes : (kind : ℕ) → 1 ≤ kind → kind ≤ 3 → Takes bytes (named_at bytes kind) link_fields (IsKind kind)
+  named_takes : (kind : ℕ) → 1 ≤ kind → kind ≤ 4 → Takes bytes (named_at bytes kind) link_fields (IsKind kind)
   unfolding named_at
   named_takes kind some le =
-      takes_if bytes (eqb kind 1) (made (λ (x : ℕ × List ℕ). Expired x.0 x.1) (followed (u8_in bytes) (λ _. bytes_at (ended bytes) 32 bytes))) _ link_fields (IsKind kind)
-      (λ one. takes_made (λ (x : ℕ × List ℕ). Expired x.0 x.1) link_fields (IsKind kind) reads_expired (λ x is. ((is, sym (eqb-true kind 1 one)), refl))) (λ not_one.
-      takes_if bytes (eqb kind 2) (made (λ (x : ℕ × Principal). Missing x.0 x.1) (followed (u8_in bytes) (λ _. term_in ENTRY_NODES bytes))) (given NoEntry) link_fields (IsKind kind)
+      takes_if bytes (eqb kind 1) (made (λ (x : ℕ × List ℕ). Expired x.0 x.1) (digest_at bytes)) _ link_fields (IsKind kind)
+      (λ one. takes_made (λ (x : ℕ × List ℕ). Expired x.0 x.1) link_fields (IsKind kind) reads_digest (λ x is. ((is, sym (eqb-true kind 1 one)), refl))) (λ not_one.
+      takes_if bytes (eqb kind 2) (made (λ (x : ℕ × Principal). Missing x.0 x.1) (followed (u8_in bytes) (λ _. term_in ENTRY_NODES bytes))) _ link_fields (IsKind kind)
       (λ two. takes_made (λ (x : ℕ × Principal). Missing x.0 x.1) link_fields (IsKind kind) reads_missing (λ x is. ((is, sym (eqb-true kind 2 two)), refl))) (λ not_two.
-      takes_given bytes NoEntry link_fields (IsKind kind) refl (tt, omega (arith, some, le, eqb-false _ _ not_one, eqb-false _ _ not_two))))
+      takes_if bytes (eqb kind 3) (given NoEntry) (made (λ (x : ℕ × List ℕ). Early x.0 x.1) (digest_at bytes)) link_fields (IsKind kind)
+      (λ three. takes_given bytes NoEntry link_fields (IsKind kind) refl (tt, sym (eqb-true kind 3 three))) (λ not_three.
+      takes_made (λ (x : ℕ × List ℕ). Early x.0 x.1) link_fields (IsKind kind) reads_digest
+      (λ x is. ((is, omega (arith, some, le, eqb-false _ _ not_one, eqb-false _ _ not_two, eqb-false _ _ not_three)), refl)))))
 
   named_again : (l : LinkSent) (at : ℕ) (rest : List ℕ) → FitsLink l → drop at bytes ≡ link_fields l ++ rest → named_at bytes (link_kind l) at ≡ Ok (l, at + length (link_fields l))
   unfolding named_at
-  named_again (Expired entry digest) at rest fits e = again_made (λ (x : ℕ × List ℕ). Expired x.0 x.1) reads_expired at (entry, digest) rest fits e
+  named_again (Expired entry digest) at rest fits e = again_made (λ (x : ℕ × List ℕ). Expired x.0 x.1) reads_digest at (entry, digest) rest fits e
   named_again (Missing entry part) at rest fits e = again_made (λ (x : ℕ × Principal). Missing x.0 x.1) reads_missing at (entry, part) rest fits e
   named_again NoEntry at rest fits e = again_given NoEntry at
+  named_again (Early entry digest) at rest fits e = again_made (λ (x : ℕ × List ℕ). Early x.0 x.1) reads_digest at (entry, digest) rest fits e
 
   reads_link : Reads bytes (link_at bytes) link_bytes FitsLink
   unfolding link_at
   reads_link =
       reads_made (λ (x : ℕ × LinkSent). x.1) (λ (l : LinkSent). (link_kind l, l)) link_bytes FitsLink
-      (reads_followed (reads_u8_in bytes 1 3 (omega arith)) (λ kind low_high. record {
+      (reads_followed (reads_u8_in bytes 1 4 (omega arith)) (λ kind low_high. record {
         takes = named_takes kind low_high.0 low_high.1;
         again = λ at l rest is e. subst (λ (k : ℕ). named_at bytes k at ≡ Ok (l, at + length (link_fields l))) is.1 (named_again l at rest is.0 e);
       }))

@@ -11,7 +11,7 @@ use Rattle.prin_term.proofs.TermForms.{form_term}
 use Rattle.stmt_codec.proofs.Listed.{form_cited}
 use Rattle.taos_calculus.proofs.Counted.{form_proof}
 use Rattle.taos_wire.specs.Reply.{Reply, Malformed, UnknownChannel, BadSeal, Replayed, ChannelFull, RelayFailed, UnknownObject, NoMemory, NotHeld, NoEntry, SpellsReply}
-use Rattle.taos_wire.specs.ReplyReading.{answered_at, place_at, granted_at, named_at, link_at, denied_at, fields_at, status_at, reply_at, reply_of}
+use Rattle.taos_wire.specs.ReplyReading.{answered_at, place_at, granted_at, digest_at, named_at, link_at, denied_at, fields_at, status_at, reply_at, reply_of}
 use Rattle.taos_wire.proofs.ReplyLaws.{Tagged, tagged, reply_in}
 use Rattle.taos_wire.proofs.RequestForms.{tag_form}
 
@@ -33,12 +33,16 @@ granted_form =
     (λ _. form_followed (form_cited _)
     (λ _. form_counted16))))))
 
+digest_form : Form IsBytes digest_at
+unfolding digest_at
+digest_form = form_followed form_u8 (λ _. form_bytes 32)
+
 named_form : (kind : ℕ) → Form IsBytes (λ bytes. named_at bytes kind)
 unfolding named_at
 named_form kind =
-    form_if (eqb kind 1) (form_made _ (form_followed form_u8 (λ _. form_bytes 32)))
+    form_if (eqb kind 1) (form_made _ digest_form)
     (form_if (eqb kind 2) (form_made _ (form_followed form_u8 (λ _. form_term _)))
-    (form_given NoEntry))
+    (form_if (eqb kind 3) (form_given NoEntry) (form_made _ digest_form)))
 
 denied_form : Form IsBytes denied_at
 unfolding denied_at link_at

@@ -14,7 +14,7 @@ use Rattle.taos_calculus.specs.Tables.{lines_of}
 use Rattle.taos_wire.specs.declared.reply.LentGrant.{LentGrant}
 use Rattle.taos_wire.specs.declared.reply.LentPart.{LentPart}
 use Rattle.taos_wire.specs.Reply.{Reply, Granted, Denied, Malformed, UnknownChannel, BadSeal, Replayed, CertRefused, ChannelFull, RelayFailed, UnknownObject, JournalFull, NoMemory, CommonsFull}
-use Rattle.taos_wire.specs.Reply.{NotHeld, LinkSent, Expired, Missing, NoEntry, FitsReply, FitsLink, link_bytes, flag, status_of, fields_of}
+use Rattle.taos_wire.specs.Reply.{NotHeld, LinkSent, Expired, Missing, NoEntry, Early, FitsReply, FitsLink, link_bytes, flag, status_of, fields_of}
 use Rattle.taos_wire.specs.Reply.{answered_bytes, reply_text, seal_of, sent, spelling}
 use Rattle.taos_wire.specs.View.{cited, lent_grant, lent_part}
 use Rattle.taos_wire.proofs.Seals.{length-seal_of}
@@ -51,6 +51,7 @@ link_short : (l : LinkSent) → FitsLink l → length (link_bytes l) ≤ 82
 link_short (Expired entry digest) fits = omega (arith, fits.1.0)
 link_short (Missing entry part) fits = omega (arith, term_bound part, fits.1.nodes_fit)
 link_short NoEntry fits = omega arith
+link_short (Early entry digest) fits = omega (arith, fits.1.0)
 
 small_fields : (r : Reply) → FitsReply r → 0 < status_of r → length (fields_of r) ≤ 94
 small_fields (Granted kept entry shard place proof certs result) fits lt = absurd (omega (arith, lt))

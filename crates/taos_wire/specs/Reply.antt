@@ -16,12 +16,13 @@ use Rattle.taos_calculus.specs.Spells.{IsProof}
 use Rattle.taos_wire.specs.declared.reply.TheConstants.{MAX_CITED}
 use Rattle.taos_wire.specs.Request.{Request, IsTag}
 
--- what a denial names: an entry, and the certificate that ended too early or the part that nobody
--- speaks for; or that no entry has the right
+-- what a denial names: an entry, and the certificate that ended too early or begins too late, or the
+-- part that nobody speaks for; or that no entry has the right
 pub data LinkSent : Type 0 where
   Expired : (entry : ℕ) (digest : List ℕ) → LinkSent
   Missing : (entry : ℕ) (part : Principal) → LinkSent
   NoEntry : LinkSent
+  Early : (entry : ℕ) (digest : List ℕ) → LinkSent
 
 -- what is answered; a shard and a place are those of the journal entry that it was answered at
 pub data Reply : Type 0 where
@@ -68,6 +69,7 @@ abbrev pub link_bytes : LinkSent → List ℕ
 link_bytes (Expired entry digest) = 1 ∷ entry ∷ digest
 link_bytes (Missing entry part) = 2 ∷ entry ∷ term_spelling part
 link_bytes NoEntry = 3 ∷ []
+link_bytes (Early entry digest) = 4 ∷ entry ∷ digest
 
 -- the byte that names what kind of reply it is
 abbrev pub status_of : Reply → ℕ
@@ -121,6 +123,7 @@ abbrev pub FitsLink : LinkSent → Type 0
 FitsLink (Expired entry digest) = IsByte entry × IsDigest digest
 FitsLink (Missing entry part) = IsByte entry × FitsLimits ENTRY_NODES part
 FitsLink NoEntry = Unit {0}
+FitsLink (Early entry digest) = IsByte entry × IsDigest digest
 
 -- the fields of a grant fit, and there are at most so many certificates
 pub record FitsGranted (entry shard place : ℕ) (proof : List Line)

@@ -16,7 +16,7 @@ use Rattle.prin_term.specs.TermFields.{term_in}
 use Rattle.taos_wire.specs.Reply.{Reply, Granted, Denied, Malformed, UnknownChannel, BadSeal}
 use Rattle.taos_wire.specs.Reply.{Replayed, CertRefused, ChannelFull, RelayFailed, UnknownObject}
 use Rattle.taos_wire.specs.Reply.{JournalFull, NoMemory, CommonsFull, NotHeld, LinkSent}
-use Rattle.taos_wire.specs.Reply.{Expired, Missing, NoEntry}
+use Rattle.taos_wire.specs.Reply.{Expired, Missing, NoEntry, Early}
 use Rattle.taos_wire.specs.RequestReading.{tag_at}
 
 -- the version, the channel and the number that are answered
@@ -45,18 +45,22 @@ granted_at bytes =
 
 -- ---- a denial
 
+-- an entry, and the digest of a certificate
+unfoldable pub digest_at : List ℕ → FormatReader (ℕ × List ℕ)
+digest_at bytes = followed (u8_in bytes) (λ _. bytes_at (ended bytes) 32 bytes)
+
 -- the link that a byte names
 unfoldable pub named_at : List ℕ → ℕ → FormatReader LinkSent
 named_at bytes kind at =
-    if kind == 1 then made (λ x. Expired x.0 x.1)
-    (followed (u8_in bytes) (λ _. bytes_at (ended bytes) 32 bytes)) at
+    if kind == 1 then made (λ x. Expired x.0 x.1) (digest_at bytes) at
     else (if kind == 2 then made (λ x. Missing x.0 x.1)
     (followed (u8_in bytes) (λ _. term_in ENTRY_NODES bytes)) at
-    else given NoEntry at)
+    else (if kind == 3 then given NoEntry at
+    else made (λ x. Early x.0 x.1) (digest_at bytes) at))
 
 -- what a denial names, by the byte before it
 unfoldable pub link_at : List ℕ → FormatReader LinkSent
-link_at bytes = made (λ x. x.1) (followed (within 1 3 (u8_in bytes)) (λ kind. named_at bytes kind))
+link_at bytes = made (λ x. x.1) (followed (within 1 4 (u8_in bytes)) (λ kind. named_at bytes kind))
 
 -- the fields of a denial
 unfoldable pub denied_at : List ℕ → FormatReader Reply

@@ -18,7 +18,7 @@ use Rattle.taos_wire.specs.declared.reply.LinkSent.TheVariants as links
 use Rattle.taos_wire.specs.Reply.{Reply, Granted, Denied, Malformed, UnknownChannel, BadSeal}
 use Rattle.taos_wire.specs.Reply.{Replayed, CertRefused, ChannelFull, RelayFailed, UnknownObject}
 use Rattle.taos_wire.specs.Reply.{JournalFull, NoMemory, CommonsFull, NotHeld, LinkSent}
-use Rattle.taos_wire.specs.Reply.{Expired, Missing, NoEntry}
+use Rattle.taos_wire.specs.Reply.{Expired, Missing, NoEntry, Early}
 use Rattle.taos_wire.specs.Request.{Request}
 
 -- the bytes alone
@@ -45,6 +45,7 @@ abbrev pub link : code_link.LinkSent → LinkSent
 link (links.Expired entry digest) = Expired entry digest
 link (links.Missing entry part) = Missing entry (principal part)
 link links.NoEntry = NoEntry
+link (links.Early entry digest) = Early entry digest
 
 -- the reply that the program's one stands for
 abbrev pub reply : code_reply.Reply → Reply

@@ -17,6 +17,8 @@ pub enum LinkSent {
     Missing { entry: u8, part: Term },
     /// No entry has the right.
     NoEntry,
+    /// The entry would be reached but for the certificate with this digest, which has not begun.
+    Early { entry: u8, digest: [u8; 32] },
 }
 
 /// What a node answers. A shard and a place are those of the journal entry that the answer was

@@ -8,7 +8,7 @@ ghost use Rattle.byte_fields.specs.declared.fault.FormatFault.TheVariants.{NoMem
 ghost use Rattle.taos_wire.specs.Reply as math;
 ghost use Rattle.taos_wire.specs.Reply.{SpellsReply};
 ghost use Rattle.taos_wire.specs.ReplyReading.{answered_at, denied_at, fields_at, is_status};
-ghost use Rattle.taos_wire.specs.ReplyReading.{link_at, named_at, place_at, reply_at, reply_of};
+ghost use Rattle.taos_wire.specs.ReplyReading.{digest_at, link_at, named_at, place_at, reply_at, reply_of};
 ghost use Rattle.taos_wire.specs.ReplyReading.{status_at};
 ghost use Rattle.taos_wire.specs.View.{link, reply};
 
@@ -45,6 +45,19 @@ pub(crate) fn place_of(bytes: &[u8], at: usize) -> Result<(u32, u64, usize), Wir
     Ok((shard, place, next))
 }
 
+// An entry, and the digest of a certificate.
+#[tactic(auto, unfolding(crate::specs::ReplyReading::digest_at))]
+fn digest_of(bytes: &[u8], at: usize) -> Result<(u8, [u8; 32], usize), WireFault>
+    requires { at ≤ length bytes.now }
+    ensures value { Gives NoMemory (λ x. ((x.0, x.1), x.2)) result
+        (digest_at bytes.now at) }
+    ensures within { IfOk result (λ x. x.2 ≤ length bytes.now) }
+{
+    let (entry, next) = u8_at(bytes, at, ended(bytes))?;
+    let (digest, next) = array_at::<32, _>(bytes, next, ended(bytes))?;
+    Ok((entry, digest, next))
+}
+
 // The link that a byte names.
 #[tactic(auto, unfolding(crate::specs::ReplyReading::named_at))]
 fn named_of(
@@ -59,8 +72,7 @@ fn named_of(
 {
     match kind {
         1 => {
-            let (entry, next) = u8_at(bytes, at, ended(bytes))?;
-            let (digest, next) = array_at::<32, _>(bytes, next, ended(bytes))?;
+            let (entry, digest, next) = digest_of(bytes, at)?;
             Ok((LinkSent::Expired { entry, digest }, next))
         }
         2 => {
@@ -68,7 +80,11 @@ fn named_of(
             let (part, next) = read_term(alloc, bytes, next, ENTRY_NODES)?;
             Ok((LinkSent::Missing { entry, part }, next))
         }
-        _ => Ok((LinkSent::NoEntry, at)),
+        3 => Ok((LinkSent::NoEntry, at)),
+        _ => {
+            let (entry, digest, next) = digest_of(bytes, at)?;
+            Ok((LinkSent::Early { entry, digest }, next))
+        }
     }
 }
 
@@ -78,7 +94,7 @@ fn link_of(alloc: Global, bytes: &[u8], at: usize) -> Result<(LinkSent, usize), 
     ensures value { Gives NoMemory (λ x. (link x.0, x.1)) result (link_at bytes.now at) }
     ensures within { IfOk result (λ x. x.1 ≤ length bytes.now) }
 {
-    let (kind, next) = byte_within(bytes, at, 1, 3)?;
+    let (kind, next) = byte_within(bytes, at, 1, 4)?;
     named_of(alloc, bytes, next, kind)
 }
 

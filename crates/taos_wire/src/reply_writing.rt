@@ -254,19 +254,24 @@ fn push_denied(
     push_link(out, named)
 }
 
+fn push_digest(out: &mut Vec<u8>, kind: u8, entry: u8, digest: &[u8; 32]) -> Result<(), AllocError>
+    ensures { Pushes out.old out.new (kind ∷ entry ∷ digest.now) result }
+{
+    out.extend_from_slice(&[kind, entry])?;
+    out.extend_from_slice(digest)
+}
+
 fn push_link(out: &mut Vec<u8>, named: &LinkSent) -> Result<(), AllocError>
     ensures { Pushes out.old out.new (link_bytes (link named.now)) result }
 {
     match named {
-        LinkSent::Expired { entry, digest } => {
-            out.extend_from_slice(&[1, *entry])?;
-            out.extend_from_slice(digest)
-        }
+        LinkSent::Expired { entry, digest } => push_digest(out, 1, *entry, digest),
         LinkSent::Missing { entry, part } => push_part(out, *entry, part),
         LinkSent::NoEntry => {
             out.push(3)?;
             Ok(())
         }
+        LinkSent::Early { entry, digest } => push_digest(out, 4, *entry, digest),
     }
 }
 

@@ -48,10 +48,12 @@ COMMAND is one of
                     serves N requests (10000 at most) over so many lanes (16 at
                     most) that are made from the number SEED, in memory, and
                     prints what they came to; FILE is not read
-  mint --issuer N --serial N --until TIME [--quoted P] --left P --right P
+  mint --issuer N --serial N [--from TIME] --until TIME [--quoted P] --left P
+       --right P
                     prints a certificate under the issuer's key, in hex: the
-                    issuer, quoting P if so, says until TIME that the left P
-                    speaks for the right P
+                    issuer, quoting P if so, says from the first TIME on, if
+                    there is one, until the second that the left P speaks for
+                    the right P
   path --node N --route LIST
                     reads the frame of a certificate, passes it along the
                     domains of LIST (1 to 4 numbers joined by commas), the

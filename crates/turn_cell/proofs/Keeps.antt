@@ -1,5 +1,5 @@
 -- Each step keeps the rule.
-use Rattle.std.proofs.Common.{◌≡◌, ◌≢◌, ℕ, zero, suc, ◌+◌, ◌-◌, ◌%◌, ◌^◌, ◌<◌, ◌≤◌, ◌⊎◌, eqb, List, [], ◌∷◌, ◌++◌, length, get_or, set, refl, sym, ap, ◌∙◌, subst, inl, inr, ⊎_elim, arith, length-set, get_or-set_other, get_or-set_same, Option, Some, None}
+use Rattle.std.proofs.Common.{◌≡◌, ◌≢◌, ℕ, zero, suc, ◌+◌, ◌-◌, ◌%◌, ◌^◌, ◌<◌, ◌≤◌, ◌⊎◌, List, [], ◌∷◌, ◌++◌, length, get_or, set, refl, sym, ap, ◌∙◌, subst, inl, inr, ⊎_elim, arith, length-set, get_or-set_other, get_or-set_same, Option, Some, None}
 use Rattle.std.specs.List.{sum_by}
 use mathlib.Core.Logic.{dite}
 use mathlib.Core.Option.{some, none, some-injective, some-ne-none}
@@ -7,9 +7,8 @@ use native.Mathlib.Decide.{ℕ_discrete, dec_le}
 use lib.ListN.{get_elem?}
 use Rattle.std.proofs.Math.ListN.{replicate}
 use lib.Seq.{set-get_or}
-use prog.Atomic.{either}
 use Rattle.atomic_table.specs.Table.{State, Me, Act, Valid, step, keeps, takes, gives, stepped, carried_after, Allows, Splits, Joins, Final, Seen}
-use Rattle.atomic_table.proofs.Lists.{at_set, at_snoc, at_longer, set_here, set_else, set_again, exchanged}
+use Rattle.atomic_table.proofs.Lists.{at_set, at_snoc, at_longer, set_here, set_else, set_again}
 use Rattle.turn_cell.specs.declared.shares.TheConstants.{ALL_SHARES}
 use Rattle.turn_cell.specs.declared.steps.TheConstants.{WORDS}
 use Rattle.turn_cell.specs.declared.view.Stage.{Stage}
@@ -152,17 +151,8 @@ module _ {V F E : Type 0} (fixed : V → F) (journal : V → List E) (allows : F
   unchanged s r i id c v at = let a : s.words ≡ set s.words i (get_or s.words i 0) = sym (set-get_or s.words i 0) in let b : s.views ≡ set s.views id v = sym (set_again s.views id v at) in
       subst (λ (z : List ℕ × List (View F E)). Rule (record { words = z.0; homes = s.homes; views = z.1 })) (λ k. (a k, b k)) r
 
-  pub draws : (slots id old new : ℕ) (me : Me (Option V) (View F E)) → new ≡ (old + 1) % 2 ^ 64 → me.0.stage ≡ Idle → 0 < me.0.shares → Allows Rule slots id me 8 (λ n. either (eqb n old) new n) (Draws (step slots 8 old new none) me)
-  draws slots id old new me next idle some_share s r long at fits = let ticket : ℕ = get_or s.words 8 0 in
-      exchanged ticket old new (λ n. (w : View F E) × (a : Act (Option V)) × Valid s.homes me.1 a × Rule (stepped s 8 n id me.1 w a) × Draws (step slots 8 old new none) me ticket (w, carried_after me.1 a))
-      (λ hit. let w : View F E = at_stage (Waiting ticket) me.0 in (
-        w,
-        keeps,
-        tt,
-        subst (λ (n : ℕ). Rule (stepped s 8 n id me.1 w keeps)) (ap (λ (t : ℕ). (t + 1) % 2 ^ 64) hit ∙ sym next) (drawn s r id me.1 me.0 at idle some_share),
-        ((λ _. ap (λ (t : ℕ). let m : Me (Option V) (View F E) = (at_stage (Waiting t) me.0, me.1) in m) hit), λ other. absurd (other hit)),
-      ))
-      (λ miss. (me.0, keeps, tt, unchanged s r 8 id me.1 me.0 at, ((λ hit. absurd (miss hit)), λ _. refl)))
+  pub draws : (slots id : ℕ) (me : Me (Option V) (View F E)) → me.0.stage ≡ Idle → 0 < me.0.shares → Allows Rule slots id me 8 (λ n. (n + 1) % 2 ^ 64) (Draws (step slots 8 1 0 none) me)
+  draws slots id me idle some_share s r long at fits = let ticket : ℕ = get_or s.words 8 0 in (at_stage (Waiting ticket) me.0, keeps, tt, drawn s r id me.1 me.0 at idle some_share, refl)
 
   -- where a view waits for the ticket that is served, the slot is at home
   is_home : (s : State (Option V) (View F E)) (r : Rule s) (id t : ℕ) (v : View F E) → get_elem? s.views id ≡ some v → v.stage ≡ Waiting t → get_or s.words 9 0 ≡ t → IsHome fixed journal opening r.core s

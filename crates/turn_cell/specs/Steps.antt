@@ -111,11 +111,10 @@ module _ {V F E : Type 0} where
     pub least : 1 ≤ shares
     pub most : shares ≤ ALL_SHARES
 
-  -- draw: the view holds the ticket that was asked for, if that was found
+  -- draw: the view holds the ticket that was found
   abbrev pub Draws : Step (Option V) → Me (Option V) (View F E) → ℕ → Me (Option V) (View F E) →
       Type 0
-  Draws st m found n =
-      (found ≡ st.first → n ≡ (at_stage (Waiting st.first) m.0, m.1)) × (found ≢ st.first → n ≡ m)
+  Draws st m found n = n ≡ (at_stage (Waiting found) m.0, m.1)
 
   -- take: the value of the slot is in the caller's hand, and the view is as before
   pub record IsTaken (m n : Me (Option V) (View F E)) (value : V) : Type 0 where

@@ -124,7 +124,7 @@ impl<V: Journaled> TurnCell<V> {
         let Pass { shares, mut seat } = pass;
         let ticket = draw_alone(rt, &self.table.shared, &self.sleepers, &mut seat);
         for _ in rt.forever() {
-            // Nobody had a ticket when it was drawn, so the first look takes the value.
+            // Nobody had a ticket right before it was drawn, so mostly the first look takes the value.
             match try_take(&self.table.shared, &mut seat, ticket) {
                 Ok(value) => return (value, Held { shares, seat }),
                 Err(_) => thread::yield_now(),

@@ -1,5 +1,5 @@
 //! The seven kinds of step on a cell's table, a function each, and those that come together.
-ghost use Rattle.std.specs.Prelude.{◌≡◌, ◌≢◌, ◌<◌, [], ◌∷◌, IfErr, IfOk, MatchBool, Some};
+ghost use Rattle.std.specs.Prelude.{◌≡◌, ◌≢◌, ◌<◌, [], ◌∷◌, IfErr, IfOk, Some};
 ghost use Rattle.turn_cell.specs.declared.view.Stage.TheVariants.{Waiting};
 ghost use Rattle.turn_cell.specs.Journal.{MayLeave};
 ghost use Rattle.turn_cell.specs.Steps.{GoesHome, IsAtTurn, IsIdle, IsJoinOf, IsPut, IsTaken, MayCall, SitsAt, TookOut, Turns, at_stage, entered_of, given, keeping, ticket_of};
@@ -21,17 +21,14 @@ pub const SLOTS: usize = 9;
 
 pub const HOME: usize = 4;
 
-/// Draws the ticket where it is the next. Whether it was.
-pub fn try_draw<V: Journaled>(shelf: &Shelf<V>, seat: &mut Place<V>, ticket: u64) -> bool
+/// Draws the next ticket.
+pub fn draw<V: Journaled>(shelf: &Shelf<V>, seat: &mut Place<V>) -> u64
     requires table { SitsAt seat.old.table_id shelf.now.table_id }
     requires idle { IsIdle seat.old.me }
     ensures table { seat.new.table_id ≡ seat.old.table_id }
-    ensures drawn { MatchBool result
-        (seat.new.me ≡ (at_stage (Waiting ticket) seat.old.me.0, []))
-        (seat.new.me ≡ seat.old.me) }
+    ensures drawn { seat.new.me ≡ (at_stage (Waiting result) seat.old.me.0, []) }
 {
-    let found = shelf.compare_exchange::<Draw>(seat, TICKET, ticket, ticket.wrapping_add(1));
-    found == ticket
+    shelf.fetch_add::<Draw>(seat, TICKET, 1)
 }
 
 /// Gives the ticket that is served.

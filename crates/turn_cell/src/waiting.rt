@@ -7,7 +7,7 @@ ghost use Rattle.turn_cell.specs.declared.steps.TheConstants.{WORDS};
 
 use crate::journaled::Journaled;
 use crate::rule::{Place, Shelf};
-use crate::steps::{SERVING, TICKET, try_draw};
+use crate::steps::{SERVING, TICKET, draw};
 use std::hint::spin_loop;
 use std::sync::Wait;
 use std::sync::atomic::AtomicU64;
@@ -23,8 +23,8 @@ const YIELDS: u32 = 64;
 // In so many steps pauses become as long as the longest.
 const STEPS: u32 = 8;
 
-/// Waits until nobody has a ticket, and draws the next one. No thread waits with a ticket, so none
-/// that is not running keeps those out that are.
+/// Waits until nobody has a ticket, as it looks, and draws the next one. Few threads wait with a
+/// ticket, those that looked at the same time, so hardly one that is not running keeps others out.
 pub fn draw_alone<V: Journaled, W: Wait>(
     rt: &W,
     shelf: &Shelf<V>,
@@ -39,8 +39,8 @@ pub fn draw_alone<V: Journaled, W: Wait>(
     let mut looks = 0;
     for _ in rt.forever() {
         let serving = shelf.peek(SERVING);
-        if shelf.peek(TICKET) == serving && try_draw(shelf, seat, serving) {
-            return serving;
+        if shelf.peek(TICKET) == serving {
+            return draw(shelf, seat);
         }
         looks = waited(rt, shelf, sleepers, serving, looks);
     }

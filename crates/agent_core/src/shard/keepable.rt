@@ -1,13 +1,14 @@
 //! Whether a proof may be kept for an Ask.
 
-ghost use Rattle.std.specs.Prelude.{◌≡◌, ◌≢◌, ◌↔◌, ◌<◌, AllPairs, IsTrue, length, map};
+ghost use Rattle.std.specs.Prelude.{◌≡◌, ◌≢◌, ◌↔◌, ◌<◌, ◌≤◌, All, AllPairs, IsTrue, length, map};
 ghost use Rattle.std.specs.Option.{option_map};
 ghost use Rattle.stmt_codec.specs.View.{certificates};
 ghost use Rattle.taos_calculus.specs.Rules.{Proves, SpeaksFor};
 ghost use Rattle.denial_link.specs.Revived.{claims};
 ghost use Rattle.proof_cache.specs.Cached.{cached};
-ghost use Rattle.agent_core.specs.Journals.{IsKeepable};
-ghost use Rattle.agent_core.specs.Kept.{DiffersBefore, IsAsked, IsForEntry, ask_in};
+ghost use Rattle.agent_core.specs.Journals.{IsKeepable, moment_at};
+ghost use Rattle.agent_core.specs.Kept.{DiffersBefore, HasBegun, IsAsked, IsForEntry, ask_in};
+ghost use Rattle.agent_core.specs.State.{Plan, reading_of};
 ghost use Rattle.agent_core.specs.Views.{ask_of, entry_of, event_of, plan_of};
 
 use crate::event::{Ask, Event, ShardEntry};
@@ -97,6 +98,49 @@ fn are_apart(cites: &[Arc<Cert>]) -> bool
     true
 }
 
+// What the clock read for the event, 0 where it was not read.
+fn reading_of(event: &Event) -> u64
+    ensures { result ≡ reading_of (event_of event.now) }
+{
+    match event {
+        Event::Ask(asked) => asked.reading,
+        Event::Expire(reading) => *reading,
+        Event::Keep { .. } | Event::Hold(_) | Event::Discard(_) | Event::Forget(_) => 0,
+    }
+}
+
+// The moment of the entry at the place.
+fn moment_at(entries: &[ShardEntry], place: usize) -> u64
+    requires { place < length entries.now }
+    ensures { (plan : Plan) → result ≡ moment_at plan (map entry_of entries.now) place }
+{
+    let mut moment: u64 = 0;
+    for earlier in 0..place + 1 {
+        moment = moment.max(reading_of(&entries[earlier].event));
+    }
+    moment
+}
+
+// Whether the certificate at the place has begun at the moment.
+fn has_begun(cites: &[Arc<Cert>], place: usize, moment: u64) -> bool
+    requires { place < length cites.now }
+    ensures { IsTrue result ↔ HasBegun (certificates cites.now) moment place }
+{
+    cites[place].body.from <= moment
+}
+
+// Whether each certificate has begun at the moment.
+fn have_begun(cites: &[Arc<Cert>], moment: u64) -> bool
+    ensures { IsTrue result ↔ All (λ x. x.from ≤ moment) (certificates cites.now) }
+{
+    for place in 0..cites.len() {
+        if !has_begun(cites, place, moment) {
+            return false;
+        }
+    }
+    true
+}
+
 /// Whether the proof may be kept for the entry of the Ask at the place.
 pub(crate) fn is_keepable(
     plan: &ShardPlan,
@@ -111,4 +155,5 @@ pub(crate) fn is_keepable(
     is_asked(entries, ask, entry, proof)
         && is_proof(&plan.anchors, proof)
         && are_apart(&proof.cites)
+        && have_begun(&proof.cites, moment_at(entries, ask as usize))
 }

@@ -43,6 +43,10 @@ fn denial_of(link: Link, certs: &[Arc<Cert>]) -> Denial
             entry,
             digest: certs[cert as usize].digest,
         },
+        Link::Early { entry, cert } => Denial::Early {
+            entry,
+            digest: certs[cert as usize].digest,
+        },
         Link::Missing { entry, node } => Denial::Missing { entry, node },
         Link::NoEntry => Denial::NoEntry,
     }

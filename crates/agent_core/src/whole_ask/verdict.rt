@@ -1,8 +1,8 @@
 //! The verdict on an Ask that is to be judged.
 
-ghost use Rattle.std.specs.Prelude.{◌≡◌, ◌≤◌, ℕ, true, map, length, replicate, IsTrue, MatchOption};
+ghost use Rattle.std.specs.Prelude.{◌≡◌, ◌≤◌, ◌↔◌, ℕ, true, map, length, replicate, All, IsTrue, MatchOption};
 ghost use Rattle.prin_term.specs.View.{Grant, grant, principal};
-ghost use Rattle.stmt_codec.specs.Certificates.{certificate, live};
+ghost use Rattle.stmt_codec.specs.Certificates.{certificate, live, IsLive};
 ghost use Rattle.stmt_codec.specs.View.{certificates};
 ghost use Rattle.taos_calculus.specs.Monitor.{FirstEntry, Grants, MaySpeak};
 ghost use Rattle.taos_calculus.specs.Question.{IsAskable, question_of};
@@ -102,10 +102,9 @@ pub fn granting_entry<D: Decide>(
     )
 }
 
-// Whether none has ended.
+// Whether each is live.
 fn are_live(certs: &[Arc<Cert>], moment: u64) -> bool
-    ensures { IsTrue result
-        → live_marks (certificates certs.now) moment ≡ replicate (length certs.now) true }
+    ensures { IsTrue result ↔ All (IsLive moment) (certificates certs.now) }
 {
     for cert in certs {
         if !cert.is_live(moment) {
@@ -116,7 +115,7 @@ fn are_live(certs: &[Arc<Cert>], moment: u64) -> bool
 }
 
 // What is missing, where the live certificates grant nothing and the decider was asked about them.
-// Where none has ended, it is not asked again.
+// Where each is live, it is not asked again.
 fn link_of<D: Decide>(
     bench: &mut D,
     anchors: &[Anchor],

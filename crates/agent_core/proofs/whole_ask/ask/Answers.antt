@@ -1,5 +1,5 @@
 -- the Ask's step, and what it came to, make the whole
-use Rattle.std.proofs.Common.{◌≡◌, ◌∙◌, ap₂, Some, slice_get, List, length, replicate, true, sym, ap, subst, inl, refl}
+use Rattle.std.proofs.Common.{◌≡◌, ◌∙◌, ap₂, Some, slice_get, List, length, replicate, true, sym, ap, subst}
 use Rattle.stmt_codec.specs.View.{certificates}
 use Rattle.taos_calculus.specs.Question.{IsAskable}
 use Rattle.agent_core.specs.Plans.{AreShards, home}
@@ -10,23 +10,24 @@ use Rattle.agent_core.specs.declared.asked.Verdict.TheVariants as verdict
 use Rattle.agent_core.specs.Journals.{IsKeepable}
 use Rattle.agent_core.specs.Asked.{IsGrantedBy, IsDeniedBy}
 use Rattle.agent_core.specs.Settling.{KeptAs, Settles}
-use Rattle.agent_core.specs.Steps.{StepRefused, seen_at}
+use Rattle.agent_core.specs.Shards.{shard_at}
+use Rattle.agent_core.specs.Steps.{StepRefused}
 use Rattle.agent_core.specs.State.{Plan, Ask, Keeps}
 use Rattle.agent_core.specs.Views.{ask_of}
-use Rattle.agent_core.proofs.Asks.{on_err, refused_asks, missed_step, replayed_ends, full_ends, journal_full_ends, hit_ends, hit_made, other_never, judged_by, denied_asks, unanswered_asks, ends_made, standing, askable, anchors_are}
+use Rattle.agent_core.proofs.Asks.{on_err, lacked_asks, missed_step, replayed_ends, full_ends, journal_full_ends, hit_ends, hit_made, leaves_twice, other_never, judged_by, denied_asks, unanswered_asks, ends_made, standing, askable, anchors_are}
 use Rattle.agent_core.proofs.Granting.{granted_as, kept_asks, may_keep, unkept_asks}
 use Rattle.denial_link.proofs.Places.{certificate_count}
 use Rattle.agent_core.proofs.whole_ask.ask.Goals as goal
 
 pub returns-in_err-place-clause-unanswered : goal.returns-in_err-place-clause-unanswered
-returns-in_err-place-clause-unanswered g c plan at = on_err c.from_residual.result (refused_asks _ _ (c.in_err-place.ensures.refused plan at) (inl refl))
+returns-in_err-place-clause-unanswered g c plan at = on_err c.from_residual.result (lacked_asks _ (c.in_err-place.ensures.refused plan at))
 
 pub settle-requires : goal.settle-requires
 settle-requires g c =
-    let plans : List Plan = g.S.Shards.plans c.args.shards.now in
+    let plans : List Plan = (g.S.Shards.shown c.args.shards.now).plans in
     let (plan, at) = standing plans (home plans c.args.asked.value.channel) c.in_ok-place.ensures.there in
     let s = missed_step (c.in_ok-place.ensures.steps plan at) c.in-Miss.snapshot c.in-Miss.is in
-    let are = subst (λ p. AreShards p c.anchors.result.now) c.in_ok-place.ensures.plans c.anchors.ensures in
+    let are = subst (λ p. AreShards p c.anchors.result.now) c.in_ok-place.ensures.rest.plans c.anchors.ensures in
     let certs = certificates c.in-Miss.snapshot.certs.items in
     subst (λ (x : Ask). IsAskable c.anchors.result.now certs (replicate (length c.in-Miss.snapshot.certs.items) true) x.subject x.list) (sym (ap ask_of c.deref.ensures))
     (askable plans c.anchors.result.now are (home plans c.args.asked.value.channel) plan at s.before (ask_of c.args.asked.value) c.in-Miss.snapshot.moment certs (length c.in-Miss.snapshot.certs.items)
@@ -34,62 +35,59 @@ settle-requires g c =
 
 pub returns-in_err-entry-in-Miss-clause-unanswered : goal.returns-in_err-entry-in-Miss-clause-unanswered
 returns-in_err-entry-in-Miss-clause-unanswered g c plan at =
-    let plans : List Plan = g.S.Shards.plans c.args.shards.now in
+    let plans : List Plan = (g.S.Shards.shown c.args.shards.now).plans in
     let s = missed_step (c.in_ok-place.ensures.steps plan at) c.in-Miss.snapshot c.in-Miss.is in
-    let are = subst (λ p. AreShards p c.anchors.result.now) c.in_ok-place.ensures.plans c.anchors.ensures in
+    let are = subst (λ p. AreShards p c.anchors.result.now) c.in_ok-place.ensures.rest.plans c.anchors.ensures in
     on_err c.from_residual-in_err-entry-in-Miss.result
     (unanswered_asks _ _ _ _ s c.anchors.result.now (anchors_are plans c.anchors.result.now are (home plans c.args.asked.value.channel) plan at)
     (ask_of c.deref.result.now) (ap ask_of c.deref.ensures) c.in_err-entry-in-Miss.ensures.wanted)
 
 pub keep_at_home-requires-clause-meant : goal.keep_at_home-requires-clause-meant
 keep_at_home-requires-clause-meant g c = λ lifetimes lives plan at.
-    let plans : List Plan = g.S.Shards.plans c.args.shards.now in
-    let same : g.S.Shards.plans c.step_at_home.new.shards ≡ plans = c.in_ok-place.ensures.plans in
-    let here : home (g.S.Shards.plans c.step_at_home.new.shards) c.deref-in-Granted.result.now.channel ≡ home plans c.args.asked.value.channel = ap₂ home same (ap (λ (x : Ask). x.channel) (ap ask_of c.deref-in-Granted.ensures)) in
+    let plans : List Plan = (g.S.Shards.shown c.args.shards.now).plans in
+    let same : (g.S.Shards.shown c.step_at_home.new.shards).plans ≡ plans = c.in_ok-place.ensures.rest.plans in
+    let here : home ((g.S.Shards.shown c.step_at_home.new.shards).plans) c.deref-in-Granted.result.now.channel ≡ home plans c.args.asked.value.channel = ap₂ home same (ap (λ (x : Ask). x.channel) (ap ask_of c.deref-in-Granted.ensures)) in
     let there : slice_get plans (home plans c.args.asked.value.channel) ≡ Some plan = ap₂ (λ (l : List Plan) n. slice_get l n) (sym same) (sym here) ∙ at in
     let s = missed_step (c.in_ok-place.ensures.steps plan there) c.in-Miss.snapshot c.in-Miss.is in
-    let are = subst (λ p. AreShards p c.anchors.result.now) c.in_ok-place.ensures.plans c.anchors.ensures in
+    let are = subst (λ p. AreShards p c.anchors.result.now) c.in_ok-place.ensures.rest.plans c.anchors.ensures in
     let certs = certificates c.in-Miss.snapshot.certs.items in
     let kept : Cached = cached (arc_value {X = CachedValue} c.in-Granted.cached) in
     let grant : IsGrantedBy c.anchors.result.now certs c.in-Miss.snapshot.moment (ask_of c.deref.result.now) c.in-Granted.entry kept =
     subst (Settles c.anchors.result.now certs c.in-Miss.snapshot.moment (ask_of c.deref.result.now)) c.in-Granted.is c.in_ok-entry-in-Miss.ensures.settled in
-    subst (λ n. IsKeepable plan (g.S.Shards.seen c.step_at_home.new.shards n) c.in_ok-place.place c.in-Granted.entry kept) (sym here)
+    subst (λ n. IsKeepable plan ((g.S.Shards.shown c.step_at_home.new.shards).seen n) c.in_ok-place.place c.in-Granted.entry kept) (sym here)
     (may_keep (ask_of c.args.asked.value) c.in_ok-place.place c.in-Miss.snapshot.moment certs s c.in-Granted.entry kept
     (granted_as c.anchors.result.now plan.anchors (anchors_are plans c.anchors.result.now are (home plans c.args.asked.value.channel) plan there)
     (ask_of c.args.asked.value) (ask_of c.deref.result.now) (ap ask_of c.deref.ensures) certs c.in-Miss.snapshot.moment c.in-Granted.entry kept grant))
 
 pub returns-in_err-settled-in-Granted-clause-unanswered : goal.returns-in_err-settled-in-Granted-clause-unanswered
 returns-in_err-settled-in-Granted-clause-unanswered g c plan at =
-    let plans : List Plan = g.S.Shards.plans c.args.shards.now in
-    let mid = c.step_at_home.new.shards in
-    let later = c.keep_at_home.new.shards in
-    let same : g.S.Shards.plans mid ≡ plans = c.in_ok-place.ensures.plans in
-    let here : home (g.S.Shards.plans mid) c.deref-in-Granted.result.now.channel ≡ home plans c.args.asked.value.channel = ap₂ home same (ap (λ (x : Ask). x.channel) (ap ask_of c.deref-in-Granted.ensures)) in
-    let there : slice_get (g.S.Shards.plans mid) (home (g.S.Shards.plans mid) c.deref-in-Granted.result.now.channel) ≡ Some plan = ap₂ (λ (l : List Plan) n. slice_get l n) same here ∙ at in
+    let plans : List Plan = (g.S.Shards.shown c.args.shards.now).plans in
+    let mid = g.S.Shards.shown c.step_at_home.new.shards in
+    let later = g.S.Shards.shown c.keep_at_home.new.shards in
+    let same : mid.plans ≡ plans = c.in_ok-place.ensures.rest.plans in
+    let here : home (mid.plans) c.deref-in-Granted.result.now.channel ≡ home plans c.args.asked.value.channel = ap₂ home same (ap (λ (x : Ask). x.channel) (ap ask_of c.deref-in-Granted.ensures)) in
+    let there : slice_get (mid.plans) (home (mid.plans) c.deref-in-Granted.result.now.channel) ≡ Some plan = ap₂ (λ (l : List Plan) n. slice_get l n) same here ∙ at in
     let s = missed_step (c.in_ok-place.ensures.steps plan at) c.in-Miss.snapshot c.in-Miss.is in
     let are = subst (λ p. AreShards p c.anchors.result.now) same c.anchors.ensures in
     let certs = certificates c.in-Miss.snapshot.certs.items in
     let kept : Cached = cached (arc_value {X = CachedValue} c.in-Granted.cached) in
     let grant : IsGrantedBy c.anchors.result.now certs c.in-Miss.snapshot.moment (ask_of c.deref.result.now) c.in-Granted.entry kept =
     subst (Settles c.anchors.result.now certs c.in-Miss.snapshot.moment (ask_of c.deref.result.now)) c.in-Granted.is c.in_ok-entry-in-Miss.ensures.settled in
-    let refused =
-    subst (λ al. StepRefused plan (seen_at al (g.S.Shards.seen mid) (g.S.Shards.own mid) (home plans c.args.asked.value.channel)) (seen_at al (g.S.Shards.seen later) (g.S.Shards.own later) (home plans c.args.asked.value.channel))) c.in_ok-place.ensures.alone
-    (subst (λ n. StepRefused plan (seen_at (g.S.Shards.alone mid) (g.S.Shards.seen mid) (g.S.Shards.own mid) n) (seen_at (g.S.Shards.alone mid) (g.S.Shards.seen later) (g.S.Shards.own later) n)) here
-    (c.in_err-settled-in-Granted.ensures.refused plan there)) in
+    let refused = subst (λ n. StepRefused plan (shard_at mid n) (shard_at later n)) here (c.in_err-settled-in-Granted.ensures.refused plan there) in
     on_err c.from_residual-in_err-settled-in-Granted.result
     (unkept_asks (ask_of c.args.asked.value) c.in_ok-place.place c.in-Miss.snapshot.moment certs s c.in-Granted.entry kept
     (granted_as c.anchors.result.now plan.anchors (anchors_are plans c.anchors.result.now are (home plans c.args.asked.value.channel) plan at)
     (ask_of c.args.asked.value) (ask_of c.deref.result.now) (ap ask_of c.deref.ensures) certs c.in-Miss.snapshot.moment c.in-Granted.entry kept grant)
-    (seen_at (g.S.Shards.alone c.args.shards.now) (g.S.Shards.seen later) (g.S.Shards.own later) (home plans c.args.asked.value.channel)) refl refused)
+    (shard_at later (home plans c.args.asked.value.channel)) c.in_ok-place.ensures.rest.alone refused)
 
 pub returns-in-Granted-clause-asked : goal.returns-in-Granted-clause-asked
 returns-in-Granted-clause-asked g c plan at =
-    let plans : List Plan = g.S.Shards.plans c.args.shards.now in
-    let mid = c.step_at_home.new.shards in
-    let later = c.keep_at_home.new.shards in
-    let same : g.S.Shards.plans mid ≡ plans = c.in_ok-place.ensures.plans in
-    let here : home (g.S.Shards.plans mid) c.deref-in-Granted.result.now.channel ≡ home plans c.args.asked.value.channel = ap₂ home same (ap (λ (x : Ask). x.channel) (ap ask_of c.deref-in-Granted.ensures)) in
-    let there : slice_get (g.S.Shards.plans mid) (home (g.S.Shards.plans mid) c.deref-in-Granted.result.now.channel) ≡ Some plan = ap₂ (λ (l : List Plan) n. slice_get l n) same here ∙ at in
+    let plans : List Plan = (g.S.Shards.shown c.args.shards.now).plans in
+    let mid = g.S.Shards.shown c.step_at_home.new.shards in
+    let later = g.S.Shards.shown c.keep_at_home.new.shards in
+    let same : mid.plans ≡ plans = c.in_ok-place.ensures.rest.plans in
+    let here : home (mid.plans) c.deref-in-Granted.result.now.channel ≡ home plans c.args.asked.value.channel = ap₂ home same (ap (λ (x : Ask). x.channel) (ap ask_of c.deref-in-Granted.ensures)) in
+    let there : slice_get (mid.plans) (home (mid.plans) c.deref-in-Granted.result.now.channel) ≡ Some plan = ap₂ (λ (l : List Plan) n. slice_get l n) same here ∙ at in
     let s = missed_step (c.in_ok-place.ensures.steps plan at) c.in-Miss.snapshot c.in-Miss.is in
     let are = subst (λ p. AreShards p c.anchors.result.now) same c.anchors.ensures in
     let certs = certificates c.in-Miss.snapshot.certs.items in
@@ -97,21 +95,31 @@ returns-in-Granted-clause-asked g c plan at =
     let settled = c.in_ok-settled-in-Granted.settled in
     let grant : IsGrantedBy c.anchors.result.now certs c.in-Miss.snapshot.moment (ask_of c.deref.result.now) c.in-Granted.entry kept =
     subst (Settles c.anchors.result.now certs c.in-Miss.snapshot.moment (ask_of c.deref.result.now)) c.in-Granted.is c.in_ok-entry-in-Miss.ensures.settled in
-    let became =
-    subst (λ al. KeptAs plan (seen_at al (g.S.Shards.seen mid) (g.S.Shards.own mid) (home plans c.args.asked.value.channel))
-    (seen_at al (g.S.Shards.seen later) (g.S.Shards.own later) (home plans c.args.asked.value.channel)) (Keeps c.in_ok-place.place c.in-Granted.entry kept) settled) c.in_ok-place.ensures.alone
-    (subst (λ n. KeptAs plan (seen_at (g.S.Shards.alone mid) (g.S.Shards.seen mid) (g.S.Shards.own mid) n) (seen_at (g.S.Shards.alone mid) (g.S.Shards.seen later) (g.S.Shards.own later) n) (Keeps c.in_ok-place.place c.in-Granted.entry kept) settled) here
-    (c.in_ok-settled-in-Granted.ensures.kept plan there)) in
+    let became = subst (λ n. KeptAs plan (shard_at mid n) (shard_at later n) (Keeps c.in_ok-place.place c.in-Granted.entry kept) settled) here (c.in_ok-settled-in-Granted.ensures.kept plan there) in
     kept_asks (ask_of c.args.asked.value) c.in_ok-place.place c.in-Miss.snapshot.moment certs s c.in-Granted.entry kept
     (granted_as c.anchors.result.now plan.anchors (anchors_are plans c.anchors.result.now are (home plans c.args.asked.value.channel) plan at)
     (ask_of c.args.asked.value) (ask_of c.deref.result.now) (ap ask_of c.deref.ensures) certs c.in-Miss.snapshot.moment c.in-Granted.entry kept grant)
-    (seen_at (g.S.Shards.alone c.args.shards.now) (g.S.Shards.seen later) (g.S.Shards.own later) (home plans c.args.asked.value.channel)) refl settled became
+    (shard_at later (home plans c.args.asked.value.channel)) c.in_ok-place.ensures.rest.alone settled became
+
+pub returns-in_err-settled-in-Granted-clause-rest : goal.returns-in_err-settled-in-Granted-clause-rest
+returns-in_err-settled-in-Granted-clause-rest g c =
+    let before = g.S.Shards.shown c.args.shards.now in
+    let mid = g.S.Shards.shown c.step_at_home.new.shards in
+    let here : home mid.plans c.deref-in-Granted.result.now.channel ≡ home before.plans c.args.asked.value.channel = ap₂ home c.in_ok-place.ensures.rest.plans (ap (λ (x : Ask). x.channel) (ap ask_of c.deref-in-Granted.ensures)) in
+    leaves_twice before mid (g.S.Shards.shown c.keep_at_home.new.shards) (home before.plans c.args.asked.value.channel) (home mid.plans c.deref-in-Granted.result.now.channel) here c.in_ok-place.ensures.rest c.in_err-settled-in-Granted.ensures.rest
+
+pub returns-in-Granted-clause-rest : goal.returns-in-Granted-clause-rest
+returns-in-Granted-clause-rest g c =
+    let before = g.S.Shards.shown c.args.shards.now in
+    let mid = g.S.Shards.shown c.step_at_home.new.shards in
+    let here : home mid.plans c.deref-in-Granted.result.now.channel ≡ home before.plans c.args.asked.value.channel = ap₂ home c.in_ok-place.ensures.rest.plans (ap (λ (x : Ask). x.channel) (ap ask_of c.deref-in-Granted.ensures)) in
+    leaves_twice before mid (g.S.Shards.shown c.keep_at_home.new.shards) (home before.plans c.args.asked.value.channel) (home mid.plans c.deref-in-Granted.result.now.channel) here c.in_ok-place.ensures.rest c.in_ok-settled-in-Granted.ensures.rest
 
 pub returns-in-Miss-clause-asked : goal.returns-in-Miss-clause-asked
 returns-in-Miss-clause-asked g c plan at =
-    let plans : List Plan = g.S.Shards.plans c.args.shards.now in
+    let plans : List Plan = (g.S.Shards.shown c.args.shards.now).plans in
     let s = missed_step (c.in_ok-place.ensures.steps plan at) c.in-Miss.snapshot c.in-Miss.is in
-    let are = subst (λ p. AreShards p c.anchors.result.now) c.in_ok-place.ensures.plans c.anchors.ensures in
+    let are = subst (λ p. AreShards p c.anchors.result.now) c.in_ok-place.ensures.rest.plans c.anchors.ensures in
     let certs = certificates c.in-Miss.snapshot.certs.items in
     let denied : IsDeniedBy c.anchors.result.now certs c.in-Miss.snapshot.moment (ask_of c.deref.result.now) c.in-Denied.denial =
     subst (Settles c.anchors.result.now certs c.in-Miss.snapshot.moment (ask_of c.deref.result.now)) c.in-Denied.is c.in_ok-entry-in-Miss.ensures.settled in
@@ -136,6 +144,6 @@ returns-in-Hit-clause-asked g c plan at =
 
 pub unreachable-requires : goal.unreachable-requires
 unreachable-requires g c =
-    let plans : List Plan = g.S.Shards.plans c.args.shards.now in
+    let plans : List Plan = (g.S.Shards.shown c.args.shards.now).plans in
     let (plan, at) = standing plans (home plans c.args.asked.value.channel) c.in_ok-place.ensures.there in
     other_never (c.in_ok-place.ensures.steps plan at) c.in-Kept.is

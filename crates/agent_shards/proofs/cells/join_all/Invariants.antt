@@ -1,5 +1,5 @@
 use Rattle.turn_cell.specs.Known.{IsPassOf}
-use Rattle.std.proofs.Common.{◌++◌, List}
+use Rattle.std.proofs.Common.{List}
 use Rattle.agent_shards.specs.Cells.{IsJoined}
 use Rattle.agent_shards.proofs.Rows.{Leaving, Turning}
 use Rattle.agent_shards.proofs.cells.join_all.Given as goal

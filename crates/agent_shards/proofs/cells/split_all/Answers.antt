@@ -1,5 +1,5 @@
 -- the pass of one cell more was split
-use Rattle.std.proofs.Common.{rules, ◌<◌, List, [], sym, subst, arith}
+use Rattle.std.proofs.Common.{rules, ◌<◌, sym, subst, arith}
 use Rattle.turn_cell.specs.Known.{IsPassOf}
 use Rattle.agent_shards.specs.Cells.{IsSplit}
 use Rattle.agent_shards.proofs.Rows.{Turning, turning_end, turning_next, turning_start, zip_all}

@@ -1,7 +1,16 @@
 -- what was entered goes on from what was seen, and the shard's step from there
+use Rattle.std.proofs.Common.{subst, sym}
+use Rattle.agent_core.specs.Journals.{IsMeant}
+use Rattle.agent_core.specs.State.{Plan}
 use Rattle.agent_core.specs.Views.{event_of}
-use Rattle.agent_shards.proofs.Seats.{cell_legal, cell_steps}
+use Rattle.agent_shards.proofs.Seats.{cell_legal, cell_steps, meant_grows}
 use Rattle.agent_shards.proofs.stepping.step_in.Goals as goal
+
+pub step-answer-requires-clause-meant : goal.step-answer-requires-clause-meant
+step-answer-requires-clause-meant g c =
+    let n = c.enter-machine.ensures in
+    subst (λ (p : Plan). IsMeant p c.enter-machine.result.0.journal (event_of c.args.event)) (sym n.fixed)
+    (meant_grows c.args.cell.now.fixed c.args.pass.seen c.enter-machine.result.0.journal (event_of c.args.event) n.journal c.requires.meant)
 
 pub returns-clause-pass : goal.returns-clause-pass
 returns-clause-pass g c = let n = c.enter-machine.ensures in let o = c.leave.ensures in record {

@@ -1,7 +1,6 @@
 -- the pass is back in its place, with at most one own place more
-use Rattle.std.proofs.Common.{ap, List, length, sym, ◌∙◌}
 use Rattle.std.proofs.lemmas.Option.{slice_get_within}
-use Rattle.agent_shards.proofs.Shelves.{given_back, may_give}
+use Rattle.agent_shards.proofs.Shelves.{given_back}
 use Rattle.agent_shards.proofs.taking.leave_at.Goals as goal
 
 pub returns : goal.returns

@@ -1,11 +1,15 @@
 -- what is asked about all is what the marks of all say
-use Rattle.std.proofs.Common.{length, true, map, arith, sym}
+use Rattle.std.proofs.Common.{◌<◌, length, true, map, arith, sym, subst, ◌∙◌}
+use Rattle.std.proofs.lemmas.Bool.{false≢true}
 use Rattle.std.proofs.lemmas.List.{length-map, take-replicate}
 use Rattle.std.proofs.lemmas.Option.{slice_get_within}
 use Rattle.prin_term.specs.View.{grant, principal}
-use Rattle.denial_link.specs.Links.{expired, no_entry}
+use Rattle.denial_link.specs.Links.{early, expired, no_entry}
+use Rattle.stmt_codec.specs.declared.cert.Cert.{Cert}
+use Rattle.stmt_codec.specs.Certificates.{certificate, IsDead}
 use Rattle.stmt_codec.specs.View.{certificates}
-use Rattle.denial_link.proofs.Places.{certificate_count, entry_in}
+use Rattle.denial_link.proofs.Places.{certificate_at, certificate_count, entry_in}
+use Rattle.denial_link.proofs.Reviving.{needed_dead, needed_early, needed_there}
 use Rattle.denial_link.proofs.Entries.{part_of_subject, part_of_entry, link_missing, small_entry}
 use Rattle.denial_link.proofs.first.first_link.Goals as goal
 
@@ -35,8 +39,25 @@ lacking-node-requires-clause-small g c =
     let at = entry_in c.args.list.now c.in-Some.first c.index-list-first.result (omega (arith, within, length-map c.args.list.now grant)) in
     small_entry (map grant c.args.list.now) c.in-Some.first _ c.requires.askable.entries_fit at
 
-pub returns-in-Some-first_revived : goal.returns-in-Some-first_revived
-returns-in-Some-first_revived g c = let r = c.in-Some-first_revived.ensures in expired r.entry r.first r.needed
+pub bounds-certs-cert : goal.bounds-certs-cert
+bounds-certs-cert g c = omega (arith, needed_there c.in-Some-first_revived.ensures.needed, certificate_count c.args.certs.now)
+
+pub returns-then-is_dead : goal.returns-then-is_dead
+returns-then-is_dead g c =
+    let r = c.in-Some-first_revived.ensures in
+    let within : c.in-Some-first_revived.field-0.cert < length c.args.certs.now = omega (arith, needed_there r.needed, certificate_count c.args.certs.now) in
+    let at = certificate_at c.args.certs.now c.in-Some-first_revived.field-0.cert c.index-certs-cert.result c.index-certs-cert.is within in
+    let dead = subst (λ (x : Cert). IsDead c.args.moment (certificate x.body)) c.deref.ensures (c.is_dead.ensures.dead.0 c.if-is_dead.true) in
+    expired r.entry r.first r.needed (needed_dead r.needed (certificate c.index-certs-cert.result.value.body) at dead)
+
+pub returns-else-is_dead : goal.returns-else-is_dead
+returns-else-is_dead g c =
+    let r = c.in-Some-first_revived.ensures in
+    let within : c.in-Some-first_revived.field-0.cert < length c.args.certs.now = omega (arith, needed_there r.needed, certificate_count c.args.certs.now) in
+    let at = certificate_at c.args.certs.now c.in-Some-first_revived.field-0.cert c.index-certs-cert.result c.index-certs-cert.is within in
+    let not_dead : IsDead c.args.moment (certificate c.index-certs-cert.result.value.body) → ⊥ =
+    λ dead. false≢true (sym c.if-is_dead.false ∙ c.is_dead.ensures.dead.1 (subst (λ (x : Cert). IsDead c.args.moment (certificate x.body)) (sym c.deref.ensures) dead)) in
+    early r.entry r.first r.needed (needed_early r.needed (certificate c.index-certs-cert.result.value.body) at not_dead)
 
 pub returns : goal.returns
 returns g c =

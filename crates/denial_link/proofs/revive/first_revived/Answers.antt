@@ -23,7 +23,7 @@ pub loop-n-preserved : goal.loop-n-preserved
 loop-n-preserved g c =
     let anchors = c.args.anchors.now in
     let certs = certificates c.args.certs.now in
-    let places : List ℕ = c.dead_in_order-places.result.items in
+    let places : List ℕ = c.out_in_order-places.result.items in
     let subject = principal c.args.subject.now in
     let list = map grant c.args.list.now in
     let n : ℕ = c.loop-n.n in
@@ -39,7 +39,7 @@ loop-n-preserved g c =
           let cert : ℕ = get_or used n 0 in
           let stands : slice_get places n ≡ Some cert = slice_get-get_or places n 0 inside ∙ ap (λ (ps : List ℕ). Some (get_or ps n 0)) (sym w.deref-in-Some.ensures.0) in
           let r : Revival = record { entry = w.in-Some.entry; cert = cert } in
-          let found = found_now anchors certs c.args.moment places subject list c.args.right c.loop-n.end n w.in-Some.entry cert f.1 r c.dead_in_order-places.ensures c.loop-n.invariant.none f.0 first stands refl refl in
+          let found = found_now anchors certs c.args.moment places subject list c.args.right c.loop-n.end n w.in-Some.entry cert f.1 r c.out_in_order-places.ensures c.loop-n.invariant.none f.0 first stands refl refl in
           record {
             end_in = omega (arith, w.end-is, f.0, c.loop-n.invariant.end_in);
             none = subst (λ (k : ℕ). NoneBefore list c.args.right (Enough anchors certs c.args.moment places subject list c.args.right (n + 1)) k) (sym w.end-is) first.first;
@@ -59,5 +59,5 @@ loop-n-preserved g c =
 
 pub returns : goal.returns
 returns g c =
-    revived_ends c.args.anchors.now (certificates c.args.certs.now) c.args.moment c.dead_in_order-places.result.items (principal c.args.subject.now) (map grant c.args.list.now) c.args.right
-    c.dead_in_order-places.ensures c.loop-n.n (omega arith) c.loop-n.found c.loop-n.end (length c.args.list.now) (sym (length-map c.args.list.now grant)) c.loop-n.invariant.none c.loop-n.invariant.found
+    revived_ends c.args.anchors.now (certificates c.args.certs.now) c.args.moment c.out_in_order-places.result.items (principal c.args.subject.now) (map grant c.args.list.now) c.args.right
+    c.out_in_order-places.ensures c.loop-n.n (omega arith) c.loop-n.found c.loop-n.end (length c.args.list.now) (sym (length-map c.args.list.now grant)) c.loop-n.invariant.none c.loop-n.invariant.found

@@ -2,4 +2,4 @@ use Rattle.shard_tests.specs.Seats.{HasChannel}
 use Rattle.shard_tests.proofs.tasks.present.Given as goal
 
 abbrev pub invariant-loop-more : goal.invariant-loop-more
-invariant-loop-more g l = HasChannel (g.S.Shards.plans l.shards) 2
+invariant-loop-more g l = HasChannel (g.S.Shards.shown l.shards).plans 2

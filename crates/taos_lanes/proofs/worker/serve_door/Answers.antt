@@ -33,7 +33,7 @@ pub loop-tally-preserved : goal.loop-tally-preserved
 loop-tally-preserved g c =
     let was = c.loop-tally.invariant in
     let it = c.serve_connection-outcome.ensures in
-    let v : Visit (node_of c.args.keys.now (g.S.Shards.plans c.args.desk.now.shards) (g.H.Shelf.objects c.args.desk.now.shelf)) c.args.limits.frames = record {
+    let v : Visit (node_of c.args.keys.now (g.S.Shards.shown c.args.desk.now.shards).plans (g.H.Shelf.shown c.args.desk.now.shelf).objects) c.args.limits.frames = record {
       before = _;
       after = _;
       outcome = _;

@@ -2,7 +2,7 @@
 use Rattle.std.proofs.Common.{refl, sym, subst}
 use Rattle.std.specs.Prelude.{IsSome}
 use Rattle.taos_wire.specs.View.{request as request_of}
-use Rattle.taos_monitor.specs.Cells.{alone_of, viewed}
+use Rattle.taos_monitor.specs.Cells.{alone_of, shards_in, objects_in}
 use Rattle.taos_monitor.proofs.Payloads.{texts_short}
 use Rattle.taos_monitor.proofs.Courses.{unasked_to, answers_as}
 use Rattle.taos_monitor.proofs.answering.answer_with.Goals as goal
@@ -26,6 +26,6 @@ returns-in-Ok-clause-answered g c =
 
 pub returns-in-Err-clause-answered : goal.returns-in-Err-clause-answered
 returns-in-Err-clause-answered g c =
-    unasked_to c.args.keys.now (g.S.Shards.plans c.args.shards.now) (g.H.Shelf.objects c.args.shelf.now) (alone_of (g.S.Shards.alone c.args.shards.now) (g.H.Shelf.alone c.args.shelf.now)) (g.R.RelayLink.shown c.args.relay.now)
-    (viewed (g.S.Shards.seen c.args.shards.now) (g.S.Shards.own c.args.shards.now)) (viewed (g.H.Shelf.seen c.args.shelf.now) (g.H.Shelf.own c.args.shelf.now)) (g.C.Clock.shown c.args.clock.now) c.args.payload.now c.in-Err.why c.leave_unsealed.new.self
+    unasked_to c.args.keys.now (g.S.Shards.shown c.args.shards.now).plans (g.H.Shelf.shown c.args.shelf.now).objects (alone_of (g.S.Shards.shown c.args.shards.now).alone (g.H.Shelf.shown c.args.shelf.now).alone) (g.R.RelayLink.shown c.args.relay.now)
+    (shards_in (g.S.Shards.shown c.args.shards.now)) (objects_in (g.H.Shelf.shown c.args.shelf.now)) (g.C.Clock.shown c.args.clock.now) c.args.payload.now c.in-Err.why c.leave_unsealed.new.self
     c.are_legal.ensures.legal c.in-Err.ensures.refused c.leave_unsealed.ensures.reply c.leave_unsealed.ensures.short

@@ -25,7 +25,7 @@ returns-in_err-certs-clause-refused g c =
     rw (p.1, p.2) (record {
       calls = stops.calls;
       linked = stops.linked;
-      course = λ plans past J payload key asked. not_opened (node_of c.args.keys.now plans (g.H.Shelf.objects c.args.shelf.now)) past J r stops.calls f stops.stops payload key asked;
+      course = λ plans past J payload key asked. not_opened (node_of c.args.keys.now plans (g.H.Shelf.shown c.args.shelf.now).objects) past J r stops.calls f stops.stops payload key asked;
     })
 
 pub returns-then-not-has-clause-refused : goal.returns-then-not-has-clause-refused
@@ -38,7 +38,7 @@ returns-then-not-has-clause-refused g c =
       calls = came.calls;
       linked = quiet_linked c.args.keys.now.node (g.R.RelayLink.shown c.args.relay.now) (g.R.RelayLink.shown c.open_all.new.relay) came.calls came.quiet;
       course = λ plans past J payload key asked.
-          unknown_object (record { asked = asked; opened = came.opened }) (none_of (fixed_at (g.H.Shelf.objects c.args.shelf.now) r.object) (λ is. false≢true (c.if-not-has.ensures.there.1 is)));
+          unknown_object (record { asked = asked; opened = came.opened }) (none_of (fixed_at (g.H.Shelf.shown c.args.shelf.now).objects r.object) (λ is. false≢true (c.if-not-has.ensures.1 is)));
     }
 
 pub returns-in_err-speaker_of-clause-refused : goal.returns-in_err-speaker_of-clause-refused
@@ -60,7 +60,7 @@ returns-clause-arrived g c =
     let came = subst (λ (k : List ℕ). AllCome k (link_use c.args.keys.now.node (g.R.RelayLink.shown c.args.relay.now) (g.R.RelayLink.shown c.open_all.new.relay)) (map text_of c.args.asked.now.certs.items) (map shared c.in_ok-certs.certs.items)) c.requires.key (subst (λ (l : List (Vec ℕ Global)). AllCome c.args.opened.now
     (link_use c.args.keys.now.node (g.R.RelayLink.shown c.args.relay.now) (g.R.RelayLink.shown c.open_all.new.relay)) (map text_of l)
     (map shared c.in_ok-certs.certs.items)) c.deref.ensures.value c.in_ok-certs.ensures.came) in
-    let object = some_of (fixed_at (g.H.Shelf.objects c.args.shelf.now) r.object) (c.if-not-has.ensures.there.0 refl) in
+    let object = some_of (fixed_at (g.H.Shelf.shown c.args.shelf.now).objects r.object) (c.if-not-has.ensures.0 refl) in
     record {
       calls = came.calls;
       linked = quiet_linked c.args.keys.now.node (g.R.RelayLink.shown c.args.relay.now) (g.R.RelayLink.shown c.open_all.new.relay) came.calls came.quiet;

@@ -1,18 +1,17 @@
 -- The service's states are told by the setting, which stays, and by what its answers change.
 use Rattle.std.proofs.Common.{refl, ap}
 use Rattle.frame_link.specs.Outside.{outside_of}
-use Rattle.taos_monitor.specs.Arriving.{node_of}
-use Rattle.taos_monitor.specs.Cells.{OfShard, OfObject, alone_of, viewed}
+use Rattle.taos_monitor.specs.Cells.{OfShard, OfObject}
 use Rattle.taos_monitor.specs.Serving.{state_of}
-use Rattle.taos_monitor.specs.World.{Setting, setting_of, world_of}
+use Rattle.taos_monitor.specs.World.{Setting, setting_by, world_by}
 use Rattle.taos_monitor.proofs.Connections.{connects, connection_by, four_names}
 use Rattle.taos_monitor.proofs.connection.serve_by.Goals as goal
 
 pub returns : goal.returns
 returns g c =
     let told = connection_by
-    (λ s. state_of (setting_of (node_of s.keys.now (g.S.Shards.plans s.shards.now) (g.H.Shelf.objects s.shelf.now)) (alone_of (g.S.Shards.alone s.shards.now) (g.H.Shelf.alone s.shelf.now)))
-    (world_of (outside_of (g.C.Clock.shown s.clock.now) (g.R.RelayLink.shown s.relay.now)) (viewed (g.S.Shards.seen s.shards.now) (g.S.Shards.own s.shards.now)) (viewed (g.H.Shelf.seen s.shelf.now) (g.H.Shelf.own s.shelf.now))))
+    (λ s. state_of (setting_by s.keys.now (g.S.Shards.shown s.shards.now) (g.H.Shelf.shown s.shelf.now))
+    (world_by (outside_of (g.C.Clock.shown s.clock.now) (g.R.RelayLink.shown s.relay.now)) (g.S.Shards.shown s.shards.now) (g.H.Shelf.shown s.shelf.now)))
     _ c.args.frames _ _ c.serve_frames.result refl c.requires.legal c.serve_frames.ensures.served in
     let names = four_names _ _ _ _ _ _ _ _ c.serve_frames.ensures.same in
     record {

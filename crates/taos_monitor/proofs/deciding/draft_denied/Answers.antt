@@ -18,7 +18,7 @@ use Rattle.agent_core.specs.declared.asked.Denial.{Denial}
 use Rattle.taos_monitor.specs.Asking.{TellsDenial}
 use Rattle.taos_monitor.specs.Ruling.{HasPart}
 use Rattle.taos_monitor.proofs.Parts.{part_fits}
-use Rattle.taos_monitor.proofs.deciding.draft_denied.Goals.{in-Expired, in-NoEntry}
+use Rattle.taos_monitor.proofs.deciding.draft_denied.Goals.{in-Expired, in-Early, in-NoEntry}
 use Rattle.taos_monitor.proofs.deciding.draft_denied.Goals as goal
 
 pub draft_missing-requires : goal.draft_missing-requires
@@ -58,6 +58,7 @@ draft-requires-clause-limits c = (
   omega (arith, c.ranges.place.fits),
   elim c.match-denial.branch [
     | in-Expired w ↦ subst (λ (l : LinkValue). FitsLink (link l)) (sym w.link-is) (subst (HasPart (map grant c.args.list.now)) w.in-Expired.is c.requires.named)
+    | in-Early w ↦ subst (λ (l : LinkValue). FitsLink (link l)) (sym w.link-is) (subst (HasPart (map grant c.args.list.now)) w.in-Early.is c.requires.named)
     | in-NoEntry w ↦ subst (λ (l : LinkValue). FitsLink (link l)) (sym w.link-is) tt
   ],
 )

@@ -1,6 +1,5 @@
 -- each shard that is due is stepped, up to one that does not do it
 use Rattle.std.proofs.Common.{◌+◌, length, refl, ◌∙◌, arith}
-use Rattle.taos_monitor.specs.Cells.{viewed}
 use Rattle.taos_monitor.specs.Effects.{CanStep, effect_due}
 use Rattle.taos_monitor.proofs.EffectSteps.{none_stepped, popped, popped_length, done_more, no_room, no_place}
 use Rattle.taos_monitor.proofs.performing.step_due.Goals as goal
@@ -10,7 +9,7 @@ overflow_cast-count g c = omega (arith, c.len-count.ensures, c.requires.ready.sm
 
 pub loop-place-init : goal.loop-place-init
 loop-place-init g c = record {
-  stepped = none_stepped (g.S.Shards.plans c.args.shards.now) (g.S.Shards.alone c.args.shards.now) (g.S.Shards.seen c.args.shards.now) (g.S.Shards.own c.args.shards.now) (effect_due c.args.due) c.requires.legal;
+  stepped = none_stepped (g.S.Shards.shown c.args.shards.now) (effect_due c.args.due) c.requires.legal;
   plans = refl;
   alone = refl;
   left = omega (arith, c.len-count.ensures);
@@ -32,19 +31,17 @@ pub returns-in-NoRoom-clause-ends : goal.returns-in-NoRoom-clause-ends
 returns-in-NoRoom-clause-ends g c =
     let inv = c.loop-place.invariant in
     let can = (popped (CanStep (effect_due c.args.due)) c.loop-place.events.items c.pop.new.self.items c.pop.result c.unwrap-event.result inv.each c.pop.ensures.items c.unwrap-event.ensures).1 in
-    no_room (g.S.Shards.plans c.args.shards.now) (g.S.Shards.plans c.loop-place.shards) (g.S.Shards.alone c.args.shards.now) (g.S.Shards.alone c.loop-place.shards) inv.plans inv.alone
-    (viewed (g.S.Shards.seen c.args.shards.now) (g.S.Shards.own c.args.shards.now)) (g.S.Shards.seen c.loop-place.shards) (g.S.Shards.seen c.step_one.new.shards) (g.S.Shards.own c.loop-place.shards) (g.S.Shards.own c.step_one.new.shards)
+    no_room (g.S.Shards.shown c.args.shards.now) (g.S.Shards.shown c.loop-place.shards) (g.S.Shards.shown c.step_one.new.shards) inv.plans inv.alone
     (effect_due c.args.due) c.args.due.first c.loop-place.place c.loop-place.removed inv.stepped (c.args.due.first + c.loop-place.place) refl (omega (arith, c.requires.ready.within, c.loop-place-test.true, c.len-count.ensures))
-    c.unwrap-event.result can c.step_one.ensures.others c.in-NoRoom.told (length c.args.due.events.items) (omega (arith, c.loop-place-test.true, c.len-count.ensures)) c.in-NoRoom.ensures.went
+    c.unwrap-event.result can c.step_one.ensures.rest c.in-NoRoom.told (length c.args.due.events.items) (omega (arith, c.loop-place-test.true, c.len-count.ensures)) c.in-NoRoom.ensures.went
 
 pub returns-in-Full-clause-ends : goal.returns-in-Full-clause-ends
 returns-in-Full-clause-ends g c =
     let inv = c.loop-place.invariant in
     let can = (popped (CanStep (effect_due c.args.due)) c.loop-place.events.items c.pop.new.self.items c.pop.result c.unwrap-event.result inv.each c.pop.ensures.items c.unwrap-event.ensures).1 in
-    no_place (g.S.Shards.plans c.args.shards.now) (g.S.Shards.plans c.loop-place.shards) (g.S.Shards.alone c.args.shards.now) (g.S.Shards.alone c.loop-place.shards) inv.plans inv.alone
-    (viewed (g.S.Shards.seen c.args.shards.now) (g.S.Shards.own c.args.shards.now)) (g.S.Shards.seen c.loop-place.shards) (g.S.Shards.seen c.step_one.new.shards) (g.S.Shards.own c.loop-place.shards) (g.S.Shards.own c.step_one.new.shards)
+    no_place (g.S.Shards.shown c.args.shards.now) (g.S.Shards.shown c.loop-place.shards) (g.S.Shards.shown c.step_one.new.shards) inv.plans inv.alone
     (effect_due c.args.due) c.args.due.first c.loop-place.place c.loop-place.removed inv.stepped (c.args.due.first + c.loop-place.place) refl (omega (arith, c.requires.ready.within, c.loop-place-test.true, c.len-count.ensures))
-    c.unwrap-event.result can c.step_one.ensures.others c.in-Full.length (length c.args.due.events.items) (omega (arith, c.loop-place-test.true, c.len-count.ensures)) c.in-Full.ensures.went
+    c.unwrap-event.result can c.step_one.ensures.rest c.in-Full.length (length c.args.due.events.items) (omega (arith, c.loop-place-test.true, c.len-count.ensures)) c.in-Full.ensures.went
 
 pub loop-place-preserved : goal.loop-place-preserved
 loop-place-preserved g c =
@@ -52,12 +49,11 @@ loop-place-preserved g c =
     let both = popped (CanStep (effect_due c.args.due)) c.loop-place.events.items c.pop.new.self.items c.pop.result c.unwrap-event.result inv.each c.pop.ensures.items c.unwrap-event.ensures in
     let fewer = popped_length c.loop-place.events.items c.pop.new.self.items c.pop.result c.unwrap-event.result c.pop.ensures.items c.unwrap-event.ensures in
     record {
-      stepped = done_more (g.S.Shards.plans c.args.shards.now) (g.S.Shards.plans c.loop-place.shards) (g.S.Shards.alone c.args.shards.now) (g.S.Shards.alone c.loop-place.shards) inv.plans inv.alone
-          (viewed (g.S.Shards.seen c.args.shards.now) (g.S.Shards.own c.args.shards.now)) (g.S.Shards.seen c.loop-place.shards) (g.S.Shards.seen c.step_one.new.shards) (g.S.Shards.own c.loop-place.shards) (g.S.Shards.own c.step_one.new.shards)
+      stepped = done_more (g.S.Shards.shown c.args.shards.now) (g.S.Shards.shown c.loop-place.shards) (g.S.Shards.shown c.step_one.new.shards) inv.plans inv.alone
           (effect_due c.args.due) c.args.due.first c.loop-place.place c.loop-place.removed inv.stepped (c.args.due.first + c.loop-place.place) refl (omega (arith, c.requires.ready.within, c.loop-place-test.true, c.len-count.ensures))
-          c.unwrap-event.result both.1 c.step_one.ensures.others c.in-Done.count c.in-Done.ensures.went c.is_any-removed.result c.is_any-removed.ensures;
-      plans = c.step_one.ensures.plans ∙ inv.plans;
-      alone = c.step_one.ensures.alone ∙ inv.alone;
+          c.unwrap-event.result both.1 c.step_one.ensures.rest c.in-Done.count c.in-Done.ensures.went c.is_any-removed.result c.is_any-removed.ensures;
+      plans = c.step_one.ensures.rest.plans ∙ inv.plans;
+      alone = c.step_one.ensures.rest.alone ∙ inv.alone;
       left = omega (arith, inv.left, fewer);
       each = both.0;
     }

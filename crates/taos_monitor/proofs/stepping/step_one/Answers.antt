@@ -10,11 +10,11 @@ use Rattle.taos_monitor.proofs.stepping.step_one.Goals as goal
 
 pub unreachable-requires : goal.unreachable-requires
 unreachable-requires g c =
-    let (plan, at) = standing (g.S.Shards.plans c.args.shards.now) c.args.number c.requires.there in
-    takes_none plan (g.S.Shards.seen c.step.new.self c.args.number) (event_of c.args.event) c.requires.effect
-    (subst (λ r. OnErr r (TakesMemory (told_at plan (g.S.Shards.seen c.step.new.self c.args.number) (event_of c.args.event)))) c.in_default.is (c.step.ensures.wanted plan at))
+    let (plan, at) = standing (g.S.Shards.shown c.args.shards.now).plans c.args.number c.requires.there in
+    takes_none plan ((g.S.Shards.shown c.step.new.self).seen c.args.number) (event_of c.args.event) c.requires.effect
+    (subst (λ r. OnErr r (TakesMemory (told_at plan ((g.S.Shards.shown c.step.new.self).seen c.args.number) (event_of c.args.event)))) c.in_default.is (c.step.ensures.here plan at).wanted)
 
 pub unreachable-requires-in-Replayed : goal.unreachable-requires-in-Replayed
 unreachable-requires-in-Replayed g c =
-    let (plan, at) = standing (g.S.Shards.plans c.args.shards.now) c.args.number c.requires.there in
-    never_asked plan _ _ _ _ c.in-Ok.answer c.requires.effect (c.in-Ok.ensures.steps plan at) c.in-Replayed.is
+    let (plan, at) = standing (g.S.Shards.shown c.args.shards.now).plans c.args.number c.requires.there in
+    never_asked plan _ _ _ _ c.in-Ok.answer c.requires.effect (c.in-Ok.ensures.here plan at).steps c.in-Replayed.is

@@ -1,6 +1,7 @@
 -- what a shard does by itself it does among others, of which there are none
 use Rattle.std.proofs.Common.{set, subst}
-use Rattle.agent_core.specs.Alone.{LoneSeen, StepsLone}
+use Rattle.agent_core.specs.Alone.{LoneSeen, shards_seen}
+use Rattle.agent_core.specs.Shards.{StepsAmong}
 use Rattle.agent_core.specs.Journals.{ShardSeen}
 use Rattle.agent_core.specs.Views.{event_of}
 use Rattle.agent_core.proofs.OneOwner.{shard_here, meant_here, kept_lone, lone_steps}
@@ -24,4 +25,4 @@ returns c =
     let s : ShardSeen = c.index_mut.result.now in
     let here = shard_here l c.args.self.now c.args.number s c.self.view_is c.requires.there c.index_mut.ensures.value in
     let steps = lone_steps l c.self.inside.anchors.value.items c.self.invariant c.args.number s c.step.new.self here c.step.ensures.plan (event_of c.args.event) c.step.result c.step.ensures.answered c.step.ensures.wanted c.step.ensures.room c.step.ensures.unchanged in
-    subst (λ v. StepsLone v (record { shards = set l.shards c.args.number c.step.new.self; opened = l.opened }) c.args.number (event_of c.args.event) c.step.result) c.self.view_is steps
+    subst (λ v. StepsAmong (shards_seen v) (shards_seen (record { shards = set l.shards c.args.number c.step.new.self; opened = l.opened })) c.args.number (event_of c.args.event) c.step.result) c.self.view_is steps

@@ -1,10 +1,9 @@
 -- the entry at the place is an Ask, or is none
-use Rattle.std.proofs.Common.{◌≡◌, ℕ, map, get_or, Some, slice_get, sym, ap, ◌∙◌, arith}
+use Rattle.std.proofs.Common.{◌≡◌, map, Some, slice_get, sym, ap, ◌∙◌, arith}
 use Rattle.std.specs.Option.{option_map}
 use Rattle.std.proofs.lemmas.Bool.{false≢true}
 use Rattle.std.proofs.lemmas.Option.{slice_get-get_or, slice_get-map}
 use Rattle.proof_cache.specs.Cached.{cached}
-use Rattle.agent_core.specs.Journals.{Entry}
 use Rattle.agent_core.specs.Views.{ask_of, entry_of}
 use Rattle.agent_core.proofs.Keepable.{asked_at, never_asked}
 use Rattle.agent_core.proofs.shard.keepable.is_asked.Goals as goal

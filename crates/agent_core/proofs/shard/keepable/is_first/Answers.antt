@@ -1,5 +1,5 @@
 -- one that was met before is the same
-use Rattle.std.proofs.Common.{◌≡◌, ◌<◌, IsTrue, false, true, List, length, get_or, Some, slice_get, sym, ap, ◌∙◌, subst, arith}
+use Rattle.std.proofs.Common.{◌≡◌, IsTrue, List, sym, ap, ◌∙◌, subst, arith}
 use Rattle.std.proofs.lemmas.Bool.{false≢true}
 use Rattle.std.proofs.lemmas.Option.{get_or_from_slice_get}
 use Rattle.stmt_codec.specs.declared.cert.Cert.{Cert}

@@ -1,16 +1,15 @@
 -- the proof is journaled, with what is told of it, and kept where nothing speaks against it
-use Rattle.std.proofs.Common.{◌≡◌, List, map, refl, sym, ap, ◌∙◌, subst}
+use Rattle.std.proofs.Common.{List, map, refl, sym, ap, ◌∙◌}
 use Rattle.std.specs.Arc.{arc_value}
 use Rattle.prin_term.specs.View.{principal}
-use Rattle.stmt_codec.specs.Certificates.{Certificate}
-use Rattle.proof_cache.specs.Cached.{Cached, cached}
+use Rattle.proof_cache.specs.Cached.{cached}
 use Rattle.proof_cache.specs.Cache.{keeping}
 use Rattle.proof_cache.specs.declared.cached.Cached.{Cached as CachedValue}
 use Rattle.agent_core.specs.declared.told.Told.{Told}
 use Rattle.agent_core.specs.Held.{channel_of}
 use Rattle.agent_core.specs.Journals.{Entry, state_after}
 use Rattle.agent_core.specs.Kept.{Tells}
-use Rattle.agent_core.specs.State.{Plan, State, Keeps, first_missing, settled_by}
+use Rattle.agent_core.specs.State.{Plan, State, Keeps}
 use Rattle.agent_core.specs.Views.{entry_of, plan_of}
 use Rattle.agent_core.proofs.Journaling.{tells_follow}
 use Rattle.agent_core.proofs.Keeps.{channel_there, keep_tells}

@@ -1,11 +1,11 @@
 -- the first entry that is served is found
-use Rattle.std.proofs.Common.{◌≡◌, ◌<◌, ℕ, List, length, map, get_or, Some, slice_get, IsSome, refl, sym, ap, ◌∙◌, subst, arith}
+use Rattle.std.proofs.Common.{◌≡◌, length, Some, slice_get, IsSome, refl, sym, ap, ◌∙◌, subst, arith}
 use Rattle.std.specs.Arc.{arc_value}
 use Rattle.std.specs.declared.alloc.Global.{Global}
 use Rattle.std.specs.declared.vec.Vec.{Vec}
 use Rattle.prin_term.specs.declared.term.Entry.{Entry}
 use Rattle.std.proofs.lemmas.List.{length-map}
-use Rattle.prin_term.specs.View.{Grant, grant, principal}
+use Rattle.prin_term.specs.View.{Grant, grant}
 use Rattle.proof_cache.specs.Cached.{Cached, cached}
 use Rattle.proof_cache.specs.declared.cached.Cached.{Cached as CachedValue}
 use Rattle.denial_link.proofs.Places.{entry_at}

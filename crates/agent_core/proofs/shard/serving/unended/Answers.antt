@@ -1,5 +1,5 @@
 -- no two proofs are kept for the same, so what has ended leaves none
-use Rattle.std.proofs.Common.{◌≡◌, Some, map, sym, ap, ◌∙◌, arith, ℕ}
+use Rattle.std.proofs.Common.{ap, arith}
 use Rattle.std.specs.Arc.{arc_value}
 use Rattle.prin_term.specs.View.{principal}
 use Rattle.proof_cache.specs.Cached.{cached}

@@ -18,3 +18,13 @@ returns-in-Expired c =
     let digest = cert.digested ∙ ap (λ (x : Cert). digest_of (certificate x.body)) c.deref.ensures in
     subst (λ l. Names (certificates c.args.certs.now) l (Denial.Expired entry cert.digest)) (sym c.in-Expired.is)
     (certificate c.index-certs-cert.result.value.body, here, ap (λ (d : List ℕ). Denial.Expired entry d) digest)
+
+pub returns-in-Early : goal.returns-in-Early
+returns-in-Early c =
+    let entry : ℕ = c.in-Early.entry in
+    let cert : Cert = c.deref-in-Early.result.now in
+    let within = subst (IsPlaceIn (certificates c.args.certs.now)) c.in-Early.is c.requires in
+    let here = certificate_at c.args.certs.now c.in-Early.cert c.index-certs-cert-in-Early.result c.index-certs-cert-in-Early.is (rw (sym (certificate_count c.args.certs.now)) within) in
+    let digest = cert.digested ∙ ap (λ (x : Cert). digest_of (certificate x.body)) c.deref-in-Early.ensures in
+    subst (λ l. Names (certificates c.args.certs.now) l (Denial.Early entry cert.digest)) (sym c.in-Early.is)
+    (certificate c.index-certs-cert-in-Early.result.value.body, here, ap (λ (d : List ℕ). Denial.Early entry d) digest)

@@ -1,7 +1,9 @@
-use Rattle.std.proofs.Common.{◌≡◌, take, true, replicate}
-use Rattle.stmt_codec.specs.View.{certificates}
-use Rattle.agent_core.specs.Judged.{live_marks}
+use Rattle.std.specs.List.{All}
+use Rattle.std.proofs.Common.{take}
+use Rattle.stmt_codec.specs.Certificates.{IsLive}
+use Rattle.stmt_codec.specs.View.{certificate_of}
 use Rattle.agent_core.proofs.whole_ask.verdict.are_live.Given as goal
 
+-- those that were looked at are live
 abbrev pub invariant-loop-cert : goal.invariant-loop-cert
-invariant-loop-cert l = live_marks (certificates (take l.cert-index l.certs)) l.moment ≡ replicate l.cert-index true
+invariant-loop-cert l = All (λ x. IsLive l.moment (certificate_of x)) (take l.cert-index l.certs)

@@ -1,7 +1,6 @@
 -- the cells have the numbers of the objects
 use Rattle.std.proofs.Common.{◌≡◌, List, length, map, sym, subst, ap, ◌∙◌, arith}
 use Rattle.object_core.specs.Numbered.{AreRowsOf}
-use Rattle.object_core.specs.Objects.{ObjectSeen}
 use Rattle.object_core.specs.Shelving.{HaveOwnNumbers, ObjectFixed, fixed_of, numbers_of}
 use Rattle.agent_shards.specs.Objects.{fixed_in}
 use Rattle.agent_shards.proofs.Shelves.{opened_fixed, opened_object_count, opened_object_passes}

@@ -1,6 +1,6 @@
 -- the rows tell the place of each number
-use Rattle.std.proofs.Common.{List, ℕ, ap, sym, subst, ◌∙◌}
-use Rattle.std.specs.Prelude.{◌≡◌, ◌==◌, Contains, MatchOption}
+use Rattle.std.proofs.Common.{List, ap, subst, ◌∙◌}
+use Rattle.std.specs.Prelude.{◌==◌, Contains, MatchOption}
 use Rattle.std.specs.List.{position}
 use Rattle.object_core.specs.declared.rows.Row.{Row}
 use Rattle.object_core.specs.Numbered.{LacksNumber, row}

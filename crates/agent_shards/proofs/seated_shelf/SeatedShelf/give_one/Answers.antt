@@ -1,8 +1,9 @@
 -- the object is in its cell again, and its pass in its place
-use Rattle.std.proofs.Common.{◌≡◌, Option, None, Some, List, set, sym, ap, subst, ◌∙◌}
+use Rattle.std.proofs.Common.{◌≡◌, Option, Some, sym, ap, subst, ◌∙◌}
+use Rattle.object_core.specs.Shelving.{GivenBack}
 use Rattle.agent_shards.specs.declared.taking.Out.{Out}
 use Rattle.agent_shards.specs.Cells.{shares_of}
-use Rattle.agent_shards.specs.Objects.{AreObjectPasses, GivesTo, IsObjectPass, KnownObject, MayBeOut, ShelfSeen, passes_told, taken_as}
+use Rattle.agent_shards.specs.Objects.{AreObjectPasses, IsObjectPass, KnownObject, MayBeOut, RackSeen, passes_told, rack_seen, taken_as}
 use Rattle.agent_shards.proofs.Rows.{map_kept, zip_set}
 use Rattle.agent_shards.proofs.Shelves.{given, one_out}
 use Rattle.agent_shards.proofs.seated_shelf.SeatedShelf.give_one.Goals as goal
@@ -27,8 +28,8 @@ returns g c =
     let is : c.self.inside.out ≡ Some c.unwrap-out.result = sym c.take.ensures.value ∙ c.unwrap-out.ensures in
     let (p, q, there, put, back) = c.leave_at.ensures in
     let one = one_out c.self.inside.rack.now c.self.inside.passes c.self.inside.out c.unwrap-out.result is c.self.invariant.1 in
-    subst (λ (s : ShelfSeen). GivesTo s (record { cells = c.self.inside.rack.now; passes = passes_told c.take.new.self c.leave_at.new.passes.items; taken = taken_as c.take.new.self }) c.args.object) c.self.view_is
-    (subst (λ (z : Option Out × Option Out). GivesTo (record { cells = c.self.inside.rack.now; passes = passes_told z.0 c.self.inside.passes.items; taken = taken_as z.0 })
-    (record { cells = c.self.inside.rack.now; passes = passes_told z.1 c.leave_at.new.passes.items; taken = taken_as z.1 }) c.args.object) (λ k. (sym is k, sym c.take.ensures.after k))
+    subst (λ (s : RackSeen). GivenBack (rack_seen s) (rack_seen (record { cells = c.self.inside.rack.now; passes = passes_told c.take.new.self c.leave_at.new.passes.items; taken = taken_as c.take.new.self })) c.args.object) c.self.view_is
+    (subst (λ (z : Option Out × Option Out). GivenBack (rack_seen (record { cells = c.self.inside.rack.now; passes = passes_told z.0 c.self.inside.passes.items; taken = taken_as z.0 }))
+    (rack_seen (record { cells = c.self.inside.rack.now; passes = passes_told z.1 c.leave_at.new.passes.items; taken = taken_as z.1 })) c.args.object) (λ k. (sym is k, sym c.take.ensures.after k))
     (given c.self.inside.rack.now c.self.inside.passes c.leave_at.new.passes c.unwrap-out.result one c.cell.result.now p q c.requires.0 c.args.object c.cell.ensures there put back
-    (ap taken_as (sym is) ∙ (ap (λ (s : ShelfSeen). s.taken) c.self.view_is ∙ c.requires.1)) c.requires.2))
+    (ap taken_as (sym is) ∙ (ap (λ (s : RackSeen). s.taken) c.self.view_is ∙ c.requires.1)) c.requires.2))
