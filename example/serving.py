@@ -24,9 +24,9 @@ LANES = 2
 class Server:
     """A process that serves a port by so many lanes, until it is stopped."""
 
-    def __init__(self, program, file, lanes, relay, command):
+    def __init__(self, program, file, lanes, relay, command, *options):
         listen = ",".join(["127.0.0.1:0"] * lanes)
-        words = [program, "--tell-addresses", "--stop-at-end", file, listen, relay, command, "--connections", "100"]
+        words = [program, "--tell-addresses", "--stop-at-end", file, listen, relay, command, "--connections", "100", *options]
         pipe = subprocess.PIPE
         self.name = command
         self.process = subprocess.Popen(words, stdin=pipe, stdout=pipe, stderr=pipe, text=True)

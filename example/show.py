@@ -73,14 +73,15 @@ def body(fields):
 
 
 def statement(said):
-    if said.number(1) != 1:
+    version = said.number(1)
+    if version not in (1, 2):
         raise ValueError("a certificate of another version")
     issuer = f"key {said.number(4)}"
     if said.number(1):
         issuer = f"{issuer} | {term(said)}"
     left, right = term(said), term(said)
-    until = said.number(8)
-    return f"{issuer} says {left} => {right} until {until}"
+    begins = f" from {said.number(8)}" if version == 2 else ""
+    return f"{issuer} says {left} => {right}{begins} until {said.number(8)}"
 
 
 def certificate(fields):
@@ -113,6 +114,8 @@ def operation(code, number, fields):
         return f"by object {number} discard the certificate of digest {fields.take(32).hex()[:16]}.."
     if code == 6:
         return f"by object {number} forget what channel {fields.number(4)} holds"
+    if code == 8:
+        return f"by object {number} withdraw issuer {fields.number(4)}"
     if code in (4, 7):
         return f"by object {number} {'hold what is presented' if code == 4 else 'let ended certificates go'}"
     raise ValueError(f"an operation of code {code}")
@@ -225,6 +228,9 @@ def denial(fields):
         return f"denial: {at}: of entry {entry} {term(fields)} is missing"
     if link == 3:
         return f"denial: {at}: no entry has the right"
+    if link == 4:
+        entry, digest = fields.number(1), fields.take(32).hex()
+        return f"denial: {at}: entry {entry} would be reached but for the certificate of digest {digest[:16]}.., which has not begun"
     raise ValueError(f"a link of kind {link}")
 
 
@@ -242,6 +248,8 @@ REFUSALS = {
     11: ("no memory", []),
     12: ("a shard has no room for more in common, and holds, and its number:", [1, 4]),
     13: ("no shard held the certificate of this digest", [32]),
+    14: ("a shard has no room for one withdrawn issuer more, and has, and its number:", [1, 4]),
+    15: ("the certificates could not be fetched", []),
 }
 # These come before the seal of a request is found right, and NO_MEMORY may.
 UNSEALED, NO_MEMORY = (2, 3, 4), 11

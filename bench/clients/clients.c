@@ -2,16 +2,20 @@
 //
 //     clients echo
 //     clients load PORT FRAMES BUSY SILENT TURNS
+//     clients rude PORT FRAMES COUNT HOW
 //
 // `echo` takes a free port, prints it, and sends what comes on each connection back as it comes, until its input ends.
 // `load` connects SILENT clients that send an empty frame and then nothing, and BUSY ones, each of which sends its frames one after
 // the other, TURNS of them, each once the reply to the one before is whole. FRAMES has the frames of the first client, then those of
 // the second, and so on, all of one length. Prints the replies, the replies per second, the median and the 99th in 100 of the microseconds of the first client's
 // turns, the same of all, and how many connections were lost.
+// `rude` is one client until its input ends. FRAMES has COUNT frames of one length. HOW is `deaf`: it sends them again and again and takes no
+// reply; `drip`: it sends a byte of the first each 10 ms; or `reset`: it sends more of the first each time, a byte at a time, and resets.
 #include <arpa/inet.h>
 #include <errno.h>
 #include <fcntl.h>
 #include <netinet/tcp.h>
+#include <poll.h>
 #include <stdint.h>
 #include <stdio.h>
 #include <stdlib.h>
@@ -227,12 +231,53 @@ static int load(const char *port, const char *path, uint32_t busy, uint32_t sile
     return count == all ? 0 : 1;
 }
 
+// Waits so many milliseconds. Whether the input is open yet.
+static int goes_on(int wait) {
+    struct pollfd input = {.fd = 0, .events = POLLIN};
+    return poll(&input, 1, wait) == 0;
+}
+
+// A connection until the other side ends it, that sends the frames and takes no reply.
+static void be_deaf(int fd, uint32_t count) {
+    size_t all = count * length_of_frame, at = 0;
+    while (goes_on(0)) {
+        ssize_t went = send(fd, frames + at, all - at, MSG_NOSIGNAL);
+        if (went > 0) at = (at + (size_t)went) % all;
+        else if (errno != EAGAIN || !goes_on(1)) return;
+    }
+}
+
+static void be_slow(int fd) {
+    for (size_t at = 0; goes_on(10); at = (at + 1) % length_of_frame) {
+        if (send(fd, frames + at, 1, MSG_NOSIGNAL) < 0) return;
+    }
+}
+
+static void be_gone(int fd, size_t count) {
+    struct linger at_once = {.l_onoff = 1, .l_linger = 0};
+    for (size_t at = 0; at < count; at++) give(fd, frames + at, 1);
+    setsockopt(fd, SOL_SOCKET, SO_LINGER, &at_once, sizeof at_once);
+}
+
+static int rude(const char *port, const char *path, uint32_t count, const char *how) {
+    load_frames(path, count);
+    for (size_t round = 0; goes_on(1); round++) {
+        int fd = connected(port);
+        if (strcmp(how, "deaf") == 0) be_deaf(fd, count);
+        else if (strcmp(how, "drip") == 0) be_slow(fd);
+        else be_gone(fd, round % (length_of_frame + 1));
+        close(fd);
+    }
+    return 0;
+}
+
 int main(int argc, char **argv) {
     many_files();
     if (argc == 2 && strcmp(argv[1], "echo") == 0) return echo();
     if (argc == 7 && strcmp(argv[1], "load") == 0) {
         return load(argv[2], argv[3], (uint32_t)atoi(argv[4]), (uint32_t)atoi(argv[5]), (uint32_t)atoi(argv[6]));
     }
-    fprintf(stderr, "usage: clients echo | clients load PORT FRAMES BUSY SILENT TURNS\n");
+    if (argc == 6 && strcmp(argv[1], "rude") == 0) return rude(argv[2], argv[3], (uint32_t)atoi(argv[4]), argv[5]);
+    fprintf(stderr, "usage: clients echo | clients load PORT FRAMES BUSY SILENT TURNS | clients rude PORT FRAMES COUNT HOW\n");
     return 2;
 }

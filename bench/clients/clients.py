@@ -7,15 +7,22 @@ OUT is a folder that has the program `clients`, built. Each of 1,000 clients has
 after the other (64 of them are granted, and the others denied, since a node has no more anchors), beside silent ones; the same frames go to an echo over the same loop. Ends with 1 where a bound is not kept.
 """
 import hmac
+import itertools
 import os
 import re
+import socket
 import struct
 import subprocess
 import sys
+import threading
+import urllib.request
 
 LANES, SEATS, BUSY, SILENT, ROUNDS = 4, 12_000, 1_000, 2_000, 3
-# What is wanted: the rate beside the echo's; one client's median and 99th in 100 beside others to those alone; bytes of a silent client.
-RATE, MEDIAN, LATE, MEMORY = 0.7, 3, 5, 8_192
+# What is wanted: the rate beside the echo's; one client's median and 99th in 100 beside others to those alone; bytes of a silent client; how
+# far the 99th in 100 of others rises beside a rude one; and the rate of a client beside a scrape each 10 ms to that without.
+RATE, MEDIAN, LATE, MEMORY, RISE, SCRAPED = 0.7, 3, 5, 8_192, 1.1, 0.98
+# Beside a rude client: how many others, how many reads of each, and how often, by turns with and without it. Beside scrapes: the reads.
+POLITE, READS, PAIRS, MANY = 16, 2_000, 5, 20_000
 
 
 def key(number):
@@ -70,9 +77,9 @@ class Bench:
     def path(self, name):
         return os.path.join(self.out, name)
 
-    def node(self):
+    def node(self, *options):
         listen = ",".join(["127.0.0.1:0"] * LANES)
-        words = [self.program, "--clients", str(SEATS), "--tell-addresses", "--stop-at-end", self.file, listen, "-", "serve"]
+        words = [self.program, *options, "--clients", str(SEATS), "--tell-addresses", "--stop-at-end", self.file, listen, "-", "serve"]
         return Started([*words, "--connections", "1000000", "--frames", "1000000000"], "listening on")
 
     def echo(self):
@@ -81,11 +88,51 @@ class Bench:
     def load(self, server, busy, silent, turns):
         """The replies, their rate, the first client's median and 99th, those of all, and the lost connections."""
         with open(self.path("frames"), "wb") as out:
-            every = list(frames(turns, 1))
-            out.writelines(every[: busy * turns])
+            out.writelines(itertools.islice(frames(turns), busy * turns))
         words = [self.path("clients"), "load", server.port, self.path("frames"), str(busy), str(silent), str(turns)]
         told = subprocess.run(words, capture_output=True, text=True)
         return [float(word) for word in told.stdout.split()]
+
+    def late(self, how):
+        """The 99th in 100 of the microseconds of a few clients' reads, beside a client that is rude in this way if any."""
+        node, rude = self.node(), None
+        if how:
+            with open(self.path("rude"), "wb") as out:
+                out.writelines(frame for frame in frames(8) if frame[5:9] == struct.pack(">I", BUSY))
+            words = [self.path("clients"), "rude", node.port, self.path("rude"), "8", how]
+            rude = subprocess.Popen(words, stdin=subprocess.PIPE)
+        told = self.load(node, POLITE, 0, READS)
+        if rude:
+            rude.stdin.close()
+            rude.wait(20)
+        node.end()
+        return told[5]
+
+    def beside(self, how):
+        pairs = [(self.late(None), self.late(how)) for _ in range(PAIRS)]
+        without, by = (sorted(each)[PAIRS // 2] for each in zip(*pairs))
+        self.row(f"99th of {POLITE} clients beside one of this kind: {how}", f"{by:.0f} us to {without:.0f} us", RISE, by <= RISE * without)
+
+    def rate(self, scrapes):
+        """The reads a second of one client, of a node whose page is asked for each 10 ms or not at all."""
+        with socket.create_server(("127.0.0.1", 0)) as free:
+            port = free.getsockname()[1]
+        node, done = self.node("--status", str(port)), threading.Event()
+
+        def scrape():
+            while not done.wait(0.01):
+                with urllib.request.urlopen(f"http://127.0.0.1:{port}/metrics") as page:
+                    page.read()
+
+        thread = threading.Thread(target=scrape)
+        if scrapes:
+            thread.start()
+        told = self.load(node, 1, 0, MANY)
+        done.set()
+        if scrapes:
+            thread.join()
+        node.end()
+        return told[1]
 
     def row(self, what, number, wanted, kept):
         self.met &= kept
@@ -124,6 +171,11 @@ class Bench:
         each = (node.memory() - before) / 10_000
         node.end()
         self.row("memory of the program a silent client", f"{each:.0f} bytes", MEMORY, each <= MEMORY)
+        for how in ("deaf", "drip", "reset"):
+            self.beside(how)
+        shares = sorted(self.rate(True) / self.rate(False) for _ in range(PAIRS))
+        share = shares[PAIRS // 2]
+        self.row("one client's rate beside a scrape each 10 ms, to that without", f"{share:.3f}", SCRAPED, share >= SCRAPED)
         return 0 if self.met else 1
 
 

@@ -9,11 +9,12 @@ import unittest
 
 from vectors import TAG, asked, key_of, payloads_of, turned, worked
 from yoritzal import (READ, Body, Broken, Channel, Client, Connection, Discard, Entry, Fate, FileNumbers, Forget, Hold, InUse, Key, Malformed,
-                      Name, NotGranted, Read, Request, SetList, Sweep, TimeNumbers, Write, connect, sealed, tag)
+                      Name, NotGranted, Read, Request, SetList, Sweep, TimeNumbers, Withdraw, Write, connect, sealed, tag)
 
 GRANT, DENIAL = payloads_of(worked("An anchored read")[2])[0], payloads_of(worked("An anchored read")[3])[0]
 BODY = Body(1, Key(2), Name(10), 4102444800, 1)
-OPERATIONS = [Read(), Write(b"new"), SetList((Entry(READ, Name(10)),)), Hold(), Discard(BODY.digest), Forget(2), Sweep()]
+OPERATIONS = [Read(), Write(b"new"), SetList((Entry(READ, Name(10)),)), Hold(), Discard(BODY.digest), Forget(2), Sweep(),
+              Withdraw(1)]
 SECONDS = 20
 
 
@@ -69,6 +70,7 @@ FATES = [
     (b"\x0b", Fate.UNKNOWN, Fate.UNKNOWN),
     (b"\x0c\x20\0\0\0\0", Fate.IN_PART, Fate.IN_PART),
     (b"\x0d" + bytes(32), Fate.IN_PART, Fate.IN_PART),
+    (b"\x0e\x40\0\0\0\0", Fate.IN_PART, Fate.IN_PART),
 ]
 UNSEALED = [b"\2\0\0\0\5", b"\3\0\0\0\1", b"\4", b"\x0b"]
 
@@ -167,7 +169,7 @@ class Answers(unittest.TestCase):
 
     def test_a_request_without_a_spelling_takes_no_number(self):
         client, sent = told()
-        for operation in (Write(bytes(4097)), Discard(b""), Forget(1 << 32)):
+        for operation in (Write(bytes(4097)), Discard(b""), Forget(1 << 32), Withdraw(1 << 32)):
             with self.assertRaises(ValueError):
                 client.ask(5, operation)
         with self.assertRaises(ValueError):

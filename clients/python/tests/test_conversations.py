@@ -3,7 +3,7 @@ import functools
 import unittest
 
 from vectors import asked, conversations, opening_of, payloads_of, turned
-from yoritzal import (Discard, Forget, Granted, Hold, MalformedRequest, Read, SetList, Sweep, Unbelieved, Write,
+from yoritzal import (Discard, Forget, Granted, Hold, MalformedRequest, Read, SetList, Sweep, Unbelieved, Withdraw, Write,
                       believed, is_tag, is_unsealed, read_reply)
 
 MOST_BYTES = 200_000
@@ -65,7 +65,7 @@ class Conversations(unittest.TestCase):
                 self.assertEqual(written, payload, f"{case.file}: {case.name}")
                 count += 1
                 operations.add(type(request.operation))
-        self.assertEqual(operations, {Read, Write, SetList, Hold, Discard, Forget, Sweep})
+        self.assertEqual(operations, {Read, Write, SetList, Hold, Discard, Forget, Sweep, Withdraw})
         self.assertGreater(count, LEAST)
 
     def test_replies_are_believed_as_they_are_sealed(self):
@@ -81,7 +81,7 @@ class Conversations(unittest.TestCase):
                     self.assertEqual((reply.number, reply.status), (int.from_bytes(payload[5:13], "big"), payload[13]))
                     count += 1
                 statuses.add(payload[13])
-        self.assertEqual(statuses, set(range(14)))
+        self.assertEqual(statuses, set(range(16)))
         self.assertGreater(count, LEAST)
 
     def test_replies_with_a_bit_turned_are_not_believed(self):

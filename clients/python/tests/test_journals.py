@@ -20,6 +20,13 @@ LOGIN = bytes.fromhex(f"""0701 00000001 0000000000000004
     00000001 00000005 0000000000000002
     00000000 0000000000000000 02 0003 6e6577 01 00
     00000000 0000000000000002 01 01 00""")
+WITHDRAWN = bytes.fromhex("""0701 00000001 0000000000000002 07 00000001 00 00000001 07 000000a4 01 40
+    00000001 00000005 0000000000000001 00000000 0000000000000000 08 00000001 01 00""")
+WITHDRAWALS = [
+    "shard 0 entry 0 withdraw 1 -> removed 1",
+    "shard 0 entry 1 withdraw 164 -> full 64",
+    "object 5 entry 0 ask 0/0 withdraw 1 -> granted 0",
+]
 LINES = [
     "shard 0 entry 0 ask channel 1 seq 1 reading 1000 certificates 0 right write -> miss",
     "shard 0 entry 1 keep ask 0 entry 0 lease 18446744073709551615 -> kept",
@@ -43,16 +50,25 @@ class Journals(unittest.TestCase):
     def test_they_are_read_as_the_lines_of_an_audit(self):
         self.assertEqual((len(READ), len(list(read_journals(READ).lines()))), (120, 3))
         self.assertEqual(list(read_journals(LOGIN).lines()), LINES)
+        self.assertEqual(list(read_journals(WITHDRAWN).lines()), WITHDRAWALS)
+
+    def test_what_a_replay_names_is_told_with_its_ask_and_what_was_due(self):
+        journals = read_journals(LOGIN)
+        self.assertEqual(journals.explained("illegal object 5 entry 1 ruling"), [LINES[5], LINES[2], "another ruling was due to this Ask"])
+        self.assertEqual(journals.explained("illegal shard 0 entry 3 keep")[:-1], [LINES[3], LINES[2]])
+        self.assertEqual(journals.explained("illegal shard 0 entry 0 told")[:-1], [LINES[0]])
+        self.assertEqual(len(journals.explained("illegal shard 0 entry 0 cells")), 1)
+        self.assertEqual(journals.explained("legal entries 6"), ["legal entries 6"])
 
     def test_the_first_byte_that_cannot_stand_is_named(self):
-        for at, other in [(0, 8), (1, 2), (14, 0), (14, 7), (40, 9), (41, 16), (47, 3), (48, 17), (49, 4), (117, 8), (118, 2)]:
+        for at, other in [(0, 8), (1, 2), (14, 0), (14, 8), (40, 9), (41, 16), (47, 3), (48, 17), (49, 4), (117, 9), (118, 2)]:
             self.assertEqual(place_of(READ[:at] + bytes([other]) + READ[at + 1:]), at)
         self.assertEqual(place_of(READ + b"\0"), 120)
         self.assertEqual(place_of(bytes.fromhex("0701 00000001 0000010000000000")), 14)
         self.assertEqual(place_of(bytes.fromhex("0701 00000000 00000002" + 2 * "00000005 0000000000000000")), 22)
 
     def test_those_that_are_cut_are_refused_at_the_cut(self):
-        for data in (READ, LOGIN):
+        for data in (READ, LOGIN, WITHDRAWN):
             for end in range(len(data)):
                 self.assertEqual(place_of(data[:end]), end)
 

@@ -10,7 +10,8 @@ import time
 import unittest
 
 from vectors import key_of
-from yoritzal import ISSUED, Body, Channel, Client, Fate, Key, Name, Read, RelayFailed, TimeNumbers, Write, connect, sealed
+from yoritzal import (ISSUED, RELAYED, Body, Channel, Client, Fate, Key, Missing, Name, Read, RelayFailed, TimeNumbers, Withdraw, Write,
+                      connect, sealed)
 
 PROGRAM = os.environ.get("PROGRAM")
 NODE = f"""taos 1
@@ -27,7 +28,8 @@ allow 5 rwcm name:10
 """
 BOUND = re.compile(rb"taosd: listening on 127\.0\.0\.1:(\d+)\n")
 # The node asks its relay about it.
-SHOWN = [sealed(key_of(1), Body(1, Key(2), Name(10), 4102444800, 1), ISSUED)]
+HAND_OFF = Body(1, Key(2), Name(10), 4102444800, 1)
+SHOWN = [sealed(key_of(1), HAND_OFF, ISSUED)]
 HERE, PATIENCE = "127.0.0.1:0", 60
 
 
@@ -45,8 +47,8 @@ def line_of(pipe):
 class Node:
     """A node with a lane for each address, each of which takes up to so many connections."""
 
-    def __init__(self, file, listen, relay="-", connections=1):
-        words = ["--idle", "20", "--tell-addresses", "--stop-at-end", file, listen, relay, "serve", "--connections", str(connections)]
+    def __init__(self, file, listen, relay="-", connections=1, *more):
+        words = ["--idle", "20", "--tell-addresses", "--stop-at-end", file, listen, relay, "serve", "--connections", str(connections), *more]
         pipe = subprocess.PIPE
         self.process = subprocess.Popen([PROGRAM, *words], stdin=pipe, stdout=pipe, stderr=pipe)
         self.before, told = [], line_of(self.process.stderr.fileno())
@@ -170,6 +172,17 @@ class Lanes(unittest.TestCase):
             self.is_granted(client, Read())
             client.connection.close()
         self.assertEqual(node.end(), (0, b"connections 64 broken 0 entries 65 grants 64 denials 0\n", b""))
+
+    def test_what_one_lane_withdrew_another_does_not_take(self):
+        node = self.node(f"{HERE},{HERE}")
+        alice, other = node.client(1), node.client(2)
+        shown = [sealed(key_of(7), HAND_OFF, RELAYED)]
+        self.assertEqual(other.ask(5, Read(), shown).fate, Fate.DONE)
+        self.is_granted(alice, Withdraw(1))
+        self.assertEqual(other.ask(5, Read(), shown).reply.link, Missing(0, Name(10)))
+        alice.connection.close()
+        other.connection.close()
+        self.assertEqual(node.end()[0], 0)
 
     def test_a_lane_that_waits_for_its_relay_holds_no_other_up(self):
         with socket.create_server(("127.0.0.1", 0)) as relay:

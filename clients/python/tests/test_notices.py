@@ -108,11 +108,12 @@ class Notices(unittest.TestCase):
             status, notes = node.end()
             self.assertEqual(status, 0)
             same = {"lane": "0", "peer": peer}
+            read = {"operation": "read", "object": "5", "right": "read"}
             wanted = [
                 ("refused", {**same, "status": "4"}),
-                ("refused", {**same, "channel": "1", "number": "8", "status": "5"}),
+                ("refused", {**same, "channel": "1", "number": "8", **read, "status": "5"}),
                 ("refused", {**same, "status": "2"}),
-                ("denied", {**same, "channel": "2", "number": "9", "status": "1", "shard": "0", "place": "3"}),
+                ("denied", {**same, "channel": "2", "number": "9", **read, "status": "1", "link": "missing", "shard": "0", "place": "3"}),
                 ("refused", {**same, "channel": "77", "status": "3"}),
             ]
             found = told(notes)
@@ -207,7 +208,8 @@ class Notices(unittest.TestCase):
         self.assertIn(note, run.stderr)
         self.assertEqual(told(run.stderr.replace(note, b"")), [
             ("refused", {"lane": "0", "status": "2"}),
-            ("denied", {"lane": "0", "channel": "2", "number": "9", "status": "1", "shard": "0", "place": "0"}),
+            ("denied", {"lane": "0", "channel": "2", "number": "9", "operation": "read", "object": "5", "right": "read", "status": "1",
+                        "link": "missing", "shard": "0", "place": "0"}),
         ])
 
     def test_a_second_has_so_many_lines_and_counts_the_others(self):

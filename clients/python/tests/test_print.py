@@ -1,4 +1,4 @@
-"""Prints what node files mean by the program that PROGRAM names."""
+"""Prints what node files and relay files mean by the program that PROGRAM names."""
 import os
 import subprocess
 import tempfile
@@ -45,17 +45,28 @@ object 9
 
 @unittest.skipUnless(PROGRAM, "no PROGRAM is named")
 class Print(unittest.TestCase):
-    def printed(self, data):
+    def printed(self, data, word="--print"):
         """The status, what is printed of a file of these bytes, and the note."""
         with tempfile.NamedTemporaryFile(delete=False) as file:
             file.write(data)
         self.addCleanup(os.remove, file.name)
-        done = subprocess.run([PROGRAM, "--print", file.name], stdin=subprocess.DEVNULL, capture_output=True, timeout=60)
+        done = subprocess.run([PROGRAM, word, file.name], stdin=subprocess.DEVNULL, capture_output=True, timeout=60)
         return done.returncode, done.stdout, done.stderr
 
     def test_both_forms_are_printed_by_their_one_text(self):
         for data in (WRITTEN.encode("ascii"), BINARY, PRINTED):
             self.assertEqual(self.printed(data), (0, PRINTED, b""))
+
+    def test_a_file_is_looked_over_in_a_line(self):
+        node = (0, b"node file: node 7 channels 2 objects 2 shards 2 journal 16384\n", b"")
+        relay = f"taos-relay 1\nnode 7 {key_of(7).hex()}\nissuer 1 {key_of(1).hex()}\nissuer 2 {key_of(2).hex()}\n".encode("ascii")
+        for data, wanted in (
+            (WRITTEN.encode("ascii"), node), (BINARY, node), (relay, (0, b"relay file: issuers 2 nodes 1\n", b"")),
+            (b"taos 1\nshards 65\n", (2, b"", b"taos: node file: line 2: limit\n")),
+            (relay + b"issuer 1 00\n", (2, b"", b"taos: node file: line 5: hex\n")),
+            (b"node 7\n", (2, b"", b"taos: node file: line 1: first line\n")),
+        ):
+            self.assertEqual(self.printed(data, "--check-file"), wanted, data)
 
     def test_a_file_that_is_refused_prints_nothing(self):
         self.assertEqual(self.printed(b"taos 1\nshards 65\n"), (2, b"", b"taos: node file: line 2: limit\n"))

@@ -6,7 +6,8 @@ import unittest
 
 from vectors import key_of
 from yoritzal import (MANAGE, READ, RELAYED, WRITE, Body, Channel, Client, Connection, Denied, Discard, Entry, Fate, Forget, Hold,
-                      Key, MalformedRequest, Missing, Name, Read, SetList, Sweep, TimeNumbers, UnknownObject, Write, sealed)
+                      Key, MalformedRequest, Missing, Name, Read, SetList, Sweep, TimeNumbers, UnknownObject, Withdraw, Write, read_journals,
+                      sealed)
 
 PROGRAM = os.environ.get("PROGRAM")
 NODE = f"""taos 1
@@ -32,6 +33,7 @@ class Program(unittest.TestCase):
         with tempfile.NamedTemporaryFile("w", encoding="ascii", delete=False) as file:
             file.write(NODE)
         self.addCleanup(os.remove, file.name)
+        self.file = file.name
         self.node = subprocess.Popen([PROGRAM, file.name, "-", "-", "run"], stdin=subprocess.PIPE, stdout=subprocess.PIPE,
                                      stderr=subprocess.PIPE)
         self.addCleanup(self.node.kill)
@@ -63,9 +65,18 @@ class Program(unittest.TestCase):
         self.assertEqual(self.granted(self.other, Read()), b"new")
         self.granted(self.alice, Forget(2))
         self.granted(self.alice, Sweep())
+        self.granted(self.alice, Withdraw(1))
+        self.assertEqual(self.other.ask(5, Read(), SHOWN).reply.link, Missing(0, ALICE))
         self.granted(self.alice, SetList(shared))
         self.granted(self.other, Write(b"newer"), entries=shared)
         self.assertEqual(self.granted(self.alice, Read(), entries=shared), b"newer")
+
+    def test_a_restart_forgets_who_was_withdrawn(self):
+        self.granted(self.alice, Withdraw(1))
+        self.assertEqual(self.other.ask(5, Read(), SHOWN).reply.link, Missing(0, ALICE))
+        self.tearDown()
+        self.setUp()
+        self.assertEqual(self.granted(self.other, Read(), certificates=SHOWN), b"hello")
 
     def test_what_is_refused_is_told(self):
         self.assertIsInstance(self.alice.ask(6, Read()).reply, UnknownObject)
@@ -86,6 +97,22 @@ class Program(unittest.TestCase):
         answers = self.alice.send(asked)
         self.assertEqual({answer.fate for answer in answers}, {Fate.DONE})
         self.assertEqual([answer.reply.number for answer in answers], [request.number for request in asked])
+
+    def left_of(self, command, data):
+        done = subprocess.run([PROGRAM, self.file, "-", "-", command], input=data, stdout=subprocess.PIPE, timeout=60, check=False)
+        return done.returncode, done.stdout
+
+    def test_journals_as_bytes_are_read_and_judged(self):
+        asked = [client.channel.request(5, operation).payload(key_of(client.channel.number))
+                 for client, operation in [(self.alice, Write(b"new")), (self.other, Read()), (self.alice, Withdraw(1))]]
+        status, data = self.left_of("audit-bytes", b"".join(len(each).to_bytes(4, "big") + each for each in asked))
+        told = list(read_journals(data).lines())
+        self.assertEqual((status, len([line for line in told if line.startswith("object 5")])), (0, 3))
+        self.assertEqual(self.left_of("replay", data), (0, f"legal entries {len(told)}\n".encode()))
+        # The last entry's ruling, which grants by entry 0.
+        status, line = self.left_of("replay", data[:-1] + b"\1")
+        self.assertEqual((status, line), (14, b"illegal object 5 entry 2 ruling\n"))
+        self.assertIn("withdraw 1 -> granted 1", read_journals(data[:-1] + b"\1").explained(line.decode())[0])
 
 
 if __name__ == "__main__":

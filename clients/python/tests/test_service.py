@@ -72,7 +72,9 @@ def port_of(pipe):
 
 
 class SlowRelay(relays.Relay):
-    """A relay that takes its time for each answer."""
+    """A relay that takes its time for each answer, and serves one connection after the other."""
+
+    pause = SLOW
 
     def __init__(self):
         super().__init__({7: key_of(7)}, {1: key_of(1)})
@@ -88,11 +90,15 @@ class SlowRelay(relays.Relay):
     def answer_all(self, stream):
         try:
             while payload := frames_of(stream, 1)[0]:
-                time.sleep(SLOW)
+                time.sleep(self.pause)
                 stream.sendall(frame(relays.answer(self.nodes, self.issuers, payload)))
         except OSError:
             # The node has given up.
             pass
+
+
+class QuickRelay(SlowRelay):
+    pause = 0
 
 
 @unittest.skipUnless(PROGRAM, "no PROGRAM is named")
@@ -115,8 +121,8 @@ class Case(unittest.TestCase):
     def ran(self, *words, **how):
         return subprocess.run([PROGRAM, *words], check=False, timeout=PATIENCE, stderr=subprocess.PIPE, **how)
 
-    def node(self, listen=HERE, options=(), relay="-", more=(), **how):
-        words = [PROGRAM, *options, "--tell-addresses", "--stop-at-end", self.file(), listen, relay, "serve", "--connections", "100"]
+    def node(self, listen=HERE, options=(), relay="-", more=(), text=NODE, **how):
+        words = [PROGRAM, *options, "--tell-addresses", "--stop-at-end", self.file(text), listen, relay, "serve", "--connections", "100"]
         process = self.started([*words, *more], **how)
         process.port, process.before = port_of(process.stderr.fileno())
         return process
@@ -281,6 +287,48 @@ class Lacks(Case):
         self.assertEqual(self.ends(node)[0], 0)
 
 
+class Idle(Case):
+    def lasts(self, node, payload_at, drips=False):
+        """The seconds for which a connection lasts whose client sends a frame each half second, whole or a byte at a time, four seconds at most."""
+        began = time.monotonic()
+        with socket.create_connection(("127.0.0.1", node.port), PATIENCE) as stream:
+            for turn in range(1, 9):
+                sent = payload_at(turn)
+                step = 1 if drips else len(sent)
+                try:
+                    for start in range(0, len(sent), step):
+                        stream.sendall(sent[start:start + step])
+                        time.sleep(SECOND / 2 * step / len(sent))
+                    if frames_of(stream, 1) == [b""]:
+                        break
+                except OSError:
+                    break
+        return time.monotonic() - began
+
+    def test_frames_that_nobody_sealed_keep_no_seat(self):
+        for options in [], ["--clients", "10"]:
+            node = self.node(options=[*options, "--idle", "1"])
+            self.assertGreater(self.lasts(node, reads), 3.5, options)
+            for drips in False, True:
+                self.assertLess(self.lasts(node, lambda turn: frame(b""), drips), 3, options)
+            self.assertEqual(self.ends(node)[0], 0)
+
+    def test_a_link_that_idles_makes_room_for_another_node(self):
+        for options in [], ["--clients", "10"]:
+            with QuickRelay() as address:
+                nodes = [self.node(options=options, relay=address) for _ in range(2)]
+                clients = [Client(Channel(2, key_of(2), TimeNumbers()), connect("127.0.0.1", node.port)) for node in nodes]
+                for turn, client in enumerate(clients * 2):
+                    began = time.monotonic()
+                    shown = [sealed(key_of(1), Body(1, Key(2), Name(10), 4102444800, turn), ISSUED)]
+                    self.assertNotIsInstance(client.ask(5, Read(), shown).reply, RelayFailed, options)
+                    self.assertLess(time.monotonic() - began, 3, options)
+                for client in clients:
+                    client.connection.close()
+            for node in nodes:
+                self.assertEqual(self.ends(node)[0], 0)
+
+
 class Starter(Case):
     def start(self, *words, listen=HERE, options=(), env=None, text=NODE):
         words = [STARTER, *options, PROGRAM, *words, self.file(text), listen, "-", "serve", "--connections", "100"]
@@ -326,7 +374,7 @@ class Starter(Case):
         self.assertNotIn(TOLD, told)
 
     def test_an_option_s_value_is_no_file(self):
-        for words in ["--clients", "100"], ["--idle", "5", "--clients", "100", "--tell-refusals"]:
+        for words in ["--clients", "100"], ["--idle", "5", "--clients", "100", "--notices", "json", "--status", HERE, "--tell-refusals"]:
             service = self.start(*words)
             port, before = port_of(service.stderr.fileno())
             self.assertEqual(before, [])

@@ -12,7 +12,7 @@ sys.path.insert(0, os.path.join(TOP, "clients", "python"))
 
 import reading  # noqa: E402
 from yoritzal import (And, As, Discard, Entry, For, Forget, Hold, Key, Name, Quoting, Read, Request, SetList,  # noqa: E402
-                      Sweep, Write)
+                      Sweep, Withdraw, Write)
 
 TAG = 32
 
@@ -106,6 +106,8 @@ def operation(code, parts):
         return Discard(parts.take(32))
     if code == 6:
         return Forget(parts.number(4))
+    if code == 8:
+        return Withdraw(parts.number(4))
     return {1: Read, 4: Hold, 7: Sweep}[code]()
 
 

@@ -9,10 +9,11 @@ from .names import Names, NoPrincipal
 from .numbers import FileNumbers, InUse, TimeNumbers
 from .proofs import Proof, ProofFault, read_proof
 from .replies import (BadSeal, CertificateRefused, ChannelFull, CommonsFull, Denied, Early, Expired, Granted, JournalFull,
-                      MalformedRequest, Missing, NoEntry, NotHeld, OutOfMemory, RelayFailed, Replayed, Reply,
-                      Unbelieved, UnknownChannel, UnknownObject, believed, is_unsealed, read_reply)
+                      MalformedRequest, Missing, NoEntry, NotHeld, OutOfMemory, PullFailed, RelayFailed, Replayed, Reply,
+                      Unbelieved, UnknownChannel, UnknownObject, WithdrawnFull, believed, is_unsealed, read_reply)
 from .requests import (CONTROL, MANAGE, READ, WRITE, Discard, Entry, Forget, Hold, Operation, Read, Request, SetList,
-                       Sweep, Write)
+                       Sweep, Withdraw, Write)
 from .sessions import Pool, Session
 from .tags import is_tag, tag
 from .terms import And, As, For, Key, Name, Quoting
+from .wallet import NoWallet, Wallet

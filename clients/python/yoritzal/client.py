@@ -5,7 +5,7 @@ import threading
 from dataclasses import dataclass, field, replace
 
 from .fields import counted
-from .replies import CommonsFull, Denied, Granted, JournalFull, NotHeld, OutOfMemory, Replayed, Unbelieved, believed
+from .replies import CommonsFull, Denied, Granted, JournalFull, NotHeld, OutOfMemory, Replayed, Unbelieved, WithdrawnFull, believed
 from .requests import MANAGE, Request
 from .tags import KEY_BYTES
 
@@ -47,7 +47,7 @@ class Answer:
         if isinstance(reply, Granted):
             return Fate.DONE
         in_shards = isinstance(reply, JournalFull) and reply.which == 1 and self.request.operation.right == MANAGE
-        return Fate.IN_PART if in_shards or isinstance(reply, (CommonsFull, NotHeld)) else Fate.NOT_DONE
+        return Fate.IN_PART if in_shards or isinstance(reply, (CommonsFull, NotHeld, WithdrawnFull)) else Fate.NOT_DONE
 
     @property
     def result(self):

@@ -1,18 +1,28 @@
-"""Journals as bytes: what the shards and objects of a node left, entry by entry. The `lines` of journals are those of
-`audit`."""
+"""Journals as bytes, as `audit-bytes` writes them: what the shards and objects of a node left, entry by entry. The `lines`
+of journals are those of `audit`, and what a line of `replay` names is `explained`."""
 from dataclasses import dataclass
 
 from .certificates import read_body
 from .fields import Malformed, Reader
 from .proofs import read_proof
 from .requests import (CONTROL, MANAGE, MAX_CONTENT, MAX_ENTRIES, MAX_PRESENTED, READ, WRITE, Discard, Entry, Forget, Hold,
-                       Read, SetList, Sweep, Write)
+                       Read, SetList, Sweep, Withdraw, Write)
 from .terms import ENTRY_NODES, read_term
 
 MAX_CITED = 64
 RIGHTS = {READ: "read", WRITE: "write", CONTROL: "control", MANAGE: "manage"}
 # Where a proof cites nothing its lease never ends.
 NEVER = (1 << 64) - 1
+# What was due, by the last word of a line of `replay`.
+WAS_DUE = {
+    "cells": "one journal for each shard and each object of the opening was due, and no other",
+    "limit": "no entry was due: the journal may have no more",
+    "keep": "a proof was due for the Ask that it names, by the entry of its list that it names",
+    "told": "another answer was due, or none: the shard takes no such event",
+    "ask": "an Ask was due that was judged, with the right of the operation and the list that the object has there",
+    "again": "an Ask was due that no entry before names",
+    "ruling": "another ruling was due to this Ask",
+}
 
 
 @dataclass(frozen=True)
@@ -28,6 +38,27 @@ class Journals:
             for number, entries in journals:
                 for place, entry in enumerate(entries):
                     yield f"{cell} {number} entry {place} {entry}"
+
+    def explained(self, line):
+        """What a line of `replay` names, as lines: the entry, the Ask that it names, and what was due."""
+        words = line.split()
+        if words[0] != "illegal":
+            return [line]
+        cell, number, place = words[1], int(words[2]), int(words[4])
+        entry = _at(self._journal(cell, number), place) if words[5] != "cells" else None
+        told = [] if entry is None else [f"{cell} {number} entry {place} {entry}"]
+        if isinstance(entry, Keep):
+            told += self._asked(number, entry.ask)
+        if isinstance(entry, Ruled):
+            told += self._asked(entry.shard, entry.place)
+        return told + [WAS_DUE[words[5]]]
+
+    def _journal(self, cell, number):
+        return _at(self.shards, number) if cell == "shard" else self.objects.get(number)
+
+    def _asked(self, shard, place):
+        entry = _at(_at(self.shards, shard), place)
+        return [] if entry is None else [f"shard {shard} entry {place} {entry}"]
 
 
 @dataclass(frozen=True)
@@ -67,7 +98,7 @@ class Keep:
 
 @dataclass(frozen=True)
 class Change:
-    """A Hold, Discard, Forget or Expire: its words, and what was told."""
+    """A Hold, Discard, Forget, Expire or Withdraw: its words, and what was told."""
 
     what: str
     told: str
@@ -99,11 +130,17 @@ def _words(operation):
         return f"discard {operation.digest.hex()}"
     if isinstance(operation, Forget):
         return f"forget {operation.channel}"
+    if isinstance(operation, Withdraw):
+        return f"withdraw {operation.issuer}"
     return type(operation).__name__.lower()
 
 
 def _letters(rights):
     return "".join(letter for letter, right in zip("rwcm", RIGHTS) if rights & right)
+
+
+def _at(items, place):
+    return items[place] if items is not None and place < len(items) else None
 
 
 def read_journals(data):
@@ -163,7 +200,7 @@ def _list(fields):
 # ---- shards
 
 def _entry(fields):
-    return (_ask, _keep, _hold, _discard, _forget, _expire)[_one_of(fields, range(1, 7)) - 1](fields)
+    return (_ask, _keep, _hold, _discard, _forget, _expire, _withdraw)[_one_of(fields, range(1, 8)) - 1](fields)
 
 
 def _ask(fields):
@@ -204,6 +241,12 @@ def _expire(fields):
     return Change(f"expire {fields.number(8)}", _removed(fields))
 
 
+def _withdraw(fields):
+    issuer = fields.number(4)
+    told = f"full {fields.number(1)}" if _one_of(fields, range(2)) else _removed(fields)
+    return Change(f"withdraw {issuer}", told)
+
+
 def _removed(fields):
     return f"removed {fields.number(4)}"
 
@@ -216,7 +259,7 @@ def _ruled(fields):
 
 
 def _operation(fields):
-    kind = _one_of(fields, range(1, 8))
+    kind = _one_of(fields, range(1, 9))
     if kind == Write.code:
         return Write(fields.take(fields.number(2, most=MAX_CONTENT)))
     if kind == SetList.code:
@@ -225,4 +268,6 @@ def _operation(fields):
         return Discard(fields.take(32))
     if kind == Forget.code:
         return Forget(fields.number(4))
+    if kind == Withdraw.code:
+        return Withdraw(fields.number(4))
     return {Read.code: Read, Hold.code: Hold, Sweep.code: Sweep}[kind]()

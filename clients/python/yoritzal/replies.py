@@ -141,7 +141,7 @@ class ChannelFull(Reply):
 
 @dataclass(frozen=True)
 class RelayFailed(Reply):
-    """No relay answered for the presented certificate of this index."""
+    """No relay answered for the certificate of this index, among the presented ones and what was fetched behind them."""
 
     index: int
     status = 8
@@ -183,10 +183,26 @@ class NotHeld(Reply):
     status = 13
 
 
+@dataclass(frozen=True)
+class WithdrawnFull(Reply):
+    """The shard has as many withdrawn issuers as it may have."""
+
+    held: int
+    shard: int
+    status = 14
+
+
+@dataclass(frozen=True)
+class PullFailed(Reply):
+    """The node fetches certificates for each request, and could not for this one."""
+
+    status = 15
+
+
 # The widths of the numbers that each of these has.
 NUMBERS = {MalformedRequest: [4], UnknownChannel: [4], BadSeal: [], Replayed: [8], CertificateRefused: [1, 1],
            ChannelFull: [1], RelayFailed: [1], UnknownObject: [4], JournalFull: [1, 4, 8], OutOfMemory: [],
-           CommonsFull: [1, 4]}
+           CommonsFull: [1, 4], WithdrawnFull: [1, 4], PullFailed: []}
 BY_STATUS = {form.status: form for form in NUMBERS}
 # These come without a seal, and OutOfMemory may.
 UNSEALED = (MalformedRequest, UnknownChannel, BadSeal)

@@ -107,6 +107,17 @@ class Sweep(Operation):
 
 
 @dataclass(frozen=True)
+class Withdraw(Operation):
+    """What an issuer issued is let go, and nothing of it is held from then on."""
+
+    issuer: int
+    code, right = 8, MANAGE
+
+    def fields(self):
+        return number(self.issuer, 4)
+
+
+@dataclass(frozen=True)
 class Request:
     """A request of a channel. Its number is above all others that the channel has used."""
 

@@ -2,14 +2,14 @@
 use Rattle.std.proofs.Common.{◌≡◌, ℕ, zero, suc, ◌+◌, ◌<◌, Bool, true, false, cond, not, ◌||◌, ◌&&◌, add-one, List, [], ◌∷◌, ◌++◌, filter, length, get_or, take, Option, Some, None, refl, sym, ap, ap₂, ◌∙◌, arith, append_assoc}
 use Rattle.std.specs.List.{slice_get, filter_map, cons_option, list_any}
 use Rattle.std.proofs.lemmas.List.{take_more, append-nil}
-use Rattle.std.proofs.lemmas.List.Elements.{filter_map-append}
+use Rattle.std.proofs.lemmas.List.Elements.{filter-append, filter_map-append}
 use Rattle.std.proofs.lemmas.List.Folds.{list_any-append}
 use Rattle.std.proofs.lemmas.Map.Views.{any-filter_same}
 use Rattle.stmt_codec.specs.Certificates.{Certificate}
 use Rattle.stmt_codec.specs.Equality.{same_certificate}
 use Rattle.stmt_codec.proofs.Equal.{same_certificate-true}
 use Rattle.agent_core.specs.declared.held.removal.Removal.{Removal}
-use Rattle.agent_core.specs.Held.{among, newly}
+use Rattle.agent_core.specs.Held.{admitted, among, is_withdrawn, newly}
 use Rattle.agent_core.specs.Kept.{stays}
 
 or_false : (b : Bool) → (b || false) ≡ b
@@ -66,21 +66,29 @@ pub newly_push : (held certs : List Certificate) (x : Certificate) → newly hel
 newly_push held [] x = ap (λ zs. cond (among zs x) [] (x ∷ [])) (sym (append-nil held))
 newly_push held (y ∷ ys) x = newly_step held y ys x (newly_push held ys x) (newly_push (held ++ y ∷ []) ys x) (among held y)
 
+-- one certificate more, by whether its issuer is withdrawn
+admitted_push : (held front : List Certificate) (x : Certificate) (barred : Bool) →
+    newly held (front ++ cond (not barred) (x ∷ []) []) ≡ cond (not barred && not (among (held ++ newly held front) x)) (newly held front ++ x ∷ []) (newly held front)
+admitted_push held front x true = ap (newly held) (append-nil front)
+admitted_push held front x false = newly_push held front x ∙ turn (among (held ++ newly held front) x)
+  where
+    turn : (b : Bool) → cond b (newly held front) (newly held front ++ x ∷ []) ≡ cond (not b) (newly held front ++ x ∷ []) (newly held front)
+    turn true = refl
+    turn false = refl
+
 -- what is new goes to the end, and nothing else does
-pub newly_more : (held certs news : List Certificate) (i : ℕ) (x : Certificate) (b : Bool) → slice_get certs i ≡ Some x → news ≡ newly held (take i certs) → b ≡ not (among (held ++ news) x) →
-    newly held (take (i + 1) certs) ≡ cond b (news ++ x ∷ []) news
-newly_more held certs news i x b at new is =
-    ap (newly held) (ap (λ n. take n certs) (add-one i) ∙ take_at certs i x at) ∙ newly_push held (take i certs) x ∙
-    ap (λ zs. cond (among (held ++ zs) x) zs (zs ++ x ∷ [])) (sym new) ∙ turn (among (held ++ news) x) ∙ ap (λ t. cond t (news ++ x ∷ []) news) (sym is)
+pub newly_more : (issuers : List ℕ) (held certs news : List Certificate) (i : ℕ) (x : Certificate) (b : Bool) → slice_get certs i ≡ Some x → news ≡ newly held (admitted issuers (take i certs)) →
+    b ≡ (not (is_withdrawn issuers x.issuer) && not (among (held ++ news) x)) → newly held (admitted issuers (take (i + 1) certs)) ≡ cond b (news ++ x ∷ []) news
+newly_more issuers held certs news i x b at new is =
+    ap (λ zs. newly held (admitted issuers zs)) (ap (λ n. take n certs) (add-one i) ∙ take_at certs i x at) ∙
+    ap (newly held) (filter-append (λ (c : Certificate). not (is_withdrawn issuers c.issuer)) (take i certs) (x ∷ [])) ∙
+    admitted_push held (admitted issuers (take i certs)) x (is_withdrawn issuers x.issuer) ∙
+    ap (λ zs. cond (not (is_withdrawn issuers x.issuer) && not (among (held ++ zs) x)) (zs ++ x ∷ []) zs) (sym new) ∙ ap (λ t. cond t (news ++ x ∷ []) news) (sym is)
   where
     take_at : {X : Type 0} (xs : List X) (i : ℕ) (x : X) → slice_get xs i ≡ Some x → take (suc i) xs ≡ take i xs ++ x ∷ []
     take_at [] i x e = absurd cc
     take_at (y ∷ ys) zero x e = ap (λ z. z ∷ []) cc
     take_at (y ∷ ys) (suc i) x e = ap (λ zs. y ∷ zs) (take_at ys i x e)
-
-    turn : (b : Bool) → cond b news (news ++ x ∷ []) ≡ cond (not b) (news ++ x ∷ []) news
-    turn true = refl
-    turn false = refl
 
 -- equal certificates stay or go together
 pub among_staying : (r : Removal) (certs : List Certificate) (c : Certificate) → among (filter (stays r) certs) c ≡ (stays r c && among certs c)

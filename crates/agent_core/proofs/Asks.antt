@@ -265,12 +265,13 @@ module _ {plan : Plan} {earlier later : JournalSeen} {a : Ask} {place : ℕ} {r 
 
   -- what only other events are told
   pub other_never : (r ≡ answer.Kept) ⊎ (((cause : DropCause) × (r ≡ answer.Dropped cause)) ⊎
-      (((n : ℕ) × (r ≡ answer.Held n)) ⊎ (((n : ℕ) × (r ≡ answer.CommonsFull n)) ⊎ ((n : ℕ) × (r ≡ answer.Removed n))))) → ⊥
+      (((n : ℕ) × (r ≡ answer.Held n)) ⊎ (((n : ℕ) × (r ≡ answer.CommonsFull n)) ⊎ (((n : ℕ) × (r ≡ answer.Removed n)) ⊎ ((n : ℕ) × (r ≡ answer.WithdrawnFull n)))))) → ⊥
   other_never (inl h) = told_of_ask a place Told.Kept (step_as answer.Kept h)
   other_never (inr (inl h)) = told_of_ask a place (Told.Dropped h.0) (step_as (answer.Dropped h.0) h.1)
   other_never (inr (inr (inl h))) = told_of_ask a place (Told.Held h.0) (step_as (answer.Held h.0) h.1)
   other_never (inr (inr (inr (inl h)))) = told_of_ask a place (Told.CommonsFull h.0) (step_as (answer.CommonsFull h.0) h.1)
-  other_never (inr (inr (inr (inr h)))) = told_of_ask a place (Told.Removed h.0) (step_as (answer.Removed h.0) h.1)
+  other_never (inr (inr (inr (inr (inl h))))) = told_of_ask a place (Told.Removed h.0) (step_as (answer.Removed h.0) h.1)
+  other_never (inr (inr (inr (inr (inr h))))) = told_of_ask a place (Told.WithdrawnFull h.0) (step_as (answer.WithdrawnFull h.0) h.1)
 
 -- ---- how it ended, of what the program answers
 

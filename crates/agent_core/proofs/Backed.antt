@@ -10,13 +10,13 @@ use Rattle.stmt_codec.specs.Certificates.{Certificate, digest_of}
 use Rattle.stmt_codec.proofs.Equal.{same_certificate-true}
 use Rattle.denial_link.proofs.Members.{Contains-to_filter}
 use Rattle.proof_cache.specs.Cached.{Cached, lease_of}
-use Rattle.proof_cache.specs.Cache.{cites_it, has_lapsed, is_for, is_of_channel, speaks_on, to_front, without}
+use Rattle.proof_cache.specs.Cache.{cites_issuer, cites_it, has_lapsed, is_for, is_of_channel, speaks_on, to_front, without}
 use Rattle.proof_cache.specs.declared.row.TheConstants.{MAX_KEPT}
 use Rattle.agent_core.specs.declared.told.Told.{Told}
 use Rattle.agent_core.specs.declared.told.DropCause.{DropCause}
-use Rattle.agent_core.specs.Held.{among, newly, channel_of}
-use Rattle.agent_core.specs.State.{Plan, State, Ask, Event, Asks, Keeps, Holds, Discards, Forgets, Expires, Answer, own_of, held_for, keeping, is_gone, swept, brought, taking, asking, holding, forgetting, settled_by, first_missing, moment_of, next}
-use Rattle.agent_core.specs.Caches.{unlapsed, used, used_by, kept_by, who_at, cache_next}
+use Rattle.agent_core.specs.Held.{admitted, among, channel_of, is_withdrawn, newly}
+use Rattle.agent_core.specs.State.{Plan, State, Ask, Event, Asks, Keeps, Holds, Discards, Forgets, Expires, Withdraws, Answer, own_of, held_for, keeping, is_gone, swept, brought, taking, asking, holding, forgetting, withdrawing, without_issuer, settled_by, first_missing, moment_of, next}
+use Rattle.agent_core.specs.Caches.{unlapsed, used, used_by, kept_by, left_by, who_at, cache_next}
 use Rattle.agent_core.specs.Journals.{Entry, state_after, cache_after, moment_at, told_of, IsMeant, IsKeepable, MayFollow, IsLegalJournal}
 use Rattle.agent_core.specs.Laws.{IsBacked, CacheIsBacked}
 use Rattle.agent_core.proofs.Clocks.{moment_before, moment_later}
@@ -66,6 +66,15 @@ own_of-keeping p m s (Some c) = refl
 held_for-keeping : (p : Certificate → Bool) (m : ℕ) (s : State) (subject : Principal) → held_for (keeping p m s) subject ≡ filter p (held_for s subject)
 held_for-keeping p m s subject =
     ap (λ l. l ++ filter p s.commons) (own_of-keeping p m s (channel_of subject)) ∙ sym (filter-append p (own_of s (channel_of subject)) s.commons)
+
+own_of-issued : (issuer : ℕ) (s : State) (o : Option ℕ) → own_of (without_issuer issuer s) o ≡ filter (λ d. not (d.issuer == issuer)) (own_of s o)
+own_of-issued issuer s None = refl
+own_of-issued issuer s (Some c) = refl
+
+held_for-issued : (issuer : ℕ) (s : State) (subject : Principal) → held_for (without_issuer issuer s) subject ≡ filter (λ d. not (d.issuer == issuer)) (held_for s subject)
+held_for-issued issuer s subject =
+    ap (λ l. l ++ filter (λ (d : Certificate). not (d.issuer == issuer)) s.commons) (own_of-issued issuer s (channel_of subject))
+    ∙ sym (filter-append (λ (d : Certificate). not (d.issuer == issuer)) (own_of s (channel_of subject)) s.commons)
 
 -- a subject that does not speak on a channel has another, or none
 other_channel : (channel : ℕ) (s : State) (subject : Principal) → speaks_on channel subject ≡ false → own_of (forgetting channel s) (channel_of subject) ≡ own_of s (channel_of subject)
@@ -176,7 +185,7 @@ module _ (plan : Plan) where
       (λ e. backs_itself s)
       (λ e. (
         refl,
-        λ c b. backed_more s (record { clock = s.clock; last = s.last; own = s.own; commons = s.commons ++ new }) c refl
+        λ c b. backed_more s (record { clock = s.clock; last = s.last; own = s.own; commons = s.commons ++ new; withdrawn = s.withdrawn }) c refl
             (λ d h. ⊎_elim (λ l. Contains-append_left (own_of s (channel_of c.subject)) (s.commons ++ new) d l)
             (λ r. Contains-append_right (own_of s (channel_of c.subject)) (s.commons ++ new) d (Contains-append_left s.commons new d r))
             (Contains-append_cases (own_of s (channel_of c.subject)) s.commons d h)) b,
@@ -208,6 +217,36 @@ module _ (plan : Plan) where
       backed_keeping (λ x. not (bytes_eq (digest_of x) digest)) s.clock s c (omega arith) b.ahead
       (All-weaker (λ x. bytes_eq (digest_of x) digest ≡ false) (λ x. not (bytes_eq (digest_of x) digest) ≡ true) (λ x e. not_from_false (bytes_eq (digest_of x) digest) e) c.cites
       (All-of_none (λ x. bytes_eq (digest_of x) digest) c.cites h)) b
+
+  -- ---- a Withdraw
+
+  backed_withdrawing : (issuer : ℕ) (s : State) (c : Cached) → cites_issuer issuer c ≡ false → IsBacked plan s c → IsBacked plan (without_issuer issuer s) c
+  backed_withdrawing issuer s c h b =
+      let p : Certificate → Bool = λ d. not (d.issuer == issuer) in
+      let pass : All (λ (d : Certificate). p d ≡ true) c.cites =
+      All-weaker (λ (d : Certificate). (d.issuer == issuer) ≡ false) (λ (d : Certificate). p d ≡ true) (λ d e. not_from_false (d.issuer == issuer) e) c.cites
+      (All-of_none (λ (d : Certificate). d.issuer == issuer) c.cites h) in
+      record {
+        held = subst (λ l. All (Contains l) c.cites) (sym (held_for-issued issuer s c.subject))
+            (All-weaker (λ d. (p d ≡ true) × Contains (held_for s c.subject) d) (Contains (filter p (held_for s c.subject)))
+            (λ d k. Contains-to_filter p (held_for s c.subject) d k.1 k.0) c.cites
+            (All-both (λ d. p d ≡ true) (Contains (held_for s c.subject)) c.cites pass b.held));
+        begun = b.begun;
+        ahead = b.ahead;
+        lease_is = b.lease_is;
+        proves = b.proves;
+      }
+
+  -- what is kept after a withdrawal, by what was told of it
+  left_backed : (issuer : ℕ) (s : State) (told : Told) (cache : List Cached) → All (IsBacked plan s) cache →
+      told ≡ told_of cache (Withdraws issuer) (withdrawing plan issuer s).1 → All (IsBacked plan (withdrawing plan issuer s).0) (left_by issuer told cache)
+  left_backed issuer s told cache all =
+      cond_both (is_withdrawn s.withdrawn issuer) _ _ (λ (r : State × Answer). told ≡ told_of cache (Withdraws issuer) r.1 → All (IsBacked plan r.0) (left_by issuer told cache))
+      (λ _ e. subst (λ t. All (IsBacked plan s) (left_by issuer t cache)) (sym e) (All-filter (λ c. not (cites_issuer issuer c)) (IsBacked plan s) cache all))
+      (λ _. cond_both (nat_le 64 (length s.withdrawn)) _ _ (λ (r : State × Answer). told ≡ told_of cache (Withdraws issuer) r.1 → All (IsBacked plan r.0) (left_by issuer told cache))
+      (λ _ e. subst (λ t. All (IsBacked plan s) (left_by issuer t cache)) (sym e) all)
+      (λ _ e. subst (λ t. All (IsBacked plan (without_issuer issuer s)) (left_by issuer t cache)) (sym e)
+      (All-without (cites_issuer issuer) s (without_issuer issuer s) cache (backed_withdrawing issuer s) all)))
 
   -- ---- a Keep
 
@@ -253,14 +292,16 @@ module _ (plan : Plan) where
   backed_next s cache before (Keeps ask e c) told earlier meant tells all =
       All-kept_by s c told cache (λ k. backed_kept s before ask e c (earlier ask) meant (k ∙ tells)) all
   backed_next s cache before (Holds certs) told earlier meant tells all =
-      let backs : Backs s (holding s (newly s.commons certs)).0 = holding_backs s (newly s.commons certs) in
-      All-weaker (IsBacked plan s) (IsBacked plan (holding s (newly s.commons certs)).0) backs.1 cache all
+      let new : List Certificate = newly s.commons (admitted s.withdrawn certs) in
+      let backs : Backs s (holding s new).0 = holding_backs s new in
+      All-weaker (IsBacked plan s) (IsBacked plan (holding s new).0) backs.1 cache all
   backed_next s cache before (Discards d) told earlier meant tells all =
       All-without (cites_it d) s (keeping (λ x. not (bytes_eq (digest_of x) d)) s.clock s) cache (backed_discarding d s) all
   backed_next s cache before (Forgets channel) told earlier meant tells all =
       All-without (is_of_channel channel) s (forgetting channel s) cache (backed_forgetting channel s) all
   backed_next s cache before (Expires reading) told earlier meant tells all =
       unlapsed_swept plan.keep (moment_of s reading) s cache (moment_later s reading) all
+  backed_next s cache before (Withdraws issuer) told earlier meant tells all = left_backed issuer s told cache all tells
 
   abbrev Backed : List Entry → Type 0
   Backed j = All (IsBacked plan (state_after plan j)) (cache_after plan j)

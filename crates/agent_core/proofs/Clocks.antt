@@ -6,9 +6,9 @@ use Rattle.std.proofs.lemmas.List.Elements.{All-cons, All-nil}
 use Rattle.std.proofs.lemmas.Option.{get_or_from_slice_get, slice_get_within}
 use Rattle.stmt_codec.specs.Certificates.{Certificate}
 use Rattle.denial_link.proofs.Members.{has-cons, has-head}
-use Rattle.agent_core.specs.declared.limits.TheConstants.{MAX_COMMONS, MAX_OWN}
-use Rattle.agent_core.specs.Held.{newly}
-use Rattle.agent_core.specs.State.{Plan, State, Ask, Event, Asks, Keeps, Holds, Discards, Forgets, Expires, Answer, brought, asking, holding, moment_of, opened, reading_of, swept, next}
+use Rattle.agent_core.specs.declared.limits.TheConstants.{MAX_COMMONS, MAX_OWN, MAX_WITHDRAWN}
+use Rattle.agent_core.specs.Held.{admitted, is_withdrawn, newly}
+use Rattle.agent_core.specs.State.{Plan, State, Ask, Event, Asks, Keeps, Holds, Discards, Forgets, Expires, Withdraws, Answer, brought, asking, holding, withdrawing, moment_of, opened, reading_of, swept, next}
 use Rattle.agent_core.specs.Journals.{Entry, Stands, state_from, state_after, moment_at}
 use Rattle.agent_core.specs.Laws.{ClockNeverFalls, ClockIsRead}
 use Rattle.agent_core.proofs.Journaling.{state_from-push}
@@ -23,6 +23,11 @@ asking_clock s a =
 holding_clock : (s : State) (new : List Certificate) → (holding s new).0.clock ≡ s.clock
 holding_clock s new = cond_both (nat_lt MAX_COMMONS (length s.commons + length new)) _ _ (λ (r : State × Answer). r.0.clock ≡ s.clock) (λ _. refl) (λ _. refl)
 
+withdrawing_clock : (plan : Plan) (issuer : ℕ) (s : State) → (withdrawing plan issuer s).0.clock ≡ s.clock
+withdrawing_clock plan issuer s =
+    cond_both (is_withdrawn s.withdrawn issuer) _ _ (λ (r : State × Answer). r.0.clock ≡ s.clock) (λ _. refl)
+    (λ _. cond_both (nat_le MAX_WITHDRAWN (length s.withdrawn)) _ _ (λ (r : State × Answer). r.0.clock ≡ s.clock) (λ _. refl) (λ _. refl))
+
 stands_still : (n : ℕ) → n ≡ max n 0
 stands_still n = omega arith
 
@@ -30,10 +35,11 @@ stands_still n = omega arith
 pub next_clock : (plan : Plan) (s : State) (event : Event) → (next plan s event).0.clock ≡ max s.clock (reading_of event)
 next_clock plan s (Asks a) = asking_clock (swept plan.keep (moment_of s a.reading) s) a
 next_clock plan s (Keeps ask e c) = stands_still s.clock
-next_clock plan s (Holds certs) = holding_clock s (newly s.commons certs) ∙ stands_still s.clock
+next_clock plan s (Holds certs) = holding_clock s (newly s.commons (admitted s.withdrawn certs)) ∙ stands_still s.clock
 next_clock plan s (Discards digest) = stands_still s.clock
 next_clock plan s (Forgets channel) = stands_still s.clock
 next_clock plan s (Expires reading) = refl
+next_clock plan s (Withdraws issuer) = withdrawing_clock plan issuer s ∙ stands_still s.clock
 
 -- a moment is not before the clock
 pub moment_later : (s : State) (reading : ℕ) → s.clock ≤ moment_of s reading
@@ -71,7 +77,7 @@ module _ (plan : Plan) where
         ];
       }
 
-  state_from-append : (s : State) (journal more : List Entry) → state_from plan s (journal ++ more) ≡ state_from plan (state_from plan s journal) more
+  pub state_from-append : (s : State) (journal more : List Entry) → state_from plan s (journal ++ more) ≡ state_from plan (state_from plan s journal) more
   state_from-append s [] more = refl
   state_from-append s (e ∷ es) more = state_from-append (next plan s e.event).0 es more
 

@@ -4,8 +4,8 @@ use Rattle.std.proofs.lemmas.Bool.{cond_both, ltb-false}
 use Rattle.stmt_codec.specs.Certificates.{Certificate, digest_of, live}
 use Rattle.taos_calculus.specs.Monitor.{Grants}
 use Rattle.denial_link.specs.Revived.{claims}
-use Rattle.agent_core.specs.Held.{newly}
-use Rattle.agent_core.specs.State.{Plan, State, Ask, Event, Asks, Keeps, Holds, Discards, Forgets, Expires, Answer, Judged, opened, keeping, is_gone, swept, brought, taking, asking, holding, forgetting, next, moment_of}
+use Rattle.agent_core.specs.Held.{admitted, is_withdrawn, newly}
+use Rattle.agent_core.specs.State.{Plan, State, Ask, Event, Asks, Keeps, Holds, Discards, Forgets, Expires, Withdraws, Answer, Judged, opened, keeping, is_gone, swept, brought, taking, asking, holding, forgetting, withdrawing, next, moment_of}
 use Rattle.agent_core.specs.Journals.{Entry, state_from, state_after, IsMeant, granted, denied}
 use Rattle.agent_core.specs.Laws.{HoldsFew, JudgesFew, OneVerdict, JudgedIsVerdict, MeantStays, StepsAlone}
 use Rattle.agent_core.proofs.Journaling.{meant_on}
@@ -49,14 +49,20 @@ few_forgetting : (channel : ℕ) (s : State) → IsFew s → IsFew (forgetting c
 few_forgetting channel s h =
     (λ c. cond_both (c == channel) [] (s.own c) (λ (l : List Certificate). length l ≤ 32) (λ _. omega arith) (λ _. h.0 c), h.1)
 
+few_withdrawing : (plan : Plan) (issuer : ℕ) (s : State) → IsFew s → IsFew (withdrawing plan issuer s).0
+few_withdrawing plan issuer s h =
+    cond_both (is_withdrawn s.withdrawn issuer) _ _ (λ (r : State × Answer). IsFew r.0) (λ _. h)
+    (λ _. cond_both (nat_le 64 (length s.withdrawn)) _ _ (λ (r : State × Answer). IsFew r.0) (λ _. h) (λ _. few_keeping (λ c. not (c.issuer == issuer)) s.clock s h))
+
 module _ (plan : Plan) where
   few_next : (s : State) (e : Event) → IsFew s → IsFew (next plan s e).0
   few_next s (Asks a) h = few_asking (swept plan.keep (moment_of s a.reading) s) a (few_swept plan.keep (moment_of s a.reading) s h)
   few_next s (Keeps ask e c) h = h
-  few_next s (Holds certs) h = few_holding s (newly s.commons certs) h
+  few_next s (Holds certs) h = few_holding s (newly s.commons (admitted s.withdrawn certs)) h
   few_next s (Discards d) h = few_keeping (λ c. not (bytes_eq (digest_of c) d)) s.clock s h
   few_next s (Forgets channel) h = few_forgetting channel s h
   few_next s (Expires reading) h = few_swept plan.keep (moment_of s reading) s h
+  few_next s (Withdraws issuer) h = few_withdrawing plan issuer s h
 
   few_from : (s : State) (j : List Entry) → IsFew s → IsFew (state_from plan s j)
   few_from s [] h = h

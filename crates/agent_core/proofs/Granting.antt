@@ -106,14 +106,15 @@ module _ (plan : Plan) (earlier later : JournalSeen) (p e : ℕ) (c : Cached) (p
 
   -- what only other events are told
   pub never_kept : ((n : ℕ) × (r ≡ answer.Replayed n)) ⊎ (((n : ℕ) × (r ≡ answer.Full n)) ⊎ (((n : ℕ) × (x : Arc CachedValue Global) × (r ≡ answer.Hit n x)) ⊎
-      (((x : Snapshot) × (r ≡ answer.Miss x)) ⊎ (((n : ℕ) × (r ≡ answer.Held n)) ⊎ (((n : ℕ) × (r ≡ answer.CommonsFull n)) ⊎ ((n : ℕ) × (r ≡ answer.Removed n))))))) → ⊥
+      (((x : Snapshot) × (r ≡ answer.Miss x)) ⊎ (((n : ℕ) × (r ≡ answer.Held n)) ⊎ (((n : ℕ) × (r ≡ answer.CommonsFull n)) ⊎ (((n : ℕ) × (r ≡ answer.Removed n)) ⊎ ((n : ℕ) × (r ≡ answer.WithdrawnFull n)))))))) → ⊥
   never_kept (inl h) = no_other_step (answer.Replayed h.0) (Other (Told.Replayed h.0)) h.1 (λ t. t)
   never_kept (inr (inl h)) = no_other_step (answer.Full h.0) (Other (Told.Full h.0)) h.1 (λ t. t)
   never_kept (inr (inr (inl h))) = no_other_step (answer.Hit h.0 h.1) (Hit h.0 (cached (arc_value {X = CachedValue} h.1))) h.2 (λ t. t)
   never_kept (inr (inr (inr (inl h)))) = no_other_step (answer.Miss h.0) (Miss h.0.moment (certificates h.0.certs.items)) h.1 (λ t. t)
   never_kept (inr (inr (inr (inr (inl h))))) = no_other_step (answer.Held h.0) (Other (Told.Held h.0)) h.1 (λ t. t)
   never_kept (inr (inr (inr (inr (inr (inl h)))))) = no_other_step (answer.CommonsFull h.0) (Other (Told.CommonsFull h.0)) h.1 (λ t. t)
-  never_kept (inr (inr (inr (inr (inr (inr h)))))) = no_other_step (answer.Removed h.0) (Other (Told.Removed h.0)) h.1 (λ t. t)
+  never_kept (inr (inr (inr (inr (inr (inr (inl h))))))) = no_other_step (answer.Removed h.0) (Other (Told.Removed h.0)) h.1 (λ t. t)
+  never_kept (inr (inr (inr (inr (inr (inr (inr h))))))) = no_other_step (answer.WithdrawnFull h.0) (Other (Told.WithdrawnFull h.0)) h.1 (λ t. t)
 
 -- the same Ask and anchors
 pub granted_as : (anchors anchors' : List Anchor) → anchors' ≡ anchors → (a b : Ask) → b ≡ a → (certs : List Certificate) (moment e : ℕ) (c : Cached) → IsGrantedBy anchors certs moment b e c → IsGrantedBy anchors' certs moment a e c

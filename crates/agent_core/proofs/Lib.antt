@@ -5,6 +5,7 @@ pub mod Rows
 pub mod Places
 pub mod Stores
 pub mod TakingIn
+mod Withdrawing
 pub mod Journaling
 pub mod Clocks
 pub mod Channels

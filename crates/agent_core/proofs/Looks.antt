@@ -10,11 +10,11 @@ use Rattle.agent_core.specs.declared.held.removal.Removal.TheVariants.{Ended}
 use Rattle.agent_core.specs.declared.shard.asking.Look.{Look}
 use Rattle.agent_core.specs.declared.shard.store.Row.{Row}
 use Rattle.agent_core.specs.declared.shard.store.Store.{Store}
-use Rattle.agent_core.specs.State.{Plan, State, Ask, Asks, Answer, Judged, asking, taking, brought, swept, next}
+use Rattle.agent_core.specs.State.{Plan, State, Ask, Asks, Answer, Judged, asking, taking, brought, next}
 use Rattle.agent_core.specs.Journals.{Entry}
-use Rattle.agent_core.specs.Kept.{name_stays, certs_staying, IsRow, IsStore, now_at}
-use Rattle.agent_core.specs.Looking.{IsLook, IsTaken}
-use Rattle.agent_core.specs.Names.{named, certs_named, AreNames, name_in, brought_by}
+use Rattle.agent_core.specs.Kept.{name_stays, certs_staying, IsRow, IsStore, now_at, state_of}
+use Rattle.agent_core.specs.Looking.{IsLook, IsTaken, state_met}
+use Rattle.agent_core.specs.Names.{book, named, certs_named, AreNames, name_in, brought_by}
 use Rattle.agent_core.proofs.Bringing.{count_places, certs_joined, names_joined}
 use Rattle.agent_core.proofs.Changing.{row_found, row_names, row_changed, row_staying}
 use Rattle.agent_core.proofs.Channels.{here_changed, there_kept}
@@ -22,9 +22,12 @@ use Rattle.agent_core.proofs.Journaling.{store_more}
 use Rattle.agent_core.proofs.Judging.{asked_at, taken}
 use Rattle.agent_core.proofs.Rows.{left_named, left_names, left_counted, row_fresh}
 
-module _ (plan : Plan) (journal : List Entry) (s : State) (store : Store) (is : IsStore plan journal s store) (a : Ask) (look : Look) (l : IsLook plan journal s store a look) where
+module _ (plan : Plan) (journal : List Entry) (store : Store) (is : IsStore (book plan journal) (state_of (book plan journal)) store) (a : Ask) (look : Look) (l : IsLook (book plan journal) store a look) where
+  abbrev s : State
+  s = state_of (book plan journal)
+
   abbrev now_state : State
-  now_state = swept plan.keep look.moment s
+  now_state = state_met (book plan journal) look.moment
 
   -- the row's last number is the channel's
   pub last_at : (row : Row) → row ≡ get_or store.rows.items look.place row → now_state.last a.channel ≡ row.last
@@ -47,54 +50,55 @@ module _ (plan : Plan) (journal : List Entry) (s : State) (store : Store) (is : 
     row_there : row ≡ get_or store.rows.items look.place row
     row_there = at ∙ ap (λ (v : Vec Row Global). get_or v.items look.place row) same
 
-    pub row_named : AreNames plan.commons journal row.own.items
+    pub row_named : AreNames (book plan journal) row.own.items
     row_named = row_names plan journal s store is look.place a.channel row l.here row_there
 
-    pub row_stays : certs_staying plan.commons journal (Ended plan.keep look.moment) row.own.items ≡ now_state.own a.channel
+    pub row_stays : certs_staying (book plan journal) (Ended plan.keep look.moment) row.own.items ≡ now_state.own a.channel
     row_stays = row_staying plan journal s store is look.moment (omega (arith, l.moment)) look.place a.channel row l.here row_there
 
-    pub row_held : look.held ≡ length (filter (name_stays plan.commons journal (Ended plan.keep look.moment)) row.own.items)
+    pub row_held : look.held ≡ length (filter (name_stays (book plan journal) (Ended plan.keep look.moment)) row.own.items)
     row_held =
-        l.held ∙ sym (left_counted (named plan.commons journal) (Ended plan.keep look.moment) row.own.items _ refl row_named ∙ ap (λ (cs : List Certificate). length cs) row_stays)
+        l.held ∙ sym (left_counted (named (book plan journal)) (Ended plan.keep look.moment) row.own.items _ refl row_named ∙ ap (λ (cs : List Certificate). length cs) row_stays)
 
   -- the Ask's row afterwards
   module _ (e : Entry) (brings : brought_by e.event ≡ a.presented) (rows : Vec Row Global) (same : rows ≡ store.rows) (row row' : Row) (at : row ≡ get_or rows.items look.place row) (left : List Name)
-      (stay : left ≡ filter (name_stays plan.commons journal (Ended plan.keep look.moment)) row.own.items) (stamp : ℕ) (last : row'.last ≡ a.seq) (stamped : row'.swept ≡ stamp)
+      (stay : left ≡ filter (name_stays (book plan journal) (Ended plan.keep look.moment)) row.own.items) (stamp : ℕ) (last : row'.last ≡ a.seq) (stamped : row'.swept ≡ stamp)
       (names : row'.own.items ≡ left ++ map (name_in (length journal)) look.new.items) where
-    own_are : certs_named plan.commons journal left ≡ now_state.own a.channel
-    own_are = left_named (named plan.commons journal) (Ended plan.keep look.moment) row.own.items left stay ∙ row_stays rows same row at
+    own_are : certs_named (book plan journal) left ≡ now_state.own a.channel
+    own_are = left_named (named (book plan journal)) (Ended plan.keep look.moment) row.own.items left stay ∙ row_stays rows same row at
 
-    own_names : AreNames plan.commons journal left
-    own_names = left_names (named plan.commons journal) (Ended plan.keep look.moment) row.own.items left stay (row_named rows same row at)
+    own_names : AreNames (book plan journal) left
+    own_names = left_names (named (book plan journal)) (Ended plan.keep look.moment) row.own.items left stay (row_named rows same row at)
 
-    row_taken : IsRow (now_at plan (journal ++ e ∷ []) look.moment stamp) row' ((taking now_state a).last a.channel) ((taking now_state a).own a.channel)
+    row_taken : IsRow (now_at (book plan (journal ++ e ∷ [])) look.moment stamp) row' ((taking now_state a).last a.channel) ((taking now_state a).own a.channel)
     row_taken =
-        let there : certs_named plan.commons (journal ++ e ∷ []) (left ++ map (name_in (length journal)) look.new.items) ≡ now_state.own a.channel ++ brought now_state a =
-        certs_joined plan.commons journal e left look.new.items own_names ∙
+        let there : certs_named (book plan (journal ++ e ∷ [])) (left ++ map (name_in (length journal)) look.new.items) ≡ now_state.own a.channel ++ brought now_state a =
+        certs_joined plan journal e left look.new.items own_names ∙
         ap₂ (λ (xs ys : List Certificate). xs ++ ys) own_are (ap (λ (cs : List Certificate). filter_map (slice_get cs) look.new.items) brings ∙ l.new_are) in
-        let valid = names_joined plan.commons journal e left look.new.items own_names (subst (λ (cs : List Certificate). All (λ p. p < length cs) look.new.items) (sym brings) l.new_within) in
+        let valid = names_joined plan journal e left look.new.items own_names (subst (λ (cs : List Certificate). All (λ p. p < length cs) look.new.items) (sym brings) l.new_within) in
         record {
           last_is = last ∙ sym (here_changed a.channel a.seq now_state.last);
-          own_is = row_fresh plan (journal ++ e ∷ []) look.moment stamp row' stamped ∙ ap (certs_named plan.commons (journal ++ e ∷ [])) names ∙ there ∙
+          own_is = row_fresh plan (journal ++ e ∷ []) look.moment stamp row' stamped ∙ ap (certs_named (book plan (journal ++ e ∷ []))) names ∙ there ∙
               sym (here_changed a.channel (now_state.own a.channel ++ brought now_state a) now_state.own);
-          names = subst (AreNames plan.commons (journal ++ e ∷ [])) (sym names) valid;
+          names = subst (AreNames (book plan (journal ++ e ∷ []))) (sym names) valid;
           swept_before = omega (arith, stamped);
         }
 
-    pub store_taken : (moved after : Store) → IsStore plan journal now_state moved → IsStrictlyIncreasing plan.channels →
+    pub store_taken : (moved after : Store) → IsStore (book plan journal) now_state moved → IsStrictlyIncreasing plan.channels →
         moved.clock ≡ look.moment → moved.swept ≡ stamp →
-        after.clock ≡ moved.clock → after.swept ≡ moved.swept → after.commons ≡ moved.commons → after.rows.items ≡ set moved.rows.items look.place row' →
-        IsStore plan (journal ++ e ∷ []) (taking now_state a) after
-    store_taken moved after now_is up clock stamp_is clock_same swept_same commons_same set_row =
+        after.clock ≡ moved.clock → after.swept ≡ moved.swept → after.commons ≡ moved.commons → after.withdrawn ≡ moved.withdrawn → after.rows.items ≡ set moved.rows.items look.place row' →
+        IsStore (book plan (journal ++ e ∷ [])) (taking now_state a) after
+    store_taken moved after now_is up clock stamp_is clock_same swept_same commons_same barred set_row =
         let was = store_more plan journal (e ∷ []) now_state moved now_is in
-        let changed : IsRow (now_at plan (journal ++ e ∷ []) moved.clock moved.swept) row' ((taking now_state a).last a.channel) ((taking now_state a).own a.channel) =
-        subst (λ n. IsRow (now_at plan (journal ++ e ∷ []) moved.clock n) row' ((taking now_state a).last a.channel) ((taking now_state a).own a.channel)) (sym stamp_is)
-        (subst (λ n. IsRow (now_at plan (journal ++ e ∷ []) n stamp) row' ((taking now_state a).last a.channel) ((taking now_state a).own a.channel)) (sym clock) row_taken) in
+        let changed : IsRow (now_at (book plan (journal ++ e ∷ [])) moved.clock moved.swept) row' ((taking now_state a).last a.channel) ((taking now_state a).own a.channel) =
+        subst (λ n. IsRow (now_at (book plan (journal ++ e ∷ [])) moved.clock n) row' ((taking now_state a).last a.channel) ((taking now_state a).own a.channel)) (sym stamp_is)
+        (subst (λ n. IsRow (now_at (book plan (journal ++ e ∷ [])) n stamp) row' ((taking now_state a).last a.channel) ((taking now_state a).own a.channel)) (sym clock) row_taken) in
         row_changed plan (journal ++ e ∷ []) now_state (taking now_state a) moved after was up look.place a.channel row' l.here
         set_row clock_same swept_same changed
         (λ c ne. sym (there_kept a.channel a.seq now_state.last c ne)) (λ c ne. sym (there_kept a.channel (now_state.own a.channel ++ brought now_state a) now_state.own c ne))
-        refl (subst (λ v. certs_named plan.commons (journal ++ e ∷ []) v.items ≡ now_state.commons) (sym commons_same) was.commons_are)
-        (subst (λ v. AreNames plan.commons (journal ++ e ∷ []) v.items) (sym commons_same) was.commons_names)
+        refl (subst (λ v. certs_named (book plan (journal ++ e ∷ [])) v.items ≡ now_state.commons) (sym commons_same) was.commons_are)
+        (subst (λ v. AreNames (book plan (journal ++ e ∷ [])) v.items) (sym commons_same) was.commons_names)
+        (ap (λ v. v.items) barred ∙ was.withdrawn_are)
 
   -- an Ask that is taken is judged by what its channel holds, what it brings, and the commons
   pub judged_now : IsTaken now_state a → (next plan s (Asks a)).1 ≡ Judged look.moment ((now_state.own a.channel ++ brought now_state a) ++ now_state.commons)

@@ -6,9 +6,10 @@ use Rattle.stmt_codec.specs.Certificates.{Certificate}
 use Rattle.agent_core.specs.declared.held.name.Name.{Name}
 use Rattle.agent_core.specs.declared.held.name.Name.TheVariants.{Common, Brought}
 use Rattle.agent_core.specs.declared.held.removal.Removal.{Removal}
+use Rattle.agent_core.specs.State.{Plan}
 use Rattle.agent_core.specs.Journals.{Entry}
 use Rattle.agent_core.specs.Kept.{stays, stays_if_named}
-use Rattle.agent_core.specs.Names.{named, certs_named, AreNames, brought_by}
+use Rattle.agent_core.specs.Names.{book, named, certs_named, AreNames, brought_by}
 
 -- ---- a filter of names is a filter of what they name
 
@@ -70,16 +71,16 @@ slice_get-front [] ys i x e = absurd cc
 slice_get-front (z ∷ xs) ys zero x e = e
 slice_get-front (z ∷ xs) ys (suc i) x e = slice_get-front xs ys i x e
 
-brought_more : (journal more : List Entry) (i place : ℕ) (c : Certificate) (o : Option Entry) → slice_get journal i ≡ o → named [] journal (Brought i place) ≡ Some c → named [] (journal ++ more) (Brought i place) ≡ Some c
-brought_more journal more i place c None e h = absurd (let no : None ≡ Some c = rw e at h in cc)
-brought_more journal more i place c (Some x) e h = rw (slice_get-front journal more i x e) (rw e at h)
+brought_more : (plan : Plan) (journal more : List Entry) (i place : ℕ) (c : Certificate) (o : Option Entry) → slice_get journal i ≡ o → named (book plan journal) (Brought i place) ≡ Some c → named (book plan (journal ++ more)) (Brought i place) ≡ Some c
+brought_more plan journal more i place c None e h = absurd (let no : None ≡ Some c = rw e at h in cc)
+brought_more plan journal more i place c (Some x) e h = rw (slice_get-front journal more i x e) (rw e at h)
 
-pub journal_names_more : (commons : List Certificate) (journal more : List Entry) → Extends (named commons journal) (named commons (journal ++ more))
-journal_names_more commons journal more = record { same = same }
+pub journal_names_more : (plan : Plan) (journal more : List Entry) → Extends (named (book plan journal)) (named (book plan (journal ++ more)))
+journal_names_more plan journal more = record { same = same }
   where
-    same : (n : Name) (c : Certificate) → named commons journal n ≡ Some c → named commons (journal ++ more) n ≡ Some c
+    same : (n : Name) (c : Certificate) → named (book plan journal) n ≡ Some c → named (book plan (journal ++ more)) n ≡ Some c
     same (Common place) c e = e
-    same (Brought i place) c e = brought_more journal more i place c (slice_get journal i) refl e
+    same (Brought i place) c e = brought_more plan journal more i place c (slice_get journal i) refl e
 
 -- ---- what the last entry brought
 
@@ -87,23 +88,23 @@ slice_get-end : {X : Type 0} (xs : List X) (x : X) → slice_get (xs ++ x ∷ []
 slice_get-end [] x = refl
 slice_get-end (z ∷ xs) x = slice_get-end xs x
 
-named_last : (commons : List Certificate) (journal : List Entry) (e : Entry) (place : ℕ) → named commons (journal ++ e ∷ []) (Brought (length journal) place) ≡ slice_get (brought_by e.event) place
-named_last commons journal e place = rw (slice_get-end journal e) refl
+named_last : (plan : Plan) (journal : List Entry) (e : Entry) (place : ℕ) → named (book plan (journal ++ e ∷ [])) (Brought (length journal) place) ≡ slice_get (brought_by e.event) place
+named_last plan journal e place = rw (slice_get-end journal e) refl
 
-pub certs_brought : (commons : List Certificate) (journal : List Entry) (e : Entry) (places : List ℕ) →
-    certs_named commons (journal ++ e ∷ []) (map (λ p. Brought (length journal) p) places) ≡ filter_map (slice_get (brought_by e.event)) places
-certs_brought commons journal e [] = refl
-certs_brought commons journal e (p ∷ ps) = rw (named_last commons journal e p) (rw (certs_brought commons journal e ps) refl)
+pub certs_brought : (plan : Plan) (journal : List Entry) (e : Entry) (places : List ℕ) →
+    certs_named (book plan (journal ++ e ∷ [])) (map (λ p. Brought (length journal) p) places) ≡ filter_map (slice_get (brought_by e.event)) places
+certs_brought plan journal e [] = refl
+certs_brought plan journal e (p ∷ ps) = rw (named_last plan journal e p) (rw (certs_brought plan journal e ps) refl)
 
 pub is_there : {X : Type 0} (xs : List X) (i : ℕ) → i < length xs → IsSome (slice_get xs i)
 is_there [] i lt = absurd (omega (arith, lt))
 is_there (x ∷ xs) zero lt = search rules
 is_there (x ∷ xs) (suc i) lt = is_there xs i (omega (arith, lt))
 
-pub are_brought : (commons : List Certificate) (journal : List Entry) (e : Entry) (places : List ℕ) → All (λ p. p < length (brought_by e.event)) places →
-    AreNames commons (journal ++ e ∷ []) (map (λ p. Brought (length journal) p) places)
-are_brought commons journal e [] all = All-nil (λ n. IsSome (named commons (journal ++ e ∷ []) n))
-are_brought commons journal e (p ∷ ps) all =
-    All-cons (λ n. IsSome (named commons (journal ++ e ∷ []) n)) (Brought (length journal) p) (map (λ p. Brought (length journal) p) ps)
-    (subst IsSome (sym (named_last commons journal e p)) (is_there (brought_by e.event) p (All-head (λ p. p < length (brought_by e.event)) p ps all)))
-    (are_brought commons journal e ps (All-tail (λ p. p < length (brought_by e.event)) p ps all))
+pub are_brought : (plan : Plan) (journal : List Entry) (e : Entry) (places : List ℕ) → All (λ p. p < length (brought_by e.event)) places →
+    AreNames (book plan (journal ++ e ∷ [])) (map (λ p. Brought (length journal) p) places)
+are_brought plan journal e [] all = All-nil (λ n. IsSome (named (book plan (journal ++ e ∷ [])) n))
+are_brought plan journal e (p ∷ ps) all =
+    All-cons (λ n. IsSome (named (book plan (journal ++ e ∷ [])) n)) (Brought (length journal) p) (map (λ p. Brought (length journal) p) ps)
+    (subst IsSome (sym (named_last plan journal e p)) (is_there (brought_by e.event) p (All-head (λ p. p < length (brought_by e.event)) p ps all)))
+    (are_brought plan journal e ps (All-tail (λ p. p < length (brought_by e.event)) p ps all))

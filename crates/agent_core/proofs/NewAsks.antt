@@ -7,10 +7,11 @@ use Rattle.agent_core.specs.Answers.{IsPlain, TakesMemory}
 use Rattle.agent_core.specs.Caches.{unlapsed, first_hit, hit_or_miss, used_by}
 use Rattle.agent_core.specs.declared.shard.asking.Look.{Look}
 use Rattle.agent_core.specs.declared.shard.store.Store.{Store}
-use Rattle.agent_core.specs.Journals.{Entry, state_after, cache_after, told_of, told_at, IsJudged}
-use Rattle.agent_core.specs.Kept.{IsStore}
-use Rattle.agent_core.specs.Looking.{IsLook, IsTaken}
-use Rattle.agent_core.specs.State.{Plan, State, Ask, Asks, Answer, Judged, brought, swept}
+use Rattle.agent_core.specs.Journals.{Entry, cache_after, told_of, told_at, IsJudged}
+use Rattle.agent_core.specs.Kept.{IsStore, state_of}
+use Rattle.agent_core.specs.Names.{book}
+use Rattle.agent_core.specs.Looking.{IsLook, IsTaken, state_met}
+use Rattle.agent_core.specs.State.{Plan, State, Ask, Asks, Answer, Judged, brought}
 use Rattle.agent_core.proofs.Judging.{taken}
 use Rattle.agent_core.proofs.Looks.{asked_now, judged_now}
 
@@ -25,23 +26,24 @@ plain_uses_none a (Told.Dropped cause) cache plain = refl
 plain_uses_none a (Told.Held added) cache plain = refl
 plain_uses_none a (Told.CommonsFull held) cache plain = refl
 plain_uses_none a (Told.Removed count) cache plain = refl
+plain_uses_none a (Told.WithdrawnFull held) cache plain = refl
 
 memory_taken : (o : Option ℕ) → TakesMemory (hit_or_miss o)
 memory_taken None = tt
 memory_taken (Some e) = tt
 
-module _ (plan : Plan) (journal : List Entry) (store : Store) (is : IsStore plan journal (state_after plan journal) store) (a : Ask) (look : Look)
-    (l : IsLook plan journal (state_after plan journal) store a look) (takes : IsTaken (swept plan.keep look.moment (state_after plan journal)) a) where
+module _ (plan : Plan) (journal : List Entry) (store : Store) (is : IsStore (book plan journal) (state_of (book plan journal)) store) (a : Ask) (look : Look)
+    (l : IsLook (book plan journal) store a look) (takes : IsTaken (state_met (book plan journal) look.moment) a) where
   abbrev now : State
-  now = swept plan.keep look.moment (state_after plan journal)
+  now = state_met (book plan journal) look.moment
 
   pub told_now : told_at plan journal (Asks a) ≡ hit_or_miss (first_hit (unlapsed look.moment (cache_after plan journal)) a)
   told_now =
       ap (λ (r : State × Answer). told_of (cache_after plan journal) (Asks a) r.1)
-      (asked_now plan journal (state_after plan journal) store is a look l ∙ taken (swept plan.keep look.moment (state_after plan journal)) a takes)
+      (asked_now plan journal store is a look l ∙ taken now a takes)
 
   pub wanted_now : TakesMemory (told_at plan journal (Asks a))
   wanted_now = subst TakesMemory (sym told_now) (memory_taken (first_hit (unlapsed look.moment (cache_after plan journal)) a))
 
   pub judged_here : (certs : List Certificate) → certs ≡ (now.own a.channel ++ brought now a) ++ now.commons → IsJudged plan journal a look.moment certs
-  judged_here certs e = judged_now plan journal (state_after plan journal) store is a look l takes ∙ ap (Judged look.moment) (sym e)
+  judged_here certs e = judged_now plan journal store is a look l takes ∙ ap (Judged look.moment) (sym e)

@@ -12,7 +12,7 @@ use Rattle.agent_core.specs.declared.shard.store.Row.{Row}
 use Rattle.agent_core.specs.State.{Plan}
 use Rattle.agent_core.specs.Journals.{Entry}
 use Rattle.agent_core.specs.Kept.{stays, stays_if_named, row_certs, now_at}
-use Rattle.agent_core.specs.Names.{certs_named}
+use Rattle.agent_core.specs.Names.{book, certs_named}
 use Rattle.agent_core.proofs.NamesLeft.{filter_named, count_named}
 
 module _ (f : Name → Option Certificate) (r : Removal) (names left : List Name) (e : left ≡ filter (λ n. stays_if_named r (f n)) names) where
@@ -49,10 +49,10 @@ pub nothing_goes : (certs : List Certificate) → filter (stays Nothing) certs �
 nothing_goes [] = refl
 nothing_goes (c ∷ cs) = ap (λ zs. c ∷ zs) (nothing_goes cs)
 
-pub row_fresh : (plan : Plan) (journal : List Entry) (clock swept : ℕ) (row : Row) → row.swept ≡ swept → row_certs (now_at plan journal clock swept) row ≡ certs_named plan.commons journal row.own.items
+pub row_fresh : (plan : Plan) (journal : List Entry) (clock swept : ℕ) (row : Row) → row.swept ≡ swept → row_certs (now_at (book plan journal) clock swept) row ≡ certs_named (book plan journal) row.own.items
 row_fresh plan journal clock swept row e =
-    ap (λ b. cond b (certs_named plan.commons journal row.own.items) (filter (stays (Ended plan.keep clock)) (certs_named plan.commons journal row.own.items))) (eq-eqb row.swept swept e)
+    ap (λ b. cond b (certs_named (book plan journal) row.own.items) (filter (stays (Ended plan.keep clock)) (certs_named (book plan journal) row.own.items))) (eq-eqb row.swept swept e)
 
-pub row_stale : (plan : Plan) (journal : List Entry) (clock swept : ℕ) (row : Row) → (row.swept ≡ swept → ⊥) → row_certs (now_at plan journal clock swept) row ≡ filter (stays (Ended plan.keep clock)) (certs_named plan.commons journal row.own.items)
+pub row_stale : (plan : Plan) (journal : List Entry) (clock swept : ℕ) (row : Row) → (row.swept ≡ swept → ⊥) → row_certs (now_at (book plan journal) clock swept) row ≡ filter (stays (Ended plan.keep clock)) (certs_named (book plan journal) row.own.items)
 row_stale plan journal clock swept row ne =
-    ap (λ b. cond b (certs_named plan.commons journal row.own.items) (filter (stays (Ended plan.keep clock)) (certs_named plan.commons journal row.own.items))) (ne_eqb row.swept swept ne)
+    ap (λ b. cond b (certs_named (book plan journal) row.own.items) (filter (stays (Ended plan.keep clock)) (certs_named (book plan journal) row.own.items))) (ne_eqb row.swept swept ne)

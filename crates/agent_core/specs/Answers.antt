@@ -52,6 +52,7 @@ given_by (answer.Dropped cause) = Handed (Other (Told.Dropped cause))
 given_by (answer.Held added) = Handed (Other (Told.Held added))
 given_by (answer.CommonsFull held) = Handed (Other (Told.CommonsFull held))
 given_by (answer.Removed count) = Handed (Other (Told.Removed count))
+given_by (answer.WithdrawnFull held) = Handed (Other (Told.WithdrawnFull held))
 given_by (answer.JournalFull n) = Full n
 
 -- the one holds of what is handed out or told; or the other of the length of a full journal

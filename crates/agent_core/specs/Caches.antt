@@ -5,9 +5,9 @@ use Rattle.std.specs.Option.{option_map}
 use Rattle.prin_term.specs.Principal.{Principal}
 use Rattle.prin_term.specs.View.{Grant}
 use Rattle.proof_cache.specs.Cached.{Cached}
-use Rattle.proof_cache.specs.Cache.{cites_it, has_lapsed, is_for, is_of_channel, keeping, to_front, without}
+use Rattle.proof_cache.specs.Cache.{cites_issuer, cites_it, has_lapsed, is_for, is_of_channel, keeping, to_front, without}
 use Rattle.agent_core.specs.declared.told.Told.{Told}
-use Rattle.agent_core.specs.State.{Ask, Event, Asks, Keeps, Holds, Discards, Forgets, Expires}
+use Rattle.agent_core.specs.State.{Ask, Event, Asks, Keeps, Holds, Discards, Forgets, Expires, Withdraws}
 
 -- the kept proofs whose lease has not ended at the moment
 abbrev pub unlapsed : ℕ → List Cached → List Cached
@@ -53,6 +53,11 @@ abbrev pub kept_by : Cached → Told → List Cached → List Cached
 kept_by c Told.Kept cache = keeping c cache
 kept_by c _ cache = cache
 
+-- the proofs that cite a certificate of the issuer go where this was told of its withdrawal
+abbrev pub left_by : (issuer : ℕ) → Told → List Cached → List Cached
+left_by issuer (Told.Removed count) cache = without (cites_issuer issuer) cache
+left_by issuer _ cache = cache
+
 -- the kept proofs after an event of which this was told, where the clock then stands at the moment
 abbrev pub cache_next : (moment : ℕ) → Event → Told → List Cached → List Cached
 cache_next moment (Asks a) told cache = used_by a told (unlapsed moment cache)
@@ -61,3 +66,4 @@ cache_next moment (Holds certs) told cache = cache
 cache_next moment (Discards digest) told cache = without (cites_it digest) cache
 cache_next moment (Forgets channel) told cache = without (is_of_channel channel) cache
 cache_next moment (Expires reading) told cache = unlapsed moment cache
+cache_next moment (Withdraws issuer) told cache = left_by issuer told cache

@@ -1,5 +1,5 @@
 -- Certificates as a shard compares them: by what they say.
-use Rattle.std.specs.Prelude.{ℕ, Bool, if◌then◌else◌, List, [], ◌∷◌, ◌++◌, Option, Some, None}
+use Rattle.std.specs.Prelude.{ℕ, Bool, not, ◌==◌, if◌then◌else◌, List, [], ◌∷◌, ◌++◌, filter, Option, Some, None}
 use Rattle.std.specs.List.{list_any}
 use Rattle.prin_term.specs.Principal.{Principal, Key, Quoting}
 use Rattle.stmt_codec.specs.Certificates.{Certificate}
@@ -13,6 +13,14 @@ among certs c = list_any (same_certificate c) certs
 abbrev pub newly : List Certificate → List Certificate → List Certificate
 newly held [] = []
 newly held (c ∷ cs) = if among held c then newly held cs else c ∷ newly (held ++ c ∷ []) cs
+
+-- whether the issuer is one of these
+abbrev pub is_withdrawn : List ℕ → ℕ → Bool
+is_withdrawn issuers issuer = list_any (λ i. issuer == i) issuers
+
+-- those whose issuer is none of these, in order
+abbrev pub admitted : List ℕ → List Certificate → List Certificate
+admitted issuers certs = filter (λ c. not (is_withdrawn issuers c.issuer)) certs
 
 -- the channel that a subject speaks on, with its key alone or quoting another principal
 abbrev pub channel_of : Principal → Option ℕ

@@ -1,11 +1,12 @@
 -- The verdict on an Ask, by certificates and a moment.
-use Rattle.std.specs.Prelude.{ℕ, Bool, List, map}
+use Rattle.std.specs.Prelude.{ℕ, Bool, List, map, MatchOption, Option}
 use Rattle.prin_term.specs.declared.term.Anchor.{Anchor}
+use Rattle.prin_term.specs.Principal.{Principal}
 use Rattle.prin_term.specs.View.{Grant}
 use Rattle.stmt_codec.specs.Certificates.{Certificate, is_live, live}
 use Rattle.taos_calculus.specs.Monitor.{FirstEntry, Grants, MaySpeak}
 use Rattle.denial_link.specs.Revived.{claims}
-use Rattle.denial_link.specs.Links.{IsFirstLink}
+use Rattle.denial_link.specs.Links.{IsFirstLink, NoEntryWith}
 use Rattle.agent_core.specs.declared.whole_ask.verdict.Decision.{Decision}
 use Rattle.agent_core.specs.declared.whole_ask.verdict.Decision.TheVariants as finding
 use Rattle.agent_core.specs.Journals.{Verdict, Granted, Denied}
@@ -14,6 +15,18 @@ use Rattle.agent_core.specs.State.{Ask}
 -- for each certificate, whether it is live at the moment
 abbrev pub live_marks : List Certificate → ℕ → List Bool
 live_marks certs moment = map (is_live moment) certs
+
+module _ (anchors : List Anchor) (certs : List Certificate) (moment : ℕ) (subject : Principal)
+    (list : List Grant) (right : ℕ) where
+  -- the subject speaks for the entry's principal, by the live certificates
+  abbrev pub SpeaksNow : Grant → Type 0
+  SpeaksNow g = MaySpeak anchors (claims (live certs moment)) subject g.who
+
+  -- this is the place of the first entry with the right for which it speaks; or there is none
+  abbrev pub IsFirstGranted : Option ℕ → Type 0
+  IsFirstGranted found =
+      MatchOption found (NoEntryWith list right SpeaksNow)
+      (λ k. (e : Grant) × FirstEntry list right SpeaksNow k e)
 
 -- what is found is the monitor's verdict: the first entry that grants; or the first link, where
 -- nothing is granted

@@ -7,18 +7,19 @@ use Rattle.std.specs.List.{range_with_len}
 use Rattle.agent_core.specs.declared.held.name.Name.{Name}
 use Rattle.agent_core.specs.declared.held.name.Name.TheVariants.{Common}
 use Rattle.agent_core.specs.declared.event.ShardEntry.{ShardEntry}
+use Rattle.agent_core.specs.declared.held.newness.Holding.{Holding}
 use Rattle.agent_core.specs.declared.held.removal.Removal.{Removal}
-use Rattle.agent_core.specs.declared.held.removal.Removal.TheVariants.{Nothing, Ended, Named}
+use Rattle.agent_core.specs.declared.held.removal.Removal.TheVariants.{Nothing, Ended, Named, Issued}
 use Rattle.agent_core.specs.declared.shard.store.Row.{Row}
 use Rattle.agent_core.specs.declared.shard.store.Store.{Store}
-use Rattle.agent_core.specs.Names.{named, certs_named, AreNames}
+use Rattle.agent_core.specs.Names.{book, named, certs_named, AreNames}
 use Rattle.agent_core.specs.Plans.{IsPlan}
 use Rattle.agent_core.specs.declared.told.DropCause.{DropCause}
 use Rattle.agent_core.specs.declared.told.Told.{Told}
 use Rattle.proof_cache.specs.Cached.{Cached}
 use Rattle.agent_core.specs.Caches.{who_at}
 use Rattle.agent_core.specs.State.{Plan, State, Ask, Event, Asks, Plain, is_gone, next}
-use Rattle.agent_core.specs.Journals.{Entry, entry, state_after, cache_after, IsLegalJournal}
+use Rattle.agent_core.specs.Journals.{Entry, ShardSeen, entry, state_after, cache_after, IsLegalJournal}
 use Rattle.agent_core.specs.Answers.{FitsEvent}
 use Rattle.agent_core.specs.Views.{entry_of}
 
@@ -27,6 +28,7 @@ abbrev pub lets_go : Removal → Certificate → Bool
 lets_go Nothing c = false
 lets_go (Ended keep moment) c = is_gone keep moment c
 lets_go (Named digest) c = bytes_eq (digest_of c) digest
+lets_go (Issued issuer) c = c.issuer == issuer
 
 -- whether the removal leaves the certificate
 abbrev pub stays : Removal → Certificate → Bool
@@ -38,62 +40,70 @@ stays_if_named removal None = false
 stays_if_named removal (Some c) = stays removal c
 
 -- whether the certificate of a name stays
-abbrev pub name_stays : List Certificate → List Entry → Removal → Name → Bool
-name_stays commons journal removal name = stays_if_named removal (named commons journal name)
+abbrev pub name_stays : ShardSeen → Removal → Name → Bool
+name_stays book removal name = stays_if_named removal (named book name)
 
 -- the certificates of names, those that stay
-abbrev pub certs_staying : List Certificate → List Entry → Removal → List Name → List Certificate
-certs_staying commons journal removal names =
-    filter (stays removal) (certs_named commons journal names)
+abbrev pub certs_staying : ShardSeen → Removal → List Name → List Certificate
+certs_staying book removal names = filter (stays removal) (certs_named book names)
+
+-- the certificates that a channel holds after a removal: its own ones, and those in common
+abbrev pub certs_held : Holding → List Certificate
+certs_held held =
+    certs_staying held.book.now held.removal.now held.own.now.items
+    ++ certs_staying held.book.now held.removal.now held.shared.now.items
 
 -- a shard as its rows are read
 pub record ShardNow : Type 0 where
-  pub plan : Plan
-  pub journal : List Entry
+  pub book : ShardSeen
   pub clock : ℕ
   -- how long the journal was when the shard swept last
   pub swept : ℕ
 
--- a shard of this plan and journal, at this clock, that swept when its journal was so long
-abbrev pub now_at : Plan → List Entry → ℕ → ℕ → ShardNow
-now_at plan journal clock swept =
-    record { plan = plan; journal = journal; clock = clock; swept = swept }
-
--- the certificates of names, as the shard's plan and journal have them
-abbrev pub certs_of : ShardNow → List Name → List Certificate
-certs_of now names = certs_named now.plan.commons now.journal names
+-- a shard of this book, at this clock, that swept when its journal was so long
+abbrev pub now_at : ShardSeen → ℕ → ℕ → ShardNow
+now_at book clock swept = record { book = book; clock = clock; swept = swept }
 
 -- the own certificates that a row stands for: where the shard swept since the row was, what is
 -- gone by now is still to be let go
 abbrev pub row_certs : ShardNow → Row → List Certificate
 row_certs now row =
-    if row.swept == now.swept then certs_of now row.own.items
-    else filter (stays (Ended now.plan.keep now.clock)) (certs_of now row.own.items)
+    if row.swept == now.swept then certs_named now.book row.own.items
+    else certs_staying now.book (Ended now.book.plan.keep now.clock) row.own.items
 
 -- the row stands for the channel's last number and its own certificates
 pub record IsRow (now : ShardNow) (row : Row) (last : ℕ) (own : List Certificate) : Type 0 where
   pub last_is : row.last ≡ last
   pub own_is : row_certs now row ≡ own
-  pub names : AreNames now.plan.commons now.journal row.own.items
+  pub names : AreNames now.book row.own.items
   -- the row was swept no later than the shard
   pub swept_before : row.swept ≤ now.swept
 
 -- what is kept stands for the state: a row for each channel, in their order
-pub record IsStore (plan : Plan) (journal : List Entry) (s : State) (store : Store) : Type 0 where
+pub record IsStore (book : ShardSeen) (s : State) (store : Store) : Type 0 where
   pub clock_is : store.clock ≡ s.clock
-  pub commons_are : certs_named plan.commons journal store.commons.items ≡ s.commons
-  pub commons_names : AreNames plan.commons journal store.commons.items
-  pub row_count : length store.rows.items ≡ length plan.channels
+  pub commons_are : certs_named book store.commons.items ≡ s.commons
+  pub commons_names : AreNames book store.commons.items
+  pub withdrawn_are : store.withdrawn.items ≡ s.withdrawn
+  pub row_count : length store.rows.items ≡ length book.plan.channels
   -- the row of each channel stands for its last number and its own certificates
   pub rows_are : (i : ℕ) (row : Row) (c : ℕ) → slice_get store.rows.items i ≡ Some row →
-      slice_get plan.channels i ≡ Some c →
-      IsRow (now_at plan journal store.clock store.swept) row (s.last c) (s.own c)
+      slice_get book.plan.channels i ≡ Some c →
+      IsRow (now_at book store.clock store.swept) row (s.last c) (s.own c)
+
+-- the state after a book's journal
+abbrev pub state_of : ShardSeen → State
+state_of book = state_after book.plan book.journal
+
+-- the proofs that are kept after a book's journal
+abbrev pub cache_of : ShardSeen → List Cached
+cache_of book = cache_after book.plan book.journal
 
 -- what is kept stands for the state after the entries, which are legal and have room
 pub record IsKept (plan : Plan) (entries : Vec ShardEntry Global) (store : Store) : Type 0 where
   pub planned : IsPlan plan
   pub legal : IsLegalJournal plan (map entry_of entries.items)
-  pub store_is : IsStore plan (map entry_of entries.items)
+  pub store_is : IsStore (book plan (map entry_of entries.items))
       (state_after plan (map entry_of entries.items)) store
   -- the shard was swept no later than at its last entry
   pub swept_within : store.swept ≤ length entries.items

@@ -13,8 +13,8 @@ use Rattle.agent_core.specs.Granted.{IsKeptProofFor}
 use Rattle.agent_core.specs.declared.asked.Denial.{Denial}
 use Rattle.agent_core.specs.declared.told.Told.{Told}
 use Rattle.agent_core.specs.Asked.{IsGrantedAt, IsHitAt, IsDeniedAt, IsToldOf, IsGrant}
-use Rattle.agent_core.specs.declared.limits.TheConstants.{MAX_OWN, MAX_COMMONS}
-use Rattle.agent_core.specs.State.{Plan, State, Ask, Event, Asks, Answer, Judged, Plain, opened, held_for, reading_of, next}
+use Rattle.agent_core.specs.declared.limits.TheConstants.{MAX_OWN, MAX_COMMONS, MAX_WITHDRAWN}
+use Rattle.agent_core.specs.State.{Plan, State, Ask, Event, Asks, Withdraws, Answer, Judged, Plain, opened, held_for, reading_of, next}
 use Rattle.agent_core.specs.Plans.{AreShards, home}
 use Rattle.agent_core.specs.Opened.{MayOpen, plans_for}
 use Rattle.agent_core.specs.declared.whole_ask.verdict.Decision.{Decision}
@@ -58,6 +58,18 @@ Agrees plan a (Judged moment certs) told = told ≡ Told.Miss
 -- no number of the list is larger; it is one of them, or 0
 abbrev pub IsLargest : List ℕ → ℕ → Type 0
 IsLargest numbers n = All (λ m. m ≤ n) numbers × ((n ≡ 0) ⊎ Contains numbers n)
+
+-- ---- issuers that are withdrawn
+
+-- each certificate is of an issuer that is not withdrawn
+abbrev pub AreAdmitted : State → List Certificate → Type 0
+AreAdmitted s certs = All (λ c. Contains s.withdrawn c.issuer → ⊥) certs
+
+-- few issuers are withdrawn, and no certificate of theirs is held
+pub record HoldsNoneWithdrawn (s : State) : Type 0 where
+  pub few : length s.withdrawn ≤ MAX_WITHDRAWN
+  pub own : (channel : ℕ) → AreAdmitted s (s.own channel)
+  pub commons : AreAdmitted s s.commons
 
 -- ---- kept proofs
 
@@ -150,6 +162,16 @@ module _ (plan : Plan) where
   HoldsFew = length plan.commons ≤ MAX_COMMONS → (journal : List Entry) →
       ((c : ℕ) → length ((state_after plan journal).own c) ≤ MAX_OWN)
       × (length (state_after plan journal).commons ≤ MAX_COMMONS)
+
+  -- no certificate of a withdrawn issuer is held after any journal
+  abbrev pub WithdrawnAreNotHeld : Type 0
+  WithdrawnAreNotHeld = (journal : List Entry) → HoldsNoneWithdrawn (state_after plan journal)
+
+  -- an issuer whose withdrawal removed certificates, or none, is withdrawn from then on
+  abbrev pub WithdrawnFromThen : Type 0
+  WithdrawnFromThen = (journal before more : List Entry) (issuer count : ℕ) →
+      journal ≡ before ++ entry (Withdraws issuer) (Told.Removed count) ∷ more →
+      IsLegalJournal plan journal → Contains (state_after plan journal).withdrawn issuer
 
   -- an Ask is judged by no more certificates than a channel and the commons may hold
   abbrev pub JudgesFew : Type 0

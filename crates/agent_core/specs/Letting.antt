@@ -2,15 +2,15 @@
 use Rattle.std.specs.Prelude.{◌≡◌, ℕ, List, length, filter, sum_by}
 use Rattle.agent_core.specs.declared.held.removal.Removal.{Removal}
 use Rattle.agent_core.specs.declared.shard.store.Row.{Row}
-use Rattle.agent_core.specs.Names.{AreNames}
-use Rattle.agent_core.specs.Kept.{ShardNow, certs_of, row_certs, stays}
+use Rattle.agent_core.specs.Names.{certs_named, AreNames}
+use Rattle.agent_core.specs.Kept.{ShardNow, row_certs, stays}
 
 -- a row lets certificates go, and was swept at the stamp
 pub record LetsGo (now : ShardNow) (removal : Removal) (stamp : ℕ) (row row' : Row) : Type 0 where
   pub last : row'.last ≡ row.last
   pub swept_at : row'.swept ≡ stamp
-  pub own : certs_of now row'.own.items ≡ filter (stays removal) (row_certs now row)
-  pub names : AreNames now.plan.commons now.journal row'.own.items
+  pub own : certs_named now.book row'.own.items ≡ filter (stays removal) (row_certs now row)
+  pub names : AreNames now.book row'.own.items
 
 -- how many certificates the rows have
 abbrev pub certs_in : ShardNow → List Row → ℕ

@@ -1,5 +1,5 @@
 -- What an Ask finds.
-use Rattle.std.specs.Prelude.{◌≡◌, ℕ, ◌+◌, ◌<◌, ◌≤◌, max, List, [], ◌∷◌, ◌++◌, length, map, find, slice_get, filter_map, if◌then◌else◌, Option, None, Some, All}
+use Rattle.std.specs.Prelude.{◌≡◌, ℕ, ◌+◌, ◌<◌, ◌≤◌, max, List, [], ◌∷◌, ◌++◌, length, map, find, slice_get, if◌then◌else◌, Option, None, Some, All}
 use Rattle.std.specs.declared.alloc.Global.{Global}
 use Rattle.std.specs.declared.vec.Vec.{Vec}
 use Rattle.std.specs.declared.sync.Arc.{Arc}
@@ -18,24 +18,27 @@ use Rattle.agent_core.specs.declared.told.Told.{Told}
 use Rattle.agent_core.specs.declared.told.Answer.{Answer}
 use Rattle.agent_core.specs.State.{Plan, State, Ask, Event, Asks, swept, brought}
 use Rattle.agent_core.specs.Caches.{first_hit, gives_right, unlapsed}
-use Rattle.agent_core.specs.Journals.{Entry, entry, cache_after, IsJudged}
-use Rattle.agent_core.specs.Kept.{IsKept, Tells}
+use Rattle.agent_core.specs.Journals.{ShardSeen, entry, cache_after, IsJudged}
+use Rattle.agent_core.specs.Kept.{IsKept, Tells, state_of}
+use Rattle.agent_core.specs.Names.{certs_at}
 use Rattle.agent_core.specs.Answers.{OfAnswer}
 use Rattle.agent_core.specs.Steps.{StepAnswer, Hit, Miss, Other}
 use Rattle.agent_core.specs.Views.{entry_of}
 
+-- the state that an Ask meets at this moment, after a book's journal
+abbrev pub state_met : ShardSeen → ℕ → State
+state_met book moment = swept book.plan.keep moment (state_of book)
+
 -- the Ask's moment, how much its channel holds then, and what the Ask brings
-pub record IsLook (plan : Plan) (journal : List Entry) (s : State) (store : Store) (a : Ask)
-    (look : Look) : Type 0 where
+pub record IsLook (book : ShardSeen) (store : Store) (a : Ask) (look : Look) : Type 0 where
   -- the place of the Ask's channel among those of the plan
-  pub here : slice_get plan.channels look.place ≡ Some a.channel
+  pub here : slice_get book.plan.channels look.place ≡ Some a.channel
   pub moment : look.moment ≡ max store.clock a.reading
   -- how many certificates of its own the channel holds then
-  pub held : look.held ≡ length ((swept plan.keep look.moment s).own a.channel)
+  pub held : look.held ≡ length ((state_met book look.moment).own a.channel)
   pub few : look.held ≤ MAX_OWN
   -- the places of those presented certificates that the channel does not hold yet
-  pub new_are : filter_map (slice_get a.presented) look.new.items
-      ≡ brought (swept plan.keep look.moment s) a
+  pub new_are : certs_at a.presented look.new.items ≡ brought (state_met book look.moment) a
   pub new_within : All (λ i. i < length a.presented) look.new.items
 
 -- the Ask's number is new, and what it brings fits

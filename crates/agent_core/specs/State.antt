@@ -1,14 +1,14 @@
 -- A shard's plain state, and how each event changes it. No kept proof occurs in it.
-use Rattle.std.specs.Prelude.{ℕ, ◌+◌, ◌-◌, max, Bool, not, ◌&&◌, ◌==◌, nat_lt, nat_le, if◌then◌else◌, List, [], ◌++◌, length, filter, find, sum_by, bytes_eq, Option, Some, None}
+use Rattle.std.specs.Prelude.{ℕ, ◌+◌, ◌-◌, max, Bool, not, ◌&&◌, ◌==◌, nat_lt, nat_le, if◌then◌else◌, List, [], ◌∷◌, ◌++◌, length, filter, find, sum_by, bytes_eq, Option, Some, None}
 use Rattle.prin_term.specs.declared.term.Anchor.{Anchor}
 use Rattle.prin_term.specs.Principal.{Principal}
 use Rattle.prin_term.specs.View.{Grant}
 use Rattle.stmt_codec.specs.Certificates.{Certificate, digest_of}
 use Rattle.proof_cache.specs.Cached.{Cached}
-use Rattle.agent_core.specs.declared.limits.TheConstants.{MAX_OWN, MAX_COMMONS}
+use Rattle.agent_core.specs.declared.limits.TheConstants.{MAX_OWN, MAX_COMMONS, MAX_WITHDRAWN}
 use Rattle.agent_core.specs.declared.told.DropCause.{DropCause}
 use Rattle.agent_core.specs.declared.told.Told.{Told}
-use Rattle.agent_core.specs.Held.{among, channel_of, newly}
+use Rattle.agent_core.specs.Held.{admitted, among, channel_of, is_withdrawn, newly}
 
 -- what a shard is opened with
 pub record Plan : Type 0 where
@@ -24,12 +24,14 @@ pub record Plan : Type 0 where
   -- how many entries the journal has at most
   pub limit : ℕ
 
--- a shard's clock, the last number and the own certificates of each channel, and the commons
+-- a shard's clock, the last number and the own certificates of each channel, the commons, and the
+-- issuers that are withdrawn
 pub record State : Type 0 where
   pub clock : ℕ
   pub last : ℕ → ℕ
   pub own : ℕ → List Certificate
   pub commons : List Certificate
+  pub withdrawn : List ℕ
 
 -- who asks for a right on an access list, on which channel and under which number
 pub record Ask : Type 0 where
@@ -57,6 +59,8 @@ pub data Event : Type 0 where
   Forgets : (channel : ℕ) → Event
   -- the clock read this, and the certificates that are gone by then are let go
   Expires : (reading : ℕ) → Event
+  -- the issuer's certificates are let go, and none of them is held from then on
+  Withdraws : (issuer : ℕ) → Event
 
 -- what an event is answered by
 pub data Answer : Type 0 where
@@ -65,9 +69,10 @@ pub data Answer : Type 0 where
   -- this is told at once
   Plain : Told → Answer
 
--- at opening nothing is held but the plan's commons
+-- at opening nothing is held but the plan's commons, and no issuer is withdrawn
 abbrev pub opened : Plan → State
-opened plan = record { clock = 0; last = λ c. 0; own = λ c. []; commons = plan.commons }
+opened plan =
+    record { clock = 0; last = λ c. 0; own = λ c. []; commons = plan.commons; withdrawn = [] }
 
 -- how many certificates the shard holds: each copy counts
 abbrev pub held_count : Plan → State → ℕ
@@ -105,9 +110,9 @@ reading_of _ = 0
 
 -- ---- an Ask
 
--- the presented certificates that the channel does not hold yet
+-- the presented certificates that the channel does not hold yet, of issuers that are not withdrawn
 abbrev pub brought : State → Ask → List Certificate
-brought s a = newly (s.own a.channel ++ s.commons) a.presented
+brought s a = newly (s.own a.channel ++ s.commons) (admitted s.withdrawn a.presented)
 
 -- its number is the channel's last one, and what is presented is held from then on
 abbrev pub taking : State → Ask → State
@@ -151,6 +156,10 @@ keeping_proof s c = (s, Plain (settled_by (first_missing s c) s.clock c.lease))
 
 -- ---- what is held in common
 
+-- those of the certificates that are not held in common yet, of issuers that are not withdrawn
+abbrev pub new_commons : State → List Certificate → List Certificate
+new_commons s certs = newly s.commons (admitted s.withdrawn certs)
+
 -- new certificates are held in common, unless there would be too many
 abbrev pub holding : State → List Certificate → State × Answer
 holding s new =
@@ -168,12 +177,27 @@ removing plan s t = (t, Plain (Told.Removed (held_count plan s - held_count plan
 abbrev pub forgetting : ℕ → State → State
 forgetting channel s = record s { own = at_channel channel [] s.own }
 
+-- the issuer is withdrawn, and its certificates are let go
+abbrev pub without_issuer : ℕ → State → State
+without_issuer issuer s = record (keeping (λ c. not (c.issuer == issuer)) s.clock s) {
+  withdrawn = s.withdrawn ++ issuer ∷ [];
+}
+
+-- an issuer is withdrawn, unless it is already, or as many are as may be
+abbrev pub withdrawing : Plan → ℕ → State → State × Answer
+withdrawing plan issuer s =
+    if is_withdrawn s.withdrawn issuer then (s, Plain (Told.Removed 0))
+    else (if nat_le MAX_WITHDRAWN (length s.withdrawn)
+    then (s, Plain (Told.WithdrawnFull (length s.withdrawn)))
+    else removing plan s (without_issuer issuer s))
+
 -- the next state, and the answer
 abbrev pub next : Plan → State → Event → State × Answer
 next plan s (Asks a) = asking (swept plan.keep (moment_of s a.reading) s) a
 next plan s (Keeps ask entry c) = keeping_proof s c
-next plan s (Holds certs) = holding s (newly s.commons certs)
+next plan s (Holds certs) = holding s (new_commons s certs)
 next plan s (Discards digest) =
     removing plan s (keeping (λ c. not (bytes_eq (digest_of c) digest)) s.clock s)
 next plan s (Forgets channel) = removing plan s (forgetting channel s)
 next plan s (Expires reading) = removing plan s (swept plan.keep (moment_of s reading) s)
+next plan s (Withdraws issuer) = withdrawing plan issuer s

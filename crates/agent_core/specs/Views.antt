@@ -1,5 +1,5 @@
 -- What the program's plans, events and answers mean, wherever their parts lie in memory.
-use Rattle.std.specs.Prelude.{map}
+use Rattle.std.specs.Prelude.{List, map}
 use Rattle.std.specs.Arc.{arc_value}
 use Rattle.prin_term.specs.View.{principal, grant}
 use Rattle.stmt_codec.specs.View.{certificates}
@@ -10,8 +10,8 @@ use Rattle.agent_core.specs.declared.event.Ask.{Ask as AskValue}
 use Rattle.agent_core.specs.declared.event.Event.{Event as EventValue}
 use Rattle.agent_core.specs.declared.event.Event.TheVariants as code
 use Rattle.agent_core.specs.declared.event.ShardEntry.{ShardEntry}
-use Rattle.agent_core.specs.State.{Plan, Ask, Event, Asks, Keeps, Holds, Discards, Forgets, Expires}
-use Rattle.agent_core.specs.Journals.{Entry}
+use Rattle.agent_core.specs.State.{Plan, Ask, Event, Asks, Keeps, Holds, Discards, Forgets, Expires, Withdraws}
+use Rattle.agent_core.specs.Journals.{Entry, ShardSeen}
 
 -- the plan that the program's one stands for
 abbrev pub plan_of : ShardPlan → Plan
@@ -45,7 +45,12 @@ event_of (code.Hold certs) = Holds (certificates (arc_value certs).items)
 event_of (code.Discard digest) = Discards digest
 event_of (code.Forget channel) = Forgets channel
 event_of (code.Expire reading) = Expires reading
+event_of (code.Withdraw issuer) = Withdraws issuer
 
 -- the entry of a journal that the program's one stands for
 abbrev pub entry_of : ShardEntry → Entry
 entry_of e = record { event = event_of e.event; told = e.told }
+
+-- what is seen of a shard with this plan and these entries
+abbrev pub book_of : ShardPlan → List ShardEntry → ShardSeen
+book_of plan entries = record { plan = plan_of plan; journal = map entry_of entries }

@@ -1,5 +1,10 @@
 //! What happens to a shard, and the entry that its journal has of it.
 
+ghost use Rattle.std.specs.Prelude.{◌≡◌};
+ghost use Rattle.std.specs.Option.{option_map};
+ghost use Rattle.agent_core.specs.Kept.{ask_in};
+ghost use Rattle.agent_core.specs.Views.{ask_of, event_of};
+
 use crate::told::Told;
 use prin_term::{Entry, Term};
 use proof_cache::Cached;
@@ -39,6 +44,23 @@ pub enum Event {
     Forget(u32),
     /// The clock read this: certificates that ended long enough ago are let go.
     Expire(u64),
+    /// The issuer's certificates are let go, and none of them is held from then on.
+    Withdraw(u32),
+}
+
+/// The Ask that an event is, if it is one.
+pub fn ask_in(event: &Event) -> Option<&Ask>
+    ensures { option_map (λ a. ask_of a.now) result ≡ ask_in (event_of event.now) }
+{
+    match event {
+        Event::Ask(asked) => Some(asked),
+        Event::Keep { .. }
+        | Event::Hold(_)
+        | Event::Discard(_)
+        | Event::Forget(_)
+        | Event::Expire(_)
+        | Event::Withdraw(_) => None,
+    }
 }
 
 /// An entry of a shard's journal.

@@ -9,6 +9,7 @@ ghost use Rattle.agent_core.specs.Laws.{HasOneJournal, HoldsFew, JudgesFew, OneV
 ghost use Rattle.agent_core.specs.Laws.{MeantStays, StepsAlone, AsksAreVerdicts, AskStays};
 ghost use Rattle.agent_core.specs.Laws.{OpenedAreShards, EachChannelAtHome};
 ghost use Rattle.agent_core.specs.Laws.{ClockNeverFalls, ClockIsRead};
+ghost use Rattle.agent_core.specs.Laws.{WithdrawnAreNotHeld, WithdrawnFromThen};
 ghost use Rattle.agent_core.specs.Laws.{GivesPlainVerdicts, CacheIsBacked, CacheIsSmall, HitIsGranted};
 
 /// A beginning of a legal journal is legal.
@@ -65,6 +66,12 @@ pub fn hits_are_grants()
 pub fn shards_hold_few()
     ensures held { (plan : Plan) → HoldsFew plan }
     ensures judged { (plan : Plan) → JudgesFew plan }
+{}
+
+/// No certificate of a withdrawn issuer is held, from its withdrawal on; few issuers are withdrawn.
+pub fn the_withdrawn_are_not_held()
+    ensures not_held { (plan : Plan) → WithdrawnAreNotHeld plan }
+    ensures from_then { (plan : Plan) → WithdrawnFromThen plan }
 {}
 
 /// No Ask is both granted and denied.

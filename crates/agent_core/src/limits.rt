@@ -6,6 +6,9 @@ pub const MAX_OWN: usize = 32;
 /// How many certificates are held in common at most.
 pub const MAX_COMMONS: usize = 32;
 
+/// How many issuers are withdrawn at most.
+pub const MAX_WITHDRAWN: usize = 64;
+
 /// How many certificates an event brings at most.
 pub const MAX_PRESENTED: usize = 16;
 

@@ -20,10 +20,12 @@ mod presenting;
 mod row;
 mod serving;
 mod store;
+mod withdrawing;
 
 use crate::event::{Event, ShardEntry};
 use crate::held::name::{Name, Names};
 use crate::held::presented::Presented;
+use crate::held::withdrawn::Withdrawn;
 use crate::plan::ShardPlan;
 use crate::shard::answering::answer_to;
 use crate::shard::meant::is_taken;
@@ -102,6 +104,7 @@ impl Shard {
             clock: 0,
             swept: 0,
             commons: names_of(plan.commons.len()),
+            withdrawn: Withdrawn::new(),
             rows,
         };
         let presented = Presented::of(alloc, &plan.commons)?;

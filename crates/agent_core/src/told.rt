@@ -38,6 +38,8 @@ pub enum Told {
     CommonsFull { held: u8 },
     /// So many certificates were let go; each copy counts.
     Removed { count: u32 },
+    /// As many issuers are withdrawn as may be, so many, and this one is none of them.
+    WithdrawnFull { held: u8 },
 }
 
 /// What an Ask is judged by: the certificates of its channel and those in common, and its moment.
@@ -59,6 +61,7 @@ pub enum Answer {
     Held { added: u8 },
     CommonsFull { held: u8 },
     Removed { count: u32 },
+    WithdrawnFull { held: u8 },
     /// The journal has as many entries as its plan allows, and the event was none.
     JournalFull { length: u64 },
 }
@@ -77,6 +80,7 @@ impl Told {
             Told::Held { added } => Answer::Held { added },
             Told::CommonsFull { held } => Answer::CommonsFull { held },
             Told::Removed { count } => Answer::Removed { count },
+            Told::WithdrawnFull { held } => Answer::WithdrawnFull { held },
             // These hand something out.
             Told::Hit { .. } | Told::Miss => unreachable!(),
         }

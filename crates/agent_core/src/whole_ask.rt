@@ -95,7 +95,8 @@ fn keep_at_home<W: Wait + Sync, S: Shards>(
         | Answer::Miss(_)
         | Answer::Held { .. }
         | Answer::CommonsFull { .. }
-        | Answer::Removed { .. } => unreachable!(),
+        | Answer::Removed { .. }
+        | Answer::WithdrawnFull { .. } => unreachable!(),
     }
 }
 
@@ -164,6 +165,7 @@ pub fn ask<W: Wait + Sync, S: Shards, D: Decide, G: Gate>(
         | Answer::Dropped(_)
         | Answer::Held { .. }
         | Answer::CommonsFull { .. }
-        | Answer::Removed { .. } => unreachable!(),
+        | Answer::Removed { .. }
+        | Answer::WithdrawnFull { .. } => unreachable!(),
     }
 }

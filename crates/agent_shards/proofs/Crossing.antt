@@ -126,7 +126,7 @@ event_send = variants_send event.enum (
   (search (sendable, crosses, as_row_send, ask_send, ask_sync), tt),
   (
     (u64s, (u8s, (search (sendable, crosses, as_row_send, cached_send, cached_sync), tt))),
-    ((search (sendable, crosses, as_row_send, cert_send, cert_sync) depth 12, tt), ((search (sendable, as_row_send), tt), ((u32s, tt), ((u64s, tt), tt)))),
+    ((search (sendable, crosses, as_row_send, cert_send, cert_sync) depth 12, tt), ((search (sendable, as_row_send), tt), ((u32s, tt), ((u64s, tt), ((u32s, tt), tt))))),
   ),
 )
 
@@ -150,7 +150,7 @@ event_sync = variants_sync event.enum (
   (search (sendable, crosses, as_row_sync, ask_send, ask_sync), tt),
   (
     (u64y, (u8y, (search (sendable, crosses, as_row_sync, cached_send, cached_sync), tt))),
-    ((search (sendable, crosses, as_row_sync, cert_send, cert_sync) depth 12, tt), ((search (sendable, as_row_sync), tt), ((u32y, tt), ((u64y, tt), tt)))),
+    ((search (sendable, crosses, as_row_sync, cert_send, cert_sync) depth 12, tt), ((search (sendable, as_row_sync), tt), ((u32y, tt), ((u64y, tt), ((u32y, tt), tt))))),
   ),
 )
 
@@ -197,13 +197,13 @@ agent_sync = search (sendable, agent_within)
 op_send : IsSend op.the_row
 op_send = variants_send op.enum (
   tt,
-  ((search (sendable, crosses, as_row_send), tt), ((search (sendable, crosses, as_row_send, entry_send, entry_sync), tt), (tt, ((search (sendable, as_row_send), tt), ((u32s, tt), (tt, tt)))))),
+  ((search (sendable, crosses, as_row_send), tt), ((search (sendable, crosses, as_row_send, entry_send, entry_sync), tt), (tt, ((search (sendable, as_row_send), tt), ((u32s, tt), (tt, ((u32s, tt), tt))))))),
 )
 
 op_sync : IsSync op.the_row
 op_sync = variants_sync op.enum (
   tt,
-  ((search (sendable, crosses, as_row_sync), tt), ((search (sendable, crosses, as_row_sync, entry_send, entry_sync), tt), (tt, ((search (sendable, as_row_sync), tt), ((u32y, tt), (tt, tt)))))),
+  ((search (sendable, crosses, as_row_sync), tt), ((search (sendable, crosses, as_row_sync, entry_send, entry_sync), tt), (tt, ((search (sendable, as_row_sync), tt), ((u32y, tt), (tt, ((u32y, tt), tt))))))),
 )
 
 object_entry_send : IsSend object_entry.the_row

@@ -121,9 +121,10 @@ enum Deed {
     Discards,
     Keeps { ask: u64 },
     Forgets,
+    Withdraws,
 }
 
-use Deed::{Asks, Discards, Forgets, Keeps};
+use Deed::{Asks, Discards, Forgets, Keeps, Withdraws};
 
 fn event_of(alloc: Global, deed: Deed, cert: &Arc<Cert>) -> Result<Event, Fail> {
     match deed {
@@ -135,6 +136,7 @@ fn event_of(alloc: Global, deed: Deed, cert: &Arc<Cert>) -> Result<Event, Fail> 
             cached: cached(alloc, cert)?,
         }),
         Forgets => Ok(Event::Forget(2)),
+        Withdraws => Ok(Event::Withdraw(1)),
     }
 }
 
@@ -265,6 +267,41 @@ const LATER: &[(u64, Deed, Option<Told>)] = &[
     ),
 ];
 
+// A proof is kept, and goes with its issuer; between an Ask and its Keep the issuer is withdrawn, so
+// nothing of it is there for the Keep, nor for what is presented later.
+const WITHDRAWN: &[(u64, Deed, Option<Told>)] = &[
+    (
+        0,
+        Asks {
+            seq: 1,
+            reading: 1000,
+        },
+        Some(Told::Miss),
+    ),
+    (1, Keeps { ask: 0 }, Some(Told::Kept)),
+    (
+        2,
+        Asks {
+            seq: 2,
+            reading: 1000,
+        },
+        Some(Told::Hit { entry: 1 }),
+    ),
+    (3, Withdraws, Some(Told::Removed { count: 1 })),
+    (4, Keeps { ask: 2 }, Some(NOT_HELD)),
+    (
+        5,
+        Asks {
+            seq: 3,
+            reading: 1000,
+        },
+        Some(Told::Miss),
+    ),
+    (6, Keeps { ask: 5 }, Some(NOT_HELD)),
+    (7, Withdraws, Some(Told::Removed { count: 0 })),
+    (8, Discards, Some(Told::Removed { count: 0 })),
+];
+
 // The place of the deed that is told otherwise, if there is one.
 fn odd_one(
     alloc: Global,
@@ -292,5 +329,12 @@ fn a_proof_is_kept_until_its_lease_or_what_it_cites_ends(rt: HostRuntime) -> Res
 fn a_proof_is_kept_where_what_it_cites_had_begun(rt: HostRuntime) -> Result<(), Fail> {
     let cert = hand_off(rt.alloc(), 1500)?;
     assert!(rt; odd_one(rt.alloc(), &cert, LATER)? == None);
+    Ok(())
+}
+
+#[test]
+fn a_proof_goes_with_the_issuer_of_what_it_cites(rt: HostRuntime) -> Result<(), Fail> {
+    let cert = hand_off(rt.alloc(), 0)?;
+    assert!(rt; odd_one(rt.alloc(), &cert, WITHDRAWN)? == None);
     Ok(())
 }

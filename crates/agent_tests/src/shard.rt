@@ -89,9 +89,10 @@ enum Deed {
     Discards,
     Forgets(u32),
     Expires(u64),
+    Withdraws(u32),
 }
 
-use Deed::{Discards, Expires, Forgets, Holds};
+use Deed::{Discards, Expires, Forgets, Holds, Withdraws};
 
 fn equal(alloc: Global, serial: u64, count: u64) -> Result<Arc<Vec<Arc<Cert>>>, Fail> {
     let mut certs = Vec::new(alloc);
@@ -107,6 +108,7 @@ fn event_of(alloc: Global, deed: Deed) -> Result<Event, Fail> {
         Discards => Ok(Event::Discard(hand_off(alloc, 1)?.digest)),
         Forgets(channel) => Ok(Event::Forget(channel)),
         Expires(reading) => Ok(Event::Expire(reading)),
+        Withdraws(issuer) => Ok(Event::Withdraw(issuer)),
     }
 }
 
@@ -315,6 +317,7 @@ const LATE: &[Deed] = &[
     Discards,
     Forgets(2),
     Expires(9000),
+    Withdraws(1),
 ];
 
 #[test]
@@ -361,6 +364,69 @@ fn sweeps_of_others_reach_a_channel_when_it_is_met(rt: HostRuntime) -> Result<()
     }
     for &(place, deed, count) in &[(3, Forgets(2), 0), (4, Expires(0), 2)] {
         let told = Told::Removed { count };
+        assert!(rt;
+            is_told(&mut shard, rt.alloc(), deed, place, told)?,
+            "at {place}"
+        );
+    }
+    Ok(())
+}
+
+// What a sweep let go of is not counted again; what is gone and still held is.
+const WITHDRAWN: &[(u64, Deed, u32)] = &[
+    (3, Withdraws(2), 0),
+    (4, Withdraws(1), 2),
+    (5, Withdraws(1), 0),
+    (6, Expires(0), 0),
+];
+
+#[test]
+fn a_withdrawal_counts_what_is_held(rt: HostRuntime) -> Result<(), Fail> {
+    let mut shard = shard(rt.alloc(), 1, 10)?;
+    for &(channel, reading, first, count) in BEFORE {
+        asks_once(&mut shard, rt.alloc(), channel, reading, first, count)?;
+    }
+    for &(place, deed, count) in WITHDRAWN {
+        let told = Told::Removed { count };
+        assert!(rt;
+            is_told(&mut shard, rt.alloc(), deed, place, told)?,
+            "at {place}"
+        );
+    }
+    Ok(())
+}
+
+// Of two shards the first withdraws the issuer, and the other has not yet.
+#[test]
+fn a_shard_takes_what_another_one_withdrew(rt: HostRuntime) -> Result<(), Fail> {
+    let mut first = shard(rt.alloc(), 3600, 10)?;
+    let mut other = shard(rt.alloc(), 3600, 10)?;
+    let told = Told::Removed { count: 1 };
+    assert!(rt; is_told(&mut first, rt.alloc(), Withdraws(1), 0, told)?);
+    assert!(rt; held(&mut first, rt.alloc(), 2, 1, 2, 1)? == Ok(0));
+    assert!(rt; held(&mut other, rt.alloc(), 2, 1, 2, 1)? == Ok(2));
+    Ok(())
+}
+
+// After 64 others: one more, one of them, and what the issuer that was refused issued.
+const FULL: &[(u64, Deed, Told)] = &[
+    (64, Withdraws(1), Told::WithdrawnFull { held: 64 }),
+    (65, Withdraws(163), Told::Removed { count: 0 }),
+    (66, Discards, Told::Removed { count: 1 }),
+];
+
+#[test]
+fn sixty_four_issuers_are_withdrawn_at_most(rt: HostRuntime) -> Result<(), Fail> {
+    let mut shard = shard(rt.alloc(), 3600, 80)?;
+    for number in 0..64 {
+        let told = Told::Removed { count: 0 };
+        let deed = Withdraws(100 + number);
+        assert!(rt;
+            is_told(&mut shard, rt.alloc(), deed, number as u64, told)?,
+            "{number}"
+        );
+    }
+    for &(place, deed, told) in FULL {
         assert!(rt;
             is_told(&mut shard, rt.alloc(), deed, place, told)?,
             "at {place}"

@@ -7,7 +7,7 @@ use Rattle.prin_text.specs.Printing.{list_text}
 use Rattle.object_core.specs.declared.ruling.Ruling.{Ruling}
 use Rattle.object_core.specs.declared.ruling.Ruling.TheVariants.{Granted, Denied}
 use Rattle.object_core.specs.Objects.{ObjectEntry}
-use Rattle.object_core.specs.Operation.{Op, Read, Write, SetList, Hold, Discard, Forget, Sweep}
+use Rattle.object_core.specs.Operation.{Op, Read, Write, SetList, Hold, Discard, Forget, Sweep, Withdraw}
 use Rattle.audit_text.specs.Lines.{front, line, numbered, text_of}
 
 -- no texts of names or roles: each is told by its number
@@ -23,6 +23,7 @@ operation_text Hold = codes "hold"
 operation_text (Discard digest) = codes "discard " ++ encode_lower digest
 operation_text (Forget channel) = numbered (codes "forget") channel
 operation_text Sweep = codes "sweep"
+operation_text (Withdraw issuer) = numbered (codes "withdraw") issuer
 
 -- what was ruled
 abbrev pub ruling_text : Ruling → List ℕ

@@ -5,9 +5,9 @@ use Rattle.hex.specs.Hex.{encode_lower}
 use Rattle.agent_core.specs.declared.told.DropCause.{DropCause}
 use Rattle.agent_core.specs.declared.told.DropCause.TheVariants.{NotHeld, Lapsed}
 use Rattle.agent_core.specs.declared.told.Told.{Told}
-use Rattle.agent_core.specs.declared.told.Told.TheVariants.{Replayed, Full, Hit, Miss, Kept, Dropped, Held, CommonsFull, Removed}
+use Rattle.agent_core.specs.declared.told.Told.TheVariants.{Replayed, Full, Hit, Miss, Kept, Dropped, Held, CommonsFull, Removed, WithdrawnFull}
 use Rattle.agent_core.specs.Journals.{Entry}
-use Rattle.agent_core.specs.State.{Ask, Event, Asks, Keeps, Holds, Discards, Forgets, Expires}
+use Rattle.agent_core.specs.State.{Ask, Event, Asks, Keeps, Holds, Discards, Forgets, Expires, Withdraws}
 use Rattle.audit_text.specs.Lines.{front, line, numbered, text_of}
 
 -- a right by its word, or by its number where it has none
@@ -41,6 +41,7 @@ event_text (Holds certs) = numbered (codes "hold") (length certs)
 event_text (Discards digest) = codes "discard " ++ encode_lower digest
 event_text (Forgets channel) = numbered (codes "forget") channel
 event_text (Expires reading) = numbered (codes "expire") reading
+event_text (Withdraws issuer) = numbered (codes "withdraw") issuer
 
 -- why a proof was not kept
 abbrev pub cause_text : DropCause → List ℕ
@@ -58,6 +59,7 @@ told_text (Dropped cause) = codes "dropped " ++ cause_text cause
 told_text (Held added) = numbered (codes "added") added
 told_text (CommonsFull held) = numbered (codes "full") held
 told_text (Removed count) = numbered (codes "removed") count
+told_text (WithdrawnFull held) = numbered (codes "full") held
 
 -- the line of an entry of this shard, at its place
 abbrev pub shard_line : ℕ → ℕ → Entry → List ℕ

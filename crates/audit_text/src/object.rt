@@ -35,6 +35,7 @@ fn push_operation(alloc: Global, out: &mut String, names: &Names, op: &Op) -> Re
         Op::Discard(digest) => push_digest(alloc, out, "discard ", digest),
         Op::Forget(channel) => push_number(out, "forget", *channel as u64),
         Op::Sweep => out.push_str("sweep"),
+        Op::Withdraw(issuer) => push_number(out, "withdraw", *issuer as u64),
     }
 }
 

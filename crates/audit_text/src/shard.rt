@@ -81,6 +81,7 @@ fn push_event(alloc: Global, out: &mut String, event: &Event) -> Result<(), Allo
         Event::Discard(digest) => push_digest(alloc, out, "discard ", digest),
         Event::Forget(channel) => push_number(out, "forget", *channel as u64),
         Event::Expire(reading) => push_number(out, "expire", *reading),
+        Event::Withdraw(issuer) => push_number(out, "withdraw", *issuer as u64),
     }
 }
 
@@ -113,6 +114,7 @@ fn push_told(alloc: Global, out: &mut String, told: &Told) -> Result<(), AllocEr
         Told::Held { added } => push_number(out, "added", *added as u64),
         Told::CommonsFull { held } => push_number(out, "full", *held as u64),
         Told::Removed { count } => push_number(out, "removed", *count as u64),
+        Told::WithdrawnFull { held } => push_number(out, "full", *held as u64),
     }
 }
 

@@ -26,5 +26,6 @@ fn each_operation_needs_its_right(rt: HostRuntime) -> Result<(), Fail> {
     assert!(rt; right(Op::Discard([7; 32])) == 8);
     assert!(rt; right(Op::Forget(3)) == 8);
     assert!(rt; right(Op::Sweep) == 8);
+    assert!(rt; right(Op::Withdraw(3)) == 8);
     Ok(())
 }

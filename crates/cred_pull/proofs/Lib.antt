@@ -10,3 +10,4 @@ pub mod Laid
 pub mod ByRows
 pub mod Bytes
 pub mod OnePull
+pub mod Walks

@@ -28,19 +28,19 @@ right_tag key text c d tag opens spelled =
 
 module _ (key text : List ℕ) where
   -- without the link
-  abbrev NodeEnd : List Certificate → Type 0
+  abbrev pub NodeEnd : List Certificate → Type 0
   NodeEnd own =
       ((c : Certificate) × Opens key text c × (own ≡ c ∷ [])) ⊎ (((c : Certificate) → Opens key text c → ⊥) × (own ≡ []))
 
   -- by an answer of the link
-  abbrev LinkEnd : LinkAnswer → List Certificate → Type 0
+  abbrev pub LinkEnd : LinkAnswer → List Certificate → Type 0
   LinkEnd (Resealed new) own = ((c : Certificate) × IsResealed key text new c × (own ≡ c ∷ [])) ⊎ (((c : Certificate) → IsResealed key text new c → ⊥) × (own ≡ []))
   LinkEnd (Refused code) own = own ≡ []
   LinkEnd Lacked own = ⊥
   LinkEnd Failed own = ⊥
 
   -- too long; or opened by the node; or sent
-  abbrev EndsOne : List LinkCall → List Certificate → Type 0
+  abbrev pub EndsOne : List LinkCall → List Certificate → Type 0
   EndsOne calls own =
       ((2048 < length text) × (calls ≡ []) × (own ≡ []))
       ⊎ ((length text ≤ 2048)
@@ -49,7 +49,7 @@ module _ (key text : List ℕ) where
   not_issued : (c : Certificate) → Opens key text c → IsIssued text → ⊥
   not_issued c opens issued = kinds_apart text (body_spelling c ++ tag_of key (sealed_text 2 c)) issued.0 opens.text issued.1
 
-  ends_one : (calls : List LinkCall) (own : List Certificate) → IsOpened key text calls own → EndsOne calls own
+  pub ends_one : (calls : List LinkCall) (own : List Certificate) → IsOpened key text calls own → EndsOne calls own
   ends_one calls own (comes {c = c} short (by_node opens)) = inr (short, inl (not_issued c opens, refl, inl (c, opens, refl)))
   ends_one calls own (comes {c = c} short (by_relay {new = new} is)) = inr (short, inr ((body_spelling c ++ is.tag, is.presented.text), (Resealed new, refl, inl (c, is, refl))))
   ends_one calls own (refused short (malformed other none)) = inr (short, inl (other, refl, inr (λ c opens. none c (tag_of key (sealed_text 2 c)) (spelled_so key text c opens), refl)))
@@ -73,14 +73,14 @@ module _ (key text : List ℕ) where
   link_alike Lacked a b x y = absurd x
   link_alike Failed a b x y = absurd x
 
-  same_answer : (c d : LinkAnswer) (m k : List LinkCall) → call text c ∷ m ≡ call text d ∷ k → (c ≡ d) × (m ≡ k)
+  pub same_answer : (c d : LinkAnswer) (m k : List LinkCall) → call text c ∷ m ≡ call text d ∷ k → (c ≡ d) × (m ≡ k)
   same_answer c d m k e = let calls : call text c ≡ call text d = cc in (ap (λ (x : LinkCall). x.answer) calls, cc)
 
   -- what is behind no calls
   both_none : (f g m k : List LinkCall) → f ≡ [] → g ≡ [] → f ++ m ≡ g ++ k → m ≡ k
   both_none f g m k none nothing e = ap (λ (l : List LinkCall). l ++ m) (sym none) ∙ e ∙ ap (λ (l : List LinkCall). l ++ k) nothing
 
-  ends_alike : (f g m k : List LinkCall) (a b : List Certificate) → EndsOne f a → EndsOne g b → f ++ m ≡ g ++ k → (a ≡ b) × (m ≡ k)
+  pub ends_alike : (f g m k : List LinkCall) (a b : List Certificate) → EndsOne f a → EndsOne g b → f ++ m ≡ g ++ k → (a ≡ b) × (m ≡ k)
   ends_alike f g m k a b (inl (long, none, is)) (inl (longer, nothing, also)) e = (is ∙ sym also, both_none f g m k none nothing e)
   ends_alike f g m k a b (inl (long, none, is)) (inr (short, y)) e = absurd (omega (arith, long, short))
   ends_alike f g m k a b (inr (short, x)) (inl (long, nothing, also)) e = absurd (omega (arith, long, short))
@@ -94,21 +94,21 @@ module _ (key text : List ℕ) where
 -- ---- all of them
 
 -- what the texts are pulled by, the first apart
-record First (key text : List ℕ) (texts : Texts) (calls : List LinkCall) (certs : List Certificate) : Type 0 where
-  first : List LinkCall
-  more : List LinkCall
-  own : List Certificate
-  behind : List Certificate
-  opened : IsOpened key text first own
-  pulled : ArePulled key texts more behind
-  calls_are : calls ≡ first ++ more
-  certs_are : certs ≡ own ++ behind
+pub record First (key text : List ℕ) (texts : Texts) (calls : List LinkCall) (certs : List Certificate) : Type 0 where
+  pub first : List LinkCall
+  pub more : List LinkCall
+  pub own : List Certificate
+  pub behind : List Certificate
+  pub opened : IsOpened key text first own
+  pub pulled : ArePulled key texts more behind
+  pub calls_are : calls ≡ first ++ more
+  pub certs_are : certs ≡ own ++ behind
 
-first_of : (key text : List ℕ) (texts : Texts) (calls : List LinkCall) (certs : List Certificate) → ArePulled key (text ∷ texts) calls certs → First key text texts calls certs
+pub first_of : (key text : List ℕ) (texts : Texts) (calls : List LinkCall) (certs : List Certificate) → ArePulled key (text ∷ texts) calls certs → First key text texts calls certs
 first_of key text texts calls certs (one_more {first = by} {calls = rest} {own = mine} {certs = ds} opened behind) =
     record { first = by; more = rest; own = mine; behind = ds; opened = opened; pulled = behind; calls_are = refl; certs_are = refl }
 
-none_of : (key : List ℕ) (calls : List LinkCall) (certs : List Certificate) → ArePulled key [] calls certs → certs ≡ []
+pub none_of : (key : List ℕ) (calls : List LinkCall) (certs : List Certificate) → ArePulled key [] calls certs → certs ≡ []
 none_of key calls certs none_more = refl
 
 pub one_pull : (key : List ℕ) (texts : Texts) (calls : List LinkCall) (certs others : List Certificate) → ArePulled key texts calls certs → ArePulled key texts calls others → certs ≡ others

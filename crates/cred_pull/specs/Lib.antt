@@ -4,7 +4,6 @@ pub mod FetchLinks
 pub mod AnswersLeft
 pub mod Pulled
 pub mod Pulling
-pub mod PullReply
 pub mod WalletFile
 pub mod WalletView
 pub mod WalletServing

@@ -1,7 +1,7 @@
 //! The reply to a request whose certificates could not be fetched.
 
-ghost use Rattle.std.specs.Prelude.{◌≡◌, ◌++◌};
-ghost use Rattle.cred_pull.specs.PullReply.{pull_failed, pull_failed_text};
+ghost use Rattle.std.specs.Prelude.{◌≡◌, Some};
+ghost use Rattle.taos_wire.specs.Reply.{PullFailed, reply_text, sent, spelling};
 
 use crate::limits::PULL_FAILED;
 use arrayvec::ArrayVec;
@@ -11,8 +11,9 @@ use keyed_seal::Sealer;
 pub type ReplyBytes = ArrayVec<u8, 64>;
 
 // The reply up to its tag: the version of replies, what is answered, and the status.
+#[tactic(auto, unfolding(taos_wire::specs::Reply::reply_text))]
 fn text_of(channel: u32, seq: u64) -> [u8; 14]
-    ensures { result ≡ pull_failed_text channel seq }
+    ensures { result ≡ reply_text channel seq PullFailed }
 {
     let c = channel.to_be_bytes();
     let s = seq.to_be_bytes();
@@ -37,7 +38,7 @@ fn text_of(channel: u32, seq: u64) -> [u8; 14]
 /// Writes the reply that says that the certificates of the channel's request could not be fetched,
 /// under a key that is ready to seal. It takes no memory.
 pub fn write_pull_failed_with(out: &mut ReplyBytes, sealer: &Sealer, channel: u32, seq: u64)
-    ensures { out.new.items ≡ pull_failed sealer.now channel seq }
+    ensures { out.new.items ≡ spelling (sent (Some sealer.now) channel seq PullFailed) }
 {
     let text = text_of(channel, seq);
     let tag = sealer.tag(&text);
@@ -48,7 +49,7 @@ pub fn write_pull_failed_with(out: &mut ReplyBytes, sealer: &Sealer, channel: u3
 
 /// The same under the channel's key.
 pub fn write_pull_failed(out: &mut ReplyBytes, key: &[u8; 32], channel: u32, seq: u64)
-    ensures { out.new.items ≡ pull_failed key.now channel seq }
+    ensures { out.new.items ≡ spelling (sent (Some key.now) channel seq PullFailed) }
 {
     write_pull_failed_with(out, &Sealer::of(key), channel, seq);
 }

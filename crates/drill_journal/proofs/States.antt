@@ -8,7 +8,7 @@ use Rattle.stmt_codec.specs.Equality.{same_certificate}
 use Rattle.stmt_codec.proofs.Equal.{same_certificate-itself}
 use Rattle.proof_cache.specs.Cached.{Cached}
 use Rattle.agent_core.specs.declared.told.Told.{Told}
-use Rattle.agent_core.specs.Held.{among, newly}
+use Rattle.agent_core.specs.Held.{admitted, among, newly}
 use Rattle.agent_core.specs.Kept.{ask_in}
 use Rattle.agent_core.specs.State.{Plan, State, Ask, Event, Asks, Keeps, Answer, Judged, opened, at_channel, is_gone, swept, brought, asking, next}
 use Rattle.agent_core.specs.Journals.{Entry, entry, state_after, IsJudged}
@@ -21,6 +21,7 @@ use Rattle.drill_journal.proofs.Fronts.{each_front, push_cases, at_front}
 pub record IsLoadState (j : List Entry) (s : State) : Type 0 where
   pub clock : s.clock ≤ 1000
   pub commons : s.commons ≡ []
+  pub withdrawn : s.withdrawn ≡ []
   pub own : (k : ℕ) → (s.own k ≡ []) ⊎ (s.own k ≡ drill_certificate k ∷ [])
   -- a number above those of all Asks of a channel is above its last one
   pub last : (k n : ℕ) → 0 < n → ((p m : ℕ) (list : List Grant) (t : Told) → AsksAt j p k m list t → m < n) → s.last k < n
@@ -51,29 +52,29 @@ module _ (k n : ℕ) (list : List Grant) where
   abbrev this : Ask
   this = load_ask k n list
 
-  module _ (t : State) (clock : t.clock ≡ 1000) (commons : t.commons ≡ []) (own : (t.own k ≡ []) ⊎ (t.own k ≡ cert ∷ [])) (new : t.last k < n) where
-    abbrev all_of : List Certificate → List Certificate → List Certificate
-    all_of o w = o ++ newly (o ++ w) (cert ∷ [])
+  module _ (t : State) (clock : t.clock ≡ 1000) (commons : t.commons ≡ []) (withdrawn : t.withdrawn ≡ []) (own : (t.own k ≡ []) ⊎ (t.own k ≡ cert ∷ [])) (new : t.last k < n) where
+    abbrev all_of : List Certificate → List Certificate → List ℕ → List Certificate
+    all_of o w v = o ++ newly (o ++ w) (admitted v (cert ∷ []))
 
-    abbrev too_many : List Certificate → List Certificate → Bool
-    too_many o w = nat_lt 32 (length o + length (newly (o ++ w) (cert ∷ [])))
+    abbrev too_many : List Certificate → List Certificate → List ℕ → Bool
+    too_many o w v = nat_lt 32 (length o + length (newly (o ++ w) (admitted v (cert ∷ []))))
 
     holds_it : t.own k ++ brought t this ≡ cert ∷ []
     holds_it =
         elim own [
-          | inl e ↦ ap₂ all_of e commons
-          | inr e ↦ ap₂ all_of e commons ∙ ap (λ l. cert ∷ l) (held_it cert)
+          | inl e ↦ ap₂ (λ o w. all_of o w t.withdrawn) e commons ∙ ap (all_of [] []) withdrawn
+          | inr e ↦ ap₂ (λ o w. all_of o w t.withdrawn) e commons ∙ ap (all_of (cert ∷ []) []) withdrawn ∙ ap (λ l. cert ∷ l) (held_it cert)
         ]
 
     fits : nat_lt 32 (length (t.own k) + length (brought t this)) ≡ false
     fits =
         elim own [
-          | inl e ↦ ap₂ too_many e commons
-          | inr e ↦ ap₂ too_many e commons ∙ ap (λ (l : List Certificate). nat_lt 32 (length (cert ∷ []) + length l)) (held_it cert)
+          | inl e ↦ ap₂ (λ o w. too_many o w t.withdrawn) e commons ∙ ap (too_many [] []) withdrawn
+          | inr e ↦ ap₂ (λ o w. too_many o w t.withdrawn) e commons ∙ ap (too_many (cert ∷ []) []) withdrawn ∙ ap (λ (l : List Certificate). nat_lt 32 (length (cert ∷ []) + length l)) (held_it cert)
         ]
 
     abbrev after_with : List Certificate → ℕ → List Certificate → State × Answer
-    after_with l m w = (record { clock = t.clock; last = at_channel k n t.last; own = at_channel k l t.own; commons = t.commons }, Judged m (l ++ w))
+    after_with l m w = (record { clock = t.clock; last = at_channel k n t.last; own = at_channel k l t.own; commons = t.commons; withdrawn = t.withdrawn }, Judged m (l ++ w))
 
     taken : asking t this ≡ after_with (cert ∷ []) 1000 []
     taken =
@@ -105,7 +106,7 @@ module _ (k n : ℕ) (list : List Grant) where
     none_common = ap sweeping is.commons
 
     abbrev pub after_ask : State
-    after_ask = record { clock = 1000; last = at_channel k n s.last; own = at_channel k (cert ∷ []) (λ c. sweeping (s.own c)); commons = sweeping s.commons }
+    after_ask = record { clock = 1000; last = at_channel k n s.last; own = at_channel k (cert ∷ []) (λ c. sweeping (s.own c)); commons = sweeping s.commons; withdrawn = s.withdrawn }
 
     moment : max s.clock 1000 ≡ 1000
     moment = let early : s.clock ≤ 1000 = is.clock in omega arith
@@ -113,12 +114,13 @@ module _ (k n : ℕ) (list : List Grant) where
     pub next_ask : next plan s (Asks this) ≡ (after_ask, Judged 1000 (cert ∷ []))
     next_ask =
         subst (λ (m : ℕ). asking (swept plan.keep m s) this ≡ (after_ask, Judged 1000 (cert ∷ []))) (sym moment)
-        (taken (swept plan.keep 1000 s) refl none_common (still k) new)
+        (taken (swept plan.keep 1000 s) refl none_common is.withdrawn (still k) new)
 
     pub after_ask_holds : (told : Told) → IsLoadState (j ++ entry (Asks this) told ∷ []) after_ask
     after_ask_holds told = record {
       clock = omega arith;
       commons = none_common;
+      withdrawn = is.withdrawn;
       own = λ c. cond_both (c == k) (cert ∷ []) (sweeping (s.own c)) (λ (l : List Certificate). (l ≡ []) ⊎ (l ≡ drill_certificate c ∷ []))
           (λ e. inr (ap (λ x. drill_certificate x ∷ []) (sym (eqb-true c k e)))) (λ _. still c);
       last = λ c m pos below. cond_both (c == k) n (s.last c) (λ l. l < m)
@@ -141,6 +143,7 @@ after_keep_holds : (j : List Entry) (s : State) (at e : ℕ) (c : Cached) (told 
 after_keep_holds j s at e c told is = record {
   clock = is.clock;
   commons = is.commons;
+  withdrawn = is.withdrawn;
   own = is.own;
   last = λ k n pos below. is.last k n pos (λ p i l t there. below p i l t (slice_front j (entry (Keeps at e c) told ∷ []) p (entry (Asks (load_ask k i l)) t) there));
   asked = λ p k m l t here.
@@ -192,6 +195,7 @@ module _ (plan : Plan) (journal : List Entry) (load : IsLoadJournal plan journal
   none_yet = record {
     clock = omega arith;
     commons = load.planned.commons;
+    withdrawn = refl;
     own = λ k. inl refl;
     last = λ k n pos below. pos;
     asked = λ p k m l t at. absurd (none-some (entry (Asks (load_ask k m l)) t) at);

@@ -1,8 +1,9 @@
 -- What came of all requests, by the connections that answered them.
-use Rattle.std.proofs.Common.{◌≡◌, ◌≢◌, ℕ, ◌+◌, ◌<◌, cond, eqb, List, [], ◌∷◌, ◌++◌, map, Option, Some, None, refl, sym, ap, ap₂, subst, ◌∙◌, inl, inr, arith}
+use Rattle.std.proofs.Common.{◌≡◌, ◌≢◌, ℕ, ◌+◌, ◌<◌, false, cond, eqb, List, [], ◌∷◌, ◌++◌, map, Option, Some, None, refl, sym, ap, ap₂, subst, ◌∙◌, inl, inr, arith}
 use Rattle.std.specs.Prelude.{All, AllPairs, sum_by}
 use Rattle.std.specs.List.{AllZip, flat_map, range_with_len}
 use Rattle.std.proofs.lemmas.Grind.{flat_map-append}
+use Rattle.std.proofs.lemmas.List.Concat.{flat_map-cons}
 use Rattle.std.proofs.lemmas.List.Elements.{All-head, All-tail, filter_map-append}
 use Rattle.std.proofs.lemmas.List.Sums.{sum_by-cons, sum_by-append}
 use Rattle.frame_link.specs.declared.outcome.Outcome.{Outcome}
@@ -13,13 +14,14 @@ use Rattle.node_words.specs.Words.{DrillWords}
 use Rattle.taos_drill.specs.declared.numbers.TheConstants.{READING}
 use Rattle.taos_drill.specs.Sent.{payload_of, requests_of}
 use Rattle.taos_lanes.specs.Lanes.{LaneRun, ServesAll, IsLaneAnswered, times_in_lane}
-use Rattle.taos_lanes.specs.Visits.{Visit, AnsweredIn, Chain, times_own}
-use Rattle.taos_monitor.specs.Cells.{Node, Journals, Cell, Place, IsAfter, number_in, numbers_in}
-use Rattle.taos_monitor.specs.Course.{Course}
-use Rattle.taos_monitor.specs.Credentials.{LinkCall}
+use Rattle.taos_lanes.specs.Visits.{Visit, AnsweredIn, Chain, among, times_own}
+use Rattle.taos_monitor.specs.Cells.{Node, Journals, no_entries, Cell, Place, IsAfter, number_in, numbers_in}
+use Rattle.taos_monitor.specs.Course.{Course, Used}
 use Rattle.taos_monitor.specs.Handling.{Gave}
-use Rattle.taos_monitor.specs.Run.{Turn, AreTurns, IsCourse, frames_of, readings_of, places_of}
+use Rattle.taos_monitor.specs.Run.{Turn, AreTurns, IsCourse, frames_of, readings_of, pulls_of, places_of}
 use Rattle.taos_monitor.specs.World.{World}
+use Rattle.taos_monitor.proofs.Connections.{unpulled}
+use Rattle.taos_monitor.proofs.Whole.{plain_course}
 use Rattle.taos_wire.specs.Reply as replies
 use Rattle.taos_wire.specs.Reply.{Sent, spelling}
 use Rattle.turn_cell.specs.Journal.{times}
@@ -45,6 +47,11 @@ gave_one x before after (z ∷ zs) is (Some left, shows, later) y h =
       | inr more ↦ gave_one x (Some left) after zs (ap (λ (l : List ℕ). Some l) now.1) later y more
     ]
 
+-- two lists together without an element
+none_apart : {X : Type 0} (xs ys : List X) → xs ++ ys ≡ [] → (xs ≡ []) × (ys ≡ [])
+none_apart [] ys none = (refl, none)
+none_apart (x ∷ xs) ys none = absurd cc
+
 -- ---- one lane
 
 -- what came of these requests, in order
@@ -65,23 +72,24 @@ module _ (d : DrillWords) (fits : FitsDrill d) (n : Node) (node : IsLoadNode d n
       rest_is : payload_of d.seed d.lanes i ∷ map (payload_of d.seed d.lanes) is ≡ t.frame ∷ frames_of turns → map (payload_of d.seed d.lanes) is ≡ frames_of turns
       rest_is h = cc
 
-  works_of : (is : List ℕ) (turns : List Turn) → map (payload_of d.seed d.lanes) is ≡ frames_of turns → All (IsCourse n J) turns → ((x : ℕ) → In x (readings_of turns) → x ≡ READING) →
+  works_of : (is : List ℕ) (turns : List Turn) → map (payload_of d.seed d.lanes) is ≡ frames_of turns → All (IsCourse n J) turns → ((x : ℕ) → In x (readings_of turns) → x ≡ READING) → pulls_of turns ≡ [] →
       ((t : Turn) → In t turns → t.sent.reply ≢ replies.NoMemory) → ((i : ℕ) → In i is → i < d.requests) → WorksOf d n J is (places_of turns)
-  works_of [] [] frames courses read had below = record { works = []; requests_are = refl; placed = refl; came = λ w h. absurd h }
-  works_of [] (t ∷ turns) frames courses read had below = absurd (some frames)
+  works_of [] [] frames courses read none had below = record { works = []; requests_are = refl; placed = refl; came = λ w h. absurd h }
+  works_of [] (t ∷ turns) frames courses read none had below = absurd (some frames)
     where
       some : [] ≡ t.frame ∷ frames_of turns → ⊥
       some e = absurd cc
-  works_of (i ∷ is) [] frames courses read had below = absurd (some frames)
+  works_of (i ∷ is) [] frames courses read none had below = absurd (some frames)
     where
       some : payload_of d.seed d.lanes i ∷ map (payload_of d.seed d.lanes) is ≡ [] → ⊥
       some e = absurd cc
-  works_of (i ∷ is) (t ∷ turns) frames courses read had below =
+  works_of (i ∷ is) (t ∷ turns) frames courses read none had below =
       let h = heads i is t turns frames in
-      let course = subst (λ (f : List ℕ). Course n J f t.used t.sent) h.0 (All-head (IsCourse n J) t turns courses) in
+      let (here_none, later_none) = none_apart t.used.pulls (pulls_of turns) (sym (flat_map-cons (λ (u : Turn). u.used.pulls) t turns) ∙ none) in
+      let course = subst (λ (f : List ℕ). Course n J f t.used t.sent) h.0 (plain_course n no_entries J t.frame t.used t.sent (All-head (IsCourse n J) t turns courses) here_none) in
       let readings = in_all (λ (x : ℕ). x ≡ READING) t.used.readings (λ x at. read x (in_left x t.used.readings (readings_of turns) at)) in
       let one = turned d fits n node i (below i (inl refl)) J t.used t.sent course readings (had t (inl refl)) in
-      let rest = works_of is turns h.1 (All-tail (IsCourse n J) t turns courses) (λ x at. read x (in_right x t.used.readings (readings_of turns) at)) (λ u at. had u (inr at)) (λ k at. below k (inr at)) in
+      let rest = works_of is turns h.1 (All-tail (IsCourse n J) t turns courses) (λ x at. read x (in_right x t.used.readings (readings_of turns) at)) later_none (λ u at. had u (inr at)) (λ k at. below k (inr at)) in
       let here = work_of i one.asks one.ruling in
       record {
         works = here ∷ rest.works;
@@ -96,8 +104,8 @@ module _ (d : DrillWords) (fits : FitsDrill d) (n : Node) (node : IsLoadNode d n
   -- ---- one connection
 
   module _ (limit : ℕ) where
-    answered_turns : (outcome : Outcome) (count : ℕ) → outcome ≡ End count → (turns : List Turn) (frames : List (List ℕ)) (calls : List LinkCall) → AreTurns n outcome turns frames calls → frames ≡ frames_of turns
-    answered_turns outcome count is turns frames calls are = (subst (λ (o : Outcome). AreTurns n o turns frames calls) is are).0
+    answered_turns : (outcome : Outcome) (count : ℕ) → outcome ≡ End count → (turns : List Turn) (frames : List (List ℕ)) (used : Used) → AreTurns n outcome turns frames used → (frames ≡ frames_of turns) × (used.pulls ≡ pulls_of turns)
+    answered_turns outcome count is turns frames used are = let all = subst (λ (o : Outcome). AreTurns n o turns frames used) is are in (all.0, all.1)
 
     lane_works : (lane : ℕ) (run : LaneRun n limit) → (a : AnswersLane d lane run) → IsLaneAnswered J run → (works : List Work) × LaneOf d n J lane works
         × ((cell : Cell) (place : ℕ) → times place (numbers_in cell (flat_map (work_places d) works)) ≡ times_in_lane cell place run)
@@ -107,14 +115,17 @@ module _ (d : DrillWords) (fits : FitsDrill d) (n : Node) (node : IsLoadNode d n
         let chain = subst (λ (l : List (Visit n limit)). Chain run.first l run.last) a.one run.chain in
         let clock : v.before.service.outside.clock.told ≡ Some (READING ∷ []) = ap (λ (w : World). w.outside.clock.told) chain.0 ∙ a.clock in
         let turns = in_journals.turns in
-        let frames : map (payload_of d.seed d.lanes) (requests_of d.requests d.lanes lane) ≡ frames_of turns = sym a.all ∙ answered_turns v.outcome _ a.ended turns v.connects.connection.served.payloads v.connects.connection.used.calls in_journals.in_order in
+        let answered_so = answered_turns v.outcome _ a.ended turns v.connects.connection.served.payloads v.connects.connection.used in_journals.in_order in
+        let frames : map (payload_of d.seed d.lanes) (requests_of d.requests d.lanes lane) ≡ frames_of turns = sym a.all ∙ answered_so.0 in
+        let unfetched : v.before.service.fetch.pulls ≡ false = ap (λ (w : World). w.fetch.pulls) chain.0 ∙ a.unfetched in
+        let none : pulls_of turns ≡ [] = sym answered_so.1 ∙ unpulled (among n) limit v.before v.after v.outcome v.connects.connection unfetched in
         let read : (x : ℕ) → In x (readings_of turns) → x ≡ READING =
         λ x at. gave_one READING v.before.service.outside.clock.told v.after.service.outside.clock.told v.connects.connection.used.readings clock v.connects.connection.gave x (subst (In x) (sym in_journals.read) at) in
         let had : (t : Turn) → In t turns → t.sent.reply ≢ replies.NoMemory =
         λ t at. all_in (λ (bytes : List ℕ). (s : Sent) → bytes ≡ spelling s → s.reply ≢ replies.NoMemory) (replies_of v.connects.connection.served.turns) (spelling t.sent) a.memory
         (subst (In (spelling t.sent)) (sym in_journals.replies_are) (in_map (λ (u : Turn). spelling u.sent) turns t at)) t.sent refl in
         let below : (i : ℕ) → In i (requests_of d.requests d.lanes lane) → i < d.requests = λ i at. (of_lane d.requests d.lanes lane i at).0 in
-        let w = works_of (requests_of d.requests d.lanes lane) turns frames in_journals.courses read had below in
+        let w = works_of (requests_of d.requests d.lanes lane) turns frames in_journals.courses read none had below in
         let places : v.connects.connection.used.places ≡ flat_map (work_places d) w.works = in_journals.owned ∙ w.placed in (
           w.works,
           record { requests_are = w.requests_are; came = w.came; ascending = subst (AllPairs IsAfter) places in_journals.ascending },

@@ -1,5 +1,5 @@
 -- The lanes of a drill, each of which answered all its requests.
-use Rattle.std.specs.Prelude.{◌≡◌, ◌≢◌, ℕ, List, [], ◌∷◌, length, map, All, Some}
+use Rattle.std.specs.Prelude.{◌≡◌, ◌≢◌, ℕ, false, List, [], ◌∷◌, length, map, All, Some}
 use Rattle.frame_link.specs.declared.outcome.Outcome.TheVariants.{End}
 use Rattle.frame_link.specs.Served.{replies_of}
 use Rattle.node_words.specs.Words.{DrillWords}
@@ -20,11 +20,12 @@ HadMemory v =
 abbrev pub lane_load : DrillWords → ℕ → List (List ℕ)
 lane_load d lane = map (payload_of d.seed d.lanes) (requests_of d.requests d.lanes lane)
 
--- The lane of this number read one time always. It served one connection, which was the payloads of
+-- The lane of this number read one time always, and fetched nothing. It served one connection, which was the payloads of
 -- its requests, all and in order, and no reply says that memory was refused.
 pub record AnswersLane {n : Node} {limit : ℕ} (d : DrillWords) (lane : ℕ) (run : LaneRun n limit) :
     Type 0 where
   pub clock : run.first.outside.clock.told ≡ Some (READING ∷ [])
+  pub unfetched : run.first.fetch.pulls ≡ false
   pub visit : Visit n limit
   pub one : run.visits ≡ visit ∷ []
   pub all : visit.connects.connection.served.payloads ≡ lane_load d lane

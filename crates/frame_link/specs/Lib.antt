@@ -15,3 +15,4 @@ pub mod Times
 pub mod Hall
 pub mod Served
 pub mod Exchange
+pub mod Unread

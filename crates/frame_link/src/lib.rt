@@ -35,4 +35,4 @@ pub use outcome_laws::steady_counts_cause_no_fault;
 pub use outside::{Clock, Door, Failed, RelayAnswer, RelayLink, Sink, Source};
 pub use service::{MAX_PAYLOAD, Service};
 pub use serving::serve_frames;
-pub use whole::{fill, pour};
+pub use whole::{Unread, fill, pour, read_up_to};

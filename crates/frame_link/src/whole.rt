@@ -1,8 +1,11 @@
-ghost use Rattle.std.specs.Prelude.{◌≡◌, ◌<◌, ◌≤◌, List, ℕ, ◌++◌, length, take, IfOk, OnOk, OnErr};
+ghost use Rattle.std.specs.Prelude.{◌≡◌, ◌⊎◌, ◌<◌, ◌≤◌, List, ℕ, ◌++◌, length, take, IfOk, OnOk, OnErr};
 ghost use Rattle.std.specs.Io.KnownBytes.{Consumes, IsAtEnd, Appends};
 ghost use Rattle.frame_link.specs.Faults.{HasCause};
+ghost use Rattle.frame_link.specs.Unread.{UnreadHasCause};
+ghost use Rattle.frame_link.specs.declared.whole.Unread.TheVariants as unread;
 
 use crate::outside::{Failed, Sink, Source};
+use std::alloc::{AllocError, Global};
 
 /// Takes bytes until the room is full or the source has ended, and says how many it took.
 pub fn fill<S: Source>(source: &mut S, room: &mut [u8]) -> Result<usize, Failed>
@@ -23,6 +26,85 @@ pub fn fill<S: Source>(source: &mut S, room: &mut [u8]) -> Result<usize, Failed>
         have += count;
     }
     Ok(have)
+}
+
+// The most bytes of a piece.
+const PIECE: usize = 65_536;
+
+/// Why bytes could not be read.
+#[derive(Clone, Copy, Debug, PartialEq, Eq)]
+pub enum Unread {
+    /// A read failed.
+    Failed,
+    /// Memory was refused.
+    NoMemory,
+}
+
+impl From<Failed> for Unread {
+    ghost from_gives = { λ _ e. e ≡ unread.Failed };
+
+    fn from(_e: Failed) -> Unread {
+        Unread::Failed
+    }
+}
+
+impl From<AllocError> for Unread {
+    ghost from_gives = { λ _ e. e ≡ unread.NoMemory };
+
+    fn from(_e: AllocError) -> Unread {
+        Unread::NoMemory
+    }
+}
+
+fn zeros(alloc: Global, len: usize) -> Result<Vec<u8>, AllocError>
+    ensures { IfOk result (λ v. length v.items ≡ len) }
+{
+    vec![in alloc; 0; len]
+}
+
+// The next bytes, at most so many, and fewer where no more are left.
+fn next_piece<S: Source>(alloc: Global, source: &mut S, most: usize) -> Result<Vec<u8>, Unread>
+    ensures read { IfOk result (λ v. Consumes (S.shown source.old).told (S.shown source.new).told
+        v.items) }
+    ensures few { IfOk result (λ v. length v.items ≤ most) }
+    ensures end { IfOk result (λ v. length v.items < most → IsAtEnd (S.shown source.new).told) }
+    ensures part { OnErr result ((part : List ℕ) × (length part ≤ most)
+        × Consumes (S.shown source.old).told (S.shown source.new).told part) }
+    ensures cause { UnreadHasCause (S.shown source.old).faults (S.shown source.new).faults result }
+{
+    let mut piece = zeros(alloc, most)?;
+    match fill(source, &mut piece) {
+        Ok(count) => {
+            piece.truncate(count);
+            Ok(piece)
+        }
+        Err(Failed) => Err(Unread::Failed),
+    }
+}
+
+/// All bytes that are left, or `most` of them where there are more. Memory is taken as they come, and
+/// none ahead.
+pub fn read_up_to<S: Source>(alloc: Global, source: &mut S, most: usize) -> Result<Vec<u8>, Unread>
+    ensures read { IfOk result (λ v. Consumes (S.shown source.old).told (S.shown source.new).told
+        v.items) }
+    ensures whole { IfOk result (λ v. IsAtEnd (S.shown source.new).told ⊎ (length v.items ≡ most)) }
+    ensures few { IfOk result (λ v. length v.items ≤ most) }
+    ensures part { OnErr result ((part : List ℕ) × (length part ≤ most)
+        × Consumes (S.shown source.old).told (S.shown source.new).told part) }
+    ensures cause { UnreadHasCause (S.shown source.old).faults (S.shown source.new).faults result }
+{
+    let mut bytes = Vec::new(alloc);
+    let mut have = 0;
+    while have < most {
+        let wanted = (most - have).min(PIECE);
+        let piece = next_piece(alloc, source, wanted)?;
+        bytes.extend_from_slice(&piece)?;
+        have += piece.len();
+        if piece.len() < wanted {
+            return Ok(bytes);
+        }
+    }
+    Ok(bytes)
 }
 
 /// Writes all of a piece.

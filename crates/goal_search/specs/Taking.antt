@@ -32,6 +32,18 @@ pub record Holds (pool : Pooled) (held : List Cited) (claims : List Claim)
       slice_get claims i ≡ Some (claim_by (principal_at pool) c)
   pub placed : (i : ℕ) (c : Cited) → slice_get held i ≡ Some c → c.place ≡ i
 
+-- the table lacks the anchor's key, or its name
+abbrev pub IsUnlinked : List Node → Anchor → Type 0
+IsUnlinked nodes anchor =
+    (key name : ℕ) → slice_get nodes key ≡ Some (Node.Key anchor.key) →
+    slice_get nodes name ≡ Some (Node.Name anchor.name) → ⊥
+
+-- these are the numbers of the anchor's key and of its name in the table
+abbrev pub LinksOne : List Node → Anchor → Anchored → Type 0
+LinksOne nodes anchor link =
+    (slice_get nodes link.key ≡ Some (Node.Key anchor.key))
+    × (slice_get nodes link.name ≡ Some (Node.Name anchor.name))
+
 -- these are the anchors by number, in whatever table has the pool's principals
 abbrev pub LinksAnchors : Pooled → List Anchor → List Anchored → Type 0
 LinksAnchors pool anchors links =

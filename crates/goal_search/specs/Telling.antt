@@ -1,5 +1,5 @@
 -- The lines of a derivation that tell what a search found.
-use Rattle.std.specs.Prelude.{◌≡◌, ℕ, ◌+◌, ◌<◌, ◌^◌, [], Some, slice_get, length, map}
+use Rattle.std.specs.Prelude.{◌≡◌, ℕ, ◌+◌, ◌*◌, ◌<◌, ◌^◌, [], Some, slice_get, length, map}
 use Rattle.prin_term.specs.declared.term.Anchor.{Anchor}
 use Rattle.taos_calculus.specs.declared.line.Fact.{Fact}
 use Rattle.taos_calculus.specs.declared.line.Node.{Node}
@@ -8,7 +8,7 @@ use Rattle.term_pool.specs.declared.cited.Cited.{Cited}
 use Rattle.term_pool.specs.declared.found.Found.{Found}
 use Rattle.term_pool.specs.Finding.{IsFound, facts_in, statement_of}
 use Rattle.goal_search.specs.Cells.{held_at, stamp_of}
-use Rattle.goal_search.specs.Reasons.{IsPassed, IsSaid}
+use Rattle.goal_search.specs.Reasons.{IsPassed, IsReason, IsSaid}
 use Rattle.goal_search.specs.Searching.{Core, Has, about, claims_in}
 
 -- the lines are a derivation over the search's table, and the index finds them
@@ -39,6 +39,12 @@ pub data IsFactOf (s : Core) (row number : ℕ) (fact : Fact) : Type 0 where
 -- the lines tell that the row has the number
 abbrev pub TellsOf : Core → Found → ℕ → ℕ → Type 0
 TellsOf s f row number = (fact : Fact) → IsFactOf s row number fact → IsTold f fact
+
+-- where the lines f tell what the cell at this place rests on, for this reason, the lines g tell the cell
+abbrev pub TellsCell : Core → (f g : Found) → (place reason : ℕ) → Type 0
+TellsCell s f g place reason =
+    (row number : ℕ) → Has s row number → place ≡ row * length s.nodes + number →
+    IsReason (about s) (TellsOf s f) row number reason → TellsOf s g row number
 
 -- a fact that may stand in the lines: its numbers are of the table, and what is said is stated
 pub data IsFactIn (s : Core) (fact : Fact) : Type 0 where

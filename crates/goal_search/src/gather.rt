@@ -11,7 +11,7 @@ ghost use Rattle.taos_calculus.specs.declared.proof.TheConstants.{MAX_NODES};
 ghost use Rattle.taos_calculus.specs.Question.{claim_of};
 ghost use Rattle.taos_calculus.specs.Tables.{IsNodeTable, principals_of};
 ghost use Rattle.term_pool.specs.Claims.{CitedIn, claim_by};
-ghost use Rattle.goal_search.specs.Taking.{Holds, LinksAnchors, Widens, principal_at};
+ghost use Rattle.goal_search.specs.Taking.{Holds, IsUnlinked, LinksAnchors, LinksOne, Widens, principal_at};
 
 use crate::search::Anchored;
 use prin_term::{Anchor, Entry, Term};
@@ -182,11 +182,7 @@ fn number_of_name(pool: &Pool, name: u32) -> Option<u16>
 // The anchor by the numbers of its key and its name, where both are there.
 fn linked(pool: &Pool, anchor: Anchor) -> Option<Anchored>
     ensures { (nodes : List Node) → IsNodeTable nodes → principals_of nodes ≡ pool.now.terms
-        → MatchOption result
-        ((c d : ℕ) → slice_get nodes c ≡ Some (Node.Key anchor.key)
-        → slice_get nodes d ≡ Some (Node.Name anchor.name) → ⊥)
-        (λ link. (slice_get nodes link.key ≡ Some (Node.Key anchor.key))
-        × (slice_get nodes link.name ≡ Some (Node.Name anchor.name))) }
+        → MatchOption result (IsUnlinked nodes anchor) (LinksOne nodes anchor) }
 {
     match number_of_key(pool, anchor.key) {
         Some(key) => match number_of_name(pool, anchor.name) {

@@ -5,10 +5,9 @@ ghost use Rattle.taos_calculus.specs.Question.{Question, IsProofOf};
 ghost use Rattle.taos_calculus.specs.Tables.{lines_of, named};
 ghost use Rattle.term_pool.specs.Finding.{statement_of};
 ghost use Rattle.goal_search.specs.Cells.{AreCells, reason_of};
-ghost use Rattle.goal_search.specs.Reasons.{IsReason};
 ghost use Rattle.goal_search.specs.Replaying.{IsOrder, IsQuestionOf};
-ghost use Rattle.goal_search.specs.Searching.{core, about, IsReady, IsNumber, Has};
-ghost use Rattle.goal_search.specs.Telling.{IsTelling, TellsMore, TellsOf, TellsBefore};
+ghost use Rattle.goal_search.specs.Searching.{core, Has, IsReady, IsNumber};
+ghost use Rattle.goal_search.specs.Telling.{IsTelling, TellsBefore, TellsCell, TellsMore};
 
 use crate::cells::{Cells, REASONS};
 use crate::search::Search;
@@ -86,11 +85,8 @@ fn tell_place(search: &Search, found: &mut Found, place: usize)
     requires telling { IsTelling (core search.now) found.old }
     requires place_in { place < length search.now.cells.cells.items }
     ensures more { TellsMore (core search.now) found.old found.new }
-    ensures told { (row number : ℕ) → Has (core search.now) row number
-        → place ≡ row * length search.now.nodes.items + number
-        → IsReason (about (core search.now)) (TellsOf (core search.now) found.old) row number
-        (reason_of (slice_index search.now.cells.cells.items place))
-        → TellsOf (core search.now) found.new row number }
+    ensures told { TellsCell (core search.now) found.old found.new place
+        (reason_of (slice_index search.now.cells.cells.items place)) }
 {
     let width = search.cells.width;
     let row = place / width;

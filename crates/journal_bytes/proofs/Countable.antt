@@ -4,7 +4,7 @@ use Rattle.std.specs.Prelude.{All}
 use Rattle.agent_core.specs.Answers.{FitsEvent}
 use Rattle.agent_core.specs.declared.event.ShardEntry.{ShardEntry}
 use Rattle.agent_core.specs.Journals.{Entry, ShardSeen}
-use Rattle.agent_core.specs.State.{Event, Asks, Keeps, Holds, Discards, Forgets, Expires}
+use Rattle.agent_core.specs.State.{Event, Asks, Keeps, Holds, Discards, Forgets, Expires, Withdraws}
 use Rattle.agent_core.specs.Views.{entry_of}
 use Rattle.journal_bytes.specs.Limits.{AreCountable, CitesFew, CitesFewOf}
 use Rattle.journal_bytes.specs.Spelled.{spelled}
@@ -17,6 +17,7 @@ countable (Holds certs) fits few = omega (arith, fits)
 countable (Discards digest) fits few = tt
 countable (Forgets channel) fits few = tt
 countable (Expires reading) fits few = tt
+countable (Withdraws issuer) fits few = tt
 
 pub all_countable : (s : ShardSeen) → All (λ (e : Entry). FitsEvent e.event) s.journal → CitesFew s → All (λ (e : Entry). AreCountable e.event) s.journal
 all_countable s fits few = λ i d below. countable _ (fits i d below) (few i d below)

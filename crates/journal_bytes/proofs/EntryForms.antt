@@ -10,8 +10,8 @@ use Rattle.object_core.specs.declared.ruling.Ruling.TheVariants.{Granted, Denied
 use Rattle.object_core.proofs.ListForms.{form_list}
 use Rattle.object_core.proofs.Operations.{form_fields}
 use Rattle.agent_core.specs.declared.told.Told.{Told}
-use Rattle.journal_bytes.specs.Reading.{right_at, ask_at, keep_at, event_at, answer_at, asked_at, kept_at, held_at, told_at, entry_at, ruled_by, ruling_at, op_at, ruled_at}
-use Rattle.journal_bytes.specs.Spelled.{Asks, Holds, Discards, Forgets, Expires}
+use Rattle.journal_bytes.specs.Reading.{right_at, ask_at, keep_at, event_at, answer_at, asked_at, kept_at, held_at, left_at, told_at, entry_at, ruled_by, ruling_at, op_at, ruled_at}
+use Rattle.journal_bytes.specs.Spelled.{Asks, Holds, Discards, Forgets, Expires, Withdraws}
 
 -- ---- events
 
@@ -42,7 +42,8 @@ event_form kind =
     (form_if (eqb kind 3) (form_made Holds (form_cited _))
     (form_if (eqb kind 4) (form_made Discards (form_bytes 32))
     (form_if (eqb kind 5) (form_made Forgets form_u32)
-    (form_made Expires form_u64)))))
+    (form_if (eqb kind 6) (form_made Expires form_u64)
+    (form_made Withdraws form_u32))))))
 
 -- ---- what was told
 
@@ -65,6 +66,10 @@ held_form : (mark : ℕ) → Form IsBytes (λ bytes. held_at bytes mark)
 unfolding held_at
 held_form mark = form_if (eqb mark 0) (form_made Told.Held form_u8) (form_made Told.CommonsFull form_u8)
 
+left_form : (mark : ℕ) → Form IsBytes (λ bytes. left_at bytes mark)
+unfolding left_at
+left_form mark = form_if (eqb mark 0) (form_made Told.Removed form_u32) (form_made Told.WithdrawnFull form_u8)
+
 answer_form : (last : ℕ) (fields : List ℕ → ℕ → FormatReader Told) → ((mark : ℕ) → Form IsBytes (λ bytes. fields bytes mark)) → Form IsBytes (λ bytes. answer_at last (fields bytes) bytes)
 unfolding answer_at
 answer_form last fields one = form_made _ (form_followed (form_passing _ form_u8) (λ mark. one mark))
@@ -75,7 +80,8 @@ told_form kind =
     form_if (eqb kind 1) (answer_form 3 asked_at asked_form)
     (form_if (eqb kind 2) (answer_form 2 kept_at kept_form)
     (form_if (eqb kind 3) (answer_form 1 held_at held_form)
-    (form_made Told.Removed form_u32)))
+    (form_if (eqb kind 7) (answer_form 1 left_at left_form)
+    (form_made Told.Removed form_u32))))
 
 -- ---- entries
 

@@ -28,7 +28,7 @@ use Rattle.agent_core.specs.State.{Ask}
 use Rattle.journal_bytes.specs.declared.limits.TheConstants.{LAST_EVENT, MAX_BODIES, MAX_CITES}
 use Rattle.journal_bytes.specs.Limits.{is_right, AreFew, FitsAsk, FitsKeep, FitsEvent}
 use Rattle.journal_bytes.specs.Reading.{right_at, ask_at, keep_at, event_at}
-use Rattle.journal_bytes.specs.Spelled.{SpelledEvent, Asks, Keeps, Holds, Discards, Forgets, Expires}
+use Rattle.journal_bytes.specs.Spelled.{SpelledEvent, Asks, Keeps, Holds, Discards, Forgets, Expires, Withdraws}
 use Rattle.journal_bytes.specs.Spelling.{kind_of, ask_bytes, keep_bytes, event_fields}
 
 -- an event of this kind, within the limits
@@ -42,6 +42,7 @@ event_within (Holds certs) = (omega arith, omega arith)
 event_within (Discards digest) = (omega arith, omega arith)
 event_within (Forgets channel) = (omega arith, omega arith)
 event_within (Expires reading) = (omega arith, omega arith)
+event_within (Withdraws issuer) = (omega arith, omega arith)
 
 -- from the left and in fields
 grouped : (a b c d e f : List ℕ) → a ++ (b ++ (c ++ (d ++ (e ++ f)))) ≡ ((((a ++ b) ++ c) ++ d) ++ e) ++ f
@@ -123,7 +124,9 @@ module _ (bytes : List ℕ) where
       takes_if bytes (eqb kind 3) (made Holds (cited_at MAX_BODIES bytes)) _ event_fields (IsEventOf kind) (λ t. takes_made Holds event_fields (IsEventOf kind) (reads_cited bytes MAX_BODIES (omega arith)) (λ x is. ((is, sym (eqb-true kind 3 t)), refl))) (λ n3.
       takes_if bytes (eqb kind 4) (made Discards (bytes_at (ended bytes) 32 bytes)) _ event_fields (IsEventOf kind) (λ t. takes_made Discards event_fields (IsEventOf kind) (reads_bytes (ended bytes) 32 bytes) (λ x is. ((is, sym (eqb-true kind 4 t)), refl))) (λ n4.
       takes_if bytes (eqb kind 5) (made Forgets (u32_in bytes)) _ event_fields (IsEventOf kind) (λ t. takes_made Forgets event_fields (IsEventOf kind) (reads_u32 bytes) (λ x is. ((is, sym (eqb-true kind 5 t)), refl))) (λ n5.
-      takes_made Expires event_fields (IsEventOf kind) (reads_u64 bytes) (λ x is. ((is, omega (arith, some, le, eqb-false _ _ n1, eqb-false _ _ n2, eqb-false _ _ n3, eqb-false _ _ n4, eqb-false _ _ n5)), refl)))))))
+      takes_if bytes (eqb kind 6) (made Expires (u64_in bytes)) _ event_fields (IsEventOf kind) (λ t. takes_made Expires event_fields (IsEventOf kind) (reads_u64 bytes) (λ x is. ((is, sym (eqb-true kind 6 t)), refl))) (λ n6.
+      takes_made Withdraws event_fields (IsEventOf kind) (reads_u32 bytes)
+      (λ x is. ((is, omega (arith, some, le, eqb-false _ _ n1, eqb-false _ _ n2, eqb-false _ _ n3, eqb-false _ _ n4, eqb-false _ _ n5, eqb-false _ _ n6)), refl))))))))
 
   event_again : (e : SpelledEvent) (at : ℕ) (rest : List ℕ) → FitsEvent e → drop at bytes ≡ event_fields e ++ rest → event_at bytes (kind_of e) at ≡ Ok (e, at + length (event_fields e))
   unfolding event_at event_fields
@@ -133,6 +136,7 @@ module _ (bytes : List ℕ) where
   event_again (Discards digest) at rest fits e = again_made Discards (reads_bytes (ended bytes) 32 bytes) at digest rest fits e
   event_again (Forgets channel) at rest fits e = again_made Forgets (reads_u32 bytes) at channel rest fits e
   event_again (Expires reading) at rest fits e = again_made Expires (reads_u64 bytes) at reading rest fits e
+  event_again (Withdraws issuer) at rest fits e = again_made Withdraws (reads_u32 bytes) at issuer rest fits e
 
   pub reads_event : (kind : ℕ) → (1 ≤ kind) × (kind ≤ LAST_EVENT) → Reads bytes (event_at bytes kind) event_fields (IsEventOf kind)
   reads_event kind low_high = record {

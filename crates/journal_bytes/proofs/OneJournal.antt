@@ -4,7 +4,7 @@ use Rattle.std.specs.Prelude.{slice_get}
 use Rattle.proof_cache.specs.Cached.{Cached, lease_of}
 use Rattle.prin_term.specs.Principal.{Principal}
 use Rattle.agent_core.specs.Caches.{who_at}
-use Rattle.agent_core.specs.State.{Plan, Event, Asks, Keeps, Holds, Discards, Forgets, Expires}
+use Rattle.agent_core.specs.State.{Plan, Event, Asks, Keeps, Holds, Discards, Forgets, Expires, Withdraws}
 use Rattle.agent_core.specs.Journals.{Entry, entry, IsKeepable, IsLegalJournal, IsMeant}
 use Rattle.agent_core.specs.declared.told.Told.{Told}
 use Rattle.journal_bytes.specs.Events.{ask_there, event_from, kept_for}
@@ -31,6 +31,7 @@ event_is plan before (Holds certs) meant = refl
 event_is plan before (Discards digest) meant = refl
 event_is plan before (Forgets channel) meant = refl
 event_is plan before (Expires reading) meant = refl
+event_is plan before (Withdraws issuer) meant = refl
 
 head_is : {A : Type 0} (x y : A) (xs ys : List A) → x ∷ xs ≡ y ∷ ys → x ≡ y
 head_is x y xs ys e = cc

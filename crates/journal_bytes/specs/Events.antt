@@ -10,7 +10,7 @@ use Rattle.agent_core.specs.State.{Ask, Event}
 use Rattle.agent_core.specs.State as agent
 use Rattle.agent_core.specs.Journals.{Entry}
 use Rattle.journal_bytes.specs.Spelled.{SpelledEvent, Asks, Keeps, Holds, Discards, Forgets}
-use Rattle.journal_bytes.specs.Spelled.{Expires}
+use Rattle.journal_bytes.specs.Spelled.{Expires, Withdraws}
 
 -- the Ask of an entry, if there is one and it is one
 abbrev pub ask_there : Option Entry → Option Ask
@@ -38,3 +38,4 @@ event_from before (Holds certs) = Some (agent.Holds certs)
 event_from before (Discards digest) = Some (agent.Discards digest)
 event_from before (Forgets channel) = Some (agent.Forgets channel)
 event_from before (Expires reading) = Some (agent.Expires reading)
+event_from before (Withdraws issuer) = Some (agent.Withdraws issuer)

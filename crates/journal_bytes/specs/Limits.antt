@@ -18,7 +18,7 @@ use Rattle.agent_core.specs.State as agent
 use Rattle.agent_core.specs.Journals.{Entry, ShardSeen}
 use Rattle.journal_bytes.specs.declared.limits.TheConstants.{MAX_BODIES, MAX_CITES}
 use Rattle.journal_bytes.specs.Spelled.{SpelledEvent, Asks, Keeps, Holds, Discards, Forgets}
-use Rattle.journal_bytes.specs.Spelled.{Expires, SpelledEntry, ObjectJournal, Journals}
+use Rattle.journal_bytes.specs.Spelled.{Expires, Withdraws, SpelledEntry, ObjectJournal, Journals}
 use Rattle.journal_bytes.specs.Spelling.{kind_of, entry_bytes, ruled_bytes, journals_bytes}
 
 -- ---- an entry of a shard
@@ -56,6 +56,7 @@ FitsEvent (Holds certs) = AreFew MAX_BODIES certs
 FitsEvent (Discards digest) = IsDigest digest
 FitsEvent (Forgets channel) = channel < 2 ^ 32
 FitsEvent (Expires reading) = reading < 2 ^ 64
+FitsEvent (Withdraws issuer) = issuer < 2 ^ 32
 
 -- it is told of events of this kind, and its numbers fit their fields
 abbrev pub FitsTold : ℕ → Told → Type 0
@@ -70,6 +71,7 @@ FitsTold kind (Told.Dropped (DropCause.Lapsed clock lease)) =
 FitsTold kind (Told.Held added) = (kind ≡ 3) × IsByte added
 FitsTold kind (Told.CommonsFull held) = (kind ≡ 3) × IsByte held
 FitsTold kind (Told.Removed count) = (3 < kind) × (count < 2 ^ 32)
+FitsTold kind (Told.WithdrawnFull held) = (kind ≡ 7) × IsByte held
 
 -- the event is within the limits, and what was told is told of such an event
 pub record FitsEntry (e : SpelledEntry) : Type 0 where

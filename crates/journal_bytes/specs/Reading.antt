@@ -19,7 +19,7 @@ use Rattle.agent_core.specs.declared.told.Told.{Told}
 use Rattle.agent_core.specs.State.{Ask}
 use Rattle.journal_bytes.specs.declared.limits.TheConstants.{LAST_EVENT, MAX_BODIES, MAX_CITES}
 use Rattle.journal_bytes.specs.Spelled.{SpelledEvent, Asks, Keeps, Holds, Discards, Forgets}
-use Rattle.journal_bytes.specs.Spelled.{Expires, SpelledEntry}
+use Rattle.journal_bytes.specs.Spelled.{Expires, Withdraws, SpelledEntry}
 use Rattle.journal_bytes.specs.Limits.{is_right}
 
 -- ---- events
@@ -65,7 +65,8 @@ event_at bytes kind at =
     else (if kind == 3 then made Holds (cited_at MAX_BODIES bytes) at
     else (if kind == 4 then made Discards (bytes_at (ended bytes) 32 bytes) at
     else (if kind == 5 then made Forgets (u32_in bytes) at
-    else made Expires (u64_in bytes) at))))
+    else (if kind == 6 then made Expires (u64_in bytes) at
+    else made Withdraws (u32_in bytes) at)))))
 
 -- ---- what was told
 
@@ -92,6 +93,12 @@ held_at bytes mark at =
     if mark == 0 then made Told.Held (u8_in bytes) at
     else made Told.CommonsFull (u8_in bytes) at
 
+-- what was told of an issuer that is to be withdrawn, by the byte before it
+unfoldable pub left_at : List ℕ → ℕ → FormatReader Told
+left_at bytes mark at =
+    if mark == 0 then made Told.Removed (u32_in bytes) at
+    else made Told.WithdrawnFull (u8_in bytes) at
+
 -- one of so many answers, by a byte
 unfoldable pub answer_at : ℕ → (ℕ → FormatReader Told) → List ℕ → FormatReader Told
 answer_at last fields bytes =
@@ -103,7 +110,8 @@ told_at bytes kind at =
     if kind == 1 then answer_at 3 (asked_at bytes) bytes at
     else (if kind == 2 then answer_at 2 (kept_at bytes) bytes at
     else (if kind == 3 then answer_at 1 (held_at bytes) bytes at
-    else made Told.Removed (u32_in bytes) at))
+    else (if kind == 7 then answer_at 1 (left_at bytes) bytes at
+    else made Told.Removed (u32_in bytes) at)))
 
 -- ---- entries
 

@@ -23,6 +23,8 @@ pub data SpelledEvent : Type 0 where
   Forgets : (channel : ℕ) → SpelledEvent
   -- the clock read this
   Expires : (reading : ℕ) → SpelledEvent
+  -- the issuer's certificates are let go, and none of them is held from then on
+  Withdraws : (issuer : ℕ) → SpelledEvent
 
 -- what is spelled of an entry of a shard's journal
 pub record SpelledEntry : Type 0 where
@@ -49,6 +51,7 @@ event_spelled (agent.Holds certs) = Holds certs
 event_spelled (agent.Discards digest) = Discards digest
 event_spelled (agent.Forgets channel) = Forgets channel
 event_spelled (agent.Expires reading) = Expires reading
+event_spelled (agent.Withdraws issuer) = Withdraws issuer
 
 -- what is spelled of an entry
 abbrev pub spelled : Entry → SpelledEntry

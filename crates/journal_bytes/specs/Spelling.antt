@@ -1,5 +1,5 @@
 -- The one spelling of journals, entry by entry.
-use Rattle.std.specs.Prelude.{ℕ, List, [], ◌∷◌, ◌++◌, length}
+use Rattle.std.specs.Prelude.{ℕ, ◌==◌, if◌then◌else◌, List, [], ◌∷◌, ◌++◌, length}
 use Rattle.std.specs.Int.{w32, w64, to_be_bytes}
 use Rattle.std.specs.List.{flat_map}
 use Rattle.prin_term.specs.Principal.{spelling}
@@ -17,7 +17,7 @@ use Rattle.agent_core.specs.declared.told.Told.{Told}
 use Rattle.agent_core.specs.State.{Ask}
 use Rattle.journal_bytes.specs.declared.limits.TheConstants.{JOURNALS, VERSION}
 use Rattle.journal_bytes.specs.Spelled.{SpelledEvent, Asks, Keeps, Holds, Discards, Forgets}
-use Rattle.journal_bytes.specs.Spelled.{Expires, SpelledEntry, ObjectJournal, Journals}
+use Rattle.journal_bytes.specs.Spelled.{Expires, Withdraws, SpelledEntry, ObjectJournal, Journals}
 
 -- ---- an entry of a shard
 
@@ -29,6 +29,7 @@ kind_of (Holds certs) = 3
 kind_of (Discards digest) = 4
 kind_of (Forgets channel) = 5
 kind_of (Expires reading) = 6
+kind_of (Withdraws issuer) = 7
 
 -- an Ask: who asks, on which channel and under which number, what the clock read, the list and the
 -- right, and what is presented
@@ -50,25 +51,32 @@ event_fields (Holds certs) = cited_bytes certs
 event_fields (Discards digest) = digest
 event_fields (Forgets channel) = to_be_bytes w32 channel
 event_fields (Expires reading) = to_be_bytes w64 reading
+event_fields (Withdraws issuer) = to_be_bytes w32 issuer
 
--- what was told: which of the answers to its sort of event, and what that one says besides; of what
--- was let go the count alone
-unfoldable pub told_bytes : Told → List ℕ
-told_bytes Told.Miss = 0 ∷ []
-told_bytes (Told.Hit entry) = 1 ∷ entry ∷ []
-told_bytes (Told.Replayed last) = 2 ∷ to_be_bytes w64 last
-told_bytes (Told.Full held) = 3 ∷ held ∷ []
-told_bytes Told.Kept = 0 ∷ []
-told_bytes (Told.Dropped (DropCause.NotHeld digest)) = 1 ∷ digest
-told_bytes (Told.Dropped (DropCause.Lapsed clock lease)) =
-    2 ∷ to_be_bytes w64 clock ++ to_be_bytes w64 lease
-told_bytes (Told.Held added) = 0 ∷ added ∷ []
-told_bytes (Told.CommonsFull held) = 1 ∷ held ∷ []
-told_bytes (Told.Removed count) = to_be_bytes w32 count
+-- why a proof was not kept
+abbrev pub cause_bytes : DropCause → List ℕ
+cause_bytes (DropCause.NotHeld digest) = 1 ∷ digest
+cause_bytes (DropCause.Lapsed clock lease) = 2 ∷ to_be_bytes w64 clock ++ to_be_bytes w64 lease
+
+-- what was told of an event of this kind: which of the answers to its sort, and what that one says
+-- besides; of what was let go the count alone, unless an issuer was withdrawn
+unfoldable pub told_bytes : ℕ → Told → List ℕ
+told_bytes kind Told.Miss = 0 ∷ []
+told_bytes kind (Told.Hit entry) = 1 ∷ entry ∷ []
+told_bytes kind (Told.Replayed last) = 2 ∷ to_be_bytes w64 last
+told_bytes kind (Told.Full held) = 3 ∷ held ∷ []
+told_bytes kind Told.Kept = 0 ∷ []
+told_bytes kind (Told.Dropped cause) = cause_bytes cause
+told_bytes kind (Told.Held added) = 0 ∷ added ∷ []
+told_bytes kind (Told.CommonsFull held) = 1 ∷ held ∷ []
+told_bytes kind (Told.Removed count) =
+    if kind == 7 then 0 ∷ to_be_bytes w32 count else to_be_bytes w32 count
+told_bytes kind (Told.WithdrawnFull held) = 1 ∷ held ∷ []
 
 -- an entry: the event, and what was told of it
 unfoldable pub entry_bytes : SpelledEntry → List ℕ
-entry_bytes e = kind_of e.event ∷ event_fields e.event ++ told_bytes e.told
+entry_bytes e =
+    kind_of e.event ∷ event_fields e.event ++ told_bytes (kind_of e.event) e.told
 
 -- ---- an entry of an object
 

@@ -13,7 +13,7 @@ use Rattle.journal_bytes.specs.declared.entry.SpelledEntry as code_entry
 use Rattle.journal_bytes.specs.declared.journals.Journals as code_journals
 use Rattle.journal_bytes.specs.declared.journals.ObjectJournal as code_object
 use Rattle.journal_bytes.specs.Spelled.{SpelledEvent, Asks, Keeps, Holds, Discards, Forgets}
-use Rattle.journal_bytes.specs.Spelled.{Expires, SpelledEntry, ObjectJournal, Journals, spelled}
+use Rattle.journal_bytes.specs.Spelled.{Expires, Withdraws, SpelledEntry, ObjectJournal, Journals, spelled}
 
 -- the event that the program's one stands for
 abbrev pub event_seen : code.SpelledEvent → SpelledEvent
@@ -24,6 +24,7 @@ event_seen (variant.Hold certs) = Holds (certificates certs.items)
 event_seen (variant.Discard digest) = Discards digest
 event_seen (variant.Forget channel) = Forgets channel
 event_seen (variant.Expire reading) = Expires reading
+event_seen (variant.Withdraw issuer) = Withdraws issuer
 
 -- the entry that the program's one stands for
 abbrev pub entry_seen : code_entry.SpelledEntry → SpelledEntry

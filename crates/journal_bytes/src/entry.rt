@@ -21,6 +21,7 @@ pub enum SpelledEvent {
     Discard([u8; 32]),
     Forget(u32),
     Expire(u64),
+    Withdraw(u32),
 }
 
 /// What is spelled of an entry of a shard's journal.

@@ -134,8 +134,9 @@ fn rulings_of(
     ruled_of(alloc, bytes, next, count)
 }
 
-// A number from `least` on.
-fn number_from(bytes: &[u8], at: usize, least: u64) -> Result<(u32, usize), JournalFault>
+/// The number of an object at an offset, and the offset behind it. A number below `least` is refused
+/// at its first byte.
+pub fn read_number_from(bytes: &[u8], at: usize, least: u64) -> Result<(u32, usize), JournalFault>
     requires { at ≤ length bytes.now }
     ensures value { result ≡ passing (λ n. nat_le least n) Malformed (u32_in bytes.now) at }
     ensures from { IfOk result (λ x. least ≤ x.0) }
@@ -163,7 +164,7 @@ fn object_of(
     ensures from { IfOk result (λ x. least ≤ x.0.number) }
     ensures within { IfOk result (λ x. x.1 ≤ length bytes.now) }
 {
-    let (number, next) = number_from(bytes, at, least)?;
+    let (number, next) = read_number_from(bytes, at, least)?;
     let (entries, next) = rulings_of(alloc, bytes, next)?;
     Ok((ObjectJournal { number, entries }, next))
 }
@@ -207,9 +208,10 @@ fn objects_of(
     rising_of(alloc, bytes, next, count)
 }
 
-// The byte that says what it is, and the version.
+/// The byte that says that these are journals, and the version, which is returned with the offset
+/// behind it.
 #[tactic(auto, unfolding(crate::specs::JournalsReading::head_at))]
-fn head_of(bytes: &[u8], at: usize) -> Result<(u8, usize), JournalFault>
+pub fn read_head(bytes: &[u8], at: usize) -> Result<(u8, usize), JournalFault>
     requires { at ≤ length bytes.now }
     ensures value { result ≡ head_at bytes.now at }
     ensures within { IfOk result (λ x. x.1 ≤ length bytes.now) }
@@ -225,7 +227,7 @@ fn fronted_of(alloc: Global, bytes: &[u8]) -> Result<(Journals, usize), JournalF
         (journals_at bytes.now 0) }
     ensures within { IfOk result (λ x. x.1 ≤ length bytes.now) }
 {
-    let (_, next) = head_of(bytes, 0)?;
+    let (_, next) = read_head(bytes, 0)?;
     let (shards, next) = shards_of(alloc, bytes, next)?;
     let (objects, next) = objects_of(alloc, bytes, next)?;
     Ok((Journals { shards, objects }, next))

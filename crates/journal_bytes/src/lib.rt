@@ -17,7 +17,7 @@ mod writing;
 pub use entry::{SpelledEntry, SpelledEvent};
 pub use fault::JournalFault;
 pub use journals::{Journals, ObjectJournal};
-pub use journals_reading::read_journals;
+pub use journals_reading::{read_head, read_journals, read_number_from};
 pub use journals_writing::write_journals;
 pub use laws::{
     entries_are_read, journals_are_read, legal_journals_are_one, no_journals_begin_others,

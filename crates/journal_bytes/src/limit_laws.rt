@@ -9,7 +9,7 @@ ghost use Rattle.journal_bytes.specs.declared.limits.TheConstants.{LAST_EVENT, M
 /// How journals begin, and what an entry has at most: each is this number.
 pub fn limits_are()
     ensures head { (JOURNALS ≡ 7) × (VERSION ≡ 1) }
-    ensures events { LAST_EVENT ≡ 6 }
+    ensures events { LAST_EVENT ≡ 7 }
     ensures bodies { (MAX_BODIES ≡ 16) × (MAX_BODIES ≡ MAX_PRESENTED) }
     ensures cites { (MAX_CITES ≡ 64) × (MAX_CITES ≡ MAX_CERTS) }
 {}

@@ -7,7 +7,7 @@ pub const JOURNALS: u8 = 7;
 pub const VERSION: u8 = 1;
 
 /// The highest byte that names an event; the lowest is 1.
-pub const LAST_EVENT: u8 = 6;
+pub const LAST_EVENT: u8 = 7;
 
 /// The most certificates that an event brings.
 pub const MAX_BODIES: u8 = 16;

@@ -113,9 +113,13 @@ fn event_of(
             let (channel, next) = u32_at(bytes, at, ended(bytes))?;
             Ok((SpelledEvent::Forget(channel), next))
         }
-        _ => {
+        6 => {
             let (reading, next) = u64_at(bytes, at, ended(bytes))?;
             Ok((SpelledEvent::Expire(reading), next))
+        }
+        _ => {
+            let (issuer, next) = u32_at(bytes, at, ended(bytes))?;
+            Ok((SpelledEvent::Withdraw(issuer), next))
         }
     }
 }

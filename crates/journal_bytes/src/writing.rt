@@ -12,6 +12,7 @@ ghost use Rattle.journal_bytes.specs.Spelling.{ask_bytes, entry_bytes, event_fie
 ghost use Rattle.journal_bytes.specs.Spelling as spelling;
 ghost use Rattle.journal_bytes.specs.Limits.{AreCountable};
 
+use crate::limits::LAST_EVENT;
 use crate::told::push_told;
 use agent_core::{Ask, Event, ShardEntry};
 use object_core::write_list;
@@ -33,6 +34,7 @@ fn kind_of(event: &Event) -> u8
         Event::Discard(_) => 4,
         Event::Forget(_) => 5,
         Event::Expire(_) => 6,
+        Event::Withdraw(_) => LAST_EVENT,
     }
 }
 
@@ -87,7 +89,9 @@ fn push_event(out: &mut Vec<u8>, event: &Event) -> Result<(), AllocError>
         Event::Keep { ask, entry, cached } => push_keep(out, *ask, *entry, cached),
         Event::Hold(certs) => write_bodies(out, certs),
         Event::Discard(digest) => out.extend_from_slice(digest),
-        Event::Forget(channel) => out.extend_from_slice(&channel.to_be_bytes()),
+        Event::Forget(number) | Event::Withdraw(number) => {
+            out.extend_from_slice(&number.to_be_bytes())
+        }
         Event::Expire(reading) => out.extend_from_slice(&reading.to_be_bytes()),
     }
 }
@@ -97,9 +101,10 @@ pub(crate) fn push_entry(out: &mut Vec<u8>, entry: &ShardEntry) -> Result<(), Al
     requires few { AreCountable (event_of entry.now.event) }
     ensures { Pushes out.old out.new (entry_bytes (spelled (entry_of entry.now))) result }
 {
-    out.push(kind_of(&entry.event))?;
+    let kind = kind_of(&entry.event);
+    out.push(kind)?;
     push_event(out, &entry.event)?;
-    push_told(out, entry.told)
+    push_told(out, kind, entry.told)
 }
 
 /// Appends the one spelling of an entry. What it lists has to be countable in one byte. An `Err`

@@ -83,7 +83,11 @@ impl Shards for LoggedShards<'_> {
         match &event {
             Event::Ask(_) => note(self.log, ASKED),
             Event::Expire(_) => note(self.log, SWEPT),
-            Event::Keep { .. } | Event::Hold(_) | Event::Discard(_) | Event::Forget(_) => (),
+            Event::Keep { .. }
+            | Event::Hold(_)
+            | Event::Discard(_)
+            | Event::Forget(_)
+            | Event::Withdraw(_) => (),
         }
         self.shards.step(rt, alloc, number, event)
     }

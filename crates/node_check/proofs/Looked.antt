@@ -104,6 +104,7 @@ other_status (replies.JournalFull which number len) none = λ e. omega (arith, e
 other_status replies.NoMemory none = λ e. omega (arith, e)
 other_status (replies.CommonsFull held shard) none = λ e. omega (arith, e)
 other_status (replies.NotHeld digest) none = λ e. omega (arith, e)
+other_status (replies.WithdrawnFull held shard) none = λ e. omega (arith, e)
 
 -- ---- the claims of the certificates that the program shares
 

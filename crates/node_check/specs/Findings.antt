@@ -40,11 +40,6 @@ finding_line (Granted entry lines certs) = codes "granted entry " ++ decimal ent
     ++ codes " lines " ++ decimal lines ++ codes " certificates " ++ decimal certs ++ codes "\n"
 finding_line (Refused w) = codes "refused: " ++ word_text w ++ codes "\n"
 
--- the exit status of a finding
-abbrev pub finding_status : Finding → ℕ
-finding_status (Granted entry lines certs) = 0
-finding_status (Refused w) = 11
-
 -- ---- what is taken of the input
 
 -- the input ended, in a frame or before one, or the length word exceeds the limit

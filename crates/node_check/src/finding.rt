@@ -1,7 +1,7 @@
 //! What is found in a request and its reply, and the line that tells it.
 
 ghost use Rattle.std.specs.Prelude.{◌≡◌, ◌+◌, ◌≤◌, ◌++◌, length, decimal};
-ghost use Rattle.node_check.specs.Findings.{finding_line, finding_status, word_text};
+ghost use Rattle.node_check.specs.Findings.{finding_line, word_text};
 
 use arrayvec::ArrayVec;
 use itoa::Buffer;
@@ -42,8 +42,6 @@ pub enum Finding {
     Granted { entry: u8, lines: u32, certs: u8 },
     Refused(CheckWord),
 }
-
-const REFUSED: u8 = 11;
 
 // A line has no more bytes than this.
 const ROOM: usize = 128;
@@ -107,14 +105,4 @@ pub(crate) fn finding_line(finding: Finding) -> ArrayVec<u8, ROOM>
     }
     add(&mut line, b"\n");
     line
-}
-
-/// The exit status that tells a finding.
-pub fn finding_status(finding: Finding) -> u8
-    ensures { result ≡ finding_status finding }
-{
-    match finding {
-        Finding::Granted { .. } => 0,
-        Finding::Refused(_) => REFUSED,
-    }
 }

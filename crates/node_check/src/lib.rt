@@ -8,5 +8,5 @@ mod limit_laws;
 
 pub use check::{CheckEnd, MAX_REPLY, check_connection, one_check};
 pub use checking::{check_frames, one_finding};
-pub use finding::{CheckWord, Finding, finding_status};
+pub use finding::{CheckWord, Finding};
 pub use limit_laws::limits_are;

@@ -19,7 +19,7 @@ use Rattle.clap.proofs.OnLiterals.{clap_on_literals}
 use Rattle.clap.proofs.FaultLemmas.{stopped_fault}
 use Rattle.clap.proofs.WalkLemmas.{walk_stopped}
 use Rattle.node_words.specs.Table.{IsOfTable, all_options, taos_app, with_options, plain, option, alone, joined}
-use Rattle.node_words.specs.Words.{Argument, Asked, Asks, Command, Given, HasValue, IsValue, TextsMean, Way, Joined, Apart, Alone, Running, Checking, Relaying, Minting, Serving, RelayServing, Auditing, Drilling, Carrying, argument_in, named, option_named, options_of, task_for, words_for, words_of}
+use Rattle.node_words.specs.Words.{Argument, Asked, Asks, Command, Given, HasValue, IsValue, TextsMean, Way, Joined, Apart, Alone, Running, Checking, Relaying, Minting, Serving, RelayServing, Auditing, Drilling, Carrying, Giving, argument_in, named, option_named, options_of, task_for, words_for, words_of, AuditingBytes, Replaying}
 use Rattle.node_words.proofs.Options.{has_name, holds_of_named}
 use Rattle.node_words.proofs.Drilled.{AreFew, three_words, drill_leaf, drill_pass, drill_split, few_rows, rows_of_words}
 use Rattle.node_words.proofs.Rows.{AreNew, rows_for}
@@ -68,6 +68,9 @@ kind_for RelayServing = by_options (record { is = record { met = refl; found = r
 kind_for Auditing = by_options (record { is = record { met = refl; found = refl; no_help = refl; word = λ e. omega (arith, e) }; listed = refl; asks = λ words x is. is; means = λ words x is. is })
 kind_for Drilling = by_words refl
 kind_for Carrying = by_options (record { is = record { met = refl; found = refl; no_help = refl; word = λ e. omega (arith, e) }; listed = refl; asks = λ words x is. is; means = λ words x is. is })
+kind_for Giving = by_options (record { is = record { met = refl; found = refl; no_help = refl; word = λ e. omega (arith, e) }; listed = refl; asks = λ words x is. is; means = λ words x is. is })
+kind_for AuditingBytes = by_options (record { is = record { met = refl; found = refl; no_help = refl; word = λ e. omega (arith, e) }; listed = refl; asks = λ words x is. is; means = λ words x is. is })
+kind_for Replaying = by_options (record { is = record { met = refl; found = refl; no_help = refl; word = λ e. omega (arith, e) }; listed = refl; asks = λ words x is. is; means = λ words x is. is })
 
 listed_first : (o name : Text) (os : List Text) (b : Bool) → bytes_eq o name ≡ b → (list_any (λ option. bytes_eq option name) os ≡ true → Contains os name) → list_any (λ option. bytes_eq option name) (o ∷ os) ≡ true → Contains (o ∷ os) name
 listed_first o name os true same rest is = (0, omega arith, (bytes_eq-Decides o name).0 same)

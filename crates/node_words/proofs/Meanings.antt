@@ -8,7 +8,7 @@ use Rattle.clap.specs.Words.{Row, Text, first_of}
 use Rattle.frame_link.specs.declared.limits.Limits.{Limits}
 use Rattle.node_words.specs.declared.wanted.Wanted.{Wanted}
 use Rattle.node_words.specs.Words.{Asked, AsksDrill, Command, Default, DrillWords, Given, Gives, GivesDrill, GivesLimits, GivesMint, GivesPath, GivesRun, GivesServe, HasNumber, HasRoute, IsCount, IsLine, IsNumber, IsValue, MintWords, PathWords, RunWords, ServeWords, Task, TextsMean, drill_names, named, options_of, task_for, task_of, text_at, value_of, words_of}
-use Rattle.node_words.specs.Words.{Running, Checking, Relaying, Minting, Serving, RelayServing, Auditing, Drilling, Carrying}
+use Rattle.node_words.specs.Words.{Running, Checking, Relaying, Minting, Serving, RelayServing, Auditing, Drilling, Carrying, Giving, AuditingBytes, Replaying}
 use Rattle.node_words.proofs.Rows.{AreNew, all_are_new, all_known, are_once, first_of_rows, have_values, rows_for}
 use Rattle.node_words.proofs.Drilled.{rows_of_words}
 use Rattle.node_words.proofs.Levels.{IsFound, IsKind, IsTakenAs, TakesOptions, by_options, by_words, drill_found, kind_for, line_found}
@@ -152,17 +152,19 @@ same_run : (text_of : Text → Option Text) (m n : RunWords) → GivesRun text_o
 same_run text_of m n a b = by
     (same_default IsCount same_count _ (text_of (codes "frames")) m.frames n.frames a.frames b.frames)
     (same_default (IsNumber 1025) same_lemma_count 0 (text_of (codes "lemmas")) m.lemmas n.lemmas a.lemmas b.lemmas)
+    (a.pulls ∙ sym b.pulls)
   where
-    by : m.frames ≡ n.frames → m.lemmas ≡ n.lemmas → m ≡ n
-    by frames lemmas = λ i. record { frames = frames i; lemmas = lemmas i }
+    by : m.frames ≡ n.frames → m.lemmas ≡ n.lemmas → m.pulls ≡ n.pulls → m ≡ n
+    by frames lemmas pulls = λ i. record { frames = frames i; lemmas = lemmas i; pulls = pulls i }
 
 same_serve : (text_of : Text → Option Text) (m n : ServeWords) → GivesServe text_of m → GivesServe text_of n → m ≡ n
 same_serve text_of m n a b = by
     (same_limits text_of m.limits n.limits a.limits b.limits)
     (same_default (IsNumber 1025) same_lemma_count 0 (text_of (codes "lemmas")) m.lemmas n.lemmas a.lemmas b.lemmas)
+    (a.pulls ∙ sym b.pulls)
   where
-    by : m.limits ≡ n.limits → m.lemmas ≡ n.lemmas → m ≡ n
-    by limits lemmas = λ i. record { limits = limits i; lemmas = lemmas i }
+    by : m.limits ≡ n.limits → m.lemmas ≡ n.lemmas → m.pulls ≡ n.pulls → m ≡ n
+    by limits lemmas pulls = λ i. record { limits = limits i; lemmas = lemmas i; pulls = pulls i }
 
 -- texts give one thing
 same_given : (c : Command) (text_of : Text → Option Text) (x y : Asked c) → Gives c text_of x → Gives c text_of y → x ≡ y
@@ -175,6 +177,9 @@ same_given RelayServing text_of x y a b = same_limits text_of x y a b
 same_given Auditing text_of x y a b = same_default IsCount same_count _ (text_of (codes "frames")) x y a b
 same_given Drilling text_of x y a b = same_drill text_of x y a b
 same_given Carrying text_of x y a b = same_path text_of x y a b
+same_given Giving text_of x y a b = same_default IsCount same_count _ (text_of (codes "frames")) x y a b
+same_given AuditingBytes text_of x y a b = same_default IsCount same_count _ (text_of (codes "frames")) x y a b
+same_given Replaying text_of x y a b = refl
 
 -- and so do words
 asked_once : (words : List Text) (d e : DrillWords) → AsksDrill words d → AsksDrill words e → d ≡ e

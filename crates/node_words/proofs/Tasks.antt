@@ -4,7 +4,7 @@ use Rattle.node_words.specs.declared.wanted.Wanted.{Wanted}
 use Rattle.node_words.specs.Table.{IsReadAs}
 use Rattle.std.specs.Prelude.{cond}
 use Rattle.std.specs.Str.{bytes_eq}
-use Rattle.node_words.specs.Words.{Asked, Command, Running, Checking, Relaying, Minting, Serving, RelayServing, Auditing, Drilling, Carrying, Text, Task, Run, Check, Relay, Mint, Serve, RelayServe, Audit, Drill, Path, named, task_for}
+use Rattle.node_words.specs.Words.{Asked, Command, Running, Checking, Relaying, Minting, Serving, RelayServing, Auditing, Drilling, Carrying, Giving, Text, Task, Run, Check, Relay, Mint, Serve, RelayServe, Audit, Drill, Path, Wallet, named, task_for, AuditingBytes, Replaying, AuditBytes, Replay}
 
 -- the command that is named so
 abbrev pub command_named : Text → Command
@@ -16,7 +16,10 @@ command_named name =
     (cond (bytes_eq name (codes "serve")) Serving
     (cond (bytes_eq name (codes "relay-serve")) RelayServing
     (cond (bytes_eq name (codes "audit")) Auditing
-    (cond (bytes_eq name (codes "path")) Carrying Drilling)))))))
+    (cond (bytes_eq name (codes "path")) Carrying
+    (cond (bytes_eq name (codes "wallet")) Giving
+    (cond (bytes_eq name (codes "audit-bytes")) AuditingBytes
+    (cond (bytes_eq name (codes "replay")) Replaying Drilling))))))))))
 
 pub command_named-named : (c : Command) → command_named (named c) ≡ c
 command_named-named Running = refl
@@ -28,6 +31,9 @@ command_named-named RelayServing = refl
 command_named-named Auditing = refl
 command_named-named Drilling = refl
 command_named-named Carrying = refl
+command_named-named Giving = refl
+command_named-named AuditingBytes = refl
+command_named-named Replaying = refl
 
 -- what is read of a command is read of each that has its name
 pub by_command : (d : Command) (name : Text) (text_of : Text → Option Text) (r : Option Wanted) → name ≡ named d → IsReadAs d text_of r → (c : Command) → name ≡ named c → IsReadAs c text_of r
@@ -47,6 +53,9 @@ command_of (RelayServe limits) = RelayServing
 command_of (Audit n) = Auditing
 command_of (Drill d) = Drilling
 command_of (Path p) = Carrying
+command_of (Wallet n) = Giving
+command_of (AuditBytes n) = AuditingBytes
+command_of Replay = Replaying
 
 -- each task is one of its command
 pub asked_of : (t : Task) → (x : Asked (command_of t)) × (task_for (command_of t) x ≡ t)
@@ -59,3 +68,6 @@ asked_of (RelayServe limits) = (limits, refl)
 asked_of (Audit n) = (n, refl)
 asked_of (Drill d) = (d, refl)
 asked_of (Path p) = (p, refl)
+asked_of (Wallet n) = (n, refl)
+asked_of (AuditBytes n) = (n, refl)
+asked_of Replay = (tt, refl)

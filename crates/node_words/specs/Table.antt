@@ -4,7 +4,7 @@ use Rattle.node_words.specs.declared.wanted.Wanted.{Wanted}
 use Rattle.node_words.specs.declared.table.Argument.{Argument as Declared}
 use Rattle.node_words.specs.declared.table.Argument.TheVariants as declared
 use Rattle.node_words.specs.declared.table.Entry.{Entry}
-use Rattle.node_words.specs.Words.{Argument, Asked, Command, Gives, IsValue, Running, Checking, Relaying, Minting, Serving, RelayServing, Auditing, Carrying, drill_names, flag, named, options_of, task_for, task_of, valued}
+use Rattle.node_words.specs.Words.{Argument, Asked, Command, Gives, IsValue, Running, Checking, Relaying, Minting, Serving, RelayServing, Auditing, Carrying, Giving, drill_names, flag, named, options_of, task_for, task_of, valued, AuditingBytes, Replaying}
 use Rattle.clap.specs.Words.{App, Rule, Text, app_of, first_of, found_of, rows_of, new_app, new_rule, with_subcommand}
 use Rattle.clap.specs.declared.builder.command.Command.TheViews.{out-Command}
 use Rattle.clap.specs.Simple.{on_top}
@@ -67,7 +67,7 @@ drill_app = ruled_app (codes "drill") (map word_rule drill_names)
 abbrev pub with_options : List Command
 with_options =
     Running ∷ Checking ∷ Relaying ∷ Minting ∷ Serving ∷ RelayServing ∷ Auditing
-    ∷ Carrying ∷ []
+    ∷ Carrying ∷ Giving ∷ AuditingBytes ∷ Replaying ∷ []
 
 -- commands with options
 abbrev pub table_of : List (Text × List Argument) → App
@@ -90,7 +90,7 @@ abbrev pub all_options : List Text
 all_options =
     codes "connections" ∷ codes "frames" ∷ codes "issuer" ∷ codes "serial" ∷ codes "from"
     ∷ codes "until" ∷ codes "quoted" ∷ codes "left" ∷ codes "right" ∷ codes "node" ∷ codes "route"
-    ∷ codes "lemmas" ∷ []
+    ∷ codes "lemmas" ∷ codes "pull" ∷ []
 
 -- the word is the option of this name, in one of its ways: `--name`, or `--name=value`
 pub data IsOption (word name : Text) : Type 0 where

@@ -20,19 +20,23 @@ Text = List ℕ
 pub record RunWords : Type 0 where
   pub frames : ℕ
   pub lemmas : ℕ
+  -- whether certificates are fetched
+  pub pulls : Bool
 
 -- the same, of these
-abbrev pub run_words : ℕ → ℕ → RunWords
-run_words frames lemmas = record { frames = frames; lemmas = lemmas }
+abbrev pub run_words : ℕ → ℕ → Bool → RunWords
+run_words frames lemmas pulls = record { frames = frames; lemmas = lemmas; pulls = pulls }
 
 -- what `serve` is asked for: the limits of a lane, and room for so many lemmas of each
 pub record ServeWords : Type 0 where
   pub limits : Limits
   pub lemmas : ℕ
+  -- whether certificates are fetched
+  pub pulls : Bool
 
 -- the same, of these
-abbrev pub serve_words : Limits → ℕ → ServeWords
-serve_words limits lemmas = record { limits = limits; lemmas = lemmas }
+abbrev pub serve_words : Limits → ℕ → Bool → ServeWords
+serve_words limits lemmas pulls = record { limits = limits; lemmas = lemmas; pulls = pulls }
 
 -- what `mint` is asked for
 pub record MintWords : Type 0 where
@@ -96,18 +100,27 @@ pub data Task : Type 0 where
   Drill : DrillWords → Task
   -- to pass a certificate along a route to a node
   Path : PathWords → Task
+  -- to serve a connection as a wallet, of at most so many frames
+  Wallet : ℕ → Task
+  -- to serve a connection, of at most so many frames, and to write the bytes of the journals
+  AuditBytes : ℕ → Task
+  -- to judge the bytes of journals
+  Replay : Task
 
 -- the task that the program has
 abbrev pub task_of : Wanted → Task
-task_of (wanted.Run frames lemmas) = Run (run_words frames lemmas)
+task_of (wanted.Run frames lemmas pulls) = Run (run_words frames lemmas pulls)
 task_of wanted.Check = Check
 task_of (wanted.Relay frames) = Relay frames
 task_of (wanted.Mint m) = Mint (mint_words m)
-task_of (wanted.Serve limits lemmas) = Serve (serve_words limits lemmas)
+task_of (wanted.Serve limits lemmas pulls) = Serve (serve_words limits lemmas pulls)
 task_of (wanted.RelayServe limits) = RelayServe limits
 task_of (wanted.Audit frames) = Audit frames
 task_of (wanted.Drill d) = Drill (drill_words d)
 task_of (wanted.Path p) = Path (path_words p)
+task_of (wanted.Wallet frames) = Wallet frames
+task_of (wanted.AuditBytes frames) = AuditBytes frames
+task_of wanted.Replay = Replay
 
 -- an option of a command: its name, and whether it is a flag, which has no value
 pub record Argument : Type 0 where
@@ -226,6 +239,9 @@ pub data Command : Type 0 where
   Auditing : Command
   Drilling : Command
   Carrying : Command
+  Giving : Command
+  AuditingBytes : Command
+  Replaying : Command
 
 -- its first word
 abbrev pub named : Command → Text
@@ -238,6 +254,9 @@ named RelayServing = codes "relay-serve"
 named Auditing = codes "audit"
 named Drilling = codes "drill"
 named Carrying = codes "path"
+named Giving = codes "wallet"
+named AuditingBytes = codes "audit-bytes"
+named Replaying = codes "replay"
 
 -- how many frames an option `--frames` means, and how many are meant without it
 abbrev pub AreFrames : Option Text → ℕ → Type 0
@@ -268,11 +287,13 @@ pub record GivesLimits (text_of : Text → Option Text) (limits : Limits) : Type
 pub record GivesRun (text_of : Text → Option Text) (r : RunWords) : Type 0 where
   pub frames : AreFrames (text_of (codes "frames")) r.frames
   pub lemmas : AreLemmas (text_of (codes "lemmas")) r.lemmas
+  pub pulls : IsRaised (text_of (codes "pull")) r.pulls
 
 -- the texts that options have give what `serve` is asked for
 pub record GivesServe (text_of : Text → Option Text) (s : ServeWords) : Type 0 where
   pub limits : GivesLimits text_of s.limits
   pub lemmas : AreLemmas (text_of (codes "lemmas")) s.lemmas
+  pub pulls : IsRaised (text_of (codes "pull")) s.pulls
 
 -- the texts that options have give what `mint` is asked for
 pub record GivesMint (text_of : Text → Option Text) (m : MintWords) : Type 0 where
@@ -303,7 +324,7 @@ serving_options = valued (codes "frames") ∷ []
 
 -- the options of `run`
 abbrev pub run_options : List Argument
-run_options = valued (codes "frames") ∷ valued (codes "lemmas") ∷ []
+run_options = valued (codes "frames") ∷ valued (codes "lemmas") ∷ flag (codes "pull") ∷ []
 
 -- the options of a command that serves lanes
 abbrev pub lane_options : List Argument
@@ -312,7 +333,8 @@ lane_options = valued (codes "connections") ∷ valued (codes "frames") ∷ []
 -- the options of `serve`
 abbrev pub serve_options : List Argument
 serve_options =
-    valued (codes "connections") ∷ valued (codes "frames") ∷ valued (codes "lemmas") ∷ []
+    valued (codes "connections") ∷ valued (codes "frames") ∷ valued (codes "lemmas")
+    ∷ flag (codes "pull") ∷ []
 
 -- the options of `mint`
 abbrev pub mint_options : List Argument
@@ -335,6 +357,9 @@ options_of RelayServing = lane_options
 options_of Auditing = serving_options
 options_of Drilling = []
 options_of Carrying = path_options
+options_of Giving = serving_options
+options_of AuditingBytes = serving_options
+options_of Replaying = []
 
 -- what a command is asked for
 abbrev pub Asked : Command → Type 0
@@ -347,6 +372,9 @@ Asked RelayServing = Limits
 Asked Auditing = ℕ
 Asked Drilling = DrillWords
 Asked Carrying = PathWords
+Asked Giving = ℕ
+Asked AuditingBytes = ℕ
+Asked Replaying = Unit {0}
 
 -- the texts behind a command give what it is asked for
 abbrev pub Gives : (c : Command) → (Text → Option Text) → Asked c → Type 0
@@ -359,6 +387,9 @@ Gives RelayServing text_of limits = GivesLimits text_of limits
 Gives Auditing text_of frames = AreFrames (text_of (codes "frames")) frames
 Gives Drilling text_of d = GivesDrill text_of d
 Gives Carrying text_of p = GivesPath text_of p
+Gives Giving text_of frames = AreFrames (text_of (codes "frames")) frames
+Gives AuditingBytes text_of frames = AreFrames (text_of (codes "frames")) frames
+Gives Replaying text_of nothing = Unit {0}
 
 -- what is asked of a command
 abbrev pub task_for : (c : Command) → Asked c → Task
@@ -371,6 +402,9 @@ task_for RelayServing limits = RelayServe limits
 task_for Auditing frames = Audit frames
 task_for Drilling d = Drill d
 task_for Carrying p = Path p
+task_for Giving frames = Wallet frames
+task_for AuditingBytes frames = AuditBytes frames
+task_for Replaying nothing = Replay
 
 -- the words are this command with options that give what it is asked for
 abbrev pub Asks : (c : Command) → List Text → Asked c → Type 0
@@ -405,6 +439,9 @@ TextsMean words (RelayServe limits) = Asks RelayServing words limits
 TextsMean words (Audit frames) = Asks Auditing words frames
 TextsMean words (Drill d) = AsksDrill words d
 TextsMean words (Path p) = Asks Carrying words p
+TextsMean words (Wallet frames) = Asks Giving words frames
+TextsMean words (AuditBytes frames) = Asks AuditingBytes words frames
+TextsMean words Replay = Asks Replaying words tt
 
 -- the words mean the task
 abbrev pub Mean : List (String Global) → Task → Type 0

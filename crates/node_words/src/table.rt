@@ -15,7 +15,7 @@ pub enum Argument {
     Flag(&'static str),
 }
 
-use Argument::Valued;
+use Argument::{Flag, Valued};
 
 /// A command that has options.
 #[derive(Clone, Copy)]
@@ -26,11 +26,16 @@ pub struct Entry {
 
 const SERVING: [Argument; 1] = [Valued("frames")];
 
-const RUNNING: [Argument; 2] = [Valued("frames"), Valued("lemmas")];
+const RUNNING: [Argument; 3] = [Valued("frames"), Valued("lemmas"), Flag("pull")];
 
 const LANES: [Argument; 2] = [Valued("connections"), Valued("frames")];
 
-const SERVE: [Argument; 3] = [Valued("connections"), Valued("frames"), Valued("lemmas")];
+const SERVE: [Argument; 4] = [
+    Valued("connections"),
+    Valued("frames"),
+    Valued("lemmas"),
+    Flag("pull"),
+];
 
 const MINT: [Argument; 7] = [
     Valued("issuer"),
@@ -44,7 +49,7 @@ const MINT: [Argument; 7] = [
 
 const PATH: [Argument; 2] = [Valued("node"), Valued("route")];
 
-const COMMANDS: [Entry; 8] = [
+const COMMANDS: [Entry; 11] = [
     Entry {
         name: "run",
         options: &RUNNING,
@@ -76,6 +81,18 @@ const COMMANDS: [Entry; 8] = [
     Entry {
         name: "path",
         options: &PATH,
+    },
+    Entry {
+        name: "wallet",
+        options: &SERVING,
+    },
+    Entry {
+        name: "audit-bytes",
+        options: &SERVING,
+    },
+    Entry {
+        name: "replay",
+        options: &[],
     },
 ];
 

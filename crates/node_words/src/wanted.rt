@@ -102,22 +102,46 @@ pub struct Drill {
 /// A command with its options.
 #[derive(Clone, Copy, Debug)]
 pub enum Wanted<'a> {
-    /// Serve one connection, of at most so many frames, with room for so many lemmas.
-    Run { frames: u64, lemmas: u32 },
+    /// Serve one connection, of at most so many frames, with room for so many lemmas; where `pulls` is
+    /// set, with certificates that are fetched.
+    Run {
+        frames: u64,
+        lemmas: u32,
+        pulls: bool,
+    },
     /// Look over a request and its reply.
     Check,
     /// Serve one connection to a relay, of at most so many frames.
-    Relay { frames: u64 },
+    Relay {
+        frames: u64,
+    },
     /// Print a certificate.
     Mint(Mint<'a>),
-    /// Serve connections of each lane's door, with room for so many lemmas of each lane.
-    Serve { limits: Limits, lemmas: u32 },
+    /// Serve connections of each lane's door, with room for so many lemmas of each lane; where `pulls`
+    /// is set, with certificates that are fetched.
+    Serve {
+        limits: Limits,
+        lemmas: u32,
+        pulls: bool,
+    },
     /// Serve connections of each lane's door as a relay.
     RelayServe(Limits),
     /// Serve one connection, of at most so many frames, and print the journals.
-    Audit { frames: u64 },
+    Audit {
+        frames: u64,
+    },
     /// Serve a load that is made.
     Drill(Drill),
     /// Pass a certificate along a route.
     Path(Path),
+    /// Serve one connection as a wallet, of at most so many frames.
+    Wallet {
+        frames: u64,
+    },
+    /// Serve one connection, of at most so many frames, and write the journals as bytes.
+    AuditBytes {
+        frames: u64,
+    },
+    /// Judge journals as bytes.
+    Replay,
 }

@@ -3,7 +3,7 @@
 ghost use Rattle.std.specs.Prelude.{◌≡◌, ◌↔◌, ◌+◌, ◌^◌, ◌≤◌, ◌++◌, ◌∷◌, ℕ, List, String, codes, length, map, decimal, option_map, string_bytes, All, IsTrue, IfOk, MatchOption, Some};
 ghost use Rattle.std.specs.declared.alloc.Global.{Global};
 ghost use Rattle.clap.specs.Words.{Row, first_of, subcommand_rows_of};
-ghost use Rattle.node_words.specs.Words.{AreFrames, AreLemmas, Command, Default, GivesDrill, GivesLimits, GivesMint, GivesPath, GivesRun, GivesServe, HasNumber, HasRoute, IsCount, IsMeaning, IsNumber, IsValue, Mean, Task, drill_words, mint_words, named, path_words, run_words, serve_words};
+ghost use Rattle.node_words.specs.Words.{AreFrames, AreLemmas, Command, Default, GivesDrill, GivesLimits, GivesMint, GivesPath, GivesRun, GivesServe, HasNumber, HasRoute, IsCount, IsMeaning, IsNumber, IsRaised, IsValue, Mean, Task, drill_words, mint_words, named, path_words, run_words, serve_words};
 ghost use Rattle.node_words.specs.Routes.{GoesOn, IsRoute, numbers_in, pieces, pieces_behind};
 ghost use Rattle.node_words.specs.Table.{IsOfTable, IsOption, IsOptionOf, IsReadAs, IsReadBy, IsReadOf, all_options, texts_of};
 
@@ -18,7 +18,7 @@ use std::alloc::{AllocError, Global};
 use taos_drill::{MAX_LANES, MAX_REQUESTS};
 
 // The options of all commands.
-const OPTIONS: [&str; 12] = [
+const OPTIONS: [&str; 13] = [
     "connections",
     "frames",
     "issuer",
@@ -31,6 +31,7 @@ const OPTIONS: [&str; 12] = [
     "node",
     "route",
     "lemmas",
+    "pull",
 ];
 
 /// Words mean one task.
@@ -253,6 +254,13 @@ fn lemmas_of<'a>(options: &ArgMatches<'a>) -> Option<u32>
     number_or(text_of(options, "lemmas"), MAX_LEMMAS as u32, 0)
 }
 
+// Whether certificates are fetched.
+fn pulls_of<'a>(options: &ArgMatches<'a>) -> bool
+    ensures { IsRaised (texts_of options.now (codes "pull")) result }
+{
+    text_of(options, "pull").is_some()
+}
+
 // What lanes are limited to.
 fn limits_of<'a>(options: &ArgMatches<'a>) -> Option<Limits>
     ensures { IsReadOf (GivesLimits (texts_of options.now)) result }
@@ -265,20 +273,20 @@ fn limits_of<'a>(options: &ArgMatches<'a>) -> Option<Limits>
     })
 }
 
-fn run_of<'a>(options: &ArgMatches<'a>) -> Option<(u64, u32)>
-    ensures { IsReadBy (λ r. run_words r.0 r.1) (GivesRun (texts_of options.now)) result }
+fn run_of<'a>(options: &ArgMatches<'a>) -> Option<(u64, u32, bool)>
+    ensures { IsReadBy (λ r. run_words r.0 r.1 r.2) (GivesRun (texts_of options.now)) result }
 {
     let frames = frames_of(options)?;
     let lemmas = lemmas_of(options)?;
-    Some((frames, lemmas))
+    Some((frames, lemmas, pulls_of(options)))
 }
 
-fn serve_of<'a>(options: &ArgMatches<'a>) -> Option<(Limits, u32)>
-    ensures { IsReadBy (λ s. serve_words s.0 s.1) (GivesServe (texts_of options.now)) result }
+fn serve_of<'a>(options: &ArgMatches<'a>) -> Option<(Limits, u32, bool)>
+    ensures { IsReadBy (λ s. serve_words s.0 s.1 s.2) (GivesServe (texts_of options.now)) result }
 {
     let limits = limits_of(options)?;
     let lemmas = lemmas_of(options)?;
-    Some((limits, lemmas))
+    Some((limits, lemmas, pulls_of(options)))
 }
 
 fn mint_of<'a>(options: &ArgMatches<'a>) -> Option<Mint<'a>>
@@ -333,8 +341,12 @@ fn asked_of<'a>(name: &str, options: &ArgMatches<'a>) -> Option<Wanted<'a>>
 {
     match name {
         "run" => {
-            let (frames, lemmas) = run_of(options)?;
-            Some(Wanted::Run { frames, lemmas })
+            let (frames, lemmas, pulls) = run_of(options)?;
+            Some(Wanted::Run {
+                frames,
+                lemmas,
+                pulls,
+            })
         }
         "check" => Some(Wanted::Check),
         "relay" => Some(Wanted::Relay {
@@ -342,8 +354,12 @@ fn asked_of<'a>(name: &str, options: &ArgMatches<'a>) -> Option<Wanted<'a>>
         }),
         "mint" => Some(Wanted::Mint(mint_of(options)?)),
         "serve" => {
-            let (limits, lemmas) = serve_of(options)?;
-            Some(Wanted::Serve { limits, lemmas })
+            let (limits, lemmas, pulls) = serve_of(options)?;
+            Some(Wanted::Serve {
+                limits,
+                lemmas,
+                pulls,
+            })
         }
         "relay-serve" => Some(Wanted::RelayServe(limits_of(options)?)),
         "audit" => Some(Wanted::Audit {
@@ -351,6 +367,13 @@ fn asked_of<'a>(name: &str, options: &ArgMatches<'a>) -> Option<Wanted<'a>>
         }),
         "drill" => Some(Wanted::Drill(drill_of(options)?)),
         "path" => Some(Wanted::Path(path_of(options)?)),
+        "wallet" => Some(Wanted::Wallet {
+            frames: frames_of(options)?,
+        }),
+        "audit-bytes" => Some(Wanted::AuditBytes {
+            frames: frames_of(options)?,
+        }),
+        "replay" => Some(Wanted::Replay),
         _ => None,
     }
 }

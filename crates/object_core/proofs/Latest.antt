@@ -8,7 +8,7 @@ use Rattle.object_core.specs.declared.entry.ObjectEntry as code
 use Rattle.object_core.specs.Objects.{ObjectEntry, ObjectPlan, latest, written, written_by, listed, listed_by, content_after, list_after}
 use Rattle.object_core.specs.Kept.{IsLatest, IsObject}
 use Rattle.object_core.specs.ObjectView.{object_entry}
-use Rattle.object_core.specs.Operation.{Op, Read, Write, SetList, Hold, Discard, Forget, Sweep, FitsOperation, IsAccessList, IsContent}
+use Rattle.object_core.specs.Operation.{Op, Read, Write, SetList, Hold, Discard, Forget, Sweep, Withdraw, FitsOperation, IsAccessList, IsContent}
 use Rattle.object_core.specs.declared.ruling.Ruling.{Ruling}
 use Rattle.object_core.specs.declared.ruling.Ruling.TheVariants.{Granted, Denied}
 
@@ -56,6 +56,7 @@ content_brought (Granted e) Hold content fits is = is
 content_brought (Granted e) (Discard digest) content fits is = is
 content_brought (Granted e) (Forget channel) content fits is = is
 content_brought (Granted e) Sweep content fits is = is
+content_brought (Granted e) (Withdraw issuer) content fits is = is
 content_brought Denied op content fits is = is
 
 list_brought : (r : Ruling) (op : Op) (list : List _) → FitsOperation op → IsAccessList list → IsAccessList (unwrap_or (listed r op) list)
@@ -66,6 +67,7 @@ list_brought (Granted e) Hold list fits is = is
 list_brought (Granted e) (Discard digest) list fits is = is
 list_brought (Granted e) (Forget channel) list fits is = is
 list_brought (Granted e) Sweep list fits is = is
+list_brought (Granted e) (Withdraw issuer) list fits is = is
 list_brought Denied op list fits is = is
 
 -- an object without entries, with room for them

@@ -9,7 +9,7 @@ use Rattle.byte_fields.proofs.FormatFields.{reads_u32}
 use Rattle.byte_fields.proofs.Forms.{Form, form_made, form_given, form_if, form_u32, form_bytes}
 use Rattle.byte_fields.proofs.ReaderLaws.{Reads, reads_bytes}
 use Rattle.object_core.specs.declared.operation.TheConstants.{LAST_KIND}
-use Rattle.object_core.specs.Operation.{Op, Read, Write, SetList, Hold, Discard, Forget, Sweep, FitsOperation}
+use Rattle.object_core.specs.Operation.{Op, Read, Write, SetList, Hold, Discard, Forget, Sweep, Withdraw, FitsOperation}
 use Rattle.object_core.specs.Reading.{content_at, list_at, fields_at}
 use Rattle.object_core.specs.Spelling.{kind_of, op_fields, IsOperationAt}
 use Rattle.object_core.proofs.Halves.{Takes, takes_if, takes_made, takes_given, again_made, again_given}
@@ -28,6 +28,7 @@ kind_within Hold = (omega arith, omega arith)
 kind_within (Discard digest) = (omega arith, omega arith)
 kind_within (Forget channel) = (omega arith, omega arith)
 kind_within Sweep = (omega arith, omega arith)
+kind_within (Withdraw issuer) = (omega arith, omega arith)
 
 module _ (bytes : List ℕ) where
   fields_take : (kind : ℕ) → 1 ≤ kind → kind ≤ LAST_KIND → Takes bytes (fields_at bytes kind) op_fields (FitsKind kind)
@@ -38,8 +39,9 @@ module _ (bytes : List ℕ) where
       takes_if bytes (eqb kind 3) (made SetList (list_at bytes)) _ op_fields (FitsKind kind) (λ t. takes_made SetList op_fields (FitsKind kind) (reads_list bytes) (λ x is. ((is, sym (eqb-true kind 3 t)), refl))) (λ n3.
       takes_if bytes (eqb kind 4) (given Hold) _ op_fields (FitsKind kind) (λ t. takes_given bytes Hold op_fields (FitsKind kind) refl (tt, sym (eqb-true kind 4 t))) (λ n4.
       takes_if bytes (eqb kind 5) (made Discard (bytes_at (ended bytes) 32 bytes)) _ op_fields (FitsKind kind) (λ t. takes_made Discard op_fields (FitsKind kind) (reads_bytes (ended bytes) 32 bytes) (λ x is. ((is, sym (eqb-true kind 5 t)), refl))) (λ n5.
-      takes_if bytes (eqb kind 6) (made Forget (u32_in bytes)) (given Sweep) op_fields (FitsKind kind) (λ t. takes_made Forget op_fields (FitsKind kind) (reads_u32 bytes) (λ x is. ((is, sym (eqb-true kind 6 t)), refl))) (λ n6.
-      takes_given bytes Sweep op_fields (FitsKind kind) refl (tt, omega (arith, some, le, eqb-false _ _ n1, eqb-false _ _ n2, eqb-false _ _ n3, eqb-false _ _ n4, eqb-false _ _ n5, eqb-false _ _ n6))))))))
+      takes_if bytes (eqb kind 6) (made Forget (u32_in bytes)) _ op_fields (FitsKind kind) (λ t. takes_made Forget op_fields (FitsKind kind) (reads_u32 bytes) (λ x is. ((is, sym (eqb-true kind 6 t)), refl))) (λ n6.
+      takes_if bytes (eqb kind 7) (given Sweep) (made Withdraw (u32_in bytes)) op_fields (FitsKind kind) (λ t. takes_given bytes Sweep op_fields (FitsKind kind) refl (tt, sym (eqb-true kind 7 t))) (λ n7.
+      takes_made Withdraw op_fields (FitsKind kind) (reads_u32 bytes) (λ x is. ((is, omega (arith, some, le, eqb-false _ _ n1, eqb-false _ _ n2, eqb-false _ _ n3, eqb-false _ _ n4, eqb-false _ _ n5, eqb-false _ _ n6, eqb-false _ _ n7)), refl)))))))))
 
   fields_again : (op : Op) (at : ℕ) (rest : List ℕ) → FitsOperation op → drop at bytes ≡ op_fields op ++ rest → fields_at bytes (kind_of op) at ≡ Ok (op, at + length (op_fields op))
   unfolding fields_at
@@ -50,6 +52,7 @@ module _ (bytes : List ℕ) where
   fields_again (Discard digest) at rest fits e = again_made Discard (reads_bytes (ended bytes) 32 bytes) at digest rest fits e
   fields_again (Forget channel) at rest fits e = again_made Forget (reads_u32 bytes) at channel rest fits e
   fields_again Sweep at rest fits e = again_given Sweep at
+  fields_again (Withdraw issuer) at rest fits e = again_made Withdraw (reads_u32 bytes) at issuer rest fits e
 
   pub reads_fields : (kind : ℕ) → (1 ≤ kind) × (kind ≤ LAST_KIND) → Reads bytes (fields_at bytes kind) op_fields (FitsKind kind)
   reads_fields kind low_high = record {
@@ -77,4 +80,5 @@ form_fields kind =
     (form_if (eqb kind 3) (form_made SetList form_list)
     (form_if (eqb kind 4) (form_given Hold)
     (form_if (eqb kind 5) (form_made Discard (form_bytes 32))
-    (form_if (eqb kind 6) (form_made Forget form_u32) (form_given Sweep))))))
+    (form_if (eqb kind 6) (form_made Forget form_u32)
+    (form_if (eqb kind 7) (form_given Sweep) (form_made Withdraw form_u32)))))))

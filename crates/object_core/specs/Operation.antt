@@ -22,6 +22,8 @@ pub data Op : Type 0 where
   Forget : (channel : ℕ) → Op
   -- removes what has expired
   Sweep : Op
+  -- withdraws an issuer: none of its certificates is held from then on
+  Withdraw : (issuer : ℕ) → Op
 
 -- the right that an operation needs: 1 read, 2 write, 4 control, 8 manage
 abbrev pub right_of : Op → ℕ
@@ -32,6 +34,7 @@ right_of Hold = 8
 right_of (Discard digest) = 8
 right_of (Forget channel) = 8
 right_of Sweep = 8
+right_of (Withdraw issuer) = 8
 
 -- ---- limits
 
@@ -61,3 +64,4 @@ FitsOperation Hold = Unit {0}
 FitsOperation (Discard digest) = IsDigest digest
 FitsOperation (Forget channel) = channel < 2 ^ 32
 FitsOperation Sweep = Unit {0}
+FitsOperation (Withdraw issuer) = issuer < 2 ^ 32

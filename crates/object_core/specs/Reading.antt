@@ -2,7 +2,7 @@
 use Rattle.std.specs.Prelude.{ℕ, List, ◌==◌, if◌then◌else◌}
 use Rattle.object_core.specs.declared.limits.TheConstants.{MAX_CONTENT, MAX_ENTRIES, MAX_RIGHTS}
 use Rattle.object_core.specs.declared.operation.TheConstants.{LAST_KIND}
-use Rattle.object_core.specs.Operation.{Op, Read, Write, SetList, Hold, Discard, Forget, Sweep}
+use Rattle.object_core.specs.Operation.{Op, Read, Write, SetList, Hold, Discard, Forget, Sweep, Withdraw}
 use Rattle.byte_fields.specs.declared.fault.FormatFault.TheVariants.{Malformed}
 use Rattle.prin_term.specs.declared.limits.TheConstants.{ENTRY_NODES}
 use Rattle.byte_fields.specs.Formats.{FormatReader, ended, u8_in, u16_in, u32_in, within}
@@ -41,4 +41,5 @@ fields_at bytes kind at =
     else (if kind == 4 then given Hold at
     else (if kind == 5 then made Discard (bytes_at (ended bytes) 32 bytes) at
     else (if kind == 6 then made Forget (u32_in bytes) at
-    else given Sweep at)))))
+    else (if kind == 7 then given Sweep at
+    else made Withdraw (u32_in bytes) at))))))

@@ -5,7 +5,7 @@ use Rattle.std.specs.List.{flat_map}
 use Rattle.prin_term.specs.Principal.{spelling}
 use Rattle.byte_fields.specs.Steps.{counted}
 use Rattle.prin_term.specs.View.{Grant}
-use Rattle.object_core.specs.Operation.{Op, Read, Write, SetList, Hold, Discard, Forget, Sweep}
+use Rattle.object_core.specs.Operation.{Op, Read, Write, SetList, Hold, Discard, Forget, Sweep, Withdraw}
 use Rattle.object_core.specs.Operation.{IsContent, IsAccessList, FitsOperation}
 
 -- a content, after its length
@@ -29,6 +29,7 @@ kind_of Hold = 4
 kind_of (Discard digest) = 5
 kind_of (Forget channel) = 6
 kind_of Sweep = 7
+kind_of (Withdraw issuer) = 8
 
 -- what an operation says besides its name
 abbrev pub op_fields : Op → List ℕ
@@ -39,6 +40,7 @@ op_fields Hold = []
 op_fields (Discard digest) = digest
 op_fields (Forget channel) = to_be_bytes w32 channel
 op_fields Sweep = []
+op_fields (Withdraw issuer) = to_be_bytes w32 issuer
 
 -- ---- at an offset
 

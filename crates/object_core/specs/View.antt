@@ -4,7 +4,7 @@ use Rattle.std.specs.Arc.{arc_value}
 use Rattle.prin_term.specs.View.{grant}
 use Rattle.object_core.specs.declared.operation.Op as code
 use Rattle.object_core.specs.declared.operation.Op.TheVariants as variant
-use Rattle.object_core.specs.Operation.{Op, Read, Write, SetList, Hold, Discard, Forget, Sweep}
+use Rattle.object_core.specs.Operation.{Op, Read, Write, SetList, Hold, Discard, Forget, Sweep, Withdraw}
 
 -- the operation that the program's one stands for
 abbrev pub operation : code.Op → Op
@@ -15,3 +15,4 @@ operation variant.Hold = Hold
 operation (variant.Discard digest) = Discard digest
 operation (variant.Forget channel) = Forget channel
 operation variant.Sweep = Sweep
+operation (variant.Withdraw issuer) = Withdraw issuer

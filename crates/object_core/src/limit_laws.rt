@@ -9,5 +9,5 @@ pub fn limits_are()
     ensures content { MAX_CONTENT ≡ 4096 }
     ensures entries { MAX_ENTRIES ≡ 8 }
     ensures rights { MAX_RIGHTS ≡ 15 }
-    ensures kinds { LAST_KIND ≡ 7 }
+    ensures kinds { LAST_KIND ≡ 8 }
 {}

@@ -17,7 +17,7 @@ const CONTROL: u8 = 4;
 const MANAGE: u8 = 8;
 
 /// The highest byte that names an operation; the lowest is 1.
-pub const LAST_KIND: u8 = 7;
+pub const LAST_KIND: u8 = 8;
 
 /// What is asked of an object, or at it of the node.
 #[derive(Debug, Drop)]
@@ -36,6 +36,8 @@ pub enum Op {
     Forget(u32),
     /// Removes what has expired.
     Sweep,
+    /// Withdraws an issuer: none of its certificates is held from then on.
+    Withdraw(u32),
 }
 
 /// The right that an operation needs: 1 read, 2 write, 4 control, 8 manage.
@@ -46,7 +48,7 @@ pub fn right_of(op: &Op) -> u8
         Op::Read => READ,
         Op::Write(_) => WRITE,
         Op::SetList(_) => CONTROL,
-        Op::Hold | Op::Discard(_) | Op::Forget(_) | Op::Sweep => MANAGE,
+        Op::Hold | Op::Discard(_) | Op::Forget(_) | Op::Sweep | Op::Withdraw(_) => MANAGE,
     }
 }
 
@@ -61,6 +63,7 @@ pub fn kind_of(op: &Op) -> u8
         Op::Hold => 4,
         Op::Discard(_) => 5,
         Op::Forget(_) => 6,
-        Op::Sweep => LAST_KIND,
+        Op::Sweep => 7,
+        Op::Withdraw(_) => LAST_KIND,
     }
 }

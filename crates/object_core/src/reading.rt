@@ -119,6 +119,10 @@ pub fn read_fields(
             let (channel, next) = u32_at(bytes, at, ended(bytes))?;
             Ok((Op::Forget(channel), next))
         }
-        _ => Ok((Op::Sweep, at)),
+        7 => Ok((Op::Sweep, at)),
+        _ => {
+            let (issuer, next) = u32_at(bytes, at, ended(bytes))?;
+            Ok((Op::Withdraw(issuer), next))
+        }
     }
 }

@@ -71,7 +71,7 @@ fn push_fields(out: &mut Vec<u8>, op: &Op) -> Result<(), AllocError>
         Op::Write(content) => push_content(out, content),
         Op::SetList(list) => push_list(out, list),
         Op::Discard(digest) => out.extend_from_slice(digest),
-        Op::Forget(channel) => out.extend_from_slice(&channel.to_be_bytes()),
+        Op::Forget(number) | Op::Withdraw(number) => out.extend_from_slice(&number.to_be_bytes()),
         Op::Read | Op::Hold | Op::Sweep => Ok(()),
     }
 }

@@ -39,6 +39,10 @@ has_lapsed moment c = nat_le c.lease moment
 abbrev pub cites_it : List ℕ → Cached → Bool
 cites_it digest c = list_any (λ x. bytes_eq (digest_of x) digest) c.cites
 
+-- it cites a certificate of this issuer
+abbrev pub cites_issuer : ℕ → Cached → Bool
+cites_issuer issuer c = list_any (λ x. x.issuer == issuer) c.cites
+
 -- the principal is the channel's key, alone or quoting another
 abbrev pub speaks_on : ℕ → Principal → Bool
 speaks_on channel (Key k) = k == channel

@@ -6,10 +6,10 @@ ghost use Rattle.std.specs.Option.{option_map};
 ghost use Rattle.std.specs.Arc.{arc_value};
 ghost use Rattle.prin_term.specs.View.{principal};
 ghost use Rattle.proof_cache.specs.Cached.{cached};
-ghost use Rattle.proof_cache.specs.Cache.{cites_it, has_lapsed, is_for, is_of_channel, keeping, to_front, without};
+ghost use Rattle.proof_cache.specs.Cache.{cites_issuer, cites_it, has_lapsed, is_for, is_of_channel, keeping, to_front, without};
 
 use crate::cached::Cached;
-use crate::kept::{bring, drop_citing, drop_lapsed, drop_on, place_of, put};
+use crate::kept::{bring, drop_citing, drop_issued, drop_lapsed, drop_on, place_of, put};
 use crate::row::{MAX_KEPT, Row};
 use prin_term::Term;
 use std::alloc::{AllocError, Global};
@@ -86,6 +86,13 @@ impl Cache {
         ensures { self.new ≡ without (cites_it digest.now) self.old }
     {
         drop_citing(&mut self.rows, digest);
+    }
+
+    /// Drops the proofs that cite a certificate of the issuer.
+    pub fn purge_issuer(&mut self, issuer: u32)
+        ensures { self.new ≡ without (cites_issuer issuer) self.old }
+    {
+        drop_issued(&mut self.rows, issuer);
     }
 
     /// Drops the proofs whose lease has ended by the clock.

@@ -5,7 +5,7 @@ ghost use Rattle.std.specs.List.{list_any};
 ghost use Rattle.prin_term.specs.View.{principal};
 ghost use Rattle.proof_cache.specs.Cached.{cached};
 ghost use Rattle.proof_cache.specs.Mark as math;
-ghost use Rattle.proof_cache.specs.Cache.{IsCache, IsPlaceOf, cites_it, has_lapsed, is_for, is_of_channel, kept, keeping, speaks_on, to_front, without};
+ghost use Rattle.proof_cache.specs.Cache.{IsCache, IsPlaceOf, cites_issuer, cites_it, has_lapsed, is_for, is_of_channel, kept, keeping, speaks_on, to_front, without};
 
 use crate::cached::Cached;
 use crate::mark::mark_of;
@@ -92,6 +92,12 @@ fn cites(proof: &Cached, digest: &[u8; 32]) -> bool
     proof.cites.iter().any(|cert| cert.digest == *digest)
 }
 
+fn cites_issuer(proof: &Cached, issuer: u32) -> bool
+    ensures { result ≡ cites_issuer issuer (cached proof.now) }
+{
+    proof.cites.iter().any(|cert| cert.body.issuer == issuer)
+}
+
 fn speaks_on(subject: &Term, channel: u32) -> bool
     ensures { result ≡ speaks_on channel (principal subject.now) }
 {
@@ -112,6 +118,15 @@ pub(crate) fn drop_citing(rows: &mut Vec<Row>, digest: &[u8; 32])
     ensures capacity { vec_capacity rows.new ≡ vec_capacity rows.old }
 {
     rows.retain(|row| !cites(&row.proof, digest));
+}
+
+/// Drops the proofs that cite a certificate of the issuer.
+pub(crate) fn drop_issued(rows: &mut Vec<Row>, issuer: u32)
+    ensures left { map kept rows.new.items
+        ≡ without (cites_issuer issuer) (map kept rows.old.items) }
+    ensures capacity { vec_capacity rows.new ≡ vec_capacity rows.old }
+{
+    rows.retain(|row| !cites_issuer(&row.proof, issuer));
 }
 
 /// Drops the proofs whose lease has ended.

@@ -1,9 +1,13 @@
 //! Why a client was let go.
 
+ghost use Rattle.std.specs.Prelude.{◌≡◌};
+ghost use Rattle.system_hub.specs.Causes.{cause_word};
+
 /// Why a client was let go otherwise than in order.
 #[derive(Clone, Copy, Debug, PartialEq, Eq)]
 pub enum Breakage {
-    /// Between two frames, or before the first, no byte came in time.
+    /// Between two frames, or before the first, no byte came in time, or no frame that was sealed
+    /// right.
     Silent,
     /// A frame was not whole in time.
     Slow,
@@ -23,7 +27,9 @@ pub enum Breakage {
 
 impl Breakage {
     /// Its word.
-    pub fn word(&self) -> &'static str {
+    pub fn word(&self) -> &'static str
+        ensures { result.now ≡ cause_word self.now }
+    {
         match self {
             Breakage::Silent => "silent",
             Breakage::Slow => "slow",

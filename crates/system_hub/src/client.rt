@@ -20,6 +20,8 @@ pub(crate) struct Client {
     pub peer: SocketAddr,
     pub coming: Pace,
     pub going: Pace,
+    /// Until when a frame of it is to come that is sealed right.
+    pub trust: Pace,
     /// How many of its frames lanes have.
     pub under_way: u32,
     /// There may be bytes for which the hub had no room.

@@ -74,12 +74,15 @@ impl<N: Watch> Hall<N> {
 
     /// A client has come, by this number. What was in its seat is gone.
     pub(crate) fn seat(&mut self, number: u64, stream: TcpStream, peer: SocketAddr) {
+        let mut trust = Pace::new();
+        trust.wait(self.now, self.patience.idle);
         let client = Client {
             number,
             stream,
             peer,
             coming: Pace::with_first(self.now, self.patience.first),
             going: Pace::new(),
+            trust,
             under_way: 0,
             is_hungry: false,
             parting: None,
@@ -89,6 +92,7 @@ impl<N: Watch> Hall<N> {
         if let Some(place) = self.clients.get_mut(seat) {
             *place = Some(client);
             self.count = self.count.saturating_add(1);
+            self.watch.came();
         }
     }
 
@@ -138,6 +142,7 @@ impl<N: Watch> Hall<N> {
         };
         self.count = self.count.saturating_sub(1);
         self.is_told = false;
+        self.watch.went();
         if let Some(why) = client.why {
             self.watch.broke(client.peer, why);
         }
@@ -174,6 +179,21 @@ impl<N: Watch> Hall<N> {
         }
     }
 
+    // What a reply shows of its client: that its frame was sealed right, so that it may stay, or, where
+    // none was for too long, why it may not.
+    fn judge(&mut self, number: u64, is_sealed: bool) -> Option<Breakage> {
+        let (now, idle) = (self.now, self.patience.idle);
+        let client = self.client_of(number)?;
+        if is_sealed {
+            client.trust.rest();
+        }
+        client.trust.wait(now, idle);
+        match client.trust.is_late(now) {
+            true => Some(Breakage::Silent),
+            false => None,
+        }
+    }
+
     // A client has a reply, or failed by it.
     fn answered(&mut self, number: u64, why: Option<Breakage>) {
         if let Some(client) = self.client_of(number) {
@@ -190,8 +210,12 @@ impl<N: Watch> Hall<N> {
         if !self.hub.has_frame(lane) || payload.len() > u32::MAX as usize {
             return false;
         }
+        let is_sealed = self.watch.is_sealed(payload);
         match self.hub.replied(lane, payload) {
-            Answer::For { client } => self.answered(client, None),
+            Answer::For { client } => match self.judge(client, is_sealed) {
+                None => self.answered(client, None),
+                Some(why) => self.fail(self.seat_of(client), why),
+            },
             Answer::Slow { client } => self.answered(client, Some(Breakage::Untaken)),
             Answer::NoMemory { client } => self.answered(client, Some(Breakage::GivenUp)),
             Answer::Nobody => {}

@@ -21,6 +21,10 @@ impl Client {
         }
         if is_between {
             self.coming.wait(now, patience.idle);
+            self.trust.wait(now, patience.idle);
+            if self.trust.is_late(now) {
+                return Some(Breakage::Silent);
+            }
         }
         if self.is_hungry || !self.coming.is_late(now) {
             return None;
@@ -72,7 +76,7 @@ impl<N: Watch> Hall<N> {
     }
 
     // A client fails, and goes.
-    fn fail(&mut self, seat: usize, why: Breakage) {
+    pub(crate) fn fail(&mut self, seat: usize, why: Breakage) {
         if let Some(Some(client)) = self.clients.get_mut(seat) {
             client.broke(why);
             self.remove(seat);

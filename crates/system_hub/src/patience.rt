@@ -9,7 +9,7 @@ pub struct Patience {
     pub first: Duration,
     /// For a frame, once it has begun.
     pub frame: Duration,
-    /// Between frames, while it waits for no reply.
+    /// Between frames, while it waits for no reply; and between frames that are sealed right.
     pub idle: Duration,
     /// To take a reply.
     pub take: Duration,

@@ -1,6 +1,17 @@
 //! What the front of a relay's answer says.
 
-ghost use Rattle.std.specs.Prelude.{◌≡◌, ◌≢◌, ◌↔◌, ◌+◌, ◌≤◌, Ok, IfSome, IsSome, length};
+ghost use Rattle.std.specs.Prelude.{
+  ◌≡◌,
+  ◌≢◌,
+  ◌↔◌,
+  ◌+◌,
+  ◌≤◌,
+  Ok,
+  IfSome,
+  IsSome,
+  IsTrue,
+  length,
+};
 ghost use Rattle.byte_fields.specs.Formats.{u8_in};
 
 use byte_fields::{ended, u8_at};
@@ -18,6 +29,14 @@ fn byte_of(payload: &[u8], at: usize) -> Option<u8>
         Ok((byte, _)) => Some(byte),
         Err(_) => None,
     }
+}
+
+/// Whether a payload is a relay's answer that brings a certificate.
+pub fn is_resealed(payload: &[u8]) -> bool
+    ensures { IsTrue result → (u8_in payload.now 0 ≡ Ok (ANSWER, 1))
+        × (u8_in payload.now 1 ≡ Ok (RESEALED, 2)) }
+{
+    byte_of(payload, 0) == Some(ANSWER) && byte_of(payload, 1) == Some(RESEALED)
 }
 
 /// The code of a relay's answer that brings no certificate, by its payload.

@@ -7,9 +7,9 @@ ghost use Rattle.frame_link.specs.Readings.{Reads};
 ghost use Rattle.frame_link.specs.Streams.{stream};
 ghost use Rattle.system_link.specs.Readings.{IsBelieved};
 
-use crate::notice::Happening;
 use crate::notices::Teller;
 use frame_link::{Clock, Failed};
+use node_status::Happening;
 use std::alloc::Global;
 use std::sync::Arc;
 use std::sync::atomic::{AtomicU64, Ordering};

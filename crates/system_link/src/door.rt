@@ -2,11 +2,10 @@
 
 ghost use Rattle.std.specs.Prelude.{◌≡◌, IsSome, None, IfOk, OnErr};
 ghost use Rattle.frame_link.specs.Doors.{door_of};
-ghost use Rattle.frame_link.specs.Doors.{door_of};
 
-use crate::notice::Happening;
 use crate::peer::{PeerInput, PeerOutput, Terms, halves};
 use frame_link::{Door, Failed};
+use node_status::Happening;
 use std::alloc::Global;
 use std::net::{SocketAddr, TcpListener};
 use std::sync::Arc;
@@ -62,6 +61,18 @@ impl<C: Clock + Copy> TcpDoor<C> {
         self.faults
     }
 
+    // Counts a connection that begins, or one that ends.
+    fn count(&self, begins: bool) {
+        if let Some(notices) = &self.terms.teller {
+            if let Some(tally) = notices.tally() {
+                match begins {
+                    true => tally.came(),
+                    false => tally.went(),
+                }
+            }
+        }
+    }
+
     // Leaves a notice of a connection that broke.
     fn tell(&self, peer: Option<SocketAddr>, why: Breakage) {
         if let Some(notices) = &self.terms.teller {
@@ -94,6 +105,7 @@ impl<C: Clock + Copy> TcpDoor<C> {
             match accepted {
                 Ok((stream, peer)) => {
                     if let Ok(connection) = halves(self.alloc, &self.terms, stream, Some(peer)) {
+                        self.count(true);
                         return Ok(Some(connection));
                     }
                     self.tell(Some(peer), Breakage::TurnedAway);
@@ -153,8 +165,13 @@ impl<C: Clock + Copy + Send> Door for TcpDoor<C> {
     // Whether its last replies came through no caller is told: a connection that is given back was
     // answered as it was.
     fn done(&mut self, mut input: PeerInput<C>, _output: PeerOutput<C>) {
+        self.terms.rounds.close_link();
         let hearing = input.inner_mut().inner_mut().get_mut();
         let (peer, why) = (hearing.peer(), hearing.close());
+        // A stream of many clients is none: the switch counts those.
+        if peer.is_some() {
+            self.count(false);
+        }
         if let Some(why) = why {
             self.tell(peer, why);
         }

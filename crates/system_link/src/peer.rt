@@ -39,7 +39,7 @@ pub const LINGER: u64 = 1;
 const LOOK: u64 = 250;
 
 /// What comes from a peer.
-pub type PeerInput<C> = Reading<Rounded<BufReader<Hearing<C>>>>;
+pub type PeerInput<C> = Reading<Rounded<BufReader<Hearing<C>>, C>>;
 
 /// What goes to a peer.
 pub type PeerOutput<C> = Writing<Telling<Holding<C>, C>>;
@@ -102,6 +102,9 @@ pub struct Hearing<C: Clock + Copy> {
     stop: Arc<Stop, Global>,
     idle: Duration,
     pace: Pace,
+    // Until when a frame is to come that is sealed right, and who tells that one did.
+    trust: Option<Term>,
+    rounds: Arc<Rounds, Global>,
     outbox: Arc<Outbox<Sending<C>>, Global>,
     // Nothing comes any more, or nobody may wait for it.
     is_over: bool,
@@ -141,6 +144,7 @@ impl<C: Clock + Copy> Hearing<C> {
             if is_between && self.stop.is_asked() {
                 return Ok(0);
             }
+            self.rounds.look_at_link(&self.clock);
             let Some(left) = term.left(&self.clock) else {
                 return Err(io::Error::from(ErrorKind::TimedOut));
             };
@@ -160,6 +164,16 @@ impl<C: Clock + Copy> Hearing<C> {
         Err(io::Error::from(ErrorKind::Interrupted))
     }
 
+    // Until when the next frame may begin: frames that nobody sealed put nothing off.
+    fn idle_term(&mut self) -> Option<Term> {
+        let is_trusted = self.rounds.take_trust();
+        if is_trusted || self.trust.is_none() {
+            self.trust = Term::after(&self.clock, self.idle);
+        }
+        let term = self.pace.term(&self.clock, self.idle)?;
+        Some(term.sooner(self.trust?))
+    }
+
     fn hear(&mut self, into: &mut [u8]) -> io::Result<usize>
         ensures { ReadsAtMost result into.new }
     {
@@ -167,11 +181,11 @@ impl<C: Clock + Copy> Hearing<C> {
             self.broke(Breakage::Untaken);
             return Err(io::Error::from(ErrorKind::BrokenPipe));
         }
-        let length = match self.pace.is_between() {
-            true => self.idle,
-            false => Duration::from_secs(FRAME),
+        let term = match self.pace.is_between() {
+            true => self.idle_term(),
+            false => self.pace.term(&self.clock, Duration::from_secs(FRAME)),
         };
-        let Some(term) = self.pace.term(&self.clock, length) else {
+        let Some(term) = term else {
             return Err(io::Error::from(ErrorKind::TimedOut));
         };
         let count = self.wait(term, into)?;
@@ -251,7 +265,7 @@ impl<C: Clock + Copy> Read for Hearing<C> {
 pub struct Terms<C> {
     pub clock: C,
     pub stop: Arc<Stop, Global>,
-    /// How long a peer may take between frames.
+    /// How long a peer may take between frames, and between frames that are sealed right.
     pub idle: Duration,
     /// What is left notices by.
     pub teller: Teller,
@@ -301,12 +315,21 @@ pub(crate) fn halves<C: Clock + Copy>(
         stop: Arc::try_clone(&terms.stop)?,
         idle: terms.idle,
         pace,
+        trust: None,
+        rounds: Arc::try_clone(&terms.rounds)?,
         outbox,
         is_over: false,
         why: None,
     };
     let reader = BufReader::with_capacity(alloc, PIECE, hearing)?;
-    let telling = Telling::new(holding, terms.clock, peer, teller);
-    let rounded = Rounded::new(reader, Arc::try_clone(&terms.rounds)?);
+    let rounds = Arc::try_clone(&terms.rounds)?;
+    let telling = Telling::new(
+        holding,
+        terms.clock,
+        peer,
+        teller,
+        Some(Arc::try_clone(&rounds)?),
+    );
+    let rounded = Rounded::new(reader, terms.clock, rounds);
     Ok((Reading::new(rounded), Writing::new(telling)))
 }

@@ -4,7 +4,7 @@ ghost use Rattle.std.specs.Prelude.{◌<◌, ◌≤◌, length};
 
 use arrayvec::ArrayVec;
 use frame_link::MAX_PAYLOAD;
-use taos_wire::HEAD;
+use node_status::FRONT;
 
 /// How far a stream of frames has come in the frame that it is in.
 #[derive(Clone, Copy, Debug, PartialEq, Eq)]
@@ -39,6 +39,11 @@ impl Place {
         self.is_long
     }
 
+    // Whether it stands inside a payload.
+    pub(crate) fn is_inside(&self) -> bool {
+        self.left > 0
+    }
+
     // One byte of the length word. Whether it ends a frame that has no payload.
     fn pass_word(&mut self, byte: u8) -> bool {
         self.word = self.word << 8 | u32::from(byte);
@@ -55,7 +60,7 @@ impl Place {
 
     // Takes one byte of a length word, or what is there of a payload. How many bytes that is, and
     // whether a frame ended with them.
-    fn step(&mut self, bytes: &[u8]) -> (usize, bool)
+    pub(crate) fn step(&mut self, bytes: &[u8]) -> (usize, bool)
         requires { 0 < length bytes.now }
         ensures { result.0 ≤ length bytes.now }
     {
@@ -87,7 +92,7 @@ impl Place {
 #[derive(Drop)]
 pub(crate) struct Fronts {
     place: Place,
-    front: ArrayVec<u8, HEAD>,
+    front: ArrayVec<u8, FRONT>,
 }
 
 impl Fronts {
@@ -108,7 +113,7 @@ impl Fronts {
         let is_payload = self.place.left > 0;
         let (count, has_ended) = self.place.step(bytes);
         if is_payload {
-            let room = HEAD - self.front.len();
+            let room = FRONT - self.front.len();
             let _ = self.front.try_extend_from_slice(&bytes[..count.min(room)]);
         } else {
             self.front.clear();
@@ -116,7 +121,28 @@ impl Fronts {
         (count, has_ended)
     }
 
-    // What came of the payload, up to `HEAD` bytes.
+    // Those of these bytes which come before the next frame, and whether a frame ends with them.
+    pub(crate) fn until_end<'a>(&self, bytes: &'a [u8]) -> (&'a [u8], bool)
+        ensures { length result.0.now ≤ length bytes.now }
+    {
+        let left = match self.place.left {
+            0 => 1,
+            left => left,
+        };
+        let count = left.min(bytes.len());
+        (&bytes[..count], self.place.left > 0 && count == left)
+    }
+
+    // The front of the payload once these bytes have passed too.
+    pub(crate) fn front_with(&self, bytes: &[u8]) -> ArrayVec<u8, FRONT> {
+        let mut front = ArrayVec::new();
+        let _ = front.try_extend_from_slice(&self.front);
+        let room = FRONT - front.len();
+        let _ = front.try_extend_from_slice(&bytes[..bytes.len().min(room)]);
+        front
+    }
+
+    // What came of the payload, up to `FRONT` bytes.
     pub(crate) fn front(&self) -> &[u8] {
         &self.front
     }

@@ -5,113 +5,34 @@ ghost use Rattle.frame_link.specs.Faults.{HasCause};
 ghost use Rattle.frame_link.specs.Plan.{counted};
 ghost use Rattle.frame_link.specs.Relay.{AnswersAs, HasRelayCode, Reseals, link};
 
-use crate::exchange::{Silence, exchange};
-use crate::line::Line;
-use crate::notice::Happening;
+use crate::exchange::exchange;
 use crate::notices::Teller;
 use crate::rounds::Rounds;
-use crate::streams::is_cut_short;
+use crate::talk::Silence;
 use crate::term::Term;
+use crate::wire::Wire;
 use arrayvec::ArrayVec;
 use frame_link::{Failed, RelayAnswer, RelayLink};
+use node_status::Happening;
 use relay_core::LinkRoom;
 use std::alloc::Global;
-use std::io;
-use std::io::ErrorKind;
-use std::net::{Net, SocketAddr, TcpListener, TcpStream, ToSocketAddrs};
+use std::net::{Net, TcpListener, TcpStream};
 use std::sync::Arc;
 use std::time::{Clock, Duration};
 
-/// The seconds that the calls of a request take at most, from the first one's first address to the
-/// last byte of the last one's answer.
-pub const LIMIT: u64 = 5;
+/// The seconds in which nothing is asked, behind which the stream is closed.
+pub const QUIET: u64 = 1;
 
-/// The seconds behind a fault in which each call fails at once.
-pub const REST: u64 = 1;
-
-// The part of a time that each of so many has.
-fn share_of(left: Duration, count: usize) -> Duration {
-    let count = u32::try_from(count).unwrap_or(u32::MAX);
-    left.checked_div(count).unwrap_or(left)
-}
-
-// The addresses of a host.
-fn places_of<R: Net<Listener = TcpListener, Stream = TcpStream>>(
-    network: &R,
-    alloc: Global,
-    address: &str,
-) -> io::Result<Vec<SocketAddr>> {
-    let mut places = Vec::new(alloc);
-    for place in address.to_socket_addrs(network)? {
-        places.push(place)?;
-    }
-    Ok(places)
-}
-
-// A stream to the first of a host's addresses that answers, before the term ends. What is left of
-// it is shared among the addresses that are left.
-fn stream_to<R: Net<Listener = TcpListener, Stream = TcpStream> + Clock>(
-    network: &R,
-    alloc: Global,
-    address: &str,
-    term: Term,
-) -> io::Result<TcpStream> {
-    let places = places_of(network, alloc, address)?;
-    for at in 0..places.len() {
-        let Some(left) = term.left(network) else {
-            return Err(io::Error::from(ErrorKind::TimedOut));
-        };
-        let share = share_of(left, places.len() - at);
-        if let Ok(stream) = TcpStream::connect_timeout(network, &places[at], share) {
-            stream.set_nodelay(true)?;
-            return Ok(stream);
-        }
-    }
-    Err(io::Error::from(ErrorKind::NotConnected))
-}
-
-// Whether a look at what waits finds nothing, and no end.
-fn sees_nothing(stream: &TcpStream) -> bool {
-    let mut byte = [0u8; 1];
-    for _ in 0..u64::MAX {
-        match stream.peek(&mut byte) {
-            Ok(_) => return false,
-            Err(error) if is_cut_short(&error) => {}
-            Err(error) => return error.kind() == ErrorKind::WouldBlock,
-        }
-    }
-    false
-}
-
-// Whether a stream is open, and no byte waits on it that nobody asked for.
-fn is_quiet(stream: &TcpStream) -> bool {
-    if stream.set_nonblocking(true).is_err() {
-        return false;
-    }
-    let is_quiet = sees_nothing(stream);
-    stream.set_nonblocking(false).is_ok() && is_quiet
-}
-
-/// Asks the relay at an address. The first call connects, and so does a call behind one that
-/// failed: a stream that has failed once is closed, since a late answer on it would be taken for
-/// that of the next question. A kept stream that turns out closed before any byte of an answer came,
-/// or on which bytes wait that nobody asked for, is closed, and the same question is asked once
-/// more on a new one. Want of memory is answered as such, and is no fault.
+/// Asks the relay at an address. A kept stream that turns out closed before any byte of an answer
+/// came, or on which bytes wait that nobody asked for, is closed, and the same question is asked once
+/// more on a new one; so is one on which nobody asked for `QUIET`, while the lane's input waits. Want
+/// of memory is answered as such, and is no fault.
 #[derive(Drop)]
 pub struct TcpRelay<R> {
-    network: R,
-    alloc: Global,
-    address: String,
-    limit: Duration,
-    line: Option<TcpStream>,
+    wire: Wire<R>,
     // What the first call took, for each after it.
     room: Option<LinkRoom>,
-    // Behind a fault, until when each call fails.
-    rest: Option<Term>,
-    // Until when the calls of a request may take.
-    term: Option<Term>,
     rounds: Arc<Rounds, Global>,
-    teller: Teller,
     calls: u64,
     faults: u64,
 }
@@ -129,21 +50,14 @@ impl<R> TcpRelay<R> {
     ) -> TcpRelay<R>
         ensures calls { result.calls ≡ 0 }
         ensures faults { result.faults ≡ 0 }
-        ensures closed { result.line ≡ None }
-        ensures address { result.address ≡ address }
-        ensures limit { result.limit ≡ limit }
+        ensures closed { result.wire.line ≡ None }
+        ensures address { result.wire.address ≡ address }
+        ensures limit { result.wire.limit ≡ limit }
     {
         TcpRelay {
-            network,
-            alloc,
-            address,
-            limit,
-            line: None,
+            wire: Wire::new(network, alloc, address, limit, teller),
             room: None,
-            rest: None,
-            term: None,
             rounds,
-            teller,
             calls: 0,
             faults: 0,
         }
@@ -158,68 +72,49 @@ impl<R> TcpRelay<R> {
 }
 
 impl<R: Net<Listener = TcpListener, Stream = TcpStream> + Clock> TcpRelay<R> {
-    // Leaves a notice of a call that failed.
-    fn tell_failure(&self) {
-        if let Some(notices) = &self.teller {
-            notices.tell(&self.network, None, Happening::RelayFailed);
-        }
-    }
-
-    // Until when the call that begins now may take. `None` where it fails at once.
-    fn term(&mut self) -> Option<Term>
-        ensures line { self.new.line ≡ self.old.line }
-        ensures place { (self.new.address ≡ self.old.address)
-            × (self.new.limit ≡ self.old.limit) }
-        ensures counts { (self.new.calls ≡ self.old.calls)
-            × (self.new.faults ≡ self.old.faults) }
-    {
-        if let Some(rest) = &self.rest {
-            if rest.left(&self.network).is_some() {
-                return None;
+    // Counts a call.
+    fn count_call(&self) {
+        if let Some(notices) = self.wire.teller() {
+            if let Some(tally) = notices.tally() {
+                tally.asked_relay();
             }
         }
-        if self.rounds.take() || self.term.is_none() {
-            self.term = Term::after(&self.network, self.limit);
-        }
-        self.term
-    }
-
-    // The stream that is kept, if one is and it is of use yet. It is kept no more.
-    fn quiet_stream(&mut self) -> Option<TcpStream>
-        ensures closed { self.new.line ≡ None }
-        ensures place { (self.new.address ≡ self.old.address)
-            × (self.new.limit ≡ self.old.limit) }
-        ensures counts { (self.new.calls ≡ self.old.calls)
-            × (self.new.faults ≡ self.old.faults) }
-    {
-        let stream = self.line.take()?;
-        if !is_quiet(&stream) {
-            return None;
-        }
-        Some(stream)
     }
 
     // The room for one question and its answer.
     fn room(&mut self) -> Result<LinkRoom, Silence>
-        ensures line { self.new.line ≡ self.old.line }
-        ensures place { (self.new.address ≡ self.old.address)
-            × (self.new.limit ≡ self.old.limit) }
+        ensures wire { self.new.wire ≡ self.old.wire }
         ensures counts { (self.new.calls ≡ self.old.calls)
             × (self.new.faults ≡ self.old.faults) }
     {
         match self.room.take() {
             Some(room) => Ok(room),
-            None => match LinkRoom::new(self.alloc) {
+            None => match LinkRoom::new(self.wire.alloc()) {
                 Ok(room) => Ok(room),
                 Err(_) => Err(Silence::NoMemory),
             },
         }
     }
 
+    // A stream is kept, on which nobody asks now. Where memory lacks it stays open.
+    fn keep(&mut self, stream: Arc<TcpStream, Global>)
+        ensures open { IsSome self.new.wire.line }
+        ensures place { (self.new.wire.address ≡ self.old.wire.address)
+            × (self.new.wire.limit ≡ self.old.wire.limit) }
+        ensures counts { (self.new.calls ≡ self.old.calls)
+            × (self.new.faults ≡ self.old.faults) }
+    {
+        if let Ok(resting) = Arc::try_clone(&stream) {
+            let length = Duration::from_secs(QUIET);
+            self.rounds.rest_link(self.wire.clock(), resting, length);
+        }
+        self.wire.keep(stream);
+    }
+
     // Asks on a stream, which is kept where that is answered.
     fn ask_on(
         &mut self,
-        stream: TcpStream,
+        stream: Arc<TcpStream, Global>,
         term: Term,
         node: u32,
         sealed: &[u8],
@@ -227,26 +122,25 @@ impl<R: Net<Listener = TcpListener, Stream = TcpStream> + Clock> TcpRelay<R> {
     ) -> Result<RelayAnswer, Silence>
         requires fits { length sealed.now ≤ 65531 }
         requires empty { out.old.items ≡ [] }
-        requires closed { self.old.line ≡ None }
-        ensures closed { OnErr result (self.new.line ≡ None) }
-        ensures open { IfOk result (λ _. IsSome self.new.line) }
+        requires closed { self.old.wire.line ≡ None }
+        ensures closed { OnErr result (self.new.wire.line ≡ None) }
+        ensures open { IfOk result (λ _. IsSome self.new.wire.line) }
         ensures answer { AnswersAs None node sealed.now result out.new.items }
         ensures codes { IfOk result HasRelayCode }
-        ensures place { (self.new.address ≡ self.old.address)
-            × (self.new.limit ≡ self.old.limit) }
+        ensures place { (self.new.wire.address ≡ self.old.wire.address)
+            × (self.new.wire.limit ≡ self.old.wire.limit) }
         ensures counts { (self.new.calls ≡ self.old.calls)
             × (self.new.faults ≡ self.old.faults) }
     {
         let mut room = self.room()?;
-        let line = Line {
-            stream: &stream,
-            clock: &self.network,
-            term,
+        let answer = {
+            let open: &TcpStream = &stream;
+            let line = self.wire.line_on(open, term);
+            exchange(&mut room, &line, node, sealed, out)
         };
-        let answer = exchange(&mut room, &line, node, sealed, out);
         self.room = Some(room);
         if answer.is_ok() {
-            self.line = Some(stream);
+            self.keep(stream);
         }
         answer
     }
@@ -260,26 +154,29 @@ impl<R: Net<Listener = TcpListener, Stream = TcpStream> + Clock> TcpRelay<R> {
     ) -> Result<RelayAnswer, Silence>
         requires fits { length sealed.now ≤ 65531 }
         requires empty { out.old.items ≡ [] }
-        ensures open { IfOk result (λ _. IsSome self.new.line) }
+        ensures open { IfOk result (λ _. IsSome self.new.wire.line) }
         ensures answer { AnswersAs None node sealed.now result out.new.items }
         ensures codes { IfOk result HasRelayCode }
-        ensures place { (self.new.address ≡ self.old.address)
-            × (self.new.limit ≡ self.old.limit) }
+        ensures place { (self.new.wire.address ≡ self.old.wire.address)
+            × (self.new.wire.limit ≡ self.old.wire.limit) }
         ensures counts { (self.new.calls ≡ self.old.calls)
             × (self.new.faults ≡ self.old.faults) }
     {
-        let Some(term) = self.term() else {
+        if self.wire.is_resting() {
+            return Err(Silence::Resting);
+        }
+        let is_first = self.rounds.take();
+        let Some(term) = self.wire.term(is_first) else {
             return Err(Silence::Resting);
         };
-        if let Some(stream) = self.quiet_stream() {
+        self.rounds.wake_link();
+        if let Some(stream) = self.wire.quiet_stream() {
             match self.ask_on(stream, term, node, sealed, out) {
                 Err(Silence::Closed) => {}
                 heard => return heard,
             }
         }
-        let Ok(stream) = stream_to(&self.network, self.alloc, self.address.as_str(), term) else {
-            return Err(Silence::Failed);
-        };
+        let stream = self.wire.connect(term)?;
         self.ask_on(stream, term, node, sealed, out)
     }
 }
@@ -294,13 +191,13 @@ impl<R: Net<Listener = TcpListener, Stream = TcpStream> + Clock> RelayLink for T
         out: &mut ArrayVec<u8, 2048>,
     ) -> Result<RelayAnswer, Failed>
         requires { length sealed.now ≤ 65531 }
-        ensures closed { OnErr result (self.new.line ≡ None) }
+        ensures closed { OnErr result (self.new.wire.line ≡ None) }
         ensures open { IfOk result
-            (λ answer. answer ≢ RelayAnswer.NoMemory → IsSome self.new.line) }
+            (λ answer. answer ≢ RelayAnswer.NoMemory → IsSome self.new.wire.line) }
         ensures count { MatchResult result (λ _. self.new.faults ≡ self.old.faults)
             (λ _. self.new.faults ≡ counted self.old.faults) }
-        ensures place { (self.new.address ≡ self.old.address)
-            × (self.new.limit ≡ self.old.limit) }
+        ensures place { (self.new.wire.address ≡ self.old.wire.address)
+            × (self.new.wire.limit ≡ self.old.wire.limit) }
         ensures reseals { Reseals (link None self.old.calls self.old.faults)
             (link None self.new.calls self.new.faults) node sealed.now result out.new.items }
         ensures codes { IfOk result HasRelayCode }
@@ -308,22 +205,21 @@ impl<R: Net<Listener = TcpListener, Stream = TcpStream> + Clock> RelayLink for T
     {
         out.clear();
         self.calls = self.calls.saturating_add(1);
+        self.count_call();
         match self.ask(node, sealed, out) {
             Ok(answer) => Ok(answer),
             Err(Silence::NoMemory) => {
-                self.line = None;
+                self.wire.close();
                 Ok(RelayAnswer::NoMemory)
             }
             Err(Silence::Resting) => {
-                self.line = None;
+                self.wire.close();
                 self.faults = self.faults.saturating_add(1);
                 Err(Failed)
             }
             Err(Silence::Closed | Silence::Failed) => {
-                self.line = None;
-                self.rest = Term::after(&self.network, Duration::from_secs(REST));
+                self.wire.fail(Happening::RelayFailed);
                 self.faults = self.faults.saturating_add(1);
-                self.tell_failure();
                 Err(Failed)
             }
         }

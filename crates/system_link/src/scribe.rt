@@ -3,8 +3,9 @@
 ghost use Rattle.std.specs.Prelude.{◌≡◌, ◌≤◌};
 
 use crate::clock::seconds_of;
-use crate::notice::LeftOut;
 use crate::notices::{NoticeQueue, WAITING};
+use node_status::{LeftOut, Notice, left_out_line, notice_line};
+use prin_text::Names;
 use std::alloc::Global;
 use std::io::{BufWriter, ErrorKind, Write};
 use std::sync::Arc;
@@ -44,9 +45,44 @@ struct Progress {
     is_done: AtomicBool,
 }
 
-// Writes so many notices at most, one of each queue after the other. How many lines that were. One
-// that can't be written is missing.
-fn write_some<E: Write>(errors: &mut E, queues: &mut [NoticeQueue], most: usize) -> usize
+/// How notices are written.
+#[derive(Clone, Copy, Debug, PartialEq, Eq)]
+pub enum Form {
+    /// As words.
+    Text,
+    /// Each as an object.
+    Json,
+}
+
+// How the lines are made.
+#[derive(Drop)]
+struct Hand {
+    alloc: Global,
+    form: Form,
+    names: Names,
+}
+
+// Writes the line of a notice. One that can't be written is missing.
+fn write_notice<E: Write>(hand: &Hand, errors: &mut E, notice: &Notice) {
+    match hand.form {
+        Form::Text => {
+            let _ = writeln!(errors, "{notice}");
+        }
+        Form::Json => {
+            if let Ok(line) = notice_line(hand.alloc, &hand.names, notice) {
+                let _ = errors.write_all(&line);
+            }
+        }
+    }
+}
+
+// Writes so many notices at most, one of each queue after the other. How many lines that were.
+fn write_some<E: Write>(
+    hand: &Hand,
+    errors: &mut E,
+    queues: &mut [NoticeQueue],
+    most: usize,
+) -> usize
     ensures { result ≤ most }
 {
     let mut count = 0;
@@ -55,7 +91,7 @@ fn write_some<E: Write>(errors: &mut E, queues: &mut [NoticeQueue], most: usize)
         for queue in queues.iter_mut() {
             if count < most {
                 if let Some(notice) = queue.take() {
-                    let _ = writeln!(errors, "{notice}");
+                    write_notice(hand, errors, &notice);
                     count += 1;
                 }
             }
@@ -92,6 +128,7 @@ fn left_out(queues: &[NoticeQueue]) -> u64 {
 // What the thread has.
 #[derive(Drop)]
 struct Desk<C, E: Write + Drop> {
+    hand: Hand,
     clock: C,
     errors: BufWriter<E>,
     queues: Vec<NoticeQueue>,
@@ -99,12 +136,31 @@ struct Desk<C, E: Write + Drop> {
 }
 
 impl<C: Clock, E: Write + Drop> Desk<C, E> {
+    fn write_count(&mut self, left_out: &LeftOut) {
+        match self.hand.form {
+            Form::Text => {
+                let _ = writeln!(self.errors, "{left_out}");
+            }
+            Form::Json => {
+                if let Ok(line) = left_out_line(self.hand.alloc, left_out) {
+                    let _ = self.errors.write_all(&line);
+                }
+            }
+        }
+    }
+
+    // Writes so many notices at most.
+    fn write_notices(&mut self, most: usize) {
+        let queues = self.queues.as_mut_slice();
+        let _ = write_some(&self.hand, &mut self.errors, queues, most);
+    }
+
     // Writes how many notices had no line, where some had none.
     fn write_left_out(&mut self, count: u64) {
         if count > 0 {
             let seconds = SystemTime::now(&self.clock).ok().map(seconds_of);
-            let line = LeftOut { seconds, count };
-            let _ = writeln!(self.errors, "{line}");
+            let left_out = LeftOut { seconds, count };
+            self.write_count(&left_out);
         }
     }
 
@@ -120,7 +176,7 @@ impl<C: Clock, E: Write + Drop> Desk<C, E> {
 
     // The last lines: those of one second, and how many notices had none.
     fn end(&mut self) {
-        let _ = write_some(&mut self.errors, self.queues.as_mut_slice(), LINES);
+        self.write_notices(LINES);
         let rest = drop_rest(self.queues.as_mut_slice());
         let count = left_out(self.queues.as_slice()).saturating_add(rest);
         self.write_left_out(count);
@@ -134,7 +190,7 @@ impl<C: Clock, E: Write + Drop> Desk<C, E> {
             if self.progress.is_last.load(Ordering::SeqCst) {
                 return;
             }
-            let _ = write_some(&mut self.errors, self.queues.as_mut_slice(), LOOK_LINES);
+            self.write_notices(LOOK_LINES);
             if look % LOOKS as u64 == 0 {
                 let count = left_out(self.queues.as_slice());
                 self.write_left_out(count);
@@ -157,6 +213,7 @@ impl Scribe {
     pub fn start<W: Threads, C: Clock + Send + Drop + 'static, E: Write + Send + Drop + 'static>(
         workers: &W,
         alloc: Global,
+        form: Form,
         clock: C,
         errors: E,
         queues: Vec<NoticeQueue>,
@@ -168,7 +225,13 @@ impl Scribe {
                 is_done: AtomicBool::new(false),
             },
         )?;
+        let hand = Hand {
+            alloc,
+            form,
+            names: Names::new(alloc)?,
+        };
         let mut desk = Desk {
+            hand,
             clock,
             errors: BufWriter::with_capacity(alloc, ROOM, errors)?,
             queues,

@@ -16,6 +16,13 @@ impl Term {
         Some(Term { end })
     }
 
+    /// The one of two that ends first.
+    pub fn sooner(self, other: Term) -> Term {
+        Term {
+            end: self.end.min(other.end),
+        }
+    }
+
     /// How long it still is. `None` where it has ended, or the clock fails.
     pub fn left<C: Clock>(&self, clock: &C) -> Option<Duration> {
         let now = Instant::now(clock).ok()?;

@@ -5,6 +5,8 @@
 #[cfg(test)]
 mod clocks;
 #[cfg(test)]
+mod counts;
+#[cfg(test)]
 mod doors;
 #[cfg(test)]
 mod notices;
@@ -14,3 +16,5 @@ mod relays;
 mod streams;
 #[cfg(test)]
 mod switches;
+#[cfg(test)]
+mod wallets;

@@ -1,3 +1,4 @@
+use node_status::reply_at;
 use std::alloc::{AllocError, Global};
 use std::io::{Read, Write};
 use std::net::{SocketAddr, TcpListener, TcpStream};
@@ -7,10 +8,9 @@ use std::test::*;
 use std::time::{Duration, Instant};
 use std::{io, thread};
 use system_link::{
-    Breakage, Happening, LINES, LeftOut, Notice, NoticeQueue, Notices, Scribe, Telling, WAITING,
-    code_of, notices_of,
+    Breakage, Form, Happening, LINES, LeftOut, Notice, NoticeQueue, Notices, Scribe, Telling,
+    Tells, WAITING, code_of, notices_of,
 };
-use taos_wire::head_at;
 
 // The front of a reply on channel 4 to the request 7.
 const FRONT: [u8; 13] = [4, 0, 0, 0, 4, 0, 0, 0, 0, 0, 0, 0, 7];
@@ -24,7 +24,12 @@ const REPLIES: &[(bool, &[u8], &str)] = &[
     (
         true,
         &[1, 0, 0, 0, 3, 0, 0, 0, 0, 0, 0, 1, 2, 3],
-        "denied lane 2 channel 4 number 7 status 1 shard 3 place 258",
+        "denied lane 2 channel 4 number 7 status 1 link no-entry shard 3 place 258",
+    ),
+    (
+        true,
+        &[1, 0, 0, 0, 3, 0, 0, 0, 0, 0, 0, 1, 2, 4, 0],
+        "denied lane 2 channel 4 number 7 status 1 link early shard 3 place 258",
     ),
     (false, &[2, 0, 0, 0, 9], "refused lane 2 status 2"),
     (
@@ -41,7 +46,7 @@ const REPLIES: &[(bool, &[u8], &str)] = &[
     (
         true,
         &[6, 1, 3],
-        "refused lane 2 channel 4 number 7 status 6",
+        "refused lane 2 channel 4 number 7 status 6 code 3",
     ),
     (
         true,
@@ -59,6 +64,11 @@ const REPLIES: &[(bool, &[u8], &str)] = &[
         true,
         &[12, 32, 0, 0, 0, 6],
         "refused lane 2 channel 4 number 7 status 12 shard 6",
+    ),
+    (
+        true,
+        &[14, 64, 0, 0, 0, 6],
+        "refused lane 2 channel 4 number 7 status 14 shard 6",
     ),
 ];
 
@@ -81,6 +91,7 @@ fn notice_of(peer: Option<SocketAddr>, what: Happening) -> Notice {
         lane: 2,
         peer,
         what,
+        request: None,
     }
 }
 
@@ -96,14 +107,14 @@ fn a_line_has_what_its_reply_says_and_no_more(rt: HostRuntime) -> Result<(), Fai
     let alloc = rt.alloc();
     for &(is_sealed, behind, wanted) in REPLIES {
         let payload = reply_of(alloc, is_sealed, behind)?;
-        let Some(head) = head_at(&payload) else {
+        let Some(front) = reply_at(&payload) else {
             return Err(Fail::from(io::Error::from(io::ErrorKind::NotFound)));
         };
-        let notice = notice_of(None, Happening::Replied(head));
+        let notice = notice_of(None, Happening::Replied(front));
         assert!(rt; is_told(alloc, notice, wanted)?, "{wanted}");
     }
-    assert!(rt; head_at(&[]).is_none() && head_at(&FRONT).is_none());
-    assert!(rt; head_at(&[6, 0, 0, 0, 4, 0, 0, 0, 0, 0, 0, 0, 7, 5]).is_none());
+    assert!(rt; reply_at(&[]).is_none() && reply_at(&FRONT).is_none());
+    assert!(rt; reply_at(&[6, 0, 0, 0, 4, 0, 0, 0, 0, 0, 0, 0, 7, 5]).is_none());
     assert!(rt;
         code_of(&[6, 3]) == Some(3) && code_of(&[6, 0, 1]) == None && code_of(&[6]) == None
     );
@@ -123,6 +134,10 @@ const OTHERS: &[(Happening, &str)] = &[
     (
         Happening::RelayFailed,
         "relay-failed lane 2 peer 127.0.0.1:7000",
+    ),
+    (
+        Happening::FetchFailed,
+        "fetch-failed lane 2 peer 127.0.0.1:7000",
     ),
 ];
 
@@ -159,7 +174,7 @@ fn count_of(queue: &mut NoticeQueue) -> usize {
 
 #[test]
 fn a_queue_that_is_full_counts_what_it_leaves_out(rt: HostRuntime) -> Result<(), Fail> {
-    let (notices, mut queue) = notices_of(rt.alloc(), 2, false)?;
+    let (notices, mut queue) = notices_of(rt.alloc(), 2, Tells::Refusals, None)?;
     for _ in 0..WAITING + 6 {
         notices.tell(&rt, None, Happening::RelayFailed);
     }
@@ -172,11 +187,11 @@ fn a_queue_that_is_full_counts_what_it_leaves_out(rt: HostRuntime) -> Result<(),
 
 // Writes frames in pieces of so many bytes: a grant whose content is a refusal, an empty frame, a
 // denial, and a reply of status 5. How many of them leave notices.
-fn told_of(rt: &HostRuntime, size: usize, tells_denials: bool) -> Result<usize, Fail> {
+fn told_of(rt: &HostRuntime, size: usize, tells: Tells) -> Result<usize, Fail> {
     let alloc = rt.alloc();
-    let (notices, mut queue) = notices_of(alloc, 2, tells_denials)?;
+    let (notices, mut queue) = notices_of(alloc, 2, tells, None)?;
     let teller = Some(Arc::new(alloc, notices)?);
-    let mut output = Telling::new(io::sink(), rt, None, teller);
+    let mut output = Telling::new(io::sink(), rt, None, teller, None);
     let mut frames = Vec::new(alloc);
     let refusal = reply_of(alloc, true, &[5, 0, 0, 0, 0, 0, 0, 0, 7])?;
     let mut grant = reply_of(alloc, true, &[0; 600])?;
@@ -198,7 +213,9 @@ fn told_of(rt: &HostRuntime, size: usize, tells_denials: bool) -> Result<usize, 
 fn frames_are_told_however_they_are_cut(rt: HostRuntime) -> Result<(), Fail> {
     for size in [1, 2, 3, 5, 17, 64, 700, 10_000] {
         assert!(rt;
-            told_of(&rt, size, false)? == 1 && told_of(&rt, size, true)? == 2,
+            told_of(&rt, size, Tells::Refusals)? == 1
+                && told_of(&rt, size, Tells::Denials)? == 2
+                && told_of(&rt, size, Tells::Nothing)? == 0,
             "at {size}"
         );
     }
@@ -209,7 +226,7 @@ fn frames_are_told_however_they_are_cut(rt: HostRuntime) -> Result<(), Fail> {
 fn full_queues(rt: &HostRuntime) -> Result<Vec<NoticeQueue>, AllocError> {
     let mut queues = Vec::new(rt.alloc());
     for lane in 0..16 {
-        let (notices, queue) = notices_of(rt.alloc(), lane, false)?;
+        let (notices, queue) = notices_of(rt.alloc(), lane, Tells::Refusals, None)?;
         for _ in 0..WAITING {
             notices.tell(rt, None, Happening::RelayFailed);
         }
@@ -227,7 +244,7 @@ fn the_lines_of_a_second_are_so_many_and_the_others_are_counted(
     let errors = TcpStream::connect(&rt, listener.local_addr()?)?;
     let (mut told, _) = listener.accept()?;
     let began = Instant::now(&rt)?;
-    let scribe = Scribe::start(&rt, alloc, rt, errors, full_queues(&rt)?)?;
+    let scribe = Scribe::start(&rt, alloc, Form::Text, rt, errors, full_queues(&rt)?)?;
     scribe.end(&rt, &rt);
     let seconds = began.elapsed(&rt)?.as_secs();
     let mut text = String::new(alloc);
@@ -287,10 +304,10 @@ fn a_writer_that_takes_nothing_holds_nobody_up(rt: HostRuntime) -> Result<(), Fa
         system: rt,
         may_write: Arc::try_clone(&may_write)?,
     };
-    let (notices, queue) = notices_of(alloc, 0, false)?;
+    let (notices, queue) = notices_of(alloc, 0, Tells::Refusals, None)?;
     let mut queues = Vec::new(alloc);
     queues.push(queue)?;
-    let scribe = Scribe::start(&rt, alloc, rt, errors, queues)?;
+    let scribe = Scribe::start(&rt, alloc, Form::Text, rt, errors, queues)?;
     let mut longest = Duration::from_secs(0);
     for _ in 0..4 {
         longest = longest.max(flood(&rt, &notices)?);

@@ -202,7 +202,7 @@ fn answer_slowly(rt: &HostRuntime, listener: &TcpListener) -> io::Result<()> {
 fn shares_limit(
     rt: &HostRuntime,
     relay: &mut TcpRelay<&HostRuntime>,
-    input: &mut Rounded<Empty>,
+    input: &mut Rounded<Empty, HostRuntime>,
 ) -> bool {
     let first = ask(relay);
     let second = ask(relay);
@@ -216,7 +216,7 @@ fn shares_limit(
 fn the_calls_of_one_request_share_its_limit(rt: HostRuntime) -> Result<(), Fail> {
     let (listener, address) = listen(&rt)?;
     let rounds = Arc::new(rt.alloc(), Rounds::new())?;
-    let mut input = Rounded::new(io::empty(), Arc::try_clone(&rounds)?);
+    let mut input = Rounded::new(io::empty(), rt, Arc::try_clone(&rounds)?);
     let mut relay = link_of(&rt, address.as_str(), Duration::from_secs(1), rounds)?;
     let (rt, listener, relay, input) = (&rt, &listener, &mut relay, &mut input);
     let (is_shared, answered) = thread::join(

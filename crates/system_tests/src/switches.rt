@@ -163,6 +163,14 @@ fn edge_of(patience: u64) -> Edge
 struct Deaf;
 
 impl Watch for Deaf {
+    fn is_sealed(&self, _reply: &[u8]) -> bool {
+        true
+    }
+
+    fn came(&self) {}
+
+    fn went(&self) {}
+
     fn broke(&self, _peer: SocketAddr, _why: Breakage) {}
 
     fn scarce(&self) {}

@@ -22,6 +22,16 @@ pub struct RelaySide {
     pub faults: Option<u64>,
 }
 
+/// The wallet at the other end of a link: what it says. With nothing it says no frame, so a fetch
+/// fails at each call.
+#[derive(Drop)]
+pub struct WalletSide {
+    pub says: Vec<u8>,
+    /// The calls of reading what it says that fail, and of writing to it.
+    pub says_fails: Vec<u64>,
+    pub hears_fails: Vec<u64>,
+}
+
 /// The calls of each object that fail, counted from 0.
 #[derive(Drop)]
 pub struct Fails {
@@ -62,6 +72,7 @@ pub struct Setting {
     /// How many connections the first lane's door has, each with this input. None is 0.
     pub connections: Option<u64>,
     pub relay: RelaySide,
+    pub wallet: WalletSide,
     pub fails: Fails,
     pub rooms: Rooms,
 }
@@ -92,7 +103,7 @@ impl Part {
     }
 }
 
-/// What must come of the call. With no value of `hears` or `left` that is not looked at.
+/// What must come of the call. With no value of `hears`, `wallet_hears` or `left` that is not looked at.
 #[derive(Drop)]
 pub struct Wanted {
     pub status: Option<u64>,
@@ -100,6 +111,7 @@ pub struct Wanted {
     pub notes: Option<Vec<u8>>,
     pub faults: Option<u64>,
     pub hears: Option<Vec<u8>>,
+    pub wallet_hears: Option<Vec<u8>>,
     pub left: Option<Vec<u8>>,
 }
 
@@ -171,6 +183,11 @@ fn plain_setting(alloc: Global) -> Setting {
             says: None,
             faults: None,
         },
+        wallet: WalletSide {
+            says: Vec::new(alloc),
+            says_fails: Vec::new(alloc),
+            hears_fails: Vec::new(alloc),
+        },
         fails: no_fails(alloc),
         rooms: Rooms {
             output: None,
@@ -193,6 +210,7 @@ impl Conversation {
                 notes: None,
                 faults: None,
                 hears: None,
+                wallet_hears: None,
                 left: None,
             },
         }

@@ -20,6 +20,7 @@ pub enum Difference {
     Note,
     Faults { are: u64, wanted: u64 },
     Hears,
+    WalletHears,
     Left,
 }
 
@@ -32,6 +33,7 @@ impl fmt::Display for Difference {
             Difference::Note => write!(f, "note"),
             Difference::Faults { are, wanted } => write!(f, "faults {are}, not {wanted}"),
             Difference::Hears => write!(f, "hears"),
+            Difference::WalletHears => write!(f, "wallet-hears"),
             Difference::Left => write!(f, "left"),
         }
     }
@@ -124,6 +126,14 @@ fn other_difference(case: &Conversation, played: &Played) -> Option<Difference> 
         .is_some_and(|bytes| bytes.as_slice() != heard)
     {
         return Some(Difference::Hears);
+    }
+    let heard = played.wallet_hears.written();
+    if wanted
+        .wallet_hears
+        .as_ref()
+        .is_some_and(|bytes| bytes.as_slice() != heard)
+    {
+        return Some(Difference::WalletHears);
     }
     if wanted
         .left

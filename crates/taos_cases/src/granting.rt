@@ -3,6 +3,7 @@
 use crate::case::Grant;
 use crate::objects::{Around, no_door, readings_of, sink_of, source_of};
 use crate::playing::call;
+use cred_pull::NoFetch;
 use frame_link::{MemClock, NoRelay};
 use std::alloc::{AllocError, Global};
 use std::sync::Wait;
@@ -70,7 +71,8 @@ fn checked<W: Threads + Wait + Sync>(
 ) -> Result<u8, AllocError> {
     let clock = MemClock::new(readings_of(alloc, &[])?, Vec::new(alloc));
     let words = [String::from_str(alloc, "check")?];
-    let mut lanes = [Lane::of(clock, NoRelay::new(), no_door(alloc, &[])?)];
+    let door = no_door(alloc, &[])?;
+    let mut lanes = [Lane::of(clock, NoRelay::new(), door, NoFetch::new())];
     Ok(call(rt, alloc, &words, around, &mut lanes))
 }
 

@@ -7,6 +7,7 @@ use crate::objects::{
     Around, LaneDoor, Manner, around_of, door_of, faults_at, left_of, no_door, readings_of,
     room_of, sink_of, source_of, written_to,
 };
+use cred_pull::{Fetch, LinkFetch};
 use frame_link::{MemClock, MemSink, MemSource, NoRelay, RelayLink};
 use keyed_seal::KeyTable;
 use relay_core::{LinkRelay, LocalRelay, MemRelay, RelayTable};
@@ -27,20 +28,28 @@ pub struct Played {
     pub faults: u64,
     /// What the relay at the other end of a link heard.
     pub hears: Option<MemSink>,
+    /// What the wallet at the other end of a link heard.
+    pub wallet_hears: MemSink,
     /// What was not taken of the input.
     pub left: Vec<u8>,
 }
 
+// A fetch from the wallet of a conversation.
+type CaseFetch = LinkFetch<MemSource, MemSink>;
+
+/// A lane of a conversation.
+type CaseLane<R> = Lane<MemClock, R, LaneDoor, CaseFetch>;
+
 /// The lanes of a conversation. No door of the second has a connection.
-type Lanes<R> = [Lane<MemClock, R, LaneDoor>; 2];
+type Lanes<R> = [CaseLane<R>; 2];
 
 /// Calls `taos` over these lanes, and gives its status.
-pub fn call<W: Threads + Wait + Sync, R: RelayLink + Send + Drop>(
+pub fn call<W: Threads + Wait + Sync, R: RelayLink + Send + Drop, P: Fetch + Send + Drop>(
     rt: &W,
     alloc: Global,
     words: &[String],
     around: &mut Around,
-    lanes: &mut [Lane<MemClock, R, LaneDoor>],
+    lanes: &mut [Lane<MemClock, R, LaneDoor, P>],
 ) -> u8
     requires some { 0 < length lanes.old }
     requires few { length lanes.old ≤ 2 }
@@ -77,9 +86,10 @@ fn all_written(alloc: Global, around: &Around, door: &LaneDoor) -> Result<Vec<u8
     Ok(written)
 }
 
-// How often the clock and the door of a lane failed.
-fn lane_faults<R: RelayLink>(lane: &Lane<MemClock, R, LaneDoor>) -> u64 {
-    lane.clock.faults().saturating_add(faults_at(&lane.door))
+// How often the clock, the door and the fetch of a lane failed.
+fn lane_faults<R: RelayLink>(lane: &CaseLane<R>) -> u64 {
+    let both = lane.clock.faults().saturating_add(faults_at(&lane.door));
+    both.saturating_add(lane.fetch.faults())
 }
 
 // What came of a call with this status, where its lanes failed so often, without the links' faults.
@@ -90,9 +100,11 @@ fn played_of(
     mut around: Around,
     lane_faults: u64,
     door: &LaneDoor,
+    fetch: CaseFetch,
 ) -> Result<Played, AllocError> {
     let faults = around.faults().saturating_add(lane_faults);
     let written = all_written(alloc, &around, door)?;
+    let (_, wallet_hears) = fetch.into_parts();
     let left = rest_of(alloc, case, &mut around)?;
     Ok(Played {
         status,
@@ -100,8 +112,26 @@ fn played_of(
         written,
         faults,
         hears: None,
+        wallet_hears,
         left,
     })
+}
+
+// A fetch from a wallet that says nothing, and is heard by nobody.
+fn no_fetch(alloc: Global) -> Result<CaseFetch, AllocError> {
+    LinkFetch::new(alloc, source_of(alloc, &[], &[])?, sink_of(alloc, 0, &[])?)
+}
+
+// A fetch from the wallet of a conversation.
+fn fetch_of(alloc: Global, case: &Conversation) -> Result<CaseFetch, AllocError> {
+    let wallet = &case.setting.wallet;
+    let says = source_of(alloc, &wallet.says, &wallet.says_fails)?;
+    let wanted = match &case.wanted.wallet_hears {
+        Some(bytes) => bytes.len(),
+        None => 0,
+    };
+    let hears = sink_of(alloc, room_of(None, wanted), &wallet.hears_fails)?;
+    LinkFetch::new(alloc, says, hears)
 }
 
 // The lanes of a conversation, over these links.
@@ -116,7 +146,10 @@ fn lanes_of<R: RelayLink + Drop>(
     let second = no_door(alloc, &case.setting.fails.second_door)?;
     let spare = MemClock::new(readings_of(alloc, &[])?, Vec::new(alloc));
     let clock = clock_of(alloc, &case.setting)?;
-    Ok([Lane::of(clock, relay, door), Lane::of(spare, other, second)])
+    Ok([
+        Lane::of(clock, relay, door, fetch_of(alloc, case)?),
+        Lane::of(spare, other, second, no_fetch(alloc)?),
+    ])
 }
 
 // The call over these links: what came of it, without the links' faults, and the lanes.
@@ -132,7 +165,9 @@ fn play_over<W: Threads + Wait + Sync, R: RelayLink + Send + Drop>(
     let mut lanes = lanes_of(alloc, case, manner, relay, other)?;
     let status = call(rt, alloc, &case.setting.words, &mut around, &mut lanes);
     let faults = lane_faults(&lanes[0]).saturating_add(lane_faults(&lanes[1]));
-    let played = played_of(alloc, case, status, around, faults, &lanes[0].door)?;
+    let silent = no_fetch(alloc)?;
+    let fetch = mem::replace(&mut lanes[0].fetch, silent);
+    let played = played_of(alloc, case, status, around, faults, &lanes[0].door, fetch)?;
     Ok((played, lanes))
 }
 

@@ -88,6 +88,16 @@ fn add_says(names: &Names, side: &mut RelaySide, text: &str) -> Result<(), LineF
     add_some(names, &mut side.says, text)
 }
 
+// A frame of this payload, behind what the wallet says already.
+fn add_fetched(names: &Names, says: &mut Vec<u8>, text: &str) -> Result<(), LineFault> {
+    let mut payload = names.bytes_of(text)?;
+    let Ok(length) = u32::try_from(payload.len()) else {
+        return Err(LineFault::Number);
+    };
+    says.extend_from_slice(&length.to_be_bytes())?;
+    Ok(says.append(&mut payload)?)
+}
+
 // `FRONT certificates N content BYTES`.
 fn grant_of(names: &Names, text: &str) -> Result<Grant, LineFault> {
     let Some((front, rest)) = text.split_once(" certificates ") else {
@@ -150,6 +160,8 @@ fn says_setting(
         "relay-issuer" => add_relay_key(names, &mut setting.relay, true, text),
         "relay-says" => add_says(names, &mut setting.relay, text),
         "relay-faults" => put_number(&mut setting.relay.faults, text),
+        "fetched" => add_fetched(names, &mut setting.wallet.says, text),
+        "wallet-says" => add_bytes(names, &mut setting.wallet.says, text),
         "output-room" => put_number(&mut setting.rooms.output, text),
         "notes-room" => put_number(&mut setting.rooms.notes, text),
         "hears-room" => put_number(&mut setting.rooms.hears, text),
@@ -161,8 +173,11 @@ fn says_setting(
 
 // Adds to the calls that fail.
 fn says_fails(case: &mut Conversation, key: &str, text: &str) -> Result<bool, LineFault> {
+    let wallet = &mut case.setting.wallet;
     let fails = &mut case.setting.fails;
     let added = match key {
+        "wallet-says-fails" => add_numbers(&mut wallet.says_fails, text),
+        "wallet-hears-fails" => add_numbers(&mut wallet.hears_fails, text),
         "file-fails" => add_numbers(&mut fails.file, text),
         "input-fails" => add_numbers(&mut fails.input, text),
         "byte-fails" => add_numbers(&mut fails.bytes, text),
@@ -195,6 +210,7 @@ fn says_wanted(
         "note-front" => put_notes(names, wanted, text, ""),
         "faults" => put_number(&mut wanted.faults, text),
         "hears" => add_some(names, &mut wanted.hears, text),
+        "wallet-hears" => add_some(names, &mut wanted.wallet_hears, text),
         "left" => add_some(names, &mut wanted.left, text),
         _ => return Ok(false),
     };

@@ -1,15 +1,19 @@
 """Holds what a case states of a run against the shards of tools/shard.py: each place, each number, and each `kept`;
 and what the objects are, and what becomes of operations."""
 from conversation import Grant, Times, joined
-from formats import DISCARD, FORGET, HOLD, READ, SET_LIST, SWEEP, WRITE, key, quoting, u8, u32, u64
+from formats import DISCARD, FORGET, HOLD, ISSUED, READ, RELAYED, SET_LIST, SWEEP, WITHDRAW, WRITE, key, key_of, quoting, tag, u8, u32, u64
 from shard import Kept, Shard, lease_of
 
 TAG, FRAME = 32, 4
 OPERANDS = {3: 2, 4: 2, 5: 1, 6: 2}
 # The right that an operation needs: to read, write, control or manage.
-RIGHTS = {READ: 1, WRITE: 2, SET_LIST: 4, HOLD: 8, DISCARD: 8, FORGET: 8, SWEEP: 8}
+RIGHTS = {READ: 1, WRITE: 2, SET_LIST: 4, HOLD: 8, DISCARD: 8, FORGET: 8, SWEEP: 8, WITHDRAW: 8}
+# The most certificates of a request, and the most bytes of one that is looked at.
+MOST, LONGEST = 16, 2048
+# The statuses of what had no seal that holds.
+UNSEALED = {2, 3, 4}
 # The statuses of requests that came to their object.
-RULED = {0, 1, 5, 7, 10, 12, 13}
+RULED = {0, 1, 5, 7, 10, 12, 13, 14}
 
 
 class Reader:
@@ -75,7 +79,7 @@ class Node:
 
     def __init__(self, text):
         reader = Reader(text)
-        reader.take(2 + 4 + 32)
+        self.number, self.key = reader.take(2 + 4)[2:], reader.take(32)
         count, keep, limit = reader.number(4), reader.number(8), reader.number(8)
         reader.take(36 * reader.number(2))
         reader.take(8 * reader.number(1))
@@ -104,14 +108,14 @@ class Request:
         self.fields = self.fields_of(reader)
         self.presented = [reader.counted()[1:-TAG] for _ in range(reader.number(1))]
 
-
     def fields_of(self, reader):
-        """What the operation says: bytes, a list, a digest or a channel."""
+        """What the operation says: bytes, a list, a digest, a channel or an issuer."""
         if self.operation == WRITE:
             return reader.counted()
         if self.operation == SET_LIST:
             return reader.entries()
-        return {DISCARD: lambda: reader.take(32), FORGET: lambda: reader.number(4)}.get(self.operation, tuple)()
+        number = {FORGET: lambda: reader.number(4), WITHDRAW: lambda: reader.number(4)}
+        return {DISCARD: lambda: reader.take(32), **number}.get(self.operation, tuple)()
 
 
 class Reply:
@@ -158,10 +162,36 @@ class Run:
     def __init__(self, case):
         self.node = Node(joined(case.lines["file"]))
         self.readings = list(case.lines.get("clock", [0]))
+        self.pulls = "--pull" in case.lines.get("words", [])
+        self.given = [bytes(each) for each in case.lines.get("fetched", [])]
+        self.issuers = [number for number, _ in case.lines.get("relay-issuer", [])]
+        self.is_resealed = "relay-says" in case.lines
 
     def reading(self):
         """The next one; the last stays."""
         return self.readings.pop(0) if len(self.readings) > 1 else self.readings[0]
+
+    def opens(self, text):
+        """The body that a certificate opens to, if it opens to one."""
+        kind, body, seal = text[:1], text[1:-TAG], text[-TAG:]
+        if kind == u8(RELAYED) and seal == tag(self.node.key, text[:-TAG]):
+            return body
+        issuer = int.from_bytes(body[1:5], "big")
+        if kind == u8(ISSUED) and len(text) <= LONGEST and (issuer in self.issuers or self.is_resealed):
+            return body if seal == tag(key_of(issuer), text[:-TAG]) else None
+        return None
+
+    def pull(self, request, reply):
+        """Adds to what is presented what the wallet's next answer gives and opens."""
+        if not self.pulls or reply.status in UNSEALED or not self.given:
+            return
+        reader = Reader(self.given.pop(0))
+        try:
+            texts = [reader.counted() for _ in range(reader.number(2) & 0xFF)]
+        except EOFError:
+            return
+        shown = texts[: MOST - len(request.presented)]
+        request.presented += [body for body in map(self.opens, shown) if body is not None]
 
     def take(self, request, reply):
         """What the reply should have said, where it says another thing."""
@@ -221,6 +251,7 @@ class Run:
             DISCARD: lambda shard: shard.discard(request.fields),
             FORGET: lambda shard: shard.forget(request.fields),
             SWEEP: lambda shard: shard.expire(reading),
+            WITHDRAW: lambda shard: shard.withdraw(request.fields),
         }
         if request.operation not in steps:
             return None
@@ -232,6 +263,8 @@ class Run:
             told, count = steps[request.operation](shard)
             if told == "commons full":
                 return 12, u8(count) + u32(number)
+            if told == "withdrawn full":
+                return 14, u8(count) + u32(number)
             removed += count
         return (13, request.fields) if request.operation == DISCARD and not removed else None
 
@@ -243,7 +276,7 @@ def differs(reply, status, fields):
 
 
 def differs_in_place(reply, number, place):
-    if reply.status not in (0, 1, 10, 12, 13):
+    if reply.status not in (0, 1, 10, 12, 13, 14):
         return "it is to be ruled on"
     if reply.status > 1:
         return None
@@ -271,7 +304,11 @@ def fault(case):
         return None
     run = Run(case)
     for place, (asked, reply) in enumerate(zip(frames_of(joined(case.lines["input"])), replies_of(output))):
-        wrong = run.take(Request(asked), reply) if reply.status in RULED else None
+        wrong = None
+        if reply.status not in UNSEALED:
+            request = Request(asked)
+            run.pull(request, reply)
+            wrong = run.take(request, reply) if reply.status in RULED else None
         if wrong:
             return f"{case.title}: reply {place}: {wrong}"
     return None

@@ -8,11 +8,13 @@ WIDTH = 100
 SHORT = 16
 NUMBERS = ["pieces", "clock"]
 FAILS = ["file-fails", "input-fails", "byte-fails", "output-fails", "notes-fails", "clock-fails"]
-FAILS += ["relay-fails", "says-fails", "hears-fails", "door-fails", "second-door-fails"]
+FAILS += ["relay-fails", "says-fails", "hears-fails", "wallet-says-fails", "wallet-hears-fails", "door-fails", "second-door-fails"]
 ROOMS = ["output-room", "notes-room", "hears-room"]
-BYTES = ["file", "input", "relay-says", "output", "hears", "left"]
+BYTES = ["file", "input", "relay-says", "wallet-says", "output", "hears", "wallet-hears", "left"]
+# Bytes whose line says something where it has none.
+EMPTY = ["relay-says", "wallet-hears"]
 KEYS = ["words", "file", "input", "connections", "pieces", "clock", "relay-node", "relay-issuer", "relay-faults", "relay-says"]
-KEYS += FAILS + ROOMS + ["output", "hears", "left", "status", "note", "note-front", "faults"]
+KEYS += ["fetched", "wallet-says"] + FAILS + ROOMS + ["output", "hears", "wallet-hears", "left", "status", "note", "note-front", "faults"]
 
 
 class Times:
@@ -134,8 +136,10 @@ def known_key(key, pair):
 def lines_of(key, value):
     if key in BYTES:
         lines = [line for each in value for line in lines_of_bytes(key, each)]
-        # A relay that says nothing is there all the same.
-        return lines or ([key] if key == "relay-says" else [])
+        # A relay that says nothing is there all the same, and so is a wallet that hears nothing.
+        return lines or ([key] if key in EMPTY else [])
+    if key == "fetched":
+        return [f"{key} {' '.join(pieces_of(each, WIDTH))}".rstrip() for each in value]
     if key in NUMBERS or key in FAILS:
         return filled(key, map(str, value))
     if key == "relay-node":

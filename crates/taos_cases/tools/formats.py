@@ -6,7 +6,7 @@ import hashlib
 import hmac
 import struct
 
-READ, WRITE, SET_LIST, HOLD, DISCARD, FORGET, SWEEP = range(1, 8)
+READ, WRITE, SET_LIST, HOLD, DISCARD, FORGET, SWEEP, WITHDRAW = range(1, 9)
 ISSUED, RELAYED = 1, 2
 LAST = 2**64 - 1
 
@@ -285,6 +285,14 @@ def not_held(channel, number, text):
     return sealed_reply(channel, number, 13, digest(text))
 
 
+def withdrawn_full(channel, number, shard, held=64):
+    return sealed_reply(channel, number, 14, u8(held), u32(shard))
+
+
+def pull_failed(channel, number):
+    return sealed_reply(channel, number, 15)
+
+
 # Proofs.
 
 
@@ -314,3 +322,62 @@ def resealed(sealed):
 
 def relay_refusal(code):
     return frame(b"\x06", u8(code))
+
+
+# What a wallet is asked, and what it gives.
+
+
+def fetching(channel, number):
+    return frame(b"\x08", u32(channel), u64(number))
+
+
+def giving(*certificates):
+    """A payload."""
+    return Fields(b"\x09", u8(len(certificates)), *[Fields(u16(len(each)), each) for each in certificates])
+# Journals as bytes.
+
+# What is told of an Ask.
+MISSES = u8(0)
+
+
+def hits(entry):
+    return u8(1) + u8(entry)
+
+
+def told_replayed(last):
+    return u8(2) + u64(last)
+
+
+def bodies_of(bodies):
+    return Fields(u8(len(bodies)), *[Fields(u16(len(each)), each) for each in bodies])
+
+
+def ask_entry(channel, number, subject, entries, reading=0, right=1, bodies=(), told=MISSES):
+    return Fields(b"\x01", u32(channel), u64(number) + u64(reading), subject, list_of(entries), u8(right), bodies_of(bodies), told)
+
+
+def keep_entry(place, proof, entry=0, bodies=(), told=u8(0)):
+    """That a proof for the Ask at this place is kept."""
+    return Fields(b"\x02", u64(place) + u8(entry), u32(len(proof)), proof, bodies_of(bodies), told)
+
+
+def withdraw_entry(issuer, told=bytes(5)):
+    return Fields(b"\x07", u32(issuer), told)
+
+
+def object_entry(place, ruling, shard=0, operation=READ, fields=()):
+    return Fields(u32(shard), u64(place), u8(operation), *fields, ruling)
+
+
+DENIES = u8(0)
+
+
+def grants(entry):
+    return u8(1) + u8(entry)
+
+
+def journals(shards, objects):
+    """Of the entries of each shard, and of (number, entries) of each object."""
+    told = [Fields(u64(len(entries)), *entries) for entries in shards]
+    ruled = [Fields(u32(number) + u64(len(entries)), *entries) for number, entries in objects]
+    return Fields(b"\x07\x01", u32(len(shards)), *told, u32(len(objects)), *ruled)

@@ -4,7 +4,7 @@ import os
 import re
 
 DATA = os.path.join(os.path.dirname(os.path.dirname(os.path.abspath(__file__))), "data")
-BYTES = ["file", "input", "relay-says", "hears", "left"]
+BYTES = ["file", "input", "relay-says", "fetched", "wallet-says", "hears", "wallet-hears", "left"]
 KEYED = ["relay-node", "relay-issuer"]
 # Lines in which `$` and a name stand for bytes.
 SPELLED = BYTES + KEYED + ["output", "grant"]

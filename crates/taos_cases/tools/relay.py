@@ -137,6 +137,9 @@ class Relay:
         except OSError:
             pass
 
+    def answer(self, payload):
+        return answer(self.nodes, self.issuers, payload)
+
     def answer_all(self, stream):
         while True:
             word = taken(stream, 4)
@@ -146,5 +149,7 @@ class Relay:
             payload = taken(stream, length)
             if len(payload) < length:
                 return
-            brought = answer(self.nodes, self.issuers, payload)
+            brought = self.answer(payload)
+            if brought is None:
+                return
             stream.sendall(struct.pack(">I", len(brought)) + brought)

@@ -5,12 +5,17 @@ are spellings.
 """
 from formats import LAST, digest, key
 
-OWN, COMMONS, KEPT = 32, 32, 64
+OWN, COMMONS, KEPT, WITHDRAWN = 32, 32, 64, 64
 
 
 def until(text):
     """When the certificate of this body ends."""
     return int.from_bytes(text[-16:-8], "big")
+
+
+def issuer_of(text):
+    """Who issued the certificate of this body."""
+    return int.from_bytes(text[1:5], "big")
 
 
 def lease_of(cites):
@@ -40,6 +45,7 @@ class Shard:
     def __init__(self, keep, limit, commons):
         self.keep, self.limit, self.commons = keep, limit, list(commons)
         self.clock, self.last, self.own, self.kept, self.length = 0, {}, {}, [], 0
+        self.withdrawn = []
 
     def is_full(self):
         return self.length >= self.limit
@@ -61,6 +67,10 @@ class Shard:
         self.own = {channel: list(filter(stays, texts)) for channel, texts in self.own.items()}
         return before - len(self.commons) - sum(map(len, self.own.values()))
 
+    def new(self, presented, held):
+        """Each once that is not held, of issuers that are not withdrawn."""
+        return [text for text in once(presented) if text not in held and issuer_of(text) not in self.withdrawn]
+
     def ask(self, channel, number, reading, presented, subject, listed):
         """Of these principals that are listed with the right: (entry, principal)."""
         self.enter()
@@ -68,7 +78,7 @@ class Shard:
         if number <= self.last.get(channel, 0):
             return "replayed", self.last.get(channel, 0)
         own = self.own.get(channel, [])
-        new = [text for text in once(presented) if text not in own and text not in self.commons]
+        new = self.new(presented, own + self.commons)
         if len(own) + len(new) > OWN:
             return "full", len(own)
         self.last[channel], self.own[channel] = number, own + new
@@ -97,7 +107,7 @@ class Shard:
 
     def hold(self, presented):
         self.enter()
-        new = [text for text in once(presented) if text not in self.commons]
+        new = self.new(presented, self.commons)
         if len(self.commons) + len(new) > COMMONS:
             return "commons full", len(self.commons)
         self.commons += new
@@ -117,3 +127,14 @@ class Shard:
     def expire(self, reading):
         self.enter()
         return "removed", self.sweep(reading)
+
+    def withdraw(self, issuer):
+        """A proof whose certificates are not known is taken to cite one of the issuer."""
+        self.enter()
+        if issuer in self.withdrawn:
+            return "removed", 0
+        if len(self.withdrawn) >= WITHDRAWN:
+            return "withdrawn full", len(self.withdrawn)
+        self.withdrawn.append(issuer)
+        self.kept = [each for each in self.kept if each.cites is not None and issuer not in map(issuer_of, each.cites)]
+        return "removed", self.let_go(lambda text: issuer_of(text) != issuer)

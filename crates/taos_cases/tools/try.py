@@ -22,12 +22,13 @@ import sys
 import tempfile
 import time
 
-from reading import Granted, all_files, read
+from reading import Granted, all_files, bytes_of, read
 from relay import Relay
+from wallet import Wallet
 
 HERE = os.path.dirname(os.path.abspath(__file__))
-UNFIT = ["connections", "pieces", "relay-faults", "relay-says", "note-front", "output-room", "notes-room", "hears-room"]
-FAILING = ["file", "input", "byte", "output", "notes", "clock", "relay", "says", "hears", "door", "second-door"]
+UNFIT = ["connections", "pieces", "relay-faults", "relay-says", "wallet-says", "note-front", "output-room", "notes-room", "hears-room"]
+FAILING = ["file", "input", "byte", "output", "notes", "clock", "relay", "says", "hears", "wallet-says", "wallet-hears", "door", "second-door"]
 UNFIT += [f"{each}-fails" for each in FAILING]
 MOST_SECONDS = 2**63 - 1
 WORKERS, LIMIT, TAG, FRONT = 4, 120, 32, 28
@@ -116,9 +117,9 @@ def output_fault(program, path, case, output):
     return None if at == len(output) else f"{len(output) - at} bytes more of output"
 
 
-def fault(program, path, case, relay):
+def fault(program, path, case, relay, wallet):
     """What is wrong with a run, if anything is."""
-    words = [path, "-", relay, *case.words("words")]
+    words = [path, "-", f"{relay},{wallet}" if wallet else relay, *case.words("words")]
     run = program.run(words, case.bytes("input"), case.numbers("clock"))
     note = "" if case.text("note") is None else case.text("note") + "\n"
     if run.returncode != int(case.text("status")):
@@ -135,14 +136,27 @@ def relay_of(case):
     return Relay(nodes, issuers) if nodes or issuers else contextlib.nullcontext("-")
 
 
+def wallet_of(case):
+    """What gives what is fetched, if anything does."""
+    return Wallet(map(bytes_of, case.said["fetched"])) if "fetched" in case.said else None
+
+
+def heard_fault(case, wallet):
+    """What is wrong with what the wallet heard, if anything is."""
+    if wallet and "wallet-hears" in case.said and wallet.heard != case.bytes("wallet-hears"):
+        return f"the wallet hears {wallet.heard.hex()}"
+    return None
+
+
 def tried(program, case):
     """The case, and what is wrong."""
     with tempfile.NamedTemporaryFile(dir=program.folder) as file:
         file.write(case.bytes("file"))
         file.flush()
+        wallet = wallet_of(case)
         try:
-            with relay_of(case) as relay:
-                return case, fault(program, file.name, case, relay)
+            with relay_of(case) as relay, wallet or contextlib.nullcontext() as at:
+                return case, fault(program, file.name, case, relay, at) or heard_fault(case, wallet)
         except subprocess.TimeoutExpired:
             return case, "it does not end"
 
@@ -173,9 +187,14 @@ def tells_readings(case):
     return case.words("words")[:1] == ["audit"] and b" reading " in case.bytes("output") and not case.numbers("clock")
 
 
+def is_behind(case):
+    """Whether something is fetched where a call fails, behind which a real fetch rests."""
+    return "fetched" in case.said and "faults" in case.said
+
+
 def chosen(program, cases):
     """The conversations that are tried; it says how many are left out."""
-    fit = [case for case in cases if not any(key in case.said for key in UNFIT) and not tells_readings(case)]
+    fit = [case for case in cases if not any(key in case.said for key in UNFIT) and not tells_readings(case) and not is_behind(case)]
     print(f"{len(cases) - len(fit)} left out: something is made to fail or comes in pieces")
     timely = [case for case in fit if has_readings(case)]
     print(f"{len(fit) - len(timely)} left out: the system's clock has no such readings")

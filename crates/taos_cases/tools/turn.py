@@ -18,7 +18,7 @@ import zlib
 from reading import all_files
 
 PROCESSES, LIMIT = 4, 900
-WRITTEN, NOTED = ["output", "grant", "hears"], ["note", "note-front"]
+WRITTEN, NOTED = ["output", "grant", "hears", "wallet-hears"], ["note", "note-front"]
 
 
 def spans_of(lines):

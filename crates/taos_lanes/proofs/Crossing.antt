@@ -61,12 +61,12 @@ stock_send = declared_send stock.the_type (passes_send, (rack_passes_send, (lemm
 pub keys_sync : IsSync keys.the_row
 keys_sync = keys_cross.the_sync
 
-pub lane_send : (C R D I O : _) → IsSend C → IsSend R → IsSend D → IsSend (lane.the_row C R D I O)
-lane_send C R D I O c r d = declared_send (lane.the_type C R D I O) (search (sendable, c), (search (sendable, r), (search (sendable, d), (search (sendable, as_row_send, option.the_send, stock_send), (search (sendable, as_row_send, tally.the_send), tt)))))
+pub lane_send : (C R D P I O : _) → IsSend C → IsSend R → IsSend D → IsSend P → IsSend (lane.the_row C R D P I O)
+lane_send C R D P I O c r d p = declared_send (lane.the_type C R D P I O) (search (sendable, c), (search (sendable, r), (search (sendable, d), (search (sendable, p), (search (sendable, as_row_send, option.the_send, stock_send), (search (sendable, as_row_send, tally.the_send), tt))))))
 
 pub shared_sync : (κ W K L : _) → IsSync W → IsSync K → IsSync L → IsSync (shared.the_row κ W K L)
 shared_sync κ W K L w k l = declared_sync (shared.the_type κ W K L)
-    (search (sendable, w), (search (sendable, as_row_sync, global.the_sync), (search (sendable, keys_sync), (search (sendable, agent_sync), (search (sendable, rack_sync), (search (sendable, as_row_sync), (search (sendable, as_row_sync, crosses), tt)))))))
+    (search (sendable, w), (search (sendable, as_row_sync, global.the_sync), (search (sendable, keys_sync), (search (sendable, agent_sync), (search (sendable, rack_sync), (search (sendable, as_row_sync), (search (sendable, as_row_sync), (search (sendable, as_row_sync, crosses), tt))))))))
 
 table_sync : IsSync table.the_row
 table_sync = table_cross.the_sync

@@ -1,6 +1,6 @@
 -- What serving at new cells comes to, of its steps.
 use Rattle.std.proofs.Common.{◌≡◌, ℕ, suc, ◌+◌, List, [], ◌∷◌, length, map, get_or, drop, None, refl, sym, ap, ◌∙◌, subst, arith}
-use Rattle.std.specs.Prelude.{All}
+use Rattle.std.specs.Prelude.{Bool, All}
 use Rattle.std.specs.List.{AllZip}
 use Rattle.std.proofs.lemmas.List.Elements.{All-nil, All-cons, All-head, All-tail}
 use Rattle.agent_core.specs.Journals.{MayFollow}
@@ -36,6 +36,7 @@ same_ends (x ∷ xs) (y ∷ ys) (z ∷ zs) a b = (
   record {
     outside = b.0.same.outside ∙ a.0.outside;
     door = b.0.same.door ∙ a.0.door;
+    fetch = b.0.same.fetch ∙ a.0.fetch;
   },
   same_ends xs ys zs a.1 b.1,
 )
@@ -105,15 +106,15 @@ have_all {F} {E} (p ∷ passes) left =
     All-cons (λ (q : Known F E). q.shares ≡ ALL_SHARES) p passes (omega (arith, All-head (λ (q : Known F E). q.shares + 0 ≡ ALL_SHARES) p passes left))
     (have_all passes (All-tail (λ (q : Known F E). q.shares + 0 ≡ ALL_SHARES) p passes left))
 
-module _ {In Out : Type 0} (telling : Telling In Out) (keys : NodeKeys) (cells : NodeCells) (limits : Limits) where
+module _ {In Out : Type 0} (telling : Telling In Out) (keys : NodeKeys) (cells : NodeCells) (pulls : Bool) (limits : Limits) where
   -- the lanes' work is of the cells
-  pub works : (befores afters : List (LaneShown (In × Out))) → AllZip (ServesLane telling keys cells limits) befores afters → All (WorkIs (IsStockOf cells)) afters
+  pub works : (befores afters : List (LaneShown (In × Out))) → AllZip (ServesLane telling keys cells pulls limits) befores afters → All (WorkIs (IsStockOf cells)) afters
   works [] [] z = All-nil _
   works (b ∷ befores) (a ∷ afters) z = All-cons (WorkIs (IsStockOf cells)) a afters (z.0.new, z.0.has, z.0.of) (works befores afters z.1)
   works [] (a ∷ afters) z = absurd z
   works (b ∷ befores) [] z = absurd z
 
-  stocks_long : (befores afters : List (LaneShown (In × Out))) → AllZip (ServesLane telling keys cells limits) befores afters → length (stocks_in afters) ≡ length befores
+  stocks_long : (befores afters : List (LaneShown (In × Out))) → AllZip (ServesLane telling keys cells pulls limits) befores afters → length (stocks_in afters) ≡ length befores
   stocks_long [] [] z = refl
   stocks_long (b ∷ befores) (a ∷ afters) z =
       ap (λ (l : List Stock). length l) (given_first (λ (l : LaneShown (In × Out)). l.work) a afters z.0.new z.0.has) ∙ ap suc (stocks_long befores afters z.1)
@@ -121,7 +122,7 @@ module _ {In Out : Type 0} (telling : Telling In Out) (keys : NodeKeys) (cells :
   stocks_long (b ∷ befores) [] z = absurd z
 
   -- each lane's stock still has one share of each cell
-  pub ones_after : (olds befores afters : List (LaneShown (In × Out))) → AllZip (IsGivenStock cells) olds befores → AllZip (ServesLane telling keys cells limits) befores afters →
+  pub ones_after : (olds befores afters : List (LaneShown (In × Out))) → AllZip (IsGivenStock cells) olds befores → AllZip (ServesLane telling keys cells pulls limits) befores afters →
       All (λ (s : Stock). HaveOne s.passes × HaveOne s.racked) (stocks_in afters)
   ones_after [] [] [] g z = All-nil _
   ones_after (o ∷ olds) (b ∷ befores) (a ∷ afters) g z =
@@ -136,7 +137,7 @@ module _ {In Out : Type 0} (telling : Telling In Out) (keys : NodeKeys) (cells :
   ones_after (o ∷ olds) (b ∷ befores) [] g z = absurd z
 
   -- all shares are back
-  pub all_back : (kept final : NodePasses) (olds befores afters : List (LaneShown (In × Out))) → AllZip (IsGivenStock cells) olds befores → AllZip (ServesLane telling keys cells limits) befores afters →
+  pub all_back : (kept final : NodePasses) (olds befores afters : List (LaneShown (In × Out))) → AllZip (IsGivenStock cells) olds befores → AllZip (ServesLane telling keys cells pulls limits) befores afters →
       JoinsAll cells kept (stocks_in afters) final → HaveAllBut (length olds) kept.shards → HaveAllBut (length olds) kept.objects → HaveAll final.shards × HaveAll final.objects
   all_back kept final olds befores afters g z j shards objects =
       let long : length (stocks_in afters) ≡ length olds = stocks_long befores afters z ∙ zip_long (IsGivenStock cells) olds befores g in

@@ -1,6 +1,6 @@
 -- The lanes of a node, from their stocks until its cells were closed.
 use Rattle.std.proofs.Common.{◌≡◌, ℕ, zero, suc, ◌+◌, ◌≤◌, ◌==◌, true, List, [], ◌∷◌, length, map, Option, None, Some, refl, sym, ap, ap₂, ◌∙◌, subst, cond}
-use Rattle.std.specs.Prelude.{All, not, slice_get, filter_map, sum_by, count_by}
+use Rattle.std.specs.Prelude.{Bool, All, not, slice_get, filter_map, sum_by, count_by}
 use Rattle.std.specs.List.{AllZip}
 use Rattle.std.specs.List.{cons_option, position_or_len}
 use Rattle.std.proofs.lemmas.List.Elements.{All-nil, All-cons, All-head, All-tail}
@@ -26,7 +26,7 @@ use Rattle.turn_cell.specs.Known.{Cell, Known}
 use Rattle.taos_monitor.specs.declared.node_keys.NodeKeys.{NodeKeys}
 use Rattle.taos_monitor.specs.Cells as node
 use Rattle.taos_monitor.specs.Cells.{Node, Journals, OfShard, OfObject, AreLegal, viewed}
-use Rattle.taos_monitor.specs.World.{world_of}
+use Rattle.taos_monitor.specs.World.{fetch_use, reaching}
 use Rattle.frame_link.specs.declared.limits.Limits.{Limits}
 use Rattle.taos_lanes.specs.declared.lane.Stock.{Stock}
 use Rattle.taos_lanes.specs.declared.total.Total.{Total}
@@ -78,14 +78,14 @@ objects_unseen cells passes fresh k = viewed
 
 -- ---- runs
 
-module _ {In Out : Type 0} (telling : Telling In Out) (keys : NodeKeys) (cells : NodeCells) (limits : Limits) where
+module _ {In Out : Type 0} (telling : Telling In Out) (keys : NodeKeys) (cells : NodeCells) (pulls : Bool) (limits : Limits) where
   abbrev pub Serves : LaneShown (In × Out) → LaneShown (In × Out) → Type 0
-  Serves = ServesLane telling keys cells limits
+  Serves = ServesLane telling keys cells pulls limits
 
   abbrev pub run_of : (before after : LaneShown (In × Out)) → Serves before after → LaneRun (node_at keys cells) limits.frames
   run_of before after s = record {
-    first = world_at cells before.outside s.old;
-    last = world_at cells after.outside s.new;
+    first = world_at cells before.outside (fetch_use pulls before.fetch) s.old;
+    last = world_at cells after.outside (fetch_use pulls after.fetch) s.new;
     visits = s.serves.visits;
     chain = s.serves.chain;
     door_failed = s.new.tally.door_failed;
@@ -123,19 +123,20 @@ module _ {In Out : Type 0} (telling : Telling In Out) (keys : NodeKeys) (cells :
   runs_fresh (old ∷ olds) (before ∷ befores) [] g z = absurd z
 
   -- each is what its lane did
-  run_is : (old before after new : LaneShown (In × Out)) → IsGivenStock cells old before → (s : Serves before after) → IsEmptied after new → IsRunOf telling limits old new (run_of before after s)
+  run_is : (old before after new : LaneShown (In × Out)) → IsGivenStock cells old before → (s : Serves before after) → IsEmptied after new → IsRunOf telling pulls limits old new (run_of before after s)
   run_is old before after new g s e =
       let fresh : IsFreshStock cells s.old = subst (IsFreshStock cells) (same_stock before.work g.work.0 s.old g.work.1 s.had) g.work.2 in
       record {
-        first = λ k. world_of (g.same.outside k) (shards_unseen cells.shards s.old.passes fresh.shards_fresh k) (objects_unseen cells.objects s.old.racked fresh.objects_fresh k);
+        first = λ k. reaching (g.same.outside k) (fetch_use pulls (g.same.fetch k)) (shards_unseen cells.shards s.old.passes fresh.shards_fresh k) (objects_unseen cells.objects s.old.racked fresh.objects_fresh k);
         outside = sym e.same.outside;
+        fetch = ap (fetch_use pulls) (sym e.same.fetch);
         through = subst (λ (d : DoorSeen (In × Out) × DoorSeen (In × Out)). GoesThrough telling limits.connections d.0 d.1 (s.new.tally.door_failed ≡ true) s.serves.visits)
             (λ k. (g.same.door k, sym e.same.door k)) s.serves.through;
         cause = subst (λ (d : DoorSeen (In × Out) × DoorSeen (In × Out)). HasDoorCause s.new.tally.door_failed d.0.faults d.1.faults) (λ k. (g.same.door k, sym e.same.door k)) s.serves.cause;
       }
 
   pub runs_are : (olds befores afters news : List (LaneShown (In × Out))) → AllZip (IsGivenStock cells) olds befores → (z : AllZip Serves befores afters) → AllZip IsEmptied afters news →
-      Each3 (IsRunOf telling limits) olds news (runs_of befores afters z)
+      Each3 (IsRunOf telling pulls limits) olds news (runs_of befores afters z)
   runs_are [] [] [] [] g z e = tt
   runs_are (old ∷ olds) (before ∷ befores) (after ∷ afters) (new ∷ news) g z e = (run_is old before after new g.0 z.0 e.0, runs_are olds befores afters news g.1 z.1 e.1)
   runs_are [] [] [] (new ∷ news) g z e = absurd e

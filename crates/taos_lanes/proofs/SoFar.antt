@@ -2,6 +2,7 @@
 use Rattle.std.proofs.Common.{◌≡◌, inl, inr, ℕ, ◌+◌, ◌≤◌, ◌<◌, Bool, true, false, List, [], ◌∷◌, ◌++◌, length, Option, None, Some, refl, sym, ap, ◌∙◌, subst, arith, length-append, append-nil, cond}
 use Rattle.std.specs.Prelude.{count_by}
 use Rattle.std.proofs.lemmas.List.Sums.{sum_by_push}
+use Rattle.frame_link.specs.Lent.{Lent, To, Both}
 use Rattle.frame_link.specs.declared.limits.Limits.{Limits}
 use Rattle.frame_link.specs.declared.outcome.Outcome.{Outcome}
 use Rattle.frame_link.specs.Faults.{Rose}
@@ -9,8 +10,6 @@ use Rattle.frame_link.specs.Served.{Line}
 use Rattle.frame_link.specs.Doors.{DoorSeen, OpensKnown, Counts, TakesBack, TakesBackKnown}
 use Rattle.frame_link.specs.Plan.{HasCounted}
 use Rattle.frame_link.proofs.Counted.{counted_none}
-use Rattle.object_core.specs.Shelving.{ObjectFixed}
-use Rattle.agent_core.specs.State.{Plan}
 use Rattle.taos_monitor.specs.Cells.{Node, alone_of}
 use Rattle.taos_monitor.specs.World.{Setting, World, setting_of}
 use Rattle.taos_monitor.specs.Connection.{Connects}
@@ -210,8 +209,11 @@ module _ {In Out S : Type 0} (telling : Telling In Out) (Serves : Line S → Lin
 
 -- ---- what a connection is served in
 
-module _ (node : List Plan → List ObjectFixed → Node) {p p0 : List Plan} {o o0 : List ObjectFixed} {a b : Bool} where
-  pub settled : p ≡ p0 → o ≡ o0 → a ≡ false → b ≡ false → (limit : ℕ) (before after : Line World) (outcome : Outcome) →
-      Connects (setting_of (node p o) (alone_of a b)) limit before after outcome → Connects (among (node p0 o0)) limit before after outcome
-  settled plans objects shards_among objects_among limit before after outcome =
-      subst (λ (x : Setting). Connects x limit before after outcome) (λ i. setting_of (node (plans i) (objects i)) (alone_of (shards_among i) (objects_among i)))
+pub settled_at : (s : Setting) (n : Node) {a b : Bool} → s ≡ setting_of n (alone_of a b) → a ≡ false → b ≡ false → (limit : ℕ) (before after : Line World) (outcome : Outcome) →
+    Connects s limit before after outcome → Connects (among n) limit before after outcome
+settled_at s n same shards_among objects_among limit before after outcome =
+    subst (λ (x : Setting). Connects x limit before after outcome) (same ∙ (λ i. setting_of n (alone_of (shards_among i) (objects_among i))))
+
+-- the clock, the link and the fetch that were lent side by side
+pub three_lent : (a b c p q r : ℕ) (l k j m n o : Lent) → Both (Both (To a l) (To b k)) (To c j) ≡ Both (Both (To p m) (To q n)) (To r o) → (a ≡ p) × (b ≡ q) × (c ≡ r)
+three_lent a b c p q r l k j m n o same = (cc, cc, cc)

@@ -84,6 +84,7 @@ WorkIs is lane = (stock : Stock) × (lane.work ≡ Some stock) × is stock
 pub record HasOtherWork {X : Type 0} (before after : LaneShown X) : Type 0 where
   pub outside : after.outside ≡ before.outside
   pub door : after.door ≡ before.door
+  pub fetch : after.fetch ≡ before.fetch
 
 -- the lane is as before, with a fresh stock of these cells
 pub record IsGivenStock {X : Type 0} (cells : NodeCells) (before after : LaneShown X) : Type 0 where

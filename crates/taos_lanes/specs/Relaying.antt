@@ -34,6 +34,7 @@ pub record RelayRun (limit : ℕ) : Type 0 where
 -- the lane is as before, but for its door and for what it counted
 pub record HasOtherDoor {X : Type 0} (before after : LaneShown X) : Type 0 where
   pub outside : after.outside ≡ before.outside
+  pub fetch : after.fetch ≡ before.fetch
   pub work : after.work ≡ before.work
 
 -- The lane served connections of its door by this table, and counted them.

@@ -1,5 +1,5 @@
 -- What the lanes of a node did, from its opening until its cells were closed.
-use Rattle.std.specs.Prelude.{◌≡◌, ℕ, ◌==◌, true, List, [], length, map, slice_get, count_by}
+use Rattle.std.specs.Prelude.{◌≡◌, ℕ, ◌==◌, Bool, true, List, [], length, map, slice_get, count_by}
 use Rattle.std.specs.List.{position_or_len}
 use Rattle.agent_core.specs.Alone.{plans_in, seen_in}
 use Rattle.agent_core.specs.Journals.{ShardSeen}
@@ -18,7 +18,7 @@ use Rattle.taos_lanes.specs.Totals.{AreCountedBy}
 use Rattle.taos_lanes.specs.Visits.{Visit, is_broken, is_lacking}
 use Rattle.taos_lanes.specs.Working.{HasDoorCause}
 use Rattle.taos_monitor.specs.Cells.{Node, Journals, Viewed, viewed}
-use Rattle.taos_monitor.specs.World.{world_of}
+use Rattle.taos_monitor.specs.World.{fetch_use, reaching}
 
 -- the journal of the first object of the number, or no entries where there is none
 abbrev pub journal_on : List ObjectSeen → ℕ → List ObjectEntry
@@ -36,10 +36,12 @@ unseen = viewed (λ s. []) (λ s. [])
 
 -- what a lane did from before it served until after: it had seen nothing at first, and went through
 -- its door
-pub record IsRunOf {In Out : Type 0} (telling : Telling In Out) {n : Node} (limits : Limits)
-    (before after : LaneShown (In × Out)) (run : LaneRun n limits.frames) : Type 0 where
-  pub first : run.first ≡ world_of before.outside unseen unseen
+pub record IsRunOf {In Out : Type 0} (telling : Telling In Out) {n : Node} (pulls : Bool)
+    (limits : Limits) (before after : LaneShown (In × Out)) (run : LaneRun n limits.frames) :
+    Type 0 where
+  pub first : run.first ≡ reaching before.outside (fetch_use pulls before.fetch) unseen unseen
   pub outside : run.last.outside ≡ after.outside
+  pub fetch : run.last.fetch ≡ fetch_use pulls after.fetch
   pub through : GoesThrough telling limits.connections before.door after.door
       (run.door_failed ≡ true) run.visits
   pub cause : HasDoorCause run.door_failed before.door.faults after.door.faults
@@ -64,11 +66,12 @@ pub record Left : Type 0 where
 abbrev pub left_by : Served → Left
 left_by s = record { shards = s.shards.items; objects = s.objects.items; total = s.total }
 
--- The node's lanes served all that stands in the journals of the shards and objects that they left.
-pub record ServesNode {In Out : Type 0} (telling : Telling In Out) (n : Node) (limits : Limits)
-    (lanes : Change (List (LaneShown (In × Out)))) (left : Left) : Type 0 where
+-- The node's lanes served all that stands in the journals of the shards and objects that they left; each
+-- fetched certificates, or none did.
+pub record ServesNode {In Out : Type 0} (telling : Telling In Out) (n : Node) (pulls : Bool)
+    (limits : Limits) (lanes : Change (List (LaneShown (In × Out)))) (left : Left) : Type 0 where
   pub runs : List (LaneRun n limits.frames)
-  pub each : Each3 (IsRunOf telling limits) lanes.before lanes.after runs
+  pub each : Each3 (IsRunOf telling pulls limits) lanes.before lanes.after runs
   pub serves : ServesAll (journals_of left.shards left.objects) runs
   pub plans : plans_in left.shards ≡ n.plans
   pub fixed : map fixed_of left.objects ≡ n.objects

@@ -1,5 +1,5 @@
 -- A lane with passes of a node's cells, and what its worker does with them.
-use Rattle.std.specs.Prelude.{◌≡◌, ℕ, List, Option, None, Some}
+use Rattle.std.specs.Prelude.{◌≡◌, ℕ, Bool, List, Option, None, Some}
 use Rattle.frame_link.specs.Doors.{DoorSeen}
 use Rattle.frame_link.specs.Outside.{OutsideSeen, outside_of}
 use Rattle.frame_link.specs.Relay.{Link}
@@ -9,6 +9,7 @@ use Rattle.agent_shards.specs.Cells.{shares_of}
 use Rattle.agent_shards.specs.Shards.{ShardCell, KnownShard, ArePasses, SeatSeen, journal_at, own_at, plans_of}
 use Rattle.agent_shards.specs.Objects.{ObjectCell, KnownObject, AreObjectPasses, RackSeen, seen_on, own_on, fixed_in}
 use Rattle.object_core.specs.Objects.{ObjectEntry}
+use Rattle.cred_pull.specs.Fetching.{FetchSeen}
 use Rattle.taos_lanes.specs.declared.lane.Lane.{Lane}
 use Rattle.frame_link.specs.declared.limits.Limits.{Limits}
 use Rattle.taos_lanes.specs.declared.lane.Stock.{Stock}
@@ -18,7 +19,7 @@ use Rattle.taos_lanes.specs.Working.{ServesDoor, lane_of}
 use Rattle.taos_monitor.specs.declared.node_keys.NodeKeys.{NodeKeys}
 use Rattle.taos_monitor.specs.Arriving.{node_of}
 use Rattle.taos_monitor.specs.Cells.{Node, Viewed, viewed}
-use Rattle.taos_monitor.specs.World.{World, world_of}
+use Rattle.taos_monitor.specs.World.{World, FetchUse, fetch_use, reaching}
 
 -- the cells of a node's shards and of its objects
 pub record NodeCells : Type 0 where
@@ -50,9 +51,9 @@ abbrev pub objects_viewed : List ObjectCell → List KnownObject → Viewed Obje
 objects_viewed cells passes = viewed (seen_on (shelf cells passes)) (own_on (shelf cells passes))
 
 -- what a lane with this stock answers in
-abbrev pub world_at : NodeCells → OutsideSeen → Stock → World
-world_at cells outside stock =
-    world_of outside (shards_viewed cells.shards stock.passes)
+abbrev pub world_at : NodeCells → OutsideSeen → FetchUse → Stock → World
+world_at cells outside fetch stock =
+    reaching outside fetch (shards_viewed cells.shards stock.passes)
     (objects_viewed cells.objects stock.racked)
 
 -- the passes of the stock are of these cells
@@ -79,16 +80,19 @@ pub record LaneShown (X : Type 0) : Type 0 where
   -- its clock, and its link to the relay
   pub outside : OutsideSeen
   pub door : DoorSeen X
+  -- from where certificates are fetched
+  pub fetch : FetchSeen
   pub work : Option Stock
   -- what its worker counted as a relay
   pub tally : Tally
 
--- a lane, by what its clock, its link and its door show
-abbrev pub shown_by : {C R D I O : Type 0} → (C → Stream) → (R → Link) →
-    (D → DoorSeen (I × O)) → Lane C R D I O → LaneShown (I × O)
-shown_by clock link door lane = record {
+-- a lane, by what its clock, its link, its door and its fetch show
+abbrev pub shown_by : {C R D P I O : Type 0} → (C → Stream) → (R → Link) →
+    (D → DoorSeen (I × O)) → (P → FetchSeen) → Lane C R D P I O → LaneShown (I × O)
+shown_by clock link door fetch lane = record {
   outside = outside_of (clock lane.clock) (link lane.relay);
   door = door lane.door;
+  fetch = fetch lane.fetch;
   work = lane.work;
   tally = lane.tally;
 }
@@ -96,7 +100,8 @@ shown_by clock link door lane = record {
 -- The lane served connections of its door at the cells, from what its passes had seen before to what
 -- they have seen now, with as many shares.
 pub record ServesLane {In Out : Type 0} (telling : Telling In Out) (keys : NodeKeys)
-    (cells : NodeCells) (limits : Limits) (before after : LaneShown (In × Out)) : Type 0 where
+    (cells : NodeCells) (pulls : Bool) (limits : Limits) (before after : LaneShown (In × Out)) :
+    Type 0 where
   pub old : Stock
   pub new : Stock
   pub had : before.work ≡ Some old
@@ -104,5 +109,5 @@ pub record ServesLane {In Out : Type 0} (telling : Telling In Out) (keys : NodeK
   pub of : IsStockOf cells new
   pub shares : HaveSameShares old new
   pub serves : ServesDoor telling (node_at keys cells) limits
-      (change (lane_of (world_at cells before.outside old) before.door)
-      (lane_of (world_at cells after.outside new) after.door)) new.tally
+      (change (lane_of (world_at cells before.outside (fetch_use pulls before.fetch) old) before.door)
+      (lane_of (world_at cells after.outside (fetch_use pulls after.fetch) new) after.door)) new.tally

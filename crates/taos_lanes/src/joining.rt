@@ -9,6 +9,7 @@ use crate::lane::{Lane, Stock};
 use crate::tally::Tally;
 use crate::total::Total;
 use agent_shards::{Agent, Passes, Rack, RackPasses};
+use cred_pull::Fetch;
 use frame_link::{Clock, Door, RelayLink};
 
 // Joins the passes of a stock to the others, and hands out what it has counted.
@@ -38,24 +39,24 @@ pub(crate) fn join_stock(
 }
 
 // Joins the passes of all lanes to the others. The lanes keep nothing of their work.
-pub(crate) fn join_lanes<C: Clock, R: RelayLink, D: Door>(
+pub(crate) fn join_lanes<C: Clock, R: RelayLink, D: Door, P: Fetch>(
     agent: &Agent,
     rack: &Rack,
     passes: &mut Passes,
     racked: &mut RackPasses,
-    lanes: &mut [Lane<C, R, D>],
+    lanes: &mut [Lane<C, R, D, P>],
 ) -> Total
     requires few { length lanes.old ≤ 2 ^ 32 }
     requires passes { ArePassesOf (cells_of agent.now rack.now) (passes_of passes.old racked.old) }
-    requires stocked { let shown = shown_by C.shown R.shown D.shown in
+    requires stocked { let shown = shown_by C.shown R.shown D.shown P.shown in
         All (WorkIs (IsStockOf (cells_of agent.now rack.now))) (map shown lanes.old) }
-    ensures joined { let shown = shown_by C.shown R.shown D.shown in
+    ensures joined { let shown = shown_by C.shown R.shown D.shown P.shown in
         JoinsAll (cells_of agent.now rack.now) (passes_of passes.old racked.old)
         (stocks_in (map shown lanes.old)) (passes_of passes.new racked.new) }
     ensures passes { ArePassesOf (cells_of agent.now rack.now) (passes_of passes.new racked.new) }
-    ensures total { let shown = shown_by C.shown R.shown D.shown in
+    ensures total { let shown = shown_by C.shown R.shown D.shown P.shown in
         IsTotalOf (stocks_in (map shown lanes.old)) result }
-    ensures emptied { let shown = shown_by C.shown R.shown D.shown in
+    ensures emptied { let shown = shown_by C.shown R.shown D.shown P.shown in
         AllZip IsEmptied (map shown lanes.old) (map shown lanes.new) }
 {
     let mut total = Total::new();

@@ -12,6 +12,7 @@ ghost use Rattle.taos_lanes.specs.Working.{ServesDoorBy, lane_of};
 use crate::lane::Lane;
 use crate::tally::Tally;
 use crate::total::Total;
+use cred_pull::Fetch;
 use frame_link::{Clock, Door, Limits, RelayLink};
 use relay_core::{RelayTable, serve_relay};
 use std::alloc::Global;
@@ -58,8 +59,11 @@ fn relay_door<D: Door>(relay: &Relay<'_>, door: &mut D) -> Tally
 }
 
 // Serves connections of the lane's door, and counts them.
-fn relay_lane<C: Clock, R: RelayLink, D: Door>(relay: &Relay<'_>, lane: &mut Lane<C, R, D>)
-    ensures { let shown = shown_by C.shown R.shown D.shown in
+fn relay_lane<C: Clock, R: RelayLink, D: Door, P: Fetch>(
+    relay: &Relay<'_>,
+    lane: &mut Lane<C, R, D, P>,
+)
+    ensures { let shown = shown_by C.shown R.shown D.shown P.shown in
         RelaysLane (told_by D.In.shown D.Out.shown) relay.now.table.now relay.now.limits
         (shown lane.old) (shown lane.new) }
 {
@@ -67,13 +71,15 @@ fn relay_lane<C: Clock, R: RelayLink, D: Door>(relay: &Relay<'_>, lane: &mut Lan
 }
 
 // Serves the door of each lane, all at the same time.
-fn relay_all<W: Threads + Sync, C: Clock + Send, R: RelayLink + Send, D: Door + Send>(
-    rt: &W,
-    relay: &Relay<'_>,
-    lanes: &mut [Lane<C, R, D>],
-)
+fn relay_all<
+    W: Threads + Sync,
+    C: Clock + Send,
+    R: RelayLink + Send,
+    D: Door + Send,
+    P: Fetch + Send,
+>(rt: &W, relay: &Relay<'_>, lanes: &mut [Lane<C, R, D, P>])
     requires some { 0 < length lanes.old }
-    ensures { let shown = shown_by C.shown R.shown D.shown in
+    ensures { let shown = shown_by C.shown R.shown D.shown P.shown in
         AllZip (RelaysLane (told_by D.In.shown D.Out.shown) relay.now.table.now
         relay.now.limits) (map shown lanes.old) (map shown lanes.new) }
 {
@@ -82,8 +88,8 @@ fn relay_all<W: Threads + Sync, C: Clock + Send, R: RelayLink + Send, D: Door + 
         rt,
         lanes,
         count,
-        &|_, lane: &mut Lane<C, R, D>|
-            ensures { let shown = shown_by C.shown R.shown D.shown in
+        &|_, lane: &mut Lane<C, R, D, P>|
+            ensures { let shown = shown_by C.shown R.shown D.shown P.shown in
                 RelaysLane (told_by D.In.shown D.Out.shown) relay.entry.now.table.now
                 relay.entry.now.limits (shown lane.old) (shown lane.new) }
         { relay_lane(relay, lane) },
@@ -91,14 +97,14 @@ fn relay_all<W: Threads + Sync, C: Clock + Send, R: RelayLink + Send, D: Door + 
 }
 
 // What a lane counted.
-fn tally_of<C: Clock, R: RelayLink, D: Door>(lane: &Lane<C, R, D>) -> Tally
+fn tally_of<C: Clock, R: RelayLink, D: Door, P: Fetch>(lane: &Lane<C, R, D, P>) -> Tally
     ensures { result ≡ lane.now.tally }
 {
     lane.tally
 }
 
 // What all lanes counted.
-fn total_of<C: Clock, R: RelayLink, D: Door>(lanes: &[Lane<C, R, D>]) -> Total
+fn total_of<C: Clock, R: RelayLink, D: Door, P: Fetch>(lanes: &[Lane<C, R, D, P>]) -> Total
     requires few { length lanes.now ≤ 2 ^ 32 }
     ensures { IsSumOf (λ lane. lane.tally) lanes.now result }
 {
@@ -112,16 +118,22 @@ fn total_of<C: Clock, R: RelayLink, D: Door>(lanes: &[Lane<C, R, D>]) -> Total
 /// Serves the doors of all lanes as a relay that has this table, all at the same time, a worker a
 /// lane, until each has served as many connections as the limits say, or its door has no more or
 /// fails. Each connection is given back, whatever its outcome is. It takes no memory of its own.
-pub fn serve_relays<W: Threads + Sync, C: Clock + Send, R: RelayLink + Send, D: Door + Send>(
+pub fn serve_relays<
+    W: Threads + Sync,
+    C: Clock + Send,
+    R: RelayLink + Send,
+    D: Door + Send,
+    P: Fetch + Send,
+>(
     rt: &W,
     alloc: Global,
     table: &RelayTable,
-    lanes: &mut [Lane<C, R, D>],
+    lanes: &mut [Lane<C, R, D, P>],
     limits: Limits,
 ) -> Total
     requires some { 0 < length lanes.old }
     requires few { length lanes.old ≤ MAX_LANES }
-    ensures { let shown = shown_by C.shown R.shown D.shown in
+    ensures { let shown = shown_by C.shown R.shown D.shown P.shown in
         RelaysLanes (told_by D.In.shown D.Out.shown) table.now limits
         (change (map shown lanes.old) (map shown lanes.new)) result }
 {

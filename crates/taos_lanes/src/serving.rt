@@ -21,6 +21,7 @@ use crate::together::serve_lanes;
 use crate::total::Total;
 use agent_core::Shard;
 use agent_shards::{Agent, Passes, Rack, RackPasses};
+use cred_pull::Fetch;
 use frame_link::{Clock, Door, Limits, RelayLink};
 use object_core::Object;
 use std::alloc::{AllocError, Global};
@@ -43,8 +44,8 @@ pub struct Served {
 }
 
 // The lanes keep nothing of their work.
-fn empty<C: Clock, R: RelayLink, D: Door>(lanes: &mut [Lane<C, R, D>])
-    ensures { let shown = shown_by C.shown R.shown D.shown in
+fn empty<C: Clock, R: RelayLink, D: Door, P: Fetch>(lanes: &mut [Lane<C, R, D, P>])
+    ensures { let shown = shown_by C.shown R.shown D.shown P.shown in
         AllZip IsEmptied (map shown lanes.old) (map shown lanes.new) }
 {
     for lane in lanes.iter_mut() {
@@ -53,14 +54,21 @@ fn empty<C: Clock, R: RelayLink, D: Door>(lanes: &mut [Lane<C, R, D>])
 }
 
 // Serves the doors of all lanes at new cells. Where memory is refused, no door was asked.
-fn serve_cells<W: Threads + Wait + Sync, C: Clock + Send, R: RelayLink + Send, D: Door + Send>(
+fn serve_cells<
+    W: Threads + Wait + Sync,
+    C: Clock + Send,
+    R: RelayLink + Send,
+    D: Door + Send,
+    P: Fetch + Send,
+>(
     rt: &W,
     alloc: Global,
     keys: &NodeKeys,
     shards: (Agent, Passes),
     objects: (Rack, RackPasses),
     memos: &Memos,
-    lanes: &mut [Lane<C, R, D>],
+    lanes: &mut [Lane<C, R, D, P>],
+    pulls: bool,
     limits: Limits,
 ) -> Result<Served, AllocError>
     requires some { 0 < length lanes.old }
@@ -68,12 +76,12 @@ fn serve_cells<W: Threads + Wait + Sync, C: Clock + Send, R: RelayLink + Send, D
     requires kept { AreKept (cells_of shards.0 objects.0) 0 (passes_of shards.1 objects.1) }
     requires new { AreNew (cells_of shards.0 objects.0) }
     requires planned { ArePlanned keys.now.channels.entries (plans_of shards.0) }
-    ensures served { let shown = shown_by C.shown R.shown D.shown in
+    ensures served { let shown = shown_by C.shown R.shown D.shown P.shown in
         IfOk result (λ r. ServesNode (told_by D.In.shown D.Out.shown)
-        (node_at keys.now (cells_of shards.0 objects.0)) limits
+        (node_at keys.now (cells_of shards.0 objects.0)) pulls limits
         (change (map shown lanes.old) (map shown lanes.new)) (left_by r)) }
     ensures idle { All (λ lane. lane.work ≡ None) lanes.new }
-    ensures unserved { let shown = shown_by C.shown R.shown D.shown in
+    ensures unserved { let shown = shown_by C.shown R.shown D.shown P.shown in
         OnErr result (AllZip HasOtherWork (map shown lanes.old) (map shown lanes.new)) }
 {
     closed_lanes_serve_all();
@@ -89,10 +97,11 @@ fn serve_cells<W: Threads + Wait + Sync, C: Clock + Send, R: RelayLink + Send, D
         keys,
         agent: &agent,
         rack: &rack,
+        pulls,
         limits,
         whose: PhantomData,
     };
-    serve_lanes::<W, Brand, Brand, C, R, D>(&shared, lanes);
+    serve_lanes::<W, Brand, Brand, C, R, D, P>(&shared, lanes);
     let total = join_lanes(&agent, &rack, &mut passes, &mut racked, lanes);
     Ok(Served {
         shards: agent.close(passes),
@@ -102,22 +111,29 @@ fn serve_cells<W: Threads + Wait + Sync, C: Clock + Send, R: RelayLink + Send, D
 }
 
 // Serves the doors of all lanes at cells of the shards and objects.
-fn serve_new<W: Threads + Wait + Sync, C: Clock + Send, R: RelayLink + Send, D: Door + Send>(
+fn serve_new<
+    W: Threads + Wait + Sync,
+    C: Clock + Send,
+    R: RelayLink + Send,
+    D: Door + Send,
+    P: Fetch + Send,
+>(
     rt: &W,
     alloc: Global,
     parts: NodeParts,
-    lanes: &mut [Lane<C, R, D>],
+    lanes: &mut [Lane<C, R, D, P>],
     limits: Limits,
     lemmas: u32,
+    pulls: bool,
 ) -> Result<Served, AllocError>
     requires some { 0 < length lanes.old }
     requires few { length lanes.old ≤ MAX_LANES }
     requires new { ArePartsNew parts }
-    ensures served { let shown = shown_by C.shown R.shown D.shown in
-        IfOk result (λ r. ServesNode (told_by D.In.shown D.Out.shown) (node_in parts) limits
+    ensures served { let shown = shown_by C.shown R.shown D.shown P.shown in
+        IfOk result (λ r. ServesNode (told_by D.In.shown D.Out.shown) (node_in parts) pulls limits
         (change (map shown lanes.old) (map shown lanes.new)) (left_by r)) }
     ensures idle { OnOk result (All (λ lane. lane.work ≡ None) lanes.new) }
-    ensures unserved { let shown = shown_by C.shown R.shown D.shown in
+    ensures unserved { let shown = shown_by C.shown R.shown D.shown P.shown in
         OnErr result (AllZip HasOtherWork (map shown lanes.old) (map shown lanes.new)) }
 {
     let NodeParts {
@@ -134,33 +150,43 @@ fn serve_new<W: Threads + Wait + Sync, C: Clock + Send, R: RelayLink + Send, D: 
     };
     let opened = Agent::new(alloc, shards, anchors)?;
     let racked = Rack::new(alloc, objects)?;
-    serve_cells(rt, alloc, &keys, opened, racked, &memos, lanes, limits)
+    serve_cells(
+        rt, alloc, &keys, opened, racked, &memos, lanes, pulls, limits,
+    )
 }
 
 /// Serves the doors of all lanes by the node of the parts, all at the same time, a worker a lane,
 /// until each has served as many connections as the limits say, or its door has no more or fails.
 /// All memory for the lanes is taken before the first connection; where it is refused, no door was
 /// asked. The decider of a lane takes room of its own, for so many lemmas too, 1,024 at most; nothing
-/// shows that it remembers them. The lanes keep nothing of their work.
-pub fn serve<W: Threads + Wait + Sync, C: Clock + Send, R: RelayLink + Send, D: Door + Send>(
+/// shows that it remembers them. Where `pulls` is set, each lane fetches certificates for its requests.
+/// The lanes keep nothing of their work.
+pub fn serve<
+    W: Threads + Wait + Sync,
+    C: Clock + Send,
+    R: RelayLink + Send,
+    D: Door + Send,
+    P: Fetch + Send,
+>(
     rt: &W,
     alloc: Global,
     parts: NodeParts,
-    lanes: &mut [Lane<C, R, D>],
+    lanes: &mut [Lane<C, R, D, P>],
     limits: Limits,
     lemmas: u32,
+    pulls: bool,
 ) -> Result<Served, AllocError>
     requires some { 0 < length lanes.old }
     requires few { length lanes.old ≤ MAX_LANES }
     requires new { ArePartsNew parts }
-    ensures served { let shown = shown_by C.shown R.shown D.shown in
-        IfOk result (λ r. ServesNode (told_by D.In.shown D.Out.shown) (node_in parts) limits
+    ensures served { let shown = shown_by C.shown R.shown D.shown P.shown in
+        IfOk result (λ r. ServesNode (told_by D.In.shown D.Out.shown) (node_in parts) pulls limits
         (change (map shown lanes.old) (map shown lanes.new)) (left_by r)) }
     ensures idle { All (λ lane. lane.work ≡ None) lanes.new }
-    ensures unserved { let shown = shown_by C.shown R.shown D.shown in
+    ensures unserved { let shown = shown_by C.shown R.shown D.shown P.shown in
         OnErr result (AllZip HasOtherWork (map shown lanes.old) (map shown lanes.new)) }
 {
-    match serve_new(rt, alloc, parts, lanes, limits, lemmas) {
+    match serve_new(rt, alloc, parts, lanes, limits, lemmas, pulls) {
         Ok(served) => Ok(served),
         Err(AllocError) => {
             empty(lanes);

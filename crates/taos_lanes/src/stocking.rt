@@ -11,6 +11,7 @@ use crate::bench::{Memos, bench_of};
 use crate::lane::{Lane, Stock};
 use crate::tally::Tally;
 use agent_shards::{Agent, Passes, Rack, RackPasses};
+use cred_pull::Fetch;
 use frame_link::{Clock, Door, RelayLink};
 use std::alloc::{AllocError, Global};
 
@@ -42,23 +43,23 @@ pub(crate) fn stock_of(
 }
 
 // Gives each lane a stock. Where memory is refused some may have one.
-pub(crate) fn stock_lanes<C: Clock, R: RelayLink, D: Door>(
+pub(crate) fn stock_lanes<C: Clock, R: RelayLink, D: Door, P: Fetch>(
     alloc: Global,
     memos: &Memos,
     agent: &Agent,
     rack: &Rack,
     passes: &mut Passes,
     racked: &mut RackPasses,
-    lanes: &mut [Lane<C, R, D>],
+    lanes: &mut [Lane<C, R, D, P>],
 ) -> Result<(), AllocError>
     requires few { length lanes.old + 1 < ALL_SHARES }
     requires kept { AreKept (cells_of agent.now rack.now) 0 (passes_of passes.old racked.old) }
-    ensures stocked { let shown = shown_by C.shown R.shown D.shown in
+    ensures stocked { let shown = shown_by C.shown R.shown D.shown P.shown in
         OnOk result (AllZip (IsGivenStock (cells_of agent.now rack.now))
         (map shown lanes.old) (map shown lanes.new)) }
     ensures kept { OnOk result (AreKept (cells_of agent.now rack.now) (length lanes.old)
         (passes_of passes.new racked.new)) }
-    ensures same { let shown = shown_by C.shown R.shown D.shown in
+    ensures same { let shown = shown_by C.shown R.shown D.shown P.shown in
         OnErr result (AllZip HasOtherWork (map shown lanes.old) (map shown lanes.new)) }
 {
     let mut given = 0;

@@ -10,6 +10,7 @@ ghost use Rattle.taos_monitor.specs.Planned.{ArePlanned};
 use crate::lane::Lane;
 use crate::sitting::{Shared, serve_lane};
 use agent_shards::{OfAgent, OfRack};
+use cred_pull::Fetch;
 use frame_link::{Clock, Door, RelayLink};
 use std::sync::Wait;
 use std::thread;
@@ -23,7 +24,8 @@ pub(crate) fn serve_lanes<
     C: Clock + Send,
     R: RelayLink + Send,
     D: Door + Send,
->(shared: &Shared<'_, W, K, L>, lanes: &mut [Lane<C, R, D>])
+    P: Fetch + Send,
+>(shared: &Shared<'_, W, K, L>, lanes: &mut [Lane<C, R, D, P>])
     requires some { 0 < length lanes.old }
     requires planned { ArePlanned shared.now.keys.now.channels.entries
         (plans_of shared.now.agent.now) }
@@ -32,9 +34,10 @@ pub(crate) fn serve_lanes<
     requires stocked { All (λ lane. IsStocked
         (cells_of shared.now.agent.now shared.now.rack.now) K.shares L.shares lane.work)
         lanes.old }
-    ensures { let shown = shown_by C.shown R.shown D.shown in
+    ensures { let shown = shown_by C.shown R.shown D.shown P.shown in
         AllZip (ServesLane (told_by D.In.shown D.Out.shown) shared.now.keys.now
-        (cells_of shared.now.agent.now shared.now.rack.now) shared.now.limits)
+        (cells_of shared.now.agent.now shared.now.rack.now) shared.now.pulls
+        shared.now.limits)
         (map shown lanes.old) (map shown lanes.new) }
 {
     let count = lanes.len();
@@ -42,17 +45,18 @@ pub(crate) fn serve_lanes<
         shared.rt,
         lanes,
         count,
-        &|_, lane: &mut Lane<C, R, D>|
+        &|_, lane: &mut Lane<C, R, D, P>|
             requires planned { ArePlanned shared.now.keys.now.channels.entries
                 (plans_of shared.now.agent.now) }
             requires agent { shared.now.agent.now ≡ K.cells }
             requires rack { shared.now.rack.now ≡ L.cells }
             requires stocked { IsStocked (cells_of shared.now.agent.now shared.now.rack.now)
                 K.shares L.shares lane.old.work }
-            ensures { let shown = shown_by C.shown R.shown D.shown in
+            ensures { let shown = shown_by C.shown R.shown D.shown P.shown in
                 ServesLane (told_by D.In.shown D.Out.shown) shared.entry.now.keys.now
                 (cells_of shared.entry.now.agent.now shared.entry.now.rack.now)
-                shared.entry.now.limits (shown lane.old) (shown lane.new) }
+                shared.entry.now.pulls shared.entry.now.limits (shown lane.old)
+                (shown lane.new) }
         { serve_lane(shared, lane) },
     );
 }

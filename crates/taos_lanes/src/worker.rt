@@ -1,33 +1,25 @@
 //! A lane's worker: the connections of its door, one after the other.
 
-ghost use Rattle.std.specs.Prelude.{◌≡◌, None, false};
+ghost use Rattle.std.specs.Prelude.{◌≡◌, false};
 ghost use Rattle.std.specs.Thread.{IsSync};
-ghost use Rattle.frame_link.specs.Outside.{outside_of};
-ghost use Rattle.taos_lanes.specs.Telling.{change, told_by};
-ghost use Rattle.taos_lanes.specs.Working.{ServesDoor, lane_of};
-ghost use Rattle.taos_monitor.specs.Arriving.{node_of};
+ghost use Rattle.taos_lanes.specs.Telling.{told_by};
+ghost use Rattle.taos_lanes.specs.Working.{ServesSeated, lane_at};
+ghost use Rattle.taos_monitor.specs.Desk.{IsFree, lent_by, setting_at};
 ghost use Rattle.taos_monitor.specs.Planned.{ArePlanned};
-ghost use Rattle.taos_monitor.specs.World.{world_by};
 
 use crate::lane::Lane;
 use crate::tally::Tally;
 use agent_core::Shards;
+use cred_pull::Fetch;
 use frame_link::{Clock, Door, Limits, RelayLink};
 use object_core::Shelf;
 use std::alloc::Global;
 use std::sync::Wait;
 use taos_calculus::Decide;
-use taos_monitor::{NodeKeys, serve_connection};
+use taos_monitor::Desk;
 
-// What a worker sits at: shards, objects and a decider.
-pub(crate) struct Desk<S, H, B> {
-    pub(crate) shards: S,
-    pub(crate) shelf: H,
-    pub(crate) bench: B,
-}
-
-// Serves connections of the lane's door, up to as many as the limits say, or until the door has
-// none or fails. Each is given back.
+// Serves connections of the lane's door at a desk, up to as many as the limits say, or until the door
+// has none or fails. Each is given back.
 pub(crate) fn serve_door<
     W: Wait + Sync,
     S: Shards,
@@ -36,30 +28,27 @@ pub(crate) fn serve_door<
     C: Clock,
     R: RelayLink,
     D: Door,
+    P: Fetch,
 >(
     rt: &W,
     alloc: Global,
-    keys: &NodeKeys,
-    desk: &mut Desk<S, H, B>,
-    lane: &mut Lane<C, R, D>,
+    desk: &mut Desk<'_, '_, '_, '_, '_, S, H, B>,
+    lane: &mut Lane<C, R, D, P>,
     limits: Limits,
 ) -> Tally
-    requires planned { ArePlanned keys.now.channels.entries (S.shown desk.old.shards).plans }
-    requires none_taken { (H.shown desk.old.shelf).taken ≡ None }
-    requires shards_among { (S.shown desk.old.shards).alone ≡ false }
-    requires objects_among { (H.shown desk.old.shelf).alone ≡ false }
-    ensures served { ServesDoor (told_by D.In.shown D.Out.shown)
-        (node_of keys.now (S.shown desk.old.shards).plans (H.shown desk.old.shelf).objects) limits
-        (change (lane_of (world_by (outside_of (C.shown lane.old.clock) (R.shown lane.old.relay))
-        (S.shown desk.old.shards) (H.shown desk.old.shelf))
-        (D.shown lane.old.door))
-        (lane_of (world_by (outside_of (C.shown lane.new.clock) (R.shown lane.new.relay))
-        (S.shown desk.new.shards) (H.shown desk.new.shelf))
-        (D.shown lane.new.door))) result }
+    requires planned { ArePlanned desk.old.keys.now.channels.entries
+        (S.shown desk.old.shards.now).plans }
+    requires free { IsFree H.shown desk.old }
+    requires shards_among { (S.shown desk.old.shards.now).alone ≡ false }
+    requires objects_among { (H.shown desk.old.shelf.now).alone ≡ false }
+    ensures served { let at = lane_at S.shown H.shown C.shown R.shown D.shown P.shown in
+        ServesSeated (told_by D.In.shown D.Out.shown) limits
+        (at desk.old lane.old) (at desk.new lane.new) result }
     ensures work { lane.new.work ≡ lane.old.work }
-    ensures taken { (H.shown desk.new.shelf).taken ≡ None }
-    ensures plans { (S.shown desk.new.shards).plans ≡ (S.shown desk.old.shards).plans }
-    ensures objects { (H.shown desk.new.shelf).objects ≡ (H.shown desk.old.shelf).objects }
+    ensures free { IsFree H.shown desk.new }
+    ensures setting { setting_at S.shown H.shown desk.new ≡ setting_at S.shown H.shown desk.old }
+    ensures pulls { desk.new.pulls ≡ desk.old.pulls }
+    ensures same { lent_by desk.new ≡ lent_by desk.old }
 {
     let mut tally = Tally::new();
     while tally.served < limits.connections {
@@ -70,15 +59,11 @@ pub(crate) fn serve_door<
         let Some((mut input, mut output)) = opened else {
             return tally;
         };
-        let outcome = serve_connection(
+        let mut outside = (&mut lane.clock, &mut lane.relay, &mut lane.fetch);
+        let outcome = desk.serve(
             rt,
             alloc,
-            keys,
-            &mut desk.shelf,
-            &mut desk.shards,
-            &mut lane.relay,
-            &mut lane.clock,
-            &mut desk.bench,
+            &mut outside,
             &mut input,
             &mut output,
             limits.frames,

@@ -19,7 +19,7 @@ use Rattle.taos_monitor.specs.Course.{its_seeking, Used, CourseAfter, malformed,
 use Rattle.taos_monitor.specs.Effects.{ShardStep, step_at, shards_of, IsDone, IsStep, WentThrough, FoundNoPlace, LetsGo, IsPerformed, through, not_held, no_room, no_place}
 use Rattle.taos_monitor.specs.Operations.{effect_of, targets_of}
 use Rattle.taos_monitor.proofs.Agreeing.{IsEntry, performed_entries}
-use Rattle.taos_monitor.proofs.Complete.{asked, mapped, target_there, denied_ends, granted_ends, hindered_by_commons, in_middle, front_of_stands, room_told}
+use Rattle.taos_monitor.proofs.Complete.{asked, mapped, target_there, denied_ends, granted_ends, hindered_by_commons, hindered_by_issuers, in_middle, front_of_stands, room_told}
 use Rattle.taos_monitor.proofs.Hindering.{used_number, too_many}
 use Rattle.taos_monitor.proofs.Judging.{full_is_new}
 use Rattle.taos_monitor.proofs.OwnSteps.{IsAside, grant_aside, stepped_once, some_removed, one_let_go, unmapped, took, located, lets_go}
@@ -45,6 +45,17 @@ of_commons n J own x reply (complete.number_used k old) e = absurd cc
 of_commons n J own x reply (complete.own_full k more) e = absurd cc
 of_commons n J own x reply (complete.commons_full is s more) e = cause.commons_full is s more
 of_commons n J own x reply (complete.nowhere_held digest is none) e = absurd cc
+of_commons n J own x reply (complete.issuers_full is s other most) e = absurd cc
+
+-- or that no more issuers fit
+of_issuers : (n : Node) (J : Journals) (own : List Place) (x : Seeking) (reply : Reply) → IsHindered n J own x reply → status_of reply ≡ 14 → CausesEnd n J own x 14
+of_issuers n J own x reply (complete.object_is_full at) e = absurd cc
+of_issuers n J own x reply (complete.shard_is_full plan planned there at) e = absurd cc
+of_issuers n J own x reply (complete.number_used k old) e = absurd cc
+of_issuers n J own x reply (complete.own_full k more) e = absurd cc
+of_issuers n J own x reply (complete.commons_full is s more) e = absurd cc
+of_issuers n J own x reply (complete.nowhere_held digest is none) e = absurd cc
+of_issuers n J own x reply (complete.issuers_full is s other most) e = cause.issuers_full is s other most
 
 module _ (n : Node) (J : Journals) (legal : AreLegal n J) (x : Seeking) (plan : Plan) (planned : HasPlan n x.shard plan) where
   -- ---- there is no ruling
@@ -107,11 +118,16 @@ module _ (n : Node) (J : Journals) (legal : AreLegal n J) (x : Seeking) (plan : 
     ended refused told zero (through w lets) = subst (CausesEnd n J own x) (sym zero) (cause.done (all_stepped w) (all_did w.are_done.done) (λ digest is. some_let_go w (lets digest is)))
     ended refused told zero (not_held digest is w none) = cause.nowhere_held digest is (all_stepped w) (λ some. none (lets_go n J legal x plan planned asks ruling steps aside entries some))
     ended refused told zero (no_room {shard} {told = said} {reply} lacks f) =
-        let (held, told_is, reply_is) = room_told shard said reply lacks in
         let there = in_middle steps f.done [] (step_at shard f.place said) f.steps_are in
         let target = in_middle (targets_of n.plans x.request.op) (shards_of f.done) f.rest shard f.order in
-        let hindered = hindered_by_commons n J legal x plan planned asks ruling steps shard f.place held said told_is target there f.refused in
-        subst (λ (r : Reply). CausesEnd n J own x (status_of r)) reply_is (of_commons n J own x (replies.CommonsFull held shard) hindered refl)
+        elim (room_told shard said reply lacks) [
+          | inl (held, told_is, reply_is) ↦
+              let hindered = hindered_by_commons n J legal x plan planned asks ruling steps shard f.place held said told_is target there f.refused in
+              subst (λ (r : Reply). CausesEnd n J own x (status_of r)) reply_is (of_commons n J own x (replies.CommonsFull held shard) hindered refl)
+          | inr (held, told_is, reply_is) ↦
+              let hindered = hindered_by_issuers n J legal x plan planned asks ruling steps shard f.place held said told_is target there f.refused in
+              subst (λ (r : Reply). CausesEnd n J own x (status_of r)) reply_is (of_issuers n J own x (replies.WithdrawnFull held shard) hindered refl)
+        ]
     ended refused told zero (no_place {shard} {limit} f) =
         cause.no_place f.plan f.planned (in_middle (targets_of n.plans x.request.op) (shards_of steps) f.rest shard f.order) f.full (never_stepped shard limit f) (all_did f.are_done.done)
 

@@ -11,7 +11,7 @@ use Rattle.taos_monitor.specs.AtObject.{Seeking, Own, told_or, gives_for, IsGuar
 use Rattle.taos_monitor.specs.Cells.{Node, Journals}
 use Rattle.taos_monitor.specs.Effects.{ShardStep, IsPerformed, through, not_held, no_room, no_place}
 use Rattle.taos_monitor.specs.Operations.{effect_of}
-use Rattle.taos_monitor.specs.Credentials.{LinkAnswer, Resealed, Refused, Lacked, Failed, LinkCall, IsRefused, refused, bad_reseal, CountsAs, FailedAs}
+use Rattle.taos_monitor.specs.Credentials.{LinkAnswer, Resealed, Refused, Lacked, Failed, LinkCall, IsRefused, refused, bad_reseal, CountsAs}
 use Rattle.taos_monitor.specs.Credentials as cert
 use Rattle.taos_monitor.specs.Course.{malformed, unknown_channel, bad_seal, cert_refused, relay_failed, unknown_object, ruled, unread, unopened}
 use Rattle.taos_monitor.specs.Laws.{CodesAreKnown, FaultsAreCounted, failed_in}

@@ -1,20 +1,20 @@
 -- Causes of two statuses do not stand together: the causes are exact.
-use Rattle.std.proofs.Common.{◌≡◌, ◌⊎◌, ℕ, ◌+◌, ◌<◌, ◌≤◌, List, [], ◌∷◌, length, slice_get, refl, sym, ap, subst, ◌∙◌, inl, inr, arith}
+use Rattle.std.proofs.Common.{◌≡◌, ◌⊎◌, ℕ, ◌+◌, ◌<◌, ◌≤◌, false, List, [], ◌∷◌, length, slice_get, refl, sym, ap, subst, ◌∙◌, inl, inr, arith}
 use Rattle.std.specs.Prelude.{◌==◌}
 use Rattle.std.proofs.lemmas.Bool.{cases_Bool, eqb-true, eq-eqb, false≢true}
 use Rattle.std.proofs.lemmas.Option.{none-some}
 use Rattle.denial_link.specs.declared.link.Link.{Link}
-use Rattle.object_core.specs.Operation.{Op, Hold, Discard}
+use Rattle.object_core.specs.Operation.{Op, Hold, Discard, Withdraw}
 use Rattle.taos_wire.specs.Request.{Request}
 use Rattle.taos_wire.specs.Reply.{status_of}
-use Rattle.agent_core.specs.declared.limits.TheConstants.{MAX_OWN, MAX_COMMONS}
+use Rattle.agent_core.specs.declared.limits.TheConstants.{MAX_OWN, MAX_COMMONS, MAX_WITHDRAWN}
 use Rattle.agent_core.specs.declared.told.Told.{Told}
-use Rattle.agent_core.specs.Held.{newly}
+use Rattle.agent_core.specs.Held.{is_withdrawn}
 use Rattle.agent_core.specs.Journals.{Entry, entry, state_after, cache_after, Granted, Denied, IsVerdict}
-use Rattle.agent_core.specs.State.{Plan, Ask, Holds, brought}
+use Rattle.agent_core.specs.State.{Plan, Ask, Holds, Withdraws, brought, new_commons}
 use Rattle.agent_core.proofs.Few.{one_verdict}
 use Rattle.taos_monitor.specs.AtObject.{Seeking}
-use Rattle.taos_monitor.specs.Causes.{TookStep, AllDid, CausesEnd, done, no_place, commons_full, nowhere_held, CausesRuling, object_full, shard_full, number_used, own_full, denied, granted, HasCauseOf, malformed, unknown_channel, bad_seal, cert_refused, relay_failed, unknown_object, ruled, CausesAreExact}
+use Rattle.taos_monitor.specs.Causes.{TookStep, AllDid, CausesEnd, done, no_place, commons_full, nowhere_held, issuers_full, CausesRuling, object_full, shard_full, number_used, own_full, denied, granted, HasCauseOf, malformed, unknown_channel, bad_seal, cert_refused, relay_failed, unknown_object, ruled, CausesAreExact}
 use Rattle.taos_monitor.specs.Cells.{Node, Journals, AreLegal, Place, in_shard}
 use Rattle.taos_monitor.specs.Completeness.{HasStepped, state_met, HasAsked, ask_in}
 use Rattle.taos_monitor.specs.Course.{Arrival, its_seeking, Used}
@@ -24,22 +24,36 @@ use Rattle.taos_monitor.specs.Operations.{effect_of}
 use Rattle.taos_monitor.proofs.Agreeing.{Comes, all_agree}
 use Rattle.taos_monitor.proofs.Caused.{caused}
 use Rattle.taos_monitor.proofs.Complete.{moved, same_sought}
-use Rattle.taos_monitor.proofs.Judging.{met, verdict_fits, held_fits}
+use Rattle.taos_monitor.proofs.Judging.{met, verdict_fits, held_fits, withdrawn_fits}
 
 two_ops : (digest : List ℕ) (op : Op) → op ≡ Hold → op ≡ Discard digest → ⊥
 two_ops digest op hold discard = let both : Hold ≡ Discard digest = sym hold ∙ discard in cc
+
+not_hold : (issuer : ℕ) (op : Op) → op ≡ Hold → op ≡ Withdraw issuer → ⊥
+not_hold issuer op hold withdraw = let both : Hold ≡ Withdraw issuer = sym hold ∙ withdraw in cc
+
+not_discard : (digest : List ℕ) (issuer : ℕ) (op : Op) → op ≡ Discard digest → op ≡ Withdraw issuer → ⊥
+not_discard digest issuer op discard withdraw = let both : Discard digest ≡ Withdraw issuer = sym discard ∙ withdraw in cc
 
 module _ (n : Node) (J : Journals) (legal : AreLegal n J) (own : List Place) (x : Seeking) where
   -- ---- what the shards did
 
   -- a Hold for which there is no room is not done
   refused : (shard : ℕ) (told : Told) → x.request.op ≡ Hold → (s : HasStepped n J own shard (Holds x.certs) told) →
-      MAX_COMMONS < length (state_met n J own s).commons + length (newly (state_met n J own s).commons x.certs) → AllDid n J own x → ⊥
+      MAX_COMMONS < length (state_met n J own s).commons + length (new_commons (state_met n J own s) x.certs) → AllDid n J own x → ⊥
   refused shard told hold s more did =
       let took : TookStep n J own x shard told = record { event = Holds x.certs; effect_is = ap (λ (op : Op). effect_of op x.certs x.reading) hold; step = s } in
       let tells = (legal.shards shard s.plan s.planned s.before (entry (Holds x.certs) told) s.stands.rest s.stands.is).tells in
       let met_state = state_after s.plan s.before in
-      held_fits (cache_after s.plan s.before) met_state x.certs (newly met_state.commons x.certs) (subst IsDone tells (did shard told took)) more
+      held_fits (cache_after s.plan s.before) met_state x.certs (new_commons met_state x.certs) (subst IsDone tells (did shard told took)) more
+
+  -- nor is a Withdraw for which there is none
+  withheld : (issuer shard : ℕ) (told : Told) → x.request.op ≡ Withdraw issuer → (s : HasStepped n J own shard (Withdraws issuer) told) →
+      is_withdrawn (state_met n J own s).withdrawn issuer ≡ false → MAX_WITHDRAWN ≤ length (state_met n J own s).withdrawn → AllDid n J own x → ⊥
+  withheld issuer shard told withdraw s other full did =
+      let took : TookStep n J own x shard told = record { event = Withdraws issuer; effect_is = ap (λ (op : Op). effect_of op x.certs x.reading) withdraw; step = s } in
+      let tells = (legal.shards shard s.plan s.planned s.before (entry (Withdraws issuer) told) s.stands.rest s.stands.is).tells in
+      withdrawn_fits s.plan (cache_after s.plan s.before) (state_after s.plan s.before) issuer (subst IsDone tells (did shard told took)) other full
 
   ends_agree : (s t : ℕ) → CausesEnd n J own x s → CausesEnd n J own x t → s ≡ t
   ends_agree s t (done a b c) (done d e f) = refl
@@ -58,6 +72,15 @@ module _ (n : Node) (J : Journals) (legal : AreLegal n J) (own : List Place) (x 
   ends_agree s t (nowhere_held digest is all nothing) (no_place {shard} plan planned target at none did) = absurd (none (all shard target).0 (all shard target).1)
   ends_agree s t (nowhere_held digest is all none) (commons_full hold step more) = absurd (two_ops digest x.request.op hold is)
   ends_agree s t (nowhere_held digest is all none) (nowhere_held other also every nothing) = refl
+  ends_agree s t (done all did c) (issuers_full {shard} {issuer} {told} is step other full) = absurd (withheld issuer shard told is step other full did)
+  ends_agree s t (no_place plan planned target at none did) (issuers_full {shard} {issuer} {told} is step other full) = absurd (withheld issuer shard told is step other full did)
+  ends_agree s t (commons_full hold step more) (issuers_full {shard} {issuer} {told} is also other full) = absurd (not_hold issuer x.request.op hold is)
+  ends_agree s t (nowhere_held digest discard all none) (issuers_full {shard} {issuer} {told} is step other full) = absurd (not_discard digest issuer x.request.op discard is)
+  ends_agree s t (issuers_full {shard} {issuer} {told} is step other full) (done all did c) = absurd (withheld issuer shard told is step other full did)
+  ends_agree s t (issuers_full {shard} {issuer} {told} is step other full) (no_place plan planned target at none did) = absurd (withheld issuer shard told is step other full did)
+  ends_agree s t (issuers_full {shard} {issuer} {told} is step other full) (commons_full hold also more) = absurd (not_hold issuer x.request.op hold is)
+  ends_agree s t (issuers_full {shard} {issuer} {told} is step other full) (nowhere_held digest discard all none) = absurd (not_discard digest issuer x.request.op discard is)
+  ends_agree s t (issuers_full is step other full) (issuers_full also again elsewhere held) = refl
 
   -- ---- what an Ask met
 

@@ -26,8 +26,12 @@ pub data OneEnd (key text : List ℕ) : List LinkCall → One → Type 0 where
   failed : IsIssued text → OneEnd key text (call text Failed ∷ []) Failing
 
 -- two certificates in the same bytes are one
-opens_once : (key text : List ℕ) (c d : Certificate) → Opens key text c → Opens key text d → c ≡ d
+pub opens_once : (key text : List ℕ) (c d : Certificate) → Opens key text c → Opens key text d → c ≡ d
 opens_once key text c d x y = (body_once c d (tag_of key (sealed_text 2 c)) (tag_of key (sealed_text 2 d)) x.numbers y.numbers (rests (body_and_tag key c) (body_and_tag key d) (sym x.text ∙ y.text))).0
+
+-- what is under the relay's seal for the node is not sent to the relay
+pub relayed_alone : (key text new : List ℕ) (c d : Certificate) → Opens key text c → IsResealed key text new d → ⊥
+relayed_alone key text new c d opens is = not_issued key text c opens (is_issued key text new d is)
 
 module _ (key text : List ℕ) where
   -- without the link

@@ -11,7 +11,7 @@ use Rattle.std.proofs.lemmas.Option.{none-some, same_Some, slice_get_within, sli
 use Rattle.std.proofs.lemmas.List.Elements.{All-filter, All-head, All-tail}
 use Rattle.std.proofs.lemmas.List.Kept.{AllPairs-cons}
 use Rattle.taos_calculus.proofs.Induction.{All-at}
-use Rattle.stmt_codec.specs.Certificates.{Certificate, is_live, live}
+use Rattle.stmt_codec.specs.Certificates.{is_live, live}
 use Rattle.denial_link.proofs.Members.{at-has, has-at, has-cases, has-cons, has-head, has-nil}
 use Rattle.proof_cache.specs.Cached.{Cached}
 use Rattle.proof_cache.specs.Cache.{has_lapsed, is_for}

@@ -1,24 +1,20 @@
 -- A request that came to its object came to its verdict, or was hindered.
-use Rattle.std.proofs.Common.{◌≡◌, ◌≢◌, ◌⊎◌, ℕ, zero, suc, ◌+◌, ◌<◌, Bool, List, [], ◌∷◌, ◌++◌, length, map, get_or, All, Contains, Option, Some, refl, sym, ap, subst, ◌∙◌, inl, inr, arith}
+use Rattle.std.proofs.Common.{◌≡◌, ◌⊎◌, ℕ, zero, suc, ◌+◌, ◌<◌, Bool, List, [], ◌∷◌, ◌++◌, length, map, get_or, Contains, Option, Some, refl, sym, ap, subst, ◌∙◌, inl, inr, arith}
 use Rattle.std.specs.List.{range_with_len}
 use Rattle.std.proofs.lemmas.List.{get_or-map, length-map}
-use Rattle.std.proofs.lemmas.List.Elements.{All-nil, All-cons, Contains-append_right, Contains-get_or}
+use Rattle.std.proofs.lemmas.List.Elements.{Contains-append_right, Contains-get_or}
 use Rattle.std.proofs.lemmas.List.FromFn.{get_or-range_with_len, length-range_with_len}
 use Rattle.std.proofs.lemmas.List.Sums.{get_or-le-sum_by}
 use Rattle.std.proofs.lemmas.Option.{same_Some, slice_get_within, slice_get-get_or}
-use Rattle.frame_link.specs.declared.outcome.Outcome.{Outcome}
-use Rattle.frame_link.specs.declared.outcome.Outcome.TheVariants as outcomes
-use Rattle.frame_link.specs.declared.outcome.Outcome.TheVariants.{End, Truncated, TooLong, ReadFault, WriteFault, ClockFault, Spent}
 use Rattle.object_core.specs.Objects.{ObjectEntry}
 use Rattle.object_core.specs.Operation.{Op, Discard}
 use Rattle.object_core.specs.Shelving.{ObjectFixed, fixed_at}
 use Rattle.proof_cache.specs.Cached.{Cached}
 use Rattle.stmt_codec.specs.Certificates.{Certificate}
-use Rattle.taos_calculus.proofs.Walks.{All-front, All-back}
-use Rattle.taos_wire.specs.Request.{Request, IsAsked}
+use Rattle.taos_wire.specs.Request.{Request}
 use Rattle.taos_wire.proofs.RequestLaws.{spelled_once}
 use Rattle.taos_wire.specs.Reply as replies
-use Rattle.taos_wire.specs.Reply.{Reply, LinkSent, Sent}
+use Rattle.taos_wire.specs.Reply.{Reply, LinkSent}
 use Rattle.agent_core.specs.declared.asked.Denial.{Denial}
 use Rattle.agent_core.specs.declared.asked.Settled.{Settled}
 use Rattle.agent_core.specs.declared.told.Told.{Told}
@@ -29,23 +25,16 @@ use Rattle.agent_core.proofs.Few.{one_verdict}
 use Rattle.agent_core.proofs.Onward.{granted_verdict, hit_verdict, denied_verdict}
 use Rattle.taos_monitor.specs.Asking.{shard_full, IsUnruled, full, replayed, channel_full, untold, unanswered}
 use Rattle.taos_monitor.specs.AtObject.{Seeking, Own, own_at, places_at, told_or, asks_for, gives_for, IsGuardedAfter, object_is_full, no_ruling, denied, granted}
-use Rattle.taos_monitor.specs.Cells.{Node, home, HasPlan, Journals, no_entries, AreLegal, Place, in_shard, in_object}
+use Rattle.taos_monitor.specs.Cells.{Node, home, HasPlan, Journals, AreLegal, Place, in_shard, in_object}
 use Rattle.taos_monitor.specs.Completeness as complete
-use Rattle.taos_monitor.specs.Completeness.{HasStepped, HasAsked, IsHindered, IsItsVerdict, ArrivalsAreJudged, VerdictsAreExact, StoodStill, NoneFailed, NothingFailed, IsWhole, IsWholeTurn, AnswersWhole, HandlesWhole, AnswersPayload, AnswersRequest, AnswersAreWhole}
-use Rattle.taos_monitor.specs.Course.{Arrival, its_seeking, Used, CourseAfter, malformed, unknown_channel, bad_seal, cert_refused, relay_failed, unknown_object, ruled, unread, unopened}
-use Rattle.taos_monitor.specs.Credentials.{LinkAnswer, Resealed, Refused, Lacked, Failed, LinkCall, AreOpened, FailedAs}
-use Rattle.taos_monitor.specs.Handling.{HasCourse, Answers, Handles, HandlesCause}
-use Rattle.taos_monitor.specs.Laws.{failed_in, failures}
-use Rattle.taos_monitor.specs.Run.{Turn, calls_of, AreTurns, Answered}
-use Rattle.taos_monitor.specs.World.{Setting, World, clock_faults}
-use Rattle.taos_monitor.specs.declared.handling.Handled.{Handled}
-use Rattle.taos_monitor.specs.declared.handling.Handled.TheVariants as handled
+use Rattle.taos_monitor.specs.Completeness.{HasStepped, HasAsked, IsHindered, IsItsVerdict, ArrivalsAreJudged, VerdictsAreExact}
+use Rattle.taos_monitor.specs.Course.{Arrival, its_seeking, malformed, unknown_channel, bad_seal, cert_refused, relay_failed, unknown_object, ruled, unread, unopened}
+use Rattle.taos_monitor.specs.Credentials.{LinkCall, AreOpened}
 use Rattle.taos_monitor.specs.Effects.{ShardStep, step_at, its_place, shards_of, IsStep, WentThrough, LetsGo, removed_by, IsPerformed, through, not_held, no_room, no_place, lacks_room}
 use Rattle.taos_monitor.specs.Operations.{effect_of, targets_of}
-use Rattle.taos_monitor.proofs.Causes.{faults_are_counted}
 use Rattle.taos_monitor.proofs.CertWalks.{Opened, certs_agree, all_opened}
 use Rattle.taos_monitor.proofs.Excluding.{arrival_excludes}
-use Rattle.taos_monitor.proofs.Hindering.{used_number, too_many, commons_were_full}
+use Rattle.taos_monitor.proofs.Hindering.{used_number, too_many, commons_were_full, issuers_were_full}
 use Rattle.taos_monitor.proofs.Walks.{targets_there}
 
 -- ---- places
@@ -69,9 +58,11 @@ none_let_go (suc k) never = absurd (never (omega arith))
 pub front_of_stands : {E : Type 0} {journal before : List E} {at : ℕ} {e : E} → Stands journal at before e → Begins before journal
 front_of_stands {e = e} s = record { rest = e ∷ s.rest; is = s.is }
 
--- what is told for want of room is that the commons are full
-pub room_told : (shard : ℕ) (told : Told) (reply : Reply) → lacks_room shard told ≡ Some reply → (held : ℕ) × (told ≡ Told.CommonsFull held) × (replies.CommonsFull held shard ≡ reply)
-room_told shard (Told.CommonsFull held) reply is = (held, refl, same_Some (replies.CommonsFull held shard) reply is)
+-- what is told for want of room is that the commons are full, or that no more issuers fit
+pub room_told : (shard : ℕ) (told : Told) (reply : Reply) → lacks_room shard told ≡ Some reply →
+    ((held : ℕ) × (told ≡ Told.CommonsFull held) × (replies.CommonsFull held shard ≡ reply)) ⊎ ((held : ℕ) × (told ≡ Told.WithdrawnFull held) × (replies.WithdrawnFull held shard ≡ reply))
+room_told shard (Told.CommonsFull held) reply is = inl (held, refl, same_Some (replies.CommonsFull held shard) reply is)
+room_told shard (Told.WithdrawnFull held) reply is = inr (held, refl, same_Some (replies.WithdrawnFull held shard) reply is)
 room_told shard _ reply is = absurd cc
 
 module _ (n : Node) (J : Journals) (legal : AreLegal n J) (x : Seeking) (plan : Plan) (planned : HasPlan n x.shard plan) where
@@ -181,6 +172,16 @@ module _ (n : Node) (J : Journals) (legal : AreLegal n J) (x : Seeking) (plan : 
         let s = stepped own shard p at place (owned_step (step_at shard place told) there) d.before _ told stands in
         subst (λ (h : ℕ). IsHindered n J own x (replies.CommonsFull h shard)) f.held_is (complete.commons_full f.op_is s f.more)
 
+    pub hindered_by_issuers : (shard place held : ℕ) (told : Told) → told ≡ Told.WithdrawnFull held → Contains (targets_of n.plans x.request.op) shard → Contains steps (step_at shard place told) → IsStep J.shards effect (step_at shard place told) → IsHindered n J own x (replies.WithdrawnFull held shard)
+    hindered_by_issuers shard place held told told_is target there d =
+        let p = get_or n.plans shard plan in
+        let at = has_plan shard (target_there shard target) in
+        let tells = (may shard p at place d.before (entry d.event told) d.stands).tells in
+        let f = issuers_were_full p d.before x.certs x.reading held d.event (sym told_is ∙ tells) x.request.op d.effect_is in
+        let stands = subst (λ (e : Event). Stands (J.shards shard) place d.before (entry e told)) f.event_is d.stands in
+        let s = stepped own shard p at place (owned_step (step_at shard place told) there) d.before _ told stands in
+        subst (λ (h : ℕ). IsHindered n J own x (replies.WithdrawnFull h shard)) f.held_is (complete.issuers_full f.op_is s f.other f.full)
+
     -- a step of a Discard that let go of none
     let_go_of_none : (digest : List ℕ) (d : ShardStep) → effect ≡ Some (Discards digest) → d.shard < length n.plans → Contains steps d → IsStep J.shards effect d → removed_by d.told ≡ 0 → HasStepped n J own d.shard (Discards digest) (Told.Removed 0)
     let_go_of_none digest d is lt there s none =
@@ -212,9 +213,12 @@ module _ (n : Node) (J : Journals) (legal : AreLegal n J) (x : Seeking) (plan : 
     performed_ends refused told (through w lets) v = inl v
     performed_ends refused told (not_held digest op_is w none) v = inr (complete.nowhere_held digest op_is (nowhere digest op_is w none))
     performed_ends refused told (no_room {shard} {told = said} {reply} lacks f) v =
-        let (held, told_is, reply_is) = room_told shard said reply lacks in
         let there = in_middle steps f.done [] (step_at shard f.place said) f.steps_are in
-        inr (subst (IsHindered n J own x) reply_is (hindered_by_commons shard f.place held said told_is (in_middle (targets_of n.plans x.request.op) (shards_of f.done) f.rest shard f.order) there f.refused))
+        let target = in_middle (targets_of n.plans x.request.op) (shards_of f.done) f.rest shard f.order in
+        elim (room_told shard said reply lacks) [
+          | inl (held, told_is, reply_is) ↦ inr (subst (IsHindered n J own x) reply_is (hindered_by_commons shard f.place held said told_is target there f.refused))
+          | inr (held, told_is, reply_is) ↦ inr (subst (IsHindered n J own x) reply_is (hindered_by_issuers shard f.place held said told_is target there f.refused))
+        ]
     performed_ends refused told (no_place {shard} {limit} f) v =
         inr (subst (λ (l : ℕ). IsHindered n J own x (shard_full shard l)) (sym f.limit_is)
         (complete.shard_is_full f.plan f.planned (behind x.shard shard (targets_of n.plans x.request.op) (in_middle (targets_of n.plans x.request.op) (shards_of steps) f.rest shard f.order)) f.full))
@@ -303,97 +307,3 @@ verdicts_are_exact n J own x reply (complete.granted {kept} {at} {proof} {cites}
     (λ is. refl, λ why is. absurd (one_verdict k.step.plan k.step.before (asks_for x k.entries) why v (moved_verdict n J own x l k (Denied why) is)))
 verdicts_are_exact n J own x reply (complete.denied {link} why k v) l =
     (λ is. absurd (one_verdict k.step.plan k.step.before (asks_for x k.entries) why (moved_verdict n J own x l k Granted is) v), λ other is. refl)
-
--- ---- where nothing failed
-
-no_failure : (answer : LinkAnswer) → failed_in answer ≡ 0 → answer ≢ Failed
-no_failure (Resealed new) none e = cc
-no_failure (Refused code) none e = cc
-no_failure Lacked none e = cc
-no_failure Failed none e = cc
-
-none_failed : (calls : List LinkCall) → failures calls ≡ 0 → NoneFailed calls
-none_failed [] none = All-nil (λ (c : LinkCall). c.answer ≢ Failed)
-none_failed (c ∷ calls) none = All-cons (λ (d : LinkCall). d.answer ≢ Failed) c calls (no_failure c.answer (omega (arith, none))) (none_failed calls (omega (arith, none)))
-
-steady_calls : (before after : ℕ) (calls : List LinkCall) → StoodStill before after → FailedAs before after calls → NoneFailed calls
-steady_calls before after calls (same, below) f = let counted = faults_are_counted before after calls f (omega (arith, same, below)) in none_failed calls (omega (arith, counted, same))
-
--- a course in which no call failed
-whole_course : (n : Node) (past J : Journals) (payload : List ℕ) (used : Used) (sent : Sent) → AreLegal n J → NoneFailed used.calls → CourseAfter n past J payload used sent → IsWhole n past J payload used sent
-whole_course n past J payload used sent legal none course = record {
-  course = course;
-  answered = none;
-  judged = λ t same. arrivals_are_judged n past J payload used sent legal course t same;
-}
-
-module _ (s : Setting) (before after : World) where
-  abbrev Whole : List ℕ → Used → Sent → Type 0
-  Whole payload = IsWhole s.node before.seen.journals after.seen.journals payload
-
-  -- a course taken to a reply is one of which more holds
-  course_with : (P Q : Used → Sent → Type 0) (bytes : List ℕ) → StoodStill before.outside.link.faults after.outside.link.faults →
-      ((used : Used) (sent : Sent) → AreLegal s.node after.seen.journals → NoneFailed used.calls → P used sent → Q used sent) → HasCourse s before after P bytes → HasCourse s before after Q bytes
-  course_with P Q bytes still more c = record {
-    used = c.used;
-    sent = c.sent;
-    goes_on = c.goes_on;
-    legal = c.legal;
-    course = more c.used c.sent c.legal (steady_calls before.outside.link.faults after.outside.link.faults c.used.calls still c.linked.failed) c.course;
-    tells_full = c.tells_full;
-    gave = c.gave;
-    linked = c.linked;
-    spelled = c.spelled;
-    short = c.short;
-  }
-
-  whole : (payload : List ℕ) (used : Used) (sent : Sent) → AreLegal s.node after.seen.journals → NoneFailed used.calls → CourseAfter s.node before.seen.journals after.seen.journals payload used sent → Whole payload used sent
-  whole = whole_course s.node before.seen.journals after.seen.journals
-
-  module _ (nothing : NothingFailed before.outside after.outside) where
-    no_clock_fault : HandlesCause (clock_faults before) (clock_faults after) handled.ClockFault → ⊥
-    no_clock_fault (le, rose) = omega (arith, nothing.1.0, nothing.1.1, rose)
-
-    answers_whole : (h : Handled) (bytes payload : List ℕ) → HandlesCause (clock_faults before) (clock_faults after) h → Answers s before after payload bytes h → AnswersWhole s before after payload bytes h
-    answers_whole handled.Replied bytes payload cause a = (refl, course_with _ (Whole payload) bytes nothing.0 (λ used sent legal none c. whole payload used sent legal none c) a)
-    answers_whole handled.ClockFault bytes payload cause a = absurd (no_clock_fault cause)
-
-    handles_whole : (h : Handled) (bytes : List ℕ) (r : Request) → HandlesCause (clock_faults before) (clock_faults after) h → Handles s before after r bytes h → HandlesWhole s before after r bytes h
-    handles_whole handled.Replied bytes r cause a =
-        (refl, course_with _ (λ used sent. (payload key : List ℕ) → IsAsked s.node.channels payload r key → Whole payload used sent) bytes nothing.0 (λ used sent legal none c payload key asked. whole payload used sent legal none (c payload key asked)) a)
-    handles_whole handled.ClockFault bytes r cause a = absurd (no_clock_fault cause)
-
-  pub answers_payload : (h : Handled) (bytes payload : List ℕ) → Answers s before after payload bytes h → HandlesCause (clock_faults before) (clock_faults after) h → AnswersPayload s before after payload bytes h
-  answers_payload h bytes payload a cause = record { answers = a; cause = cause; whole = λ nothing. answers_whole nothing h bytes payload cause a }
-
-  pub answers_request : (h : Handled) (bytes : List ℕ) (r : Request) → Handles s before after r bytes h → HandlesCause (clock_faults before) (clock_faults after) h → AnswersRequest s before after r bytes h
-  answers_request h bytes r a cause = record { handles = a; cause = cause; whole = λ nothing. handles_whole nothing h bytes r cause a }
-
-pub answers_are_whole : AnswersAreWhole
-answers_are_whole s before after h bytes cause = (λ payload a. answers_payload s before after h bytes payload a cause, λ r a. answers_request s before after h bytes r a cause)
-
--- ---- the turns of a connection
-
--- none of the calls of turns failed
-none_in_turns : (turns : List Turn) → NoneFailed (calls_of turns) → All (λ (t : Turn). NoneFailed t.used.calls) turns
-none_in_turns [] none = All-nil (λ (t : Turn). NoneFailed t.used.calls)
-none_in_turns (t ∷ turns) none =
-    All-cons (λ (u : Turn). NoneFailed u.used.calls) t turns (All-front (λ (c : LinkCall). c.answer ≢ Failed) t.used.calls (calls_of turns) none)
-    (none_in_turns turns (All-back (λ (c : LinkCall). c.answer ≢ Failed) t.used.calls (calls_of turns) none))
-
--- what the link was asked for turns is all that it was asked, but for the frame at which the clock failed
-none_by_turns : (n : Node) (outcome : Outcome) (turns : List Turn) (frames : List (List ℕ)) (calls : List LinkCall) → AreTurns n outcome turns frames calls → NoneFailed calls → NoneFailed (calls_of turns)
-none_by_turns n (End count) turns frames calls are none = subst NoneFailed are.1 none
-none_by_turns n (Truncated have) turns frames calls are none = subst NoneFailed are.1 none
-none_by_turns n (TooLong long) turns frames calls are none = subst NoneFailed are.1 none
-none_by_turns n ReadFault turns frames calls are none = subst NoneFailed are.1 none
-none_by_turns n WriteFault turns frames calls are none = subst NoneFailed are.1 none
-none_by_turns n ClockFault turns frames calls are none = All-front (λ (c : LinkCall). c.answer ≢ Failed) (calls_of turns) are.1.calls (subst NoneFailed are.3 none)
-none_by_turns n (Spent count) turns frames calls are none = subst NoneFailed are.1 none
-none_by_turns n outcomes.NoMemory turns frames calls are none = subst NoneFailed are.1 none
-
-pub turns_are_whole : (n : Node) (J : Journals) (used : Used) (frames replies : List (List ℕ)) (outcome : Outcome) (before after : ℕ) → AreLegal n J → (a : Answered n J used frames replies outcome) → FailedAs before after used.calls → StoodStill before after →
-    All (IsWholeTurn n J) a.turns
-turns_are_whole n J used frames replies outcome before after legal a failed still =
-    let none = none_in_turns a.turns (none_by_turns n outcome a.turns frames used.calls a.in_order (steady_calls before after used.calls still failed)) in
-    λ k d lt. let t = get_or a.turns k d in whole_course n no_entries J t.frame t.used t.sent legal (none k d lt) (a.courses k d lt)

@@ -1,6 +1,6 @@
 -- A connection that was served, told by the journals at its end.
 use Rattle.std.proofs.Common.{◌≡◌, ℕ, List, [], ◌∷◌, ◌++◌, refl, sym, ap, subst, inr, ◌∙◌, append-nil, append_assoc}
-use Rattle.std.specs.Prelude.{Bool}
+use Rattle.std.specs.Prelude.{Bool, true, false, is_some, get_or, All}
 use Rattle.frame_link.specs.declared.outcome.Outcome.{Outcome}
 use Rattle.frame_link.specs.declared.outcome.Outcome.TheVariants.{End, Truncated, TooLong, ReadFault, WriteFault, ClockFault, Spent, NoMemory}
 use Rattle.frame_link.specs.Served as link
@@ -8,21 +8,28 @@ use Rattle.frame_link.specs.Served.{Line, line, Chain, IsServed, HasCauses, IsCo
 use Rattle.frame_link.proofs.Ends.{unserved}
 use Rattle.frame_link.proofs.States.{served_as, held_at_end}
 use Rattle.taos_wire.specs.Reply.{spelling}
-use Rattle.std.proofs.lemmas.List.{map_push}
+use Rattle.std.proofs.lemmas.List.{append_cancel_left, map_push}
+use Rattle.std.proofs.lemmas.List.Concat.{flat_map-cons}
+use Rattle.std.proofs.lemmas.List.Elements.{All-head, All-tail}
+use Rattle.cred_pull.specs.Fetching.{Pull}
 use Rattle.agent_core.specs.State.{Plan}
 use Rattle.taos_monitor.specs.declared.node_keys.NodeKeys.{NodeKeys}
 use Rattle.taos_monitor.specs.Arriving.{node_of}
 use Rattle.object_core.specs.Shelving.{ObjectFixed}
 use Rattle.taos_monitor.specs.Cells.{AreLegal, alone_of}
-use Rattle.taos_monitor.specs.World.{Setting, World, setting_of, clock_faults}
-use Rattle.taos_monitor.specs.Credentials.{LinkCall}
-use Rattle.taos_monitor.specs.Course.{uses}
+use Rattle.taos_monitor.specs.World.{Setting, State, World, setting_of, clock_faults}
+use Rattle.taos_monitor.specs.Course.{Used, fetching}
+use Rattle.taos_monitor.specs.Handling.{AreFetched, PullsFor}
 use Rattle.taos_monitor.specs.Connection.{AnswersFrame, GivesUpFrame, IsConnection, Connects}
-use Rattle.taos_monitor.specs.Serving.{State, StepsTo, StopsIn, four}
-use Rattle.taos_monitor.specs.Run.{Turn, frames_of, readings_of, calls_of, places_of, replies_of, AreTurns}
-use Rattle.taos_monitor.proofs.Complete.{turns_are_whole}
+use Rattle.taos_monitor.specs.Serving.{StepsTo, StopsIn}
+use Rattle.taos_monitor.specs.Run.{Turn, frames_of, readings_of, pulls_of, calls_of, places_of, replies_of, AreTurns}
+use Rattle.taos_monitor.proofs.Whole.{turns_are_whole}
 use Rattle.taos_monitor.proofs.Presenting.{linked_both}
-use Rattle.taos_monitor.proofs.Steps.{gave_on, Made, none_made, turn_of, one_more}
+use Rattle.taos_monitor.proofs.Steps.{gave_on, pulls_on, Made, none_made, turn_of, one_more}
+
+-- what turns used together
+abbrev used_by : List Turn → Used
+used_by turns = fetching (pulls_of turns) (readings_of turns) (calls_of turns) (places_of turns)
 
 module _ (s : Setting) where
   -- these frames had courses, and these replies
@@ -67,11 +74,11 @@ module _ (s : Setting) where
 
   module _ (limit : ℕ) (before after : Line World) (legal : AreLegal s.node before.service.seen.journals) where
     -- each frame was answered
-    answered_all : (outcome : Outcome) (served : IsServed (AnswersFrame s) (GivesUpFrame s) limit before after outcome) (told : Told before.service after.service (link.payloads_of served.turns) (link.replies_of served.turns)) →
-        AreTurns s.node outcome told.turns served.payloads (calls_of told.turns) → IsConnection s limit before after outcome
-    answered_all outcome served told in_order = record {
+    answered_all : (outcome : Outcome) → (outcome ≡ ClockFault → ⊥) → (served : IsServed (AnswersFrame s) (GivesUpFrame s) limit before after outcome) (told : Told before.service after.service (link.payloads_of served.turns) (link.replies_of served.turns)) →
+        AreTurns s.node outcome told.turns served.payloads (used_by told.turns) → IsConnection s limit before after outcome
+    answered_all outcome not_clock served told in_order = record {
       served = served;
-      used = uses (readings_of told.turns) (calls_of told.turns) (places_of told.turns);
+      used = used_by told.turns;
       goes_on = told.made.goes_on;
       legal = told.made.legal;
       answered = record {
@@ -86,6 +93,9 @@ module _ (s : Setting) where
       };
       gave = told.made.gave;
       linked = told.made.linked;
+      fetched = told.made.fetched;
+      asked = told.made.asked;
+      last_asked = λ faulty. absurd (not_clock faulty);
     }
 
     -- the clock failed at the last frame
@@ -96,7 +106,7 @@ module _ (s : Setting) where
         let told = told_all before.service a.middle served.turns legal a.chain in
         record {
           served = served;
-          used = uses (readings_of told.turns ++ []) (calls_of told.turns ++ u.calls) (places_of told.turns);
+          used = fetching (pulls_of told.turns ++ u.pulls) (readings_of told.turns ++ []) (calls_of told.turns ++ u.calls) (places_of told.turns);
           goes_on = rw u.unchanged told.made.goes_on;
           legal = rw u.unchanged told.made.legal;
           answered = record {
@@ -104,9 +114,12 @@ module _ (s : Setting) where
             courses = rw u.unchanged told.made.courses;
             in_order = (
               a.last,
-              u.come.0,
+              u.pulls,
+              u.calls,
+              u.come,
               a.all ∙ ap (λ (l : List (List ℕ)). l ++ a.last ∷ []) (sym told.frames_are),
-              ap (λ (l : List LinkCall). calls_of told.turns ++ l) (sym u.come.1),
+              refl,
+              refl,
             );
             read = append-nil (readings_of told.turns);
             owned = refl;
@@ -116,23 +129,26 @@ module _ (s : Setting) where
           };
           gave = gave_on before.service.outside.clock.told a.middle.outside.clock.told after.service.outside.clock.told (readings_of told.turns) [] told.made.gave u.keeps;
           linked = linked_both s.node.number before.service.outside.link a.middle.outside.link after.service.outside.link (calls_of told.turns) u.calls told.made.linked u.linked;
+          fetched = pulls_on before.service.fetch a.middle.fetch after.service.fetch (pulls_of told.turns) u.pulls told.made.fetched u.fetched;
+          asked = told.made.asked;
+          last_asked = λ faulty last is. subst (λ (b : Bool). PullsFor b true last) told.made.fetched.0 (subst (PullsFor a.middle.fetch.pulls true) (append_cancel_left (pulls_of told.turns) u.pulls last is) u.asked);
         }
 
-    whole : (outcome : Outcome) (served : IsServed (AnswersFrame s) (GivesUpFrame s) limit before after outcome) → (a : (served.payloads ≡ link.payloads_of served.turns) × Chain (AnswersFrame s) before.service served.turns after.service) →
-        ((turns : List Turn) → served.payloads ≡ frames_of turns → AreTurns s.node outcome turns served.payloads (calls_of turns)) → IsConnection s limit before after outcome
-    whole outcome served a in_order =
+    whole : (outcome : Outcome) → (outcome ≡ ClockFault → ⊥) → (served : IsServed (AnswersFrame s) (GivesUpFrame s) limit before after outcome) → (a : (served.payloads ≡ link.payloads_of served.turns) × Chain (AnswersFrame s) before.service served.turns after.service) →
+        ((turns : List Turn) → served.payloads ≡ frames_of turns → AreTurns s.node outcome turns served.payloads (used_by turns)) → IsConnection s limit before after outcome
+    whole outcome not_clock served a in_order =
         let told = told_all before.service after.service served.turns legal a.1 in
-        answered_all outcome served told (in_order told.turns (a.0 ∙ sym told.frames_are))
+        answered_all outcome not_clock served told (in_order told.turns (a.0 ∙ sym told.frames_are))
 
     pub connection_of : (outcome : Outcome) → IsServed (AnswersFrame s) (GivesUpFrame s) limit before after outcome → IsConnection s limit before after outcome
-    connection_of (End n) served = whole (End n) served served.answered (λ turns are. (are, refl))
-    connection_of (Truncated have) served = whole (Truncated have) served served.answered (λ turns are. (are, refl))
-    connection_of (TooLong n) served = whole (TooLong n) served served.answered (λ turns are. (are, refl))
-    connection_of ReadFault served = whole ReadFault served served.answered (λ turns are. (are, refl))
-    connection_of WriteFault served = whole WriteFault served served.answered (λ turns are. (are, refl))
+    connection_of (End n) served = whole (End n) (λ e. cc) served served.answered (λ turns are. (are, refl, refl))
+    connection_of (Truncated have) served = whole (Truncated have) (λ e. cc) served served.answered (λ turns are. (are, refl, refl))
+    connection_of (TooLong n) served = whole (TooLong n) (λ e. cc) served served.answered (λ turns are. (are, refl, refl))
+    connection_of ReadFault served = whole ReadFault (λ e. cc) served served.answered (λ turns are. (are, refl, refl))
+    connection_of WriteFault served = whole WriteFault (λ e. cc) served served.answered (λ turns are. (are, refl, refl))
     connection_of ClockFault served = unclocked served
-    connection_of (Spent n) served = whole (Spent n) served served.answered (λ turns are. (are, refl))
-    connection_of NoMemory served = whole NoMemory served served.answered (λ turns are. (are, refl))
+    connection_of (Spent n) served = whole (Spent n) (λ e. cc) served served.answered (λ turns are. (are, refl, refl))
+    connection_of NoMemory served = whole NoMemory (λ e. cc) served served.answered (λ turns are. (are, refl, refl))
 
   -- memory was refused before the first frame
   pub none_served : (limit : ℕ) (l : Line World) → AreLegal s.node l.service.seen.journals → IsConnection s limit l l NoMemory
@@ -144,8 +160,9 @@ module _ (s : Setting) where
     connection = is;
     causes = causes;
     complete = complete;
-    whole = λ still.
-        turns_are_whole s.node after.service.seen.journals is.used is.served.payloads (link.replies_of is.served.turns) outcome before.service.outside.link.faults after.service.outside.link.faults is.legal is.answered is.linked.failed still;
+    whole = λ still unfailed.
+        turns_are_whole s.node after.service.seen.journals is.used is.served.payloads (link.replies_of is.served.turns) outcome before.service.outside.link.faults after.service.outside.link.faults before.service.fetch.seen after.service.fetch.seen
+        is.legal is.answered is.linked.failed is.fetched.1 still unfailed;
   }
 
   pub none_connects : (limit : ℕ) (l : Line World) → AreLegal s.node l.service.seen.journals → Connects s limit l l NoMemory
@@ -182,9 +199,35 @@ module _ {S : Type 0} (state : S → State) (setting : Setting) where
     held_at_end Steps Stops Holds (λ s payload reply t h a. a.0 ∙ h) (λ s payload t h a. a.0 ∙ h) limit before after outcome holds served,
   )
 
--- what a service borrows, name by name
-pub four_names : (a b c d p q r s : ℕ) → four a b c d ≡ four p q r s → (a ≡ p) × (b ≡ q) × (c ≡ r) × (d ≡ s)
-four_names a b c d p q r s e = (cc, cc, cc, cc)
+-- ---- where nothing is fetched
+
+-- turns for which nothing was fetched
+none_in : (turns : List Turn) → All (λ (t : Turn). t.used.pulls ≡ []) turns → pulls_of turns ≡ []
+none_in [] none = refl
+none_in (t ∷ turns) none =
+    flat_map-cons (λ (u : Turn). u.used.pulls) t turns ∙ ap (λ (l : List Pull). l ++ pulls_of turns) (All-head (λ (u : Turn). u.used.pulls ≡ []) t turns none) ∙ none_in turns (All-tail (λ (u : Turn). u.used.pulls ≡ []) t turns none)
+
+module _ (s : Setting) (limit : ℕ) (before after : Line World) (outcome : Outcome) (x : IsConnection s limit before after outcome) (none : before.service.fetch.pulls ≡ false) where
+  none_before : pulls_of x.answered.turns ≡ []
+  none_before = none_in x.answered.turns (λ k d lt. let t = get_or x.answered.turns k d in subst (λ (b : Bool). PullsFor b (is_some t.sent.key) t.used.pulls) none (x.asked k d lt))
+
+  pub unpulled : x.used.pulls ≡ []
+  unpulled = by_turns outcome refl x.answered.in_order
+    where
+      by_turns : (o : Outcome) → outcome ≡ o → AreTurns s.node o x.answered.turns x.served.payloads x.used → x.used.pulls ≡ []
+      by_turns (End n) is are = are.1 ∙ none_before
+      by_turns (Truncated have) is are = are.1 ∙ none_before
+      by_turns (TooLong n) is are = are.1 ∙ none_before
+      by_turns ReadFault is are = are.1 ∙ none_before
+      by_turns WriteFault is are = are.1 ∙ none_before
+      by_turns ClockFault is (last, pulls, calls, come, frames, all, called) =
+          all ∙ ap (λ (l : List Pull). l ++ pulls) none_before ∙ subst (λ (b : Bool). PullsFor b true pulls) none (x.last_asked is pulls all)
+      by_turns (Spent n) is are = are.1 ∙ none_before
+      by_turns NoMemory is are = are.1 ∙ none_before
+
+  -- the fetch is as it was
+  pub unfetched : after.service.fetch.seen ≡ before.service.fetch.seen
+  unfetched = subst (AreFetched before.service.fetch.seen after.service.fetch.seen) unpulled x.fetched.1
 
 -- nothing that stays changed
 pub same_setting : (keys : NodeKeys) {objects0 objects1 : List ObjectFixed} {plans0 plans1 : List Plan} {alone0 alone1 lone0 lone1 : Bool} → objects1 ≡ objects0 → plans1 ≡ plans0 → alone1 ≡ alone0 → lone1 ≡ lone0 →

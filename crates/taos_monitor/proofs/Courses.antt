@@ -1,11 +1,11 @@
 -- The course of a request, from what was done for it.
-use Rattle.std.proofs.Common.{◌≡◌, ◌<◌, ◌^◌, ℕ, Bool, List, [], ◌∷◌, ◌++◌, length, map, Some, inl, refl, sym, subst, ◌∙◌}
+use Rattle.std.proofs.Common.{◌≡◌, ◌<◌, ◌^◌, ℕ, Bool, true, false, List, [], ◌∷◌, ◌++◌, length, map, Some, inl, refl, sym, subst, ◌∙◌}
 use Rattle.std.specs.Io.KnownBytes.{Keeps}
 use Rattle.std.proofs.KnownBytes.{Keeps-refl}
 use Rattle.std.proofs.lemmas.Option.{same_Some}
 use Rattle.keyed_seal.specs.Keys.{key_of}
 use Rattle.frame_link.specs.Readings.{ShowsKnown}
-use Rattle.frame_link.specs.Outside.{outside_of}
+use Rattle.frame_link.specs.Outside.{OutsideSeen, outside_of}
 use Rattle.frame_link.specs.Relay.{Link}
 use Rattle.frame_link.specs.Streams.{Stream}
 use Rattle.object_core.specs.Objects.{ObjectEntry}
@@ -16,6 +16,7 @@ use Rattle.taos_wire.specs.View.{cited as shared}
 use Rattle.agent_core.specs.State.{Plan}
 use Rattle.agent_core.specs.Plans.{home}
 use Rattle.agent_core.specs.Journals.{Entry}
+use Rattle.cred_pull.specs.Fetching.{FetchSeen, Pull}
 use Rattle.taos_monitor.specs.declared.arrival.Arrived.{Arrived}
 use Rattle.taos_monitor.specs.declared.handling.Handled.{Handled}
 use Rattle.taos_monitor.specs.declared.handling.Handled.TheVariants as handled
@@ -23,13 +24,13 @@ use Rattle.taos_monitor.specs.declared.node_keys.NodeKeys.{NodeKeys}
 use Rattle.taos_monitor.specs.declared.refusal.Refusal.{Refusal}
 use Rattle.taos_monitor.specs.Refusals.{refusal}
 use Rattle.taos_monitor.specs.Cells.{Node, Cell, Journals, Viewed, in_shard, seen_of, AreLegalIn}
-use Rattle.taos_monitor.specs.World.{Setting, World, setting_of, world_of}
+use Rattle.taos_monitor.specs.World.{FetchUse, Setting, World, fetch_use, setting_of, reaching, world_of}
 use Rattle.taos_monitor.specs.Credentials.{link_use}
 use Rattle.taos_monitor.specs.AtObject.{Seeking, places_at}
-use Rattle.taos_monitor.specs.Course.{Arrival, Used, uses, nothing, only_calls, CourseAfter, ruled}
+use Rattle.taos_monitor.specs.Course.{Arrival, Used, uses, nothing, only_calls, CourseAfter, ruled, plain, ComesToClock, as_sent}
 use Rattle.taos_monitor.specs.Arriving.{node_of, IsNotAsked, Arrives, NotArrives}
 use Rattle.taos_monitor.specs.Ruling.{Leaves, GuardedTo, standing_of}
-use Rattle.taos_monitor.specs.Handling.{HandledTo, StoppedAtClock, Handles, Answers}
+use Rattle.taos_monitor.specs.Handling.{AreFetched, PullsFor, HandledTo, StoppedAtClock, Handles, Answers}
 use Rattle.taos_monitor.proofs.Going.{stood}
 use Rattle.taos_monitor.proofs.Presenting.{none_called, quiet_linked}
 
@@ -51,18 +52,23 @@ module _ (keys : NodeKeys) (plans : List Plan) (objects : List ObjectFixed) (alo
       subst (λ (other : List ℕ). CourseAfter node past J payload used (sealed other r reply)) (same_Some k key (sym asked.keyed ∙ known)) (f payload k asked)
 
   pub refused_to : (clock : Stream) (f : Refusal) (bytes : List ℕ) → AreLegalIn plans objects (seen_of shards0 objects0).journals → NotArrives keys objects (link_use keys.node link0 link1) r f →
-      bytes ≡ spelling (sealed key r (refusal f)) → length bytes < 2 ^ 32 →
+      bytes ≡ spelling (sealed key r (refusal f)) → length bytes < 2 ^ 26 →
       HandledTo (setting_of node alone) (world_of (outside_of clock link0) shards0 objects0) (world_of (outside_of clock link1) shards0 objects0) r bytes
   refused_to clock f bytes legal stops spelled short = record {
     used = only_calls stops.calls;
     sent = sealed key r (refusal f);
     goes_on = stood alone (seen_of shards0 objects0);
     legal = legal;
-    course = under_key (seen_of shards0 objects0).journals (seen_of shards0 objects0).journals (only_calls stops.calls) (refusal f)
-        (λ payload k asked. stops.course plans (seen_of shards0 objects0).journals (seen_of shards0 objects0).journals payload k asked);
+    course = (
+      refl,
+      under_key (seen_of shards0 objects0).journals (seen_of shards0 objects0).journals (only_calls stops.calls) (refusal f)
+          (λ payload k asked. stops.course plans (seen_of shards0 objects0).journals (seen_of shards0 objects0).journals payload k asked),
+    );
     tells_full = λ shard plan at lacks none. inl refl;
     gave = Keeps-refl clock.told;
     linked = stops.linked;
+    fetched = (refl, refl);
+    asked = refl;
     spelled = spelled;
     short = short;
   }
@@ -73,9 +79,12 @@ module _ (keys : NodeKeys) (plans : List Plan) (objects : List ObjectFixed) (alo
 
     pub stopped_at_clock : (clock0 clock1 : Stream) → Keeps clock0.told clock1.told → StoppedAtClock (setting_of node alone) (world_of (outside_of clock0 link0) shards0 objects0) (world_of (outside_of clock1 link1) shards0 objects0) r
     stopped_at_clock clock0 clock1 keeps = record {
+      pulls = [];
       calls = came.calls;
       unchanged = refl;
-      come = (map shared a.certs.items, came.object, λ payload k asked. came.arrived plans payload k asked);
+      come = (refl, map shared a.certs.items, came.object, λ payload k asked. came.arrived plans payload k asked);
+      fetched = (refl, refl);
+      asked = refl;
       keeps = keeps;
       linked = came.linked;
     }
@@ -95,29 +104,41 @@ module _ (keys : NodeKeys) (plans : List Plan) (objects : List ObjectFixed) (alo
           sent = sealed key r left.reply;
           goes_on = x.goes_on;
           legal = x.legal;
-          course = under_key (seen_of shards0 objects0).journals (seen_of shards1 objects1).journals used left.reply (λ payload k asked. ruled (arrival payload k asked) reading x.plan x.planned x.guarded);
+          course = (
+            refl,
+            under_key (seen_of shards0 objects0).journals (seen_of shards1 objects1).journals used left.reply (λ payload k asked. ruled (arrival payload k asked) reading x.plan x.planned x.guarded),
+          );
           tells_full = λ shard plan at lacks none. x.tells_full shard plan at lacks (no_asks (in_shard (home plans r.channel)) x.own.asks _ _ none);
           gave = (clock1.told, shows, Keeps-refl clock1.told);
           linked = came.linked;
+          fetched = (refl, refl);
+          asked = refl;
           spelled = left.spelled;
           short = left.short;
         }
 
 -- ---- from the payload on
 
+-- nothing is fetched for what has no seal
+none_unsealed : (pulls : Bool) → PullsFor pulls false []
+none_unsealed true = refl
+none_unsealed false = refl
+
 -- no request under its seal
-pub unasked_to : (keys : NodeKeys) (plans : List Plan) (objects : List ObjectFixed) (alone : Cell → Bool) (relay : Link) (shards0 : Viewed Entry) (objects0 : Viewed ObjectEntry) (clock : Stream) (payload : List ℕ) (f : Refusal) (bytes : List ℕ) →
-    AreLegalIn plans objects (seen_of shards0 objects0).journals → IsNotAsked keys payload f → bytes ≡ spelling (unsealed (refusal f)) → length bytes < 2 ^ 32 →
-    Answers (setting_of (node_of keys plans objects) alone) (world_of (outside_of clock relay) shards0 objects0) (world_of (outside_of clock relay) shards0 objects0) payload bytes handled.Replied
-unasked_to keys plans objects alone relay shards0 objects0 clock payload f bytes legal stops spelled short = record {
+pub unasked_to : (keys : NodeKeys) (plans : List Plan) (objects : List ObjectFixed) (alone : Cell → Bool) (fetch : FetchUse) (relay : Link) (shards0 : Viewed Entry) (objects0 : Viewed ObjectEntry) (clock : Stream) (payload : List ℕ) (f : Refusal) (bytes : List ℕ) →
+    AreLegalIn plans objects (seen_of shards0 objects0).journals → IsNotAsked keys payload f → bytes ≡ spelling (unsealed (refusal f)) → length bytes < 2 ^ 26 →
+    Answers (setting_of (node_of keys plans objects) alone) (reaching (outside_of clock relay) fetch shards0 objects0) (reaching (outside_of clock relay) fetch shards0 objects0) payload bytes handled.Replied
+unasked_to keys plans objects alone fetch relay shards0 objects0 clock payload f bytes legal stops spelled short = record {
   used = nothing;
   sent = unsealed (refusal f);
   goes_on = stood alone (seen_of shards0 objects0);
   legal = legal;
-  course = stops plans objects (seen_of shards0 objects0).journals (seen_of shards0 objects0).journals;
+  course = plain (stops plans objects (seen_of shards0 objects0).journals (seen_of shards0 objects0).journals);
   tells_full = λ shard plan at lacks none. inl refl;
   gave = Keeps-refl clock.told;
   linked = quiet_linked keys.node relay relay [] (none_called keys.node relay);
+  fetched = (refl, refl);
+  asked = none_unsealed fetch.pulls;
   spelled = spelled;
   short = short;
 }
@@ -129,19 +150,53 @@ answers_as s w0 w1 r payload key bytes asked handled.Replied t = record {
   sent = t.sent;
   goes_on = t.goes_on;
   legal = t.legal;
-  course = t.course payload key asked;
+  course = plain (t.course.1 payload key asked);
   tells_full = t.tells_full;
   gave = t.gave;
   linked = t.linked;
+  fetched = t.fetched;
+  asked = t.asked;
   spelled = t.spelled;
   short = t.short;
 }
 answers_as s w0 w1 r payload key bytes asked handled.ClockFault stop =
-    let (certs, object, arrived) = stop.come in
+    let (none, certs, object, arrived) = stop.come in
     record {
+      pulls = stop.pulls;
       calls = stop.calls;
       unchanged = stop.unchanged;
-      come = (record { request = r; key = key; calls = stop.calls; certs = certs; object = object; arrived = arrived payload key asked }, refl);
+      come = subst (λ (fetches : List Pull). ComesToClock s.node payload fetches stop.calls) (sym none)
+          (as_sent (record { request = r; key = key; calls = stop.calls; certs = certs; object = object; arrived = arrived payload key asked }));
+      fetched = stop.fetched;
+      asked = stop.asked;
       keeps = stop.keeps;
       linked = stop.linked;
     }
+
+-- where nothing is fetched any fetch is as it was
+pub answers_plainly : (s : Setting) (f : FetchSeen) (o0 o1 : OutsideSeen) (s0 s1 : Viewed Entry) (h0 h1 : Viewed ObjectEntry) (payload bytes : List ℕ) (h : Handled) →
+    Answers s (world_of o0 s0 h0) (world_of o1 s1 h1) payload bytes h → Answers s (reaching o0 (fetch_use false f) s0 h0) (reaching o1 (fetch_use false f) s1 h1) payload bytes h
+answers_plainly s f o0 o1 s0 s1 h0 h1 payload bytes handled.Replied t = record {
+  used = t.used;
+  sent = t.sent;
+  goes_on = t.goes_on;
+  legal = t.legal;
+  course = t.course;
+  tells_full = t.tells_full;
+  gave = t.gave;
+  linked = t.linked;
+  fetched = (refl, subst (AreFetched f f) (sym t.asked) refl);
+  asked = t.asked;
+  spelled = t.spelled;
+  short = t.short;
+}
+answers_plainly s f o0 o1 s0 s1 h0 h1 payload bytes handled.ClockFault stop = record {
+  pulls = stop.pulls;
+  calls = stop.calls;
+  unchanged = stop.unchanged;
+  come = stop.come;
+  fetched = (refl, subst (AreFetched f f) (sym stop.asked) refl);
+  asked = stop.asked;
+  keeps = stop.keeps;
+  linked = stop.linked;
+}

@@ -15,5 +15,5 @@ module _ (channel seq : ℕ) (bytes : List ℕ) (Holds : Reply → Type 0) (left
     reply = left.reply;
     holds = left.holds;
     spelled = seals (reply_text channel seq left.reply) left.spelled;
-    short = subst (λ (n : ℕ). n < 2 ^ 32) (sym same) left.short;
+    short = subst (λ (n : ℕ). n < 2 ^ 26) (sym same) left.short;
   }

@@ -4,11 +4,11 @@ use Rattle.std.specs.List.{range_with_len}
 use Rattle.std.specs.Option.{option_map}
 use Rattle.object_core.specs.declared.operation.Op as code
 use Rattle.object_core.specs.declared.operation.Op.TheVariants as variant
-use Rattle.object_core.specs.Operation.{Op, Read, Write, SetList, Hold, Discard, Forget, Sweep}
+use Rattle.object_core.specs.Operation.{Op, Read, Write, SetList, Hold, Discard, Forget, Sweep, Withdraw}
 use Rattle.object_core.specs.View.{operation}
 use Rattle.stmt_codec.specs.Certificates.{Certificate}
 use Rattle.agent_core.specs.Answers.{FitsEvent}
-use Rattle.agent_core.specs.State.{Plan, Event, Holds, Discards, Forgets, Expires}
+use Rattle.agent_core.specs.State.{Plan, Event, Holds, Discards, Forgets, Expires, Withdraws}
 use Rattle.agent_core.specs.Views.{event_of}
 use Rattle.agent_core.specs.declared.event.Event.{Event as EventValue}
 use Rattle.taos_monitor.specs.declared.due.Due.{Due}
@@ -24,6 +24,7 @@ fits_effect Hold certs reading e is few = let same : Holds certs ≡ e = cc in s
 fits_effect (Discard digest) certs reading e is few = let same : Discards digest ≡ e = cc in subst (λ x. IsEffect x × FitsEvent x) same (tt, tt)
 fits_effect (Forget channel) certs reading e is few = let same : Forgets channel ≡ e = cc in subst (λ x. IsEffect x × FitsEvent x) same (tt, tt)
 fits_effect Sweep certs reading e is few = let same : Expires reading ≡ e = cc in subst (λ x. IsEffect x × FitsEvent x) same (tt, tt)
+fits_effect (Withdraw issuer) certs reading e is few = let same : Withdraws issuer ≡ e = cc in subst (λ x. IsEffect x × FitsEvent x) same (tt, tt)
 
 first_of : (events : List EventValue) (e : Event) → 0 < length events → All (λ (x : EventValue). event_of x ≡ e) events → option_map event_of (slice_get events 0) ≡ Some e
 first_of [] e some same = absurd (omega (arith, some))
@@ -57,3 +58,4 @@ all_targets plans variant.Hold certs reading e is other = refl
 all_targets plans (variant.Discard digest) certs reading e is other = refl
 all_targets plans (variant.Forget channel) certs reading e is other = absurd (other channel refl)
 all_targets plans variant.Sweep certs reading e is other = refl
+all_targets plans (variant.Withdraw issuer) certs reading e is other = refl

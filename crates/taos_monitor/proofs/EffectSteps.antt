@@ -1,5 +1,5 @@
 -- The steps of an effect: what one is told, and how they go on from shard to shard.
-use Rattle.std.proofs.Common.{◌≡◌, ◌≢◌, ℕ, zero, suc, ◌+◌, ◌<◌, Bool, false, nat_lt, List, [], ◌∷◌, ◌++◌, length, map, get_or, Option, Some, slice_get, refl, sym, ap, subst, subst₂, ◌∙◌, arith, inl, inr, append-nil, length-append}
+use Rattle.std.proofs.Common.{◌≡◌, ◌≢◌, ℕ, zero, suc, ◌+◌, ◌<◌, Bool, false, nat_le, nat_lt, List, [], ◌∷◌, ◌++◌, length, map, get_or, Option, Some, slice_get, refl, sym, ap, subst, subst₂, ◌∙◌, arith, inl, inr, append-nil, length-append}
 use Rattle.std.specs.Prelude.{All, IsTrue, ◌↔◌, ◌⊎◌}
 use Rattle.std.specs.List.{range_with_len, sum_by}
 use Rattle.std.proofs.lemmas.Bool.{cases_eq, cond_both}
@@ -12,9 +12,9 @@ use Rattle.std.proofs.lemmas.Option.{same_Some}
 use Rattle.stmt_codec.specs.Certificates.{Certificate}
 use Rattle.proof_cache.specs.Cached.{Cached}
 use Rattle.agent_core.specs.declared.told.Told.{Told}
-use Rattle.agent_core.specs.declared.limits.TheConstants.{MAX_COMMONS}
-use Rattle.agent_core.specs.Held.{newly}
-use Rattle.agent_core.specs.State.{Plan, State, Event, Asks, Keeps, Holds, Discards, Forgets, Expires, Answer, Plain, holding, next}
+use Rattle.agent_core.specs.declared.limits.TheConstants.{MAX_COMMONS, MAX_WITHDRAWN}
+use Rattle.agent_core.specs.Held.{is_withdrawn}
+use Rattle.agent_core.specs.State.{Plan, State, Event, Asks, Keeps, Holds, Discards, Forgets, Expires, Withdraws, Answer, Plain, holding, withdrawing, new_commons, next}
 use Rattle.agent_core.specs.Journals.{Entry, entry, Begins, Stands, state_after, cache_after, told_of, told_at, IsMeant, IsLegalJournal}
 use Rattle.agent_core.specs.Answers.{TakesMemory, SteppedTo}
 use Rattle.agent_core.specs.declared.told.Answer.{Answer as ValueOfAnswer}
@@ -46,6 +46,7 @@ abbrev pub IsToldOfEffect : Told → Type 0
 IsToldOfEffect (Told.Held added) = Unit {0}
 IsToldOfEffect (Told.CommonsFull held) = Unit {0}
 IsToldOfEffect (Told.Removed count) = Unit {0}
+IsToldOfEffect (Told.WithdrawnFull held) = Unit {0}
 IsToldOfEffect _ = ⊥
 
 plain_told : (a b : Told) → Plain a ≡ Plain b → a ≡ b
@@ -57,13 +58,22 @@ holding_tells s new told =
     (λ _ e. subst IsToldOfEffect (plain_told (Told.CommonsFull (length s.commons)) told e) tt)
     (λ _ e. subst IsToldOfEffect (plain_told (Told.Held (length new)) told e) tt)
 
+withdrawing_tells : (plan : Plan) (issuer : ℕ) (s : State) (told : Told) → (withdrawing plan issuer s).1 ≡ Plain told → IsToldOfEffect told
+withdrawing_tells plan issuer s told =
+    cond_both (is_withdrawn s.withdrawn issuer) _ _ (λ (r : State × Answer). r.1 ≡ Plain told → IsToldOfEffect told)
+    (λ _ e. subst IsToldOfEffect (plain_told _ told e) tt)
+    (λ _. cond_both (nat_le MAX_WITHDRAWN (length s.withdrawn)) _ _ (λ (r : State × Answer). r.1 ≡ Plain told → IsToldOfEffect told)
+    (λ _ e. subst IsToldOfEffect (plain_told _ told e) tt)
+    (λ _ e. subst IsToldOfEffect (plain_told _ told e) tt))
+
 effect_tells : (plan : Plan) (s : State) (event : Event) (told : Told) → IsEffect event → (next plan s event).1 ≡ Plain told → IsToldOfEffect told
 effect_tells plan s (Asks a) told is e = absurd is
 effect_tells plan s (Keeps ask entry c) told is e = absurd is
-effect_tells plan s (Holds certs) told is e = holding_tells s (newly s.commons certs) told e
+effect_tells plan s (Holds certs) told is e = holding_tells s (new_commons s certs) told e
 effect_tells plan s (Discards digest) told is e = subst IsToldOfEffect (plain_told _ told e) tt
 effect_tells plan s (Forgets channel) told is e = subst IsToldOfEffect (plain_told _ told e) tt
 effect_tells plan s (Expires reading) told is e = subst IsToldOfEffect (plain_told _ told e) tt
+effect_tells plan s (Withdraws issuer) told is e = withdrawing_tells plan issuer s told e
 
 abbrev pub IsAnswerToEffect : StepAnswer → Type 0
 IsAnswerToEffect (Other told) = IsToldOfEffect told
@@ -101,14 +111,23 @@ holding_takes_none s new cache event =
     (λ _ none. none)
     (λ _ none. none)
 
+withdrawing_takes_none : (plan : Plan) (issuer : ℕ) (s : State) (cache : List Cached) (event : Event) → TakesMemory (told_of cache event (withdrawing plan issuer s).1) → ⊥
+withdrawing_takes_none plan issuer s cache event =
+    cond_both (is_withdrawn s.withdrawn issuer) _ _ (λ (r : State × Answer). TakesMemory (told_of cache event r.1) → ⊥)
+    (λ _ none. none)
+    (λ _. cond_both (nat_le MAX_WITHDRAWN (length s.withdrawn)) _ _ (λ (r : State × Answer). TakesMemory (told_of cache event r.1) → ⊥)
+    (λ _ none. none)
+    (λ _ none. none))
+
 -- no effect takes memory
 pub takes_none : (plan : Plan) (before : List Entry) (event : Event) → IsEffect event → TakesMemory (told_at plan before event) → ⊥
 takes_none plan before (Asks a) is takes = is
 takes_none plan before (Keeps ask entry c) is takes = is
-takes_none plan before (Holds certs) is takes = holding_takes_none (state_after plan before) (newly (state_after plan before).commons certs) (cache_after plan before) (Holds certs) takes
+takes_none plan before (Holds certs) is takes = holding_takes_none (state_after plan before) (new_commons (state_after plan before) certs) (cache_after plan before) (Holds certs) takes
 takes_none plan before (Discards digest) is takes = takes
 takes_none plan before (Forgets channel) is takes = takes
 takes_none plan before (Expires reading) is takes = takes
+takes_none plan before (Withdraws issuer) is takes = withdrawing_takes_none plan issuer (state_after plan before) (cache_after plan before) (Withdraws issuer) takes
 
 -- an effect is meant, whatever stands before it
 pub is_meant_effect : (plan : Plan) (before : List Entry) (event : Event) → IsEffect event → IsMeant plan before event
@@ -118,6 +137,7 @@ is_meant_effect plan before (Holds certs) is = tt
 is_meant_effect plan before (Discards digest) is = tt
 is_meant_effect plan before (Forgets channel) is = tt
 is_meant_effect plan before (Expires reading) is = tt
+is_meant_effect plan before (Withdraws issuer) is = tt
 
 -- ---- one step, in what was seen
 

@@ -5,26 +5,28 @@ use Rattle.std.proofs.lemmas.List.{map-append}
 use Rattle.std.proofs.lemmas.List.Concat.{flat_map-cons}
 use Rattle.std.proofs.lemmas.List.Elements.{All-nil, All-cons, All-head, All-tail}
 use Rattle.object_core.specs.Objects.{ObjectEntry}
-use Rattle.object_core.specs.Operation.{Op, Read, Write, SetList, Hold, Discard, Forget, Sweep}
+use Rattle.object_core.specs.Operation.{Op, Read, Write, SetList, Hold, Discard, Forget, Sweep, Withdraw}
 use Rattle.object_core.specs.declared.ruling.Ruling.TheVariants as rulings
 use Rattle.proof_cache.specs.Cached.{Cached}
 use Rattle.stmt_codec.specs.Certificates.{Certificate}
 use Rattle.taos_wire.specs.Reply.{Reply, Sent}
 use Rattle.agent_core.specs.declared.asked.Settled.{Settled}
 use Rattle.agent_core.specs.declared.told.Told.{Told}
-use Rattle.agent_core.specs.State.{Plan, Ask, Event, Asks, Keeps, Holds, Discards, Forgets, Expires}
+use Rattle.agent_core.specs.State.{Plan, Ask, Event, Asks, Keeps, Holds, Discards, Forgets, Expires, Withdraws}
 use Rattle.agent_core.specs.Journals.{Entry, entry, Stands}
 use Rattle.agent_core.specs.Asked.{IsGrant, by_kept, was_kept, was_dropped, had_no_room}
 use Rattle.taos_monitor.specs.Asking.{IsUnruled, full, replayed, channel_full, untold, unanswered}
 use Rattle.taos_monitor.specs.AtObject.{Seeking, Own, own_at, places_at, ruled_as, asks_for, IsGuarded, object_is_full, no_ruling, denied, granted}
 use Rattle.taos_monitor.specs.Cells.{Node, Journals, Place, in_shard, in_object}
 use Rattle.taos_monitor.specs.Course.{Used, Course, malformed, unknown_channel, bad_seal, cert_refused, relay_failed, unknown_object, ruled, unread, unopened}
+use Rattle.taos_monitor.specs.Course.{plain, pull_failed, unfetched, unpulled, pull_stopped, pulled}
 use Rattle.taos_monitor.specs.Effects.{ShardStep, step_at, its_place, shards_of, IsDone, lacks_room, IsStep, AreDone, WentThrough, FoundNoRoom, FoundNoPlace, IsPerformed, through, not_held, no_room, no_place}
 use Rattle.taos_monitor.specs.Operations.{IsEffect, effect_of, targets_of}
 use Rattle.taos_monitor.specs.Projected as projected
 use Rattle.taos_monitor.specs.Projected.{Effect, Stepped, GrantedEntry, if_some, changes_of, steps_of, effects_of, if_granted, grants_of, AreTaken, AreDueTo, AreProjected, none, more, EffectsAreProjected}
 use Rattle.taos_monitor.specs.Run.{Turn, IsCourse, places_of}
 use Rattle.taos_monitor.proofs.Places.{stands_at}
+use Rattle.taos_monitor.proofs.Staying.{Turned}
 
 -- ---- the places of more than one list
 
@@ -145,6 +147,7 @@ is_effect Hold certs reading e is = let same : Holds certs ≡ e = cc in subst I
 is_effect (Discard digest) certs reading e is = let same : Discards digest ≡ e = cc in subst IsEffect same tt
 is_effect (Forget channel) certs reading e is = let same : Forgets channel ≡ e = cc in subst IsEffect same tt
 is_effect Sweep certs reading e is = let same : Expires reading ≡ e = cc in subst IsEffect same tt
+is_effect (Withdraw issuer) certs reading e is = let same : Withdraws issuer ≡ e = cc in subst IsEffect same tt
 
 one_step : (s : ℕ) (event : Event) (told : Told) → IsEffect event → steps_of s event told ≡ Stepped s event told ∷ []
 one_step s (Asks a) told is = absurd is
@@ -153,6 +156,7 @@ one_step s (Holds certs) told is = refl
 one_step s (Discards digest) told is = refl
 one_step s (Forgets channel) told is = refl
 one_step s (Expires reading) told is = refl
+one_step s (Withdraws issuer) told is = refl
 
 module _ (plans : List Plan) (J : Journals) (op : Op) (certs : List Certificate) (reading : ℕ) where
   abbrev Taken : List ℕ → List Effect → Type 0
@@ -250,11 +254,19 @@ module _ (n : Node) (J : Journals) where
   course_projects payload used sent unread = none
   course_projects payload used sent (unopened asked interrupted) = none
 
+  turn_projects : (payload : List ℕ) (used : Used) (sent : Sent) → Turned n J payload used sent → AreProjected n.plans J (grants_of J used.places) (effects_of J used.places)
+  turn_projects payload used sent (plain c) = course_projects payload used sent c
+  turn_projects payload used sent (pull_failed asked) = none
+  turn_projects payload used sent (unfetched asked) = none
+  turn_projects payload used sent (unpulled asked interrupted) = none
+  turn_projects payload used sent (pull_stopped asked failed) = none
+  turn_projects payload used sent (pulled {used = later} asked opened c) = course_projects _ later sent c
+
   turns_project : (turns : List Turn) → All (IsCourse n J) turns → AreProjected n.plans J (grants_of J (places_of turns)) (effects_of J (places_of turns))
   turns_project [] all = none
   turns_project (t ∷ turns) all =
       subst (Projects n.plans J) (sym (flat_map-cons (λ (u : Turn). u.used.places) t turns))
-      (projects_both n.plans J t.used.places (places_of turns) (course_projects t.frame t.used t.sent (All-head (IsCourse n J) t turns all)) (turns_project turns (All-tail (IsCourse n J) t turns all)))
+      (projects_both n.plans J t.used.places (places_of turns) (turn_projects t.frame t.used t.sent (All-head (IsCourse n J) t turns all)) (turns_project turns (All-tail (IsCourse n J) t turns all)))
 
 pub effects_are_projected : (n : Node) → EffectsAreProjected n
 effects_are_projected n J used frames replies outcome a = subst (Projects n.plans J) (sym a.owned) (turns_project n J a.turns a.courses)

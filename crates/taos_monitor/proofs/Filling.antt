@@ -20,6 +20,7 @@ use Rattle.taos_monitor.specs.Asking.{IsUnruled, full, replayed, channel_full, u
 use Rattle.taos_monitor.specs.AtObject.{Seeking, Own, own_at, places_at, ruled_as, told_or, object_full, gives_for, IsGuarded, object_is_full, no_ruling, denied, granted}
 use Rattle.taos_monitor.specs.Cells.{Node, HasPlan, Journals, Cell, OfShard, OfObject, Place, in_shard, in_object, number_in, numbers_in, entries_in, AreLegal, Extends}
 use Rattle.taos_monitor.specs.Course.{Used, Course, malformed, unknown_channel, bad_seal, cert_refused, relay_failed, unknown_object, ruled, unread, unopened}
+use Rattle.taos_monitor.specs.Course.{plain, pull_failed, unfetched, unpulled, pull_stopped, pulled}
 use Rattle.taos_monitor.specs.Effects.{ShardStep, its_place, step_at, IsStep, IsPerformed, through, not_held, no_room, no_place}
 use Rattle.taos_monitor.specs.Operations.{effect_of}
 use Rattle.taos_monitor.specs.Run.{Turn, IsCourse, IsMade, WasMade, FoundFull, IsFilledBefore}
@@ -28,6 +29,7 @@ use Rattle.taos_monitor.proofs.Going.{numbers_here}
 use Rattle.taos_monitor.proofs.Places.{stands_at, was_there, numbers_all, ruling_place, the_only}
 use Rattle.taos_monitor.proofs.Roomless.{other_reply, room_status}
 use Rattle.taos_monitor.proofs.Short.{short}
+use Rattle.taos_monitor.proofs.Staying.{Turned}
 
 -- ---- what status 10, and a grant without a place for its proof, say of the journal
 
@@ -234,6 +236,23 @@ found_full n J payload used sent (OfShard s) (unopened asked interrupted) (inl (
 found_full n J payload used sent (OfShard s) (unopened asked interrupted) (inr (q, one, how)) = absurd (no_number q one)
 found_full n J payload used sent (OfObject o) (unopened asked interrupted) (limit, e) = absurd cc
 
+-- what has no place, and says neither, found nothing full
+stopped_short : (n : Node) (J : Journals) (frame : List ℕ) (used : Used) (sent : Sent) (cell : Cell) → used.places ≡ [] →
+    ((s limit : ℕ) → sent.reply ≡ shard_full s limit → ⊥) → ((o limit : ℕ) → sent.reply ≡ object_full o limit → ⊥) →
+    FoundFull J cell (record { frame = frame; used = used; sent = sent }) → IsFull n J cell
+stopped_short n J frame used sent (OfShard s) none shards objects (inl (limit, e)) = absurd (shards s limit e)
+stopped_short n J frame used sent (OfShard s) none shards objects (inr (q, one, how)) = absurd (no_number q (ap (numbers_in (OfShard s)) (sym none) ∙ one))
+stopped_short n J frame used sent (OfObject o) none shards objects (limit, e) = absurd (objects o limit e)
+
+turn_full : (n : Node) (J : Journals) (payload : List ℕ) (used : Used) (sent : Sent) (cell : Cell) → Turned n J payload used sent → FoundFull J cell (record { frame = payload; used = used; sent = sent }) → IsFull n J cell
+turn_full n J payload used sent cell (plain c) found = found_full n J payload used sent cell c found
+turn_full n J payload used sent cell (pull_failed asked) found = stopped_short n J payload used sent cell refl (λ s limit e. cc) (λ o limit e. cc) found
+turn_full n J payload used sent cell (unfetched asked) found = stopped_short n J payload used sent cell refl (λ s limit e. cc) (λ o limit e. cc) found
+turn_full n J payload used sent cell (unpulled asked interrupted) found = stopped_short n J payload used sent cell refl (λ s limit e. cc) (λ o limit e. cc) found
+turn_full n J payload used sent cell (pull_stopped asked failed) found = stopped_short n J payload used sent cell refl (λ s limit e. cc) (λ o limit e. cc) found
+turn_full n J payload used sent (OfShard s) (pulled {used = later} asked opened c) found = found_full n J _ later sent (OfShard s) c found
+turn_full n J payload used sent (OfObject o) (pulled {used = later} asked opened c) found = found_full n J _ later sent (OfObject o) c found
+
 -- ---- the places of a course are there
 
 stands_within : {E : Type 0} {journal before : List E} {place : ℕ} {e : E} → Stands journal place before e → place < length journal
@@ -311,6 +330,14 @@ course_there n J payload used sent (ruled {own} {reply} t reading plan planned r
 course_there n J payload used sent unread = All-nil (IsThere J)
 course_there n J payload used sent (unopened asked interrupted) = All-nil (IsThere J)
 
+turn_there : (n : Node) (J : Journals) (payload : List ℕ) (used : Used) (sent : Sent) → Turned n J payload used sent → AreThere J used.places
+turn_there n J payload used sent (plain c) = course_there n J payload used sent c
+turn_there n J payload used sent (pull_failed asked) = All-nil (IsThere J)
+turn_there n J payload used sent (unfetched asked) = All-nil (IsThere J)
+turn_there n J payload used sent (unpulled asked interrupted) = All-nil (IsThere J)
+turn_there n J payload used sent (pull_stopped asked failed) = All-nil (IsThere J)
+turn_there n J payload used sent (pulled {used = later} asked opened c) = course_there n J _ later sent c
+
 -- ---- one turn more
 
 -- what a turn found full, it found full when its entries had come
@@ -319,7 +346,7 @@ found_before n J K goes t course (OfObject o) found = found
 found_before n J K goes t course (OfShard s) (inl told) = inl told
 found_before n J K goes t course (OfShard s) (inr (q, one, inl made)) = inr (q, one, inl made)
 found_before n J K goes t course (OfShard s) (inr (q, one, inr was)) =
-    let there = course_there n J t.frame t.used t.sent course in
+    let there = turn_there n J t.frame t.used t.sent course in
     let In : ℕ → Type 0 = λ (k : ℕ). k < length (J.shards s) in
     let within = All-head In q [] (subst (All In) one (numbers_all In (OfShard s) t.used.places (λ k d lt same. omega (arith, there k d lt, ap (entries_in J) same)))) in
     inr (
@@ -351,8 +378,8 @@ module _ (n : Node) (J K : Journals) (goes : Extends J K) (legal : AreLegal n K)
   -- a new place would stand past the limit
   comes_after : (u : Turn) → IsCourse n J u → IsFilledBefore K u t
   comes_after u done cell found =
-      let less = limits cell (found_full n J u.frame u.used u.sent cell done (found_before n J K goes u done cell found)) in
-      λ k d lt same. omega (arith, new k d lt, course_there n K t.frame t.used t.sent course k d lt, ap (entries_in J) same, ap (entries_in K) same, less)
+      let less = limits cell (turn_full n J u.frame u.used u.sent cell done (found_before n J K goes u done cell found)) in
+      λ k d lt same. omega (arith, new k d lt, turn_there n K t.frame t.used t.sent course k d lt, ap (entries_in J) same, ap (entries_in K) same, less)
 
 pub none_filled : (J : Journals) → AllPairs (IsFilledBefore J) []
 none_filled J = λ i j d lt within. absurd (omega (arith, within))

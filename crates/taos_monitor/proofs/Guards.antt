@@ -25,7 +25,7 @@ use Rattle.agent_core.proofs.Onward.{begins_itself, denied_stays, grant_stays}
 use Rattle.taos_monitor.specs.declared.deciding.Came.{Came}
 use Rattle.taos_monitor.specs.declared.deciding.Ruled.{Ruled}
 use Rattle.taos_monitor.specs.Asking.{TellsFull, unanswered}
-use Rattle.taos_monitor.specs.AtObject.{Seeking, Own, own_at, places_at, ruled_as, told_or, HasLooked, LeavesOut, IsGuardedAfter, object_is_full, no_ruling, asks_for}
+use Rattle.taos_monitor.specs.AtObject.{Seeking, own_at, ruled_as, told_or, HasLooked, LeavesOut, IsGuardedAfter, object_is_full, no_ruling, asks_for}
 use Rattle.taos_monitor.specs.AtObject as guarded
 use Rattle.taos_monitor.specs.Cells.{Cell, Journals, Place, entries_in, in_shard, in_object, objects_in, shards_in, seen_by, alone_of, AreLegalShards}
 use Rattle.taos_monitor.specs.Effects.{ShardStep, its_place, IsPerformed, PerformedAs, SteppedBy}

@@ -1,16 +1,16 @@
--- What is told of an Ask or of a Hold for want of a new number or of room, by the state that it meets.
-use Rattle.std.proofs.Common.{◌≡◌, ℕ, ◌+◌, ◌<◌, ◌≤◌, Option, None, Some, List, length, nat_lt, refl, sym, subst}
+-- What is told of an Ask, a Hold or a Withdraw for want of a new number or of room, by the state that it meets.
+use Rattle.std.proofs.Common.{◌≡◌, ℕ, ◌+◌, ◌<◌, ◌≤◌, false, Option, None, Some, List, length, nat_lt, refl, sym, subst}
 use Rattle.std.specs.Prelude.{nat_le}
 use Rattle.std.proofs.lemmas.Bool.{cond_both, leb-true, ltb-true}
 use Rattle.std.proofs.lemmas.Option.{same_Some}
 use Rattle.proof_cache.specs.Cached.{Cached}
-use Rattle.object_core.specs.Operation.{Op, Read, Write, SetList, Hold, Discard, Forget, Sweep}
+use Rattle.object_core.specs.Operation.{Op, Read, Write, SetList, Hold, Discard, Forget, Sweep, Withdraw}
 use Rattle.stmt_codec.specs.Certificates.{Certificate}
-use Rattle.agent_core.specs.declared.limits.TheConstants.{MAX_OWN, MAX_COMMONS}
+use Rattle.agent_core.specs.declared.limits.TheConstants.{MAX_OWN, MAX_COMMONS, MAX_WITHDRAWN}
 use Rattle.agent_core.specs.declared.told.Told.{Told}
 use Rattle.agent_core.specs.Caches.{hit_or_miss, first_hit, unlapsed}
-use Rattle.agent_core.specs.Held.{newly}
-use Rattle.agent_core.specs.State.{Plan, State, Ask, Event, Asks, Holds, Discards, Answer, asking, brought, holding}
+use Rattle.agent_core.specs.Held.{is_withdrawn}
+use Rattle.agent_core.specs.State.{Plan, State, Ask, Event, Asks, Holds, Discards, Withdraws, Answer, asking, brought, holding, withdrawing, new_commons}
 use Rattle.agent_core.specs.Journals.{Entry, state_after, cache_after, told_of, told_at}
 use Rattle.taos_monitor.specs.Operations.{effect_of}
 
@@ -30,6 +30,9 @@ same_held a b e = cc
 
 same_commons : (a b : ℕ) → Told.CommonsFull a ≡ Told.CommonsFull b → a ≡ b
 same_commons a b e = cc
+
+same_issuers : (a b : ℕ) → Told.WithdrawnFull a ≡ Told.WithdrawnFull b → a ≡ b
+same_issuers a b e = cc
 
 module _ (cache : List Cached) (s : State) (a : Ask) where
   -- the number is not above the last one, which is told
@@ -57,12 +60,39 @@ held_full cache s certs new held =
     (λ is e. (same_commons (length s.commons) held e, ltb-true MAX_COMMONS (length s.commons + length new) is))
     (λ _ e. let no : ⊥ = cc in absurd no)
 
+-- there is no room for an issuer that is not withdrawn, and how many are is told
+no_more_issuers : (plan : Plan) (cache : List Cached) (s : State) (issuer held : ℕ) → told_of cache (Withdraws issuer) (withdrawing plan issuer s).1 ≡ Told.WithdrawnFull held →
+    (is_withdrawn s.withdrawn issuer ≡ false) × (length s.withdrawn ≡ held) × (MAX_WITHDRAWN ≤ length s.withdrawn)
+no_more_issuers plan cache s issuer held =
+    cond_both (is_withdrawn s.withdrawn issuer) _ _
+    (λ (r : State × Answer). told_of cache (Withdraws issuer) r.1 ≡ Told.WithdrawnFull held → (is_withdrawn s.withdrawn issuer ≡ false) × (length s.withdrawn ≡ held) × (MAX_WITHDRAWN ≤ length s.withdrawn))
+    (λ _ e. let no : ⊥ = cc in absurd no)
+    (λ isnt. cond_both (nat_le MAX_WITHDRAWN (length s.withdrawn)) _ _
+    (λ (r : State × Answer). told_of cache (Withdraws issuer) r.1 ≡ Told.WithdrawnFull held → (is_withdrawn s.withdrawn issuer ≡ false) × (length s.withdrawn ≡ held) × (MAX_WITHDRAWN ≤ length s.withdrawn))
+    (λ full e. (isnt, same_issuers (length s.withdrawn) held e, leb-true MAX_WITHDRAWN (length s.withdrawn) full))
+    (λ _ e. let no : ⊥ = cc in absurd no))
+
+-- a Withdraw is not told that the commons are full, nor a Hold that no more issuers fit
+never_commons : (plan : Plan) (cache : List Cached) (s : State) (issuer held : ℕ) → told_of cache (Withdraws issuer) (withdrawing plan issuer s).1 ≡ Told.CommonsFull held → ⊥
+never_commons plan cache s issuer held =
+    cond_both (is_withdrawn s.withdrawn issuer) _ _ (λ (r : State × Answer). told_of cache (Withdraws issuer) r.1 ≡ Told.CommonsFull held → ⊥)
+    (λ _ e. let no : ⊥ = cc in no)
+    (λ _. cond_both (nat_le MAX_WITHDRAWN (length s.withdrawn)) _ _ (λ (r : State × Answer). told_of cache (Withdraws issuer) r.1 ≡ Told.CommonsFull held → ⊥)
+    (λ _ e. let no : ⊥ = cc in no)
+    (λ _ e. let no : ⊥ = cc in no))
+
+never_issuers : (cache : List Cached) (s : State) (certs new : List Certificate) (held : ℕ) → told_of cache (Holds certs) (holding s new).1 ≡ Told.WithdrawnFull held → ⊥
+never_issuers cache s certs new held =
+    cond_both (nat_lt MAX_COMMONS (length s.commons + length new)) _ _ (λ (r : State × Answer). told_of cache (Holds certs) r.1 ≡ Told.WithdrawnFull held → ⊥)
+    (λ _ e. let no : ⊥ = cc in no)
+    (λ _ e. let no : ⊥ = cc in no)
+
 -- what a full list of commons is told of: a Hold, at this state
 pub record HeldFull (op : Op) (certs : List Certificate) (event : Event) (s : State) (held : ℕ) : Type 0 where
   pub op_is : op ≡ Hold
   pub event_is : event ≡ Holds certs
   pub held_is : length s.commons ≡ held
-  pub more : MAX_COMMONS < length s.commons + length (newly s.commons certs)
+  pub more : MAX_COMMONS < length s.commons + length (new_commons s certs)
 
 module _ (plan : Plan) (before : List Entry) (certs : List Certificate) (reading held : ℕ) (event : Event) (tells : Told.CommonsFull held ≡ told_at plan before event) where
   tells_so : (other : Event) → event ≡ other → told_at plan before other ≡ Told.CommonsFull held
@@ -78,11 +108,44 @@ module _ (plan : Plan) (before : List Entry) (certs : List Certificate) (reading
   commons_were_full Hold e =
       let same = same_event (Holds certs) e in
       let s = state_after plan before in
-      let full = held_full (cache_after plan before) s certs (newly s.commons certs) held (tells_so (Holds certs) same) in
+      let full = held_full (cache_after plan before) s certs (new_commons s certs) held (tells_so (Holds certs) same) in
       record { op_is = refl; event_is = same; held_is = full.0; more = full.1 }
   commons_were_full (Discard digest) e = let also = tells_so (Discards digest) (same_event (Discards digest) e) in let no : ⊥ = cc in absurd no
   commons_were_full (Forget channel) e = let also = tells_so _ (same_event _ e) in let no : ⊥ = cc in absurd no
   commons_were_full Sweep e = let also = tells_so _ (same_event _ e) in let no : ⊥ = cc in absurd no
+  commons_were_full (Withdraw issuer) e =
+      absurd (never_commons plan (cache_after plan before) (state_after plan before) issuer held (tells_so (Withdraws issuer) (same_event (Withdraws issuer) e)))
+
+-- what no more room for issuers is told of: a Withdraw of another one, at this state
+pub record NoMoreIssuers (op : Op) (event : Event) (s : State) (held : ℕ) : Type 0 where
+  pub issuer : ℕ
+  pub op_is : op ≡ Withdraw issuer
+  pub event_is : event ≡ Withdraws issuer
+  pub held_is : length s.withdrawn ≡ held
+  pub other : is_withdrawn s.withdrawn issuer ≡ false
+  pub full : MAX_WITHDRAWN ≤ length s.withdrawn
+
+module _ (plan : Plan) (before : List Entry) (certs : List Certificate) (reading held : ℕ) (event : Event) (tells : Told.WithdrawnFull held ≡ told_at plan before event) where
+  says_so : (other : Event) → event ≡ other → told_at plan before other ≡ Told.WithdrawnFull held
+  says_so other same = sym (subst (λ (e : Event). Told.WithdrawnFull held ≡ told_at plan before e) same tells)
+
+  is_event : (x : Event) → Some x ≡ Some event → event ≡ x
+  is_event x e = sym (same_Some x event e)
+
+  pub issuers_were_full : (op : Op) → effect_of op certs reading ≡ Some event → NoMoreIssuers op event (state_after plan before) held
+  issuers_were_full Read e = let no : ⊥ = cc in absurd no
+  issuers_were_full (Write new) e = let no : ⊥ = cc in absurd no
+  issuers_were_full (SetList list) e = let no : ⊥ = cc in absurd no
+  issuers_were_full Hold e =
+      let s = state_after plan before in
+      absurd (never_issuers (cache_after plan before) s certs (new_commons s certs) held (says_so (Holds certs) (is_event (Holds certs) e)))
+  issuers_were_full (Discard digest) e = let also = says_so (Discards digest) (is_event (Discards digest) e) in let no : ⊥ = cc in absurd no
+  issuers_were_full (Forget channel) e = let also = says_so _ (is_event _ e) in let no : ⊥ = cc in absurd no
+  issuers_were_full Sweep e = let also = says_so _ (is_event _ e) in let no : ⊥ = cc in absurd no
+  issuers_were_full (Withdraw issuer) e =
+      let same = is_event (Withdraws issuer) e in
+      let none = no_more_issuers plan (cache_after plan before) (state_after plan before) issuer held (says_so (Withdraws issuer) same) in
+      record { issuer = issuer; op_is = refl; event_is = same; held_is = none.1; other = none.0; full = none.2 }
 
 same_removed : (a b : ℕ) → Told.Removed a ≡ Told.Removed b → a ≡ b
 same_removed a b e = cc

@@ -1,12 +1,13 @@
 -- What it says of an Ask, by the state that it meets, that it is judged, and of a Hold that it was done.
-use Rattle.std.proofs.Common.{◌≡◌, ℕ, ◌+◌, ◌<◌, ◌≤◌, List, length, nat_lt, arith}
+use Rattle.std.proofs.Common.{◌≡◌, ℕ, ◌+◌, ◌<◌, ◌≤◌, false, List, length, nat_lt, sym, ◌∙◌, arith}
 use Rattle.std.specs.Prelude.{nat_le}
-use Rattle.std.proofs.lemmas.Bool.{cond_both, leb-false, ltb-false}
+use Rattle.std.proofs.lemmas.Bool.{cond_both, false≢true, leb-false, ltb-false}
 use Rattle.proof_cache.specs.Cached.{Cached}
 use Rattle.stmt_codec.specs.Certificates.{Certificate}
-use Rattle.agent_core.specs.declared.limits.TheConstants.{MAX_OWN, MAX_COMMONS}
+use Rattle.agent_core.specs.declared.limits.TheConstants.{MAX_OWN, MAX_COMMONS, MAX_WITHDRAWN}
 use Rattle.agent_core.specs.declared.told.Told.{Told}
-use Rattle.agent_core.specs.State.{Plan, State, Ask, Asks, Holds, Answer, Judged, asking, brought, holding, moment_of, swept}
+use Rattle.agent_core.specs.Held.{is_withdrawn}
+use Rattle.agent_core.specs.State.{Plan, State, Ask, Asks, Holds, Withdraws, Answer, Judged, asking, brought, holding, withdrawing, moment_of, swept}
 use Rattle.agent_core.specs.Journals.{Entry, state_after, told_of, Verdict, IsVerdict, granted, denied}
 use Rattle.taos_monitor.specs.Effects.{IsDone}
 
@@ -43,3 +44,12 @@ held_fits cache s certs new =
     cond_both (nat_lt MAX_COMMONS (length s.commons + length new)) _ _ (λ (r : State × Answer). IsDone (told_of cache (Holds certs) r.1) → MAX_COMMONS < length s.commons + length new → ⊥)
     (λ _ done more. done)
     (λ few _ more. omega (arith, ltb-false MAX_COMMONS (length s.commons + length new) few, more))
+
+-- an issuer that was withdrawn, and was not before, had room
+pub withdrawn_fits : (plan : Plan) (cache : List Cached) (s : State) (issuer : ℕ) → IsDone (told_of cache (Withdraws issuer) (withdrawing plan issuer s).1) → is_withdrawn s.withdrawn issuer ≡ false → MAX_WITHDRAWN ≤ length s.withdrawn → ⊥
+withdrawn_fits plan cache s issuer =
+    cond_both (is_withdrawn s.withdrawn issuer) _ _ (λ (r : State × Answer). IsDone (told_of cache (Withdraws issuer) r.1) → is_withdrawn s.withdrawn issuer ≡ false → MAX_WITHDRAWN ≤ length s.withdrawn → ⊥)
+    (λ is _ isnt _. false≢true (sym isnt ∙ is))
+    (λ _. cond_both (nat_le MAX_WITHDRAWN (length s.withdrawn)) _ _ (λ (r : State × Answer). IsDone (told_of cache (Withdraws issuer) r.1) → is_withdrawn s.withdrawn issuer ≡ false → MAX_WITHDRAWN ≤ length s.withdrawn → ⊥)
+    (λ _ done _ _. done)
+    (λ room _ _ full. omega (arith, leb-false MAX_WITHDRAWN (length s.withdrawn) room, full)))

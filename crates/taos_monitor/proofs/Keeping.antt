@@ -5,10 +5,10 @@ use Rattle.std.proofs.lemmas.Option.{none-some, same_Some, slice_get-get_or}
 use Rattle.std.proofs.lemmas.List.Elements.{All-append, All-cons, All-filter, All-head, All-nil, All-tail, All-take}
 use Rattle.prin_term.specs.Principal.{Principal}
 use Rattle.proof_cache.specs.Cached.{Cached}
-use Rattle.proof_cache.specs.Cache.{cites_it, has_lapsed, is_for, is_of_channel}
+use Rattle.proof_cache.specs.Cache.{cites_issuer, cites_it, has_lapsed, is_for, is_of_channel}
 use Rattle.agent_core.specs.declared.told.Told.{Told}
-use Rattle.agent_core.specs.State.{Plan, State, Ask, Event, Asks, Keeps, Holds, Discards, Forgets, Expires, opened, next}
-use Rattle.agent_core.specs.Caches.{unlapsed, used, used_by, who_at, kept_by, cache_next}
+use Rattle.agent_core.specs.State.{Plan, State, Ask, Event, Asks, Keeps, Holds, Discards, Forgets, Expires, Withdraws, opened, next}
+use Rattle.agent_core.specs.Caches.{unlapsed, used, used_by, who_at, kept_by, left_by, cache_next}
 use Rattle.agent_core.specs.Journals.{Entry, cache_from, cache_after, IsMeant, IsLegalJournal}
 
 module _ (P : Cached → Type 0) where
@@ -30,6 +30,10 @@ module _ (P : Cached → Type 0) where
       All-cons P c (take (64 - 1) others) p (All-take P (64 - 1) others (each_left (is_for c.subject c.who) cache all))
   each_kept c _ cache p all = all
 
+  each_left_by : (issuer : ℕ) (told : Told) (cache : List Cached) → All P cache → All P (left_by issuer told cache)
+  each_left_by issuer (Told.Removed count) cache all = each_left (cites_issuer issuer) cache all
+  each_left_by issuer _ cache all = all
+
   -- it holds of the proof that the event is to keep, if it is to keep one
   abbrev Brings : Event → Type 0
   Brings event = (ask k : ℕ) (c : Cached) → event ≡ Keeps ask k c → P c
@@ -41,6 +45,7 @@ module _ (P : Cached → Type 0) where
   each_next moment (Discards digest) told cache all brings = each_left (cites_it digest) cache all
   each_next moment (Forgets channel) told cache all brings = each_left (is_of_channel channel) cache all
   each_next moment (Expires reading) told cache all brings = each_left (has_lapsed moment) cache all
+  each_next moment (Withdraws issuer) told cache all brings = each_left_by issuer told cache all
 
   each_from : (plan : Plan) (s : State) (cache : List Cached) (journal : List Entry) → All P cache → All (λ (e : Entry). Brings e.event) journal → All P (cache_from plan s cache journal)
   each_from plan s cache [] all brings = all

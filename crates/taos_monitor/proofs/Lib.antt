@@ -15,12 +15,14 @@ mod Short
 mod Guards
 mod Drafting
 mod Courses
+mod Pulls
 mod Staying
 mod Places
 mod Filling
 mod Running
 mod Steps
-mod Connections
+pub mod Connections
+mod Desks
 mod Payloads
 pub mod Keyed
 mod Firsts
@@ -35,12 +37,15 @@ mod Growing
 mod Walks
 mod Hindering
 mod Complete
+pub mod Whole
 mod OwnSteps
 mod Judging
 mod Caused
 mod CausesApart
+mod PullCauses
 mod CertWalks
 mod OneRuling
 mod LoneRuling
 mod OneCourse
+mod PullsApart
 mod Twins

@@ -6,7 +6,7 @@ use Rattle.std.proofs.lemmas.List.{get_or-map, get_or_append_left, length-map}
 use Rattle.std.proofs.lemmas.List.Elements.{All-cons, All-contains, All-nil, Contains-append_cases, Contains-append_left, Contains-append_right, Contains-get_or}
 use Rattle.std.proofs.lemmas.List.FromFn.{get_or-range_with_len, length-range_with_len}
 use Rattle.std.proofs.lemmas.List.Sums.{get_or-le-sum_by, sum_by-cons}
-use Rattle.object_core.specs.Operation.{Op, Read, Write, SetList, Hold, Discard, Forget, Sweep}
+use Rattle.object_core.specs.Operation.{Op, Read, Write, SetList, Hold, Discard, Forget, Sweep, Withdraw}
 use Rattle.proof_cache.specs.Cached.{Cached}
 use Rattle.agent_core.specs.declared.asked.Settled.{Settled}
 use Rattle.agent_core.specs.declared.told.Told.{Told}
@@ -90,6 +90,7 @@ stepped_once plans Hold shard front rest is c = once_in_range 0 (length plans) s
 stepped_once plans (Discard digest) shard front rest is c = once_in_range 0 (length plans) shard front rest is c
 stepped_once plans (Forget channel) shard front rest is c = at_most_one _ shard front rest is c
 stepped_once plans Sweep shard front rest is c = once_in_range 0 (length plans) shard front rest is c
+stepped_once plans (Withdraw issuer) shard front rest is c = once_in_range 0 (length plans) shard front rest is c
 
 -- ---- what was let go
 

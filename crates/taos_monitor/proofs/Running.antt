@@ -6,15 +6,16 @@ use Rattle.std.proofs.lemmas.Grind.{flat_map-append}
 use Rattle.std.proofs.lemmas.List.Concat.{flat_map-cons}
 use Rattle.std.proofs.lemmas.List.Elements.{All-nil, All-cons, All-append}
 use Rattle.taos_wire.specs.Reply.{spelling}
+use Rattle.cred_pull.specs.Fetching.{Pull}
 use Rattle.taos_monitor.specs.Cells.{Node, Journals, Place, AreLegal, Extends}
 use Rattle.taos_monitor.specs.Credentials.{LinkCall}
 use Rattle.taos_monitor.specs.Run.{Turn, IsCourse}
 use Rattle.taos_monitor.specs.Laws.{AnsweredStays, AnswersMore}
 use Rattle.taos_monitor.proofs.Filling.{filled_stays, filled_more}
-use Rattle.taos_monitor.proofs.Staying.{course_stays}
+use Rattle.taos_monitor.proofs.Staying.{turn_stays}
 
 pub all_stay : (n : Node) (J K : Journals) → Extends J K → AreLegal n K → (turns : List Turn) → All (IsCourse n J) turns → All (IsCourse n K) turns
-all_stay n J K goes legal turns all = λ k d lt. course_stays n J K goes legal _ _ _ (all k d lt)
+all_stay n J K goes legal turns all = λ k d lt. turn_stays n J K goes legal _ _ _ (all k d lt)
 
 pub answered_stays : (n : Node) → AnsweredStays n
 answered_stays n J K goes legal used frames replies outcome a = record {
@@ -37,7 +38,8 @@ answers_more n J K goes legal used frames replies count a t course ascending new
   courses = All-append (IsCourse n K) a.turns (t ∷ []) (all_stay n J K goes legal a.turns a.courses) (All-cons (IsCourse n K) t [] course (All-nil (IsCourse n K)));
   in_order = (
     ap (λ (l : List (List ℕ)). l ++ t.frame ∷ []) a.in_order.0 ∙ sym (map_push (λ (u : Turn). u.frame) a.turns t),
-    ap (λ (l : List LinkCall). l ++ t.used.calls) a.in_order.1 ∙ sym (flat_push (λ (u : Turn). u.used.calls) a.turns t),
+    ap (λ (l : List Pull). l ++ t.used.pulls) a.in_order.1 ∙ sym (flat_push (λ (u : Turn). u.used.pulls) a.turns t),
+    ap (λ (l : List LinkCall). l ++ t.used.calls) a.in_order.2 ∙ sym (flat_push (λ (u : Turn). u.used.calls) a.turns t),
   );
   read = ap (λ (l : List ℕ). l ++ t.used.readings) a.read ∙ sym (flat_push (λ (u : Turn). u.used.readings) a.turns t);
   owned = ap (λ (l : List Place). l ++ t.used.places) a.owned ∙ sym (flat_push (λ (u : Turn). u.used.places) a.turns t);

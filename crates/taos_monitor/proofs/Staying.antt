@@ -10,8 +10,9 @@ use Rattle.agent_core.specs.Asked.{Unanswered}
 use Rattle.agent_core.proofs.Onward.{stands_on, begins_on, grant_stays, denied_stays, told_stays}
 use Rattle.taos_monitor.specs.Asking.{IsUnruled, full, replayed, channel_full, untold, unanswered}
 use Rattle.taos_monitor.specs.AtObject.{Seeking, Own, IsGuarded, IsGuardedAfter, object_is_full, no_ruling, denied, granted, asks_for}
-use Rattle.taos_monitor.specs.Cells.{Node, Journals, Extends, AreLegalShards}
+use Rattle.taos_monitor.specs.Cells.{Node, Journals, no_entries, Extends, AreLegal, AreLegalShards}
 use Rattle.taos_monitor.specs.Course.{Used, Course, CourseAfter, malformed, unknown_channel, bad_seal, cert_refused, relay_failed, unknown_object, ruled, unread, unopened}
+use Rattle.taos_monitor.specs.Course.{TurnAfter, plain, pull_failed, unfetched, unpulled, pull_stopped, pulled}
 use Rattle.taos_monitor.specs.Effects.{ShardStep, WentThrough, FoundNoRoom, FoundNoPlace, IsPerformed, through, not_held, no_room, no_place}
 use Rattle.taos_monitor.specs.Operations.{effect_of}
 use Rattle.taos_monitor.specs.Laws.{CourseStays}
@@ -115,3 +116,26 @@ course_at_all n past J payload used sent (unknown_object opened none) = unknown_
 course_at_all n past J payload used sent (ruled {own} {reply} t reading plan planned is) = ruled t reading plan planned (guarded_at_all n.plans plan past J _ own reply is)
 course_at_all n past J payload used sent unread = unread
 course_at_all n past J payload used sent (unopened asked interrupted) = unopened asked interrupted
+
+-- ---- with what was fetched
+
+-- a turn is, whatever was seen before
+abbrev pub Turned : Node → Journals → List ℕ → Used → Sent → Type 0
+Turned n J payload used sent = TurnAfter n no_entries J payload used sent
+
+pub turn_stays : (n : Node) (J K : Journals) → Extends J K → AreLegal n K → (payload : List ℕ) (used : Used) (sent : Sent) → Turned n J payload used sent → Turned n K payload used sent
+turn_stays n J K goes legal payload used sent (plain c) = plain (course_stays n J K goes legal payload used sent c)
+turn_stays n J K goes legal payload used sent (pull_failed asked) = pull_failed asked
+turn_stays n J K goes legal payload used sent (unfetched asked) = unfetched asked
+turn_stays n J K goes legal payload used sent (unpulled asked interrupted) = unpulled asked interrupted
+turn_stays n J K goes legal payload used sent (pull_stopped asked failed) = pull_stopped asked failed
+turn_stays n J K goes legal payload used sent (pulled {used = later} asked opened c) = pulled asked opened (course_stays n J K goes legal _ later sent c)
+
+-- a turn after what was seen is a turn
+pub turn_at_all : (n : Node) (past J : Journals) (payload : List ℕ) (used : Used) (sent : Sent) → TurnAfter n past J payload used sent → Turned n J payload used sent
+turn_at_all n past J payload used sent (plain c) = plain (course_at_all n past J payload used sent c)
+turn_at_all n past J payload used sent (pull_failed asked) = pull_failed asked
+turn_at_all n past J payload used sent (unfetched asked) = unfetched asked
+turn_at_all n past J payload used sent (unpulled asked interrupted) = unpulled asked interrupted
+turn_at_all n past J payload used sent (pull_stopped asked failed) = pull_stopped asked failed
+turn_at_all n past J payload used sent (pulled {used = later} asked opened c) = pulled asked opened (course_at_all n past J _ later sent c)

@@ -1,5 +1,5 @@
 -- What own places make of objects, and that what has no granted entry changes none.
-use Rattle.std.proofs.Common.{◌≡◌, ◌≢◌, ℕ, ◌+◌, ◌<◌, ◌≤◌, Bool, true, false, cond, List, [], ◌∷◌, ◌++◌, length, map, slice_get, Option, None, Some, refl, sym, ap, ap₂, subst, ◌∙◌, inl, inr, arith, append-nil, length-append}
+use Rattle.std.proofs.Common.{◌≡◌, ◌≢◌, ⊎_elim, ℕ, ◌+◌, ◌<◌, ◌≤◌, Bool, true, false, cond, List, [], ◌∷◌, ◌++◌, length, map, slice_get, Option, None, Some, refl, sym, ap, ap₂, subst, ◌∙◌, inl, inr, arith, append-nil, length-append}
 use Rattle.std.specs.Prelude.{◌==◌}
 use Rattle.std.specs.List.{cons_option, filter_map}
 use Rattle.std.proofs.lemmas.Bool.{cases_Bool, eqb-true, eq-eqb}
@@ -11,7 +11,7 @@ use Rattle.prin_term.specs.View.{Grant}
 use Rattle.stmt_codec.specs.Certificates.{Certificate}
 use Rattle.taos_wire.specs.Reply.{Reply, Granted, Sent, status_of}
 use Rattle.agent_core.specs.declared.told.Told.{Told}
-use Rattle.agent_core.specs.State.{Plan, Event, Asks, Keeps, Holds, Discards, Forgets, Expires}
+use Rattle.agent_core.specs.State.{Plan, Event, Asks, Keeps, Holds, Discards, Forgets, Expires, Withdraws}
 use Rattle.agent_core.specs.Journals.{Entry}
 use Rattle.taos_monitor.specs.Asking.{shard_full}
 use Rattle.taos_monitor.specs.AtObject.{Seeking, Own, own_at, places_at, ruled_as, told_or, object_full, gives_for, IsGuarded, object_is_full, no_ruling, denied, granted}
@@ -25,7 +25,7 @@ use Rattle.taos_monitor.proofs.Ascending.{all_rest, numbers_ascend}
 use Rattle.taos_monitor.proofs.Effecting.{effects_more, grants_both, shard_grants, step_grants, grant_at, course_projects}
 use Rattle.taos_monitor.proofs.Going.{no_object_numbers, numbers_object}
 use Rattle.taos_monitor.proofs.Places.{numbers_all}
-use Rattle.taos_monitor.proofs.Roomless.{other_reply, room_status}
+use Rattle.taos_monitor.proofs.Roomless.{other_reply, room_status, room_statuses}
 
 latest_of_both : {X : Type 0} (x : X) (xs ys : List X) → latest x (xs ++ ys) ≡ latest (latest x xs) ys
 latest_of_both x [] ys = refl
@@ -47,6 +47,7 @@ module _ {X : Type 0} (by : ObjectEntry → Option X) (o : ℕ) (pick : Effect �
   no_step s (Discards digest) told = ap (λ (x : Option X). cons_option x []) (picks.steps s (Discards digest) told)
   no_step s (Forgets channel) told = ap (λ (x : Option X). cons_option x []) (picks.steps s (Forgets channel) told)
   no_step s (Expires reading) told = ap (λ (x : Option X). cons_option x []) (picks.steps s (Expires reading) told)
+  no_step s (Withdraws issuer) told = ap (λ (x : Option X). cons_option x []) (picks.steps s (Withdraws issuer) told)
 
   at_shard : (s : ℕ) (found : Option Entry) → filter_map pick (if_some (λ (e : Entry). steps_of s e.event e.told) found) ≡ []
   at_shard s None = refl
@@ -179,11 +180,11 @@ module _ (plans : List Plan) (J : ℕ → List Entry) (op : Op) (certs : List Ce
   not_denied steps refused (no_room {shard} {told = said} {reply} lacks f) one = let e : status_of reply ≡ 1 = one in absurd (omega (arith, e, room_status shard said reply lacks))
   not_denied steps refused (no_place f) one = let e : 10 ≡ 1 = one in absurd (omega (arith, e))
 
-  performed_tells : (steps : List ShardStep) (refused : Option Reply) → IsPerformed plans J op (effect_of op certs reading) steps refused → status_of (told_or refused told) ≢ 0 → status_of (told_or refused told) ≢ 10 → status_of (told_or refused told) ≢ 12 → status_of (told_or refused told) ≢ 13 → ⊥
-  performed_tells steps refused (through w lets) given full room held = given zero
-  performed_tells steps refused (not_held digest is w lacks) given full room held = held refl
-  performed_tells steps refused (no_room {shard} {told = said} {reply} lacks f) given full room held = room (room_status shard said reply lacks)
-  performed_tells steps refused (no_place f) given full room held = full refl
+  performed_tells : (steps : List ShardStep) (refused : Option Reply) → IsPerformed plans J op (effect_of op certs reading) steps refused → status_of (told_or refused told) ≢ 0 → status_of (told_or refused told) ≢ 10 → status_of (told_or refused told) ≢ 12 → status_of (told_or refused told) ≢ 13 → status_of (told_or refused told) ≢ 14 → ⊥
+  performed_tells steps refused (through w lets) given full room held issuers = given zero
+  performed_tells steps refused (not_held digest is w lacks) given full room held issuers = held refl
+  performed_tells steps refused (no_room {shard} {told = said} {reply} lacks f) given full room held issuers = ⊎_elim room issuers (room_statuses shard said reply lacks)
+  performed_tells steps refused (no_place f) given full room held issuers = full refl
 
   performed_not_full : (steps : List ShardStep) (refused : Option Reply) → IsPerformed plans J op (effect_of op certs reading) steps refused → (o limit : ℕ) → told_or refused told ≡ object_full o limit → ⊥
   performed_not_full steps refused (through w lets) o limit is = let e : status_of told ≡ 10 = ap status_of is in absurd (omega (arith, zero, e))
@@ -234,14 +235,14 @@ module _ (plans : List Plan) (plan : Plan) (J : Journals) (x : Seeking) where
       absurd (one_there at (sym (object_numbers o x (own_at asks (at ∷ []) steps) ∙ numbers_object o (at ∷ [])) ∙ nowhere o))
 
   guarded_tells : (own : Own) (reply : Reply) → IsGuarded plans plan J x own reply →
-      (status_of reply ≢ 0 → status_of reply ≢ 10 → status_of reply ≢ 12 → status_of reply ≢ 13 → IsUngranted (places_at x own) reply) ×
+      (status_of reply ≢ 0 → status_of reply ≢ 10 → status_of reply ≢ 12 → status_of reply ≢ 13 → status_of reply ≢ 14 → IsUngranted (places_at x own) reply) ×
       ((o limit : ℕ) → reply ≡ object_full o limit → IsUngranted (places_at x own) reply)
-  guarded_tells own reply (object_is_full at) = (λ a b c d. inr (λ o. refl), λ o limit is. inr (λ t. refl))
-  guarded_tells own reply (no_ruling {own = asks} before b u) = (λ e f c d. inr (λ o. object_numbers o x (own_at asks [] [])), λ o limit is. inr (λ t. object_numbers t x (own_at asks [] [])))
-  guarded_tells own reply (denied before s d tells) = (λ e f c h. inl refl, λ o limit is. inl refl)
+  guarded_tells own reply (object_is_full at) = (λ a b c d e. inr (λ o. refl), λ o limit is. inr (λ t. refl))
+  guarded_tells own reply (no_ruling {own = asks} before b u) = (λ e f c d g. inr (λ o. object_numbers o x (own_at asks [] [])), λ o limit is. inr (λ t. object_numbers t x (own_at asks [] [])))
+  guarded_tells own reply (denied before s d tells) = (λ e f c h i. inl refl, λ o limit is. inl refl)
   guarded_tells own reply (granted {place} {at} {entry} {c} {kept} {settled} {asks} {steps} {refused} before s g p out) =
       let told = Granted kept entry x.shard place c.proof c.cites (gives_for x before) in (
-        λ a b d e. absurd (performed_tells plans J.shards x.request.op x.certs x.reading told refl steps refused p a b d e),
+        λ a b d e f. absurd (performed_tells plans J.shards x.request.op x.certs x.reading told refl steps refused p a b d e f),
         λ o limit is. absurd (performed_not_full plans J.shards x.request.op x.certs x.reading told refl steps refused p o limit is),
       )
 
@@ -271,12 +272,12 @@ nothing_changes n alone old new payload used sent course g is =
     )
 
 pub replies_tell_ungranted : (n : Node) → RepliesTellUngranted n
-replies_tell_ungranted n J payload used sent (malformed lacks reads) = (λ a b c d. inr (λ o. refl), λ o limit is. inr (λ t. refl))
-replies_tell_ungranted n J payload used sent (unknown_channel r spelled lacks) = (λ a b c d. inr (λ o. refl), λ o limit is. inr (λ t. refl))
-replies_tell_ungranted n J payload used sent (bad_seal r key spelled keyed other) = (λ a b c d. inr (λ o. refl), λ o limit is. inr (λ t. refl))
-replies_tell_ungranted n J payload used sent (cert_refused asked first) = (λ a b c d. inr (λ o. refl), λ o limit is. inr (λ t. refl))
-replies_tell_ungranted n J payload used sent (relay_failed asked first) = (λ a b c d. inr (λ o. refl), λ o limit is. inr (λ t. refl))
-replies_tell_ungranted n J payload used sent (unknown_object opened lacks) = (λ a b c d. inr (λ o. refl), λ o limit is. inr (λ t. refl))
+replies_tell_ungranted n J payload used sent (malformed lacks reads) = (λ a b c d e. inr (λ o. refl), λ o limit is. inr (λ t. refl))
+replies_tell_ungranted n J payload used sent (unknown_channel r spelled lacks) = (λ a b c d e. inr (λ o. refl), λ o limit is. inr (λ t. refl))
+replies_tell_ungranted n J payload used sent (bad_seal r key spelled keyed other) = (λ a b c d e. inr (λ o. refl), λ o limit is. inr (λ t. refl))
+replies_tell_ungranted n J payload used sent (cert_refused asked first) = (λ a b c d e. inr (λ o. refl), λ o limit is. inr (λ t. refl))
+replies_tell_ungranted n J payload used sent (relay_failed asked first) = (λ a b c d e. inr (λ o. refl), λ o limit is. inr (λ t. refl))
+replies_tell_ungranted n J payload used sent (unknown_object opened lacks) = (λ a b c d e. inr (λ o. refl), λ o limit is. inr (λ t. refl))
 replies_tell_ungranted n J payload used sent (ruled {own} {reply} t reading plan planned r) = guarded_tells n.plans plan J _ own reply r
-replies_tell_ungranted n J payload used sent unread = (λ a b c d. inr (λ o. refl), λ o limit is. inr (λ t. refl))
-replies_tell_ungranted n J payload used sent (unopened asked interrupted) = (λ a b c d. inr (λ o. refl), λ o limit is. inr (λ t. refl))
+replies_tell_ungranted n J payload used sent unread = (λ a b c d e. inr (λ o. refl), λ o limit is. inr (λ t. refl))
+replies_tell_ungranted n J payload used sent (unopened asked interrupted) = (λ a b c d e. inr (λ o. refl), λ o limit is. inr (λ t. refl))

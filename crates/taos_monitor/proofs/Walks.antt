@@ -6,7 +6,7 @@ use Rattle.std.proofs.lemmas.List.Elements.{All-head, All-tail, All-nil, All-con
 use Rattle.std.proofs.lemmas.List.FromFn.{get_or-range_with_len, length-range_with_len}
 use Rattle.std.proofs.lemmas.Nat.{mod_below}
 use Rattle.std.proofs.lemmas.Option.{same_Some}
-use Rattle.object_core.specs.Operation.{Op, Read, Write, SetList, Hold, Discard, Forget, Sweep}
+use Rattle.object_core.specs.Operation.{Op, Read, Write, SetList, Hold, Discard, Forget, Sweep, Withdraw}
 use Rattle.stmt_codec.specs.Certificates.{Certificate}
 use Rattle.taos_wire.specs.Reply as replies
 use Rattle.taos_wire.specs.Reply.{Reply}
@@ -194,6 +194,7 @@ targets_there plans some Hold = below (length plans)
 targets_there plans some (Discard digest) = below (length plans)
 targets_there plans some (Forget channel) = All-cons (λ (s : ℕ). s < length plans) (home plans channel) [] (mod_below channel (length plans) some) (All-nil (λ (s : ℕ). s < length plans))
 targets_there plans some Sweep = below (length plans)
+targets_there plans some (Withdraw issuer) = below (length plans)
 
 -- the reply in place of the grant, by where the walk ended
 abbrev pub Refuses : Op → List ShardStep → Option Reply → Option Reply → Type 0

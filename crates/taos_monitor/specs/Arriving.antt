@@ -36,6 +36,10 @@ pub record IsAskedBy (keys : NodeKeys) (payload : List ℕ) (r : Request) : Type
   pub key : List ℕ
   pub asked : IsAsked keys.channels.entries payload r key
 
+-- the payload is no request under the seal of its channel's key
+abbrev pub IsUnasked : NodeKeys → List ℕ → Type 0
+IsUnasked keys payload = (r : Request) (key : List ℕ) → IsAsked keys.channels.entries payload r key → ⊥
+
 -- a course ends at the payload, without a seal, as the refusal says
 abbrev pub IsNotAsked : NodeKeys → List ℕ → Refusal → Type 0
 IsNotAsked keys payload f =

@@ -1,17 +1,17 @@
 -- The cause of each reply, by its status: in the words of what was presented, of what the link answered,
 -- and of what stands in the journals at own places.
-use Rattle.std.specs.Prelude.{◌≡◌, ◌≢◌, ◌⊎◌, ℕ, ◌+◌, ◌<◌, ◌≤◌, List, [], ◌∷◌, length, None, Some, Contains}
+use Rattle.std.specs.Prelude.{◌≡◌, ◌≢◌, ◌⊎◌, ℕ, ◌+◌, ◌<◌, ◌≤◌, false, List, [], ◌∷◌, length, None, Some, Contains}
 use Rattle.denial_link.specs.declared.link.Link.{Link}
 use Rattle.keyed_seal.specs.Keys.{key_of}
-use Rattle.object_core.specs.Operation.{Hold, Discard}
+use Rattle.object_core.specs.Operation.{Hold, Discard, Withdraw}
 use Rattle.object_core.specs.Shelving.{fixed_at}
 use Rattle.stmt_codec.specs.Certificates.{Certificate}
 use Rattle.taos_wire.specs.Request.{Request, Spells, IsAsked, IsSealed}
 use Rattle.taos_wire.specs.Reply.{Sent, status_of}
-use Rattle.agent_core.specs.declared.limits.TheConstants.{MAX_OWN, MAX_COMMONS}
+use Rattle.agent_core.specs.declared.limits.TheConstants.{MAX_OWN, MAX_COMMONS, MAX_WITHDRAWN}
 use Rattle.agent_core.specs.declared.told.Told.{Told}
-use Rattle.agent_core.specs.Held.{newly}
-use Rattle.agent_core.specs.State.{Plan, Event, Holds, brought}
+use Rattle.agent_core.specs.Held.{is_withdrawn}
+use Rattle.agent_core.specs.State.{Plan, Event, Holds, Withdraws, brought, new_commons}
 use Rattle.agent_core.specs.Journals.{Granted, Denied, IsVerdict}
 use Rattle.taos_monitor.specs.AtObject.{Seeking}
 use Rattle.taos_monitor.specs.Cells.{Node, HasPlan, Journals, AreLegal, Place}
@@ -51,9 +51,13 @@ module _ (n : Node) (J : Journals) (own : List Place) (x : Seeking) where
         ((told : Told) → TookStep shard told → ⊥) → AllDid → CausesEnd 10
     commons_full : {shard : ℕ} {told : Told} → x.request.op ≡ Hold →
         (s : HasStepped n J own shard (Holds x.certs) told) →
-        MAX_COMMONS < length (state_met n J own s).commons + length (newly (state_met n J own s).commons x.certs) →
+        MAX_COMMONS < length (state_met n J own s).commons + length (new_commons (state_met n J own s) x.certs) →
         CausesEnd 12
     nowhere_held : (digest : List ℕ) → x.request.op ≡ Discard digest → AllStepped → (SomeLetGo → ⊥) → CausesEnd 13
+    issuers_full : {shard issuer : ℕ} {told : Told} → x.request.op ≡ Withdraw issuer →
+        (s : HasStepped n J own shard (Withdraws issuer) told) →
+        is_withdrawn (state_met n J own s).withdrawn issuer ≡ false →
+        MAX_WITHDRAWN ≤ length (state_met n J own s).withdrawn → CausesEnd 14
 
   -- ---- what came to its object
 

@@ -159,6 +159,32 @@ seen_of shards objects = record {
 abbrev pub seen_by : ShardsSeen → ShelfSeen → Seen
 seen_by s h = seen_of (shards_in s) (objects_in h)
 
+-- the cells of a node, as they are shown
+pub record CellsSeen : Type 0 where
+  pub shards : ShardsSeen
+  pub shelf : ShelfSeen
+
+-- the cells, of these
+abbrev pub both_cells : ShardsSeen → ShelfSeen → CellsSeen
+both_cells shards shelf = record { shards = shards; shelf = shelf }
+
+-- the journals that were seen of them are legal
+abbrev pub AreLegalCells : CellsSeen → Type 0
+AreLegalCells c = AreLegalIn c.shards.plans c.shelf.objects (seen_by c.shards c.shelf).journals
+
+-- what the shards are opened with stayed, and whether nobody else steps them
+pub record ShardsStay (before after : ShardsSeen) : Type 0 where
+  pub plans : after.plans ≡ before.plans
+  pub alone : after.alone ≡ before.alone
+
+-- the same of all cells; and no object is taken
+pub record CellsStay (before after : CellsSeen) : Type 0 where
+  pub plans : after.shards.plans ≡ before.shards.plans
+  pub alone : after.shards.alone ≡ before.shards.alone
+  pub objects : after.shelf.objects ≡ before.shelf.objects
+  pub others_take : after.shelf.alone ≡ before.shelf.alone
+  pub taken : after.shelf.taken ≡ None
+
 -- which cells nobody else steps: the shards, or the objects
 abbrev pub alone_of : Bool → Bool → Cell → Bool
 alone_of shards objects (OfShard s) = shards

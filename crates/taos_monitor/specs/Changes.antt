@@ -60,11 +60,11 @@ NothingChanges n =
     ((o : ℕ) → alone (OfObject o) ≡ true → (plan : ObjectPlan) →
     IsSameObject plan (old.journals.objects o) (new.journals.objects o))
 
--- By its reply each request is one that has any other status than 0, 10, 12 and 13, or that is told
--- that the journal of an object is full.
+-- By its reply each request is one that has any other status than 0, 10, 12, 13 and 14, or that is
+-- told that the journal of an object is full.
 abbrev pub RepliesTellUngranted : Node → Type 0
 RepliesTellUngranted n =
     (J : Journals) (payload : List ℕ) (used : Used) (sent : Sent) → Course n J payload used sent →
     (status_of sent.reply ≢ 0 → status_of sent.reply ≢ 10 → status_of sent.reply ≢ 12 →
-    status_of sent.reply ≢ 13 → IsUngranted used.places sent.reply) ×
+    status_of sent.reply ≢ 13 → status_of sent.reply ≢ 14 → IsUngranted used.places sent.reply) ×
     ((o limit : ℕ) → sent.reply ≡ object_full o limit → IsUngranted used.places sent.reply)

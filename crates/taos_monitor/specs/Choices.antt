@@ -1,5 +1,5 @@
 -- What the answers of a node depend on where nobody else steps its cells: the frames, the readings of
--- the clock, the answers of the link, and the proofs that were made for grants.
+-- the clock, the answers of the fetch and of the link, and the proofs that were made for grants.
 use Rattle.std.specs.Prelude.{◌≡◌, ◌≢◌, ℕ, Bool, true, false, List, [], ◌∷◌, map, All, Option, Some, None}
 use Rattle.frame_link.specs.declared.outcome.Outcome.{Outcome}
 use Rattle.frame_link.specs.declared.outcome.Outcome.TheVariants.{End, Truncated, TooLong, ReadFault, WriteFault, ClockFault, Spent, NoMemory}
@@ -13,7 +13,8 @@ use Rattle.taos_monitor.specs.Cells.{Node, Cell, Journals}
 use Rattle.taos_monitor.specs.World.{Setting, World}
 use Rattle.taos_monitor.specs.AtObject.{Seeking, Own, IsGuardedAfter, object_is_full, no_ruling, denied, granted}
 use Rattle.taos_monitor.specs.Course.{Used, CourseAfter, malformed, unknown_channel, bad_seal, cert_refused, relay_failed, unknown_object, ruled, unread, unopened}
-use Rattle.taos_monitor.specs.Run.{Turn, frames_of, readings_of, calls_of}
+use Rattle.taos_monitor.specs.Course.{TurnAfter, plain, pull_failed, unfetched, unpulled, pull_stopped, pulled}
+use Rattle.taos_monitor.specs.Run.{Turn, frames_of, readings_of, pulls_of, calls_of}
 use Rattle.taos_monitor.specs.Connection.{AnswersFrame, GivesUpFrame, IsConnection}
 
 -- ---- what was chosen
@@ -44,6 +45,16 @@ choice_of (ruled t reading plan planned guarded) = made_for guarded
 choice_of unread = None
 choice_of (unopened asked interrupted) = None
 
+-- the same, with what was fetched for it
+abbrev pub choice_in : {n : Node} {past J : Journals} {payload : List ℕ} {used : Used} {sent : Sent} →
+    TurnAfter n past J payload used sent → Option Cached
+choice_in (plain course) = choice_of course
+choice_in (pull_failed asked) = None
+choice_in (unfetched asked) = None
+choice_in (unpulled asked interrupted) = None
+choice_in (pull_stopped asked failed) = None
+choice_in (pulled asked opened course) = choice_of course
+
 -- ---- the answers of a connection
 
 -- the answer to a frame: what its course used and sent, and the proof that was made in it
@@ -61,7 +72,7 @@ module _ (s : Setting) where
       AnswersFrame s before payload reply after → Answer
   answer_by before payload reply after x = record {
     turn = record { frame = payload; used = x.used; sent = x.sent };
-    choice = choice_of x.course;
+    choice = choice_in x.course;
   }
 
   -- the answers to frames, one after the other
@@ -109,12 +120,13 @@ SameChoices [] others = Unit {0}
 abbrev pub HadMemory : Answer → Type 0
 HadMemory a = a.turn.sent.reply ≢ replies.NoMemory
 
--- Both answer the same frames, by the same readings of the clock and the same answers of the link;
--- where both had a grant for which no proof was kept, they made one proof; and memory was never
+-- Both answer the same frames, by the same readings of the clock and the same answers of the fetch and
+-- of the link; where both had a grant for which no proof was kept, they made one proof; and memory was never
 -- lacking.
 pub record AreAlike (answers others : List Answer) : Type 0 where
   pub frames : frames_of (turns_of answers) ≡ frames_of (turns_of others)
   pub readings : readings_of (turns_of answers) ≡ readings_of (turns_of others)
+  pub pulls : pulls_of (turns_of answers) ≡ pulls_of (turns_of others)
   pub calls : calls_of (turns_of answers) ≡ calls_of (turns_of others)
   pub choices : SameChoices answers others
   pub had_memory : All HadMemory answers
@@ -126,22 +138,23 @@ IsAlone s = (cell : Cell) → s.alone cell ≡ true
 
 -- ---- laws
 
--- a frame is answered in one way, after the same entries
+-- a frame is answered in one way, after the same entries, where both fetch or neither does
 abbrev pub AnswersAgree : Setting → Type 0
 AnswersAgree s =
     IsAlone s → (payload reply other : List ℕ) (before after start final : World) →
     (x : AnswersFrame s before payload reply after) (y : AnswersFrame s start payload other final) →
-    before.seen.journals ≡ start.seen.journals →
+    before.seen.journals ≡ start.seen.journals → before.fetch.pulls ≡ start.fetch.pulls →
     AreAlike (answer_by s before payload reply after x ∷ [])
     (answer_by s start payload other final y ∷ []) →
     (reply ≡ other) × (after.seen.journals ≡ final.seen.journals)
 
--- connections alike, after the same entries, write the same replies and leave the same entries
+-- connections alike, after the same entries, where both fetch or neither does, write the same replies and leave the same entries
 abbrev pub ConnectionsAgree : Setting → Type 0
 ConnectionsAgree s =
     IsAlone s → (limit most : ℕ) (before after start final : Line World) (outcome other : Outcome) →
     (x : IsConnection s limit before after outcome) (y : IsConnection s most start final other) →
     before.service.seen.journals ≡ start.service.seen.journals →
+    before.service.fetch.pulls ≡ start.service.fetch.pulls →
     AreAlike (answers_in s limit before after outcome x.served)
     (answers_in s most start final other y.served) →
     (link.replies_of x.served.turns ≡ link.replies_of y.served.turns)

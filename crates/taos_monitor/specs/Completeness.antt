@@ -1,25 +1,26 @@
 -- Completeness of a request: what alone keeps one that came to its object from its verdict.
-use Rattle.std.specs.Prelude.{◌≡◌, ◌≢◌, ◌⊎◌, ℕ, ◌+◌, ◌<◌, ◌≤◌, ◌-◌, ◌^◌, Bool, List, [], ◌∷◌, length, Some, slice_get, Contains, All}
+use Rattle.std.specs.Prelude.{◌≡◌, ◌≢◌, ◌⊎◌, ℕ, ◌+◌, ◌<◌, ◌≤◌, ◌-◌, ◌^◌, Bool, false, List, [], ◌∷◌, length, Some, slice_get, Contains, All}
 use Rattle.denial_link.specs.declared.link.Link.{Link}
-use Rattle.frame_link.specs.Outside.{OutsideSeen}
 use Rattle.object_core.specs.Objects.{ObjectEntry}
-use Rattle.object_core.specs.Operation.{Hold, Discard}
+use Rattle.object_core.specs.Operation.{Hold, Discard, Withdraw}
 use Rattle.stmt_codec.specs.Certificates.{Certificate}
 use Rattle.taos_calculus.specs.Rules.{Line}
 use Rattle.taos_wire.specs.Request.{Request, IsAsked}
 use Rattle.taos_wire.specs.Reply as replies
 use Rattle.taos_wire.specs.Reply.{Reply, LinkSent, Sent, status_of}
-use Rattle.agent_core.specs.declared.limits.TheConstants.{MAX_OWN, MAX_COMMONS}
+use Rattle.agent_core.specs.declared.limits.TheConstants.{MAX_OWN, MAX_COMMONS, MAX_WITHDRAWN}
 use Rattle.agent_core.specs.declared.told.Told.{Told}
-use Rattle.agent_core.specs.Held.{newly}
-use Rattle.agent_core.specs.State.{Plan, State, Ask, Event, Asks, Holds, Discards, swept, moment_of, brought}
+use Rattle.agent_core.specs.Held.{is_withdrawn}
+use Rattle.agent_core.specs.State.{Plan, State, Ask, Event, Asks, Holds, Discards, Withdraws, swept, moment_of, brought, new_commons}
 use Rattle.agent_core.specs.Journals.{Entry, entry, Begins, Stands, state_after, Granted, Denied, IsVerdict}
+use Rattle.cred_pull.specs.Fetching as fetching
+use Rattle.cred_pull.specs.Fetching.{Pull}
 use Rattle.taos_monitor.specs.declared.handling.Handled.{Handled}
 use Rattle.taos_monitor.specs.declared.handling.Handled.TheVariants as handled
 use Rattle.taos_monitor.specs.Asking.{shard_full}
 use Rattle.taos_monitor.specs.AtObject.{Seeking, asks_for, object_full}
 use Rattle.taos_monitor.specs.Cells.{Node, HasPlan, Journals, no_entries, AreLegal, Place, in_shard}
-use Rattle.taos_monitor.specs.Course.{Arrival, its_seeking, Used, CourseAfter}
+use Rattle.taos_monitor.specs.Course.{Arrival, arrival_in, ComesToClock, its_seeking, Used, CourseAfter, TurnAfter}
 use Rattle.taos_monitor.specs.Credentials.{LinkCall, Failed}
 use Rattle.taos_monitor.specs.Handling.{HasCourse, Answers, Handles, HandlesCause}
 use Rattle.taos_monitor.specs.Operations.{targets_of}
@@ -60,7 +61,8 @@ module _ (n : Node) (J : Journals) (own : List Place) where
 
   -- What keeps a request that came to its object from its verdict, or its grant from being told, and
   -- the reply: its number is not new at its Ask, there is no room for what it presents, for an entry,
-  -- or for what it holds in common, or no shard held what it would discard.
+  -- for what it holds in common or for the issuer that it withdraws, or no shard held what it would
+  -- discard.
   pub data IsHindered (x : Seeking) : Reply → Type 0 where
     object_is_full : length (J.objects x.request.object) ≡ x.fixed.limit →
         IsHindered x (object_full x.request.object x.fixed.limit)
@@ -76,11 +78,16 @@ module _ (n : Node) (J : Journals) (own : List Place) where
         IsHindered x (replies.ChannelFull (length ((state_asked k).own x.request.channel)))
     commons_full : {shard : ℕ} {told : Told} → x.request.op ≡ Hold →
         (s : HasStepped shard (Holds x.certs) told) →
-        MAX_COMMONS < length (state_met s).commons + length (newly (state_met s).commons x.certs) →
+        MAX_COMMONS < length (state_met s).commons + length (new_commons (state_met s) x.certs) →
         IsHindered x (replies.CommonsFull (length (state_met s).commons) shard)
     nowhere_held : (digest : List ℕ) → x.request.op ≡ Discard digest →
         ((shard : ℕ) → shard < length n.plans → HasStepped shard (Discards digest) (Told.Removed 0)) →
         IsHindered x (replies.NotHeld digest)
+    issuers_full : {shard issuer : ℕ} {told : Told} → x.request.op ≡ Withdraw issuer →
+        (s : HasStepped shard (Withdraws issuer) told) →
+        is_withdrawn (state_met s).withdrawn issuer ≡ false →
+        MAX_WITHDRAWN ≤ length (state_met s).withdrawn →
+        IsHindered x (replies.WithdrawnFull (length (state_met s).withdrawn) shard)
 
   -- the reply is the verdict on the request's Ask, which is a grant or a denial
   pub data IsItsVerdict (x : Seeking) : Reply → Type 0 where
@@ -123,23 +130,31 @@ VerdictsAreExact n =
 abbrev pub StoodStill : ℕ → ℕ → Type 0
 StoodStill before after = (after ≡ before) × (before < 2 ^ 64 - 1)
 
--- neither the link's count of failures rose, nor the clock's
-abbrev pub NothingFailed : (before after : OutsideSeen) → Type 0
+-- no count of failures rose, neither the link's, nor the clock's, nor that of the fetch
+abbrev pub NothingFailed : (before after : World) → Type 0
 NothingFailed before after =
-    StoodStill before.link.faults after.link.faults ×
-    StoodStill before.clock.faults after.clock.faults
+    StoodStill before.outside.link.faults after.outside.link.faults ×
+    StoodStill before.outside.clock.faults after.outside.clock.faults ×
+    StoodStill before.fetch.seen.faults after.fetch.seen.faults
 
--- none of the calls failed
+-- none of the calls of the link failed
 abbrev pub NoneFailed : List LinkCall → Type 0
 NoneFailed calls = All (λ (c : LinkCall). c.answer ≢ Failed) calls
 
--- this is a course of the payload in which no call failed, and if it came to its object it is judged
+-- none of the calls of the fetch did
+abbrev pub NoPullFailed : List Pull → Type 0
+NoPullFailed pulls = All (λ (p : Pull). p ≢ fetching.Failed) pulls
+
+-- This is a course of the payload, with what was fetched for it, in which no call failed. If it came to
+-- its object, as it was sent or with what was pulled, it is judged.
 pub record IsWhole (n : Node) (past J : Journals) (payload : List ℕ) (used : Used) (sent : Sent) :
     Type 0 where
-  pub course : CourseAfter n past J payload used sent
+  pub course : TurnAfter n past J payload used sent
   pub answered : NoneFailed used.calls
-  pub judged : (t : Arrival n payload) → used.calls ≡ t.calls →
-      IsJudged J t used sent.reply ⊎ (sent.reply ≡ replies.NoMemory)
+  pub fetched : NoPullFailed used.pulls
+  pub judged : (pulls : List Pull) (calls : List LinkCall) (c : ComesToClock n payload pulls calls) →
+      used.pulls ≡ pulls → used.calls ≡ calls →
+      IsJudged J (arrival_in n c) used sent.reply ⊎ (sent.reply ≡ replies.NoMemory)
 
 -- the turn of a frame is, whatever was seen before
 abbrev pub IsWholeTurn : Node → Journals → Turn → Type 0
@@ -164,13 +179,13 @@ module _ (s : Setting) (before after : World) where
   pub record AnswersPayload (payload bytes : List ℕ) (h : Handled) : Type 0 where
     pub answers : Answers s before after payload bytes h
     pub cause : HandlesCause (clock_faults before) (clock_faults after) h
-    pub whole : NothingFailed before.outside after.outside → AnswersWhole payload bytes h
+    pub whole : NothingFailed before after → AnswersWhole payload bytes h
 
   -- the same of a request, whichever payload under its channel's seal it was
   pub record AnswersRequest (r : Request) (bytes : List ℕ) (h : Handled) : Type 0 where
     pub handles : Handles s before after r bytes h
     pub cause : HandlesCause (clock_faults before) (clock_faults after) h
-    pub whole : NothingFailed before.outside after.outside → HandlesWhole r bytes h
+    pub whole : NothingFailed before after → HandlesWhole r bytes h
 
 -- what was answered with its cause is whole where no count of failures rose
 abbrev pub AnswersAreWhole : Type 0

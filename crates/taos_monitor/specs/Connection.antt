@@ -1,15 +1,17 @@
 -- A connection that is served: its frames as `frame_link` serves them, and the course that each had
 -- in the journals as they are at the end.
-use Rattle.std.specs.Prelude.{ℕ, List, All}
+use Rattle.std.specs.Prelude.{◌≡◌, ℕ, true, List, ◌++◌, All, is_some}
 use Rattle.frame_link.specs.declared.outcome.Outcome.{Outcome}
+use Rattle.frame_link.specs.declared.outcome.Outcome.TheVariants.{ClockFault}
 use Rattle.frame_link.specs.Served.{Line, IsServed, HasCauses, IsComplete, replies_of}
+use Rattle.cred_pull.specs.Fetching.{Pull}
 use Rattle.taos_monitor.specs.Cells.{AreLegal, GoesOn}
 use Rattle.taos_monitor.specs.World.{Setting, World, clock_faults}
 use Rattle.taos_monitor.specs.Credentials.{IsLinked}
 use Rattle.taos_monitor.specs.Course.{Used}
 use Rattle.taos_monitor.specs.Completeness.{StoodStill, IsWholeTurn}
-use Rattle.taos_monitor.specs.Handling.{Gave, AnsweredTo, UnansweredAtClock}
-use Rattle.taos_monitor.specs.Run.{Answered}
+use Rattle.taos_monitor.specs.Handling.{ArePulls, PullsFor, Gave, AnsweredTo, UnansweredAtClock}
+use Rattle.taos_monitor.specs.Run.{Answered, pulls_of}
 
 -- a course of the payload was taken to the reply
 abbrev pub AnswersFrame : Setting → World → List ℕ → List ℕ → World → Type 0
@@ -36,10 +38,17 @@ pub record IsConnection (s : Setting) (limit : ℕ) (before after : Line World) 
   pub gave : Gave before.service.outside.clock.told after.service.outside.clock.told used.readings
   pub linked : IsLinked s.node.number before.service.outside.link after.service.outside.link
       used.calls
+  -- what was fetched: where certificates are, one call for each reply under a seal, and one for the
+  -- frame at which the clock failed; else none
+  pub fetched : ArePulls before.service.fetch after.service.fetch used.pulls
+  pub asked : All (λ t. PullsFor before.service.fetch.pulls (is_some t.sent.key) t.used.pulls)
+      answered.turns
+  pub last_asked : outcome ≡ ClockFault → (last : List Pull) →
+      used.pulls ≡ pulls_of answered.turns ++ last → PullsFor before.service.fetch.pulls true last
 
 -- The same, with the cause of its outcome: the counts of faults are of the same input, output and
 -- clock. An input of whole frames is answered to its end, unless a count rises; and each answer is
--- whole, unless the link's does.
+-- whole, unless that of the link or of the fetch does.
 pub record Connects (s : Setting) (limit : ℕ) (before after : Line World) (outcome : Outcome) :
     Type 0 where
   pub connection : IsConnection s limit before after outcome
@@ -47,4 +56,5 @@ pub record Connects (s : Setting) (limit : ℕ) (before after : Line World) (out
   pub complete : IsComplete clock_faults limit before after outcome
   pub whole :
       StoodStill before.service.outside.link.faults after.service.outside.link.faults →
+      StoodStill before.service.fetch.seen.faults after.service.fetch.seen.faults →
       All (IsWholeTurn s.node after.service.seen.journals) connection.answered.turns

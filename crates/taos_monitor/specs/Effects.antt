@@ -41,6 +41,7 @@ removed_by _ = 0
 -- the reply where a shard was told this for want of room, in place of doing what the event asks
 abbrev pub lacks_room : (shard : ℕ) → Told → Option Reply
 lacks_room shard (Told.CommonsFull held) = Some (replies.CommonsFull held shard)
+lacks_room shard (Told.WithdrawnFull held) = Some (replies.WithdrawnFull held shard)
 lacks_room shard _ = None
 
 -- this is told for want of room
@@ -205,3 +206,19 @@ pub record IsDueOf (plans : List Plan) (op : Op) (certs : List Certificate) (rea
     (due : Due) : Type 0 where
   pub effect_is : effect_due due ≡ effect_of op certs reading
   pub shards_are : shards_due due ≡ targets_of plans op
+
+-- ---- the whole
+
+-- what is due for a granted operation was done, and the reply is this where it is not the grant's
+abbrev pub Performs : (before after : ShardsSeen) → Op → Due → Option Reply → Type 0
+Performs before after op due refused =
+    (certs : List Certificate) (reading : ℕ) → IsDueOf before.plans op certs reading due →
+    SteppedBy before after (λ steps.
+    IsPerformed before.plans after.seen op (effect_of op certs reading) steps refused)
+
+-- the same of an operation with this ruling
+abbrev pub PerformsRuled : (before after : ShardsSeen) → Op → Due → Ruling → Option Reply → Type 0
+PerformsRuled before after op due ruling refused =
+    (certs : List Certificate) (reading : ℕ) → IsDueOf before.plans op certs reading due →
+    SteppedBy before after (λ steps. PerformedAs ruling
+    (IsPerformed before.plans after.seen op (effect_of op certs reading)) steps refused)

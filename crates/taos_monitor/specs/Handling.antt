@@ -1,5 +1,5 @@
 -- What the handling of a request promises: from its payload on, and from where it was read on.
-use Rattle.std.specs.Prelude.{◌≡◌, ℕ, ◌<◌, ◌≤◌, ◌^◌, List, [], ◌∷◌, length, Option}
+use Rattle.std.specs.Prelude.{◌≡◌, ℕ, ◌<◌, ◌≤◌, ◌^◌, Bool, true, false, List, [], ◌∷◌, length, Option, IsSome, is_some}
 use Rattle.std.specs.Io.KnownBytes.{Keeps}
 use Rattle.frame_link.specs.Faults.{Rose}
 use Rattle.frame_link.specs.Readings.{ShowsKnown}
@@ -12,15 +12,34 @@ use Rattle.object_core.specs.Shelving.{ObjectFixed}
 use Rattle.agent_core.specs.State.{Plan}
 use Rattle.taos_monitor.specs.Asking.{TellsFull}
 use Rattle.taos_monitor.specs.Cells.{AreLegal, GoesOn, HasPlan}
-use Rattle.taos_monitor.specs.World.{Setting, World}
+use Rattle.taos_monitor.specs.World.{FetchUse, Setting, World}
 use Rattle.taos_monitor.specs.Credentials.{LinkCall, IsLinked}
-use Rattle.taos_monitor.specs.Course.{brought, HasArrived, Arrival, Used, CourseAfter}
+use Rattle.cred_pull.specs.Fetching.{FetchSeen, IsFetched, Pull}
+use Rattle.taos_monitor.specs.Course.{brought, ComesToClock, HasArrived, Used, CourseAfter, TurnAfter}
 
 -- the clock gave these readings, one after the other
 abbrev pub Gave : Option (List ℕ) → Option (List ℕ) → List ℕ → Type 0
 Gave before after [] = Keeps before after
 Gave before after (x ∷ xs) =
     (middle : Option (List ℕ)) × ShowsKnown before middle x × Gave middle after xs
+
+-- the fetch answered so, one call after the other
+abbrev pub AreFetched : FetchSeen → FetchSeen → List Pull → Type 0
+AreFetched before after [] = after ≡ before
+AreFetched before after (pull ∷ pulls) =
+    (middle : FetchSeen) × IsFetched before middle pull × AreFetched middle after pulls
+
+-- the same, and the use that is made of it stayed
+abbrev pub ArePulls : FetchUse → FetchUse → List Pull → Type 0
+ArePulls before after pulls =
+    (after.pulls ≡ before.pulls) × AreFetched before.seen after.seen pulls
+
+-- where certificates are fetched, there is one call of the fetch for what is under its channel's
+-- seal; and none for anything else, so none before the seal was checked
+abbrev pub PullsFor : (pulls under_seal : Bool) → List Pull → Type 0
+PullsFor true true pulls = length pulls ≡ 1
+PullsFor true false pulls = pulls ≡ []
+PullsFor false under_seal pulls = pulls ≡ []
 
 module _ (s : Setting) (before after : World) where
   -- a course of which this holds was taken to a reply
@@ -36,29 +55,36 @@ module _ (s : Setting) (before after : World) where
         used.places sent.reply
     pub gave : Gave before.outside.clock.told after.outside.clock.told used.readings
     pub linked : IsLinked s.node.number before.outside.link after.outside.link used.calls
+    pub fetched : ArePulls before.fetch after.fetch used.pulls
+    pub asked : PullsFor before.fetch.pulls (is_some sent.key) used.pulls
     -- the bytes are those of the reply, with its tag
     pub spelled : bytes ≡ spelling sent
     -- the bytes fit a frame
-    pub short : length bytes < 2 ^ 32
+    pub short : length bytes < 2 ^ 26
 
   -- something came to the clock, which failed: no shard was stepped, and no object taken
-  pub record StopsAtClock (HasCome : List LinkCall → Type 0) : Type 0 where
+  pub record StopsAtClock (HasCome : List Pull → List LinkCall → Type 0) : Type 0 where
+    pub pulls : List Pull
     pub calls : List LinkCall
     pub unchanged : after.seen ≡ before.seen
-    pub come : HasCome calls
+    pub come : HasCome pulls calls
+    pub fetched : ArePulls before.fetch after.fetch pulls
+    pub asked : PullsFor before.fetch.pulls true pulls
     pub keeps : Keeps before.outside.clock.told after.outside.clock.told
     pub linked : IsLinked s.node.number before.outside.link after.outside.link calls
 
-  -- a course of the request was taken to a reply, whichever payload under its channel's seal it was
+  -- a course of the request was taken to a reply under a seal, whichever payload under its channel's
+  -- seal it was
   abbrev pub HandledTo : Request → List ℕ → Type 0
   HandledTo r bytes =
-      HasCourse (λ used sent. (payload key : List ℕ) → IsAsked s.node.channels payload r key →
-      CourseAfter s.node before.seen.journals after.seen.journals payload used sent) bytes
+      HasCourse (λ used sent. IsSome sent.key ×
+      ((payload key : List ℕ) → IsAsked s.node.channels payload r key →
+      CourseAfter s.node before.seen.journals after.seen.journals payload used sent)) bytes
 
   -- the request came to the clock, which failed
   abbrev pub StoppedAtClock : Request → Type 0
   StoppedAtClock r =
-      StopsAtClock (λ calls. (certs : List Certificate) × (object : ObjectFixed) ×
+      StopsAtClock (λ pulls calls. (pulls ≡ []) × (certs : List Certificate) × (object : ObjectFixed) ×
       ((payload key : List ℕ) → IsAsked s.node.channels payload r key →
       HasArrived s.node payload r key (brought calls certs object)))
 
@@ -67,16 +93,24 @@ module _ (s : Setting) (before after : World) where
   Handles r bytes handled.Replied = HandledTo r bytes
   Handles r bytes handled.ClockFault = StoppedAtClock r
 
+  -- the same of a request for which certificates are fetched
+  abbrev pub HandlesPulled : Request → List ℕ → Handled → Type 0
+  HandlesPulled r bytes handled.Replied =
+      HasCourse (λ used sent. (payload key : List ℕ) → IsAsked s.node.channels payload r key →
+      TurnAfter s.node before.seen.journals after.seen.journals payload used sent) bytes
+  HandlesPulled r bytes handled.ClockFault =
+      StopsAtClock (λ pulls calls. (payload key : List ℕ) → IsAsked s.node.channels payload r key →
+      ComesToClock s.node payload pulls calls)
+
   -- a course of the payload was taken to a reply
   abbrev pub AnsweredTo : List ℕ → List ℕ → Type 0
   AnsweredTo payload bytes =
-      HasCourse (λ used sent. CourseAfter s.node before.seen.journals after.seen.journals payload used
+      HasCourse (λ used sent. TurnAfter s.node before.seen.journals after.seen.journals payload used
       sent) bytes
 
   -- the payload came to the clock, which failed
   abbrev pub UnansweredAtClock : List ℕ → Type 0
-  UnansweredAtClock payload =
-      StopsAtClock (λ calls. (t : Arrival s.node payload) × (t.calls ≡ calls))
+  UnansweredAtClock payload = StopsAtClock (ComesToClock s.node payload)
 
   -- one or the other, of a payload
   abbrev pub Answers : List ℕ → List ℕ → Handled → Type 0

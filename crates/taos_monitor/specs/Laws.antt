@@ -5,7 +5,7 @@ use Rattle.frame_link.specs.declared.outcome.Outcome.TheVariants.{End}
 use Rattle.taos_wire.specs.Reply.{Sent, CertRefused, spelling, status_of}
 use Rattle.taos_monitor.specs.Cells.{Node, Journals, Cell, Place, entries_in, AreLegal, Extends, IsAfter, Seen, GoesOn}
 use Rattle.taos_monitor.specs.Credentials.{LinkAnswer, Resealed, Refused, Lacked, Failed, LinkCall, FailedAs}
-use Rattle.taos_monitor.specs.Course.{Arrival, Used, uses, Course}
+use Rattle.taos_monitor.specs.Course.{Arrival, Used, uses, fetching, Course}
 use Rattle.taos_monitor.specs.Run.{Turn, IsCourse, FoundFull, Answered}
 
 -- a course in journals is one in all legal journals that go on from these
@@ -32,8 +32,8 @@ AnsweredStays n =
 -- what was used first, and then
 abbrev pub both : Used → Used → Used
 both first later =
-    uses (first.readings ++ later.readings) (first.calls ++ later.calls)
-    (first.places ++ later.places)
+    fetching (first.pulls ++ later.pulls) (first.readings ++ later.readings)
+    (first.calls ++ later.calls) (first.places ++ later.places)
 
 -- what is answered in journals is so with one frame more, whose course stands, by new places, in
 -- journals that went on

@@ -1,6 +1,7 @@
 pub mod Planned
 pub mod Cells
 pub mod World
+pub mod Reaching
 pub mod Credentials
 pub mod Refusals
 pub mod Presenting
@@ -14,8 +15,10 @@ pub mod Ruling
 pub mod Handling
 pub mod Completeness
 pub mod Causes
+pub mod PullCauses
 pub mod Run
 pub mod Connection
+pub mod Desk
 pub mod Serving
 pub mod Laws
 pub mod Verdicts

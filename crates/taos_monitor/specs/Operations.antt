@@ -1,9 +1,9 @@
 -- What a granted operation does besides what its object makes of it.
 use Rattle.std.specs.Prelude.{ℕ, List, [], ◌∷◌, length, Option, None, Some}
 use Rattle.std.specs.List.{range_with_len}
-use Rattle.object_core.specs.Operation.{Op, Read, Write, SetList, Hold, Discard, Forget, Sweep}
+use Rattle.object_core.specs.Operation.{Op, Read, Write, SetList, Hold, Discard, Forget, Sweep, Withdraw}
 use Rattle.stmt_codec.specs.Certificates.{Certificate}
-use Rattle.agent_core.specs.State.{Plan, Event, Asks, Keeps, Holds, Discards, Forgets, Expires}
+use Rattle.agent_core.specs.State.{Plan, Event, Asks, Keeps, Holds, Discards, Forgets, Expires, Withdraws}
 use Rattle.agent_core.specs.Plans.{home}
 
 -- what it gives: the content for a Read
@@ -15,6 +15,7 @@ result_of Hold content = []
 result_of (Discard digest) content = []
 result_of (Forget channel) content = []
 result_of Sweep content = []
+result_of (Withdraw issuer) content = []
 
 -- the event that it is to each shard that it steps, by the certificates that its request presented
 -- and the reading of its clock; what is done at the object alone is none
@@ -26,6 +27,7 @@ effect_of Hold certs reading = Some (Holds certs)
 effect_of (Discard digest) certs reading = Some (Discards digest)
 effect_of (Forget channel) certs reading = Some (Forgets channel)
 effect_of Sweep certs reading = Some (Expires reading)
+effect_of (Withdraw issuer) certs reading = Some (Withdraws issuer)
 
 -- the shards that it steps, in order: that of its channel for a Forget, else all or none
 abbrev pub targets_of : List Plan → Op → List ℕ
@@ -36,6 +38,7 @@ targets_of plans Hold = range_with_len 0 (length plans)
 targets_of plans (Discard digest) = range_with_len 0 (length plans)
 targets_of plans (Forget channel) = home plans channel ∷ []
 targets_of plans Sweep = range_with_len 0 (length plans)
+targets_of plans (Withdraw issuer) = range_with_len 0 (length plans)
 
 -- the event changes which certificates shards hold, and nobody asks by it
 abbrev pub IsEffect : Event → Type 0
@@ -45,3 +48,4 @@ IsEffect (Holds certs) = Unit {0}
 IsEffect (Discards digest) = Unit {0}
 IsEffect (Forgets channel) = Unit {0}
 IsEffect (Expires reading) = Unit {0}
+IsEffect (Withdraws issuer) = Unit {0}

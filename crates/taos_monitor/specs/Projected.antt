@@ -6,7 +6,7 @@ use Rattle.prin_term.specs.View.{Grant}
 use Rattle.object_core.specs.Objects.{ObjectEntry, written_by, listed_by, is_grant}
 use Rattle.taos_wire.specs.Reply.{Reply}
 use Rattle.agent_core.specs.declared.told.Told.{Told}
-use Rattle.agent_core.specs.State.{Plan, Ask, Event, Asks, Keeps, Holds, Discards, Forgets, Expires}
+use Rattle.agent_core.specs.State.{Plan, Ask, Event, Asks, Keeps, Holds, Discards, Forgets, Expires, Withdraws}
 use Rattle.agent_core.specs.Journals.{Entry, entry, Stands}
 use Rattle.taos_monitor.specs.Cells.{Node, Journals, Cell, OfShard, OfObject, Place}
 use Rattle.taos_monitor.specs.Course.{Used}
@@ -22,7 +22,8 @@ pub data Effect : Type 0 where
   Written : (object : ℕ) → (content : List ℕ) → Effect
   -- its access list is replaced
   Listed : (object : ℕ) → (list : List Grant) → Effect
-  -- the shard of this number is stepped by a Hold, a Discard, a Forget or a Sweep, and told this
+  -- the shard of this number is stepped by a Hold, a Discard, a Forget, a Sweep or a Withdraw, and told
+  -- this
   Stepped : (shard : ℕ) → Event → Told → Effect
 
 -- what is made of a value, where there is one
@@ -44,6 +45,7 @@ steps_of s (Holds certs) told = Stepped s (Holds certs) told ∷ []
 steps_of s (Discards digest) told = Stepped s (Discards digest) told ∷ []
 steps_of s (Forgets channel) told = Stepped s (Forgets channel) told ∷ []
 steps_of s (Expires reading) told = Stepped s (Expires reading) told ∷ []
+steps_of s (Withdraws issuer) told = Stepped s (Withdraws issuer) told ∷ []
 
 -- of the entry that has this number in its cell
 abbrev pub effects_in : Journals → Cell → ℕ → List Effect

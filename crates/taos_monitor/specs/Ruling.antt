@@ -4,7 +4,7 @@ use Rattle.std.specs.Prelude.{◌≡◌, ◌≢◌, ◌⊎◌, ℕ, ◌<◌, ◌
 use Rattle.std.specs.Arc.{arc_value}
 use Rattle.object_core.specs.Objects.{ObjectEntry, ObjectSeen, content_after, list_after}
 use Rattle.object_core.specs.Operation.{IsDigest}
-use Rattle.object_core.specs.Shelving.{ObjectFixed, ShelfSeen, fixed_of}
+use Rattle.object_core.specs.Shelving.{ObjectFixed, ShelfSeen, fixed_at, fixed_of}
 use Rattle.object_core.specs.declared.ruling.Ruling.{Ruling}
 use Rattle.object_core.specs.declared.ruling.Ruling.TheVariants as rulings
 use Rattle.byte_fields.specs.Steps.{IsByte}
@@ -17,6 +17,7 @@ use Rattle.taos_wire.specs.Reply as replies
 use Rattle.taos_wire.specs.Reply.{Reply, LinkSent, sent, spelling}
 use Rattle.taos_wire.specs.View.{request, cited as shared}
 use Rattle.taos_wire.specs.declared.reply.TheConstants.{MAX_CITED}
+use Rattle.agent_core.specs.declared.asked.Asked.{Asked}
 use Rattle.agent_core.specs.declared.asked.Denial.{Denial}
 use Rattle.agent_core.specs.declared.asked.Denial.TheVariants as denials
 use Rattle.agent_core.specs.declared.asked.Settled.{Settled}
@@ -24,12 +25,12 @@ use Rattle.agent_core.specs.declared.asked.Verdict.{Verdict}
 use Rattle.agent_core.specs.declared.asked.Verdict.TheVariants as verdict
 use Rattle.agent_core.specs.State.{Plan, Ask}
 use Rattle.agent_core.specs.Journals.{Entry, ShardSeen}
-use Rattle.agent_core.specs.Asked.{IsGrant, IsDeniedAt}
-use Rattle.agent_core.specs.Shards.{HasPlanAt, ShardsSeen}
+use Rattle.agent_core.specs.Asked.{AskEnds, IsGrant, IsDeniedAt, LacksMemory}
+use Rattle.agent_core.specs.Shards.{HasPlanAt, ShardsSeen, home_of}
 use Rattle.taos_monitor.specs.declared.arrival.Arrived.{Arrived}
 use Rattle.taos_monitor.specs.declared.deciding.Came.{Came}
 use Rattle.taos_monitor.specs.declared.deciding.Ruled.{Ruled}
-use Rattle.taos_monitor.specs.Cells.{Cell, Seen, GoesOn, ShardsGoOn, AreLegalIn, AreLegalShards, alone_of, in_shard, shards_in}
+use Rattle.taos_monitor.specs.Cells.{Cell, CellsSeen, Seen, GoesOn, ShardsGoOn, AreLegalIn, AreLegalShards, alone_of, in_shard, seen_by, shards_in}
 use Rattle.taos_monitor.specs.Asking.{TellsDenial, IsUnruled, TellsFull, shard_full}
 use Rattle.taos_monitor.specs.Operations.{result_of}
 use Rattle.taos_monitor.specs.AtObject.{Seeking, Own, places_at, asks_for, gives_for, object_full, IsGuardedAfter}
@@ -133,7 +134,7 @@ pub record Leaves (channel seq : ℕ) (key : Option (List ℕ)) (bytes : List �
   pub reply : Reply
   pub holds : Holds reply
   pub spelled : bytes ≡ spelling (sent key channel seq reply)
-  pub short : length bytes < 2 ^ 32
+  pub short : length bytes < 2 ^ 26
 
 -- the bytes of such a reply before it is sealed
 abbrev pub Drafts : ℕ → ℕ → List ℕ → (Reply → Type 0) → Type 0
@@ -153,6 +154,19 @@ pub record AskedAt (before after : ShardsSeen) (shard : ℕ)
   pub others : (n : ℕ) → n ≢ shard → after.seen n ≡ before.seen n
   pub legal : AreLegalShards before.plans after.seen
   pub ends : Ends plan (after.seen shard) own
+
+-- the ask of what came, of this access list, was made at the shard of its channel, and ended so
+abbrev pub EndsAsked : (before after : ShardsSeen) → Came → List Grant → Asked → Type 0
+EndsAsked before after c list asked =
+    AskedAt before after (home_of before c.asked.now.channel) (λ plan journal own.
+    AskEnds plan journal (ask_came c list) asked own)
+
+-- it was made there, and memory was refused
+abbrev pub LacksAsked : (before after : ShardsSeen) → Came → List Grant → Type 0
+LacksAsked before after c list =
+    AskedAt before after (home_of before c.asked.now.channel) (λ plan journal own.
+    LacksMemory plan (before.seen (home_of before c.asked.now.channel)) journal
+    (ask_came c list) own)
 
 -- what is sought of an object by what came to it and to the clock
 abbrev pub seeking_of : Came → ObjectFixed → Seeking
@@ -224,3 +238,11 @@ pub record GuardedTo (s : Standing) (old new : Seen) (x : Seeking) (reply : Repl
   pub tells_full : (shard : ℕ) (p : Plan) → slice_get s.plans shard ≡ Some p →
       TellsFull p (old.journals.shards shard) (new.journals.shards shard) own.asks reply
   pub guarded : IsGuardedAfter s.plans plan (old.journals, new.journals) x own reply
+
+-- what came was ruled on so, at the object that it is for, and its reply is drafted
+abbrev pub Rules : (before after : CellsSeen) → Came → List ℕ → Type 0
+Rules before after c bytes =
+    (fixed : ObjectFixed) → fixed_at before.shelf.objects c.asked.now.object ≡ Some fixed →
+    Drafts c.asked.now.channel c.asked.now.seq bytes
+    (GuardedTo (standing_by before.shards before.shelf) (seen_by before.shards before.shelf)
+    (seen_by after.shards after.shelf) (seeking_of c fixed))

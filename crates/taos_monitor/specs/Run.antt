@@ -10,11 +10,12 @@ use Rattle.taos_wire.specs.Reply.{Reply, Granted, Sent, spelling}
 use Rattle.agent_core.specs.declared.told.Told.{Told}
 use Rattle.agent_core.specs.State.{Ask, Asks}
 use Rattle.agent_core.specs.Journals.{entry}
-use Rattle.taos_monitor.specs.Cells.{Node, Journals, Cell, OfShard, OfObject, Place, in_object, numbers_in, IsAfter}
+use Rattle.cred_pull.specs.Fetching.{Pull}
+use Rattle.taos_monitor.specs.Cells.{Node, Journals, no_entries, Cell, OfShard, OfObject, Place, in_object, numbers_in, IsAfter}
 use Rattle.taos_monitor.specs.Credentials.{LinkCall}
 use Rattle.taos_monitor.specs.Asking.{shard_full}
 use Rattle.taos_monitor.specs.AtObject.{object_full, ruled_as}
-use Rattle.taos_monitor.specs.Course.{Arrival, Used, Course}
+use Rattle.taos_monitor.specs.Course.{ComesToClock, Used, TurnAfter}
 
 -- a frame with what its course used, and its reply
 pub record Turn : Type 0 where
@@ -30,6 +31,10 @@ frames_of turns = map (λ (t : Turn). t.frame) turns
 abbrev pub readings_of : List Turn → List ℕ
 readings_of turns = flat_map (λ (t : Turn). t.used.readings) turns
 
+-- what was fetched in turns
+abbrev pub pulls_of : List Turn → List Pull
+pulls_of turns = flat_map (λ (t : Turn). t.used.pulls) turns
+
 -- the calls of the link in turns
 abbrev pub calls_of : List Turn → List LinkCall
 calls_of turns = flat_map (λ (t : Turn). t.used.calls) turns
@@ -42,16 +47,18 @@ places_of turns = flat_map (λ (t : Turn). t.used.places) turns
 abbrev pub replies_of : List Turn → List (List ℕ)
 replies_of turns = map (λ (t : Turn). spelling t.sent) turns
 
--- the course of a turn stands in the journals
+-- the course of a turn stands in the journals, whatever was seen before
 abbrev pub IsCourse : Node → Journals → Turn → Type 0
-IsCourse n J t = Course n J t.frame t.used t.sent
+IsCourse n J t = TurnAfter n no_entries J t.frame t.used t.sent
 
 -- each frame has its turn; but where the clock failed, one frame more came to it
-abbrev pub AreTurns : Node → Outcome → List Turn → List (List ℕ) → List LinkCall → Type 0
-AreTurns n ClockFault turns frames calls =
-    (last : List ℕ) × (t : Arrival n last) × (frames ≡ frames_of turns ++ last ∷ [])
-    × (calls ≡ calls_of turns ++ t.calls)
-AreTurns n _ turns frames calls = (frames ≡ frames_of turns) × (calls ≡ calls_of turns)
+abbrev pub AreTurns : Node → Outcome → List Turn → List (List ℕ) → Used → Type 0
+AreTurns n ClockFault turns frames used =
+    (last : List ℕ) × (pulls : List Pull) × (calls : List LinkCall)
+    × ComesToClock n last pulls calls × (frames ≡ frames_of turns ++ last ∷ [])
+    × (used.pulls ≡ pulls_of turns ++ pulls) × (used.calls ≡ calls_of turns ++ calls)
+AreTurns n _ turns frames used =
+    (frames ≡ frames_of turns) × (used.pulls ≡ pulls_of turns) × (used.calls ≡ calls_of turns)
 
 -- the reply is a grant of the shard, by a proof that was not kept before
 abbrev pub IsMade : ℕ → Reply → Type 0
@@ -87,12 +94,12 @@ IsFilledBefore J earlier later =
     All (λ (p : Place). p.cell ≢ cell) later.used.places
 
 -- The frames have one course each, in order. Together these used the readings, the answers of the
--- link and the own places that are given, and no others.
+-- fetch and of the link, and the own places that are given, and no others.
 pub record Answered (n : Node) (J : Journals) (used : Used) (frames replies : List (List ℕ))
     (outcome : Outcome) : Type 0 where
   pub turns : List Turn
   pub courses : All (IsCourse n J) turns
-  pub in_order : AreTurns n outcome turns frames used.calls
+  pub in_order : AreTurns n outcome turns frames used
   pub read : used.readings ≡ readings_of turns
   pub owned : used.places ≡ places_of turns
   pub ascending : AllPairs IsAfter used.places

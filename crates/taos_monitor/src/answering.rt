@@ -2,20 +2,22 @@
 
 ghost use Rattle.std.specs.Prelude.{◌≡◌, ◌≤◌, IfErr, IfOk, None, length};
 ghost use Rattle.taos_wire.specs.View.{request as request_of};
-ghost use Rattle.frame_link.specs.Outside.{outside_of};
-ghost use Rattle.taos_monitor.specs.Arriving.{IsAskedBy, IsNotAsked};
-ghost use Rattle.taos_monitor.specs.Completeness.{AnswersPayload};
-ghost use Rattle.taos_monitor.specs.Handling.{Answers, HandlesCause, LeavesReply};
+ghost use Rattle.taos_monitor.specs.Arriving.{IsAskedBy, IsNotAsked, IsUnasked};
+ghost use Rattle.taos_monitor.specs.Cells.{CellsStay, both_cells};
+ghost use Rattle.taos_monitor.specs.Desk.{AnswersIn, AnswersWith, IsFree, lent_by, state_at, state_by};
+ghost use Rattle.taos_monitor.specs.Handling.{HandlesCause, LeavesReply};
 ghost use Rattle.taos_monitor.specs.Planned.{ArePlanned};
-ghost use Rattle.taos_monitor.specs.World.{setting_by, world_by};
 
 use crate::connection::MAX_REQUEST;
-use crate::handling::{Handled, request_with};
+use crate::desk::Desk;
+use crate::handling::Handled;
 use crate::legal::are_legal;
 use crate::node_keys::NodeKeys;
+use crate::reach::Reach;
 use crate::refusal::Refusal;
 use crate::reply::ReplyBuf;
 use agent_core::{Gate, Shards};
+use cred_pull::NoFetch;
 use frame_link::{Clock, RelayLink};
 use object_core::Shelf;
 use relay_core::OpenedCerts;
@@ -51,61 +53,54 @@ fn asked_of(alloc: Global, keys: &NodeKeys, payload: &[u8]) -> Result<Request, R
     Ok(asked)
 }
 
-/// Answers one request from its payload to its reply, which is left in the buffer: under the
-/// channel's seal, but where the payload is no request, or not under that seal. What it presents is
-/// opened by what was opened before.
-pub fn answer_with<W: Wait + Sync, H: Shelf, S: Shards, R: RelayLink, C: Clock, D: Decide, G: Gate>(
-    rt: &W,
-    alloc: Global,
-    keys: &NodeKeys,
-    opened: &mut OpenedCerts,
-    shelf: &mut H,
-    shards: &mut S,
-    relay: &mut R,
-    clock: &mut C,
-    bench: &mut D,
-    gate: &mut G,
-    payload: &[u8],
-    out: &mut ReplyBuf,
-) -> Handled
-    requires short { length payload.now ≤ MAX_REQUEST }
-    requires planned { ArePlanned keys.now.channels.entries (S.shown shards.old).plans }
-    requires key { opened.old ≡ keys.now.relay_key }
-    requires none_taken { (H.shown shelf.old).taken ≡ None }
-    ensures answered { Answers
-        (setting_by keys.now (S.shown shards.old) (H.shown shelf.old))
-        (world_by (outside_of (C.shown clock.old) (R.shown relay.old)) (S.shown shards.old)
-        (H.shown shelf.old))
-        (world_by (outside_of (C.shown clock.new) (R.shown relay.new)) (S.shown shards.new)
-        (H.shown shelf.new)) payload.now out.new result }
-    ensures cause { HandlesCause (C.shown clock.old).faults (C.shown clock.new).faults result }
-    ensures left { LeavesReply out.old out.new result }
+impl<S: Shards, H: Shelf, D: Decide> Desk<'_, '_, '_, '_, '_, S, H, D> {
+    /// Answers one request from its payload to its reply, which is left in the buffer: under the
+    /// channel's seal, but where the payload is no request, or not under that seal. What it presents is
+    /// opened by what was opened before. Where the desk pulls, certificates are fetched for it, and those
+    /// that open are taken as if it presented them behind its own.
+    pub fn answer<W: Wait + Sync, G: Gate, X: Reach>(
+        &mut self,
+        rt: &W,
+        alloc: Global,
+        gate: &mut G,
+        outside: &mut X,
+        payload: &[u8],
+        out: &mut ReplyBuf,
+    ) -> Handled
+        requires short { length payload.now ≤ MAX_REQUEST }
+        requires planned { ArePlanned self.old.keys.now.channels.entries
+            (S.shown self.old.shards.now).plans }
+        requires free { IsFree H.shown self.old }
+        ensures answered { let at = state_at S.shown H.shown X.shown in AnswersIn
+            (at self.old outside.old) (at self.new outside.new) payload.now out.new result }
 
-    // What it opens by stays under the node's key.
-    ensures key { opened.new ≡ opened.old }
+        // Nothing is fetched before the seal is checked.
+        ensures unfetched { IsUnasked self.old.keys.now payload.now
+            → (X.shown outside.new).fetch ≡ (X.shown outside.old).fetch }
+        ensures cause { HandlesCause (X.shown outside.old).outside.clock.faults
+            (X.shown outside.new).outside.clock.faults result }
+        ensures left { LeavesReply out.old out.new result }
 
-    // No object is left taken.
-    ensures taken { (H.shown shelf.new).taken ≡ None }
-
-    // What nobody changes.
-    ensures plans { (S.shown shards.new).plans ≡ (S.shown shards.old).plans }
-    ensures alone { (S.shown shards.new).alone ≡ (S.shown shards.old).alone }
-    ensures objects { (H.shown shelf.new).objects ≡ (H.shown shelf.old).objects }
-    ensures others_take { (H.shown shelf.new).alone ≡ (H.shown shelf.old).alone }
-{
-    are_legal(shelf, shards);
-    match asked_of(alloc, keys, payload) {
-        Ok(asked) => request_with(
-            rt, alloc, keys, opened, shelf, shards, relay, clock, bench, gate, &asked, out,
-        ),
-        Err(why) => {
-            out.leave_unsealed(why);
-            Handled::Replied
+        // It is free for the next.
+        ensures free { IsFree H.shown self.new }
+        ensures same { lent_by self.new ≡ lent_by self.old }
+        ensures same_outside { X.borrows outside.new ≡ X.borrows outside.old }
+    {
+        let keys = self.keys;
+        match asked_of(alloc, keys, payload) {
+            Ok(asked) => self.handle(rt, alloc, gate, outside, asked, out),
+            Err(why) => {
+                let shards = &mut *self.shards;
+                let shelf = &mut *self.shelf;
+                are_legal(shelf, shards);
+                out.leave_unsealed(why);
+                Handled::Replied
+            }
         }
     }
 }
 
-/// As `answer_with`, with nothing opened before.
+/// As `Desk::answer`, with nothing opened before, and nothing fetched.
 pub fn answer<W: Wait + Sync, H: Shelf, S: Shards, R: RelayLink, C: Clock, D: Decide, G: Gate>(
     rt: &W,
     alloc: Global,
@@ -122,36 +117,25 @@ pub fn answer<W: Wait + Sync, H: Shelf, S: Shards, R: RelayLink, C: Clock, D: De
     requires short { length payload.now ≤ MAX_REQUEST }
     requires planned { ArePlanned keys.now.channels.entries (S.shown shards.old).plans }
     requires none_taken { (H.shown shelf.old).taken ≡ None }
-    ensures answered { AnswersPayload
-        (setting_by keys.now (S.shown shards.old) (H.shown shelf.old))
-        (world_by (outside_of (C.shown clock.old) (R.shown relay.old)) (S.shown shards.old)
-        (H.shown shelf.old))
-        (world_by (outside_of (C.shown clock.new) (R.shown relay.new)) (S.shown shards.new)
-        (H.shown shelf.new)) payload.now out.new result }
+    ensures answered { let at = state_by keys.now S.shown H.shown C.shown R.shown in AnswersWith
+        (at shards.old shelf.old clock.old relay.old) (at shards.new shelf.new clock.new relay.new)
+        payload.now out.new result }
     ensures left { LeavesReply out.old out.new result }
 
-    // No object is left taken.
-    ensures taken { (H.shown shelf.new).taken ≡ None }
-
-    // What nobody changes.
-    ensures plans { (S.shown shards.new).plans ≡ (S.shown shards.old).plans }
-    ensures alone { (S.shown shards.new).alone ≡ (S.shown shards.old).alone }
-    ensures objects { (H.shown shelf.new).objects ≡ (H.shown shelf.old).objects }
-    ensures others_take { (H.shown shelf.new).alone ≡ (H.shown shelf.old).alone }
+    // What nobody changes, and no object is left taken.
+    ensures stays { CellsStay (both_cells (S.shown shards.old) (H.shown shelf.old))
+        (both_cells (S.shown shards.new) (H.shown shelf.new)) }
 {
+    let fetch = NoFetch::new();
     let mut opened = OpenedCerts::keeping_none(&keys.relay_key);
-    answer_with(
-        rt,
-        alloc,
+    let mut outside = (clock, relay, fetch);
+    let mut desk = Desk {
         keys,
-        &mut opened,
-        shelf,
+        opened: &mut opened,
+        pulls: false,
         shards,
-        relay,
-        clock,
+        shelf,
         bench,
-        gate,
-        payload,
-        out,
-    )
+    };
+    desk.answer(rt, alloc, gate, &mut outside, payload, out)
 }

@@ -4,12 +4,12 @@ ghost use Rattle.std.specs.Prelude.{◌≡◌, ◌≤◌, IfErr, IfOk, length, A
 ghost use Rattle.taos_wire.specs.Request.{FitsRequest};
 ghost use Rattle.taos_wire.specs.View.{request};
 ghost use Rattle.taos_monitor.specs.Arriving.{Arrives, NotArrives};
-ghost use Rattle.taos_monitor.specs.Credentials.{link_use};
+ghost use Rattle.taos_monitor.specs.Reaching.{UsesLink, link_by};
 
 use crate::node_keys::NodeKeys;
 use crate::presented::open_all;
+use crate::reach::Reach;
 use crate::refusal::Refusal;
-use frame_link::RelayLink;
 use object_core::{Shelf, right_of};
 use prin_term::Term;
 use relay_core::OpenedCerts;
@@ -27,27 +27,28 @@ pub(crate) struct Arrived {
 }
 
 /// What a sealed request asks of its object; or what is answered under the same key.
-pub(crate) fn arrive<H: Shelf, R: RelayLink>(
+pub(crate) fn arrive<H: Shelf, X: Reach>(
     alloc: Global,
     keys: &NodeKeys,
     opened: &mut OpenedCerts,
     shelf: &H,
-    relay: &mut R,
+    outside: &mut X,
     asked: &Request,
 ) -> Result<Arrived, Refusal>
     requires limits { FitsRequest (request asked.now) }
     requires short { All (λ t. length t ≤ 65531) (request asked.now).certs }
     requires key { opened.old ≡ keys.now.relay_key }
     ensures arrived { IfOk result (Arrives keys.now (H.shown shelf.now).objects
-        (link_use keys.now.node (R.shown relay.old) (R.shown relay.new))
+        (link_by keys.now.node (X.shown outside.old) (X.shown outside.new))
         (request asked.now)) }
     ensures refused { IfErr result (NotArrives keys.now (H.shown shelf.now).objects
-        (link_use keys.now.node (R.shown relay.old) (R.shown relay.new))
+        (link_by keys.now.node (X.shown outside.old) (X.shown outside.new))
         (request asked.now)) }
     ensures key { opened.new ≡ opened.old }
-    ensures same { R.borrows relay.new ≡ R.borrows relay.old }
+    ensures rest { UsesLink (X.shown outside.old) (X.shown outside.new) }
+    ensures same { X.borrows outside.new ≡ X.borrows outside.old }
 {
-    let certs = open_all(alloc, keys.node, opened, relay, &asked.certs)?;
+    let certs = open_all(alloc, keys.node, opened, outside, &asked.certs)?;
     if !shelf.has(asked.object) {
         return Err(Refusal::UnknownObject {
             number: asked.object,

@@ -6,17 +6,16 @@ ghost use Rattle.object_core.specs.Operation.{IsAccessList, IsContent};
 ghost use Rattle.object_core.specs.declared.ruling.Ruling.TheVariants as rulings;
 ghost use Rattle.object_core.specs.View.{operation};
 ghost use Rattle.prin_term.specs.View.{grant};
-ghost use Rattle.agent_core.specs.Asked.{AskEnds, LacksMemory};
 ghost use Rattle.agent_core.specs.Plans.{IsPlan};
 ghost use Rattle.agent_core.specs.Shards.{home_of};
 ghost use Rattle.agent_core.specs.Views.{ask_of};
 ghost use Rattle.taos_wire.specs.Request.{FitsRequest};
 ghost use Rattle.taos_wire.specs.View.{lent_grant, request};
 ghost use Rattle.taos_monitor.specs.Arriving.{StandsFor};
-ghost use Rattle.taos_monitor.specs.Cells.{AreLegalShards};
+ghost use Rattle.taos_monitor.specs.Cells.{AreLegalShards, ShardsStay};
 ghost use Rattle.taos_monitor.specs.Operations.{result_of};
 ghost use Rattle.taos_monitor.specs.Planned.{IsPlanned};
-ghost use Rattle.taos_monitor.specs.Ruling.{AskedAt, DecidedTo, Drafts, HasPart, IsToldBy, MayTell, TellsDenied, TellsGrant, ask_came, ask_seen, list_of, ruled_at, telling};
+ghost use Rattle.taos_monitor.specs.Ruling.{DecidedTo, Drafts, EndsAsked, HasPart, IsToldBy, LacksAsked, MayTell, TellsDenied, TellsGrant, ask_seen, list_of, ruled_at, telling};
 
 use crate::arrival::Arrived;
 use crate::reply::ReplyBuf;
@@ -98,16 +97,11 @@ fn ask_at_home<W: Wait + Sync, S: Shards, D: Decide, G: Gate>(
         < length (S.shown shards.old).plans }
     requires legal { AreLegalShards (S.shown shards.old).plans (S.shown shards.old).seen }
     requires planned { IsPlanned (S.shown shards.old).plans came.asked.now.channel }
-    ensures ended { IfOk result (λ r. AskedAt (S.shown shards.old) (S.shown shards.new)
-        (home_of (S.shown shards.old) came.entry.asked.now.channel) (λ plan journal own.
-        AskEnds plan journal (ask_came came.entry (map grant list.now.value.items)) r own)) }
-    ensures lacked { OnErr result (AskedAt (S.shown shards.old) (S.shown shards.new)
-        (home_of (S.shown shards.old) came.entry.asked.now.channel) (λ plan journal own.
-        LacksMemory plan
-        ((S.shown shards.old).seen (home_of (S.shown shards.old) came.entry.asked.now.channel))
-        journal (ask_came came.entry (map grant list.now.value.items)) own)) }
-    ensures plans { (S.shown shards.new).plans ≡ (S.shown shards.old).plans }
-    ensures alone { (S.shown shards.new).alone ≡ (S.shown shards.old).alone }
+    ensures ended { IfOk result (EndsAsked (S.shown shards.old) (S.shown shards.new) came.entry
+        (map grant list.now.value.items)) }
+    ensures lacked { OnErr result (LacksAsked (S.shown shards.old) (S.shown shards.new) came.entry
+        (map grant list.now.value.items)) }
+    ensures stays { ShardsStay (S.shown shards.old) (S.shown shards.new) }
 {
     let made = ask_for(alloc, came.asked, came.arrived, list, came.reading)?;
     let Deciding { bench, gate } = by;
@@ -249,8 +243,7 @@ pub(crate) fn decide<W: Wait + Sync, S: Shards, D: Decide, G: Gate>(
     ensures decided { Drafts came.entry.asked.now.channel came.entry.asked.now.seq out.new
         (DecidedTo (S.shown shards.old) (S.shown shards.new) (came.entry, object.now, result)) }
     ensures room { IfSome result (λ r. length object.now.journal < object.now.limit) }
-    ensures plans { (S.shown shards.new).plans ≡ (S.shown shards.old).plans }
-    ensures alone { (S.shown shards.new).alone ≡ (S.shown shards.old).alone }
+    ensures stays { ShardsStay (S.shown shards.old) (S.shown shards.new) }
 {
     let (asked, shard) = (came.asked, came.shard);
     if !object.has_room() {

@@ -49,6 +49,7 @@ fn effect_for(
         Op::Discard(digest) => Some(Event::Discard(*digest)),
         Op::Forget(channel) => Some(Event::Forget(*channel)),
         Op::Sweep => Some(Event::Expire(reading)),
+        Op::Withdraw(issuer) => Some(Event::Withdraw(*issuer)),
     })
 }
 
@@ -67,6 +68,7 @@ fn copy_of(event: &Event) -> Result<Event, AllocError>
         Event::Discard(digest) => Event::Discard(*digest),
         Event::Forget(channel) => Event::Forget(*channel),
         Event::Expire(reading) => Event::Expire(*reading),
+        Event::Withdraw(issuer) => Event::Withdraw(*issuer),
     })
 }
 

@@ -4,19 +4,21 @@ ghost use Rattle.std.specs.Prelude.{◌≡◌, ◌≤◌, IsSome, None, length, 
 ghost use Rattle.keyed_seal.specs.Keys.{key_of};
 ghost use Rattle.taos_wire.specs.Request.{FitsRequest};
 ghost use Rattle.taos_wire.specs.View.{request as request_of};
-ghost use Rattle.frame_link.specs.Outside.{outside_of};
-ghost use Rattle.taos_monitor.specs.Completeness.{AnswersRequest};
-ghost use Rattle.taos_monitor.specs.Handling.{Handles, HandlesCause, LeavesReply};
+ghost use Rattle.taos_monitor.specs.Cells.{CellsStay, both_cells};
+ghost use Rattle.taos_monitor.specs.Desk.{HandlesPlainly, HandlesWith, IsFree, lent_by, state_at, state_by};
+ghost use Rattle.taos_monitor.specs.Handling.{HandlesCause, LeavesReply};
 ghost use Rattle.taos_monitor.specs.Planned.{IsPlanned};
-ghost use Rattle.taos_monitor.specs.World.{setting_by, world_by};
 
 use crate::arrival::arrive;
 use crate::deciding::{Came, Deciding};
+use crate::desk::Desk;
 use crate::legal::are_legal;
 use crate::node_keys::NodeKeys;
+use crate::reach::Reach;
 use crate::reply::ReplyBuf;
 use crate::ruling::rule;
 use agent_core::{Gate, Shards};
+use cred_pull::NoFetch;
 use frame_link::{Clock, RelayLink};
 use object_core::Shelf;
 use relay_core::OpenedCerts;
@@ -34,91 +36,72 @@ pub enum Handled {
     ClockFault,
 }
 
-/// Handles one request, which was found to be under the seal of its channel's key, and leaves the
-/// sealed reply in the buffer. What it presents is opened by what was opened before. The moment is the clock's reading, or what the shard's clock had
-/// come to. What is granted is performed after its ruling stands in the journal of the object.
-pub fn request_with<
-    W: Wait + Sync,
-    H: Shelf,
-    S: Shards,
-    R: RelayLink,
-    C: Clock,
-    D: Decide,
-    G: Gate,
->(
-    rt: &W,
-    alloc: Global,
-    keys: &NodeKeys,
-    opened: &mut OpenedCerts,
-    shelf: &mut H,
-    shards: &mut S,
-    relay: &mut R,
-    clock: &mut C,
-    bench: &mut D,
-    gate: &mut G,
-    asked: &Request,
-    out: &mut ReplyBuf,
-) -> Handled
-    requires limits { FitsRequest (request_of asked.now) }
-    requires short { All (λ t. length t ≤ 65531) (request_of asked.now).certs }
-    requires keyed { IsSome (key_of keys.now.channels.entries asked.now.channel) }
-    requires planned { IsPlanned (S.shown shards.old).plans asked.now.channel }
-    requires key { opened.old ≡ keys.now.relay_key }
-    requires none_taken { (H.shown shelf.old).taken ≡ None }
-    ensures handled { Handles
-        (setting_by keys.now (S.shown shards.old) (H.shown shelf.old))
-        (world_by (outside_of (C.shown clock.old) (R.shown relay.old)) (S.shown shards.old)
-        (H.shown shelf.old))
-        (world_by (outside_of (C.shown clock.new) (R.shown relay.new)) (S.shown shards.new)
-        (H.shown shelf.new)) (request_of asked.now) out.new result }
-    ensures cause { HandlesCause (C.shown clock.old).faults (C.shown clock.new).faults result }
-    ensures left { LeavesReply out.old out.new result }
+impl<S: Shards, H: Shelf, D: Decide> Desk<'_, '_, '_, '_, '_, S, H, D> {
+    /// Handles one request, which was found to be under the seal of its channel's key, and leaves the
+    /// sealed reply in the buffer. What it presents is opened by what was opened before; nothing is
+    /// fetched. The moment is the clock's reading, or what the shard's clock had come to. What is granted
+    /// is performed after its ruling stands in the journal of the object.
+    pub fn request<W: Wait + Sync, G: Gate, X: Reach>(
+        &mut self,
+        rt: &W,
+        alloc: Global,
+        gate: &mut G,
+        outside: &mut X,
+        asked: &Request,
+        out: &mut ReplyBuf,
+    ) -> Handled
+        requires limits { FitsRequest (request_of asked.now) }
+        requires short { All (λ t. length t ≤ 65531) (request_of asked.now).certs }
+        requires keyed { IsSome (key_of self.old.keys.now.channels.entries asked.now.channel) }
+        requires planned { IsPlanned (S.shown self.old.shards.now).plans asked.now.channel }
+        requires free { IsFree H.shown self.old }
+        ensures handled { let at = state_at S.shown H.shown X.shown in HandlesPlainly
+            (at self.old outside.old) (at self.new outside.new)
+            (request_of asked.now) out.new result }
+        ensures unfetched { (X.shown outside.new).fetch ≡ (X.shown outside.old).fetch }
+        ensures cause { HandlesCause (X.shown outside.old).outside.clock.faults
+            (X.shown outside.new).outside.clock.faults result }
+        ensures left { LeavesReply out.old out.new result }
 
-    // What it opens by stays under the node's key.
-    ensures key { opened.new ≡ opened.old }
-
-    // No object is left taken.
-    ensures taken { (H.shown shelf.new).taken ≡ None }
-
-    // What nobody changes.
-    ensures plans { (S.shown shards.new).plans ≡ (S.shown shards.old).plans }
-    ensures alone { (S.shown shards.new).alone ≡ (S.shown shards.old).alone }
-    ensures objects { (H.shown shelf.new).objects ≡ (H.shown shelf.old).objects }
-    ensures others_take { (H.shown shelf.new).alone ≡ (H.shown shelf.old).alone }
-{
-    are_legal(shelf, shards);
-    let sealer = keys.channels.sealer(asked.channel).unwrap();
-    let shard = asked.channel % shards.count();
-    let arrived = match arrive(alloc, keys, opened, shelf, relay, asked) {
-        Ok(arrived) => arrived,
-        Err(why) => {
-            out.leave_refused(sealer, asked.channel, asked.seq, why);
-            return Handled::Replied;
-        }
-    };
-    let Ok(reading) = clock.now() else {
-        return Handled::ClockFault;
-    };
-    let came = Came {
-        asked,
-        shard,
-        arrived,
-        reading,
-    };
-    rule(
-        rt,
-        alloc,
-        shelf,
-        shards,
-        Deciding { bench, gate },
-        came,
-        out,
-    );
-    out.seal(sealer);
-    Handled::Replied
+        // It is free for the next.
+        ensures free { IsFree H.shown self.new }
+        ensures same_pulls { self.new.pulls ≡ self.old.pulls }
+        ensures same { lent_by self.new ≡ lent_by self.old }
+        ensures same_outside { X.borrows outside.new ≡ X.borrows outside.old }
+    {
+        let keys = self.keys;
+        let shards = &mut *self.shards;
+        let shelf = &mut *self.shelf;
+        are_legal(shelf, shards);
+        let sealer = keys.channels.sealer(asked.channel).unwrap();
+        let shard = asked.channel % shards.count();
+        let arrived = match arrive(alloc, keys, &mut *self.opened, shelf, outside, asked) {
+            Ok(arrived) => arrived,
+            Err(why) => {
+                out.leave_refused(sealer, asked.channel, asked.seq, why);
+                return Handled::Replied;
+            }
+        };
+        let Ok(reading) = outside.now() else {
+            return Handled::ClockFault;
+        };
+        let came = Came {
+            asked,
+            shard,
+            arrived,
+            reading,
+        };
+        let by = Deciding {
+            bench: &mut *self.bench,
+            gate,
+        };
+        rule(rt, alloc, shelf, shards, by, came, out);
+        out.seal(sealer);
+        Handled::Replied
+    }
 }
 
-/// As `request_with`, with nothing opened before.
+/// As `Desk::request`, with nothing opened before.
 pub fn request<W: Wait + Sync, H: Shelf, S: Shards, R: RelayLink, C: Clock, D: Decide, G: Gate>(
     rt: &W,
     alloc: Global,
@@ -137,36 +120,25 @@ pub fn request<W: Wait + Sync, H: Shelf, S: Shards, R: RelayLink, C: Clock, D: D
     requires keyed { IsSome (key_of keys.now.channels.entries asked.now.channel) }
     requires planned { IsPlanned (S.shown shards.old).plans asked.now.channel }
     requires none_taken { (H.shown shelf.old).taken ≡ None }
-    ensures handled { AnswersRequest
-        (setting_by keys.now (S.shown shards.old) (H.shown shelf.old))
-        (world_by (outside_of (C.shown clock.old) (R.shown relay.old)) (S.shown shards.old)
-        (H.shown shelf.old))
-        (world_by (outside_of (C.shown clock.new) (R.shown relay.new)) (S.shown shards.new)
-        (H.shown shelf.new)) (request_of asked.now) out.new result }
+    ensures handled { let at = state_by keys.now S.shown H.shown C.shown R.shown in HandlesWith
+        (at shards.old shelf.old clock.old relay.old) (at shards.new shelf.new clock.new relay.new)
+        (request_of asked.now) out.new result }
     ensures left { LeavesReply out.old out.new result }
 
-    // No object is left taken.
-    ensures taken { (H.shown shelf.new).taken ≡ None }
-
-    // What nobody changes.
-    ensures plans { (S.shown shards.new).plans ≡ (S.shown shards.old).plans }
-    ensures alone { (S.shown shards.new).alone ≡ (S.shown shards.old).alone }
-    ensures objects { (H.shown shelf.new).objects ≡ (H.shown shelf.old).objects }
-    ensures others_take { (H.shown shelf.new).alone ≡ (H.shown shelf.old).alone }
+    // What nobody changes, and no object is left taken.
+    ensures stays { CellsStay (both_cells (S.shown shards.old) (H.shown shelf.old))
+        (both_cells (S.shown shards.new) (H.shown shelf.new)) }
 {
+    let fetch = NoFetch::new();
     let mut opened = OpenedCerts::keeping_none(&keys.relay_key);
-    request_with(
-        rt,
-        alloc,
+    let mut outside = (clock, relay, fetch);
+    let mut desk = Desk {
         keys,
-        &mut opened,
-        shelf,
+        opened: &mut opened,
+        pulls: false,
         shards,
-        relay,
-        clock,
+        shelf,
         bench,
-        gate,
-        asked,
-        out,
-    )
+    };
+    desk.request(rt, alloc, gate, &mut outside, asked, out)
 }

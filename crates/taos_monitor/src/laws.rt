@@ -7,6 +7,7 @@ ghost use Rattle.taos_monitor.specs.Choices.{AnswersAgree, ConnectionsAgree, Fra
 ghost use Rattle.taos_monitor.specs.Completeness.{AnswersAreWhole, ArrivalsAreJudged, VerdictsAreExact};
 ghost use Rattle.taos_monitor.specs.Laws.{AnsweredStays, AnswersMore, ArrivalExcludes, CodesAreKnown, CourseStays, CoursesAgree, FaultsAreCounted, GoesOnTwice, NoEntryAfterFull};
 ghost use Rattle.taos_monitor.specs.Projected.{EffectsAreProjected};
+ghost use Rattle.taos_monitor.specs.PullCauses.{PulledArePresented, TurnCausesAreExact};
 ghost use Rattle.taos_monitor.specs.Verdicts.{RepliesAreVerdicts};
 ghost use Rattle.taos_monitor.specs.World.{Setting};
 
@@ -71,6 +72,14 @@ pub fn causes_are_exact()
     ensures { (n : Node) → CausesAreExact n }
 {}
 
+/// And so where certificates are fetched: a reply says that the fetch failed exactly where it did, and that
+/// the link failed at a fetched certificate exactly there; any other has its cause in the words of the
+/// payload with what was pulled. What it presents then is what opened.
+pub fn causes_of_pulls_are_exact()
+    ensures exact { (n : Node) → TurnCausesAreExact n }
+    ensures presented { (n : Node) → PulledArePresented n }
+{}
+
 /// A certificate is refused by a code of 1 to 6, and each call of the link that failed has a fault
 /// of its own.
 pub fn refusals_have_causes()
@@ -94,7 +103,7 @@ pub fn effects_are_granted()
 {}
 
 /// Where nobody else steps a cell, what a node answers is a function of the frames, the readings of
-/// the clock and the answers of the link, up to the proofs that it makes: two connections that have
+/// the clock and the answers of the fetch and of the link, up to the proofs that it makes: two connections that have
 /// these in common, and for which memory was never lacking, have the same replies, and leave the
 /// same entries after the same entries. The frames are a function of the bytes that were taken.
 pub fn a_connection_alone_is_a_function()

@@ -1,15 +1,13 @@
 //! The steps of a granted operation, in one shard after another.
 
-ghost use Rattle.std.specs.Prelude.{◌≡◌, ◌↔◌, ◌⊎◌, ◌<◌, ℕ, List, IfSome, IsTrue};
+ghost use Rattle.std.specs.Prelude.{◌≡◌, ◌↔◌, ◌⊎◌, ◌<◌, IfSome, IsTrue};
 ghost use Rattle.std.specs.Option.{option_map};
 ghost use Rattle.object_core.specs.Operation.{FitsOperation};
 ghost use Rattle.object_core.specs.View.{operation};
-ghost use Rattle.stmt_codec.specs.Certificates.{Certificate};
 ghost use Rattle.taos_wire.specs.Reply.{FitsReply, status_of};
 ghost use Rattle.taos_wire.specs.View.{reply};
-ghost use Rattle.taos_monitor.specs.Cells.{AreLegalShards};
-ghost use Rattle.taos_monitor.specs.Effects.{EndAs, IsDueOf, IsPerformed, IsReady, PerformedAs, SteppedBy, TellsHeld, effect_due, lacks_room, shards_due};
-ghost use Rattle.taos_monitor.specs.Operations.{effect_of};
+ghost use Rattle.taos_monitor.specs.Cells.{AreLegalShards, ShardsStay};
+ghost use Rattle.taos_monitor.specs.Effects.{EndAs, IsReady, Performs, PerformsRuled, SteppedBy, TellsHeld, effect_due, lacks_room, shards_due};
 
 use crate::due::Due;
 use crate::stepping::{Went, step_one};
@@ -47,8 +45,7 @@ fn step_due<W: Wait + Sync, S: Shards>(rt: &W, alloc: Global, shards: &mut S, du
     ensures ends { SteppedBy (S.shown shards.old) (S.shown shards.new)
         (λ steps. EndAs (S.shown shards.new).seen (effect_due due) (S.shown shards.old).plans
         (shards_due due) steps result) }
-    ensures plans { (S.shown shards.new).plans ≡ (S.shown shards.old).plans }
-    ensures alone { (S.shown shards.new).alone ≡ (S.shown shards.old).alone }
+    ensures stays { ShardsStay (S.shown shards.old) (S.shown shards.new) }
 {
     let first = due.first;
     let mut events = due.events;
@@ -80,7 +77,13 @@ fn not_held(op: &Op, removed: bool) -> Option<Reply>
                 Some(Reply::NotHeld { digest: *digest })
             }
         }
-        Op::Read | Op::Write(_) | Op::SetList(_) | Op::Hold | Op::Forget(_) | Op::Sweep => None,
+        Op::Read
+        | Op::Write(_)
+        | Op::SetList(_)
+        | Op::Hold
+        | Op::Forget(_)
+        | Op::Sweep
+        | Op::Withdraw(_) => None,
     }
 }
 
@@ -91,6 +94,7 @@ fn no_room(shard: u32, told: Told) -> Option<Reply>
 {
     match told {
         Told::CommonsFull { held } => Some(Reply::CommonsFull { held, shard }),
+        Told::WithdrawnFull { held } => Some(Reply::WithdrawnFull { held, shard }),
         Told::Replayed { .. }
         | Told::Full { .. }
         | Told::Hit { .. }
@@ -114,15 +118,10 @@ fn perform<W: Wait + Sync, S: Shards>(
     requires ready { IsReady (S.shown shards.old).plans due }
     requires legal { AreLegalShards (S.shown shards.old).plans (S.shown shards.old).seen }
     requires limits { FitsOperation (operation op.now) }
-    ensures performed { (certs : List Certificate) (reading : ℕ)
-        → IsDueOf (S.shown shards.old).plans (operation op.now) certs reading due
-        → SteppedBy (S.shown shards.old) (S.shown shards.new)
-        (λ steps. IsPerformed (S.shown shards.old).plans (S.shown shards.new).seen
-        (operation op.now)
-        (effect_of (operation op.now) certs reading) steps (option_map reply result)) }
+    ensures performed { Performs (S.shown shards.old) (S.shown shards.new) (operation op.now) due
+        (option_map reply result) }
     ensures fits { IfSome result (λ r. FitsReply (reply r) × (0 < status_of (reply r))) }
-    ensures plans { (S.shown shards.new).plans ≡ (S.shown shards.old).plans }
-    ensures alone { (S.shown shards.new).alone ≡ (S.shown shards.old).alone }
+    ensures stays { ShardsStay (S.shown shards.old) (S.shown shards.new) }
 {
     match step_due(rt, alloc, shards, due) {
         Effected::Through { removed } => not_held(op, removed),
@@ -148,16 +147,10 @@ pub(crate) fn perform_ruled<W: Wait + Sync, S: Shards>(
     requires ready { IsReady (S.shown shards.old).plans due }
     requires legal { AreLegalShards (S.shown shards.old).plans (S.shown shards.old).seen }
     requires limits { FitsOperation (operation op.now) }
-    ensures performed { (certs : List Certificate) (reading : ℕ)
-        → IsDueOf (S.shown shards.old).plans (operation op.now) certs reading due
-        → SteppedBy (S.shown shards.old) (S.shown shards.new)
-        (λ steps. PerformedAs ruling
-        (IsPerformed (S.shown shards.old).plans (S.shown shards.new).seen
-        (operation op.now) (effect_of (operation op.now) certs reading)) steps
-        (option_map reply result)) }
+    ensures performed { PerformsRuled (S.shown shards.old) (S.shown shards.new) (operation op.now)
+        due ruling (option_map reply result) }
     ensures fits { IfSome result (λ r. FitsReply (reply r) × (0 < status_of (reply r))) }
-    ensures plans { (S.shown shards.new).plans ≡ (S.shown shards.old).plans }
-    ensures alone { (S.shown shards.new).alone ≡ (S.shown shards.old).alone }
+    ensures stays { ShardsStay (S.shown shards.old) (S.shown shards.new) }
 {
     match ruling {
         Ruling::Granted { .. } => perform(rt, alloc, shards, op, due),

@@ -2,12 +2,12 @@
 
 ghost use Rattle.std.specs.Prelude.{◌≡◌, ◌≤◌, IfErr, IfOk, length, map, All};
 ghost use Rattle.taos_wire.specs.View.{text_of, cited as shared};
-ghost use Rattle.taos_monitor.specs.Credentials.{link_use};
 ghost use Rattle.taos_monitor.specs.Presenting.{AllCome, AllStop, refused_at};
+ghost use Rattle.taos_monitor.specs.Reaching.{UsesLink, link_by};
 
+use crate::reach::Reach;
 use crate::refusal::Refusal;
-use frame_link::RelayLink;
-use relay_core::{OpenedCerts, Unpresented, present_with};
+use relay_core::{OpenedCerts, Unpresented};
 use std::alloc::Global;
 use std::sync::Arc;
 use stmt_codec::Cert;
@@ -24,27 +24,28 @@ fn refused_at(index: u8, why: Unpresented) -> Refusal
 
 /// Opens each of them under the node's key, in order: those under their issuer's own seal go to the
 /// relay with the node's number. The first that comes to none is the refusal, by its place.
-pub(crate) fn open_all<R: RelayLink>(
+pub(crate) fn open_all<X: Reach>(
     alloc: Global,
     node: u32,
     opened: &mut OpenedCerts,
-    relay: &mut R,
+    outside: &mut X,
     texts: &[Vec<u8>],
 ) -> Result<Vec<Arc<Cert>>, Refusal>
     requires few { length texts.now ≤ 16 }
     requires short { All (λ t. length t ≤ 65531) (map text_of texts.now) }
     ensures came { IfOk result (λ certs. AllCome opened.old
-        (link_use node (R.shown relay.old) (R.shown relay.new))
+        (link_by node (X.shown outside.old) (X.shown outside.new))
         (map text_of texts.now) (map shared certs.items)) }
     ensures stopped { IfErr result (AllStop opened.old
-        (link_use node (R.shown relay.old) (R.shown relay.new))
+        (link_by node (X.shown outside.old) (X.shown outside.new))
         (map text_of texts.now)) }
     ensures key { opened.new ≡ opened.old }
-    ensures same { R.borrows relay.new ≡ R.borrows relay.old }
+    ensures rest { UsesLink (X.shown outside.old) (X.shown outside.new) }
+    ensures same { X.borrows outside.new ≡ X.borrows outside.old }
 {
     let mut certs = Vec::new(alloc);
     for place in 0..texts.len() {
-        match present_with(alloc, node, opened, relay, &texts[place]) {
+        match outside.present(alloc, node, opened, &texts[place]) {
             Ok(cert) => certs.push(cert)?,
             Err(why) => return Err(refused_at(place as u8, why)),
         }

@@ -4,12 +4,13 @@ ghost use Rattle.std.specs.Prelude.{◌≡◌, ◌<◌, ◌≤◌, ◌^◌, if�
 ghost use Rattle.std.specs.Prelude.{IfOk, length};
 ghost use Rattle.prin_term.specs.Refusal.{FitsLimits};
 ghost use Rattle.prin_term.specs.View.{principal};
-ghost use Rattle.taos_wire.specs.Reply.{FitsReply, NoMemory, sent, spelling, status_of};
+ghost use Rattle.taos_wire.specs.Reply.{FitsReply, NoMemory, PullFailed, sent, spelling, status_of};
 ghost use Rattle.taos_wire.specs.Reply.{under_seal, unsealed};
 ghost use Rattle.taos_wire.specs.View.{lent_grant, lent_part, reply};
 ghost use Rattle.taos_monitor.specs.Refusals.{refusal};
 
 use crate::refusal::{Refusal, reply_of};
+use cred_pull::{ReplyBytes, write_pull_failed_with};
 use keyed_seal::Sealer;
 use prin_term::ENTRY_NODES;
 use std::alloc::{AllocError, Global};
@@ -59,7 +60,7 @@ impl ReplyBuf {
     /// Leaves the reply of a refusal before the seal of the request was found right.
     pub fn leave_unsealed(&mut self, why: Refusal)
         ensures reply { self.new ≡ spelling (unsealed (refusal why)) }
-        ensures short { length self.new < 2 ^ 32 }
+        ensures short { length self.new < 2 ^ 26 }
     {
         self.draft(0, 0, &reply_of(why));
     }
@@ -67,10 +68,21 @@ impl ReplyBuf {
     /// Leaves the reply of a refusal under a key.
     pub fn leave_refused(&mut self, sealer: &Sealer, channel: u32, seq: u64, why: Refusal)
         ensures reply { self.new ≡ spelling (sent (Some sealer.now) channel seq (refusal why)) }
-        ensures short { length self.new < 2 ^ 32 }
+        ensures short { length self.new < 2 ^ 26 }
     {
         self.draft(channel, seq, &reply_of(why));
         self.seal(sealer);
+    }
+
+    /// Leaves the reply to a request whose certificates could not be fetched, under a key.
+    pub fn leave_pull_failed(&mut self, sealer: &Sealer, channel: u32, seq: u64)
+        ensures reply { self.new ≡ spelling (sent (Some sealer.now) channel seq PullFailed) }
+        ensures short { length self.new < 2 ^ 26 }
+    {
+        let mut reply = ReplyBytes::new();
+        write_pull_failed_with(&mut reply, sealer, channel, seq);
+        self.bytes.clear();
+        self.bytes.extend_from_slice(reply.as_slice()).unwrap();
     }
 
     /// Leaves any reply but a grant, which fits the room, without a seal.
@@ -78,7 +90,7 @@ impl ReplyBuf {
         requires limits { FitsReply (reply answer.now) }
         requires no_grant { 0 < status_of (reply answer.now) }
         ensures reply { self.new ≡ spelling (sent None channel seq (reply answer.now)) }
-        ensures short { length self.new < 2 ^ 32 }
+        ensures short { length self.new < 2 ^ 26 }
     {
         self.bytes.clear();
         write_reply_with(&mut self.bytes, None, channel, seq, answer).unwrap();
@@ -88,7 +100,7 @@ impl ReplyBuf {
     pub(crate) fn draft_missing(&mut self, channel: u32, seq: u64, denial: &LentPart<'_>)
         requires limits { FitsLimits ENTRY_NODES (principal denial.now.part.now) }
         ensures reply { self.new ≡ spelling (sent None channel seq (lent_part denial.now)) }
-        ensures short { length self.new < 2 ^ 32 }
+        ensures short { length self.new < 2 ^ 26 }
     {
         self.bytes.clear();
         draft_missing(&mut self.bytes, channel, seq, denial).unwrap();
@@ -101,7 +113,7 @@ impl ReplyBuf {
         requires short { length grant.now.content.now < 2 ^ 16 }
         ensures reply { self.new ≡ spelling (sent None channel seq
             (if result then lent_grant grant.now else NoMemory)) }
-        ensures short { length self.new < 2 ^ 32 }
+        ensures short { length self.new < 2 ^ 26 }
     {
         self.bytes.clear();
         if draft_granted(&mut self.bytes, channel, seq, grant).is_err() {

@@ -1,9 +1,9 @@
 //! The ruling on a request that came to its object: the object is taken, the operation ruled on, and
 //! the object given back; what is granted is performed.
 
-ghost use Rattle.std.specs.Prelude.{◌≡◌, ◌<◌, ◌≤◌, ℕ, All, IfOk, IsSome, List, None, Some, length};
+ghost use Rattle.std.specs.Prelude.{◌≡◌, ◌<◌, ◌≤◌, All, IfOk, IsSome, List, None, length};
 ghost use Rattle.object_core.specs.ObjectView.{object_entry};
-ghost use Rattle.object_core.specs.Shelving.{AreWithin, HaveOwnNumbers, ObjectFixed, fixed_at};
+ghost use Rattle.object_core.specs.Shelving.{AreWithin, fixed_at};
 ghost use Rattle.object_core.specs.View.{operation};
 ghost use Rattle.agent_core.specs.Plans.{IsPlan, home};
 ghost use Rattle.agent_core.specs.State.{Plan};
@@ -12,10 +12,10 @@ ghost use Rattle.taos_wire.specs.Request.{FitsRequest};
 ghost use Rattle.taos_wire.specs.View.{request};
 ghost use Rattle.taos_monitor.specs.Arriving.{StandsFor};
 ghost use Rattle.taos_monitor.specs.AtObject.{ruled_as};
-ghost use Rattle.taos_monitor.specs.Cells.{AreLegalShards, seen_by};
+ghost use Rattle.taos_monitor.specs.Cells.{AreLegalShards, CellsStay, both_cells};
 ghost use Rattle.taos_monitor.specs.Effects.{IsDueOf, IsReady};
 ghost use Rattle.taos_monitor.specs.Planned.{IsPlanned};
-ghost use Rattle.taos_monitor.specs.Ruling.{Drafts, GuardedTo, seeking_of, standing_by};
+ghost use Rattle.taos_monitor.specs.Ruling.{Rules};
 
 use crate::deciding::{Came, Deciding, Ruled, decide};
 use crate::due::{Due, due_for};
@@ -93,17 +93,10 @@ pub(crate) fn rule<W: Wait + Sync, H: Shelf, S: Shards, D: Decide, G: Gate>(
     requires limits { FitsRequest (request came.asked.now) }
     requires stands { StandsFor (request came.asked.now) came.arrived }
     requires planned { IsPlanned (S.shown shards.old).plans came.asked.now.channel }
-    ensures guarded { (fixed : ObjectFixed)
-        → fixed_at (H.shown shelf.old).objects came.entry.asked.now.object ≡ Some fixed
-        → Drafts came.entry.asked.now.channel came.entry.asked.now.seq out.new
-        (GuardedTo (standing_by (S.shown shards.old) (H.shown shelf.old))
-        (seen_by (S.shown shards.old) (H.shown shelf.old))
-        (seen_by (S.shown shards.new) (H.shown shelf.new)) (seeking_of came.entry fixed)) }
-    ensures taken { (H.shown shelf.new).taken ≡ None }
-    ensures objects { (H.shown shelf.new).objects ≡ (H.shown shelf.old).objects }
-    ensures others_take { (H.shown shelf.new).alone ≡ (H.shown shelf.old).alone }
-    ensures plans { (S.shown shards.new).plans ≡ (S.shown shards.old).plans }
-    ensures alone { (S.shown shards.new).alone ≡ (S.shown shards.old).alone }
+    ensures guarded { Rules (both_cells (S.shown shards.old) (H.shown shelf.old))
+        (both_cells (S.shown shards.new) (H.shown shelf.new)) came.entry out.new }
+    ensures stays { CellsStay (both_cells (S.shown shards.old) (H.shown shelf.old))
+        (both_cells (S.shown shards.new) (H.shown shelf.new)) }
 {
     let asked = came.asked;
     let Ok(ready) = ready_for(alloc, shards.count(), &came) else {

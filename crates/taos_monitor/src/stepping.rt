@@ -49,6 +49,9 @@ pub(crate) fn step_one<W: Wait + Sync, S: Shards>(
         Answer::CommonsFull { held } => Went::NoRoom {
             told: Told::CommonsFull { held },
         },
+        Answer::WithdrawnFull { held } => Went::NoRoom {
+            told: Told::WithdrawnFull { held },
+        },
         Answer::JournalFull { length } => Went::Full { length },
         // Only an Ask is told these, or a Keep.
         Answer::Replayed { .. }

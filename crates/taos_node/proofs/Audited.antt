@@ -1,13 +1,14 @@
 -- What the text of an audit is of.
-use Rattle.std.proofs.Common.{◌≡◌, ◌≢◌, ℕ, zero, suc, ◌+◌, Bool, true, false, List, [], ◌∷◌, ◌++◌, length, map, Contains, AllPairs, flat_map, Option, None, Some, IsSome, slice_get, ◌==◌, cond, refl, sym, ap, ap₂, subst, ◌∙◌, arith, inl, inr, add-zero, eq-eqb}
+use Rattle.std.proofs.Common.{◌≡◌, ◌≢◌, ℕ, zero, suc, ◌+◌, ◌<◌, ◌≤◌, ◌^◌, get_or, Bool, true, false, List, [], ◌∷◌, ◌++◌, length, map, Contains, AllPairs, flat_map, Option, None, Some, IsSome, slice_get, ◌==◌, cond, refl, sym, ap, ap₂, subst, ◌∙◌, arith, inl, inr, add-zero, eq-eqb, append_assoc, length-append}
+use Rattle.std.specs.Prelude.{All}
 use Rattle.std.specs.Option.{option_map, is_some}
 use Rattle.std.specs.List.{enumerate_from, range_with_len}
 use Rattle.std.specs.List.Sorted.{IsStrictlyIncreasing}
 use Rattle.std.proofs.lemmas.List.{length-map}
-use Rattle.std.proofs.lemmas.List.FromFn.{length-range_with_len}
+use Rattle.std.proofs.lemmas.List.FromFn.{get_or-map-range_with_len, length-map-range_with_len, length-range_with_len}
 use Rattle.std.proofs.lemmas.List.Kept.{AllPairs-from_increasing}
 use Rattle.std.proofs.lemmas.Bool.Decides.{eqb_tells}
-use Rattle.std.proofs.lemmas.Option.{slice_get-map}
+use Rattle.std.proofs.lemmas.Option.{slice_get-get_or, slice_get-map}
 use Rattle.frame_link.specs.declared.outcome.Outcome.{Outcome}
 use Rattle.frame_link.specs.declared.outcome.Outcome.TheVariants.{End, Truncated, TooLong, ReadFault, WriteFault, ClockFault, Spent, NoMemory}
 use Rattle.frame_link.specs.Served.{FaultCounts, CountsCause}
@@ -17,17 +18,30 @@ use Rattle.agent_core.specs.Journals.{Entry, ShardSeen}
 use Rattle.audit_text.specs.ObjectLines.{object_text}
 use Rattle.audit_text.specs.ShardLines.{shard_text}
 use Rattle.node_file.specs.Opening.{Opening}
-use Rattle.object_core.specs.Objects.{ObjectSeen, object_of}
+use Rattle.object_core.specs.Objects.{ObjectEntry, ObjectSeen, object_of}
+use Rattle.agent_core.proofs.Opening.{slice_at}
 use Rattle.object_core.specs.OneOwner.{LoneShelfSeen, fixed_on, journal_of, place_on, seen_on}
 use Rattle.object_core.specs.Shelving.{ObjectFixed, fixed_at, fixed_of, numbers_of}
 use Rattle.object_core.proofs.FindingRows.{place_found}
 use Rattle.taos_node.specs.declared.opened.OpenNode.{OpenNode}
 use Rattle.taos_node.specs.declared.ending.AuditEnd.{AuditEnd}
 use Rattle.taos_node.specs.declared.ending.AuditEnd.TheVariants as audits
-use Rattle.taos_node.specs.Audit.{counts, AuditCauses, AuditIsComplete, IsAuditOf, IsEnd, TextHasCause, WritesAudit, WritesText}
-use Rattle.taos_node.specs.AuditOf.{all_text, objects_text, shards_text}
-use Rattle.node_open.specs.Cells.{fixed_with}
-use Rattle.taos_node.specs.Opened.{IsOpenedBy, IsSameNode, seen_by}
+use Rattle.taos_node.specs.Audit.{counts, AuditCauses, AuditIsComplete, IsAuditOf, IsEnd, TextHasCause, WritesAudit, WritesText, journals_in, journals_spelled}
+use Rattle.taos_monitor.specs.Cells.{Journals, Node}
+use Rattle.journal_bytes.specs.Spelled.{ObjectJournal, SpelledEntry, journals_of, numbered, object_spelled, shard_spelled, spelled}
+use Rattle.journal_bytes.specs.Spelling.{journals_bytes}
+use Rattle.taos_node.specs.AuditOf.{all_in, objects_text, shards_text}
+use Rattle.taos_node.specs.declared.audit.Form.{Form}
+use Rattle.taos_node.specs.declared.audit.Form.TheVariants as form
+use Rattle.node_open.specs.Cells.{fixed_with, its_plans, numbers_of as numbers_in}
+use Rattle.keyed_seal.specs.Keys.{Entries}
+use Rattle.agent_core.specs.Opened.{plan_for}
+use Rattle.agent_core.specs.State.{Plan}
+use Rattle.agent_core.specs.declared.limits.TheConstants.{MAX_COMMONS}
+use Rattle.object_core.specs.Operation.{FitsOperation}
+use Rattle.journal_bytes.specs.Limits.{CitesFew, CitesFewOf, HasFittingOps}
+use Rattle.replay_law.specs.Laws.{AreWritable, HasFewCommons}
+use Rattle.taos_node.specs.Opened.{IsNodeOf, IsOpenedBy, IsSameNode, IsSmall, seen_by}
 use Rattle.taos_node.proofs.Commands.{still}
 use Rattle.taos_node.proofs.Statuses.{IsCompleteBy, same_counts}
 
@@ -82,6 +96,27 @@ objects_listed shelf up =
     its_numbers [] = refl
     its_numbers (o ∷ os) = ap (λ (l : List ℕ). o.plan.number ∷ l) (its_numbers os)
 
+-- the same as they are spelled
+shards_spelled : (k : ℕ) (shards front : List ShardSeen) → length front ≡ k → map shard_spelled shards ≡ map (λ s. map spelled (seen_in (front ++ shards) s)) (range_with_len k (length shards))
+shards_spelled k [] front long = refl
+shards_spelled k (s ∷ shards) front long =
+    let here : seen_in (front ++ s ∷ shards) k ≡ s.journal = journal_there (front ++ s ∷ shards) k s.journal (at_end k front long) in
+    let more : length (front ++ s ∷ []) ≡ k + 1 = omega (arith, length-append front (s ∷ []), long) in
+    ap₂ (λ (h : List SpelledEntry) l. h ∷ l) (ap (map spelled) (sym here))
+    (shards_spelled (k + 1) shards (front ++ s ∷ []) more ∙ ap (λ (l : List ShardSeen). map (λ i. map spelled (seen_in l i)) (range_with_len (k + 1) (length shards))) (append_assoc front (s ∷ []) shards))
+  where
+    at_end : (k : ℕ) (front : List ShardSeen) → length front ≡ k → slice_get (map (λ (x : ShardSeen). x.journal) (front ++ s ∷ shards)) k ≡ Some s.journal
+    at_end k front long =
+        slice_get-map (λ (x : ShardSeen). x.journal) (front ++ s ∷ shards) k
+        ∙ ap (option_map (λ (x : ShardSeen). x.journal)) (ap (slice_get (front ++ s ∷ shards)) (sym long) ∙ slice_at front s shards)
+
+spelled_by_number : (J : ℕ → List ObjectEntry) (os : List ObjectSeen) → ((i : ℕ) (o : ObjectSeen) → slice_get os i ≡ Some o → J o.plan.number ≡ o.journal) → map object_spelled os ≡ map (λ n. numbered n (J n)) (numbers_of (map fixed_of os))
+spelled_by_number J [] are = refl
+spelled_by_number J (o ∷ os) are = ap₂ (λ (h : ObjectJournal) l. h ∷ l) (ap (numbered o.plan.number) (sym (are 0 o refl))) (spelled_by_number J os (λ i p at. are (suc i) p at))
+
+objects_spelled : (shelf : LoneShelfSeen) → IsStrictlyIncreasing (numbers_of (fixed_on shelf)) → map object_spelled shelf.objects ≡ map (λ n. numbered n (seen_on shelf n)) (numbers_of (fixed_on shelf))
+objects_spelled shelf up = spelled_by_number (seen_on shelf) shelf.objects (object_there shelf up)
+
 -- a number is that of an object that is found
 found_among : (b : Bool) (f : ObjectFixed) (rest : Option ObjectFixed) → IsSome rest → IsSome (cond b (Some f) rest)
 found_among true f rest some = refl
@@ -107,9 +142,22 @@ some_of f (Some x) = refl
 
 -- ---- both
 
--- the text of a node that went on is that of its journals
-pub is_audit : (o : Opening) (old new : OpenNode) → IsOpenedBy o old → IsSameNode old new → IsAuditOf o (seen_by new).journals (all_text new.shards.shards new.shelf.objects)
-is_audit o old new opened same =
+-- in either form it is that of the journals
+in_form : (kind : Form) (shards : List ShardSeen) (shelf : LoneShelfSeen) (count : ℕ) (J : Journals) → length shards ≡ count → IsStrictlyIncreasing (numbers_of (fixed_on shelf)) → J.shards ≡ seen_in shards → J.objects ≡ seen_on shelf →
+    all_in kind shards shelf.objects ≡ journals_in kind count (numbers_of (fixed_on shelf)) J
+in_form form.Text shards shelf count J many up of_shards of_objects =
+    ap₂ (λ (a b : List ℕ). a ++ b)
+    (shards_listed shards count many ∙ ap (λ (f : ℕ → List Entry). flat_map (λ s. shard_text s (f s)) (range_with_len 0 count)) (sym of_shards))
+    (objects_listed shelf up ∙ ap (λ (f : ℕ → List ObjectEntry). flat_map (λ n. object_text n (f n)) (numbers_of (fixed_on shelf))) (sym of_objects))
+in_form form.Bytes shards shelf count J many up of_shards of_objects =
+    ap journals_bytes
+    (ap₂ (λ (x : List (List SpelledEntry)) (y : List ObjectJournal). record { shards = x; objects = y })
+    (shards_spelled 0 shards [] refl ∙ ap (λ k. map (λ s. map spelled (seen_in shards s)) (range_with_len 0 k)) many ∙ ap (λ (f : ℕ → List Entry). map (λ s. map spelled (f s)) (range_with_len 0 count)) (sym of_shards))
+    (objects_spelled shelf up ∙ ap (λ (f : ℕ → List ObjectEntry). map (λ n. numbered n (f n)) (numbers_of (fixed_on shelf))) (sym of_objects)))
+
+-- what is written of a node that went on is that of its journals
+pub is_audit : (kind : Form) (o : Opening) (old new : OpenNode) → IsOpenedBy o old → IsSameNode old new → IsAuditOf kind o (seen_by new).journals (all_in kind new.shards.shards new.shelf.objects)
+is_audit kind o old new opened same =
     let fixed : fixed_on new.shelf ≡ fixed_on old.shelf = same.objects in
     let up : IsStrictlyIncreasing (numbers_of (fixed_on new.shelf)) = subst (λ (l : List ObjectFixed). IsStrictlyIncreasing (numbers_of l)) (sym fixed) opened.is_node.by_number in
     let found = λ (n : ℕ). ap (λ (l : List ObjectFixed). is_some (fixed_at l n)) fixed ∙ ap is_some (opened.is_node.objects n) ∙ some_of (fixed_with o.limit) (object_of o.objects n) in
@@ -122,8 +170,47 @@ is_audit o old new opened same =
         ascending = up;
         are = λ n. (λ has. sym (found n) ∙ to_found (fixed_on new.shelf) n has, λ some. from_found (fixed_on new.shelf) n (found n ∙ some));
       };
-      is = ap₂ (λ (a b : List ℕ). a ++ b) (shards_listed new.shards.shards o.shards many) (objects_listed new.shelf up);
+      is = in_form kind new.shards.shards new.shelf o.shards (seen_by new).journals many up refl refl;
     }
+
+-- ---- what can be spelled
+
+few_at : (o : Opening) (channels : Entries) (i : ℕ) (d : Plan) → i < o.shards → length o.commons ≤ MAX_COMMONS → HasFewCommons (get_or (its_plans o channels) i d)
+few_at o channels i d below few =
+    subst HasFewCommons (sym (get_or-map-range_with_len (plan_for (numbers_in channels) o.shards o.anchors o.commons o.keep o.limit) 0 o.shards i i d below (omega arith))) few
+
+-- each shard of an opening has its commons
+pub few_planned : (o : Opening) (channels : Entries) → length o.commons ≤ MAX_COMMONS → All HasFewCommons (its_plans o channels)
+few_planned o channels few = λ i d below.
+    few_at o channels i d (omega (arith, below, length-map-range_with_len (plan_for (numbers_in channels) o.shards o.anchors o.commons o.keep o.limit) 0 o.shards)) few
+
+-- whatever the order of its channels
+few_again : (o : Opening) (channels others : Entries) → All HasFewCommons (its_plans o channels) → All HasFewCommons (its_plans o others)
+few_again o channels others few = λ i d below.
+    let f : ℕ → Plan = plan_for (numbers_in channels) o.shards o.anchors o.commons o.keep o.limit in
+    let lt : i < o.shards = omega (arith, below, length-map-range_with_len (plan_for (numbers_in others) o.shards o.anchors o.commons o.keep o.limit) 0 o.shards) in
+    few_at o others i d lt (subst HasFewCommons (get_or-map-range_with_len f 0 o.shards i i d lt (omega arith)) (few i d (omega (arith, lt, length-map-range_with_len f 0 o.shards))))
+
+module _ (o : Opening) (old new : OpenNode) (opened : IsOpenedBy o old) (same : IsSameNode old new) (small : IsSmall old) where
+  pub few_commons : (n : Node) → IsNodeOf o n → All HasFewCommons n.plans
+  few_commons n is_node =
+      subst (All HasFewCommons) (sym is_node.plans) (few_again o old.keys.channels.entries n.channels (subst (All HasFewCommons) opened.is_node.plans small.commons))
+
+  pub few_objects : length new.shelf.objects < 2 ^ 32
+  few_objects = omega (arith, ap (λ (l : List ObjectFixed). length l) same.objects, length-map new.shelf.objects fixed_of, length-map old.shelf.objects fixed_of, small.objects)
+
+  pub all_cite_few : AreWritable (seen_by new).journals → All CitesFew new.shards.shards
+  all_cite_few w = λ i d below.
+      let shards = new.shards.shards in
+      let at : slice_get (map (λ (s : ShardSeen). s.journal) shards) i ≡ Some (get_or shards i d).journal =
+      slice_get-map (λ (s : ShardSeen). s.journal) shards i ∙ ap (option_map (λ (s : ShardSeen). s.journal)) (slice_get-get_or shards i d below) in
+      subst (All (λ (e : Entry). CitesFewOf e.event)) (journal_there shards i (get_or shards i d).journal at) (w.cites i)
+
+  pub all_ops_fit : AreWritable (seen_by new).journals → All HasFittingOps new.shelf.objects
+  all_ops_fit w = λ i d below.
+      let objects = new.shelf.objects in
+      let up : IsStrictlyIncreasing (numbers_of (fixed_on new.shelf)) = subst (λ (l : List ObjectFixed). IsStrictlyIncreasing (numbers_of l)) (sym same.objects) opened.is_node.by_number in
+      subst (All (λ (e : ObjectEntry). FitsOperation e.op)) (object_there new.shelf up i (get_or objects i d) (slice_get-get_or objects i d below)) (w.ops (get_or objects i d).plan.number)
 
 -- ---- how it ends
 

@@ -6,7 +6,8 @@ use Rattle.node_file.proofs.Listed.{same_node}
 use Rattle.node_file.specs.Meaning.{opening}
 use Rattle.node_check.specs.declared.check.CheckEnd.{CheckEnd}
 use Rattle.node_check.specs.Findings.{Checks}
-use Rattle.taos_node.specs.Command.{Touched, UsesNoLane, LooksOver}
+use Rattle.taos_node.specs.Calls.{Touched}
+use Rattle.taos_node.specs.Command.{UsesNoLane, LooksOver}
 use Rattle.taos_node.specs.Files.{OpensNode}
 use Rattle.node_check.proofs.SameFindings.{checks_at}
 

@@ -1,5 +1,5 @@
 -- What a file decides, and what the first lane tells.
-use Rattle.std.proofs.Common.{◌≡◌, ◌≢◌, ◌⊎◌, ℕ, ◌-◌, ◌^◌, ◌<◌, ◌≤◌, true, List, [], ◌∷◌, length, slice_index_or, slice_set, Some, Ok, Err, refl, sym, ap, subst, arith, inl, inr}
+use Rattle.std.proofs.Common.{◌≡◌, ◌≢◌, ◌⊎◌, ℕ, ◌-◌, ◌^◌, ◌<◌, ◌≤◌, Bool, true, List, [], ◌∷◌, length, slice_index_or, slice_set, Some, Ok, Err, refl, sym, ap, subst, arith, inl, inr}
 use Rattle.std.specs.Prelude.{Option}
 use Rattle.std.specs.Io.KnownBytes.{Consumes, IsAtEnd}
 use Rattle.std.proofs.lemmas.List.{length-append}
@@ -14,10 +14,10 @@ use Rattle.taos_monitor.specs.Connection.{IsConnection}
 use Rattle.taos_node.specs.declared.ending.FileFault.{FileFault}
 use Rattle.taos_node.specs.declared.ending.FileFault.TheVariants as fault
 use Rattle.taos_node.specs.declared.ending.FileFault.TheVariants.{Malformed, Refused}
-use Rattle.taos_node.specs.Ending.{file_status}
-use Rattle.taos_node.specs.Files.{FaultHasCause, FileDecides, FileFails, IsNodeFile, IsRead, IsRefused, IsPathFile, IsRelayFile, IsUnread, Meaning, Opens, OpensNode, OpensPath, OpensRelay, fault_of, node_means, path_means, relay_means}
+use Rattle.taos_node.specs.Files.{FaultHasCause, FileDecides, FileFails, IsNodeFile, IsRead, IsRefused, IsPathFile, IsRelayFile, IsWalletFile, IsUnread, Meaning, Opens, OpensNode, OpensPath, OpensRelay, OpensWallet, fault_of, node_means, path_means, relay_means, wallet_means}
 use Rattle.frame_link.specs.Streams.{Stream}
-use Rattle.taos_node.specs.Command.{touched, with_seen, first_clock, first_link}
+use Rattle.taos_node.specs.Calls.{LaneUsed, touched, first_of, used_of}
+use Rattle.taos_node.specs.Command.{with_seen}
 use Rattle.file_lines.specs.declared.fault.FileCause.TheVariants.{Limit}
 use Rattle.file_lines.specs.declared.fault.FileFault.{FileFault as Refusal}
 use Rattle.file_lines.specs.declared.fault.FileFault.TheVariants as refusals
@@ -27,10 +27,13 @@ use Rattle.node_file.specs.RelayFile.{RelayFile, relay_in}
 use Rattle.node_file.proofs.Whole.{meant_again}
 use Rattle.relay_path.specs.Domains.{DomainKnows}
 use Rattle.relay_path.specs.PathFile.{path_in}
+use Rattle.cred_pull.specs.Fetching.{FetchSeen}
+use Rattle.cred_pull.specs.WalletFile.{WalletRow, wallet_in}
 use Rattle.node_file.specs.declared.limits.TheConstants.{MAX_FILE}
 use Rattle.std.proofs.lemmas.Bool.{cases_lt, lt-ltb}
 use Rattle.frame_link.proofs.Complete.{left_after, all_taken}
 use Rattle.taos_monitor.specs.World.{setting_of}
+use Rattle.taos_node.proofs.Stopped.{file_status}
 
 -- a count that stood still did not rise
 pub still : (before now : ℕ) → (now ≡ before) × (before < 2 ^ 64 - 1) → Rose before now → ⊥
@@ -59,6 +62,10 @@ long_path : (bytes : List ℕ) → MAX_FILE < length bytes → path_in bytes ≡
 unfolding path_in
 long_path bytes long = rw (lt-ltb MAX_FILE (length bytes) long) refl
 
+long_wallet : (bytes : List ℕ) → MAX_FILE < length bytes → wallet_in bytes ≡ Err (Line 0 Limit)
+unfolding wallet_in
+long_wallet bytes long = rw (lt-ltb MAX_FILE (length bytes) long) refl
+
 short_opening : (bytes : List ℕ) (o : Opening) → opening_in bytes ≡ Ok o → length bytes ≤ MAX_FILE
 short_opening bytes o is = elim (cases_lt MAX_FILE (length bytes)) [
   | inl long ↦ absurd (cc (is, long_opening bytes long))
@@ -77,6 +84,12 @@ short_path bytes ds is = elim (cases_lt MAX_FILE (length bytes)) [
   | inr short ↦ omega (arith, short)
 ]
 
+short_wallet : (bytes : List ℕ) (rows : List WalletRow) → wallet_in bytes ≡ Ok rows → length bytes ≤ MAX_FILE
+short_wallet bytes rows is = elim (cases_lt MAX_FILE (length bytes)) [
+  | inl long ↦ absurd (cc (is, long_wallet bytes long))
+  | inr short ↦ omega (arith, short)
+]
+
 pub node_files : IsMeantBy IsNodeFile node_means
 node_files = record { read = λ bytes o is. meant_again bytes o is.1 is.0; short = λ bytes o is. is.1 }
 
@@ -85,6 +98,9 @@ relay_files = record { read = λ bytes r is. is; short = short_relay }
 
 pub path_files : IsMeantBy IsPathFile path_means
 path_files = record { read = λ bytes ds is. is; short = short_path }
+
+pub wallet_files : IsMeantBy IsWalletFile wallet_means
+wallet_files = record { read = λ bytes rows is. is; short = short_wallet }
 
 module _ {A : Type 0} (Means : A → List ℕ → Type 0) (means : Meaning A) (laws : IsMeantBy Means means) (file0 file1 : Stream) where
   -- a file that tells that it means something is not refused
@@ -178,42 +194,42 @@ path_opens file0 file1 bytes ds read is = elim read.whole [
   | inr long ↦ absurd (cc (is, long_path bytes long))
 ]
 
+pub wallet_opens : (file0 file1 : Stream) (bytes : List ℕ) (rows : List WalletRow) → IsRead file0 file1 bytes → wallet_in bytes ≡ Ok rows → OpensWallet file0 file1 rows
+wallet_opens file0 file1 bytes rows read is = elim read.whole [
+  | inl at_end ↦ record { bytes = bytes; read = read.read; at_end = at_end; means = is }
+  | inr long ↦ absurd (cc (is, long_wallet bytes long))
+]
+
 -- ---- the first lane
 
-module _ {C R D I O : Type 0} where
-  pub first_clock_is : (shown : C → Stream) (lanes : List (Lane C R D I O)) (d : Lane C R D I O) → 0 < length lanes → first_clock shown lanes ≡ shown (slice_index_or lanes 0 d).clock
-  first_clock_is shown [] d some = absurd (omega (arith, some))
-  first_clock_is shown (lane ∷ lanes) d some = refl
+module _ {C R D P I O : Type 0} (clock : C → Stream) (relay : R → Link) (fetch : P → FetchSeen) where
+  pub first_is : (lanes : List (Lane C R D P I O)) (d : Lane C R D P I O) → 0 < length lanes → first_of clock relay fetch lanes ≡ used_of clock relay fetch (slice_index_or lanes 0 d)
+  first_is [] d some = absurd (omega (arith, some))
+  first_is (lane ∷ lanes) d some = refl
 
-  pub first_link_is : (shown : R → Link) (lanes : List (Lane C R D I O)) (d : Lane C R D I O) → 0 < length lanes → first_link shown lanes ≡ shown (slice_index_or lanes 0 d).relay
-  first_link_is shown [] d some = absurd (omega (arith, some))
-  first_link_is shown (lane ∷ lanes) d some = refl
-
-  -- as they are left
-  pub clock_after : (shown : C → Stream) (lanes : List (Lane C R D I O)) (lane : Lane C R D I O) → 0 < length lanes → first_clock shown (slice_set lanes 0 lane) ≡ shown lane.clock
-  clock_after shown [] lane some = absurd (omega (arith, some))
-  clock_after shown (other ∷ lanes) lane some = refl
-
-  pub link_after : (shown : R → Link) (lanes : List (Lane C R D I O)) (lane : Lane C R D I O) → 0 < length lanes → first_link shown (slice_set lanes 0 lane) ≡ shown lane.relay
-  link_after shown [] lane some = absurd (omega (arith, some))
-  link_after shown (other ∷ lanes) lane some = refl
+  -- as it is left
+  pub first_after : (lanes : List (Lane C R D P I O)) (lane : Lane C R D P I O) → 0 < length lanes → first_of clock relay fetch (slice_set lanes 0 lane) ≡ used_of clock relay fetch lane
+  first_after [] lane some = absurd (omega (arith, some))
+  first_after (other ∷ lanes) lane some = refl
 
   -- how it ended, by the counts of the first lane's clock
-  pub causes_by : (shown : C → Stream) (lanes : List (Lane C R D I O)) (d lane : Lane C R D I O) → 0 < length lanes → (in0 in1 out0 out1 : Stream) (outcome : Outcome) →
-      HasCauses (λ (n : ℕ). n) (line in0 out0 (shown (slice_index_or lanes 0 d).clock).faults) (line in1 out1 (shown lane.clock).faults) outcome →
-      HasCauses (λ (n : ℕ). n) (line in0 out0 (first_clock shown lanes).faults) (line in1 out1 (first_clock shown (slice_set lanes 0 lane)).faults) outcome
-  causes_by shown [] d lane some in0 in1 out0 out1 outcome h = absurd (omega (arith, some))
-  causes_by shown (first ∷ lanes) d lane some in0 in1 out0 out1 outcome h = h
+  pub causes_by : (lanes : List (Lane C R D P I O)) (d lane : Lane C R D P I O) → 0 < length lanes → (in0 in1 out0 out1 : Stream) (outcome : Outcome) →
+      HasCauses (λ (n : ℕ). n) (line in0 out0 (clock (slice_index_or lanes 0 d).clock).faults) (line in1 out1 (clock lane.clock).faults) outcome →
+      HasCauses (λ (n : ℕ). n) (line in0 out0 (first_of clock relay fetch lanes).clock.faults) (line in1 out1 (first_of clock relay fetch (slice_set lanes 0 lane)).clock.faults) outcome
+  causes_by [] d lane some in0 in1 out0 out1 outcome h = absurd (omega (arith, some))
+  causes_by (first ∷ lanes) d lane some in0 in1 out0 out1 outcome h = h
 
-  pub complete_by : (shown : C → Stream) (lanes : List (Lane C R D I O)) (d lane : Lane C R D I O) → 0 < length lanes → (in0 in1 out0 out1 : Stream) (outcome : Outcome) (limit : ℕ) →
-      IsComplete (λ (n : ℕ). n) limit (line in0 out0 (shown (slice_index_or lanes 0 d).clock).faults) (line in1 out1 (shown lane.clock).faults) outcome →
-      IsComplete (λ (n : ℕ). n) limit (line in0 out0 (first_clock shown lanes).faults) (line in1 out1 (first_clock shown (slice_set lanes 0 lane)).faults) outcome
-  complete_by shown [] d lane some in0 in1 out0 out1 outcome limit h = absurd (omega (arith, some))
-  complete_by shown (first ∷ lanes) d lane some in0 in1 out0 out1 outcome limit h = h
+  pub complete_by : (lanes : List (Lane C R D P I O)) (d lane : Lane C R D P I O) → 0 < length lanes → (in0 in1 out0 out1 : Stream) (outcome : Outcome) (limit : ℕ) →
+      IsComplete (λ (n : ℕ). n) limit (line in0 out0 (clock (slice_index_or lanes 0 d).clock).faults) (line in1 out1 (clock lane.clock).faults) outcome →
+      IsComplete (λ (n : ℕ). n) limit (line in0 out0 (first_of clock relay fetch lanes).clock.faults) (line in1 out1 (first_of clock relay fetch (slice_set lanes 0 lane)).clock.faults) outcome
+  complete_by [] d lane some in0 in1 out0 out1 outcome limit h = absurd (omega (arith, some))
+  complete_by (first ∷ lanes) d lane some in0 in1 out0 out1 outcome limit h = h
 
--- a connection over what is touched, as the first lane tells it
-pub touches : (n : Node) (frames : ℕ) (file0 file1 in0 in1 out0 out1 clock0 clock0' clock1 clock1' : Stream) (relay0 relay0' relay1 relay1' : Link) (seen seen' last : Seen) (outcome : Outcome) →
-    clock0' ≡ clock0 → clock1' ≡ clock1 → relay0' ≡ relay0 → relay1' ≡ relay1 → seen' ≡ seen →
-    IsConnection (setting_of n (alone_of true true)) frames (with_seen (touched file0 in0 out0 clock0 relay0) seen) (with_seen (touched file1 in1 out1 clock1 relay1) last) outcome →
-    IsConnection (setting_of n (alone_of true true)) frames (with_seen (touched file0 in0 out0 clock0' relay0') seen') (with_seen (touched file1 in1 out1 clock1' relay1') last) outcome
-touches n frames file0 file1 in0 in1 out0 out1 clock0 clock0' clock1 clock1' relay0 relay0' relay1 relay1' seen seen' last outcome e1 e2 e3 e4 e5 c = rw (e1, e2, e3, e4, e5) c
+-- a connection over what is touched, as the first lane tells it, with the use of the fetch that stays
+pub touches : (n : Node) (pulls used : Bool) (frames : ℕ) (file0 file1 in0 in1 out0 out1 : Stream) (lane0 lane0' lane1 lane1' : LaneUsed) (seen seen' last : Seen) (outcome : Outcome) →
+    used ≡ pulls → lane0' ≡ lane0 → lane1' ≡ lane1 → seen' ≡ seen →
+    IsConnection (setting_of n (alone_of true true)) frames (with_seen pulls (touched file0 in0 out0 lane0) seen) (with_seen used (touched file1 in1 out1 lane1) last) outcome →
+    IsConnection (setting_of n (alone_of true true)) frames (with_seen pulls (touched file0 in0 out0 lane0') seen') (with_seen pulls (touched file1 in1 out1 lane1') last) outcome
+touches n pulls used frames file0 file1 in0 in1 out0 out1 lane0 lane0' lane1 lane1' seen seen' last outcome e e0 e1 e2 c =
+    rw (e0, e1, e2)
+    (subst (λ (b : Bool). IsConnection (setting_of n (alone_of true true)) frames (with_seen pulls (touched file0 in0 out0 lane0) seen) (with_seen b (touched file1 in1 out1 lane1) last) outcome) e c)

@@ -1,5 +1,5 @@
 -- The node and the lanes of a drill, as the law of its counts has them.
-use Rattle.std.proofs.Common.{◌≡◌, ◌≢◌, ℕ, zero, suc, ◌+◌, ◌<◌, List, [], ◌∷◌, length, map, get_or, ap, subst, ◌∙◌, inl, inr, add-one, arith}
+use Rattle.std.proofs.Common.{◌≡◌, ◌≢◌, ℕ, false, zero, suc, ◌+◌, ◌<◌, List, [], ◌∷◌, length, map, get_or, ap, subst, ◌∙◌, inl, inr, add-one, arith}
 use Rattle.std.specs.Prelude.{All, AllPairs}
 use Rattle.std.specs.List.{AllZip, range_with_len}
 use Rattle.std.specs.List.Sorted.{IsStrictlyIncreasing}
@@ -67,7 +67,7 @@ abbrev pub one_each : ℕ → Limits
 one_each frames = record { connections = 1; frames = frames }
 
 module _ {n : Node} {limit : ℕ} (d : DrillWords) where
-  pub lanes_answered : (ks : List ℕ) (before after : List (LaneShown Wire)) (runs : List (LaneRun n limit)) → AreDrillLanes (map (drill_stream d.seed d.requests d.lanes) ks) before → Each3 (IsRunOf wire_told (one_each limit)) before after runs →
+  pub lanes_answered : (ks : List ℕ) (before after : List (LaneShown Wire)) (runs : List (LaneRun n limit)) → AreDrillLanes (map (drill_stream d.seed d.requests d.lanes) ks) before → Each3 (IsRunOf wire_told false (one_each limit)) before after runs →
       AllZip AnswersAll (map (λ lane. map (payload_of d.seed d.lanes) (requests_of d.requests d.lanes lane)) ks) runs → HaveMemory runs → AllZip (AnswersLane d) ks runs
   lanes_answered [] [] [] [] are each all memory = tt
   lanes_answered [] (b ∷ before) after runs are each all memory = absurd are
@@ -75,6 +75,7 @@ module _ {n : Node} {limit : ℕ} (d : DrillWords) where
   lanes_answered (k ∷ ks) (b ∷ before) (a ∷ after) (r ∷ runs) are each all memory = (
     record {
       clock = ap (λ (w : World). w.outside.clock.told) each.0.first ∙ ap (λ (s : Stream). s.told) are.0.clock;
+      unfetched = ap (λ (w : World). w.fetch.pulls) each.0.first;
       visit = all.0.visit;
       one = all.0.one;
       all = all.0.all;

@@ -46,7 +46,7 @@ one_lane_more (s ∷ streams) [] bytes lane are is = absurd are
 
 -- the same of what the program has
 abbrev pub DrillLane : Type 0
-DrillLane = Lane Times ℕ (Hall Wire) Supply Grown
+DrillLane = Lane Times ℕ (Hall Wire) ℕ Supply Grown
 
 pub more_lanes : (streams : List (Vec ℕ Global)) (bytes : Vec ℕ Global) (lanes : List DrillLane) (lane : DrillLane) (after : List DrillLane) → after ≡ lanes ++ lane ∷ [] → AreDrillLanes (map text_of streams) (map drill_shown lanes) →
     IsDrillLane bytes.items (drill_shown lane) → length lanes ≡ length streams → AreDrillLanes (map text_of (streams ++ bytes ∷ [])) (map drill_shown after) × (length after ≡ length (streams ++ bytes ∷ []))
@@ -108,7 +108,7 @@ module _ {n : Node} {limit : ℕ} where
       (sym same.0, is.1 ∙ ap End (ended.1 ∙ ap (λ (l : List (List ℕ)). length l) (sym same.0)))
 
   -- a lane with one connection, neither broken nor lacking memory
-  one_run : (bytes : List ℕ) (payloads : List (List ℕ)) (before after : LaneShown Wire) (run : LaneRun n limit) → Splits 65536 bytes payloads [] → IsDrillLane bytes before → IsRunOf wire_told (one_each limit) before after run →
+  one_run : (bytes : List ℕ) (payloads : List (List ℕ)) (before after : LaneShown Wire) (run : LaneRun n limit) → Splits 65536 bytes payloads [] → IsDrillLane bytes before → IsRunOf wire_told false (one_each limit) before after run →
       serves run ≡ 1 → breaks run ≡ 0 → lacks run ≡ 0 → AnswersAll payloads run
   one_run bytes payloads before after run splits lane is one whole had = by run.visits refl
     where
@@ -128,13 +128,13 @@ module _ {n : Node} {limit : ℕ} where
 
   -- ---- all lanes
 
-  no_more : (before after : List (LaneShown Wire)) (runs : List (LaneRun n limit)) → Each3 (IsRunOf wire_told (one_each limit)) before after runs → sum_by serves runs ≤ length runs
+  no_more : (before after : List (LaneShown Wire)) (runs : List (LaneRun n limit)) → Each3 (IsRunOf wire_told false (one_each limit)) before after runs → sum_by serves runs ≤ length runs
   no_more [] [] [] each = omega arith
   no_more (b ∷ before) (a ∷ after) (r ∷ runs) each = omega (arith, sum_by-cons serves r runs, each.0.through.few, no_more before after runs each.1)
   no_more _ _ _ each = absurd each
 
   module _ (seed requests lanes : ℕ) where
-    all_answered : (ks : List ℕ) (before after : List (LaneShown Wire)) (runs : List (LaneRun n limit)) → AreDrillLanes (map (drill_stream seed requests lanes) ks) before → Each3 (IsRunOf wire_told (one_each limit)) before after runs →
+    all_answered : (ks : List ℕ) (before after : List (LaneShown Wire)) (runs : List (LaneRun n limit)) → AreDrillLanes (map (drill_stream seed requests lanes) ks) before → Each3 (IsRunOf wire_told false (one_each limit)) before after runs →
         sum_by serves runs ≡ length runs → sum_by breaks runs ≡ 0 → sum_by lacks runs ≡ 0 → AllZip AnswersAll (map (λ lane. map (payload_of seed lanes) (requests_of requests lanes lane)) ks) runs
     all_answered [] [] [] [] are each one whole had = tt
     all_answered [] (b ∷ before) after runs are each one whole had = absurd are

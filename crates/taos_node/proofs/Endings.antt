@@ -12,16 +12,19 @@ use Rattle.taos_node.specs.declared.ending.AuditEnd.TheVariants as audits
 use Rattle.taos_node.specs.declared.ending.DrillEnd.{DrillEnd}
 use Rattle.taos_node.specs.declared.ending.DrillEnd.TheVariants as drills
 use Rattle.taos_node.specs.Audit.{AuditCauses, AuditIsComplete}
-use Rattle.taos_node.specs.Command.{EndsWell, FileDecidesFor, IsCaused, IsStatus, PassesWell, Touched, counts_of}
+use Rattle.taos_node.specs.declared.audit.Form.{Form}
+use Rattle.taos_node.specs.declared.audit.Form.TheVariants as form
+use Rattle.taos_node.specs.Calls.{Touched}
+use Rattle.taos_node.specs.Command.{AsksAudit, EndsWell, EndsWellFor, FileDecidesFor, IsCaused, IsStatus, PassesWell, audit_task, counts_of}
 use Rattle.taos_node.specs.Drills.{DrillCauses}
-use Rattle.taos_node.specs.Ending.{audited_status, drilled_status, served_status}
-use Rattle.taos_node.specs.Files.{IsNodeFile, IsPathFile, IsSteady, OpensNode, OpensPath, node_means, path_means}
-use Rattle.taos_node.specs.Paths.{PathCauses, path_status}
+use Rattle.taos_node.specs.Files.{FileDecides, IsNodeFile, IsPathFile, IsSteady, OpensNode, OpensPath, node_means, path_means}
+use Rattle.taos_node.specs.Paths.{PathCauses}
 use Rattle.taos_node.specs.declared.path.PathEnd.{PathEnd}
 use Rattle.taos_node.specs.declared.path.PathEnd.TheVariants as passed_ends
-use Rattle.node_words.specs.Words.{Audit, Check, Drill, DrillWords, Mean, Mint, Path, PathWords, Relay, Run}
+use Rattle.node_words.specs.Words.{Drill, DrillWords, Mean, Path, PathWords}
 use Rattle.taos_node.proofs.Commands.{decided_opened, node_files, path_files, still}
-use Rattle.taos_node.proofs.Statuses.{AllTold, all_still, frames_in, not_caused, not_one, not_two, of_command, same_counts, serving_caused, serving_told, stayed, streams_told, two_commands}
+use Rattle.taos_node.proofs.Statuses.{AllTold, all_still, commanded, not_caused, not_one, not_two, same_counts, serving_caused, serving_told, stayed}
+use Rattle.taos_node.proofs.Stopped.{audited_status, drilled_status, path_status, served_status}
 
 -- ---- an audit
 
@@ -63,28 +66,21 @@ module _ (before after : Touched) where
       lacked (inl e) = ap audited_status e
       lacked (inr e) = ap audited_status e
 
-pub audited : (words : List (String Global)) (frames : ℕ) (before after : Touched) (end : AuditEnd) (o : Opening) → Mean words (Audit frames) → OpensNode before.file after.file o →
+pub audited : (words : List (String Global)) (kind : Form) (frames : ℕ) (before after : Touched) (end : AuditEnd) (o : Opening) → AsksAudit words kind frames → OpensNode before.file after.file o →
     after.file.faults ≡ before.file.faults → AuditIsComplete frames before.input.told (counts_of before) (counts_of after) end → AuditCauses (counts_of before) (counts_of after) end →
     IsStatus words before after (audited_status end)
-audited words frames before after end o audit opens same complete h = record {
-  usage = record { usage = λ e. absurd (not_one (outcome_of end) (sym (same_status end) ∙ e)); no_command = λ none. absurd (none (Audit frames, audit)) };
-  file = λ other is. of_command (λ w. FileDecidesFor w before.file after.file (audited_status end)) words (Audit frames) other audit is
-      (decided_opened IsNodeFile node_means node_files before.file after.file o (audited_status end) opens (λ e. not_two (outcome_of end) (sym (same_status end) ∙ e)));
-  complete = λ most is. two_commands words (Audit frames) (Run most) audit is (λ e. cc e);
-  checks_well = λ is. two_commands words (Audit frames) Check audit is (λ e. cc e);
-  relays_well = λ most is. two_commands words (Audit frames) (Relay most) audit is (λ e. cc e);
-  mints_well = λ m is. two_commands words (Audit frames) (Mint m) audit is (λ e. cc e);
-  passes_well = λ p is. two_commands words (Audit frames) (Path p) audit is (λ e. cc e);
-  audits_well = λ most is clock. audit_well before after most end (complete_for most is) clock;
-  drills_well = λ d is. two_commands words (Audit frames) (Drill d) audit is (λ e. cc e);
-  causes = audit_caused before after end h;
-  told = streams_told before after (audited_status end) (audit_told before after end same h);
-  clock = λ _. (audit_told before after end same h).clock;
-  clock_of = λ _. inr (frames, audit);
-}
+audited words kind frames before after end o audit opens same complete h =
+    commanded words (audit_task kind frames) before after (audited_status end) audit (λ e. not_one (outcome_of end) (sym (same_status end) ∙ e))
+    (decides_audit kind (decided_opened IsNodeFile node_means node_files before.file after.file o (audited_status end) opens (λ e. not_two (outcome_of end) (sym (same_status end) ∙ e))))
+    (ends_audit kind (audit_well before after frames end complete)) (audit_caused before after end h) (audit_told before after end same h) (λ _. inr (kind, frames, audit))
   where
-    complete_for : (most : ℕ) → Mean words (Audit most) → AuditIsComplete most before.input.told (counts_of before) (counts_of after) end
-    complete_for most is = of_command (λ w. AuditIsComplete (frames_in w) before.input.told (counts_of before) (counts_of after) end) words (Audit frames) (Audit most) audit is complete
+    decides_audit : (form : Form) → FileDecides IsNodeFile before.file after.file (audited_status end) → FileDecidesFor (audit_task form frames) before.file after.file (audited_status end)
+    decides_audit form.Text is = is
+    decides_audit form.Bytes is = is
+
+    ends_audit : (form : Form) → (IsSteady before.clock after.clock → EndsWell IsNodeFile frames before after (audited_status end)) → EndsWellFor (audit_task form frames) before after (audited_status end)
+    ends_audit form.Text well = well
+    ends_audit form.Bytes well = well
 
 -- ---- a drill
 
@@ -127,21 +123,9 @@ module _ (before after : Touched) where
 
 pub drilled : (words : List (String Global)) (d : DrillWords) (before after : Touched) (end : DrillEnd) → Mean words (Drill d) → after.file.faults ≡ before.file.faults → after.input.faults ≡ before.input.faults →
     after.clock.faults ≡ before.clock.faults → DrillCauses before.output.faults after.output.faults end → IsStatus words before after (drilled_status end)
-drilled words d before after end drill same input clock h = record {
-  usage = record { usage = λ e. absurd (not_one_drill end e); no_command = λ none. absurd (none (Drill d, drill)) };
-  file = λ other is. of_command (λ w. FileDecidesFor w before.file after.file (drilled_status end)) words (Drill d) other drill is (not_two_drill end);
-  complete = λ most is. two_commands words (Drill d) (Run most) drill is (λ e. cc e);
-  checks_well = λ is. two_commands words (Drill d) Check drill is (λ e. cc e);
-  relays_well = λ most is. two_commands words (Drill d) (Relay most) drill is (λ e. cc e);
-  mints_well = λ m is. two_commands words (Drill d) (Mint m) drill is (λ e. cc e);
-  passes_well = λ p is. two_commands words (Drill d) (Path p) drill is (λ e. cc e);
-  audits_well = λ most is. two_commands words (Drill d) (Audit most) drill is (λ e. cc e);
-  drills_well = λ other is. drill_well before after end h;
-  causes = drill_caused before after end h;
-  told = streams_told before after (drilled_status end) (drill_told before after end same input clock h);
-  clock = λ _. (drill_told before after end same input clock h).clock;
-  clock_of = λ e. absurd (not_five_drill end e);
-}
+drilled words d before after end drill same input clock h =
+    commanded words (Drill d) before after (drilled_status end) drill (not_one_drill end) (not_two_drill end) (drill_well before after end h) (drill_caused before after end h)
+    (drill_told before after end same input clock h) (λ e. absurd (not_five_drill end e))
 
 -- ---- a certificate that was passed along a route, or stopped
 
@@ -205,19 +189,6 @@ not_five_path passed_ends.NoMemory = λ e. omega (arith, e)
 pub passed : (words : List (String Global)) (p : PathWords) (before after : Touched) (ds : List DomainKnows) (end : PathEnd) → Mean words (Path p) → OpensPath before.file after.file ds →
     after.file.faults ≡ before.file.faults → after.clock.faults ≡ before.clock.faults → PathCauses before.input.faults after.input.faults before.output.faults after.output.faults end →
     IsStatus words before after (path_status end)
-passed words p before after ds end path opens same clock h = record {
-  usage = record { usage = λ e. absurd (not_one_path end e); no_command = λ none. absurd (none (Path p, path)) };
-  file = λ other is. of_command (λ w. FileDecidesFor w before.file after.file (path_status end)) words (Path p) other path is
-      (decided_opened IsPathFile path_means path_files before.file after.file ds (path_status end) opens (not_two_path end));
-  complete = λ frames run. two_commands words (Path p) (Run frames) path run (λ e. cc e);
-  checks_well = λ check. two_commands words (Path p) Check path check (λ e. cc e);
-  relays_well = λ frames relay. two_commands words (Path p) (Relay frames) path relay (λ e. cc e);
-  mints_well = λ m is. two_commands words (Path p) (Mint m) path is (λ e. cc e);
-  passes_well = λ other is. path_well before after end h;
-  audits_well = λ most is. two_commands words (Path p) (Audit most) path is (λ e. cc e);
-  drills_well = λ d is. two_commands words (Path p) (Drill d) path is (λ e. cc e);
-  causes = path_caused before after end h;
-  told = streams_told before after (path_status end) (path_told before after end same clock h);
-  clock = λ _. (path_told before after end same clock h).clock;
-  clock_of = λ e. absurd (not_five_path end e);
-}
+passed words p before after ds end path opens same clock h =
+    commanded words (Path p) before after (path_status end) path (not_one_path end) (decided_opened IsPathFile path_means path_files before.file after.file ds (path_status end) opens (not_two_path end))
+    (path_well before after end h) (path_caused before after end h) (path_told before after end same clock h) (λ e. absurd (not_five_path end e))

@@ -23,7 +23,7 @@ use Rattle.node_check.specs.declared.check.CheckEnd.{CheckEnd}
 use Rattle.node_check.specs.declared.check.CheckEnd.TheVariants as ends
 use Rattle.taos_node.specs.declared.ending.Ending.{Ending}
 use Rattle.taos_node.specs.declared.ending.Ending.TheVariants as ending
-use Rattle.taos_node.specs.declared.ending.Ending.TheVariants.{Usage, File, Served, Checked, Relayed, Minted, Lanes, RelayLanes, Audited, Drilled, Passed}
+use Rattle.taos_node.specs.declared.ending.Ending.TheVariants.{Usage, File, Served, Checked, Relayed, Minted, Lanes, RelayLanes, Audited, Drilled, Passed, Walleted, Replayed}
 use Rattle.taos_node.specs.declared.ending.FileFault.{FileFault}
 use Rattle.taos_node.specs.declared.ending.FileFault.TheVariants as fault
 use Rattle.taos_node.specs.declared.ending.FileFault.TheVariants.{Malformed, Refused}
@@ -36,18 +36,20 @@ use Rattle.taos_node.specs.declared.ending.LanesEnd.TheVariants as lanes
 use Rattle.node_check.specs.declared.finding.Finding.TheVariants.{Granted, Refused as Wrong}
 use Rattle.taos_node.specs.declared.minting.MintEnd.{MintEnd}
 use Rattle.taos_node.specs.declared.minting.MintEnd.TheVariants as made
-use Rattle.taos_node.specs.Command.{Does, FileDecidesFor, HasSameCount, HasSteadyDoor, IsCaused, IsCommand, IsStatus, ServesDoors, Runs, RunsAlone, TellsDoors, Touched}
-use Rattle.taos_node.specs.Ending.{audited_status, checked_status, drilled_status, file_status, lanes_status, served_status, status_of}
+use Rattle.taos_node.specs.Command.{Does, EndsWellFor, FileDecidesFor, HasSameCount, HasSteadyDoor, IsCaused, IsCommand, IsStatus, ServesDoors, Runs, RunsAlone, TellsDoors}
+use Rattle.taos_node.specs.Calls.{Touched, over}
+use Rattle.taos_node.specs.Stops.{status_of}
 use Rattle.taos_node.specs.Files.{FaultHasCause, FileFails, IsNodeFile, IsRelayFile, IsSteady, Meaning, node_means, relay_means}
 use Rattle.taos_node.specs.Lanes.{HasNoneFailed, LanesCauses, PrintsLine, ServesLanes, served, unserved}
 use Rattle.taos_node.specs.RelayLanes.{RelaysDoors}
-use Rattle.taos_node.specs.Minting.{minted_status}
-use Rattle.taos_node.specs.Paths.{path_status}
+use Rattle.taos_node.specs.declared.replay.ReplayEnd.{ReplayEnd}
+use Rattle.taos_node.specs.declared.replay.ReplayEnd.TheVariants as replay_ends
 use Rattle.taos_node.specs.declared.path.PathEnd.{PathEnd}
 use Rattle.taos_node.specs.declared.path.PathEnd.TheVariants as passed_ends
-use Rattle.node_words.specs.Words.{Audit, Check, Drill, Mean, Mint, Path, Relay, RelayServe, Run, Serve, ServeWords, Task}
+use Rattle.node_words.specs.Words.{Audit, Check, Drill, Mean, Mint, Path, Relay, RelayServe, Run, Serve, ServeWords, Task, Wallet, AuditBytes, Replay}
 use Rattle.taos_node.proofs.Commands.{IsMeantBy, node_files, not_refused, relay_files, still}
 use Rattle.taos_node.proofs.Statuses.{not_caused, of_command, stayed, two_commands}
+use Rattle.taos_node.proofs.Stopped.{audited_status, checked_status, drilled_status, file_status, lanes_status, minted_status, path_status, replay_status, served_status}
 
 -- ---- the other commands
 
@@ -96,6 +98,13 @@ not_nine_mint (made.Refused w) = λ e. omega (arith, e)
 not_nine_mint made.WriteFault = λ e. omega (arith, e)
 not_nine_mint made.NoMemory = λ e. omega (arith, e)
 
+not_nine_replay : (end : ReplayEnd) → replay_status end ≢ 9
+not_nine_replay (replay_ends.Done true) = λ e. omega (arith, e)
+not_nine_replay (replay_ends.Done false) = λ e. omega (arith, e)
+not_nine_replay replay_ends.ReadFault = λ e. omega (arith, e)
+not_nine_replay replay_ends.WriteFault = λ e. omega (arith, e)
+not_nine_replay replay_ends.NoMemory = λ e. omega (arith, e)
+
 not_nine_audit : (end : AuditEnd) → audited_status end ≢ 9
 not_nine_audit audits.Done = λ e. omega (arith, e)
 not_nine_audit (audits.Stopped outcome) = not_nine_served outcome
@@ -124,13 +133,15 @@ not_nine words before after (Checked end) r = not_nine_check end
 not_nine words before after (Relayed outcome) r = not_nine_served outcome
 not_nine words before after (Minted end) r = not_nine_mint end
 not_nine words before after (Audited end) r = not_nine_audit end
+not_nine words before after (Replayed end) r = not_nine_replay end
 not_nine words before after (Drilled end) r = not_nine_drill end
 not_nine words before after (Passed end) r = not_nine_path end
+not_nine words before after (Walleted outcome) r = not_nine_served outcome
 not_nine words before after (Lanes end) r = absurd r
 not_nine words before after (RelayLanes end) r = absurd r
 
 module _ {In Out : Type 0} (telling : Telling In Out) (words : List (String Global)) (before after : Touched) (lanes0 lanes1 : List (LaneShown (In × Out))) where
-  alone_runs : (e : Ending) → RunsAlone words before after e → drop 1 lanes1 ≡ drop 1 lanes0 → Runs telling words (change before after) (change lanes0 lanes1) e
+  alone_runs : (e : Ending) → RunsAlone words before after e → drop 1 lanes1 ≡ drop 1 lanes0 → Runs telling words (over before lanes0) (over after lanes1) e
   alone_runs Usage r others = (r, others)
   alone_runs ending.NoMemory r others = (r, others)
   alone_runs (File f) r others = (r, others)
@@ -141,11 +152,13 @@ module _ {In Out : Type 0} (telling : Telling In Out) (words : List (String Glob
   alone_runs (Audited end) r others = (r, others)
   alone_runs (Drilled end) r others = (r, others)
   alone_runs (Passed end) r others = (r, others)
+  alone_runs (Walleted outcome) r others = (r, others)
+  alone_runs (Replayed end) r others = (r, others)
   alone_runs (Lanes end) r others = absurd r
   alone_runs (RelayLanes end) r others = absurd r
 
   -- a command that serves no lanes
-  pub alone : (e : Ending) → RunsAlone words before after e → IsStatus words before after (status_of e) → drop 1 lanes1 ≡ drop 1 lanes0 → (ServesDoors words → ⊥) → Does telling words (change before after) (change lanes0 lanes1) e
+  pub alone : (e : Ending) → RunsAlone words before after e → IsStatus words before after (status_of e) → drop 1 lanes1 ≡ drop 1 lanes0 → (ServesDoors words → ⊥) → Does telling words (over before lanes0) (over after lanes1) e
   alone e r status others none = record {
     runs = alone_runs e r others;
     status = status;
@@ -166,7 +179,7 @@ other_work (x ∷ xs) [] z = absurd z
 
 module _ {In Out : Type 0} (telling : Telling In Out) (words : List (String Global)) (before after : Touched) (l : List (LaneShown (In × Out))) where
   -- memory was refused before the words were read
-  pub unread_does : RunsAlone words before after ending.NoMemory → IsStatus words before after 6 → Does telling words (change before after) (change l l) ending.NoMemory
+  pub unread_does : RunsAlone words before after ending.NoMemory → IsStatus words before after 6 → Does telling words (over before l) (over after l) ending.NoMemory
   unread_does r status = record {
     runs = (r, refl);
     status = status;
@@ -182,7 +195,7 @@ module _ {In Out : Type 0} (telling : Telling In Out) (words : List (String Glob
 
   -- the file of the command that serves lanes was not served
   pub file_does : (s : ServeWords) (f : FileFault) → Mean words (Serve s) → RunsAlone words before after (File f) → IsStatus words before after (file_status f) → FileFails node_means before.file after.file f →
-      FaultHasCause before.file after.file f → Does telling words (change before after) (change l l) (File f)
+      FaultHasCause before.file after.file f → Does telling words (over before l) (over after l) (File f)
   file_does s f serve r status bad cause = record {
     runs = (r, refl);
     status = status;
@@ -196,7 +209,7 @@ module _ {In Out : Type 0} (telling : Telling In Out) (words : List (String Glob
 
   -- nor that of the command that serves them as a relay
   pub relay_file_does : (limits : Limits) (f : FileFault) → Mean words (RelayServe limits) → RunsAlone words before after (File f) → IsStatus words before after (file_status f) → FileFails relay_means before.file after.file f →
-      FaultHasCause before.file after.file f → Does telling words (change before after) (change l l) (File f)
+      FaultHasCause before.file after.file f → Does telling words (over before l) (over after l) (File f)
   relay_file_does limits f relay r status bad cause = record {
     runs = (r, refl);
     status = status;
@@ -308,18 +321,12 @@ module _ (before after : Touched) where
   lanes_output lanes.WriteFault h = λ _. refl
   lanes_output lanes.NoMemory h = stayed before.output.faults after.output.faults h
 
-  pub lanes_tell : (words : List (String Global)) (task : Task) (end : LanesEnd) → Mean words task → IsLaneTask task → FileDecidesFor task before.file after.file (lanes_status end) → ServesDoors words →
+  pub lanes_tell : (words : List (String Global)) (task : Task) (end : LanesEnd) → Mean words task → EndsWellFor task before after (lanes_status end) → FileDecidesFor task before.file after.file (lanes_status end) → ServesDoors words →
       after.file.faults ≡ before.file.faults → after.input.faults ≡ before.input.faults → LanesCauses before.output.faults after.output.faults end → IsStatus words before after (lanes_status end)
-  lanes_tell words task end is lane decides serve same input h = record {
+  lanes_tell words task end is well decides serve same input h = record {
     usage = record { usage = λ e. absurd (not_one_lanes end e); no_command = λ none. absurd (none (task, is)) };
     file = λ other o. of_command (λ w. FileDecidesFor w before.file after.file (lanes_status end)) words task other is o decides;
-    complete = λ frames run. two_commands words task (Run frames) is run (λ e. subst IsLaneTask e lane);
-    checks_well = λ check. two_commands words task Check is check (λ e. subst IsLaneTask e lane);
-    relays_well = λ frames relay. two_commands words task (Relay frames) is relay (λ e. subst IsLaneTask e lane);
-    audits_well = λ frames audit. two_commands words task (Audit frames) is audit (λ e. subst IsLaneTask e lane);
-    drills_well = λ d drill. two_commands words task (Drill d) is drill (λ e. subst IsLaneTask e lane);
-    mints_well = λ m mint. two_commands words task (Mint m) is mint (λ e. subst IsLaneTask e lane);
-    passes_well = λ p path. two_commands words task (Path p) is path (λ e. subst IsLaneTask e lane);
+    well = λ other o. of_command (λ w. EndsWellFor w before after (lanes_status end)) words task other is o well;
     causes = lanes_caused end h;
     told = record { file = stayed before.file.faults after.file.faults same; input = stayed before.input.faults after.input.faults input; output = lanes_output end h };
     clock = λ none. absurd (none serve);
@@ -327,8 +334,8 @@ module _ (before after : Touched) where
   }
 
 module _ {In Out : Type 0} (telling : Telling In Out) (asked : ServeWords) (xs ys : List (LaneShown (In × Out))) where
-  pub doors_tell : (o : Opening) (words : List (String Global)) (before after : Touched) (end : LanesEnd) → Mean words (Serve asked) → ServesLanes telling o asked.limits (change xs ys) (change before.output.told after.output.told) end →
-      LanesCauses before.output.faults after.output.faults end → TellsDoors words (change before after) (change xs ys) (lanes_status end)
+  pub doors_tell : (o : Opening) (words : List (String Global)) (before after : Touched) (end : LanesEnd) → Mean words (Serve asked) → ServesLanes telling o asked.pulls asked.limits (change xs ys) (change before.output.told after.output.told) end →
+      LanesCauses before.output.faults after.output.faults end → TellsDoors words (over before xs) (over after ys) (lanes_status end)
   doors_tell o words before after end serve (unserved none same kept) h =
       let six : lanes_status end ≡ 6 = ap lanes_status none in
       record {
@@ -338,7 +345,7 @@ module _ {In Out : Type 0} (telling : Telling In Out) (asked : ServeWords) (xs y
         relays_well = λ is bytes p told means sf so steady. inr six;
       }
   doors_tell o words before after end serve (served l s p) h =
-      let run = λ (x y : LaneShown (In × Out)) (r : LaneRun s.node asked.limits.frames) (is : IsRunOf telling asked.limits x y r). is.cause in
+      let run = λ (x y : LaneShown (In × Out)) (r : LaneRun s.node asked.limits.frames) (is : IsRunOf telling asked.pulls asked.limits x y r). is.cause in
       record {
         caused = λ nine. (inl (asked, serve), line_nine _ _ run xs ys s.serves.runs s.serves.each l.total s.serves.counted.lanes s.serves.counted.first_failed _ before.output.told after.output.told end p nine);
         told = λ is other. line_same _ _ run xs ys s.serves.runs s.serves.each l.total s.serves.counted.lanes s.serves.counted.first_failed _ before.output.told after.output.told end p other;
@@ -349,7 +356,7 @@ module _ {In Out : Type 0} (telling : Telling In Out) (asked : ServeWords) (xs y
 module _ {In Out : Type 0} (telling : Telling In Out) (limits : Limits) (xs ys : List (LaneShown (In × Out))) where
   -- the same of a relay's lanes
   pub relay_doors_tell : (r : RelayFile) (words : List (String Global)) (before after : Touched) (end : LanesEnd) → Mean words (RelayServe limits) → RelaysDoors telling r limits (change xs ys) (change before.output.told after.output.told) end →
-      LanesCauses before.output.faults after.output.faults end → TellsDoors words (change before after) (change xs ys) (lanes_status end)
+      LanesCauses before.output.faults after.output.faults end → TellsDoors words (over before xs) (over after ys) (lanes_status end)
   relay_doors_tell r words before after end relay s h =
       let run = λ (x y : LaneShown (In × Out)) (q : RelayRun limits.frames) (is : IsRelayRunOf telling s.table limits x y q). is.cause in
       record {

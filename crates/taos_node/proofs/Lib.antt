@@ -1,4 +1,5 @@
 pub mod Nodes
+pub mod Stopped
 pub mod Commands
 pub mod Notes
 pub mod CheckCommands
@@ -8,6 +9,7 @@ pub mod Paths
 pub mod Standing
 pub mod Audited
 pub mod Endings
+pub mod Replayed
 mod DrillCounts
 pub mod DrillRuns
 mod LaneStatuses

@@ -35,7 +35,7 @@ use Rattle.taos_node.specs.Opened.{IsNodeOf, nothing_seen}
 
 -- ---- shards
 
-plans_new : (plans : List Plan) → plans_in (map new_shard plans) ≡ plans
+pub plans_new : (plans : List Plan) → plans_in (map new_shard plans) ≡ plans
 plans_new [] = refl
 plans_new (plan ∷ plans) = ap (λ (l : List Plan). plan ∷ l) (plans_new plans)
 

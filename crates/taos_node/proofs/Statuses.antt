@@ -16,18 +16,20 @@ use Rattle.taos_node.specs.declared.ending.FileFault.{FileFault}
 use Rattle.taos_node.specs.declared.ending.FileFault.TheVariants as fault
 use Rattle.taos_node.specs.declared.ending.FileFault.TheVariants.{Malformed, Refused}
 use Rattle.node_check.specs.declared.finding.Finding.TheVariants.{Granted, Refused as Wrong}
-use Rattle.node_words.specs.Words.{IsMeaning, Mean, MintWords, RunWords, Task, Run, Check, Relay, Mint, Serve, RelayServe, Audit, Drill, Path, task_of}
+use Rattle.node_words.specs.Words.{IsMeaning, Mean, MintWords, RunWords, Task, Run, Check, Relay, Mint, Serve, RelayServe, Audit, Drill, Path, Wallet, task_of, AuditBytes, Replay}
 use Rattle.node_words.specs.declared.wanted.Wanted.{Wanted}
-use Rattle.taos_node.specs.Files.{FaultHasCause, FileDecides, FileFails, IsNodeFile, IsPathFile, IsRelayFile, Meaning, OpensNode, OpensRelay, node_means, path_means, relay_means}
-use Rattle.taos_node.specs.Command.{IsCommand, FileDecidesFor, FileFailsFor, Touched, EndsWell, ChecksWell, MintsWell, PassesWell, IsCaused, TellsFaults, IsStatus, counts_of}
-use Rattle.taos_node.specs.Ending.{file_status, served_status, checked_status}
+use Rattle.cred_pull.specs.WalletFile.{WalletRow}
+use Rattle.taos_node.specs.Files.{FaultHasCause, FileDecides, FileFails, IsNodeFile, IsPathFile, IsRelayFile, IsWalletFile, Meaning, OpensNode, OpensRelay, OpensWallet, node_means, path_means, relay_means, wallet_means}
+use Rattle.taos_node.specs.Calls.{Touched}
+use Rattle.taos_node.specs.Command.{IsCommand, FileDecidesFor, FileFailsFor, EndsWell, EndsWellFor, ChecksWell, MintsWell, PassesWell, ReadsClock, ReplaysWell, IsCaused, TellsFaults, IsStatus, counts_of}
 use Rattle.node_check.specs.Findings.{CheckCauses}
-use Rattle.taos_node.specs.Minting.{MintCauses, minted_status}
+use Rattle.taos_node.specs.Minting.{MintCauses}
 use Rattle.taos_node.specs.declared.minting.MintEnd.{MintEnd}
 use Rattle.taos_node.specs.declared.minting.MintEnd.TheVariants as made
 use Rattle.std.specs.Prelude.{Option, Some, None, map, string_bytes}
 use Rattle.node_words.proofs.Meanings.{one_meaning}
-use Rattle.taos_node.proofs.Commands.{IsMeantBy, decided_opened, decided_fault, node_files, not_refused, path_files, relay_files, still}
+use Rattle.taos_node.proofs.Commands.{IsMeantBy, decided_opened, decided_fault, node_files, not_refused, path_files, relay_files, wallet_files, still}
+use Rattle.taos_node.proofs.Stopped.{checked_status, file_status, minted_status, served_status}
 
 pub stayed : {P : Type 0} (a b : ℕ) → b ≡ a → a < b → P
 stayed a b same rose = absurd (omega (arith, same, rose))
@@ -48,21 +50,23 @@ streams_told before after status t = record { file = t.file; input = t.input; ou
 pub of_command : (P : Task → Type 0) (words : List (String Global)) (a b : Task) → Mean words a → Mean words b → P a → P b
 of_command P words a b is other h = subst P (one_meaning (map string_bytes words) a b is other) h
 
--- the most frames of a command that serves
-abbrev pub frames_in : Task → ℕ
-frames_in (Run r) = r.frames
-frames_in Check = 0
-frames_in (Relay frames) = frames
-frames_in (Mint m) = 0
-frames_in (Serve limits) = 0
-frames_in (RelayServe limits) = 0
-frames_in (Audit frames) = frames
-frames_in (Drill d) = 0
-frames_in (Path p) = 0
-
 -- no words are two commands
 pub two_commands : {P : Type 0} (words : List (String Global)) (a b : Task) → Mean words a → Mean words b → (a ≡ b → ⊥) → P
 two_commands words a b is other apart = absurd (apart (one_meaning (map string_bytes words) a b is other))
+
+-- What the status tells of the command that words mean: the file decides, it comes to its end, and each
+-- fault is told.
+pub commanded : (words : List (String Global)) (task : Task) (before after : Touched) (status : ℕ) → Mean words task → status ≢ 1 → FileDecidesFor task before.file after.file status → EndsWellFor task before after status →
+    IsCaused before after status → AllTold before after status → (status ≡ 5 → ReadsClock words) → IsStatus words before after status
+commanded words task before after status is one file well causes told clock_of = record {
+  usage = record { usage = λ e. absurd (one e); no_command = λ none. absurd (none (task, is)) };
+  file = λ other o. of_command (λ w. FileDecidesFor w before.file after.file status) words task other is o file;
+  well = λ other o. of_command (λ w. EndsWellFor w before after status) words task other is o well;
+  causes = causes;
+  told = streams_told before after status told;
+  clock = λ _. told.clock;
+  clock_of = clock_of;
+}
 
 -- what was found is what the words mean
 pub meant : (words : List (String Global)) (found : Option Wanted) (wanted : Wanted) → IsMeaning words found → found ≡ Some wanted → Mean words (task_of wanted)
@@ -85,19 +89,30 @@ unread_decides (RelayServe l) t = lacks_decides IsRelayFile t
 unread_decides (Audit n) t = lacks_decides IsNodeFile t
 unread_decides (Drill d) t = λ e. omega (arith, e)
 unread_decides (Path p) t = lacks_decides IsPathFile t
+unread_decides (Wallet n) t = lacks_decides IsWalletFile t
+unread_decides (AuditBytes n) t = lacks_decides IsNodeFile t
+unread_decides Replay t = lacks_decides IsNodeFile t
+
+unread_well : (wanted : Task) (t : Touched) → EndsWellFor wanted t t 6
+unread_well (Run r) t = λ sc bytes o told opens fs whole within few sf si so. inr refl
+unread_well Check t = λ bytes o told opens sf si so. inr (inr refl)
+unread_well (Relay n) t = λ bytes r told opens fs whole within few sf si so. inr refl
+unread_well (Mint m) t = λ bytes r told opens sf so. inr (inr refl)
+unread_well (Serve l) t = tt
+unread_well (RelayServe l) t = tt
+unread_well (Audit n) t = λ sc bytes o told opens fs whole within few sf si so. inr refl
+unread_well (Drill d) t = λ so. inr refl
+unread_well (Path p) t = λ bytes ds told opens sf si so. inr (inr refl)
+unread_well (Wallet n) t = λ bytes rows told opens fs whole within few sf si so. inr refl
+unread_well (AuditBytes n) t = λ sc bytes o told opens fs whole within few sf si so. inr refl
+unread_well Replay t = λ bytes o told opens sf si so. inr (inr refl)
 
 -- memory was refused before the words were read, and nothing was touched
 pub unread : (words : List (String Global)) (t : Touched) → IsStatus words t t 6
 unread words t = record {
   usage = record { usage = λ e. absurd (omega (arith, e)); no_command = λ _. inr refl };
   file = λ wanted is. unread_decides wanted t;
-  complete = λ frames is sc bytes o told opens fs whole within few sf si so. inr refl;
-  checks_well = λ is bytes o told opens sf si so. inr (inr refl);
-  relays_well = λ frames is bytes r told opens fs whole within few sf si so. inr refl;
-  mints_well = λ m is bytes r told opens sf so. inr (inr refl);
-  passes_well = λ p is bytes ds told opens sf si so. inr (inr refl);
-  audits_well = λ frames is sc bytes o told opens fs whole within few sf si so. inr refl;
-  drills_well = λ d is so. inr refl;
+  well = λ wanted is. unread_well wanted t;
   causes = record { read = λ e. absurd (omega (arith, e)); write = λ e. absurd (omega (arith, e)); clock = λ e. absurd (omega (arith, e)) };
   told = record {
     file = stayed t.file.faults t.file.faults refl;
@@ -113,13 +128,7 @@ pub unused : (words : List (String Global)) (t : Touched) → (IsCommand words �
 unused words t none = record {
   usage = record { usage = λ _. none; no_command = λ _. inl refl };
   file = λ wanted is. absurd (none (wanted, is));
-  complete = λ frames is. absurd (none (Run frames, is));
-  checks_well = λ is. absurd (none (Check, is));
-  relays_well = λ frames is. absurd (none (Relay frames, is));
-  mints_well = λ m is. absurd (none (Mint m, is));
-  passes_well = λ p is. absurd (none (Path p, is));
-  audits_well = λ frames is. absurd (none (Audit frames, is));
-  drills_well = λ d is. absurd (none (Drill d, is));
+  well = λ wanted is. absurd (none (wanted, is));
   causes = record { read = λ e. absurd (omega (arith, e)); write = λ e. absurd (omega (arith, e)); clock = λ e. absurd (omega (arith, e)) };
   told = record {
     file = stayed t.file.faults t.file.faults refl;
@@ -164,6 +173,12 @@ module _ (before after : Touched) where
   passes_unserved fault.ReadFault bad why bytes ds told is sf si so = absurd (still before.file.faults after.file.faults sf why.1)
   passes_unserved fault.NoMemory bad why bytes ds told is sf si so = inr (inr refl)
 
+  replays_unserved : (f : FileFault) → FileFails node_means before.file after.file f → FaultHasCause before.file after.file f → ReplaysWell before after (file_status f)
+  replays_unserved (Refused line cause) bad why bytes o told is sf si so = absurd (not_refused IsNodeFile node_means node_files before.file after.file bytes o (Line line cause) bad told is)
+  replays_unserved (Malformed offset) bad why bytes o told is sf si so = absurd (not_refused IsNodeFile node_means node_files before.file after.file bytes o (Byte offset) bad told is)
+  replays_unserved fault.ReadFault bad why bytes o told is sf si so = absurd (still before.file.faults after.file.faults sf why.1)
+  replays_unserved fault.NoMemory bad why bytes o told is sf si so = inr (inr refl)
+
   decides_unserved : (wanted : Task) (f : FileFault) → FileFailsFor wanted before.file after.file f → FaultHasCause before.file after.file f → FileDecidesFor wanted before.file after.file (file_status f)
   decides_unserved (Run n) f bad why = decided_fault IsNodeFile node_means node_files before.file after.file f bad why
   decides_unserved Check f bad why = decided_fault IsNodeFile node_means node_files before.file after.file f bad why
@@ -174,6 +189,23 @@ module _ (before after : Touched) where
   decides_unserved (Audit n) f bad why = decided_fault IsNodeFile node_means node_files before.file after.file f bad why
   decides_unserved (Drill d) f bad why = absurd bad
   decides_unserved (Path p) f bad why = decided_fault IsPathFile path_means path_files before.file after.file f bad why
+  decides_unserved (Wallet n) f bad why = decided_fault IsWalletFile wallet_means wallet_files before.file after.file f bad why
+  decides_unserved (AuditBytes n) f bad why = decided_fault IsNodeFile node_means node_files before.file after.file f bad why
+  decides_unserved Replay f bad why = decided_fault IsNodeFile node_means node_files before.file after.file f bad why
+
+  well_unserved : (wanted : Task) (f : FileFault) → FileFailsFor wanted before.file after.file f → FaultHasCause before.file after.file f → EndsWellFor wanted before after (file_status f)
+  well_unserved (Run r) f bad why = λ clock. ends_unserved IsNodeFile node_means node_files r.frames f bad why
+  well_unserved Check f bad why = checks_unserved f bad why
+  well_unserved (Relay n) f bad why = ends_unserved IsRelayFile relay_means relay_files n f bad why
+  well_unserved (Mint m) f bad why = mints_unserved f bad why
+  well_unserved (Serve l) f bad why = tt
+  well_unserved (RelayServe l) f bad why = tt
+  well_unserved (Audit n) f bad why = λ clock. ends_unserved IsNodeFile node_means node_files n f bad why
+  well_unserved (Drill d) f bad why = absurd bad
+  well_unserved (Path p) f bad why = passes_unserved f bad why
+  well_unserved (Wallet n) f bad why = ends_unserved IsWalletFile wallet_means wallet_files n f bad why
+  well_unserved (AuditBytes n) f bad why = λ clock. ends_unserved IsNodeFile node_means node_files n f bad why
+  well_unserved Replay f bad why = replays_unserved f bad why
 
   pub not_caused : (status : ℕ) → status ≢ 3 → status ≢ 4 → status ≢ 5 → IsCaused before after status
   not_caused status r w c = record { read = λ e. absurd (r e); write = λ e. absurd (w e); clock = λ e. absurd (c e) }
@@ -204,35 +236,16 @@ not_five_file fault.NoMemory = λ e. omega (arith, e)
 
 -- the command's file was not served, and nothing else was touched
 module _ (words : List (String Global)) (before after : Touched) (wanted : Task) (f : FileFault) (command : Mean words wanted) (cause : FaultHasCause before.file after.file f) where
-  complete_unserved : FileFailsFor wanted before.file after.file f → (most : RunWords) → Mean words (Run most) → EndsWell IsNodeFile most.frames before after (file_status f)
-  complete_unserved bad most is = ends_unserved before after IsNodeFile node_means node_files most.frames f (of_command (λ w. FileFailsFor w before.file after.file f) words wanted (Run most) command is bad) cause
-
-  audits_unserved : FileFailsFor wanted before.file after.file f → (most : ℕ) → Mean words (Audit most) → EndsWell IsNodeFile most before after (file_status f)
-  audits_unserved bad most is = ends_unserved before after IsNodeFile node_means node_files most f (of_command (λ w. FileFailsFor w before.file after.file f) words wanted (Audit most) command is bad) cause
-
-  relays_unserved : FileFailsFor wanted before.file after.file f → (most : ℕ) → Mean words (Relay most) → EndsWell IsRelayFile most before after (file_status f)
-  relays_unserved bad most is = ends_unserved before after IsRelayFile relay_means relay_files most f (of_command (λ w. FileFailsFor w before.file after.file f) words wanted (Relay most) command is bad) cause
-
   pub unserved : FileFailsFor wanted before.file after.file f → after.input.faults ≡ before.input.faults → after.output.faults ≡ before.output.faults → after.clock.faults ≡ before.clock.faults → IsStatus words before after (file_status f)
-  unserved bad input output clock = record {
-    usage = record { usage = λ e. absurd (not_one_file f e); no_command = λ none. absurd (none (wanted, command)) };
-    file = λ other is. of_command (λ w. FileDecidesFor w before.file after.file (file_status f)) words wanted other command is (decides_unserved before after wanted f bad cause);
-    complete = λ most is clock. complete_unserved bad most is;
-    checks_well = λ is. checks_unserved before after f (of_command (λ w. FileFailsFor w before.file after.file f) words wanted Check command is bad) cause;
-    relays_well = λ most is. relays_unserved bad most is;
-    mints_well = λ m is. mints_unserved before after f (of_command (λ w. FileFailsFor w before.file after.file f) words wanted (Mint m) command is bad) cause;
-    passes_well = λ p is. passes_unserved before after f (of_command (λ w. FileFailsFor w before.file after.file f) words wanted (Path p) command is bad) cause;
-    audits_well = λ most is clock. audits_unserved bad most is;
-    drills_well = λ d is so. absurd (of_command (λ w. FileFailsFor w before.file after.file f) words wanted (Drill d) command is bad);
-    causes = file_caused before after f cause;
-    told = record {
-      file = file_told before after f cause;
-      input = stayed before.input.faults after.input.faults input;
-      output = stayed before.output.faults after.output.faults output;
-    };
-    clock = λ _. stayed before.clock.faults after.clock.faults clock;
-    clock_of = λ e. absurd (not_five_file f e);
-  }
+  unserved bad input output clock =
+      commanded words wanted before after (file_status f) command (not_one_file f) (decides_unserved before after wanted f bad cause) (well_unserved before after wanted f bad cause) (file_caused before after f cause)
+      (record {
+        file = file_told before after f cause;
+        input = stayed before.input.faults after.input.faults input;
+        output = stayed before.output.faults after.output.faults output;
+        clock = stayed before.clock.faults after.clock.faults clock;
+      })
+      (λ e. absurd (not_five_file f e))
 
 -- ---- a connection that was served
 
@@ -351,26 +364,9 @@ clockless i o i1 o1 c c1 NoMemory h other same = same_counts i o c i1 o1 c1 (ap 
 module _ (words : List (String Global)) (r : RunWords) (before after : Touched) (outcome : Outcome) (same : after.file.faults ≡ before.file.faults) where
   pub served : (o : Opening) → Mean words (Run r) → OpensNode before.file after.file o → IsCompleteBy r.frames before.input.told (counts_of before) (counts_of after) outcome →
       Causes before after outcome → IsStatus words before after (served_status outcome)
-  served o run opens complete h = record {
-    usage = record { usage = λ e. absurd (not_one outcome e); no_command = λ none. absurd (none (Run r, run)) };
-    file = λ other is. of_command (λ w. FileDecidesFor w before.file after.file (served_status outcome)) words (Run r) other run is
-        (decided_opened IsNodeFile node_means node_files before.file after.file o (served_status outcome) opens (not_two outcome));
-    complete = λ most is clock. ends_well before after IsNodeFile most.frames before.clock.faults after.clock.faults outcome
-        (complete_for most is complete) clock;
-    checks_well = λ check. two_commands words (Run r) Check run check (λ e. cc e);
-    relays_well = λ most is. two_commands words (Run r) (Relay most) run is (λ e. cc e);
-    mints_well = λ m is. two_commands words (Run r) (Mint m) run is (λ e. cc e);
-    passes_well = λ p is. two_commands words (Run r) (Path p) run is (λ e. cc e);
-    audits_well = λ most is. two_commands words (Run r) (Audit most) run is (λ e. cc e);
-    drills_well = λ d is. two_commands words (Run r) (Drill d) run is (λ e. cc e);
-    causes = serving_caused before after outcome h;
-    told = streams_told before after (served_status outcome) (serving_told before after outcome same h);
-    clock = λ _. (serving_told before after outcome same h).clock;
-    clock_of = λ _. inl (r, run);
-  }
-    where
-      complete_for : (most : RunWords) → Mean words (Run most) → IsCompleteBy r.frames before.input.told (counts_of before) (counts_of after) outcome → IsCompleteBy most.frames before.input.told (counts_of before) (counts_of after) outcome
-      complete_for most is c = of_command (λ w. IsCompleteBy (frames_in w) before.input.told (counts_of before) (counts_of after) outcome) words (Run r) (Run most) run is c
+  served o run opens complete h =
+      commanded words (Run r) before after (served_status outcome) run (not_one outcome) (decided_opened IsNodeFile node_means node_files before.file after.file o (served_status outcome) opens (not_two outcome))
+      (λ clock. ends_well before after IsNodeFile r.frames before.clock.faults after.clock.faults outcome complete clock) (serving_caused before after outcome h) (serving_told before after outcome same h) (λ _. inl (r, run))
 
 module _ (words : List (String Global)) (frames : ℕ) (before after : Touched) (outcome : Outcome) (same : after.file.faults ≡ before.file.faults) where
   pub relayed : (r : RelayFile) → Mean words (Relay frames) → OpensRelay before.file after.file r →
@@ -379,27 +375,18 @@ module _ (words : List (String Global)) (frames : ℕ) (before after : Touched) 
       IsStatus words before after (served_status outcome)
   relayed r relay opens complete h no_clock clock =
       let causes = clockless before.input.faults before.output.faults after.input.faults after.output.faults before.clock.faults after.clock.faults outcome h no_clock clock in
-      record {
-        usage = record { usage = λ e. absurd (not_one outcome e); no_command = λ none. absurd (none (Relay frames, relay)) };
-        file = λ other is. of_command (λ w. FileDecidesFor w before.file after.file (served_status outcome)) words (Relay frames) other relay is
-            (decided_opened IsRelayFile relay_means relay_files before.file after.file r (served_status outcome) opens (not_two outcome));
-        complete = λ most is. two_commands words (Relay frames) (Run most) relay is (λ e. cc e);
-        checks_well = λ check. two_commands words (Relay frames) Check relay check (λ e. cc e);
-        mints_well = λ m is. two_commands words (Relay frames) (Mint m) relay is (λ e. cc e);
-        passes_well = λ p is. two_commands words (Relay frames) (Path p) relay is (λ e. cc e);
-        relays_well = λ most is. ends_well before after IsRelayFile most 0 0 outcome (complete_for most is complete) (refl, omega arith);
-        audits_well = λ most is. two_commands words (Relay frames) (Audit most) relay is (λ e. cc e);
-        drills_well = λ d is. two_commands words (Relay frames) (Drill d) relay is (λ e. cc e);
-        causes = serving_caused before after outcome causes;
-        told = streams_told before after (served_status outcome) (serving_told before after outcome same causes);
-        clock = λ _. (serving_told before after outcome same causes).clock;
-        clock_of = λ e. absurd (not_five outcome no_clock e);
-      }
-    where
-      complete_for : (most : ℕ) → Mean words (Relay most) → IsCompleteBy frames before.input.told (counts before.input.faults before.output.faults 0) (counts after.input.faults after.output.faults 0) outcome →
-          IsCompleteBy most before.input.told (counts before.input.faults before.output.faults 0) (counts after.input.faults after.output.faults 0) outcome
-      complete_for most is c =
-          of_command (λ w. IsCompleteBy (frames_in w) before.input.told (counts before.input.faults before.output.faults 0) (counts after.input.faults after.output.faults 0) outcome) words (Relay frames) (Relay most) relay is c
+      commanded words (Relay frames) before after (served_status outcome) relay (not_one outcome) (decided_opened IsRelayFile relay_means relay_files before.file after.file r (served_status outcome) opens (not_two outcome))
+      (ends_well before after IsRelayFile frames 0 0 outcome complete (refl, omega arith)) (serving_caused before after outcome causes) (serving_told before after outcome same causes) (λ e. absurd (not_five outcome no_clock e))
+
+  -- the same of a wallet
+  pub walleted : (rows : List WalletRow) → Mean words (Wallet frames) → OpensWallet before.file after.file rows →
+      IsCompleteBy frames before.input.told (counts before.input.faults before.output.faults 0) (counts after.input.faults after.output.faults 0) outcome →
+      CountsCause (counts before.input.faults before.output.faults 0) (counts after.input.faults after.output.faults 0) outcome → outcome ≢ ClockFault → after.clock.faults ≡ before.clock.faults →
+      IsStatus words before after (served_status outcome)
+  walleted rows wallet opens complete h no_clock clock =
+      let causes = clockless before.input.faults before.output.faults after.input.faults after.output.faults before.clock.faults after.clock.faults outcome h no_clock clock in
+      commanded words (Wallet frames) before after (served_status outcome) wallet (not_one outcome) (decided_opened IsWalletFile wallet_means wallet_files before.file after.file rows (served_status outcome) opens (not_two outcome))
+      (ends_well before after IsWalletFile frames 0 0 outcome complete (refl, omega arith)) (serving_caused before after outcome causes) (serving_told before after outcome same causes) (λ e. absurd (not_five outcome no_clock e))
 
 -- ---- a request and its reply that were looked over
 
@@ -459,22 +446,9 @@ not_five_check ends.NoMemory = λ e. omega (arith, e)
 pub checked : (words : List (String Global)) (before after : Touched) (o : Opening) (end : CheckEnd) → Mean words Check → OpensNode before.file after.file o →
     after.file.faults ≡ before.file.faults → after.clock.faults ≡ before.clock.faults → CheckCauses before.input.faults after.input.faults before.output.faults after.output.faults end →
     IsStatus words before after (checked_status end)
-checked words before after o end check opens same clock h = record {
-  usage = record { usage = λ e. absurd (not_one_check end e); no_command = λ none. absurd (none (Check, check)) };
-  file = λ other is. of_command (λ w. FileDecidesFor w before.file after.file (checked_status end)) words Check other check is
-      (decided_opened IsNodeFile node_means node_files before.file after.file o (checked_status end) opens (not_two_check end));
-  complete = λ frames run. two_commands words Check (Run frames) check run (λ e. cc e);
-  checks_well = λ _. check_well before after end h;
-  relays_well = λ frames relay. two_commands words Check (Relay frames) check relay (λ e. cc e);
-  mints_well = λ m is. two_commands words Check (Mint m) check is (λ e. cc e);
-  passes_well = λ p is. two_commands words Check (Path p) check is (λ e. cc e);
-  audits_well = λ most is. two_commands words Check (Audit most) check is (λ e. cc e);
-  drills_well = λ d is. two_commands words Check (Drill d) check is (λ e. cc e);
-  causes = check_caused before after end h;
-  told = streams_told before after (checked_status end) (check_told before after end same clock h);
-  clock = λ _. (check_told before after end same clock h).clock;
-  clock_of = λ e. absurd (not_five_check end e);
-}
+checked words before after o end check opens same clock h =
+    commanded words Check before after (checked_status end) check (not_one_check end) (decided_opened IsNodeFile node_means node_files before.file after.file o (checked_status end) opens (not_two_check end))
+    (check_well before after end h) (check_caused before after end h) (check_told before after end same clock h) (λ e. absurd (not_five_check end e))
 
 -- ---- a certificate that was made, or refused
 
@@ -524,19 +498,6 @@ not_five_mint made.NoMemory = λ e. omega (arith, e)
 pub minted : (words : List (String Global)) (m : MintWords) (before after : Touched) (r : RelayFile) (end : MintEnd) → Mean words (Mint m) → OpensRelay before.file after.file r →
     after.file.faults ≡ before.file.faults → after.input.faults ≡ before.input.faults → after.clock.faults ≡ before.clock.faults → MintCauses before.output.faults after.output.faults end →
     IsStatus words before after (minted_status end)
-minted words m before after r end mint opens same input clock h = record {
-  usage = record { usage = λ e. absurd (not_one_mint end e); no_command = λ none. absurd (none (Mint m, mint)) };
-  file = λ other is. of_command (λ w. FileDecidesFor w before.file after.file (minted_status end)) words (Mint m) other mint is
-      (decided_opened IsRelayFile relay_means relay_files before.file after.file r (minted_status end) opens (not_two_mint end));
-  complete = λ frames run. two_commands words (Mint m) (Run frames) mint run (λ e. cc e);
-  checks_well = λ check. two_commands words (Mint m) Check mint check (λ e. cc e);
-  relays_well = λ frames relay. two_commands words (Mint m) (Relay frames) mint relay (λ e. cc e);
-  mints_well = λ other is. mint_well before after end h;
-  passes_well = λ p is. two_commands words (Mint m) (Path p) mint is (λ e. cc e);
-  audits_well = λ most is. two_commands words (Mint m) (Audit most) mint is (λ e. cc e);
-  drills_well = λ d is. two_commands words (Mint m) (Drill d) mint is (λ e. cc e);
-  causes = mint_caused before after end h;
-  told = streams_told before after (minted_status end) (mint_told before after end same input clock h);
-  clock = λ _. (mint_told before after end same input clock h).clock;
-  clock_of = λ e. absurd (not_five_mint end e);
-}
+minted words m before after r end mint opens same input clock h =
+    commanded words (Mint m) before after (minted_status end) mint (not_one_mint end) (decided_opened IsRelayFile relay_means relay_files before.file after.file r (minted_status end) opens (not_two_mint end))
+    (mint_well before after end h) (mint_caused before after end h) (mint_told before after end same input clock h) (λ e. absurd (not_five_mint end e))

@@ -1,5 +1,5 @@
 -- What an audit prints: the journals of a connection that a node served.
-use Rattle.std.specs.Prelude.{◌≡◌, ◌⊎◌, ◌↔◌, ℕ, ◌<◌, ◌≤◌, List, ◌++◌, length, All, Contains, IsSome, Option, Some}
+use Rattle.std.specs.Prelude.{◌≡◌, ◌⊎◌, ◌↔◌, ℕ, ◌<◌, ◌≤◌, List, ◌++◌, length, map, All, Contains, IsSome, Option, Some}
 use Rattle.std.specs.Io.KnownBytes.{Appends, Keeps}
 use Rattle.std.specs.List.{flat_map, range_with_len}
 use Rattle.std.specs.List.Sorted.{IsStrictlyIncreasing}
@@ -11,9 +11,13 @@ use Rattle.frame_link.specs.declared.service.TheConstants.{MAX_PAYLOAD}
 use Rattle.frame_link.specs.Faults.{Rose}
 use Rattle.frame_link.specs.Frames.{framed}
 use Rattle.frame_link.specs.Served.{FaultCounts, CountsCause, StandStill}
+use Rattle.journal_bytes.specs.Spelled.{Journals as Spelled, numbered, spelled}
+use Rattle.journal_bytes.specs.Spelling.{journals_bytes}
 use Rattle.node_file.specs.Opening.{Opening}
 use Rattle.object_core.specs.Objects.{object_of}
 use Rattle.taos_monitor.specs.Cells.{Journals}
+use Rattle.taos_node.specs.declared.audit.Form.{Form}
+use Rattle.taos_node.specs.declared.audit.Form.TheVariants as form
 use Rattle.taos_node.specs.declared.ending.AuditEnd.{AuditEnd}
 use Rattle.taos_node.specs.declared.ending.AuditEnd.TheVariants as audit
 
@@ -28,11 +32,23 @@ journals_text shards numbers j =
     flat_map (λ shard. shard_text shard (j.shards shard)) (range_with_len 0 shards)
     ++ flat_map (λ number. object_text number (j.objects number)) numbers
 
--- the text of the journals of a node of the opening
-pub record IsAuditOf (o : Opening) (j : Journals) (text : List ℕ) : Type 0 where
+-- the same journals, as they are spelled
+abbrev pub journals_spelled : ℕ → List ℕ → Journals → Spelled
+journals_spelled shards numbers j = record {
+  shards = map (λ shard. map spelled (j.shards shard)) (range_with_len 0 shards);
+  objects = map (λ number. numbered number (j.objects number)) numbers;
+}
+
+-- the journals in this form: as text, or as bytes
+abbrev pub journals_in : Form → ℕ → List ℕ → Journals → List ℕ
+journals_in form.Text shards numbers j = journals_text shards numbers j
+journals_in form.Bytes shards numbers j = journals_bytes (journals_spelled shards numbers j)
+
+-- what is printed of the journals of a node of the opening
+pub record IsAuditOf (form : Form) (o : Opening) (j : Journals) (text : List ℕ) : Type 0 where
   pub numbers : List ℕ
   pub are : AreNumbersOf o numbers
-  pub is : text ≡ journals_text o.shards numbers j
+  pub is : text ≡ journals_in form o.shards numbers j
 
 -- the outcome is the end of whole frames
 abbrev pub IsEnd : Outcome → Type 0

@@ -4,7 +4,11 @@ use Rattle.agent_core.specs.Journals.{ShardSeen}
 use Rattle.audit_text.specs.Lines.{text_of}
 use Rattle.audit_text.specs.ObjectLines.{object_text}
 use Rattle.audit_text.specs.ShardLines.{shard_text}
+use Rattle.journal_bytes.specs.Spelled.{journals_of}
+use Rattle.journal_bytes.specs.Spelling.{journals_bytes}
 use Rattle.object_core.specs.Objects.{ObjectEntry, ObjectSeen}
+use Rattle.taos_node.specs.declared.audit.Form.{Form}
+use Rattle.taos_node.specs.declared.audit.Form.TheVariants as form
 
 -- of journals of shards, in order
 abbrev pub shards_text : List ShardSeen → List ℕ
@@ -22,3 +26,8 @@ objects_text objects =
 -- of both
 abbrev pub all_text : List ShardSeen → List ObjectSeen → List ℕ
 all_text shards objects = shards_text shards ++ objects_text objects
+
+-- the journals in this form: as text, or as bytes
+abbrev pub all_in : Form → List ShardSeen → List ObjectSeen → List ℕ
+all_in form.Text shards objects = all_text shards objects
+all_in form.Bytes shards objects = journals_bytes (journals_of shards objects)

@@ -1,22 +1,22 @@
 -- The top call: the words, the file, and then the work.
-use Rattle.std.specs.Prelude.{◌≡◌, ◌≢◌, ◌⊎◌, ℕ, true, ◌<◌, ◌≤◌, ◌-◌, ◌^◌, List, [], ◌∷◌, drop, length, map, All, Option, Some, None, String}
+use Rattle.std.specs.Prelude.{◌≡◌, ◌≢◌, ◌⊎◌, ℕ, Bool, true, false, ◌<◌, ◌≤◌, ◌-◌, ◌^◌, List, [], ◌∷◌, drop, length, map, All, Option, Some, None, String}
 use Rattle.std.specs.List.{AllZip}
 use Rattle.std.specs.Io.KnownBytes.{Keeps}
 use Rattle.std.specs.declared.alloc.Global.{Global}
 use Rattle.frame_link.specs.declared.outcome.Outcome.{Outcome}
 use Rattle.frame_link.specs.Frames.{framed}
 use Rattle.frame_link.specs.Outside.{outside_of}
-use Rattle.frame_link.specs.Relay.{Link, link}
 use Rattle.frame_link.specs.Served.{Line, line, FaultCounts, IsServed}
 use Rattle.frame_link.specs.Streams.{Stream, stream}
 use Rattle.taos_node.specs.declared.ending.FileFault.{FileFault}
 use Rattle.taos_node.specs.declared.ending.Ending.{Ending}
 use Rattle.taos_node.specs.declared.ending.Ending.TheVariants as ending
-use Rattle.taos_node.specs.declared.ending.Ending.TheVariants.{Usage, File, Served, Checked, Relayed, Minted, Lanes, RelayLanes, Audited, Drilled, Passed}
-use Rattle.taos_node.specs.Files.{IsNodeFile, IsPathFile, IsRelayFile, OpensNode, OpensPath, OpensRelay, FileFails, FileDecides, HasFailed, IsSteady, node_means, path_means, relay_means}
-use Rattle.node_words.specs.Words.{Mean, MintWords, DrillWords, PathWords, RunWords, ServeWords, Task, Run, Check, Relay, Mint, Serve, RelayServe, Audit, Drill, Path}
+use Rattle.taos_node.specs.declared.ending.Ending.TheVariants.{Usage, File, Served, Checked, Relayed, Minted, Lanes, RelayLanes, Audited, Drilled, Passed, Walleted, Replayed}
+use Rattle.taos_node.specs.Files.{IsNodeFile, IsPathFile, IsRelayFile, IsWalletFile, OpensNode, OpensPath, OpensRelay, OpensWallet, FileFails, FileDecides, HasFailed, IsSteady, node_means, path_means, relay_means, wallet_means}
+use Rattle.taos_node.specs.Calls.{Call, Touched, doors_of}
+use Rattle.node_words.specs.Words.{Mean, MintWords, DrillWords, PathWords, RunWords, ServeWords, Task, Run, Check, Relay, Mint, Serve, RelayServe, Audit, Drill, Path, Wallet, AuditBytes, Replay}
 use Rattle.node_check.specs.declared.check.CheckEnd.{CheckEnd}
-use Rattle.taos_node.specs.Ending.{status_of}
+use Rattle.taos_node.specs.Stops.{status_of}
 use Rattle.taos_node.specs.Notes.{note_of, IsNoted}
 use Rattle.taos_lanes.specs.declared.lane.Lane.{Lane}
 use Rattle.frame_link.specs.declared.limits.Limits.{Limits}
@@ -33,16 +33,23 @@ use Rattle.node_file.specs.RelayFile.{RelayFile}
 use Rattle.taos_node.specs.declared.minting.MintEnd.{MintEnd}
 use Rattle.taos_node.specs.Minting.{Mints}
 use Rattle.relay_path.specs.Domains.{DomainKnows}
+use Rattle.cred_pull.specs.WalletFile.{WalletRow}
+use Rattle.cred_pull.specs.WalletServing as wallets
 use Rattle.taos_node.specs.declared.path.PathEnd.{PathEnd}
 use Rattle.taos_node.specs.Paths.{Passes}
+use Rattle.taos_node.specs.declared.audit.Form.{Form}
+use Rattle.taos_node.specs.declared.audit.Form.TheVariants as form
+use Rattle.taos_node.specs.declared.replay.ReplayEnd.{ReplayEnd}
+use Rattle.taos_node.specs.Replaying.{Replays}
 use Rattle.prin_text.specs.Labels.{Labels}
 use Rattle.relay_core.specs.declared.resealing.RelayTable.{RelayTable}
 use Rattle.relay_core.specs.Serving.{Answers, GivesUp}
 use Rattle.taos_monitor.specs.Cells.{Node, Seen, alone_of}
 use Rattle.taos_monitor.specs.declared.connection.TheConstants.{MAX_REQUEST}
 use Rattle.taos_monitor.specs.Connection.{IsConnection}
-use Rattle.taos_monitor.specs.World.{World, setting_of}
-use Rattle.taos_node.specs.Opened.{IsNodeOf, nothing_seen}
+use Rattle.taos_monitor.specs.World.{World, fetch_use, setting_of}
+use Rattle.taos_node.specs.declared.opened.OpenNode.{OpenNode}
+use Rattle.taos_node.specs.Opened.{IsNodeOf, IsOpenedBy, nothing_seen}
 use Rattle.node_check.specs.Findings.{Checks}
 
 -- the words are a command line
@@ -61,58 +68,52 @@ IsRelayServe words = (limits : Limits) × Mean words (RelayServe limits)
 abbrev pub ServesDoors : List (String Global) → Type 0
 ServesDoors words = IsServe words ⊎ IsRelayServe words
 
+-- to serve a connection, of at most so many frames, and to print the journals in this form
+abbrev pub audit_task : Form → ℕ → Task
+audit_task form.Text frames = Audit frames
+audit_task form.Bytes frames = AuditBytes frames
+
+-- the words are to print the journals in this form, after at most so many frames
+abbrev pub AsksAudit : List (String Global) → Form → ℕ → Type 0
+AsksAudit words form frames = Mean words (audit_task form frames)
+
 -- the words are a command that serves the first lane's connection, by that lane's clock
 abbrev pub ReadsClock : List (String Global) → Type 0
-ReadsClock words = ((r : RunWords) × Mean words (Run r)) ⊎ ((frames : ℕ) × Mean words (Audit frames))
-
--- ---- what a call touches
-
--- what contracts see of what a call touches: the clock and the link are those of the first lane
-pub record Touched : Type 0 where
-  pub file : Stream
-  pub input : Stream
-  pub output : Stream
-  pub clock : Stream
-  pub relay : Link
-
--- what is touched, of these
-abbrev pub touched : Stream → Stream → Stream → Stream → Link → Touched
-touched file input output clock relay =
-    record { file = file; input = input; output = output; clock = clock; relay = relay }
-
--- the first lane's clock, by what clocks show
-abbrev pub first_clock : {C R D I O : Type 0} → (C → Stream) → List (Lane C R D I O) → Stream
-first_clock shown [] = stream None 0
-first_clock shown (lane ∷ lanes) = shown lane.clock
-
--- the first lane's link, by what links show
-abbrev pub first_link : {C R D I O : Type 0} → (R → Link) → List (Lane C R D I O) → Link
-first_link shown [] = link None 0 0
-first_link shown (lane ∷ lanes) = shown lane.relay
-
--- the lanes' doors
-abbrev pub doors_of : {C R D I O : Type 0} → List (Lane C R D I O) → List D
-doors_of lanes = map (λ lane. lane.door) lanes
-
--- what was written to the output
-abbrev pub output_of : Change Touched → Change (Option (List ℕ))
-output_of t = change t.before.output.told t.after.output.told
+ReadsClock words =
+    ((r : RunWords) × Mean words (Run r)) ⊎ ((form : Form) × (frames : ℕ) × AsksAudit words form frames)
 
 -- ---- what is done
 
--- what a connection is served over, of what is touched, beside journals
-abbrev pub with_seen : Touched → Seen → Line World
-with_seen t seen =
-    line t.input t.output (record { outside = outside_of t.clock t.relay; seen = seen })
+module _ {X : Type 0} where
+  -- the lanes, as they were and as they are
+  abbrev pub lanes_in : (before after : Call X) → Change (List (LaneShown X))
+  lanes_in before after = change before.lanes after.lanes
+
+  -- what was told of the output
+  abbrev pub output_in : (before after : Call X) → Change (Option (List ℕ))
+  output_in before after = change before.streams.output.told after.streams.output.told
+
+-- what a connection is answered in, of what is touched, where certificates are fetched or not
+abbrev pub world_in : Bool → Touched → Seen → World
+world_in pulls t seen = record {
+  outside = outside_of t.clock t.relay;
+  fetch = fetch_use pulls t.fetch;
+  seen = seen;
+}
+
+-- what it is served over
+abbrev pub with_seen : Bool → Touched → Seen → Line World
+with_seen pulls t seen = line t.input t.output (world_in pulls t seen)
 
 -- how often what it is served over failed
 abbrev pub counts_of : Touched → FaultCounts
 counts_of t = counts t.input.faults t.output.faults t.clock.faults
 
--- the first lane's clock and link were not used
+-- the first lane's clock, link and fetch were not used
 pub record UsesNoLane (before after : Touched) : Type 0 where
   pub clock : after.clock ≡ before.clock
   pub link : after.relay ≡ before.relay
+  pub fetch : after.fetch ≡ before.fetch
 
 -- nothing but the file was touched
 pub record LeavesRest (before after : Touched) : Type 0 where
@@ -120,26 +121,32 @@ pub record LeavesRest (before after : Touched) : Type 0 where
   pub output : Keeps before.output.told after.output.told
   pub lane : UsesNoLane before after
 
--- A node of the opening serves the connection, of at most so many frames, from empty journals on.
--- The journals at the end are those of this connection alone: all their entries are its own.
-pub record ServesConnection (o : Opening) (frames : ℕ) (before after : Touched)
+-- A node of the opening serves the connection, of at most so many frames, from empty journals on, with
+-- certificates that it fetches or without. The journals at the end are those of this connection alone:
+-- all their entries are its own.
+pub record ServesConnection (o : Opening) (pulls : Bool) (frames : ℕ) (before after : Touched)
     (outcome : Outcome) : Type 0 where
   pub node : Node
   pub is_node : IsNodeOf o node
   -- the journals at the end, whose entries are all its own
   pub seen : Seen
   pub connection : IsConnection (setting_of node (alone_of true true)) frames
-      (with_seen before nothing_seen) (with_seen after seen) outcome
+      (with_seen pulls before nothing_seen) (with_seen pulls after seen) outcome
+
+-- So the node serves the first lane's connection, of whatever opening it is, and shows this afterwards.
+abbrev pub ServesFirst : OpenNode → Bool → ℕ → (before after : Touched) → Seen → Outcome → Type 0
+ServesFirst opened pulls frames before after seen outcome = (o : Opening) → IsOpenedBy o opened →
+    (served : ServesConnection o pulls frames before after outcome) × (served.seen ≡ seen)
 
 -- what a connection is served over where nobody has the replies
 abbrev pub unwritten : Touched → Seen → Line World
-unwritten t seen =
-    line t.input (stream None 0) (record { outside = outside_of t.clock t.relay; seen = seen })
+unwritten t seen = line t.input (stream None 0) (world_in false t seen)
 
 -- A node of the opening serves the connection, of at most so many frames, from empty journals on; its
--- replies are written nowhere. Of the journals at the end, whose entries are all its own, the text is
--- written.
-pub record Audits (o : Opening) (frames : ℕ) (before after : Touched) (end : AuditEnd) : Type 0 where
+-- replies are written nowhere. The journals at the end, whose entries are all its own, are printed in
+-- this form.
+pub record Audits (form : Form) (o : Opening) (frames : ℕ) (before after : Touched)
+    (end : AuditEnd) : Type 0 where
   pub node : Node
   pub is_node : IsNodeOf o node
   pub seen : Seen
@@ -147,7 +154,7 @@ pub record Audits (o : Opening) (frames : ℕ) (before after : Touched) (end : A
   pub connection : IsConnection (setting_of node (alone_of true true)) frames
       (unwritten before nothing_seen) (unwritten after seen) outcome
   pub text : List ℕ
-  pub is_text : IsAuditOf o seen.journals text
+  pub is_text : IsAuditOf form o seen.journals text
   pub writes : WritesAudit text outcome before.output.told after.output.told end
 
 -- a load that is made was served, and nothing but the output was touched
@@ -174,6 +181,13 @@ pub record ServesRelay (r : RelayFile) (frames : ℕ) (before after : Touched)
       (line before.input before.output table) (line after.input after.output table) outcome
   pub lane : UsesNoLane before after
 
+-- a wallet of the file serves the connection, of at most so many frames
+pub record ServesWallet (rows : List WalletRow) (frames : ℕ) (before after : Touched)
+    (outcome : Outcome) : Type 0 where
+  pub served : IsServed wallets.Answers wallets.GivesUp frames
+      (line before.input before.output rows) (line after.input after.output rows) outcome
+  pub lane : UsesNoLane before after
+
 -- the texts of names and of roles that the file has
 abbrev pub labels_of : RelayFile → Labels
 labels_of r = record { names = r.names; roles = r.roles }
@@ -192,6 +206,14 @@ pub record PassesAlong (ds : List DomainKnows) (p : PathWords) (before after : T
       before.output.told after.output.told end
   pub lane : UsesNoLane before after
 
+-- the bytes of journals were judged beside the opening that the file means
+pub record JudgesJournals (before after : Touched) (end : ReplayEnd) : Type 0 where
+  pub node : Opening
+  pub opens : OpensNode before.file after.file node
+  pub replays : Replays node before.input.told after.input.told before.output.told
+      after.output.told end
+  pub lane : UsesNoLane before after
+
 -- the file that the command wants is refused by the fault
 abbrev pub FileFailsFor : Task → Stream → Stream → FileFault → Type 0
 FileFailsFor (Run r) = FileFails node_means
@@ -203,12 +225,16 @@ FileFailsFor (RelayServe limits) = FileFails relay_means
 FileFailsFor (Audit frames) = FileFails node_means
 FileFailsFor (Drill d) = λ file0 file1 fault. ⊥
 FileFailsFor (Path p) = FileFails path_means
+FileFailsFor (Wallet frames) = FileFails wallet_means
+FileFailsFor (AuditBytes frames) = FileFails node_means
+FileFailsFor Replay = FileFails node_means
 
 -- What is done where no lanes are served, by how it ends. Other words do nothing, nor is anything
 -- done where memory is refused before the words are read. A file that is refused, or fails, and one
 -- for which memory is refused, leaves the rest untouched; every other opens a node that serves the
--- connection, or by which a request and its reply are looked over, or a relay that serves it, or by
--- which a certificate is made, or domains along which one is passed.
+-- connection, or by which a request and its reply are looked over, or a relay or a wallet that serves
+-- it, or a relay by which a certificate is made, or domains along which one is passed, or a node
+-- beside whose opening journals are judged.
 abbrev pub RunsAlone : List (String Global) → Touched → Touched → Ending → Type 0
 RunsAlone words before after Usage =
     (IsCommand words → ⊥) × Keeps before.file.told after.file.told × LeavesRest before after
@@ -219,7 +245,7 @@ RunsAlone words before after (File fault) =
     × LeavesRest before after
 RunsAlone words before after (Served outcome) =
     (r : RunWords) × Mean words (Run r) ×
-    ((o : Opening) × OpensNode before.file after.file o × ServesConnection o r.frames before after outcome)
+    ((o : Opening) × OpensNode before.file after.file o × ServesConnection o r.pulls r.frames before after outcome)
 RunsAlone words before after (Checked end) = Mean words Check × LooksOver before after end
 RunsAlone words before after (Relayed outcome) =
     (frames : ℕ) × Mean words (Relay frames) ×
@@ -228,13 +254,18 @@ RunsAlone words before after (Minted end) =
     (m : MintWords) × Mean words (Mint m) ×
     ((r : RelayFile) × OpensRelay before.file after.file r × MintsBy r m before after end)
 RunsAlone words before after (Audited end) =
-    (frames : ℕ) × Mean words (Audit frames) ×
-    ((o : Opening) × OpensNode before.file after.file o × Audits o frames before after end)
+    (form : Form) × (frames : ℕ) × AsksAudit words form frames ×
+    ((o : Opening) × OpensNode before.file after.file o × Audits form o frames before after end)
 RunsAlone words before after (Drilled end) =
     (d : DrillWords) × Mean words (Drill d) × DrillsAlone d before after end
 RunsAlone words before after (Passed end) =
     (p : PathWords) × Mean words (Path p) ×
     ((ds : List DomainKnows) × OpensPath before.file after.file ds × PassesAlong ds p before after end)
+RunsAlone words before after (Walleted outcome) =
+    (frames : ℕ) × Mean words (Wallet frames) ×
+    ((rows : List WalletRow) × OpensWallet before.file after.file rows
+    × ServesWallet rows frames before after outcome)
+RunsAlone words before after (Replayed end) = Mean words Replay × JudgesJournals before after end
 RunsAlone words before after (Lanes end) = ⊥
 RunsAlone words before after (RelayLanes end) = ⊥
 
@@ -242,27 +273,25 @@ module _ {In Out : Type 0} (telling : Telling In Out) where
   -- What is done, by how it ends: the lanes of a node of the file's opening, or of a relay of the file,
   -- serve their doors, and the line of what they counted is written; every other ending touches no
   -- other lane than the first.
-  abbrev pub Runs : List (String Global) → Change Touched →
-      Change (List (LaneShown (In × Out))) → Ending → Type 0
-  Runs words t doors (Lanes end) =
-      Keeps t.before.input.told t.after.input.told
+  abbrev pub Runs : List (String Global) → (before after : Call (In × Out)) → Ending → Type 0
+  Runs words before after (Lanes end) =
+      Keeps before.streams.input.told after.streams.input.told
       × ((s : ServeWords) × Mean words (Serve s)
-      × ((o : Opening) × OpensNode t.before.file t.after.file o
-      × ServesLanes telling o s.limits doors (output_of t) end))
-  Runs words t doors (RelayLanes end) =
-      Keeps t.before.input.told t.after.input.told
+      × ((o : Opening) × OpensNode before.streams.file after.streams.file o
+      × ServesLanes telling o s.pulls s.limits (lanes_in before after) (output_in before after) end))
+  Runs words before after (RelayLanes end) =
+      Keeps before.streams.input.told after.streams.input.told
       × ((limits : Limits) × Mean words (RelayServe limits)
-      × ((r : RelayFile) × OpensRelay t.before.file t.after.file r
-      × RelaysDoors telling r limits doors (output_of t) end))
-  Runs words t doors other =
-      RunsAlone words t.before t.after other × (drop 1 doors.after ≡ drop 1 doors.before)
+      × ((r : RelayFile) × OpensRelay before.streams.file after.streams.file r
+      × RelaysDoors telling r limits (lanes_in before after) (output_in before after) end))
+  Runs words before after other =
+      RunsAlone words before.streams after.streams other × (drop 1 after.lanes ≡ drop 1 before.lanes)
 
   -- How it ended, with what was done: the status and the note tell that ending.
-  pub record Ends (words : List (String Global)) (t : Change Touched)
-      (doors : Change (List (LaneShown (In × Out)))) (notes : Change Stream) (status : ℕ) :
-      Type 0 where
+  pub record Ends (words : List (String Global)) (before after : Call (In × Out))
+      (notes : Change Stream) (status : ℕ) : Type 0 where
     pub ending : Ending
-    pub runs : Runs words t doors ending
+    pub runs : Runs words before after ending
     pub tells : status ≡ status_of ending
     pub noted : IsNoted notes.before.told notes.after.told notes.before.faults
         notes.after.faults (note_of ending)
@@ -280,6 +309,9 @@ FileDecidesFor (RelayServe limits) = FileDecides IsRelayFile
 FileDecidesFor (Audit frames) = FileDecides IsNodeFile
 FileDecidesFor (Drill d) = λ file0 file1 status. status ≢ 2
 FileDecidesFor (Path p) = FileDecides IsPathFile
+FileDecidesFor (Wallet frames) = FileDecides IsWalletFile
+FileDecidesFor (AuditBytes frames) = FileDecides IsNodeFile
+FileDecidesFor Replay = FileDecides IsNodeFile
 
 -- An input of whole frames is answered to its end: where the file means something, the frames are
 -- not more than may be answered, and nothing fails, the status is 0, or 6 where memory was refused.
@@ -316,6 +348,37 @@ PassesWell before after status =
     IsSteady before.input after.input → IsSteady before.output after.output →
     (status ≡ 0) ⊎ ((status ≡ 13) ⊎ (status ≡ 6))
 
+-- Journals are judged, or memory is refused, where the file opens a node and nothing fails.
+abbrev pub ReplaysWell : Touched → Touched → ℕ → Type 0
+ReplaysWell before after status =
+    (bytes : List ℕ) (o : Opening) → before.file.told ≡ Some bytes → IsNodeFile o bytes →
+    IsSteady before.file after.file → IsSteady before.input after.input →
+    IsSteady before.output after.output → (status ≡ 0) ⊎ ((status ≡ 14) ⊎ (status ≡ 6))
+
+-- A load is made and served, or memory is refused, where the output does not fail.
+abbrev pub DrillsWell : Touched → Touched → ℕ → Type 0
+DrillsWell before after status =
+    IsSteady before.output after.output → (status ≡ 0) ⊎ (status ≡ 6)
+
+-- A command comes to its end where nothing fails that it needs. Of those that serve lanes the doors
+-- tell it.
+abbrev pub EndsWellFor : Task → Touched → Touched → ℕ → Type 0
+EndsWellFor (Run r) before after status =
+    IsSteady before.clock after.clock → EndsWell IsNodeFile r.frames before after status
+EndsWellFor Check before after status = ChecksWell before after status
+EndsWellFor (Relay frames) before after status = EndsWell IsRelayFile frames before after status
+EndsWellFor (Mint m) before after status = MintsWell before after status
+EndsWellFor (Serve s) before after status = Unit {0}
+EndsWellFor (RelayServe limits) before after status = Unit {0}
+EndsWellFor (Audit frames) before after status =
+    IsSteady before.clock after.clock → EndsWell IsNodeFile frames before after status
+EndsWellFor (Drill d) before after status = DrillsWell before after status
+EndsWellFor (Path p) before after status = PassesWell before after status
+EndsWellFor (Wallet frames) before after status = EndsWell IsWalletFile frames before after status
+EndsWellFor (AuditBytes frames) before after status =
+    IsSteady before.clock after.clock → EndsWell IsNodeFile frames before after status
+EndsWellFor Replay before after status = ReplaysWell before after status
+
 -- a fault is answered only where something failed
 pub record IsCaused (before after : Touched) (status : ℕ) : Type 0 where
   pub read : status ≡ 3 → HasFailed before.file after.file ⊎ HasFailed before.input after.input
@@ -340,17 +403,7 @@ pub record IsStatus (words : List (String Global)) (before after : Touched)
   pub usage : WordsDecide words status
   pub file : (task : Task) → Mean words task →
       FileDecidesFor task before.file after.file status
-  pub complete : (r : RunWords) → Mean words (Run r) → IsSteady before.clock after.clock →
-      EndsWell IsNodeFile r.frames before after status
-  pub checks_well : Mean words Check → ChecksWell before after status
-  pub relays_well : (frames : ℕ) → Mean words (Relay frames) →
-      EndsWell IsRelayFile frames before after status
-  pub audits_well : (frames : ℕ) → Mean words (Audit frames) → IsSteady before.clock after.clock →
-      EndsWell IsNodeFile frames before after status
-  pub drills_well : (d : DrillWords) → Mean words (Drill d) → IsSteady before.output after.output →
-      (status ≡ 0) ⊎ (status ≡ 6)
-  pub mints_well : (m : MintWords) → Mean words (Mint m) → MintsWell before after status
-  pub passes_well : (p : PathWords) → Mean words (Path p) → PassesWell before after status
+  pub well : (task : Task) → Mean words task → EndsWellFor task before after status
   pub causes : IsCaused before after status
   pub told : TellsFaults before after status
   -- by a command that serves lanes a reading that fails ends its connection alone
@@ -371,24 +424,43 @@ module _ {X : Type 0} where
   -- What the status tells of the lanes' doors: 9 is answered by a command that serves lanes, where
   -- a door failed, and always where a door's count rose; where nothing fails the status is 0, or 6
   -- where memory was refused.
-  pub record TellsDoors (words : List (String Global)) (t : Change Touched)
-      (doors : Change (List (LaneShown X))) (status : ℕ) : Type 0 where
+  pub record TellsDoors (words : List (String Global)) (before after : Call X) (status : ℕ) :
+      Type 0 where
     pub caused : status ≡ 9 →
-        ServesDoors words × (AllZip HasSteadyDoor doors.before doors.after → ⊥)
-    pub told : ServesDoors words → status ≢ 9 → AllZip HasSameCount doors.before doors.after
-    pub well : IsServe words → (bytes : List ℕ) (o : Opening) → t.before.file.told ≡ Some bytes →
-        IsNodeFile o bytes → IsSteady t.before.file t.after.file →
-        IsSteady t.before.output t.after.output → AllZip HasSteadyDoor doors.before doors.after →
-        (status ≡ 0) ⊎ (status ≡ 6)
+        ServesDoors words × (AllZip HasSteadyDoor before.lanes after.lanes → ⊥)
+    pub told : ServesDoors words → status ≢ 9 → AllZip HasSameCount before.lanes after.lanes
+    pub well : IsServe words → (bytes : List ℕ) (o : Opening) →
+        before.streams.file.told ≡ Some bytes → IsNodeFile o bytes →
+        IsSteady before.streams.file after.streams.file →
+        IsSteady before.streams.output after.streams.output →
+        AllZip HasSteadyDoor before.lanes after.lanes → (status ≡ 0) ⊎ (status ≡ 6)
     pub relays_well : IsRelayServe words → (bytes : List ℕ) (r : RelayFile) →
-        t.before.file.told ≡ Some bytes → IsRelayFile r bytes →
-        IsSteady t.before.file t.after.file → IsSteady t.before.output t.after.output →
-        AllZip HasSteadyDoor doors.before doors.after → (status ≡ 0) ⊎ (status ≡ 6)
+        before.streams.file.told ≡ Some bytes → IsRelayFile r bytes →
+        IsSteady before.streams.file after.streams.file →
+        IsSteady before.streams.output after.streams.output →
+        AllZip HasSteadyDoor before.lanes after.lanes → (status ≡ 0) ⊎ (status ≡ 6)
 
 -- what a run does and tells, by how it ends
 pub record Does {In Out : Type 0} (telling : Telling In Out) (words : List (String Global))
-    (t : Change Touched) (doors : Change (List (LaneShown (In × Out)))) (ending : Ending) :
+    (before after : Call (In × Out)) (ending : Ending) : Type 0 where
+  pub runs : Runs telling words before after ending
+  pub status : IsStatus words before.streams after.streams (status_of ending)
+  pub tells : TellsDoors words before after (status_of ending)
+
+-- the same of all words that mean this
+abbrev pub DoesFor : {In Out : Type 0} → Telling In Out → Task → (before after : Call (In × Out)) →
+    Ending → Type 0
+DoesFor telling task before after ending =
+    (words : List (String Global)) → Mean words task → Does telling words before after ending
+
+-- what is done where no lanes are served, and what its status tells, for all words that mean this
+abbrev pub EndsAlone : Task → (before after : Touched) → Ending → Type 0
+EndsAlone task before after ending =
+    (words : List (String Global)) → Mean words task →
+    RunsAlone words before after ending × IsStatus words before after (status_of ending)
+
+-- no other lane than the first was touched, nor the door of any
+pub record LeavesLanes {C R D P In Out : Type 0} (before after : List (Lane C R D P In Out)) :
     Type 0 where
-  pub runs : Runs telling words t doors ending
-  pub status : IsStatus words t.before t.after (status_of ending)
-  pub tells : TellsDoors words t doors (status_of ending)
+  pub others : drop 1 after ≡ drop 1 before
+  pub doors : doors_of after ≡ doors_of before

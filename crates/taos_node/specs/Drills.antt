@@ -1,5 +1,5 @@
 -- What a drill does: the lanes of a node that the load opens serve the load.
-use Rattle.std.specs.Prelude.{◌≡◌, ℕ, ◌<◌, List, [], ◌∷◌, ◌++◌, length, map, None, Option, Some}
+use Rattle.std.specs.Prelude.{◌≡◌, ℕ, false, ◌<◌, List, [], ◌∷◌, ◌++◌, length, map, None, Option, Some}
 use Rattle.std.specs.Io.KnownBytes.{Appends, Keeps}
 use Rattle.std.specs.List.{All, AllZip, range_with_len}
 use Rattle.frame_link.specs.Doors.{DoorSeen, door_of}
@@ -13,6 +13,7 @@ use Rattle.frame_link.specs.Relay.{link}
 use Rattle.frame_link.specs.Streams.{stream}
 use Rattle.frame_link.specs.Supply.{Supply}
 use Rattle.frame_link.specs.Times.{Times}
+use Rattle.cred_pull.specs.Fetching.{fetch_of}
 use Rattle.taos_drill.specs.declared.numbers.TheConstants.{READING}
 use Rattle.taos_drill.specs.Grown.{Grown}
 use Rattle.taos_drill.specs.Opened.{drill_opening}
@@ -49,11 +50,12 @@ wire_told =
 abbrev pub door_with : List ℕ → DoorSeen Wire
 door_with bytes = door_of (Some (wire bytes ∷ [])) (Some []) 0 0
 
--- the lane reads one time always, has no relay, and its door has these bytes
+-- the lane reads one time always, has no relay and no wallet, and its door has these bytes
 pub record IsDrillLane (bytes : List ℕ) (lane : LaneShown Wire) : Type 0 where
   pub clock : lane.outside.clock ≡ stream (Some (READING ∷ [])) 0
   pub link : lane.outside.link ≡ link None 0 0
   pub door : lane.door ≡ door_with bytes
+  pub fetch : lane.fetch ≡ fetch_of None 0
 
 -- the lanes are those of the load, in order
 abbrev pub AreDrillLanes : List (List ℕ) → List (LaneShown Wire) → Type 0
@@ -66,16 +68,16 @@ abbrev pub drill_limits : DrillWords → Limits
 drill_limits d = record { connections = 1; frames = d.requests }
 
 -- a lane of a drill, as contracts see it
-abbrev pub drill_shown : Lane Times ℕ (Hall Wire) Supply Grown → LaneShown Wire
+abbrev pub drill_shown : Lane Times ℕ (Hall Wire) ℕ Supply Grown → LaneShown Wire
 drill_shown =
     shown_by (λ (c : Times). stream (Some c.readings) c.plan.faults) (λ (r : ℕ). link None r r)
-    (λ (d : Hall Wire). shown_hall d)
+    (λ (d : Hall Wire). shown_hall d) (λ (f : ℕ). fetch_of None f)
 
 -- a node that the load opens served the lanes of the load, and left this
 pub record ServesDrill (d : DrillWords) (l : Left) : Type 0 where
   pub lanes : Change (List (LaneShown Wire))
   pub are : AreDrillLanes (drill_streams d.seed d.requests d.lanes) lanes.before
-  pub serves : ServesOpening wire_told (drill_opening d.seed d.requests d.lanes) (drill_limits d)
+  pub serves : ServesOpening wire_told (drill_opening d.seed d.requests d.lanes) false (drill_limits d)
       lanes l
 
 -- the payloads of the requests of each lane, in order

@@ -12,6 +12,7 @@ use Rattle.node_file.specs.OpeningFile.{Means, opening_in}
 use Rattle.node_file.specs.RelayFile.{RelayFile, relay_in}
 use Rattle.relay_path.specs.Domains.{DomainKnows}
 use Rattle.relay_path.specs.PathFile.{path_in}
+use Rattle.cred_pull.specs.WalletFile.{WalletRow, wallet_in}
 use Rattle.taos_node.specs.declared.ending.FileFault.{FileFault}
 use Rattle.taos_node.specs.declared.ending.FileFault.TheVariants as fault
 use Rattle.taos_node.specs.declared.ending.FileFault.TheVariants.{Malformed, Refused}
@@ -36,6 +37,10 @@ IsRelayFile r bytes = relay_in bytes ≡ Ok r
 abbrev pub IsPathFile : List DomainKnows → List ℕ → Type 0
 IsPathFile ds bytes = path_in bytes ≡ Ok ds
 
+-- the file's bytes mean what a wallet has
+abbrev pub IsWalletFile : List WalletRow → List ℕ → Type 0
+IsWalletFile rows bytes = wallet_in bytes ≡ Ok rows
+
 -- what bytes mean, or why they are refused
 abbrev pub Meaning : Type 0 → Type 0
 Meaning A = List ℕ → Result A Refusal
@@ -51,6 +56,10 @@ relay_means = relay_in
 -- what the bytes of a path file mean
 abbrev pub path_means : Meaning (List DomainKnows)
 path_means = path_in
+
+-- what the bytes of a wallet file mean
+abbrev pub wallet_means : Meaning (List WalletRow)
+wallet_means = wallet_in
 
 -- at most one byte more than there may be was taken of it
 abbrev pub TakesFew : Stream → Stream → Type 0
@@ -82,6 +91,10 @@ OpensRelay = Opens IsRelayFile
 -- the file opens the domains
 abbrev pub OpensPath : Stream → Stream → List DomainKnows → Type 0
 OpensPath = Opens IsPathFile
+
+-- the file opens the wallet
+abbrev pub OpensWallet : Stream → Stream → List WalletRow → Type 0
+OpensWallet = Opens IsWalletFile
 
 -- what was read of the file is refused
 pub record IsRefused {A : Type 0} (means : Meaning A) (file0 file1 : Stream) (why : Refusal) :
@@ -132,6 +145,11 @@ RelayFileGives = FileGives IsRelayFile relay_means
 abbrev pub PathFileGives : {X : Type 0} → (List DomainKnows → X → Type 0) → Stream → Stream →
     Result X FileFault → Type 0
 PathFileGives = FileGives IsPathFile path_means
+
+-- and of a wallet file
+abbrev pub WalletFileGives : {X : Type 0} → (List WalletRow → X → Type 0) → Stream → Stream →
+    Result X FileFault → Type 0
+WalletFileGives = FileGives IsWalletFile wallet_means
 
 -- the file's count of faults rose where a fault of reading is answered, and else stayed
 abbrev pub FaultHasCause : Stream → Stream → FileFault → Type 0

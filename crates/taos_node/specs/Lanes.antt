@@ -1,5 +1,5 @@
 -- What the lanes of a node do, and what is printed of it.
-use Rattle.std.specs.Prelude.{◌≡◌, ℕ, ◌<◌, ◌≤◌, List, ◌++◌, length, Option}
+use Rattle.std.specs.Prelude.{◌≡◌, ℕ, Bool, ◌<◌, ◌≤◌, List, ◌++◌, length, Option}
 use Rattle.std.specs.Io.KnownBytes.{Appends, Keeps}
 use Rattle.std.specs.List.{AllZip}
 use Rattle.frame_link.specs.Faults.{Rose}
@@ -49,14 +49,15 @@ LanesCauses out0 out1 (lanes.DoorFault lane) = out1 ≡ out0
 LanesCauses out0 out1 lanes.WriteFault = (out0 ≤ out1) × Rose out0 out1
 LanesCauses out0 out1 lanes.NoMemory = out1 ≡ out0
 
-module _ {In Out : Type 0} (telling : Telling In Out) (o : Opening) (limits : Limits) where
+module _ {In Out : Type 0} (telling : Telling In Out) (o : Opening) (pulls : Bool)
+    (limits : Limits) where
   -- A node of the opening served the doors of its lanes, from empty journals on, and left this: each
   -- connection of each lane is answered in the journals by its own places, and each place of each is
   -- own of one connection, once.
   pub record ServesOpening (lanes : Change (List (LaneShown (In × Out)))) (l : Left) : Type 0 where
     pub node : Node
     pub is_node : IsNodeOf o node
-    pub serves : ServesNode telling node limits lanes l
+    pub serves : ServesNode telling node pulls limits lanes l
 
   -- what lanes did, with what is printed
   pub data ServesLanes (doors : Change (List (LaneShown (In × Out))))

@@ -112,26 +112,3 @@ MintCauses out0 out1 ends.Done = out1 ≡ out0
 MintCauses out0 out1 (ends.Refused w) = out1 ≡ out0
 MintCauses out0 out1 ends.WriteFault = (out0 ≤ out1) × Rose out0 out1
 MintCauses out0 out1 ends.NoMemory = out1 ≡ out0
-
--- the exit status of how it ended
-abbrev pub minted_status : MintEnd → ℕ
-minted_status ends.Done = 0
-minted_status (ends.Refused w) = 12
-minted_status ends.WriteFault = 4
-minted_status ends.NoMemory = 6
-
--- a word, as notes name it
-abbrev pub word_text : MintWord → List ℕ
-word_text word.Issuer = codes "issuer"
-word_text word.Time = codes "time"
-word_text word.Quoted = codes "quoted"
-word_text word.Left = codes "left"
-word_text word.Right = codes "right"
-word_text word.Large = codes "large"
-
--- the note of how it ended
-abbrev pub minted_note : MintEnd → List ℕ
-minted_note ends.Done = []
-minted_note (ends.Refused w) = codes "taos: mint refused: " ++ word_text w ++ codes "\n"
-minted_note ends.WriteFault = codes "taos: write fault\n"
-minted_note ends.NoMemory = codes "taos: no memory\n"

@@ -1,27 +1,15 @@
--- The note of an ending: one line, but none for success, nor where a check found anything.
-use Rattle.std.specs.Prelude.{◌≡◌, ℕ, ◌<◌, ◌≤◌, List, [], ◌++◌, length, Option, codes, decimal}
+-- The note of an ending: one line, but none for success, nor where a check or a replay found anything.
+use Rattle.std.specs.Prelude.{◌≡◌, ℕ, ◌<◌, ◌≤◌, List, [], ◌++◌, length, Option, Some, None, codes, decimal}
 use Rattle.std.specs.Io.KnownBytes.{Appends}
-use Rattle.frame_link.specs.declared.outcome.Outcome.{Outcome}
-use Rattle.frame_link.specs.declared.outcome.Outcome.TheVariants.{End, Truncated, TooLong, ReadFault, WriteFault, ClockFault, Spent, NoMemory}
 use Rattle.frame_link.specs.Faults.{Rose}
 use Rattle.file_lines.specs.declared.fault.FileCause.{FileCause}
 use Rattle.file_lines.specs.declared.fault.FileCause.TheVariants.{FirstLine, UnknownWord, Words, Number, Hex, Rights, UnknownDomain, NodeFirst, UnknownObject, UnknownName, Principal, Text, Certificate, Twice, Limit, NoNode}
-use Rattle.taos_node.specs.declared.ending.FileFault.{FileFault}
-use Rattle.taos_node.specs.declared.ending.FileFault.TheVariants as fault
-use Rattle.taos_node.specs.declared.ending.FileFault.TheVariants.{Malformed, Refused}
 use Rattle.taos_node.specs.declared.ending.Ending.{Ending}
-use Rattle.taos_node.specs.declared.ending.Ending.TheVariants as ending
-use Rattle.taos_node.specs.declared.ending.Ending.TheVariants.{Usage, File, Served, Checked, Relayed, Minted, Lanes, RelayLanes, Audited, Drilled, Passed}
-use Rattle.taos_node.specs.declared.ending.AuditEnd.{AuditEnd}
-use Rattle.taos_node.specs.declared.ending.AuditEnd.TheVariants as audit
-use Rattle.taos_node.specs.declared.ending.DrillEnd.{DrillEnd}
-use Rattle.taos_node.specs.declared.ending.DrillEnd.TheVariants as drill
-use Rattle.taos_node.specs.declared.ending.LanesEnd.{LanesEnd}
-use Rattle.taos_node.specs.declared.ending.LanesEnd.TheVariants as lanes
-use Rattle.taos_node.specs.Minting.{minted_note}
-use Rattle.taos_node.specs.Paths.{path_note}
-use Rattle.node_check.specs.declared.check.CheckEnd.{CheckEnd}
-use Rattle.node_check.specs.declared.check.CheckEnd.TheVariants as ends
+use Rattle.taos_node.specs.declared.minting.MintWord.{MintWord}
+use Rattle.taos_node.specs.declared.minting.MintWord.TheVariants as word
+use Rattle.taos_node.specs.declared.stop.Stop.{Stop}
+use Rattle.taos_node.specs.declared.stop.Stop.TheVariants.{Usage, Line, Malformed, ReadFault, WriteFault, ClockFault, NoMemory, Truncated, TooLong, DoorFault, Spent, NotGranted, Word, Hop, Illegal}
+use Rattle.taos_node.specs.Stops.{stop_of}
 
 -- a cause, as notes name it
 abbrev pub cause_text : FileCause → List ℕ
@@ -42,68 +30,45 @@ cause_text Twice = codes "twice"
 cause_text Limit = codes "limit"
 cause_text NoNode = codes "no node"
 
--- the note where the file is not served
-abbrev pub file_note : FileFault → List ℕ
-file_note (Refused line cause) = codes "taos: node file: line " ++ decimal line ++ codes ": "
+-- a word, as notes name it
+abbrev pub word_text : MintWord → List ℕ
+word_text word.Issuer = codes "issuer"
+word_text word.Time = codes "time"
+word_text word.Quoted = codes "quoted"
+word_text word.Left = codes "left"
+word_text word.Right = codes "right"
+word_text word.Large = codes "large"
+
+-- the note of what stopped it; what a line of the output says has none
+abbrev pub stop_note : Stop → List ℕ
+stop_note Usage = codes "taos: usage\n"
+stop_note (Line line cause) = codes "taos: node file: line " ++ decimal line ++ codes ": "
     ++ cause_text cause ++ codes "\n"
-file_note (Malformed offset) = codes "taos: node file: byte " ++ decimal offset
+stop_note (Malformed offset) = codes "taos: node file: byte " ++ decimal offset
     ++ codes ": malformed\n"
-file_note fault.ReadFault = codes "taos: read fault\n"
-file_note fault.NoMemory = codes "taos: no memory\n"
-
--- the note where a connection was served
-abbrev pub served_note : Outcome → List ℕ
-served_note (End frames) = []
-served_note ReadFault = codes "taos: read fault\n"
-served_note WriteFault = codes "taos: write fault\n"
-served_note ClockFault = codes "taos: clock fault\n"
-served_note NoMemory = codes "taos: no memory\n"
-served_note (Truncated have) = codes "taos: input ends inside a frame, " ++ decimal have
+stop_note ReadFault = codes "taos: read fault\n"
+stop_note WriteFault = codes "taos: write fault\n"
+stop_note ClockFault = codes "taos: clock fault\n"
+stop_note NoMemory = codes "taos: no memory\n"
+stop_note (Truncated have) = codes "taos: input ends inside a frame, " ++ decimal have
     ++ codes " bytes kept\n"
-served_note (TooLong n) = codes "taos: frame too long: " ++ decimal n ++ codes "\n"
-served_note (Spent frames) = codes "taos: frames spent: " ++ decimal frames ++ codes "\n"
+stop_note (TooLong n) = codes "taos: frame too long: " ++ decimal n ++ codes "\n"
+stop_note (DoorFault lane) = codes "taos: door fault at lane " ++ decimal lane ++ codes "\n"
+stop_note (Spent frames) = codes "taos: frames spent: " ++ decimal frames ++ codes "\n"
+stop_note (Word w) = codes "taos: mint refused: " ++ word_text w ++ codes "\n"
+stop_note (Hop hop code) = codes "taos: path refused: hop " ++ decimal hop
+    ++ codes " code " ++ decimal code ++ codes "\n"
+stop_note NotGranted = []
+stop_note Illegal = []
 
--- the note where a request and its reply were looked over
-abbrev pub checked_note : CheckEnd → List ℕ
-checked_note (ends.Done finding) = []
-checked_note ends.ReadFault = codes "taos: read fault\n"
-checked_note ends.WriteFault = codes "taos: write fault\n"
-checked_note ends.NoMemory = codes "taos: no memory\n"
-
--- the note where the lanes of a node served their doors
-abbrev pub lanes_note : LanesEnd → List ℕ
-lanes_note lanes.Done = []
-lanes_note (lanes.DoorFault lane) = codes "taos: door fault at lane " ++ decimal lane ++ codes "\n"
-lanes_note lanes.WriteFault = codes "taos: write fault\n"
-lanes_note lanes.NoMemory = codes "taos: no memory\n"
-
--- the note where a connection was served and its journals were to be printed
-abbrev pub audited_note : AuditEnd → List ℕ
-audited_note audit.Done = []
-audited_note (audit.Stopped outcome) = served_note outcome
-audited_note audit.WriteFault = codes "taos: write fault\n"
-audited_note audit.NoMemory = codes "taos: no memory\n"
-
--- the note where a load was served
-abbrev pub drilled_note : DrillEnd → List ℕ
-drilled_note drill.Done = []
-drilled_note drill.WriteFault = codes "taos: write fault\n"
-drilled_note drill.NoMemory = codes "taos: no memory\n"
+-- the same where it stopped at all
+abbrev pub note_by : Option Stop → List ℕ
+note_by None = []
+note_by (Some stop) = stop_note stop
 
 -- the bytes of the note of an ending
 abbrev pub note_of : Ending → List ℕ
-note_of Usage = codes "taos: usage\n"
-note_of ending.NoMemory = codes "taos: no memory\n"
-note_of (File fault) = file_note fault
-note_of (Served outcome) = served_note outcome
-note_of (Checked end) = checked_note end
-note_of (Relayed outcome) = served_note outcome
-note_of (Minted end) = minted_note end
-note_of (Lanes end) = lanes_note end
-note_of (RelayLanes end) = lanes_note end
-note_of (Audited end) = audited_note end
-note_of (Drilled end) = drilled_note end
-note_of (Passed end) = path_note end
+note_of ending = note_by (stop_of ending)
 
 -- the note was written, or a proper front of it where the notes failed; what was told of the notes,
 -- and how often they had failed, before and after

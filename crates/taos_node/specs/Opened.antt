@@ -1,5 +1,5 @@
 -- The node that an opening opens.
-use Rattle.std.specs.Prelude.{◌≡◌, ℕ, [], length, None}
+use Rattle.std.specs.Prelude.{◌≡◌, ℕ, ◌≤◌, [], length, All, None}
 use Rattle.std.specs.List.Sorted.{IsStrictlyIncreasing}
 use Rattle.keyed_seal.specs.Keys.{key_of}
 use Rattle.object_core.specs.Objects.{object_of}
@@ -11,6 +11,8 @@ use Rattle.node_open.specs.Cells.{fixed_with, its_plans, numbers_of}
 use Rattle.agent_core.specs.Alone.{plans_in, seen_in, own_in}
 use Rattle.taos_monitor.specs.Arriving.{node_of}
 use Rattle.taos_monitor.specs.Cells.{Node, Seen, seen_of, viewed}
+use Rattle.node_file.specs.declared.limits.TheConstants.{MAX_OBJECTS}
+use Rattle.replay_law.specs.Laws.{HasFewCommons}
 use Rattle.taos_node.specs.declared.opened.OpenNode.{OpenNode}
 
 -- the node has what the opening says, its channels and objects by ascending number
@@ -51,3 +53,8 @@ pub record IsOpenedBy (o : Opening) (node : OpenNode) : Type 0 where
   pub is_node : IsNodeOf o (node_by node)
   pub unseen : seen_by node ≡ nothing_seen
   pub none_taken : taken_from node.shelf ≡ None
+
+-- it has few objects, and each shard was opened with few commons
+pub record IsSmall (node : OpenNode) : Type 0 where
+  pub objects : length node.shelf.objects ≤ MAX_OBJECTS
+  pub commons : All HasFewCommons (plans_in node.shards.shards)

@@ -66,20 +66,3 @@ PathCauses in0 in1 out0 out1 (ends.Refused hop code) = (in1 ≡ in0) × (out1 �
 PathCauses in0 in1 out0 out1 ends.ReadFault = (in0 ≤ in1) × Rose in0 in1 × (out1 ≡ out0)
 PathCauses in0 in1 out0 out1 ends.WriteFault = (in1 ≡ in0) × (out0 ≤ out1) × Rose out0 out1
 PathCauses in0 in1 out0 out1 ends.NoMemory = (in1 ≡ in0) × (out1 ≡ out0)
-
--- the exit status of how it ended
-abbrev pub path_status : PathEnd → ℕ
-path_status ends.Done = 0
-path_status (ends.Refused hop code) = 13
-path_status ends.ReadFault = 3
-path_status ends.WriteFault = 4
-path_status ends.NoMemory = 6
-
--- the note of how it ended
-abbrev pub path_note : PathEnd → List ℕ
-path_note ends.Done = []
-path_note (ends.Refused hop code) = codes "taos: path refused: hop " ++ decimal hop
-    ++ codes " code " ++ decimal code ++ codes "\n"
-path_note ends.ReadFault = codes "taos: read fault\n"
-path_note ends.WriteFault = codes "taos: write fault\n"
-path_note ends.NoMemory = codes "taos: no memory\n"

@@ -1,6 +1,7 @@
 //! The command that serves a connection and prints the journals.
 
-ghost use Rattle.std.specs.Prelude.{◌≡◌, ◌<◌, ◌≤◌, IfOk, List, None, String, drop, length, string_bytes};
+ghost use Rattle.std.specs.Prelude.{◌≡◌, ◌<◌, ◌≤◌, ◌^◌, All, IfOk, None, String, length};
+ghost use Rattle.journal_bytes.specs.Limits.{CitesFew, HasFittingOps};
 ghost use Rattle.std.specs.declared.alloc.Global.{Global};
 ghost use Rattle.frame_link.specs.Streams.{Stream, stream};
 ghost use Rattle.node_file.specs.Opening.{Opening as Meaning};
@@ -8,24 +9,33 @@ ghost use Rattle.object_core.specs.OneOwner.{taken_from};
 ghost use Rattle.agent_core.specs.Alone.{plans_in};
 ghost use Rattle.taos_monitor.specs.Planned.{ArePlanned};
 ghost use Rattle.taos_node.specs.Audit.{AuditCauses, AuditIsComplete, TextHasCause, WritesText, counts};
-ghost use Rattle.taos_node.specs.AuditOf.{all_text};
-ghost use Rattle.taos_node.specs.Command.{Audits, IsStatus, RunsAlone, doors_of, first_clock, first_link, touched};
-ghost use Rattle.taos_node.specs.Ending.{status_of};
-ghost use Rattle.node_words.specs.Words.{Audit, Mean};
-ghost use Rattle.taos_node.specs.Opened.{IsOpenedBy};
+ghost use Rattle.taos_node.specs.AuditOf.{all_text, all_in};
+ghost use Rattle.taos_node.specs.Calls.{called, first_of, itself};
+ghost use Rattle.taos_node.specs.Command.{Audits, EndsAlone, LeavesLanes, audit_task};
+ghost use Rattle.taos_node.specs.Opened.{IsOpenedBy, IsSmall};
 
 use crate::command::{node_file_of, serve_first};
 use crate::ending::{AuditEnd, Ending};
 use crate::opened::OpenNode;
 use agent_core::{MAX_SHARDS, Shard};
+use audit_replay::write_journals;
 use audit_text::{audit_object, audit_shard};
+use cred_pull::Fetch;
 use frame_link::{Clock, Door, Failed, Outcome, RelayLink, Sink, Source, pour};
 use goal_search::Workbench;
 use lemma_memo::Lemmas;
 use object_core::Object;
+use replay_law::what_a_node_left_is_writable;
 use std::alloc::{AllocError, Global};
 use std::sync::Wait;
 use taos_lanes::Lane;
+
+/// How journals are printed.
+#[derive(Clone, Copy, Debug, PartialEq, Eq)]
+pub enum Form {
+    Text,
+    Bytes,
+}
 
 // A sink that keeps nothing and tells nothing.
 #[derive(Drop)]
@@ -40,9 +50,9 @@ impl Sink for Nowhere {
 }
 
 // The text of all journals: of the shards in their order, and then of the objects in theirs.
-fn text_of(alloc: Global, shards: &[Shard], objects: &[Object]) -> Result<String, AllocError>
+fn text_of(alloc: Global, shards: &[Shard], objects: &[Object]) -> Result<Vec<u8>, AllocError>
     requires few { length shards.now ≤ MAX_SHARDS }
-    ensures { IfOk result (λ text. string_bytes text ≡ all_text shards.now objects.now) }
+    ensures { IfOk result (λ text. text.items ≡ all_text shards.now objects.now) }
 {
     let mut text = String::new(alloc);
     let mut number = 0;
@@ -53,23 +63,57 @@ fn text_of(alloc: Global, shards: &[Shard], objects: &[Object]) -> Result<String
     for object in objects {
         audit_object(alloc, &mut text, object.number(), object.journal())?;
     }
-    Ok(text)
+    Ok(text.into_bytes())
 }
 
-// Writes the text of a node's journals.
-fn write_text<O: Sink>(alloc: Global, node: OpenNode, output: &mut O) -> AuditEnd
+// The bytes of all journals.
+fn bytes_of(alloc: Global, shards: &[Shard], objects: &[Object]) -> Result<Vec<u8>, AllocError>
+    requires counts { (length shards.now < 2 ^ 32) × (length objects.now < 2 ^ 32) }
+    requires cites { All CitesFew shards.now }
+    requires ops { All HasFittingOps objects.now }
+    ensures { IfOk result (λ bytes. bytes.items ≡ all_in Form.Bytes shards.now objects.now) }
+{
+    let mut bytes = Vec::new(alloc);
+    write_journals(&mut bytes, shards, objects)?;
+    Ok(bytes)
+}
+
+// All journals in this form.
+fn written_as(
+    alloc: Global,
+    form: Form,
+    shards: &[Shard],
+    objects: &[Object],
+) -> Result<Vec<u8>, AllocError>
+    requires few { length shards.now ≤ MAX_SHARDS }
+    requires counted { length objects.now < 2 ^ 32 }
+    requires cites { All CitesFew shards.now }
+    requires ops { All HasFittingOps objects.now }
+    ensures { IfOk result (λ text. text.items ≡ all_in form shards.now objects.now) }
+{
+    match form {
+        Form::Text => text_of(alloc, shards, objects),
+        Form::Bytes => bytes_of(alloc, shards, objects),
+    }
+}
+
+// Writes a node's journals in this form.
+fn write_text<O: Sink>(alloc: Global, form: Form, node: OpenNode, output: &mut O) -> AuditEnd
     requires none_taken { taken_from node.shelf ≡ None }
     requires few { length node.shards.shards ≤ MAX_SHARDS }
-    ensures writes { WritesText (all_text node.shards.shards node.shelf.objects)
+    requires counted { length node.shelf.objects < 2 ^ 32 }
+    requires cites { All CitesFew node.shards.shards }
+    requires ops { All HasFittingOps node.shelf.objects }
+    ensures writes { WritesText (all_in form node.shards.shards node.shelf.objects)
         (O.shown output.old).told (O.shown output.new).told result }
     ensures cause { TextHasCause (O.shown output.old).faults (O.shown output.new).faults result }
 {
     let shards = node.shards.close();
     let objects = node.shelf.close();
-    let Ok(text) = text_of(alloc, &shards, &objects) else {
+    let Ok(text) = written_as(alloc, form, &shards, &objects) else {
         return AuditEnd::NoMemory;
     };
-    match pour(output, text.as_bytes()) {
+    match pour(output, &text) {
         Ok(()) => AuditEnd::Done,
         Err(Failed) => AuditEnd::WriteFault,
     }
@@ -77,45 +121,55 @@ fn write_text<O: Sink>(alloc: Global, node: OpenNode, output: &mut O) -> AuditEn
 
 // Serves the connection of the first lane, of at most so many frames, and prints the journals where
 // it ends with whole frames. The replies are made, and written nowhere.
-fn audit<W: Wait + Sync, I: Source, O: Sink, C: Clock, R: RelayLink, D: Door>(
+fn audit<W: Wait + Sync, I: Source, O: Sink, C: Clock, R: RelayLink, D: Door, P: Fetch>(
     rt: &W,
     alloc: Global,
     opened: (OpenNode, Lemmas<Workbench>),
     input: &mut I,
     output: &mut O,
-    lanes: &mut [Lane<C, R, D>],
+    lanes: &mut [Lane<C, R, D, P>],
     frames: u64,
+    form: Form,
 ) -> AuditEnd
     requires some { 0 < length lanes.old }
     requires planned { ArePlanned opened.0.keys.channels.entries (plans_in opened.0.shards.shards) }
     requires none_taken { taken_from opened.0.shelf ≡ None }
     requires few { length opened.0.shards.shards ≤ MAX_SHARDS }
+    requires opened { (o : Meaning) × IsOpenedBy o opened.0 }
+    requires small { IsSmall opened.0 }
     ensures audits { (o : Meaning) (file0 file1 : Stream) → IsOpenedBy o opened.0
-        → Audits o frames
-        (touched file0 (I.shown input.old) (O.shown output.old)
-        (first_clock C.shown lanes.old) (first_link R.shown lanes.old))
-        (touched file1 (I.shown input.new) (O.shown output.new)
-        (first_clock C.shown lanes.new) (first_link R.shown lanes.new)) result }
+        → let at = called itself I.shown O.shown C.shown R.shown D.shown P.shown in
+        Audits form o frames (at file0 input.old output.old lanes.old).streams
+        (at file1 input.new output.new lanes.new).streams result }
     ensures causes { AuditCauses
         (counts (I.shown input.old).faults (O.shown output.old).faults
-        (first_clock C.shown lanes.old).faults)
+        (first_of C.shown R.shown P.shown lanes.old).clock.faults)
         (counts (I.shown input.new).faults (O.shown output.new).faults
-        (first_clock C.shown lanes.new).faults) result }
+        (first_of C.shown R.shown P.shown lanes.new).clock.faults) result }
     ensures complete { AuditIsComplete frames (I.shown input.old).told
         (counts (I.shown input.old).faults (O.shown output.old).faults
-        (first_clock C.shown lanes.old).faults)
+        (first_of C.shown R.shown P.shown lanes.old).clock.faults)
         (counts (I.shown input.new).faults (O.shown output.new).faults
-        (first_clock C.shown lanes.new).faults) result }
-    ensures others { drop 1 lanes.new ≡ drop 1 lanes.old }
-    ensures doors { doors_of lanes.new ≡ doors_of lanes.old }
+        (first_of C.shown R.shown P.shown lanes.new).clock.faults) result }
+    ensures untouched { LeavesLanes lanes.old lanes.new }
 {
-    let mut opened = opened;
-    let outcome = serve_first(rt, alloc, &mut opened, input, &mut Nowhere, lanes, frames);
+    let (mut node, mut bench) = opened;
+    let outcome = serve_first(
+        rt,
+        alloc,
+        &mut node,
+        &mut bench,
+        input,
+        &mut Nowhere,
+        lanes,
+        false,
+        frames,
+    );
     let Outcome::End { .. } = outcome else {
         return AuditEnd::Stopped(outcome);
     };
-    let (node, _bench) = opened;
-    write_text(alloc, node, output)
+    what_a_node_left_is_writable();
+    write_text(alloc, form, node, output)
 }
 
 /// Serves a connection by the node of a file, of at most so many frames, and prints the journals.
@@ -127,27 +181,25 @@ pub(crate) fn audit_by_file<
     C: Clock,
     R: RelayLink,
     D: Door,
+    P: Fetch,
 >(
     rt: &W,
     alloc: Global,
     file: &mut F,
     input: &mut I,
     output: &mut O,
-    lanes: &mut [Lane<C, R, D>],
+    lanes: &mut [Lane<C, R, D, P>],
     frames: u64,
+    form: Form,
 ) -> Ending
     requires some { 0 < length lanes.old }
-    ensures audits { (words : List (String Global)) → Mean words (Audit frames)
-        → let before = touched (F.shown file.old) (I.shown input.old) (O.shown output.old)
-        (first_clock C.shown lanes.old) (first_link R.shown lanes.old) in
-        let after = touched (F.shown file.new) (I.shown input.new) (O.shown output.new)
-        (first_clock C.shown lanes.new) (first_link R.shown lanes.new) in
-        RunsAlone words before after result × IsStatus words before after (status_of result) }
-    ensures others { drop 1 lanes.new ≡ drop 1 lanes.old }
-    ensures doors { doors_of lanes.new ≡ doors_of lanes.old }
+    ensures audits { let at = called F.shown I.shown O.shown C.shown R.shown D.shown P.shown in
+        EndsAlone (audit_task form frames) (at file.old input.old output.old lanes.old).streams
+        (at file.new input.new output.new lanes.new).streams result }
+    ensures untouched { LeavesLanes lanes.old lanes.new }
 {
     match node_file_of(alloc, file, 0) {
-        Ok(opened) => Ending::Audited(audit(rt, alloc, opened, input, output, lanes, frames)),
+        Ok(opened) => Ending::Audited(audit(rt, alloc, opened, input, output, lanes, frames, form)),
         Err(fault) => Ending::File(fault),
     }
 }

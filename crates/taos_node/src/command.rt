@@ -1,25 +1,22 @@
 //! The top call: the words, the file, and then the work.
 
-ghost use Rattle.std.specs.Prelude.{◌≡◌, ◌⊎◌, ◌<◌, ◌≤◌, List, String, drop, length, map, IfOk, None};
+ghost use Rattle.std.specs.Prelude.{◌≡◌, ◌⊎◌, ◌<◌, ◌≤◌, String, length, IfOk, None};
 ghost use Rattle.std.specs.declared.alloc.Global.{Global};
 ghost use Rattle.agent_core.specs.declared.limits.TheConstants.{MAX_SHARDS};
 ghost use Rattle.agent_core.specs.Alone.{plans_in};
-ghost use Rattle.frame_link.specs.Relay.{Link};
 ghost use Rattle.frame_link.specs.Served.{line, HasCauses, IsComplete};
-ghost use Rattle.node_file.specs.Opening.{Opening as Meaning};
 ghost use Rattle.object_core.specs.OneOwner.{taken_from};
 ghost use Rattle.taos_monitor.specs.Planned.{ArePlanned};
-ghost use Rattle.taos_node.specs.Ending.{status_of};
 ghost use Rattle.frame_link.specs.Streams.{Stream};
-ghost use Rattle.taos_lanes.specs.Stocked.{shown_by};
 ghost use Rattle.taos_lanes.specs.Telling.{change, told_by};
 ghost use Rattle.taos_lanes.specs.declared.serving.TheConstants.{MAX_LANES};
-ghost use Rattle.taos_node.specs.Command.{Does, doors_of, touched, first_clock, first_link, Ends, ServesDoors, IsStatus, RunsAlone, ServesConnection, TellsDoors};
+ghost use Rattle.taos_node.specs.Calls.{LaneUsed, called, first_of, itself, touched};
+ghost use Rattle.taos_node.specs.Command.{Does, Ends, EndsAlone, IsStatus, LeavesLanes, ServesDoors, ServesFirst, TellsDoors};
 ghost use Rattle.taos_node.specs.Files.{FileHasCause, NodeFileGives};
-ghost use Rattle.taos_node.specs.Opened.{IsOpenedBy, IsSameNode, seen_by};
-ghost use Rattle.node_words.specs.Words.{Check, Mean};
+ghost use Rattle.taos_node.specs.Opened.{IsOpenedBy, IsSameNode, IsSmall, seen_by};
+ghost use Rattle.node_words.specs.Words.{Check};
 
-use crate::audit::audit_by_file;
+use crate::audit::{Form, audit_by_file};
 use crate::drill::drill_asked;
 use crate::ending::{Ending, FileFault, status_of};
 use crate::file::file_opening;
@@ -29,16 +26,20 @@ use crate::opened::{OpenNode, open_node};
 use crate::path::path_by_file;
 use crate::relay::{mint_by_file, relay_by_file};
 use crate::relay_lanes::serve_relay_by_file;
+use crate::replay::replay_by_file;
+use crate::wallet::wallet_by_file;
+use cred_pull::Fetch;
 use frame_link::{Clock, Door, Outcome, RelayLink, Sink, Source};
 use goal_search::Workbench;
 use lemma_memo::Lemmas;
 use node_check::check_connection;
 use node_words::{Wanted, wanted_of};
+use relay_core::OpenedCerts;
 use std::alloc::Global;
 use std::sync::Wait;
 use std::thread::Threads;
 use taos_lanes::{Lane, bench_of};
-use taos_monitor::serve_connection;
+use taos_monitor::Desk;
 
 /// The node that it opens, with the room that decisions take and that so many lemmas do.
 pub(crate) fn node_file_of<F: Source>(
@@ -52,6 +53,7 @@ pub(crate) fn node_file_of<F: Source>(
         (plans_in x.0.shards.shards)) }
     ensures none_taken { IfOk result (λ x. taken_from x.0.shelf ≡ None) }
     ensures few { IfOk result (λ x. length x.0.shards.shards ≤ MAX_SHARDS) }
+    ensures small { IfOk result (λ x. IsSmall x.0) }
     ensures cause { FileHasCause (F.shown file.old) (F.shown file.new) result }
 {
     let opening = file_opening(alloc, file)?;
@@ -60,56 +62,60 @@ pub(crate) fn node_file_of<F: Source>(
     Ok((node, bench))
 }
 
-/// Serves the connection of the first lane, of at most so many frames.
-pub(crate) fn serve_first<W: Wait + Sync, I: Source, O: Sink, C: Clock, R: RelayLink, D: Door>(
+/// Serves the connection of the first lane, of at most so many frames, with certificates that are
+/// fetched where `pulls` is set.
+pub(crate) fn serve_first<
+    W: Wait + Sync,
+    I: Source,
+    O: Sink,
+    C: Clock,
+    R: RelayLink,
+    D: Door,
+    P: Fetch,
+>(
     rt: &W,
     alloc: Global,
-    opened: &mut (OpenNode, Lemmas<Workbench>),
+    node: &mut OpenNode,
+    bench: &mut Lemmas<Workbench>,
     input: &mut I,
     output: &mut O,
-    lanes: &mut [Lane<C, R, D>],
+    lanes: &mut [Lane<C, R, D, P>],
+    pulls: bool,
     frames: u64,
 ) -> Outcome
     requires some { 0 < length lanes.old }
-    requires planned { ArePlanned opened.old.0.keys.channels.entries
-        (plans_in opened.old.0.shards.shards) }
-    requires none_taken { taken_from opened.old.0.shelf ≡ None }
-    ensures connection { (o : Meaning) (file0 file1 : Stream) → IsOpenedBy o opened.old.0
-        → let before = touched file0 (I.shown input.old) (O.shown output.old)
-        (first_clock C.shown lanes.old) (first_link R.shown lanes.old) in
-        let after = touched file1 (I.shown input.new) (O.shown output.new)
-        (first_clock C.shown lanes.new) (first_link R.shown lanes.new) in
-        (served : ServesConnection o frames before after result)
-        × (served.seen ≡ seen_by opened.new.0) }
-    ensures same { IsSameNode opened.old.0 opened.new.0 }
+    requires planned { ArePlanned node.old.keys.channels.entries
+        (plans_in node.old.shards.shards) }
+    requires none_taken { taken_from node.old.shelf ≡ None }
+    ensures connection { (file0 file1 : Stream)
+        → let at = called itself I.shown O.shown C.shown R.shown D.shown P.shown in
+        ServesFirst node.old pulls frames (at file0 input.old output.old lanes.old).streams
+        (at file1 input.new output.new lanes.new).streams (seen_by node.new) result }
+    ensures same { IsSameNode node.old node.new }
     ensures causes { HasCauses (λ faults. faults)
         (line (I.shown input.old) (O.shown output.old)
-        (first_clock C.shown lanes.old).faults)
+        (first_of C.shown R.shown P.shown lanes.old).clock.faults)
         (line (I.shown input.new) (O.shown output.new)
-        (first_clock C.shown lanes.new).faults) result }
+        (first_of C.shown R.shown P.shown lanes.new).clock.faults) result }
     ensures complete { IsComplete (λ faults. faults) frames
         (line (I.shown input.old) (O.shown output.old)
-        (first_clock C.shown lanes.old).faults)
+        (first_of C.shown R.shown P.shown lanes.old).clock.faults)
         (line (I.shown input.new) (O.shown output.new)
-        (first_clock C.shown lanes.new).faults) result }
-    ensures others { drop 1 lanes.new ≡ drop 1 lanes.old }
-    ensures doors { doors_of lanes.new ≡ doors_of lanes.old }
+        (first_of C.shown R.shown P.shown lanes.new).clock.faults) result }
+    ensures untouched { LeavesLanes lanes.old lanes.new }
 {
-    let (node, bench) = opened;
     let lane = &mut lanes[0];
-    serve_connection(
-        rt,
-        alloc,
-        &node.keys,
-        &mut node.shelf,
-        &mut node.shards,
-        &mut lane.relay,
-        &mut lane.clock,
+    let mut kept = OpenedCerts::new(alloc, &node.keys.relay_key);
+    let mut desk = Desk {
+        keys: &node.keys,
+        opened: &mut kept,
+        pulls,
+        shards: &mut node.shards,
+        shelf: &mut node.shelf,
         bench,
-        input,
-        output,
-        frames,
-    )
+    };
+    let mut outside = (&mut lane.clock, &mut lane.relay, &mut lane.fetch);
+    desk.serve(rt, alloc, &mut outside, input, output, frames)
 }
 
 // Looks over a request and its reply by the node that a file opens.
@@ -120,13 +126,9 @@ fn check_file<F: Source, I: Source, O: Sink>(
     output: &mut O,
 ) -> Ending
     // Whatever clock and link there are.
-    ensures checks { (words : List (String Global)) (clock : Stream) (relay : Link)
-        → Mean words Check
-        → let before = touched (F.shown file.old) (I.shown input.old)
-        (O.shown output.old) clock relay in
-        let after = touched (F.shown file.new) (I.shown input.new)
-        (O.shown output.new) clock relay in
-        RunsAlone words before after result × IsStatus words before after (status_of result) }
+    ensures checks { (lane : LaneUsed) → EndsAlone Check
+        (touched (F.shown file.old) (I.shown input.old) (O.shown output.old) lane)
+        (touched (F.shown file.new) (I.shown input.new) (O.shown output.new) lane) result }
 {
     match file_opening(alloc, file) {
         Ok(node) => Ending::Checked(check_connection(alloc, &node, input, output)),
@@ -143,6 +145,7 @@ fn run<
     C: Clock + Send,
     R: RelayLink + Send,
     D: Door + Send,
+    P: Fetch + Send,
 >(
     rt: &W,
     alloc: Global,
@@ -150,19 +153,14 @@ fn run<
     file: &mut F,
     input: &mut I,
     output: &mut O,
-    lanes: &mut [Lane<C, R, D>],
+    lanes: &mut [Lane<C, R, D, P>],
 ) -> Ending
     requires some { 0 < length lanes.old }
     requires few { length lanes.old ≤ MAX_LANES }
-    ensures runs { let before = touched (F.shown file.old) (I.shown input.old) (O.shown output.old)
-        (first_clock C.shown lanes.old) (first_link R.shown lanes.old) in
-        let after = touched (F.shown file.new) (I.shown input.new) (O.shown output.new)
-        (first_clock C.shown lanes.new) (first_link R.shown lanes.new) in
-        let shown = shown_by C.shown R.shown D.shown in
-        Does (told_by D.In.shown D.Out.shown) words.now (change before after)
-        (change (map shown lanes.old) (map shown lanes.new)) result }
-    ensures others { (ServesDoors words.now → ⊥) → drop 1 lanes.new ≡ drop 1 lanes.old }
-    ensures doors { (ServesDoors words.now → ⊥) → doors_of lanes.new ≡ doors_of lanes.old }
+    ensures runs { let at = called F.shown I.shown O.shown C.shown R.shown D.shown P.shown in
+        Does (told_by D.In.shown D.Out.shown) words.now (at file.old input.old output.old lanes.old)
+        (at file.new input.new output.new lanes.new) result }
+    ensures untouched { (ServesDoors words.now → ⊥) → LeavesLanes lanes.old lanes.new }
 {
     let Ok(found) = wanted_of(alloc, words) else {
         return Ending::NoMemory;
@@ -175,23 +173,30 @@ fn run<
         Wanted::Relay { frames } => relay_by_file(alloc, file, input, output, frames),
         Wanted::Mint(asked) => mint_by_file(alloc, file, output, &asked),
         Wanted::Path(asked) => path_by_file(alloc, file, input, output, &asked),
-        Wanted::Serve { limits, lemmas } => {
-            serve_by_file(rt, alloc, file, output, lanes, limits, lemmas)
-        }
+        Wanted::Serve {
+            limits,
+            lemmas,
+            pulls,
+        } => serve_by_file(rt, alloc, file, output, lanes, limits, lemmas, pulls),
         Wanted::RelayServe(limits) => {
             serve_relay_by_file(rt, alloc, file, output, lanes, limits)
         }
         Wanted::Drill(asked) => drill_asked(rt, alloc, asked, output),
-        Wanted::Audit { frames } => { audit_by_file(rt, alloc, file, input, output, lanes, frames) }
-        Wanted::Run { frames, lemmas } => match node_file_of(alloc, file, lemmas) {
-            Ok(mut opened) => Ending::Served(serve_first(
-                rt,
-                alloc,
-                &mut opened,
-                input,
-                output,
-                lanes,
-                frames,
+        Wanted::Audit { frames } => {
+            audit_by_file(rt, alloc, file, input, output, lanes, frames, Form::Text)
+        }
+        Wanted::AuditBytes { frames } => {
+            audit_by_file(rt, alloc, file, input, output, lanes, frames, Form::Bytes)
+        }
+        Wanted::Replay => replay_by_file(alloc, file, input, output),
+        Wanted::Wallet { frames } => wallet_by_file(alloc, file, input, output, frames),
+        Wanted::Run {
+            frames,
+            lemmas,
+            pulls,
+        } => match node_file_of(alloc, file, lemmas) {
+            Ok((mut node, mut bench)) => Ending::Served(serve_first(
+                rt, alloc, &mut node, &mut bench, input, output, lanes, pulls, frames,
             )),
             Err(fault) => Ending::File(fault),
         },
@@ -199,15 +204,16 @@ fn run<
 }
 
 /// Does all that the program does, and answers its exit status. The command lines are `run` with
-/// `--frames N` and `--lemmas N` or without, `serve` with these and `--connections N` or without,
+/// `--frames N`, `--lemmas N` and `--pull` or without, `serve` with these and `--connections N` or without,
 /// `check`, `relay` with `--frames N` or without, `relay-serve` with `--connections N` and
 /// `--frames N` or without, `mint` with what a certificate is to say, `path` with `--node N` and
-/// `--route LIST`, `audit` with `--frames N` or without, and `drill` with a number and how many
-/// requests and lanes. `run`, `serve`, `audit` and `check` read the file to a node's opening,
+/// `--route LIST`, `audit` and `wallet` with `--frames N` or without, and `drill` with a number and how
+/// many requests and lanes. `run`, `serve`, `audit` and `check` read the file to a node's opening,
 /// `relay`, `relay-serve` and `mint` to what a relay knows, `path` to what domains of relays know;
-/// `drill` reads none. By `run` each request frame of the input, of at most N or a million, is
+/// `wallet` to the certificates of a caller's channels; `drill` reads none. By `run` each request frame of the input, of at most N or a million, is
 /// answered by one reply frame of the output, by a node of that opening whose journals are empty at
-/// first, with the first lane's clock and its link to the relay. By `serve` a worker for each lane
+/// first, with the first lane's clock and its link to the relay. With `--pull` it fetches certificates
+/// for each request, by the lane's fetch. By `serve` a worker for each lane
 /// serves connections of the lane's door, all at the same time, by one node of that opening whose
 /// journals are empty at first, and one line of the output says what was counted. By `check` the
 /// frames of a request and its reply are looked over, and one line of the output says what is
@@ -216,8 +222,8 @@ fn run<
 /// line of the output is the certificate. By `path` the certificate of the first frame passes along
 /// the route, and the output has a line of what each domain sealed. By `audit` a connection is
 /// served as by `run`, and the output has the text of the journals in place of the replies. By
-/// `drill` a node serves a load that is made of the number, and one line says what it came to. A
-/// note tells how it ended.
+/// `drill` a node serves a load that is made of the number, and one line says what it came to. By
+/// `wallet` each frame of the input that asks for a channel's certificates is given them. A note tells how it ended.
 pub fn taos<
     W: Threads + Wait + Sync,
     F: Source,
@@ -227,6 +233,7 @@ pub fn taos<
     C: Clock + Send,
     R: RelayLink + Send,
     D: Door + Send,
+    P: Fetch + Send,
 >(
     rt: &W,
     alloc: Global,
@@ -235,7 +242,7 @@ pub fn taos<
     input: &mut I,
     output: &mut O,
     notes: &mut N,
-    lanes: &mut [Lane<C, R, D>],
+    lanes: &mut [Lane<C, R, D, P>],
 ) -> u8
     requires some { 0 < length lanes.old }
     requires few { length lanes.old ≤ MAX_LANES }
@@ -246,23 +253,27 @@ pub fn taos<
     // lanes' steps interleave, and the line is written of what was counted; or the line of what a
     // request and its reply show; or a relay answers each frame; or the line of a certificate is
     // written, or those of what domains sealed. The note and the status tell how it ended.
-    ensures run { let before = touched (F.shown file.old) (I.shown input.old) (O.shown output.old)
-        (first_clock C.shown lanes.old) (first_link R.shown lanes.old) in
-        let after = touched (F.shown file.new) (I.shown input.new) (O.shown output.new)
-        (first_clock C.shown lanes.new) (first_link R.shown lanes.new) in
-        let shown = shown_by C.shown R.shown D.shown in
-        let doors = change (map shown lanes.old) (map shown lanes.new) in
-        Ends (told_by D.In.shown D.Out.shown) words.now (change before after) doors
-        (change (N.shown notes.old) (N.shown notes.new)) result
-        × IsStatus words.now before after result
-        × TellsDoors words.now (change before after) doors result }
+    ensures did { let at = called F.shown I.shown O.shown C.shown R.shown D.shown P.shown in
+        Ends (told_by D.In.shown D.Out.shown) words.now (at file.old input.old output.old lanes.old)
+        (at file.new input.new output.new lanes.new)
+        (change (N.shown notes.old) (N.shown notes.new)) result }
+
+    // Whatever was done: the words decide status 1 and the file status 2, what can come to its end
+    // does, and a fault is answered where there was one, and only there.
+    ensures status { let at = called F.shown I.shown O.shown C.shown R.shown D.shown P.shown in
+        IsStatus words.now (at file.old input.old output.old lanes.old).streams
+        (at file.new input.new output.new lanes.new).streams result }
+
+    // What the status tells of the lanes' doors.
+    ensures doors { let at = called F.shown I.shown O.shown C.shown R.shown D.shown P.shown in
+        TellsDoors words.now (at file.old input.old output.old lanes.old)
+        (at file.new input.new output.new lanes.new) result }
 
     // Success has no note, nor what a check refused.
     ensures silent { (result ≡ 0) ⊎ (result ≡ 11) → notes.new ≡ notes.old }
 
     // No other command touches another lane than the first, nor the door of any.
-    ensures others { (ServesDoors words.now → ⊥) → drop 1 lanes.new ≡ drop 1 lanes.old }
-    ensures doors { (ServesDoors words.now → ⊥) → doors_of lanes.new ≡ doors_of lanes.old }
+    ensures untouched { (ServesDoors words.now → ⊥) → LeavesLanes lanes.old lanes.new }
 {
     let ending = run(rt, alloc, words, file, input, output, lanes);
     tell(notes, ending);

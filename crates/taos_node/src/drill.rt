@@ -1,21 +1,21 @@
 //! The command that serves a load that is made.
 
-ghost use Rattle.std.specs.Prelude.{◌≡◌, ◌≤◌, IfOk, List, String, length, map};
+ghost use Rattle.std.specs.Prelude.{◌≡◌, ◌≤◌, IfOk, length, map};
 ghost use Rattle.taos_lanes.specs.Serving.{left_by};
 ghost use Rattle.taos_wire.specs.View.{text_of};
 ghost use Rattle.taos_drill.specs.declared.numbers.TheConstants.{MAX_LANES, MAX_REQUESTS};
 ghost use Rattle.taos_node.specs.Drills.{AreDrillLanes, DrillCauses, Drills, IsDrillLane, ServesDrill, drill_shown};
 ghost use Rattle.node_words.specs.Words as task;
-ghost use Rattle.node_words.specs.Words.{Mean, drill_words};
-ghost use Rattle.taos_node.specs.Command.{IsStatus, RunsAlone, touched};
-ghost use Rattle.taos_node.specs.Ending.{status_of};
-ghost use Rattle.frame_link.specs.Relay.{Link};
+ghost use Rattle.node_words.specs.Words.{drill_words};
+ghost use Rattle.taos_node.specs.Calls.{LaneUsed, touched};
+ghost use Rattle.taos_node.specs.Command.{EndsAlone};
 ghost use Rattle.frame_link.specs.Streams.{Stream};
 ghost use Rattle.std.specs.declared.alloc.Global.{Global};
 
 use crate::ending::{DrillEnd, Ending};
 use crate::opened::open_parts;
 use crate::summary::drill_line;
+use cred_pull::NoFetch;
 use drill_law::loads_are_counted;
 use frame_link::{Failed, Limits, MemClock, MemDoor, MemSource, NoRelay, Sink, pour};
 use node_words::Drill;
@@ -25,7 +25,7 @@ use std::thread::Threads;
 use taos_drill::{DrillPlan, GrowingSink, MAX_LANES, MAX_REQUESTS, READING};
 use taos_lanes::{Lane, Served, serve};
 
-type DrillLane = Lane<MemClock, NoRelay, MemDoor<MemSource, GrowingSink>>;
+type DrillLane = Lane<MemClock, NoRelay, MemDoor<MemSource, GrowingSink>, NoFetch>;
 
 // A lane whose door has one connection, which sends these bytes.
 fn lane_of(alloc: Global, bytes: Vec<u8>) -> Result<DrillLane, AllocError>
@@ -39,7 +39,7 @@ fn lane_of(alloc: Global, bytes: Vec<u8>) -> Result<DrillLane, AllocError>
     let mut readings = Vec::with_capacity(alloc, 1)?;
     readings.push(READING)?;
     let clock = MemClock::new(readings, Vec::new(alloc));
-    Ok(Lane::of(clock, NoRelay::new(), door))
+    Ok(Lane::of(clock, NoRelay::new(), door, NoFetch::new()))
 }
 
 // The lanes of a load, in order.
@@ -73,7 +73,7 @@ fn serve_load<W: Threads + Wait + Sync>(
         connections: 1,
         frames: asked.requests as u64,
     };
-    let served = serve(rt, alloc, parts, &mut lanes, limits, 0)?;
+    let served = serve(rt, alloc, parts, &mut lanes, limits, 0, false)?;
     Ok(served)
 }
 
@@ -114,11 +114,9 @@ pub(crate) fn drill_asked<W: Threads + Wait + Sync, O: Sink>(
     output: &mut O,
 ) -> Ending
     // Whatever file, input, clock and link there are.
-    ensures drills { (words : List (String Global)) (file input clock : Stream) (relay : Link)
-        → Mean words (task.Drill (drill_words asked))
-        → let before = touched file input (O.shown output.old) clock relay in
-        let after = touched file input (O.shown output.new) clock relay in
-        RunsAlone words before after result × IsStatus words before after (status_of result) }
+    ensures drills { (file input : Stream) (lane : LaneUsed) → EndsAlone (task.Drill (drill_words asked))
+        (touched file input (O.shown output.old) lane)
+        (touched file input (O.shown output.new) lane) result }
 {
     // Words mean no other load.
     if asked.requests > MAX_REQUESTS {

@@ -3,13 +3,17 @@
 ghost use Rattle.std.specs.Prelude.{◌≡◌, ◌≤◌, Vec, length, map, IfErr, IfOk};
 ghost use Rattle.std.specs.declared.alloc.Global.{Global};
 ghost use Rattle.node_file.specs.Meaning.{opening, FitsByNumber};
+ghost use Rattle.node_file.specs.Opening.{FitsOpening};
 ghost use Rattle.node_file.specs.OpeningView.{Represents};
 ghost use Rattle.node_file.specs.RelayView.{StandsFor};
 ghost use Rattle.relay_path.specs.Domains.{LinksAgree, knows};
 ghost use Rattle.relay_path.specs.PathView.{StandForDomains, file_fault};
-ghost use Rattle.taos_node.specs.Files.{fault_of, FileHasCause, IsRead, IsUnread, NodeFileGives, PathFileGives, RelayFileGives};
+ghost use Rattle.cred_pull.specs.WalletFile.{AreShort};
+ghost use Rattle.cred_pull.specs.WalletView.{file_fault as wallet_file_fault, rows_of};
+ghost use Rattle.taos_node.specs.Files.{fault_of, FileHasCause, IsRead, IsUnread, NodeFileGives, PathFileGives, RelayFileGives, WalletFileGives};
 
 use crate::ending::FileFault;
+use cred_pull::{Wallet, WalletFault, read_wallet};
 use frame_link::{Source, fill};
 use node_file::{
     FileCause, FileFault as Refusal, MAX_FILE, Opening, RelayFile, read_opening, read_relay_file,
@@ -53,6 +57,7 @@ fn fault_of(refusal: Refusal) -> FileFault
 pub fn file_opening<F: Source>(alloc: Global, file: &mut F) -> Result<Opening, FileFault>
     ensures gives { NodeFileGives (λ o x. Represents x o) (F.shown file.old)
         (F.shown file.new) result }
+    ensures whole { IfOk result (λ x. FitsOpening (opening x)) }
     ensures fits { IfOk result (λ x. FitsByNumber (opening x)) }
     ensures cause { FileHasCause (F.shown file.old) (F.shown file.new) result }
 {
@@ -100,5 +105,31 @@ pub(crate) fn file_domains<F: Source>(alloc: Global, file: &mut F) -> Result<Vec
     match read_path_file(alloc, &bytes) {
         Ok(domains) => Ok(domains),
         Err(refusal) => Err(path_fault_of(refusal)),
+    }
+}
+
+fn wallet_fault_of(refusal: WalletFault) -> FileFault
+    ensures { result ≡ fault_of (wallet_file_fault refusal) }
+{
+    match refusal {
+        WalletFault::Line { line, cause } => FileFault::Refused {
+            line,
+            cause: FileCause::from(cause),
+        },
+        WalletFault::NoMemory => FileFault::NoMemory,
+    }
+}
+
+/// The wallet of a file.
+pub fn file_wallet<F: Source>(alloc: Global, file: &mut F) -> Result<Wallet, FileFault>
+    ensures gives { WalletFileGives (λ rows w. rows_of w ≡ rows) (F.shown file.old)
+        (F.shown file.new) result }
+    ensures short { IfOk result (λ w. AreShort (rows_of w)) }
+    ensures cause { FileHasCause (F.shown file.old) (F.shown file.new) result }
+{
+    let bytes = file_bytes(alloc, file)?;
+    match read_wallet(alloc, &bytes) {
+        Ok(wallet) => Ok(wallet),
+        Err(refusal) => Err(wallet_fault_of(refusal)),
     }
 }

@@ -1,6 +1,6 @@
 //! The command that serves the lanes of a node.
 
-ghost use Rattle.std.specs.Prelude.{◌<◌, ◌≤◌, IfOk, List, String, length, map};
+ghost use Rattle.std.specs.Prelude.{◌<◌, ◌≤◌, IfOk, length, map};
 ghost use Rattle.std.specs.declared.alloc.Global.{Global};
 ghost use Rattle.frame_link.specs.Streams.{Stream};
 ghost use Rattle.node_file.specs.Opening.{Opening as Meaning};
@@ -9,16 +9,18 @@ ghost use Rattle.taos_lanes.specs.Serving.{left_by};
 ghost use Rattle.taos_lanes.specs.Stocked.{shown_by};
 ghost use Rattle.taos_lanes.specs.Telling.{change, told_by};
 ghost use Rattle.taos_lanes.specs.declared.serving.TheConstants.{MAX_LANES};
-ghost use Rattle.taos_node.specs.Command.{Does, first_clock, first_link, touched};
+ghost use Rattle.taos_node.specs.Calls.{called, itself};
+ghost use Rattle.taos_node.specs.Command.{DoesFor};
 ghost use Rattle.taos_node.specs.Files.{FileHasCause, NodeFileGives};
 ghost use Rattle.taos_node.specs.Lanes.{LanesCauses, Prints, PrintsLine, ServesLanes};
 ghost use Rattle.taos_node.specs.Opened.{IsNodeOf};
-ghost use Rattle.node_words.specs.Words.{Mean, Serve, serve_words};
+ghost use Rattle.node_words.specs.Words.{Serve, serve_words};
 
 use crate::ending::{Ending, FileFault, LanesEnd};
 use crate::file::file_opening;
 use crate::opened::open_parts;
 use crate::summary::lanes_line;
+use cred_pull::Fetch;
 use frame_link::{Clock, Door, Failed, Limits, RelayLink, Sink, Source, pour};
 use std::alloc::{AllocError, Global};
 use std::sync::Wait;
@@ -75,26 +77,28 @@ fn serve_parts<
     C: Clock + Send,
     R: RelayLink + Send,
     D: Door + Send,
+    P: Fetch + Send,
 >(
     rt: &W,
     alloc: Global,
     parts: NodeParts,
     output: &mut O,
-    lanes: &mut [Lane<C, R, D>],
+    lanes: &mut [Lane<C, R, D, P>],
     limits: Limits,
     lemmas: u32,
+    pulls: bool,
 ) -> LanesEnd
     requires some { 0 < length lanes.old }
     requires few { length lanes.old ≤ MAX_LANES }
     requires new { ArePartsNew parts }
     ensures serves { (o : Meaning) → IsNodeOf o (node_in parts)
-        → let shown = shown_by C.shown R.shown D.shown in
-        ServesLanes (told_by D.In.shown D.Out.shown) o limits
+        → let shown = shown_by C.shown R.shown D.shown P.shown in
+        ServesLanes (told_by D.In.shown D.Out.shown) o pulls limits
         (change (map shown lanes.old) (map shown lanes.new))
         (change (O.shown output.old).told (O.shown output.new).told) result }
     ensures cause { LanesCauses (O.shown output.old).faults (O.shown output.new).faults result }
 {
-    match serve(rt, alloc, parts, lanes, limits, lemmas) {
+    match serve(rt, alloc, parts, lanes, limits, lemmas, pulls) {
         Ok(served) => print(output, &served),
         Err(AllocError) => LanesEnd::NoMemory,
     }
@@ -108,30 +112,29 @@ pub(crate) fn serve_by_file<
     C: Clock + Send,
     R: RelayLink + Send,
     D: Door + Send,
+    P: Fetch + Send,
 >(
     rt: &W,
     alloc: Global,
     file: &mut F,
     output: &mut O,
-    lanes: &mut [Lane<C, R, D>],
+    lanes: &mut [Lane<C, R, D, P>],
     limits: Limits,
     lemmas: u32,
+    pulls: bool,
 ) -> Ending
     requires some { 0 < length lanes.old }
     requires few { length lanes.old ≤ MAX_LANES }
     // Whatever input there is.
-    ensures serves { (words : List (String Global)) (input : Stream)
-        → Mean words (Serve (serve_words limits lemmas))
-        → let before = touched (F.shown file.old) input (O.shown output.old)
-        (first_clock C.shown lanes.old) (first_link R.shown lanes.old) in
-        let after = touched (F.shown file.new) input (O.shown output.new)
-        (first_clock C.shown lanes.new) (first_link R.shown lanes.new) in
-        let shown = shown_by C.shown R.shown D.shown in
-        Does (told_by D.In.shown D.Out.shown) words (change before after)
-        (change (map shown lanes.old) (map shown lanes.new)) result }
+    ensures serves { (input : Stream)
+        → let at = called F.shown itself O.shown C.shown R.shown D.shown P.shown in
+        DoesFor (told_by D.In.shown D.Out.shown) (Serve (serve_words limits lemmas pulls))
+        (at file.old input output.old lanes.old) (at file.new input output.new lanes.new) result }
 {
     match node_parts_of(alloc, file) {
-        Ok(parts) => Ending::Lanes(serve_parts(rt, alloc, parts, output, lanes, limits, lemmas)),
+        Ok(parts) => Ending::Lanes(serve_parts(
+            rt, alloc, parts, output, lanes, limits, lemmas, pulls,
+        )),
         Err(fault) => Ending::File(fault),
     }
 }

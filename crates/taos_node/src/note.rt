@@ -1,18 +1,15 @@
 //! The one line that tells an ending in words.
 
 ghost use Rattle.std.specs.Prelude.{◌≡◌, ◌⊎◌, ◌≤◌, ◌++◌, length, decimal};
-ghost use Rattle.taos_node.specs.Ending.{status_of};
-ghost use Rattle.taos_node.specs.Minting.{minted_note, word_text};
-ghost use Rattle.taos_node.specs.Paths.{path_note};
-ghost use Rattle.taos_node.specs.Notes.{audited_note, cause_text, checked_note, drilled_note, file_note, lanes_note, served_note, note_of, IsNoted};
+ghost use Rattle.taos_node.specs.Stops.{status_of};
+ghost use Rattle.taos_node.specs.Notes.{IsNoted, cause_text, note_of, stop_note, word_text};
 
-use crate::ending::{AuditEnd, DrillEnd, Ending, FileFault, LanesEnd};
-use crate::minting::{MintEnd, MintWord};
-use crate::path::PathEnd;
+use crate::ending::Ending;
+use crate::minting::MintWord;
+use crate::stop::{Stop, stop_of};
 use arrayvec::ArrayVec;
-use frame_link::{Outcome, Sink, pour};
+use frame_link::{Sink, pour};
 use itoa::Buffer;
-use node_check::CheckEnd;
 use node_file::FileCause;
 
 // A note has no more bytes than this.
@@ -69,53 +66,12 @@ fn cause_text(cause: FileCause) -> &'static [u8]
 
 // The note of a line that is refused.
 fn of_line(number: u32, cause: FileCause) -> ArrayVec<u8, ROOM>
-    ensures { result.items ≡ file_note (FileFault.Refused number cause) }
+    ensures { result.items ≡ stop_note (Stop.Line number cause) }
 {
     let mut line = numbered(b"taos: node file: line ", number as u64, b": ");
     line.try_extend_from_slice(cause_text(cause)).unwrap();
     line.try_extend_from_slice(b"\n").unwrap();
     line
-}
-
-fn of_file(fault: FileFault) -> ArrayVec<u8, ROOM>
-    ensures { result.items ≡ file_note fault }
-{
-    match fault {
-        FileFault::ReadFault => plain(b"taos: read fault\n"),
-        FileFault::Refused { line, cause } => of_line(line, cause),
-        FileFault::Malformed { offset } => {
-            numbered(b"taos: node file: byte ", offset as u64, b": malformed\n")
-        }
-        FileFault::NoMemory => plain(b"taos: no memory\n"),
-    }
-}
-
-fn of_served(outcome: Outcome) -> ArrayVec<u8, ROOM>
-    ensures { result.items ≡ served_note outcome }
-{
-    match outcome {
-        Outcome::End { .. } => plain(b""),
-        Outcome::Truncated { have } => {
-            numbered(b"taos: input ends inside a frame, ", have, b" bytes kept\n")
-        }
-        Outcome::TooLong { length } => numbered(b"taos: frame too long: ", length as u64, b"\n"),
-        Outcome::ReadFault => plain(b"taos: read fault\n"),
-        Outcome::WriteFault => plain(b"taos: write fault\n"),
-        Outcome::ClockFault => plain(b"taos: clock fault\n"),
-        Outcome::Spent { frames } => numbered(b"taos: frames spent: ", frames, b"\n"),
-        Outcome::NoMemory => plain(b"taos: no memory\n"),
-    }
-}
-
-fn of_checked(end: CheckEnd) -> ArrayVec<u8, ROOM>
-    ensures { result.items ≡ checked_note end }
-{
-    match end {
-        CheckEnd::Done(_) => plain(b""),
-        CheckEnd::ReadFault => plain(b"taos: read fault\n"),
-        CheckEnd::WriteFault => plain(b"taos: write fault\n"),
-        CheckEnd::NoMemory => plain(b"taos: no memory\n"),
-    }
 }
 
 fn word_text(word: MintWord) -> &'static [u8]
@@ -134,7 +90,7 @@ fn word_text(word: MintWord) -> &'static [u8]
 
 // The note of a word of `mint` that is refused.
 fn of_word(word: MintWord) -> ArrayVec<u8, ROOM>
-    ensures { result.items ≡ minted_note (MintEnd.Refused word) }
+    ensures { result.items ≡ stop_note (Stop.Word word) }
 {
     let mut line = plain(b"taos: mint refused: ");
     line.try_extend_from_slice(word_text(word)).unwrap();
@@ -142,20 +98,9 @@ fn of_word(word: MintWord) -> ArrayVec<u8, ROOM>
     line
 }
 
-fn of_minted(end: MintEnd) -> ArrayVec<u8, ROOM>
-    ensures { result.items ≡ minted_note end }
-{
-    match end {
-        MintEnd::Done => plain(b""),
-        MintEnd::Refused(word) => of_word(word),
-        MintEnd::WriteFault => plain(b"taos: write fault\n"),
-        MintEnd::NoMemory => plain(b"taos: no memory\n"),
-    }
-}
-
 // The note of a route that stops at this place, by this code.
-fn of_stop(hop: u8, code: u8) -> ArrayVec<u8, ROOM>
-    ensures { result.items ≡ path_note (PathEnd.Refused hop code) }
+fn of_hop(hop: u8, code: u8) -> ArrayVec<u8, ROOM>
+    ensures { result.items ≡ stop_note (Stop.Hop hop code) }
 {
     let mut digits = Buffer::new();
     let mut line = numbered(b"taos: path refused: hop ", hop as u64, b" code ");
@@ -165,65 +110,38 @@ fn of_stop(hop: u8, code: u8) -> ArrayVec<u8, ROOM>
     line
 }
 
-fn of_passed(end: PathEnd) -> ArrayVec<u8, ROOM>
-    ensures { result.items ≡ path_note end }
+// The note of a stop: none where a line of the output says it.
+fn stop_note(stop: Stop) -> ArrayVec<u8, ROOM>
+    ensures { result.items ≡ stop_note stop }
 {
-    match end {
-        PathEnd::Done => plain(b""),
-        PathEnd::Refused { hop, code } => of_stop(hop, code),
-        PathEnd::ReadFault => plain(b"taos: read fault\n"),
-        PathEnd::WriteFault => plain(b"taos: write fault\n"),
-        PathEnd::NoMemory => plain(b"taos: no memory\n"),
-    }
-}
-
-fn of_lanes(end: LanesEnd) -> ArrayVec<u8, ROOM>
-    ensures { result.items ≡ lanes_note end }
-{
-    match end {
-        LanesEnd::Done => plain(b""),
-        LanesEnd::DoorFault { lane } => numbered(b"taos: door fault at lane ", lane, b"\n"),
-        LanesEnd::WriteFault => plain(b"taos: write fault\n"),
-        LanesEnd::NoMemory => plain(b"taos: no memory\n"),
-    }
-}
-
-fn of_audited(end: AuditEnd) -> ArrayVec<u8, ROOM>
-    ensures { result.items ≡ audited_note end }
-{
-    match end {
-        AuditEnd::Done => plain(b""),
-        AuditEnd::Stopped(outcome) => of_served(outcome),
-        AuditEnd::WriteFault => plain(b"taos: write fault\n"),
-        AuditEnd::NoMemory => plain(b"taos: no memory\n"),
-    }
-}
-
-fn of_drilled(end: DrillEnd) -> ArrayVec<u8, ROOM>
-    ensures { result.items ≡ drilled_note end }
-{
-    match end {
-        DrillEnd::Done => plain(b""),
-        DrillEnd::WriteFault => plain(b"taos: write fault\n"),
-        DrillEnd::NoMemory => plain(b"taos: no memory\n"),
+    match stop {
+        Stop::Usage => plain(b"taos: usage\n"),
+        Stop::Line { line, cause } => of_line(line, cause),
+        Stop::Malformed { offset } => {
+            numbered(b"taos: node file: byte ", offset as u64, b": malformed\n")
+        }
+        Stop::ReadFault => plain(b"taos: read fault\n"),
+        Stop::WriteFault => plain(b"taos: write fault\n"),
+        Stop::ClockFault => plain(b"taos: clock fault\n"),
+        Stop::NoMemory => plain(b"taos: no memory\n"),
+        Stop::Truncated { have } => {
+            numbered(b"taos: input ends inside a frame, ", have, b" bytes kept\n")
+        }
+        Stop::TooLong { length } => numbered(b"taos: frame too long: ", length as u64, b"\n"),
+        Stop::DoorFault { lane } => numbered(b"taos: door fault at lane ", lane, b"\n"),
+        Stop::Spent { frames } => numbered(b"taos: frames spent: ", frames, b"\n"),
+        Stop::Word(word) => of_word(word),
+        Stop::Hop { hop, code } => of_hop(hop, code),
+        Stop::NotGranted | Stop::Illegal => plain(b""),
     }
 }
 
 fn note_of(ending: Ending) -> ArrayVec<u8, ROOM>
     ensures { result.items ≡ note_of ending }
 {
-    match ending {
-        Ending::Usage => plain(b"taos: usage\n"),
-        Ending::NoMemory => plain(b"taos: no memory\n"),
-        Ending::File(fault) => of_file(fault),
-        Ending::Served(outcome) => of_served(outcome),
-        Ending::Checked(end) => of_checked(end),
-        Ending::Relayed(outcome) => of_served(outcome),
-        Ending::Minted(end) => of_minted(end),
-        Ending::Lanes(end) | Ending::RelayLanes(end) => of_lanes(end),
-        Ending::Audited(end) => of_audited(end),
-        Ending::Drilled(end) => of_drilled(end),
-        Ending::Passed(end) => of_passed(end),
+    match stop_of(ending) {
+        None => plain(b""),
+        Some(stop) => stop_note(stop),
     }
 }
 
@@ -232,8 +150,9 @@ fn note_of(ending: Ending) -> ArrayVec<u8, ROOM>
 pub fn tell<N: Sink>(notes: &mut N, ending: Ending)
     ensures told { IsNoted (N.shown notes.old).told (N.shown notes.new).told
         (N.shown notes.old).faults (N.shown notes.new).faults (note_of ending) }
-    // Success has no note, nor what a check refused.
-    ensures silent { (status_of ending ≡ 0) ⊎ (status_of ending ≡ 11) → notes.new ≡ notes.old }
+    // Success has no note, nor what a check refused, nor what a replay found.
+    ensures silent { (status_of ending ≡ 0) ⊎ ((status_of ending ≡ 11) ⊎ (status_of ending ≡ 14))
+        → notes.new ≡ notes.old }
 {
     let note = note_of(ending);
     if !note.is_empty() {

@@ -5,13 +5,14 @@ ghost use Rattle.object_core.specs.OneOwner.{taken_from};
 ghost use Rattle.agent_core.specs.declared.limits.TheConstants.{MAX_SHARDS};
 ghost use Rattle.agent_core.specs.Alone.{plans_in};
 ghost use Rattle.agent_core.specs.Opened.{new_shard};
+ghost use Rattle.node_file.specs.declared.limits.TheConstants.{MAX_OBJECTS};
 ghost use Rattle.node_file.specs.Meaning.{opening, FitsByNumber};
 ghost use Rattle.node_file.specs.Opening.{Opening as Meaning};
 ghost use Rattle.node_file.specs.OpeningView.{Represents};
 ghost use Rattle.taos_monitor.specs.Planned.{ArePlanned};
 ghost use Rattle.taos_lanes.specs.Parts.{ArePartsNew, node_in};
 ghost use Rattle.node_open.specs.Cells.{its_plans, new_object};
-ghost use Rattle.taos_node.specs.Opened.{IsNodeOf, IsOpenedBy};
+ghost use Rattle.taos_node.specs.Opened.{IsNodeOf, IsOpenedBy, IsSmall};
 
 use agent_core::Lone;
 use keyed_seal::Sealer;
@@ -60,12 +61,14 @@ pub(crate) fn open_parts(alloc: Global, node: Opening) -> Result<NodeParts, Allo
 /// The node of an opening, with empty journals. All memory that its shards and objects want is taken
 /// here.
 pub(crate) fn open_node(alloc: Global, node: Opening) -> Result<OpenNode, AllocError>
-    requires { FitsByNumber (opening node) }
+    requires fits { FitsByNumber (opening node) }
+    requires objects { length node.objects ≤ MAX_OBJECTS }
     ensures opened { IfOk result (λ n. (o : Meaning) → Represents node o → IsOpenedBy o n) }
     ensures planned { IfOk result (λ n. ArePlanned n.keys.channels.entries
         (plans_in n.shards.shards)) }
     ensures none_taken { IfOk result (λ n. taken_from n.shelf ≡ None) }
     ensures few { IfOk result (λ n. length n.shards.shards ≤ MAX_SHARDS) }
+    ensures small { IfOk result IsSmall }
 {
     let parts = open_parts(alloc, node)?;
     Ok(OpenNode {

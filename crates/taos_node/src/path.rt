@@ -1,19 +1,17 @@
 //! The command that passes a certificate along a route of domains.
 
-ghost use Rattle.std.specs.Prelude.{◌≡◌, [], List, String, IfErr, IfOk, map};
+ghost use Rattle.std.specs.Prelude.{◌≡◌, [], IfErr, IfOk, map};
 ghost use Rattle.std.specs.Option.{option_map};
 ghost use Rattle.std.specs.declared.alloc.Global.{Global};
-ghost use Rattle.frame_link.specs.Relay.{Link};
-ghost use Rattle.frame_link.specs.Streams.{Stream};
 ghost use Rattle.frame_link.specs.declared.frame.Next.TheVariants as next;
 ghost use Rattle.frame_link.specs.Faults.{HasCause};
 ghost use Rattle.node_check.specs.Findings.{TakesNext, TakesOne};
 ghost use Rattle.node_words.specs.Words as task;
-ghost use Rattle.node_words.specs.Words.{Mean, path_words};
+ghost use Rattle.node_words.specs.Words.{path_words};
 ghost use Rattle.relay_core.specs.declared.message.TheConstants.{MAX_CERT};
 ghost use Rattle.relay_path.specs.Domains.{LinksAgree, knows};
-ghost use Rattle.taos_node.specs.Command.{IsStatus, RunsAlone, touched};
-ghost use Rattle.taos_node.specs.Ending.{status_of};
+ghost use Rattle.taos_node.specs.Calls.{LaneUsed, touched};
+ghost use Rattle.taos_node.specs.Command.{EndsAlone};
 ghost use Rattle.taos_node.specs.Paths.{AreLines, HasNoLines, PathCauses, Passes, bytes_or_none};
 
 use crate::ending::Ending;
@@ -145,13 +143,9 @@ pub(crate) fn path_by_file<F: Source, I: Source, O: Sink>(
     asked: &Path,
 ) -> Ending
     // Whatever clock and link there are.
-    ensures passes { (words : List (String Global)) (clock : Stream) (relay : Link)
-        → Mean words (task.Path (path_words asked.now))
-        → let before = touched (F.shown file.old) (I.shown input.old)
-        (O.shown output.old) clock relay in
-        let after = touched (F.shown file.new) (I.shown input.new)
-        (O.shown output.new) clock relay in
-        RunsAlone words before after result × IsStatus words before after (status_of result) }
+    ensures passes { (lane : LaneUsed) → EndsAlone (task.Path (path_words asked.now))
+        (touched (F.shown file.old) (I.shown input.old) (O.shown output.old) lane)
+        (touched (F.shown file.new) (I.shown input.new) (O.shown output.new) lane) result }
 {
     match file_domains(alloc, file) {
         Ok(domains) => Ending::Passed(pass(alloc, &domains, asked, input, output)),

@@ -1,12 +1,10 @@
 //! The commands that want a relay file: a relay that serves, and making a certificate.
 
-ghost use Rattle.std.specs.Prelude.{List, String};
 ghost use Rattle.std.specs.declared.alloc.Global.{Global};
-ghost use Rattle.frame_link.specs.Relay.{Link};
 ghost use Rattle.frame_link.specs.Streams.{Stream};
-ghost use Rattle.taos_node.specs.Ending.{status_of};
-ghost use Rattle.taos_node.specs.Command.{touched, RunsAlone, IsStatus};
-ghost use Rattle.node_words.specs.Words.{Mean, Mint, Relay, mint_words};
+ghost use Rattle.taos_node.specs.Calls.{LaneUsed, touched};
+ghost use Rattle.taos_node.specs.Command.{EndsAlone};
+ghost use Rattle.node_words.specs.Words.{Mint, Relay, mint_words};
 
 use crate::ending::Ending;
 use crate::file::file_relay;
@@ -25,13 +23,9 @@ pub(crate) fn relay_by_file<F: Source, I: Source, O: Sink>(
     frames: u64,
 ) -> Ending
     // Whatever clock and link there are.
-    ensures relays { (words : List (String Global)) (clock : Stream) (relay : Link)
-        → Mean words (Relay frames)
-        → let before = touched (F.shown file.old) (I.shown input.old)
-        (O.shown output.old) clock relay in
-        let after = touched (F.shown file.new) (I.shown input.new)
-        (O.shown output.new) clock relay in
-        RunsAlone words before after result × IsStatus words before after (status_of result) }
+    ensures relays { (lane : LaneUsed) → EndsAlone (Relay frames)
+        (touched (F.shown file.old) (I.shown input.old) (O.shown output.old) lane)
+        (touched (F.shown file.new) (I.shown input.new) (O.shown output.new) lane) result }
 {
     match file_relay(alloc, file) {
         Ok(relay) => Ending::Relayed(serve_relay(alloc, &relay.table, input, output, frames)),
@@ -47,11 +41,9 @@ pub(crate) fn mint_by_file<F: Source, O: Sink>(
     asked: &MintAsked<'_>,
 ) -> Ending
     // Whatever input, clock and link there are.
-    ensures mints { (words : List (String Global)) (input : Stream) (clock : Stream) (relay : Link)
-        → Mean words (Mint (mint_words asked.now))
-        → let before = touched (F.shown file.old) input (O.shown output.old) clock relay in
-        let after = touched (F.shown file.new) input (O.shown output.new) clock relay in
-        RunsAlone words before after result × IsStatus words before after (status_of result) }
+    ensures mints { (input : Stream) (lane : LaneUsed) → EndsAlone (Mint (mint_words asked.now))
+        (touched (F.shown file.old) input (O.shown output.old) lane)
+        (touched (F.shown file.new) input (O.shown output.new) lane) result }
 {
     match file_relay(alloc, file) {
         Ok(relay) => Ending::Minted(mint(alloc, &relay, asked, output)),

@@ -12,8 +12,8 @@ use itoa::Buffer;
 use object_core::{Object, ObjectEntry, Ruling};
 use taos_lanes::{Served, Total};
 
-// A line has no more bytes than this.
-const ROOM: usize = 256;
+/// A line has no more bytes than this.
+pub(crate) const ROOM: usize = 256;
 
 // Whether a request was granted.
 fn is_grant(ruling: Ruling) -> bool
@@ -81,8 +81,8 @@ fn denials_in(objects: &[Object]) -> u128
     count
 }
 
-// A number behind its name.
-fn add_number(line: &mut ArrayVec<u8, ROOM>, name: &[u8], number: u128)
+/// A number behind its name.
+pub(crate) fn add_number(line: &mut ArrayVec<u8, ROOM>, name: &[u8], number: u128)
     requires { length line.old.items + length name.now + 40 ≤ ROOM }
     ensures text { line.new.items ≡ line.old.items ++ name.now ++ decimal number }
     ensures few { length line.new.items ≤ length line.old.items + length name.now + 40 }

@@ -5,7 +5,7 @@ use Rattle.byte_fields.specs.Formats.{u8_in, u32_in, u64_in}
 use Rattle.byte_fields.proofs.FieldLaws.{behind}
 use Rattle.byte_fields.proofs.FormatFields.{reads_u8, reads_u32, reads_u64}
 use Rattle.taos_wire.specs.Heads.{head_at, head_of, read, shard_at, shard_in, place_in, unknown_in}
-use Rattle.taos_wire.specs.Reply.{Reply, Granted, Denied, Malformed, UnknownChannel, BadSeal, Replayed, CertRefused, ChannelFull, RelayFailed, UnknownObject, JournalFull, NoMemory, CommonsFull, NotHeld}
+use Rattle.taos_wire.specs.Reply.{Reply, Granted, Denied, Malformed, UnknownChannel, BadSeal, Replayed, CertRefused, ChannelFull, RelayFailed, UnknownObject, JournalFull, NoMemory, CommonsFull, NotHeld, WithdrawnFull, PullFailed}
 use Rattle.taos_wire.proofs.ReplyFields.{status_stands}
 use Rattle.taos_wire.specs.Reply.{answered_bytes, fields_of, link_bytes, reply_text, status_of, FitsReply, SpellsReply}
 
@@ -30,6 +30,7 @@ told (Denied shard place link) = to_be_bytes w32 shard ++ to_be_bytes w64 place
 told (UnknownChannel number) = to_be_bytes w32 number
 told (JournalFull which number len) = which ∷ to_be_bytes w32 number
 told (CommonsFull held shard) = held ∷ to_be_bytes w32 shard
+told (WithdrawnFull held shard) = held ∷ to_be_bytes w32 shard
 told _ = []
 
 abbrev untold : Reply → List ℕ
@@ -37,6 +38,7 @@ untold (Denied shard place link) = link_bytes link
 untold (UnknownChannel number) = []
 untold (JournalFull which number len) = to_be_bytes w64 len
 untold (CommonsFull held shard) = []
+untold (WithdrawnFull held shard) = []
 untold r = fields_of r
 
 told_first : (r : Reply) → (fields_of r ≡ told r ++ untold r) × (length (told r) ≤ 13)
@@ -54,6 +56,8 @@ told_first (JournalFull which number len) = (refl, omega arith)
 told_first NoMemory = (refl, omega arith)
 told_first (CommonsFull held shard) = (sym (append-nil (held ∷ to_be_bytes w32 shard)), omega arith)
 told_first (NotHeld digest) = (refl, omega arith)
+told_first (WithdrawnFull held shard) = (sym (append-nil (held ∷ to_be_bytes w32 shard)), omega arith)
+told_first PullFailed = (refl, omega arith)
 
 in_pieces : (v c s k told more tag : List ℕ) → (((v ++ c) ++ s) ++ (k ++ (told ++ more))) ++ tag ≡ (v ++ (c ++ (s ++ (k ++ told)))) ++ (more ++ tag)
 in_pieces v c s k told more tag = simp append_assoc
@@ -78,6 +82,9 @@ module _ (front : List ℕ) where
   fields_say (CommonsFull held shard) rest fits e =
       let after : drop 15 front ≡ to_be_bytes w32 shard ++ rest = behind front (held ∷ []) (to_be_bytes w32 shard ++ rest) 14 e in
       (ap read ((reads_u32 front).again 15 shard rest fits.1 after), refl, refl)
+  fields_say (WithdrawnFull held shard) rest fits e =
+      let after : drop 15 front ≡ to_be_bytes w32 shard ++ rest = behind front (held ∷ []) (to_be_bytes w32 shard ++ rest) 14 e in
+      (ap read ((reads_u32 front).again 15 shard rest fits.1 after), refl, refl)
   fields_say (Granted kept entry shard place proof certs result) rest fits e = (refl, refl, refl)
   fields_say (Malformed offset) rest fits e = (refl, refl, refl)
   fields_say BadSeal rest fits e = (refl, refl, refl)
@@ -88,6 +95,7 @@ module _ (front : List ℕ) where
   fields_say (UnknownObject number) rest fits e = (refl, refl, refl)
   fields_say NoMemory rest fits e = (refl, refl, refl)
   fields_say (NotHeld digest) rest fits e = (refl, refl, refl)
+  fields_say PullFailed rest fits e = absurd fits
 
   head_says : (channel seq : ℕ) (r : Reply) (rest : List ℕ) → channel < 2 ^ 32 → seq < 2 ^ 64 → FitsReply r
       → drop 0 front ≡ (4 ∷ []) ++ (to_be_bytes w32 channel ++ (to_be_bytes w64 seq ++ ((status_of r ∷ []) ++ (told r ++ rest))))
@@ -104,7 +112,7 @@ module _ (front : List ℕ) where
       let at_5 : drop 5 front ≡ from_seq = behind front (to_be_bytes w32 channel) from_seq 1 at_1 in
       let seq_is : u64_in front 5 ≡ Ok (seq, 13) = (reads_u64 front).again 5 seq from_status seq_fits at_5 in
       let at_13 : drop 13 front ≡ from_status = behind front (to_be_bytes w64 seq) from_status 5 at_5 in
-      let status_is : u8_in front 13 ≡ Ok (status_of r, 14) = (reads_u8 front).again 13 (status_of r) last (status_stands r).0 at_13 in
+      let status_is : u8_in front 13 ≡ Ok (status_of r, 14) = (reads_u8 front).again 13 (status_of r) last (status_stands r fits).0 at_13 in
       let at_14 : drop 14 front ≡ last = behind front (status_of r ∷ []) last 13 at_13 in
       let say = fields_say r rest fits at_14 in
       rw (version, channel_is, seq_is, status_is, say.0, say.1, say.2) refl

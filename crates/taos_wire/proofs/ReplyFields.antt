@@ -10,7 +10,7 @@ use Rattle.prin_term.specs.declared.limits.TheConstants.{ENTRY_NODES}
 use Rattle.prin_term.specs.Principal.{Principal, spelling as term_spelling}
 use Rattle.byte_fields.specs.Readers.{given, made, followed}
 use Rattle.prin_term.specs.Refusal.{FitsLimits}
-use Rattle.byte_fields.specs.Steps.{counted, counted_at}
+use Rattle.byte_fields.specs.Steps.{bytes_at, counted, counted_at}
 use Rattle.byte_fields.proofs.FieldLaws.{wide16}
 use Rattle.byte_fields.proofs.FieldReaders.{reads_counted_bytes}
 use Rattle.prin_term.proofs.TermReaders.{reads_term}
@@ -26,7 +26,7 @@ use Rattle.taos_wire.specs.declared.reply.TheConstants.{MAX_CITED}
 use Rattle.byte_fields.specs.Formats.{FormatReader, ended, u8_in, u32_in, u64_in, within}
 use Rattle.prin_term.specs.TermFields.{seen_as, term_in}
 use Rattle.taos_wire.specs.Reply.{Reply, Granted, Denied, Malformed, UnknownChannel, BadSeal, Replayed, CertRefused, ChannelFull, RelayFailed, UnknownObject, JournalFull, NoMemory, CommonsFull}
-use Rattle.taos_wire.specs.Reply.{NotHeld, LinkSent, Expired, Missing, NoEntry, Early, flag, link_bytes, status_of, fields_of, answered_bytes}
+use Rattle.taos_wire.specs.Reply.{NotHeld, WithdrawnFull, PullFailed, LinkSent, Expired, Missing, NoEntry, Early, flag, link_bytes, status_of, fields_of, answered_bytes}
 use Rattle.taos_wire.specs.Reply.{FitsLink, FitsReply, FitsGranted}
 use Rattle.taos_wire.specs.ReplyReading.{answered_at, place_at, granted_at, digest_at, named_at, link_at, denied_at, is_status, fields_at, status_at}
 use Rattle.stmt_codec.proofs.Listed.{reads_cited}
@@ -90,21 +90,23 @@ granted_grouped k entry shard place proof certs result = grouped (k ∷ entry �
 abbrev IsOf : ℕ → Reply → Type 0
 IsOf status r = FitsReply r × (status_of r ≡ status)
 
-pub status_stands : (r : Reply) → (status_of r < 256) × (is_status (status_of r) ≡ true)
-status_stands (Granted kept entry shard place proof certs result) = (omega arith, refl)
-status_stands (Denied shard place l) = (omega arith, refl)
-status_stands (Malformed offset) = (omega arith, refl)
-status_stands (UnknownChannel number) = (omega arith, refl)
-status_stands BadSeal = (omega arith, refl)
-status_stands (Replayed last) = (omega arith, refl)
-status_stands (CertRefused index code) = (omega arith, refl)
-status_stands (ChannelFull held) = (omega arith, refl)
-status_stands (RelayFailed index) = (omega arith, refl)
-status_stands (UnknownObject number) = (omega arith, refl)
-status_stands (JournalFull which number len) = (omega arith, refl)
-status_stands NoMemory = (omega arith, refl)
-status_stands (CommonsFull held shard) = (omega arith, refl)
-status_stands (NotHeld digest) = (omega arith, refl)
+pub status_stands : (r : Reply) → FitsReply r → (status_of r < 256) × (is_status (status_of r) ≡ true)
+status_stands (Granted kept entry shard place proof certs result) fits = (omega arith, refl)
+status_stands (Denied shard place l) fits = (omega arith, refl)
+status_stands (Malformed offset) fits = (omega arith, refl)
+status_stands (UnknownChannel number) fits = (omega arith, refl)
+status_stands BadSeal fits = (omega arith, refl)
+status_stands (Replayed last) fits = (omega arith, refl)
+status_stands (CertRefused index code) fits = (omega arith, refl)
+status_stands (ChannelFull held) fits = (omega arith, refl)
+status_stands (RelayFailed index) fits = (omega arith, refl)
+status_stands (UnknownObject number) fits = (omega arith, refl)
+status_stands (JournalFull which number len) fits = (omega arith, refl)
+status_stands NoMemory fits = (omega arith, refl)
+status_stands (CommonsFull held shard) fits = (omega arith, refl)
+status_stands (NotHeld digest) fits = (omega arith, refl)
+status_stands (WithdrawnFull held shard) fits = (omega arith, refl)
+status_stands PullFailed fits = absurd fits
 
 module _ (bytes : List ℕ) where
   pub reads_answered : Reads bytes (answered_at bytes) (λ p. answered_bytes p.0 p.1) (λ p. (p.0 < 2 ^ 32) × (p.1 < 2 ^ 64))
@@ -226,8 +228,8 @@ module _ (bytes : List ℕ) where
   reads_journal : Reads bytes (followed (within 0 1 (u8_in bytes)) (λ _. place_at bytes)) (λ p. (p.0 ∷ []) ++ (to_be_bytes w32 p.1.0 ++ to_be_bytes w64 p.1.1)) (λ p. ((0 ≤ p.0) × (p.0 ≤ 1)) × ((p.1.0 < 2 ^ 32) × (p.1.1 < 2 ^ 64)))
   reads_journal = reads_followed (reads_u8_in bytes 0 1 (omega arith)) (λ _ _. reads_place)
 
-  reads_commons : Reads bytes (followed (u8_in bytes) (λ _. u32_in bytes)) (λ p. (p.0 ∷ []) ++ to_be_bytes w32 p.1) (λ p. (p.0 < 256) × (p.1 < 2 ^ 32))
-  reads_commons = reads_followed (reads_u8 bytes) (λ _ _. reads_u32 bytes)
+  reads_full : Reads bytes (followed (u8_in bytes) (λ _. u32_in bytes)) (λ p. (p.0 ∷ []) ++ to_be_bytes w32 p.1) (λ p. (p.0 < 256) × (p.1 < 2 ^ 32))
+  reads_full = reads_followed (reads_u8 bytes) (λ _ _. reads_u32 bytes)
 
   fields_again : (r : Reply) (at : ℕ) (rest : List ℕ) → FitsReply r → drop at bytes ≡ fields_of r ++ rest → fields_at bytes (status_of r) at ≡ Ok (r, at + length (fields_of r))
   unfolding fields_at denied_at
@@ -243,14 +245,16 @@ module _ (bytes : List ℕ) where
   fields_again (UnknownObject number) at rest fits e = again_made UnknownObject (reads_u32 bytes) at number rest fits e
   fields_again (JournalFull which number len) at rest fits e = again_made (λ (x : ℕ × (ℕ × ℕ)). JournalFull x.0 x.1.0 x.1.1) reads_journal at (which, (number, len)) rest ((omega arith, fits.0), (fits.1, fits.2)) e
   fields_again NoMemory at rest fits e = again_given NoMemory at
-  fields_again (CommonsFull held shard) at rest fits e = again_made (λ (x : ℕ × ℕ). CommonsFull x.0 x.1) reads_commons at (held, shard) rest fits e
+  fields_again (CommonsFull held shard) at rest fits e = again_made (λ (x : ℕ × ℕ). CommonsFull x.0 x.1) reads_full at (held, shard) rest fits e
   fields_again (NotHeld digest) at rest fits e = again_made NotHeld (reads_bytes (ended bytes) 32 bytes) at digest rest fits e
+  fields_again (WithdrawnFull held shard) at rest fits e = again_made (λ (x : ℕ × ℕ). WithdrawnFull x.0 x.1) reads_full at (held, shard) rest fits e
+  fields_again PullFailed at rest fits e = absurd fits
 
   -- the last status is what is left of those that stand
   last_status : (s : ℕ) → is_status s ≡ true → eqb s 0 ≡ false → eqb s 1 ≡ false → eqb s 2 ≡ false → eqb s 3 ≡ false → eqb s 4 ≡ false → eqb s 5 ≡ false → eqb s 6 ≡ false → eqb s 7 ≡ false
-      → eqb s 8 ≡ false → eqb s 9 ≡ false → eqb s 10 ≡ false → eqb s 11 ≡ false → eqb s 12 ≡ false → 13 ≡ s
-  last_status s is a b c d e f g h i j k l m =
-      let past : 12 < s = omega (arith, eqb-false _ _ a, eqb-false _ _ b, eqb-false _ _ c, eqb-false _ _ d, eqb-false _ _ e, eqb-false _ _ f, eqb-false _ _ g, eqb-false _ _ h, eqb-false _ _ i, eqb-false _ _ j, eqb-false _ _ k, eqb-false _ _ l, eqb-false _ _ m) in
+      → eqb s 8 ≡ false → eqb s 9 ≡ false → eqb s 10 ≡ false → eqb s 11 ≡ false → eqb s 12 ≡ false → eqb s 13 ≡ false → 14 ≡ s
+  last_status s is a b c d e f g h i j k l m n =
+      let past : 13 < s = omega (arith, eqb-false _ _ a, eqb-false _ _ b, eqb-false _ _ c, eqb-false _ _ d, eqb-false _ _ e, eqb-false _ _ f, eqb-false _ _ g, eqb-false _ _ h, eqb-false _ _ i, eqb-false _ _ j, eqb-false _ _ k, eqb-false _ _ l, eqb-false _ _ m, eqb-false _ _ n) in
       grind (arith, nat_tests, is, past)
 
   fields_takes : (s : ℕ) → is_status s ≡ true → Takes bytes (fields_at bytes s) fields_of (IsOf s)
@@ -269,8 +273,9 @@ module _ (bytes : List ℕ) where
       takes_if bytes (eqb s 10) (made (λ (x : ℕ × (ℕ × ℕ)). JournalFull x.0 x.1.0 x.1.1) (followed (within 0 1 (u8_in bytes)) (λ _. place_at bytes))) _ fields_of (IsOf s)
       (λ t. takes_made (λ (x : ℕ × (ℕ × ℕ)). JournalFull x.0 x.1.0 x.1.1) fields_of (IsOf s) reads_journal (λ x is. (((is.0.1, is.1.0, is.1.1), sym (eqb-true s 10 t)), refl))) (λ n10.
       takes_if bytes (eqb s 11) (given NoMemory) _ fields_of (IsOf s) (λ t. takes_given bytes NoMemory fields_of (IsOf s) refl (tt, sym (eqb-true s 11 t))) (λ n11.
-      takes_if bytes (eqb s 12) (made (λ (x : ℕ × ℕ). CommonsFull x.0 x.1) (followed (u8_in bytes) (λ _. u32_in bytes))) _ fields_of (IsOf s) (λ t. takes_made (λ (x : ℕ × ℕ). CommonsFull x.0 x.1) fields_of (IsOf s) reads_commons (λ x is. ((is, sym (eqb-true s 12 t)), refl))) (λ n12.
-      takes_made NotHeld fields_of (IsOf s) (reads_bytes (ended bytes) 32 bytes) (λ x fits. ((fits, last_status s is n0 n1 n2 n3 n4 n5 n6 n7 n8 n9 n10 n11 n12), refl)))))))))))))))
+      takes_if bytes (eqb s 12) (made (λ (x : ℕ × ℕ). CommonsFull x.0 x.1) (followed (u8_in bytes) (λ _. u32_in bytes))) _ fields_of (IsOf s) (λ t. takes_made (λ (x : ℕ × ℕ). CommonsFull x.0 x.1) fields_of (IsOf s) reads_full (λ x is. ((is, sym (eqb-true s 12 t)), refl))) (λ n12.
+      takes_if bytes (eqb s 13) (made NotHeld (bytes_at (ended bytes) 32 bytes)) _ fields_of (IsOf s) (λ t. takes_made NotHeld fields_of (IsOf s) (reads_bytes (ended bytes) 32 bytes) (λ x is. ((is, sym (eqb-true s 13 t)), refl))) (λ n13.
+      takes_made (λ (x : ℕ × ℕ). WithdrawnFull x.0 x.1) fields_of (IsOf s) reads_full (λ x fits. ((fits, last_status s is n0 n1 n2 n3 n4 n5 n6 n7 n8 n9 n10 n11 n12 n13), refl))))))))))))))))
 
   pub reads_status : Reads bytes (status_at bytes) (λ r. status_of r ∷ fields_of r) FitsReply
   unfolding status_at
@@ -281,4 +286,4 @@ module _ (bytes : List ℕ) where
         again = λ at r rest is e. subst (λ (k : ℕ). fields_at bytes k at ≡ Ok (r, at + length (fields_of r))) is.1 (fields_again r at rest is.0 e);
       }))
       (λ x is. (is.1.0, ap (λ (k : ℕ). k ∷ fields_of x.1) (sym is.1.1)))
-      (λ r is. ((status_stands r, (is, refl)), refl, refl))
+      (λ r is. ((status_stands r is, (is, refl)), refl, refl))

@@ -64,7 +64,8 @@ fields_form s =
     (form_if (eqb s 10) (form_made _ (form_followed (form_passing _ form_u8) (λ _. place_form)))
     (form_if (eqb s 11) (form_given NoMemory)
     (form_if (eqb s 12) (form_made _ (form_followed form_u8 (λ _. form_u32)))
-    (form_made NotHeld (form_bytes 32))))))))))))))
+    (form_if (eqb s 13) (form_made NotHeld (form_bytes 32))
+    (form_made _ (form_followed form_u8 (λ _. form_u32))))))))))))))))
 
 status_form : Form IsBytes status_at
 unfolding status_at

@@ -14,7 +14,7 @@ use Rattle.taos_calculus.specs.Tables.{lines_of}
 use Rattle.taos_wire.specs.declared.reply.LentGrant.{LentGrant}
 use Rattle.taos_wire.specs.declared.reply.LentPart.{LentPart}
 use Rattle.taos_wire.specs.Reply.{Reply, Granted, Denied, Malformed, UnknownChannel, BadSeal, Replayed, CertRefused, ChannelFull, RelayFailed, UnknownObject, JournalFull, NoMemory, CommonsFull}
-use Rattle.taos_wire.specs.Reply.{NotHeld, LinkSent, Expired, Missing, NoEntry, Early, FitsReply, FitsLink, link_bytes, flag, status_of, fields_of}
+use Rattle.taos_wire.specs.Reply.{NotHeld, WithdrawnFull, PullFailed, LinkSent, Expired, Missing, NoEntry, Early, FitsReply, FitsLink, link_bytes, flag, status_of, fields_of}
 use Rattle.taos_wire.specs.Reply.{answered_bytes, reply_text, seal_of, sent, spelling}
 use Rattle.taos_wire.specs.View.{cited, lent_grant, lent_part}
 use Rattle.taos_wire.proofs.Seals.{length-seal_of}
@@ -68,6 +68,8 @@ small_fields (JournalFull which number len) fits lt = omega arith
 small_fields NoMemory fits lt = omega arith
 small_fields (CommonsFull held shard) fits lt = omega arith
 small_fields (NotHeld digest) fits lt = omega (arith, fits.0)
+small_fields (WithdrawnFull held shard) fits lt = omega arith
+small_fields PullFailed fits lt = absurd fits
 
 pub denied_short : (r : Reply) (shard place : ℕ) (l : LinkSent) → r ≡ Denied shard place l → FitsReply r → length (fields_of r) < 2 ^ 25 + 2 ^ 17 + 2 ^ 16
 denied_short r shard place l is fits =

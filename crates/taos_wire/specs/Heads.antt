@@ -5,7 +5,7 @@ use Rattle.std.specs.Option.{option_and_then}
 use Rattle.byte_fields.specs.Formats.{u8_in, u32_in, u64_in}
 use Rattle.byte_fields.specs.declared.fault.FormatFault.{FormatFault as WireFault}
 use Rattle.taos_wire.specs.declared.reply_head.ReplyHead.{ReplyHead}
-use Rattle.taos_wire.specs.Reply.{Reply, Denied, UnknownChannel, JournalFull, CommonsFull}
+use Rattle.taos_wire.specs.Reply.{Reply, Denied, UnknownChannel, JournalFull, CommonsFull, WithdrawnFull}
 use Rattle.taos_wire.specs.Reply.{status_of}
 
 -- ---- of a reply
@@ -15,6 +15,7 @@ abbrev pub shard_in : Reply → Option ℕ
 shard_in (Denied shard place link) = Some shard
 shard_in (JournalFull which number len) = if which == 1 then Some number else None
 shard_in (CommonsFull held shard) = Some shard
+shard_in (WithdrawnFull held shard) = Some shard
 shard_in _ = None
 
 -- the place of the denial in the shard's journal
@@ -51,7 +52,8 @@ shard_at front status =
     if status == 1 then read (u32_in front 14)
     else (if status == 10 then option_and_then
     (λ which. if which == 1 then read (u32_in front 15) else None) (read (u8_in front 14))
-    else (if status == 12 then read (u32_in front 15) else None))
+    else (if status == 12 then read (u32_in front 15)
+    else (if status == 14 then read (u32_in front 15) else None)))
 
 -- what the front of some bytes says, if they begin as a reply does
 unfoldable pub head_at : List ℕ → Option ReplyHead

@@ -56,6 +56,10 @@ pub data Reply : Type 0 where
   CommonsFull : (held shard : ℕ) → Reply
   -- no shard held the certificate with this digest
   NotHeld : (digest : List ℕ) → Reply
+  -- the shard has this many withdrawn issuers, and no more fit
+  WithdrawnFull : (held shard : ℕ) → Reply
+  -- the channel's certificates could not be fetched; no reader reads it
+  PullFailed : Reply
 
 -- ---- bytes
 
@@ -87,6 +91,8 @@ status_of (JournalFull which number len) = 10
 status_of NoMemory = 11
 status_of (CommonsFull held shard) = 12
 status_of (NotHeld digest) = 13
+status_of (WithdrawnFull held shard) = 14
+status_of PullFailed = 15
 
 -- what it says besides its status
 abbrev pub fields_of : Reply → List ℕ
@@ -107,6 +113,8 @@ fields_of (JournalFull which number len) = which ∷ to_be_bytes w32 number ++ t
 fields_of NoMemory = []
 fields_of (CommonsFull held shard) = held ∷ to_be_bytes w32 shard
 fields_of (NotHeld digest) = digest
+fields_of (WithdrawnFull held shard) = held ∷ to_be_bytes w32 shard
+fields_of PullFailed = []
 
 -- the version, then the channel and the number that are answered
 abbrev pub answered_bytes : ℕ → ℕ → List ℕ
@@ -136,7 +144,8 @@ pub record FitsGranted (entry shard place : ℕ) (proof : List Line)
   pub certs_fit : All FitsBody certs
   pub result_fits : (length result < 2 ^ 16) × All IsByte result
 
--- each number fits its field, and what the reply carries is within the limits
+-- each number fits its field, and what the reply carries is within the limits; of a failed fetch
+-- there is no reply that a reader reads
 abbrev pub FitsReply : Reply → Type 0
 FitsReply (Granted kept entry shard place proof certs result) =
     FitsGranted entry shard place proof certs result
@@ -153,6 +162,8 @@ FitsReply (JournalFull which number len) = (which ≤ 1) × (number < 2 ^ 32) ×
 FitsReply NoMemory = Unit {0}
 FitsReply (CommonsFull held shard) = IsByte held × (shard < 2 ^ 32)
 FitsReply (NotHeld digest) = IsDigest digest
+FitsReply (WithdrawnFull held shard) = IsByte held × (shard < 2 ^ 32)
+FitsReply PullFailed = ⊥
 
 -- the bytes are those of the reply to this number of the channel, under some tag
 pub record SpellsReply (channel seq : ℕ) (r : Reply) (bytes : List ℕ) : Type 0 where

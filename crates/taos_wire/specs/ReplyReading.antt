@@ -9,13 +9,13 @@ use Rattle.stmt_codec.specs.Lists.{cited_at}
 use Rattle.taos_calculus.specs.ProofReading.{proof_at}
 use Rattle.byte_fields.specs.declared.fault.FormatFault.{FormatFault as WireFault}
 use Rattle.byte_fields.specs.declared.fault.FormatFault.TheVariants as faults
-use Rattle.taos_wire.specs.declared.reply.TheConstants.{MAX_CITED}
+use Rattle.taos_wire.specs.declared.reply.TheConstants.{LAST_STATUS, MAX_CITED}
 use Rattle.byte_fields.specs.Formats.{FormatReader, ended, u8_in}
 use Rattle.byte_fields.specs.Formats.{u32_in, u64_in, within}
 use Rattle.prin_term.specs.TermFields.{term_in}
 use Rattle.taos_wire.specs.Reply.{Reply, Granted, Denied, Malformed, UnknownChannel, BadSeal}
 use Rattle.taos_wire.specs.Reply.{Replayed, CertRefused, ChannelFull, RelayFailed, UnknownObject}
-use Rattle.taos_wire.specs.Reply.{JournalFull, NoMemory, CommonsFull, NotHeld, LinkSent}
+use Rattle.taos_wire.specs.Reply.{JournalFull, NoMemory, CommonsFull, NotHeld, WithdrawnFull, LinkSent}
 use Rattle.taos_wire.specs.Reply.{Expired, Missing, NoEntry, Early}
 use Rattle.taos_wire.specs.RequestReading.{tag_at}
 
@@ -71,7 +71,7 @@ denied_at bytes =
 
 -- the byte names a kind of reply
 abbrev pub is_status : ℕ → Bool
-is_status s = nat_le s 13
+is_status s = nat_le s LAST_STATUS
 
 -- the fields that a status has
 unfoldable pub fields_at : List ℕ → ℕ → FormatReader Reply
@@ -92,7 +92,9 @@ fields_at bytes status at =
     else (if status == 11 then given NoMemory at
     else (if status == 12 then made (λ x. CommonsFull x.0 x.1)
     (followed (u8_in bytes) (λ _. u32_in bytes)) at
-    else made NotHeld (bytes_at (ended bytes) 32 bytes) at))))))))))))
+    else (if status == 13 then made NotHeld (bytes_at (ended bytes) 32 bytes) at
+    else made (λ x. WithdrawnFull x.0 x.1)
+    (followed (u8_in bytes) (λ _. u32_in bytes)) at)))))))))))))
 
 -- the status, and the fields that it has
 unfoldable pub status_at : List ℕ → FormatReader Reply

@@ -17,7 +17,7 @@ use Rattle.taos_wire.specs.declared.reply.LinkSent as code_link
 use Rattle.taos_wire.specs.declared.reply.LinkSent.TheVariants as links
 use Rattle.taos_wire.specs.Reply.{Reply, Granted, Denied, Malformed, UnknownChannel, BadSeal}
 use Rattle.taos_wire.specs.Reply.{Replayed, CertRefused, ChannelFull, RelayFailed, UnknownObject}
-use Rattle.taos_wire.specs.Reply.{JournalFull, NoMemory, CommonsFull, NotHeld, LinkSent}
+use Rattle.taos_wire.specs.Reply.{JournalFull, NoMemory, CommonsFull, NotHeld, WithdrawnFull, LinkSent}
 use Rattle.taos_wire.specs.Reply.{Expired, Missing, NoEntry, Early}
 use Rattle.taos_wire.specs.Request.{Request}
 
@@ -65,6 +65,7 @@ reply (replies.JournalFull which number len) = JournalFull which number len
 reply replies.NoMemory = NoMemory
 reply (replies.CommonsFull held shard) = CommonsFull held shard
 reply (replies.NotHeld digest) = NotHeld digest
+reply (replies.WithdrawnFull held shard) = WithdrawnFull held shard
 
 -- the reply of a grant whose parts are lent
 abbrev pub lent_grant : LentGrant → Reply

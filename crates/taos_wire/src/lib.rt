@@ -24,7 +24,7 @@ pub use laws::{
 };
 pub use limit_laws::limits_are;
 pub use reading::read_request;
-pub use reply::{LentGrant, LentPart, LinkSent, MAX_CITED, Reply};
+pub use reply::{LAST_STATUS, LentGrant, LentPart, LinkSent, MAX_CITED, Reply};
 pub use reply_head::{HEAD, ReplyHead, head_at};
 pub use reply_lent::{
     draft_granted, draft_missing, write_granted, write_missing, write_missing_with,

@@ -2,7 +2,7 @@
 
 ghost use Rattle.std.specs.Prelude.{◌≡◌};
 ghost use Rattle.taos_wire.specs.declared.request.TheConstants.{MAX_CERTS};
-ghost use Rattle.taos_wire.specs.declared.reply.TheConstants.{MAX_CITED};
+ghost use Rattle.taos_wire.specs.declared.reply.TheConstants.{LAST_STATUS, MAX_CITED};
 ghost use Rattle.taos_wire.specs.declared.reply_head.TheConstants.{HEAD};
 ghost use Rattle.taos_wire.specs.declared.reply_writing.TheConstants.{VERSION, GRANTED, DENIED};
 
@@ -11,5 +11,5 @@ pub fn limits_are()
     ensures presented { MAX_CERTS ≡ 16 }
     ensures cited { MAX_CITED ≡ 64 }
     ensures head { (VERSION ≡ 4) × (HEAD ≡ 27) }
-    ensures statuses { (GRANTED ≡ 0) × (DENIED ≡ 1) }
+    ensures statuses { (GRANTED ≡ 0) × (DENIED ≡ 1) × (LAST_STATUS ≡ 14) }
 {}

@@ -5,6 +5,9 @@ use std::sync::Arc;
 use stmt_codec::Cert;
 use taos_calculus::Proof;
 
+/// The highest status of a reply; the lowest is 0.
+pub const LAST_STATUS: u8 = 14;
+
 /// The most certificates that a granted reply carries.
 pub const MAX_CITED: u8 = 64;
 
@@ -84,6 +87,11 @@ pub enum Reply {
     /// No shard held the certificate with this digest.
     NotHeld {
         digest: [u8; 32],
+    },
+    /// The shard has this many withdrawn issuers, and no more fit.
+    WithdrawnFull {
+        held: u8,
+        shard: u32,
     },
 }
 

@@ -21,6 +21,8 @@ const NO_MEMORY: u8 = 11;
 
 const COMMONS_FULL: u8 = 12;
 
+const WITHDRAWN_FULL: u8 = 14;
+
 /// What a reply says before its tag of the request that it answers.
 #[derive(Clone, Copy, Debug, PartialEq, Eq)]
 pub struct ReplyHead {
@@ -115,7 +117,7 @@ fn shard_of(front: &[u8], status: u8) -> Option<u32>
             Some(1) => word_of(front, 15),
             _ => None,
         },
-        COMMONS_FULL => word_of(front, 15),
+        COMMONS_FULL | WITHDRAWN_FULL => word_of(front, 15),
         _ => None,
     }
 }

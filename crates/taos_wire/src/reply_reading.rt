@@ -13,7 +13,7 @@ ghost use Rattle.taos_wire.specs.ReplyReading.{status_at};
 ghost use Rattle.taos_wire.specs.View.{link, reply};
 
 use crate::fault::WireFault;
-use crate::reply::{LinkSent, Reply};
+use crate::reply::{LAST_STATUS, LinkSent, Reply};
 use crate::reply_grant::granted_of;
 use byte_fields::{array_at, byte_within, ended, slice_at, u8_at, u32_at, u64_at};
 use keyed_seal::TAG_LEN;
@@ -172,9 +172,14 @@ fn fields_of(
             let (shard, next) = u32_at(bytes, next, ended(bytes))?;
             Ok((Reply::CommonsFull { held, shard }, next))
         }
-        _ => {
+        13 => {
             let (digest, next) = array_at::<32, _>(bytes, at, ended(bytes))?;
             Ok((Reply::NotHeld { digest }, next))
+        }
+        _ => {
+            let (held, next) = u8_at(bytes, at, ended(bytes))?;
+            let (shard, next) = u32_at(bytes, next, ended(bytes))?;
+            Ok((Reply::WithdrawnFull { held, shard }, next))
         }
     }
 }
@@ -186,7 +191,7 @@ fn status_of(alloc: Global, bytes: &[u8], at: usize) -> Result<(Reply, usize), W
     ensures within { IfOk result (λ x. x.1 ≤ length bytes.now) }
 {
     let (status, next) = u8_at(bytes, at, ended(bytes))?;
-    if status <= 13 {
+    if status <= LAST_STATUS {
         fields_of(alloc, bytes, next, status)
     } else {
         Err(WireFault::Malformed { offset: at })

@@ -10,7 +10,7 @@ ghost use Rattle.taos_wire.specs.Reply.{FitsReply, answered_bytes, fields_of, li
 ghost use Rattle.taos_wire.specs.Reply.{reply_text, seal_of, sent, spelling, status_of};
 ghost use Rattle.taos_wire.specs.View.{link, reply};
 
-use crate::reply::{LentGrant, LinkSent, Reply};
+use crate::reply::{LAST_STATUS, LentGrant, LinkSent, Reply};
 use crate::reply_granting::push_granted;
 use keyed_seal::Sealer;
 use prin_term::{Term, write_term};
@@ -164,6 +164,7 @@ fn status_of(answer: &Reply) -> u8
         Reply::NoMemory => 11,
         Reply::CommonsFull { .. } => 12,
         Reply::NotHeld { .. } => 13,
+        Reply::WithdrawnFull { .. } => LAST_STATUS,
     }
 }
 
@@ -207,7 +208,9 @@ fn push_fields(out: &mut Vec<u8>, answer: &Reply) -> Result<(), AllocError>
             number,
             length,
         } => { out.extend_from_slice(&journal_of(*which, *number, *length)) }
-        Reply::CommonsFull { held, shard } => out.extend_from_slice(&commons_of(*held, *shard)),
+        Reply::CommonsFull { held, shard } | Reply::WithdrawnFull { held, shard } => {
+            out.extend_from_slice(&full_of(*held, *shard))
+        }
         Reply::NotHeld { digest } => out.extend_from_slice(digest),
         Reply::BadSeal | Reply::NoMemory => Ok(()),
     }
@@ -223,7 +226,8 @@ fn journal_of(which: u8, number: u32, length: u64) -> [u8; 13]
     ]
 }
 
-fn commons_of(held: u8, shard: u32) -> [u8; 5]
+// How many are held, and the shard that has no room for more.
+fn full_of(held: u8, shard: u32) -> [u8; 5]
     ensures { result ≡ held ∷ to_be_bytes w32 shard }
 {
     let s = shard.to_be_bytes();

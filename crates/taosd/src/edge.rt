@@ -2,7 +2,10 @@
 
 ghost use Rattle.std.specs.Prelude.{◌≡◌, ◌<◌, ◌≤◌, length, vec_len, IfOk};
 
+use crate::lanes::Setting;
+use crate::own::Own;
 use frame_hub::{MAX_CLIENTS, MAX_LANES};
+use node_status::shows_seal;
 use std::alloc::{AllocError, Global};
 use std::fs::File;
 use std::io;
@@ -12,7 +15,8 @@ use std::thread::Threads;
 use std::time::{Clock, Duration};
 use system_hub::{Edge, LaneEnd, Patience, Running, Watch, clients_within, descriptors_of, start};
 use system_link::{
-    Breakage, Doorway, FIRST, FRAME, Happening, IDLE, LINGER, Listener, TAKE, Teller,
+    Breakage, Doorway, FIRST, FRAME, Happening, IDLE, LINGER, Listener, Shutter, TAKE, Teller,
+    doorways_of, first_place, teller_of,
 };
 
 // Where a client's first payload has the number that tells its lane: a request its channel, and a
@@ -61,6 +65,26 @@ impl<C: Clock> Witness<C> {
 }
 
 impl<C: Clock> Watch for Witness<C> {
+    fn is_sealed(&self, reply: &[u8]) -> bool {
+        shows_seal(reply)
+    }
+
+    fn came(&self) {
+        if let Some(notices) = &self.teller {
+            if let Some(tally) = notices.tally() {
+                tally.came();
+            }
+        }
+    }
+
+    fn went(&self) {
+        if let Some(notices) = &self.teller {
+            if let Some(tally) = notices.tally() {
+                tally.went();
+            }
+        }
+    }
+
     fn broke(&self, peer: SocketAddr, why: Breakage) {
         self.tell(Some(peer), Happening::Broken(why));
     }
@@ -116,16 +140,16 @@ fn merged_of(alloc: Global, ends: Vec<LaneEnd>) -> Result<Vec<Doorway>, AllocErr
     Ok(doorways)
 }
 
-/// What is asked of a switch.
+// What is asked of a switch.
 #[derive(Clone, Copy)]
-pub struct Crowd {
-    pub clients: u32,
-    pub idle: Option<Duration>,
-    pub lanes: u32,
+struct Crowd {
+    clients: u32,
+    idle: Option<Duration>,
+    lanes: u32,
 }
 
-/// Starts a switch between these listeners and the lanes, and gives what stands behind the lanes' doors.
-pub fn begin_edge<W: Threads>(
+// Starts a switch between these listeners and the lanes, and gives what stands behind the lanes' doors.
+fn begin_edge<W: Threads>(
     rt: &HostRuntime,
     workers: &W,
     crowd: Crowd,
@@ -148,4 +172,63 @@ pub fn begin_edge<W: Threads>(
     let witness = Witness { teller, clock: *rt };
     let (running, ends) = start(workers, *rt, rt.alloc(), edge, witness, &bound, crowd.lanes)?;
     Ok((running, merged_of(rt.alloc(), ends)?))
+}
+
+// Whether an address is bound nowhere.
+fn has_unbound(addresses: &[&str], listeners: &[Option<Listener>]) -> bool {
+    for place in 0..addresses.len() {
+        let first = first_place(addresses, place);
+        if !matches!(listeners.get(first), Some(Some(_))) {
+            return true;
+        }
+    }
+    false
+}
+
+/// What stands behind the doors: where many clients are wanted the ends of a switch, else the listener of
+/// each address.
+pub fn doors_of<W: Threads>(
+    rt: &HostRuntime,
+    workers: &W,
+    own: &Own<'_>,
+    setting: &Setting<'_>,
+    tellers: &[Teller],
+    listeners: &[Option<Listener>],
+) -> io::Result<(Vec<Doorway>, Option<Running>)>
+    requires few { length setting.now.addresses.now ≤ 16 }
+    ensures some { IfOk result (λ made. 0 < vec_len made.0) }
+    ensures few { IfOk result (λ made. vec_len made.0 ≤ 16) }
+{
+    let addresses = setting.addresses;
+    let clients = match own.clients {
+        Some(clients) if !addresses.is_empty() => clients,
+        _ => return Ok((doorways_of(rt.alloc(), addresses, listeners)?, None)),
+    };
+    if has_unbound(addresses, listeners) {
+        return Err(io::Error::from(ErrorKind::AddrNotAvailable));
+    }
+    let teller = match tellers.last() {
+        Some(teller) => teller_of(teller)?,
+        None => None,
+    };
+    let crowd = Crowd {
+        clients,
+        idle: own.idle,
+        lanes: addresses.len() as u32,
+    };
+    let (running, doorways) = begin_edge(rt, workers, crowd, teller, listeners)?;
+    Ok((doorways, Some(running)))
+}
+
+/// Lets the switch end, whose lanes have ended.
+pub fn end_edge<W: Threads>(edge: Option<Running>, workers: &W, listeners: &[Option<Listener>]) {
+    let Some(running) = edge else {
+        return;
+    };
+    for listener in listeners.iter().flatten() {
+        if let Ok(shutter) = Shutter::of(listener) {
+            shutter.shut();
+        }
+    }
+    running.end(workers);
 }

@@ -3,6 +3,8 @@
 
 ghost use Rattle.std.specs.Prelude.{◌<◌, ◌≤◌, length, vec_len, IfOk};
 
+mod checking;
+mod decisions;
 mod edge;
 mod keys;
 mod lanes;
@@ -10,11 +12,14 @@ mod own;
 mod print;
 mod telling;
 mod usage;
+mod wallets;
 
-use edge::{Crowd, begin_edge, idle_of};
+use checking::line_of_file;
+use cred_pull::Fetch;
+use edge::{doors_of, end_edge, idle_of};
 use frame_link::{Clock, Door, RelayLink, Sink, pour};
 use keys::fresh_key;
-use lanes::{Setting, lanes_of};
+use lanes::{Setting, lanes_of, partners_of};
 use own::{Own, own_of};
 use print::text_of;
 use std::alloc::{AllocError, Global};
@@ -28,16 +33,16 @@ use std::{env, io, time};
 use system_hub::Running;
 use system_link::{
     ClockGuard, Common, Deferred, Doorway, FileReading, Listener, Origin, Outbox, PIECE, Patient,
-    Prompt, Reading, Rounded, Rounds, Scribe, Shutter, Stop, Teller, Telling, Watched, Writing,
-    addresses_of, bind_all, doorways_of, first_place, stop_at_end, tell_addresses, tell_readers,
-    teller_of,
+    Prompt, Reading, Rounded, Rounds, Stop, Telling, Watched, Writing, addresses_of, bind_all,
+    rounds_of, stop_at_end, tell_addresses, tell_readers,
 };
 use taos_node::{
-    Ending, FileFault, Lane, LanesEnd, Outcome, Wanted, file_opening, status_of, taos, tell,
-    wanted_of,
+    Ending, FileFault, Lane, LanesEnd, Outcome, Wanted, file_opening, file_wallet, status_of, taos,
+    tell, wanted_of,
 };
-use telling::{output_teller, tellers_of};
+use telling::{Told, output_teller, tell_end, tell_start, told_of};
 use usage::{USAGE, VERSION};
+use wallets::{failed_door, give_at_all, wallet_doors};
 
 // The status of a `check` that refuses a reply.
 const REFUSED: u8 = 11;
@@ -74,13 +79,20 @@ fn file_of<'a>(rt: &HostRuntime, path: &'a str) -> FileReading<'a, File, Stderr>
 }
 
 // The work of a command, by these lanes. What is read and written is of the first.
-fn work<W: Threads + Wait + Sync, N: Sink, C: Clock + Send, R: RelayLink + Send, D: Door + Send>(
+fn work<
+    W: Threads + Wait + Sync,
+    N: Sink,
+    C: Clock + Send,
+    R: RelayLink + Send,
+    D: Door + Send,
+    P: Fetch + Send,
+>(
     rt: &HostRuntime,
     workers: &W,
     setting: &Setting<'_>,
     common: Common<'_>,
     notes: &mut N,
-    lanes: &mut [Lane<C, R, D>],
+    lanes: &mut [Lane<C, R, D, P>],
 ) -> u8
     requires some { 0 < length lanes.old }
     requires few { length lanes.old ≤ 16 }
@@ -101,9 +113,10 @@ fn work<W: Threads + Wait + Sync, N: Sink, C: Clock + Send, R: RelayLink + Send,
         tell_readers(&mut rt.stderr(), path, open);
     }
     let mut file = Watched::new(alloc, file, path, rt.stderr());
-    let mut input = Reading::new(Rounded::new(standard_input, rounds));
     let teller = output_teller(setting.wanted, common.tellers);
-    let telling = Telling::new(Deferred::new(&outbox), *rt, None, teller);
+    let timed = Arc::try_clone(&rounds).ok();
+    let mut input = Reading::new(Rounded::new(standard_input, *rt, rounds));
+    let telling = Telling::new(Deferred::new(&outbox), *rt, None, teller, timed);
     let mut output = Writing::new(telling);
     let status = taos(
         workers,
@@ -135,69 +148,20 @@ struct Ground {
     stop: Arc<Stop, Global>,
     guard: Arc<ClockGuard, Global>,
     first_rounds: Arc<Rounds, Global>,
-    tellers: Vec<Teller>,
-    scribe: Option<Scribe>,
+    told: Told,
     doorways: Vec<Doorway>,
     edge: Option<Running>,
 }
 
-// Whether an address is bound nowhere.
-fn has_unbound(addresses: &[&str], listeners: &[Option<Listener>]) -> bool {
-    for place in 0..addresses.len() {
-        let first = first_place(addresses, place);
-        if !matches!(listeners.get(first), Some(Some(_))) {
-            return true;
-        }
+// Lets who tells end.
+fn end_telling<W: Threads>(told: Told, workers: &W, rt: &HostRuntime) {
+    let Told { scribe, status, .. } = told;
+    if let Some(status) = status {
+        status.end(workers);
     }
-    false
-}
-
-// What stands behind the doors: where many clients are wanted the ends of a switch, else the listener of
-// each address.
-fn doors_of<W: Threads>(
-    rt: &HostRuntime,
-    workers: &W,
-    own: &Own<'_>,
-    setting: &Setting<'_>,
-    tellers: &[Teller],
-    listeners: &[Option<Listener>],
-) -> io::Result<(Vec<Doorway>, Option<Running>)>
-    requires few { length setting.now.addresses.now ≤ 16 }
-    ensures some { IfOk result (λ made. 0 < vec_len made.0) }
-    ensures few { IfOk result (λ made. vec_len made.0 ≤ 16) }
-{
-    let addresses = setting.addresses;
-    let clients = match own.clients {
-        Some(clients) if !addresses.is_empty() => clients,
-        _ => return Ok((doorways_of(rt.alloc(), addresses, listeners)?, None)),
-    };
-    if has_unbound(addresses, listeners) {
-        return Err(io::Error::from(ErrorKind::AddrNotAvailable));
+    if let Some(scribe) = scribe {
+        scribe.end(workers, rt);
     }
-    let teller = match tellers.last() {
-        Some(teller) => teller_of(teller)?,
-        None => None,
-    };
-    let crowd = Crowd {
-        clients,
-        idle: own.idle,
-        lanes: addresses.len() as u32,
-    };
-    let (running, doorways) = begin_edge(rt, workers, crowd, teller, listeners)?;
-    Ok((doorways, Some(running)))
-}
-
-// Lets the switch end, whose lanes have ended.
-fn end_edge<W: Threads>(edge: Option<Running>, workers: &W, listeners: &[Option<Listener>]) {
-    let Some(running) = edge else {
-        return;
-    };
-    for listener in listeners.iter().flatten() {
-        if let Ok(shutter) = Shutter::of(listener) {
-            shutter.shut();
-        }
-    }
-    running.end(workers);
 }
 
 // Listens, tells the addresses, and lets the end of standard input stop the doors, where that is wanted.
@@ -214,8 +178,8 @@ fn begin<W: Threads>(
     let (alloc, addresses) = (rt.alloc(), setting.addresses);
     let listeners = bind_all(rt, alloc, addresses, &mut rt.stderr())?;
     let stop = Arc::new(alloc, Stop::new())?;
-    let (tellers, scribe) = tellers_of(rt, workers, own.tells, addresses.len().max(1))?;
-    let (doorways, edge) = doors_of(rt, workers, own, setting, &tellers, &listeners)?;
+    let told = told_of(rt, workers, own, setting, &stop, &listeners)?;
+    let (doorways, edge) = doors_of(rt, workers, own, setting, &told.tellers, &listeners)?;
     if own.stops_at_end && serves_doors(setting.wanted) {
         let input = Patient::new(rt.stdin(), *rt);
         stop_at_end(workers, alloc, input, &stop, &listeners)?;
@@ -232,9 +196,11 @@ fn begin<W: Threads>(
         listeners,
         stop,
         guard: Arc::new(alloc, ClockGuard::new())?,
-        first_rounds: Arc::new(alloc, Rounds::new())?,
-        tellers,
-        scribe,
+        first_rounds: Arc::new(
+            alloc,
+            rounds_of(rt, alloc, own.status.is_some(), own.watches()),
+        )?,
+        told,
         doorways,
         edge,
     })
@@ -292,8 +258,7 @@ fn listen<W: Threads + Wait + Sync, N: Sink>(
         stop,
         guard,
         first_rounds,
-        tellers,
-        scribe,
+        told,
         doorways,
         edge,
     } = ground;
@@ -302,19 +267,26 @@ fn listen<W: Threads + Wait + Sync, N: Sink>(
         stop: &stop,
         guard: &guard,
         relay: setting.relay,
-        tellers: &tellers,
+        wallet: setting.wallet,
+        tellers: &told.tellers,
+        is_timed: own.status.is_some(),
+        keeps_requests: own.watches(),
         first_rounds: &first_rounds,
     };
+    tell_start(rt, own, setting);
     let status = work_by(rt, rt, workers, setting, common, doorways, notes);
+    let status = match told.has_stopped() {
+        true if status == 0 => ended(notes, Ending::Served(Outcome::WriteFault)),
+        _ => status,
+    };
     end_edge(edge, workers, &listeners);
-    if let Some(scribe) = scribe {
-        scribe.end(workers, rt);
-    }
+    end_telling(told, workers, rt);
+    tell_end(rt, own, status);
     status
 }
 
-// Behind the options, the first three words are the file, where to listen and the relay; the others
-// are the command.
+// Behind the options, the first three words are the file, where to listen and the relay with the
+// wallet; the others are the command.
 fn run<W: Threads + Wait + Sync, N: Sink>(
     rt: &HostRuntime,
     workers: &W,
@@ -324,9 +296,10 @@ fn run<W: Threads + Wait + Sync, N: Sink>(
     let Some(own) = own_of(words) else {
         return ended(notes, Ending::Usage);
     };
-    let [path, listening, relay, command @ ..] = own.words else {
+    let [path, listening, partners, command @ ..] = own.words else {
         return ended(notes, Ending::Usage);
     };
+    let (relay, wallet) = partners_of(partners.as_str());
     let Some(mut addresses) = addresses_of(listening.as_str()) else {
         return ended(notes, Ending::Usage);
     };
@@ -348,7 +321,8 @@ fn run<W: Threads + Wait + Sync, N: Sink>(
             _ => path.as_str(),
         },
         addresses: addresses.as_slice(),
-        relay: relay.as_str(),
+        relay,
+        wallet,
         command,
         wanted,
     };
@@ -383,6 +357,41 @@ fn show_file<N: Sink>(rt: &HostRuntime, path: &str, notes: &mut N) -> u8 {
     }
 }
 
+// Gives what a wallet file has at these addresses, until each listener has failed.
+fn serve_wallet_at<W: Threads + Sync, N: Sink>(
+    rt: &HostRuntime,
+    workers: &W,
+    path: &str,
+    listening: &str,
+    notes: &mut N,
+) -> u8 {
+    let Some(addresses) = addresses_of(listening) else {
+        return ended(notes, Ending::Usage);
+    };
+    if addresses.is_empty() {
+        return ended(notes, Ending::Usage);
+    }
+    let wallet = match file_wallet(rt.alloc(), &mut file_of(rt, path)) {
+        Ok(wallet) => wallet,
+        Err(fault) => return ended(notes, Ending::File(fault)),
+    };
+    let mut doors = match wallet_doors(rt, addresses.as_slice()) {
+        Ok(doors) => doors,
+        Err(reason) => return not_begun(rt, notes, &reason),
+    };
+    give_at_all(workers, rt.alloc(), &wallet, doors.as_mut_slice());
+    let lane = failed_door(&doors);
+    ended(notes, Ending::Lanes(LanesEnd::DoorFault { lane }))
+}
+
+// Prints in a line what a node file or a relay file means.
+fn check_file<N: Sink>(rt: &HostRuntime, path: &str, notes: &mut N) -> u8 {
+    match line_of_file(rt.alloc(), &mut file_of(rt, path)) {
+        Ok(line) => show(rt, line.as_str().as_bytes(), notes),
+        Err(fault) => ended(notes, Ending::File(fault)),
+    }
+}
+
 // The words that ask the program itself for something; all others are of the node.
 fn answer<W: Threads + Wait + Sync, N: Sink>(
     rt: &HostRuntime,
@@ -402,6 +411,10 @@ fn answer<W: Threads + Wait + Sync, N: Sink>(
             _ => ended(notes, Ending::Usage),
         },
         [word, path] if word.as_str() == "--print" => show_file(rt, path.as_str(), notes),
+        [word, path, listening] if word.as_str() == "--wallet" => {
+            serve_wallet_at(rt, workers, path.as_str(), listening.as_str(), notes)
+        }
+        [word, path] if word.as_str() == "--check-file" => check_file(rt, path.as_str(), notes),
         _ => run(rt, workers, words, notes),
     }
 }

@@ -2,19 +2,10 @@
 
 use frame_hub::MAX_CLIENTS;
 use std::time::Duration;
+use system_link::{Form, Tells};
 
 // The most seconds that a peer may have between frames.
 const MAX_IDLE: u64 = 86_400;
-
-/// Which notices are written on standard error.
-#[derive(Clone, Copy, Debug, PartialEq, Eq)]
-pub enum Tells {
-    Nothing,
-    /// Those of refusals, of connections that break, and of failures of the relay.
-    Refusals,
-    /// And those of denials.
-    Denials,
-}
 
 /// What the options say, and the words behind them.
 #[derive(Drop)]
@@ -28,9 +19,24 @@ pub struct Own<'w> {
     pub tells_addresses: bool,
     /// The end of standard input stops what serves doors.
     pub stops_at_end: bool,
-    /// What is told while it serves.
+    /// That it begins to serve is told, and that it has served.
+    pub tells_start: bool,
+    /// What is told while it serves, and how.
     pub tells: Tells,
+    pub form: Option<Form>,
+    /// The file that has a line for each ruling, and whether one is only counted that can't be written.
+    pub decisions: Option<&'w str>,
+    pub may_drop: bool,
+    /// Where who asks is told by HTTP what is counted.
+    pub status: Option<&'w str>,
     pub words: &'w [String],
+}
+
+impl<'w> Own<'w> {
+    /// Whether something looks at what lanes do.
+    pub fn watches(&self) -> bool {
+        self.tells != Tells::Nothing || self.status.is_some() || self.decisions.is_some()
+    }
 }
 
 // How many seconds a word says, from 1 to a day's, written as all numbers are.
@@ -52,6 +58,61 @@ fn clients_of(word: &str) -> Option<u32> {
     match word.parse::<u32>() {
         Ok(clients) if clients <= MAX_CLIENTS => Some(clients),
         _ => None,
+    }
+}
+
+// In which form a word says that notices are written.
+fn form_of(word: &str) -> Option<Form> {
+    match word {
+        "text" => Some(Form::Text),
+        "json" => Some(Form::Json),
+        _ => None,
+    }
+}
+
+// An option that says what is told, and how, taken in, and whether there was one.
+fn take_telling(own: &mut Own<'_>) -> Option<bool> {
+    match own.words {
+        [option, form, rest @ ..] if option.as_str() == "--notices" && own.form.is_none() => {
+            own.form = Some(form_of(form.as_str())?);
+            own.words = rest;
+            Some(true)
+        }
+        [option, address, rest @ ..] if option.as_str() == "--status" && own.status.is_none() => {
+            own.status = Some(address.as_str());
+            own.words = rest;
+            Some(true)
+        }
+        [option, path, rest @ ..] if option.as_str() == "--decisions" && own.decisions.is_none() =>
+            {
+                own.decisions = Some(path.as_str());
+                own.words = rest;
+                Some(true)
+            }
+        [option, rest @ ..] if option.as_str() == "--decisions-may-drop" => {
+            own.may_drop = true;
+            own.words = rest;
+            Some(true)
+        }
+        [option, rest @ ..] if option.as_str() == "--tell-start" => {
+            own.tells_start = true;
+            own.words = rest;
+            Some(true)
+        }
+        [option, rest @ ..] if option.as_str() == "--tell-refusals" => {
+            if own.tells == Tells::Nothing {
+                own.tells = Tells::Refusals;
+            }
+            own.words = rest;
+            Some(true)
+        }
+        [option, rest @ ..] if option.as_str() == "--tell-denials" => {
+            own.tells = Tells::Denials;
+            own.words = rest;
+            Some(true)
+        }
+        [word, ..] if word.as_str().starts_with("--") => None,
+        _ => Some(false),
     }
 }
 
@@ -78,20 +139,7 @@ fn take_one(own: &mut Own<'_>) -> Option<bool> {
             own.words = rest;
             Some(true)
         }
-        [option, rest @ ..] if option.as_str() == "--tell-refusals" => {
-            if own.tells == Tells::Nothing {
-                own.tells = Tells::Refusals;
-            }
-            own.words = rest;
-            Some(true)
-        }
-        [option, rest @ ..] if option.as_str() == "--tell-denials" => {
-            own.tells = Tells::Denials;
-            own.words = rest;
-            Some(true)
-        }
-        [word, ..] if word.as_str().starts_with("--") => None,
-        _ => Some(false),
+        _ => take_telling(own),
     }
 }
 
@@ -102,7 +150,12 @@ pub fn own_of(words: &[String]) -> Option<Own<'_>> {
         clients: None,
         tells_addresses: false,
         stops_at_end: false,
+        tells_start: false,
         tells: Tells::Nothing,
+        form: None,
+        decisions: None,
+        may_drop: false,
+        status: None,
         words,
     };
     for _ in 0..words.len() {

@@ -16,6 +16,7 @@ enum Happens {
     Discard,
     Forget,
     Expire,
+    Withdraw,
 }
 
 const DIGEST: [u8; 32] = [0x0f; 32];
@@ -28,7 +29,7 @@ const LAPSED: Told = Told::Dropped(DropCause::Lapsed {
 });
 
 // What happens to shard 0, what is told of it, and its line.
-const EVENTS: [(Happens, Told, &str); 13] = [
+const EVENTS: [(Happens, Told, &str); 15] = [
     (
         Happens::Ask { right: 1 },
         Told::Miss,
@@ -96,6 +97,16 @@ const EVENTS: [(Happens, Told, &str); 13] = [
         Told::Miss,
         "shard 0 entry 12 ask channel 1 seq 1 reading 1000 certificates 0 right 3 -> miss",
     ),
+    (
+        Happens::Withdraw,
+        Told::Removed { count: 2 },
+        "shard 0 entry 13 withdraw 7 -> removed 2",
+    ),
+    (
+        Happens::Withdraw,
+        Told::WithdrawnFull { held: 64 },
+        "shard 0 entry 14 withdraw 7 -> full 64",
+    ),
 ];
 
 #[derive(Clone, Copy)]
@@ -107,10 +118,11 @@ enum Asked {
     Discard,
     Forget,
     Sweep,
+    Withdraw,
 }
 
 // What is asked of object 5 by the Ask at place 0 of shard 0, how it is ruled, and its line.
-const OPERATIONS: [(Asked, Ruling, &str); 8] = [
+const OPERATIONS: [(Asked, Ruling, &str); 9] = [
     (
         Asked::Read,
         Ruling::Granted { entry: 0 },
@@ -151,6 +163,11 @@ const OPERATIONS: [(Asked, Ruling, &str); 8] = [
         Asked::Sweep,
         Ruling::Granted { entry: 255 },
         "object 5 entry 7 ask 0/0 sweep -> granted 255",
+    ),
+    (
+        Asked::Withdraw,
+        Ruling::Granted { entry: 0 },
+        "object 5 entry 8 ask 0/0 withdraw 7 -> granted 0",
     ),
 ];
 
@@ -193,6 +210,7 @@ fn event(alloc: Global, happens: Happens) -> Result<Event, Fail> {
         Happens::Discard => Ok(Event::Discard(DIGEST)),
         Happens::Forget => Ok(Event::Forget(9)),
         Happens::Expire => Ok(Event::Expire(5000)),
+        Happens::Withdraw => Ok(Event::Withdraw(7)),
     }
 }
 
@@ -221,6 +239,7 @@ fn operation(alloc: Global, asked: Asked) -> Result<Op, Fail> {
         Asked::Discard => Ok(Op::Discard(DIGEST)),
         Asked::Forget => Ok(Op::Forget(9)),
         Asked::Sweep => Ok(Op::Sweep),
+        Asked::Withdraw => Ok(Op::Withdraw(7)),
     }
 }
 

@@ -1,12 +1,13 @@
 //! Held certificates, named by what brought them: so that to hold one takes no memory.
 
-ghost use Rattle.std.specs.Prelude.{◌≡◌, map, Some, IsSome};
-ghost use Rattle.agent_core.specs.Views.{entry_of, event_of};
+ghost use Rattle.std.specs.Prelude.{◌≡◌, Some, IsSome};
+ghost use Rattle.agent_core.specs.Views.{event_of};
 ghost use Rattle.stmt_codec.specs.Certificates.{certificate};
 ghost use Rattle.stmt_codec.specs.View.{certificates};
 ghost use Rattle.agent_core.specs.Names.{brought_by, named};
 
-use crate::event::{Event, ShardEntry};
+use crate::event::Event;
+use crate::held::book::Book;
 use crate::limits::MAX_OWN;
 use arrayvec::ArrayVec;
 use std::sync::Arc;
@@ -35,24 +36,23 @@ pub(crate) fn brought_by(event: &Event) -> &[Arc<Cert>]
     match event {
         Event::Ask(ask) => &ask.presented,
         Event::Hold(certs) => certs,
-        Event::Keep { .. } | Event::Discard(_) | Event::Forget(_) | Event::Expire(_) => &[],
+        Event::Keep { .. }
+        | Event::Discard(_)
+        | Event::Forget(_)
+        | Event::Expire(_)
+        | Event::Withdraw(_) => &[],
     }
 }
 
 /// The certificate of a name.
-pub(crate) fn cert_named<'a>(
-    commons: &'a [Arc<Cert>],
-    entries: &'a [ShardEntry],
-    name: Name,
-) -> &'a Arc<Cert>
-    requires { IsSome (named (certificates commons.now) (map entry_of entries.now) name) }
-    ensures { named (certificates commons.now) (map entry_of entries.now) name
-        ≡ Some (certificate result.now.value.body) }
+pub(crate) fn cert_named<'a>(book: &Book<'a>, name: Name) -> &'a Arc<Cert>
+    requires { IsSome (named book.now name) }
+    ensures { named book.now name ≡ Some (certificate result.now.value.body) }
 {
     match name {
-        Name::Common(place) => &commons[place as usize],
+        Name::Common(place) => &book.plan.commons[place as usize],
         Name::Brought { entry, place } => &brought_by(
-            &entries[entry as usize].event,
+            &book.entries[entry as usize].event,
         )[place as usize],
     }
 }

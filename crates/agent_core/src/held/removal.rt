@@ -1,18 +1,14 @@
 //! Which certificates are let go.
 
-ghost use Rattle.std.specs.Prelude.{◌≡◌, ◌≤◌, filter, length, map};
+ghost use Rattle.std.specs.Prelude.{◌≡◌, ◌≤◌, filter, length};
 ghost use Rattle.stmt_codec.specs.Certificates.{certificate};
-ghost use Rattle.stmt_codec.specs.View.{certificates};
 ghost use Rattle.agent_core.specs.declared.held.removal.Removal.TheVariants as removal;
 ghost use Rattle.agent_core.specs.declared.limits.TheConstants.{MAX_OWN};
 ghost use Rattle.agent_core.specs.Kept.{lets_go, name_stays};
 ghost use Rattle.agent_core.specs.Names.{AreNames};
-ghost use Rattle.agent_core.specs.Views.{entry_of};
 
-use crate::event::ShardEntry;
+use crate::held::book::Book;
 use crate::held::name::{Names, cert_named};
-use crate::plan::ShardPlan;
-use std::sync::Arc;
 use stmt_codec::Cert;
 
 #[derive(Debug, Drop)]
@@ -23,14 +19,16 @@ pub(crate) enum Removal {
     Ended { keep: u64, moment: u64 },
     /// Those of this digest.
     Named { digest: [u8; 32] },
+    /// Those of this issuer.
+    Issued { issuer: u32 },
 }
 
 /// The removal of what is gone by the moment.
-pub(crate) fn gone_by(plan: &ShardPlan, moment: u64) -> Removal
-    ensures { result ≡ removal.Ended plan.now.keep moment }
+pub(crate) fn gone_by(book: &Book<'_>, moment: u64) -> Removal
+    ensures { result ≡ removal.Ended book.now.plan.keep moment }
 {
     Removal::Ended {
-        keep: plan.keep,
+        keep: book.plan.keep,
         moment,
     }
 }
@@ -45,25 +43,20 @@ pub(crate) fn lets_go(removal: &Removal, cert: &Cert) -> bool
             cert.body.until <= *moment && *keep <= *moment - cert.body.until
         }
         Removal::Named { digest } => cert.digest == *digest,
+        Removal::Issued { issuer } => cert.body.issuer == *issuer,
     }
 }
 
 /// How many of the names stay.
-pub(crate) fn count_left(
-    commons: &[Arc<Cert>],
-    entries: &[ShardEntry],
-    names: &Names,
-    removal: &Removal,
-) -> usize
-    requires { AreNames (certificates commons.now) (map entry_of entries.now) names.now.items }
-    ensures count { result ≡ length (filter (name_stays (certificates commons.now)
-        (map entry_of entries.now) removal.now) names.now.items) }
+pub(crate) fn count_left(book: &Book<'_>, names: &Names, removal: &Removal) -> usize
+    requires { AreNames book.now names.now.items }
+    ensures count { result ≡ length (filter (name_stays book.now removal.now) names.now.items) }
     ensures few { result ≤ MAX_OWN }
 {
     let mut count = 0;
     for place in 0..names.len() {
         let name = names.as_slice()[place];
-        if !lets_go(removal, cert_named(commons, entries, name)) {
+        if !lets_go(removal, cert_named(book, name)) {
             count += 1;
         }
     }
@@ -71,15 +64,14 @@ pub(crate) fn count_left(
 }
 
 // The names of those that stay.
-fn left_of(commons: &[Arc<Cert>], entries: &[ShardEntry], names: &Names, removal: &Removal) -> Names
-    requires { AreNames (certificates commons.now) (map entry_of entries.now) names.now.items }
-    ensures { result.items ≡ filter (name_stays (certificates commons.now)
-        (map entry_of entries.now) removal.now) names.now.items }
+fn left_of(book: &Book<'_>, names: &Names, removal: &Removal) -> Names
+    requires { AreNames book.now names.now.items }
+    ensures { result.items ≡ filter (name_stays book.now removal.now) names.now.items }
 {
     let mut left = Names::new();
     for place in 0..names.len() {
         let name = names.as_slice()[place];
-        if !lets_go(removal, cert_named(commons, entries, name)) {
+        if !lets_go(removal, cert_named(book, name)) {
             left.push(name);
         }
     }
@@ -87,37 +79,22 @@ fn left_of(commons: &[Arc<Cert>], entries: &[ShardEntry], names: &Names, removal
 }
 
 /// Lets go of names, where so many of them stay. Where all do, nothing is written.
-pub(crate) fn keep_left(
-    commons: &[Arc<Cert>],
-    entries: &[ShardEntry],
-    names: &mut Names,
-    removal: &Removal,
-    count: usize,
-)
-    requires names { AreNames (certificates commons.now) (map entry_of entries.now)
-        names.old.items }
-    requires count { count ≡ length (filter (name_stays (certificates commons.now)
-        (map entry_of entries.now) removal.now) names.old.items) }
-    ensures names { names.new.items ≡ filter (name_stays (certificates commons.now)
-        (map entry_of entries.now) removal.now) names.old.items }
+pub(crate) fn keep_left(book: &Book<'_>, names: &mut Names, removal: &Removal, count: usize)
+    requires names { AreNames book.now names.old.items }
+    requires count { count ≡ length (filter (name_stays book.now removal.now) names.old.items) }
+    ensures names { names.new.items ≡ filter (name_stays book.now removal.now) names.old.items }
     ensures count { length names.new.items ≡ count }
 {
     if count < names.len() {
-        *names = left_of(commons, entries, names, removal);
+        *names = left_of(book, names, removal);
     }
 }
 
 /// Lets go of names. Where all stay, nothing is written.
-pub(crate) fn sweep(
-    commons: &[Arc<Cert>],
-    entries: &[ShardEntry],
-    names: &mut Names,
-    removal: &Removal,
-)
-    requires { AreNames (certificates commons.now) (map entry_of entries.now) names.old.items }
-    ensures { names.new.items ≡ filter (name_stays (certificates commons.now)
-        (map entry_of entries.now) removal.now) names.old.items }
+pub(crate) fn sweep(book: &Book<'_>, names: &mut Names, removal: &Removal)
+    requires { AreNames book.now names.old.items }
+    ensures { names.new.items ≡ filter (name_stays book.now removal.now) names.old.items }
 {
-    let count = count_left(commons, entries, names, removal);
-    keep_left(commons, entries, names, removal, count);
+    let count = count_left(book, names, removal);
+    keep_left(book, names, removal, count);
 }

@@ -2,10 +2,10 @@
 
 ghost use Rattle.std.specs.Prelude.{◌≡◌, ◌<◌, length, map, IfOk, OnErr, OnOk};
 ghost use Rattle.agent_core.specs.Answers.{FitsEvent, TakesMemory};
-ghost use Rattle.agent_core.specs.Journals.{cache_after, told_at, IsMeant};
-ghost use Rattle.agent_core.specs.Kept.{IsKept};
+ghost use Rattle.agent_core.specs.Journals.{told_at, IsMeant};
+ghost use Rattle.agent_core.specs.Kept.{IsKept, cache_of};
 ghost use Rattle.agent_core.specs.Looking.{Answered};
-ghost use Rattle.agent_core.specs.Views.{entry_of, event_of, plan_of};
+ghost use Rattle.agent_core.specs.Views.{book_of, entry_of, event_of, plan_of};
 
 use crate::event::{Event, ShardEntry};
 use crate::held::presented::Presented;
@@ -15,6 +15,7 @@ use crate::shard::forgetting::forget;
 use crate::shard::keeping::keep;
 use crate::shard::plain::{discard, expire, hold};
 use crate::shard::store::Store;
+use crate::shard::withdrawing::{purge, withdraw};
 use crate::told::Answer;
 use proof_cache::Cache;
 use std::alloc::{AllocError, Global};
@@ -34,11 +35,10 @@ pub(crate) fn answer_to(
     requires meant { IsMeant (plan_of plan.now) (map entry_of entries.old.items)
         (event_of event) }
     requires fits { FitsEvent (event_of event) }
-    requires cached { cache.old ≡ cache_after (plan_of plan.now) (map entry_of entries.old.items) }
+    requires cached { cache.old ≡ cache_of (book_of plan.now entries.old.items) }
     ensures answered { IfOk result (λ answer. Answered (plan_of plan.now) entries.old
         (event_of event) answer entries.new store.new) }
-    ensures cached { OnOk result
-        (cache.new ≡ cache_after (plan_of plan.now) (map entry_of entries.new.items)) }
+    ensures cached { OnOk result (cache.new ≡ cache_of (book_of plan.now entries.new.items)) }
     ensures unchanged { OnErr result ((entries.new ≡ entries.old) × (store.new ≡ store.old)
         × (cache.new ≡ cache.old)) }
     ensures wanted { OnErr result (TakesMemory (told_at (plan_of plan.now)
@@ -64,6 +64,11 @@ pub(crate) fn answer_to(
         Event::Expire(reading) => {
             let told = expire(plan, entries, store, reading);
             cache.purge_before(store.clock);
+            Ok(told.answer())
+        }
+        Event::Withdraw(issuer) => {
+            let told = withdraw(plan, entries, store, issuer);
+            purge(cache, issuer, told);
             Ok(told.answer())
         }
     }

@@ -4,14 +4,15 @@ ghost use Rattle.std.specs.Prelude.{◌≡◌, ◌+◌, ◌<◌, ◌≤◌, ◌+
 ghost use Rattle.stmt_codec.specs.View.{certificates};
 ghost use Rattle.agent_core.specs.Answers.{IsPlain, TakesMemory};
 ghost use Rattle.agent_core.specs.Caches.{first_hit, hit_or_miss, unlapsed};
-ghost use Rattle.agent_core.specs.Kept.{IsKept, IsStore};
-ghost use Rattle.agent_core.specs.Looking.{IsLook, IsTaken, Takes, Answered};
+ghost use Rattle.agent_core.specs.Kept.{IsKept, IsStore, cache_of, state_of};
+ghost use Rattle.agent_core.specs.Looking.{IsLook, IsTaken, Takes, Answered, state_met};
 ghost use Rattle.agent_core.specs.Plans.{IsPlan};
-ghost use Rattle.agent_core.specs.State.{Asks, Plain, asking, brought, swept};
-ghost use Rattle.agent_core.specs.Journals.{state_after, cache_after, told_at, IsMeant};
-ghost use Rattle.agent_core.specs.Views.{ask_of, entry_of, plan_of};
+ghost use Rattle.agent_core.specs.State.{Asks, Plain, asking, brought};
+ghost use Rattle.agent_core.specs.Journals.{told_at, IsMeant};
+ghost use Rattle.agent_core.specs.Views.{ask_of, book_of, entry_of, plan_of};
 
 use crate::event::{Ask, Event, ShardEntry};
+use crate::held::book::Book;
 use crate::held::naming::name_all;
 use crate::held::newness::{Holding, Places, new_of};
 use crate::held::presented::Presented;
@@ -21,7 +22,7 @@ use crate::limits::MAX_OWN;
 use crate::plan::ShardPlan;
 use crate::shard::append::append;
 use crate::shard::presenting::kept_ask;
-use crate::shard::row::place_of;
+use crate::shard::row::row_of;
 use crate::shard::serving::{bring, serving};
 use crate::shard::store::Store;
 use crate::told::{Answer, Snapshot, Told};
@@ -41,26 +42,23 @@ pub(crate) struct Look {
 }
 
 // Looks, and changes nothing.
-fn look_at(plan: &ShardPlan, entries: &[ShardEntry], store: &Store, asked: &Ask) -> Look
-    requires planned { IsPlan (plan_of plan.now) }
-    requires store { IsStore (plan_of plan.now) (map entry_of entries.now)
-        (state_after (plan_of plan.now) (map entry_of entries.now)) store.now }
-    requires channel { Contains (plan_of plan.now).channels asked.now.channel }
+fn look_at(book: &Book<'_>, store: &Store, asked: &Ask) -> Look
+    requires planned { IsPlan book.now.plan }
+    requires store { IsStore book.now (state_of book.now) store.now }
+    requires channel { Contains book.now.plan.channels asked.now.channel }
     requires few { length asked.now.presented.items ≤ 16 }
-    ensures { IsLook (plan_of plan.now) (map entry_of entries.now)
-        (state_after (plan_of plan.now) (map entry_of entries.now)) store.now (ask_of asked.now)
-        result }
+    ensures { IsLook book.now store.now (ask_of asked.now) result }
 {
-    let place = place_of(&plan.channels, asked.channel).unwrap();
+    let place = row_of(book, asked.channel).unwrap();
     let moment = store.clock.max(asked.reading);
-    let gone = gone_by(plan, moment);
+    let gone = gone_by(book, moment);
     let own = &store.rows[place].own;
-    let held = count_left(&plan.commons, entries, own, &gone);
+    let held = count_left(book, own, &gone);
     let then = Holding {
-        commons: &plan.commons,
-        entries,
+        book,
         own,
         shared: &store.commons,
+        withdrawn: &store.withdrawn,
         removal: &gone,
     };
     let new = new_of(&then, &asked.presented);
@@ -74,26 +72,18 @@ fn look_at(plan: &ShardPlan, entries: &[ShardEntry], store: &Store, asked: &Ask)
 
 // The clock moves on to the moment, and what is gone by then is let go in common. Rows are swept
 // when they are met.
-fn move_on(plan: &ShardPlan, entries: &[ShardEntry], store: &mut Store, moment: u64)
-    requires store { IsStore (plan_of plan.now) (map entry_of entries.now)
-        (state_after (plan_of plan.now) (map entry_of entries.now)) store.old }
+fn move_on(book: &Book<'_>, store: &mut Store, moment: u64)
+    requires store { IsStore book.now (state_of book.now) store.old }
     requires later { store.old.clock ≤ moment }
-    requires swept { store.old.swept ≤ length entries.now }
-    ensures store { IsStore (plan_of plan.now) (map entry_of entries.now)
-        (swept plan.now.keep moment (state_after (plan_of plan.now) (map entry_of entries.now)))
-        store.new }
+    requires swept { store.old.swept ≤ length book.now.journal }
+    ensures store { IsStore book.now (state_met book.now moment) store.new }
     ensures clock { store.new.clock ≡ moment }
-    ensures swept { store.new.swept ≡ length entries.now + 1 }
+    ensures swept { store.new.swept ≡ length book.now.journal + 1 }
     ensures rows { store.new.rows ≡ store.old.rows }
 {
-    sweep(
-        &plan.commons,
-        entries,
-        &mut store.commons,
-        &gone_by(plan, moment),
-    );
+    sweep(book, &mut store.commons, &gone_by(book, moment));
     store.clock = moment;
-    store.swept = entries.len() as u64 + 1;
+    store.swept = book.stamp();
 }
 
 // Journals an Ask that leaves the state as swept, and answers what is told of it.
@@ -110,20 +100,18 @@ fn refuse(
     requires room { length entries.old.items < plan.now.limit }
     requires meant { IsMeant (plan_of plan.now) (map entry_of entries.old.items)
         (Asks (ask_of asked.value)) }
-    requires look { IsLook (plan_of plan.now) (map entry_of entries.old.items)
-        (state_after (plan_of plan.now) (map entry_of entries.old.items)) store.old
-        (ask_of asked.value) look }
-    requires plain { let s = swept plan.now.keep look.moment
-        (state_after (plan_of plan.now) (map entry_of entries.old.items)) in
+    requires look { IsLook (book_of plan.now entries.old.items) store.old (ask_of asked.value)
+        look }
+    requires plain { let s = state_met (book_of plan.now entries.old.items) look.moment in
         asking s (ask_of asked.value) ≡ (s, Plain told) }
     requires at_once { IsPlain told }
-    requires cached { cache.old ≡ cache_after (plan_of plan.now) (map entry_of entries.old.items) }
+    requires cached { cache.old ≡ cache_of (book_of plan.now entries.old.items) }
     ensures answered { Answered (plan_of plan.now) entries.old (Asks (ask_of asked.value)) result
         entries.new store.new }
-    ensures cached { cache.new ≡ cache_after (plan_of plan.now) (map entry_of entries.new.items) }
+    ensures cached { cache.new ≡ cache_of (book_of plan.now entries.new.items) }
 {
     cache.purge_before(look.moment);
-    move_on(plan, entries, store, look.moment);
+    move_on(&Book { plan, entries }, store, look.moment);
     append(entries, Event::Ask(asked), told);
     told.answer()
 }
@@ -141,14 +129,12 @@ fn take(
     requires room { length entries.old.items < plan.now.limit }
     requires meant { IsMeant (plan_of plan.now) (map entry_of entries.old.items)
         (Asks (ask_of asked.value)) }
-    requires look { IsLook (plan_of plan.now) (map entry_of entries.old.items)
-        (state_after (plan_of plan.now) (map entry_of entries.old.items)) store.old
-        (ask_of asked.value) look }
+    requires look { IsLook (book_of plan.now entries.old.items) store.old (ask_of asked.value)
+        look }
     requires fits { look.held + length look.new.items ≤ 32 }
-    requires judged { let s = swept plan.now.keep look.moment
-        (state_after (plan_of plan.now) (map entry_of entries.old.items)) in
-        IsTaken s (ask_of asked.value) }
-    requires told { let cache = cache_after (plan_of plan.now) (map entry_of entries.old.items) in
+    requires judged { IsTaken (state_met (book_of plan.now entries.old.items) look.moment)
+        (ask_of asked.value) }
+    requires told { let cache = cache_of (book_of plan.now entries.old.items) in
         told ≡ hit_or_miss (first_hit (unlapsed look.moment cache) (ask_of asked.value)) }
     ensures takes { Takes (plan_of plan.now) entries.old (ask_of asked.value) told entries.new
         store.new }
@@ -162,15 +148,10 @@ fn take(
     } = look;
     let entry = entries.len() as u32;
     let seq = asked.seq;
-    move_on(plan, entries, store, moment);
+    let book = Book { plan, entries };
+    move_on(&book, store, moment);
     let row = &mut store.rows[place];
-    keep_left(
-        &plan.commons,
-        entries,
-        &mut row.own,
-        &gone_by(plan, moment),
-        held,
-    );
+    keep_left(&book, &mut row.own, &gone_by(&book, moment), held);
     append(entries, Event::Ask(asked), told);
     name_all(&mut row.own, entry, &new);
     row.last = seq;
@@ -180,28 +161,24 @@ fn take(
 // What the Ask is judged by: what its channel holds then, what it brings, and what is held in common.
 fn judged_by(
     alloc: Global,
-    plan: &ShardPlan,
-    entries: &[ShardEntry],
+    book: &Book<'_>,
     store: &Store,
     asked: &Ask,
     look: &Look,
 ) -> Result<Vec<Arc<Cert>>, AllocError>
-    requires store { IsStore (plan_of plan.now) (map entry_of entries.now)
-        (state_after (plan_of plan.now) (map entry_of entries.now)) store.now }
-    requires look { IsLook (plan_of plan.now) (map entry_of entries.now)
-        (state_after (plan_of plan.now) (map entry_of entries.now)) store.now (ask_of asked.now)
-        look.now }
-    ensures { IfOk result (λ certs. let s = swept plan.now.keep look.now.moment
-        (state_after (plan_of plan.now) (map entry_of entries.now)) in certificates certs.items
+    requires store { IsStore book.now (state_of book.now) store.now }
+    requires look { IsLook book.now store.now (ask_of asked.now) look.now }
+    ensures { IfOk result (λ certs. let s = state_met book.now look.now.moment in
+        certificates certs.items
         ≡ (s.own asked.now.channel ++ brought s (ask_of asked.now)) ++ s.commons) }
 {
     let own = &store.rows[look.place].own;
     let shared = &store.commons;
-    let gone = gone_by(plan, look.moment);
+    let gone = gone_by(book, look.moment);
     let mut certs = Vec::with_capacity(alloc, own.len() + look.new.len() + shared.len())?;
-    push_left(&mut certs, &plan.commons, entries, own, &gone)?;
+    push_left(&mut certs, book, own, &gone)?;
     push_at(&mut certs, &asked.presented, &look.new)?;
-    push_left(&mut certs, &plan.commons, entries, shared, &gone)?;
+    push_left(&mut certs, book, shared, &gone)?;
     Ok(certs)
 }
 
@@ -221,18 +198,15 @@ fn ask_new(
     requires meant { IsMeant (plan_of plan.now) (map entry_of entries.old.items)
         (Asks (ask_of asked.value)) }
     requires short { length asked.value.list.value.items ≤ 8 }
-    requires look { IsLook (plan_of plan.now) (map entry_of entries.old.items)
-        (state_after (plan_of plan.now) (map entry_of entries.old.items)) store.old
-        (ask_of asked.value) look }
+    requires look { IsLook (book_of plan.now entries.old.items) store.old (ask_of asked.value)
+        look }
     requires fits { look.held + length look.new.items ≤ 32 }
-    requires judged { let s = swept plan.now.keep look.moment
-        (state_after (plan_of plan.now) (map entry_of entries.old.items)) in
-        IsTaken s (ask_of asked.value) }
-    requires cached { cache.old ≡ cache_after (plan_of plan.now) (map entry_of entries.old.items) }
+    requires judged { IsTaken (state_met (book_of plan.now entries.old.items) look.moment)
+        (ask_of asked.value) }
+    requires cached { cache.old ≡ cache_of (book_of plan.now entries.old.items) }
     ensures answered { IfOk result (λ answer. Answered (plan_of plan.now) entries.old
         (Asks (ask_of asked.value)) answer entries.new store.new) }
-    ensures cached { OnOk result
-        (cache.new ≡ cache_after (plan_of plan.now) (map entry_of entries.new.items)) }
+    ensures cached { OnOk result (cache.new ≡ cache_of (book_of plan.now entries.new.items)) }
     ensures unchanged { OnErr result ((entries.new ≡ entries.old) × (store.new ≡ store.old)
         × (cache.new ≡ cache.old)) }
     ensures wanted { OnErr result (TakesMemory (told_at (plan_of plan.now)
@@ -247,7 +221,8 @@ fn ask_new(
             Ok(Answer::Hit { entry, cached })
         }
         None => {
-            let certs = judged_by(alloc, plan, entries, store, &asked, &look)?;
+            let book = Book { plan, entries };
+            let certs = judged_by(alloc, &book, store, &asked, &look)?;
             cache.purge_before(moment);
             take(plan, entries, store, asked, look, Told::Miss);
             Ok(Answer::Miss(Snapshot { moment, certs }))
@@ -271,17 +246,16 @@ pub(crate) fn ask(
         (Asks (ask_of asked.value)) }
     requires few { length asked.value.presented.items ≤ 16 }
     requires short { length asked.value.list.value.items ≤ 8 }
-    requires cached { cache.old ≡ cache_after (plan_of plan.now) (map entry_of entries.old.items) }
+    requires cached { cache.old ≡ cache_of (book_of plan.now entries.old.items) }
     ensures answered { IfOk result (λ answer. Answered (plan_of plan.now) entries.old
         (Asks (ask_of asked.value)) answer entries.new store.new) }
-    ensures cached { OnOk result
-        (cache.new ≡ cache_after (plan_of plan.now) (map entry_of entries.new.items)) }
+    ensures cached { OnOk result (cache.new ≡ cache_of (book_of plan.now entries.new.items)) }
     ensures unchanged { OnErr result ((entries.new ≡ entries.old) × (store.new ≡ store.old)
         × (cache.new ≡ cache.old)) }
     ensures wanted { OnErr result (TakesMemory (told_at (plan_of plan.now)
         (map entry_of entries.old.items) (Asks (ask_of asked.value)))) }
 {
-    let look = look_at(plan, entries, store, &asked);
+    let look = look_at(&Book { plan, entries }, store, &asked);
     let last = store.rows[look.place].last;
     if asked.seq <= last {
         let told = Told::Replayed { last };

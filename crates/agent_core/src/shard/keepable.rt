@@ -1,37 +1,22 @@
 //! Whether a proof may be kept for an Ask.
 
 ghost use Rattle.std.specs.Prelude.{◌≡◌, ◌≢◌, ◌↔◌, ◌<◌, ◌≤◌, All, AllPairs, IsTrue, length, map};
-ghost use Rattle.std.specs.Option.{option_map};
 ghost use Rattle.stmt_codec.specs.View.{certificates};
 ghost use Rattle.taos_calculus.specs.Rules.{Proves, SpeaksFor};
 ghost use Rattle.denial_link.specs.Revived.{claims};
 ghost use Rattle.proof_cache.specs.Cached.{cached};
 ghost use Rattle.agent_core.specs.Journals.{IsKeepable, moment_at};
-ghost use Rattle.agent_core.specs.Kept.{DiffersBefore, HasBegun, IsAsked, IsForEntry, ask_in};
+ghost use Rattle.agent_core.specs.Kept.{DiffersBefore, HasBegun, IsAsked, IsForEntry};
 ghost use Rattle.agent_core.specs.State.{Plan, reading_of};
 ghost use Rattle.agent_core.specs.Views.{ask_of, entry_of, event_of, plan_of};
 
-use crate::event::{Ask, Event, ShardEntry};
+use crate::event::{Ask, Event, ShardEntry, ask_in};
 use crate::plan::ShardPlan;
 use prin_term::Anchor;
 use proof_cache::Cached;
 use std::sync::Arc;
 use stmt_codec::Cert;
 use taos_calculus::check_proof;
-
-// The Ask that an event is, if it is one.
-fn ask_in(event: &Event) -> Option<&Ask>
-    ensures { option_map (λ a. ask_of a.now) result ≡ ask_in (event_of event.now) }
-{
-    match event {
-        Event::Ask(asked) => Some(asked),
-        Event::Keep { .. }
-        | Event::Hold(_)
-        | Event::Discard(_)
-        | Event::Forget(_)
-        | Event::Expire(_) => None,
-    }
-}
 
 // Whether it is for the entry of the Ask.
 fn is_for_entry(asked: &Ask, entry: u8, proof: &Cached) -> bool
@@ -105,7 +90,11 @@ fn reading_of(event: &Event) -> u64
     match event {
         Event::Ask(asked) => asked.reading,
         Event::Expire(reading) => *reading,
-        Event::Keep { .. } | Event::Hold(_) | Event::Discard(_) | Event::Forget(_) => 0,
+        Event::Keep { .. }
+        | Event::Hold(_)
+        | Event::Discard(_)
+        | Event::Forget(_)
+        | Event::Withdraw(_) => 0,
     }
 }
 

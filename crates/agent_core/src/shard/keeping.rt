@@ -1,6 +1,6 @@
 //! A proof that is to be kept.
 
-ghost use Rattle.std.specs.Prelude.{◌≡◌, ◌<◌, ◌++◌, find, length, map, not, Contains, List, None, Some, ℕ, IfOk, OnErr, OnOk};
+ghost use Rattle.std.specs.Prelude.{◌≡◌, ◌<◌, ◌++◌, find, length, map, not, Contains, None, Some, ℕ, IfOk, OnErr, OnOk};
 ghost use Rattle.std.specs.Option.{option_map};
 ghost use Rattle.prin_term.specs.View.{principal};
 ghost use Rattle.stmt_codec.specs.Certificates.{certificate, digest_of};
@@ -9,21 +9,22 @@ ghost use Rattle.proof_cache.specs.Cached.{cached};
 ghost use Rattle.agent_core.specs.declared.told.Told.TheVariants as told;
 ghost use Rattle.agent_core.specs.Held.{among};
 ghost use Rattle.agent_core.specs.Held as math;
-ghost use Rattle.agent_core.specs.Journals.{cache_after, state_after, told_at, Entry, IsKeepable};
-ghost use Rattle.agent_core.specs.Kept.{IsKept, IsStore, Tells, certs_staying, now_at, row_certs, told_against};
+ghost use Rattle.agent_core.specs.Journals.{told_at, IsKeepable};
+ghost use Rattle.agent_core.specs.Kept.{IsKept, IsStore, Tells, cache_of, certs_staying, now_at, row_certs, state_of, told_against};
 ghost use Rattle.agent_core.specs.Answers.{IsPlain};
 ghost use Rattle.agent_core.specs.Names.{certs_named, AreNames};
 ghost use Rattle.agent_core.specs.Plans.{IsPlan};
 ghost use Rattle.agent_core.specs.State.{Keeps, first_missing, settled_by};
-ghost use Rattle.agent_core.specs.Views.{entry_of, plan_of};
+ghost use Rattle.agent_core.specs.Views.{book_of, entry_of, plan_of};
 
 use crate::event::{Event, ShardEntry};
+use crate::held::book::Book;
 use crate::held::name::Names;
 use crate::held::newness::{is_among, stays_among};
 use crate::held::removal::{Removal, gone_by};
 use crate::plan::ShardPlan;
 use crate::shard::append::append;
-use crate::shard::row::place_of;
+use crate::shard::row::row_of;
 use crate::shard::store::{Row, Store};
 use crate::told::{DropCause, Told};
 use prin_term::Term;
@@ -33,14 +34,14 @@ use std::sync::Arc;
 use stmt_codec::Cert;
 
 // What the sweeps since a row was swept let go of.
-fn due_of(plan: &ShardPlan, clock: u64, swept: u64, row: &Row) -> Removal
-    ensures { (journal : List Entry) → certs_staying (plan_of plan.now).commons journal result
-        row.now.own.items ≡ row_certs (now_at (plan_of plan.now) journal clock swept) row.now }
+fn due_of(book: &Book<'_>, clock: u64, swept: u64, row: &Row) -> Removal
+    ensures { certs_staying book.now result row.now.own.items
+        ≡ row_certs (now_at book.now clock swept) row.now }
 {
     if row.swept == swept {
         return Removal::Nothing;
     }
-    gone_by(plan, clock)
+    gone_by(book, clock)
 }
 
 // The channel that a subject speaks on.
@@ -58,45 +59,32 @@ fn channel_of(subject: &Term) -> Option<u32>
 }
 
 // Whether the certificate is among either: the own ones after a removal, or the shared ones.
-fn is_held(
-    commons: &[Arc<Cert>],
-    entries: &[ShardEntry],
-    own: &Names,
-    due: &Removal,
-    shared: &Names,
-    cert: &Cert,
-) -> bool
-    requires own { AreNames (certificates commons.now) (map entry_of entries.now) own.now.items }
-    requires shared { AreNames (certificates commons.now) (map entry_of entries.now)
-        shared.now.items }
-    ensures { result ≡ among
-        (certs_staying (certificates commons.now) (map entry_of entries.now) due.now own.now.items
-        ++ certs_named (certificates commons.now) (map entry_of entries.now) shared.now.items)
-        (certificate cert.now.body) }
+fn is_held(book: &Book<'_>, own: &Names, due: &Removal, shared: &Names, cert: &Cert) -> bool
+    requires own { AreNames book.now own.now.items }
+    requires shared { AreNames book.now shared.now.items }
+    ensures { result ≡ among (certs_staying book.now due.now own.now.items
+        ++ certs_named book.now shared.now.items) (certificate cert.now.body) }
 {
-    stays_among(commons, entries, own, due, cert) || is_among(commons, entries, shared, cert)
+    stays_among(book, own, due, cert) || is_among(book, shared, cert)
 }
 
 // The digest of the first certificate that is among neither.
 fn missing(
-    commons: &[Arc<Cert>],
-    entries: &[ShardEntry],
+    book: &Book<'_>,
     own: &Names,
     due: &Removal,
     shared: &Names,
     cites: &[Arc<Cert>],
 ) -> Option<[u8; 32]>
-    requires own { AreNames (certificates commons.now) (map entry_of entries.now) own.now.items }
-    requires shared { AreNames (certificates commons.now) (map entry_of entries.now)
-        shared.now.items }
-    ensures { result ≡ option_map digest_of (find (λ x. not (among
-        (certs_staying (certificates commons.now) (map entry_of entries.now) due.now own.now.items
-        ++ certs_named (certificates commons.now) (map entry_of entries.now) shared.now.items)
-        x)) (certificates cites.now)) }
+    requires own { AreNames book.now own.now.items }
+    requires shared { AreNames book.now shared.now.items }
+    ensures { let held = certs_staying book.now due.now own.now.items
+        ++ certs_named book.now shared.now.items in
+        result ≡ option_map digest_of (find (λ x. not (among held x)) (certificates cites.now)) }
 {
     for place in 0..cites.len() {
         let cert = &cites[place];
-        if !is_held(commons, entries, own, due, shared, cert) {
+        if !is_held(book, own, due, shared, cert) {
             return Some(cert.digest);
         }
     }
@@ -104,37 +92,23 @@ fn missing(
 }
 
 // The digest of the first certificate that the proof cites and that is not held for its subject.
-fn first_missing(
-    plan: &ShardPlan,
-    entries: &[ShardEntry],
-    store: &Store,
-    proof: &Cached,
-) -> Option<[u8; 32]>
-    requires planned { IsPlan (plan_of plan.now) }
-    requires store { IsStore (plan_of plan.now) (map entry_of entries.now)
-        (state_after (plan_of plan.now) (map entry_of entries.now)) store.now }
+fn first_missing(book: &Book<'_>, store: &Store, proof: &Cached) -> Option<[u8; 32]>
+    requires planned { IsPlan book.now.plan }
+    requires store { IsStore book.now (state_of book.now) store.now }
     requires channel { (c : ℕ) → math.channel_of (principal proof.now.subject) ≡ Some c
-        → Contains (plan_of plan.now).channels c }
-    ensures { result ≡ option_map digest_of (first_missing
-        (state_after (plan_of plan.now) (map entry_of entries.now)) (cached proof.now)) }
+        → Contains book.now.plan.channels c }
+    ensures { result ≡ option_map digest_of
+        (first_missing (state_of book.now) (cached proof.now)) }
 {
-    let commons = &plan.commons;
     let shared = &store.commons;
     let Some(channel) = channel_of(&proof.subject) else {
         let none = Names::new();
-        return missing(
-            commons,
-            entries,
-            &none,
-            &Removal::Nothing,
-            shared,
-            &proof.cites,
-        );
+        return missing(book, &none, &Removal::Nothing, shared, &proof.cites);
     };
-    let place = place_of(&plan.channels, channel).unwrap();
+    let place = row_of(book, channel).unwrap();
     let row = &store.rows[place];
-    let due = due_of(plan, store.clock, store.swept, row);
-    missing(commons, entries, &row.own, &due, shared, &proof.cites)
+    let due = due_of(book, store.clock, store.swept, row);
+    missing(book, &row.own, &due, shared, &proof.cites)
 }
 
 // What a lease that has ended says against keeping its proof.
@@ -148,22 +122,15 @@ fn lapse(clock: u64, lease: u64) -> Option<DropCause>
 }
 
 // What speaks against keeping the proof.
-fn cause_against(
-    plan: &ShardPlan,
-    entries: &[ShardEntry],
-    store: &Store,
-    proof: &Cached,
-) -> Option<DropCause>
-    requires planned { IsPlan (plan_of plan.now) }
-    requires store { IsStore (plan_of plan.now) (map entry_of entries.now)
-        (state_after (plan_of plan.now) (map entry_of entries.now)) store.now }
+fn cause_against(book: &Book<'_>, store: &Store, proof: &Cached) -> Option<DropCause>
+    requires planned { IsPlan book.now.plan }
+    requires store { IsStore book.now (state_of book.now) store.now }
     requires channel { (c : ℕ) → math.channel_of (principal proof.now.subject) ≡ Some c
-        → Contains (plan_of plan.now).channels c }
-    ensures { let s = state_after (plan_of plan.now) (map entry_of entries.now) in
-        told_against result
+        → Contains book.now.plan.channels c }
+    ensures { let s = state_of book.now in told_against result
         ≡ settled_by (first_missing s (cached proof.now)) s.clock proof.now.lease }
 {
-    match first_missing(plan, entries, store, proof) {
+    match first_missing(book, store, proof) {
         Some(digest) => Some(DropCause::NotHeld { digest }),
         None => lapse(store.clock, proof.lease),
     }
@@ -184,17 +151,17 @@ pub(crate) fn keep(
     requires room { length entries.old.items < plan.now.limit }
     requires meant { IsKeepable (plan_of plan.now) (map entry_of entries.old.items) ask entry
         (cached proof.value) }
-    requires cached { cache.old ≡ cache_after (plan_of plan.now) (map entry_of entries.old.items) }
+    requires cached { cache.old ≡ cache_of (book_of plan.now entries.old.items) }
     ensures tells { IfOk result (λ told. Tells (plan_of plan.now) entries.old
         (Keeps ask entry (cached proof.value)) told entries.new store.now) }
     ensures plain { IfOk result IsPlain }
-    ensures cached { OnOk result
-        (cache.new ≡ cache_after (plan_of plan.now) (map entry_of entries.new.items)) }
+    ensures cached { OnOk result (cache.new ≡ cache_of (book_of plan.now entries.new.items)) }
     ensures unchanged { OnErr result ((entries.new ≡ entries.old) × (cache.new ≡ cache.old)) }
     ensures wanted { OnErr result (told_at (plan_of plan.now) (map entry_of entries.old.items)
         (Keeps ask entry (cached proof.value)) ≡ told.Kept) }
 {
-    if let Some(cause) = cause_against(plan, entries, store, &proof) {
+    let book = Book { plan, entries };
+    if let Some(cause) = cause_against(&book, store, &proof) {
         let event = Event::Keep {
             ask,
             entry,

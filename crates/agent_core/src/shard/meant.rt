@@ -63,6 +63,6 @@ pub(crate) fn is_taken(plan: &ShardPlan, entries: &[ShardEntry], event: &Event) 
         }
         Event::Keep { ask, entry, cached } => is_keepable(plan, entries, *ask, *entry, cached),
         Event::Hold(certs) => certs.len() <= MAX_PRESENTED,
-        Event::Discard(_) | Event::Forget(_) | Event::Expire(_) => true,
+        Event::Discard(_) | Event::Forget(_) | Event::Expire(_) | Event::Withdraw(_) => true,
     }
 }

@@ -8,6 +8,7 @@ ghost use Rattle.agent_core.specs.State.{Holds, Discards, Forgets, Expires};
 ghost use Rattle.agent_core.specs.Views.{plan_of};
 
 use crate::event::{Event, ShardEntry};
+use crate::held::book::Book;
 use crate::held::name::Names;
 use crate::held::naming::name_all;
 use crate::held::newness::{Holding, new_of};
@@ -36,7 +37,7 @@ pub(crate) fn discard(
 {
     let removal = Removal::Named { digest };
     let moment = store.clock;
-    let count = let_go(plan, entries, store, &removal, moment);
+    let count = let_go(&Book { plan, entries }, store, &removal, moment);
     let told = Told::Removed { count };
     append(entries, Event::Discard(digest), told);
     told
@@ -56,7 +57,8 @@ pub(crate) fn expire(
     ensures plain { IsPlain result }
 {
     let moment = store.clock.max(reading);
-    let count = let_go(plan, entries, store, &gone_by(plan, moment), moment);
+    let book = Book { plan, entries };
+    let count = let_go(&book, store, &gone_by(&book, moment), moment);
     let told = Told::Removed { count };
     append(entries, Event::Expire(reading), told);
     told
@@ -79,10 +81,10 @@ pub(crate) fn hold(
 {
     let none = Names::new();
     let now = Holding {
-        commons: &plan.commons,
-        entries,
+        book: &Book { plan, entries },
         own: &none,
         shared: &store.commons,
+        withdrawn: &store.withdrawn,
         removal: &Removal::Nothing,
     };
     let new = new_of(&now, &certs);

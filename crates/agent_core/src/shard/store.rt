@@ -1,6 +1,7 @@
-//! What a shard holds: its clock, and names of certificates.
+//! What a shard holds: its clock, names of certificates, and the issuers that are withdrawn.
 
 use crate::held::name::Names;
+use crate::held::withdrawn::Withdrawn;
 
 /// A channel.
 #[derive(Debug, Drop)]
@@ -18,6 +19,7 @@ pub(crate) struct Store {
     /// How long the journal was behind the last entry that swept. Rows are swept when they are met.
     pub swept: u64,
     pub commons: Names,
+    pub withdrawn: Withdrawn,
     /// A row for each channel, in their order.
     pub rows: Vec<Row>,
 }

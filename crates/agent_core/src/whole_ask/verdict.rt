@@ -9,7 +9,7 @@ ghost use Rattle.taos_calculus.specs.Question.{IsAskable, question_of};
 ghost use Rattle.denial_link.specs.Revived.{claims};
 ghost use Rattle.denial_link.specs.Links.{IsFirstLink, NoEntryWith};
 ghost use Rattle.agent_core.specs.Views.{ask_of};
-ghost use Rattle.agent_core.specs.Judged.{live_marks, IsGrant, Judges};
+ghost use Rattle.agent_core.specs.Judged.{live_marks, IsFirstGranted, IsGrant, Judges};
 
 use crate::event::Ask;
 use crate::told::Snapshot;
@@ -51,11 +51,8 @@ fn first_granted<D: Decide>(
 ) -> Option<u8>
     requires { IsAskable anchors.now (certificates certs.now)
         (replicate (length certs.now) true) (principal subject.now) (map grant list.now) }
-    ensures found { MatchOption result
-        (NoEntryWith (map grant list.now) right (λ e. MaySpeak anchors.now
-        (claims (live (certificates certs.now) moment)) (principal subject.now) e.who))
-        (λ k. (e : Grant) × FirstEntry (map grant list.now) right (λ g. MaySpeak anchors.now
-        (claims (live (certificates certs.now) moment)) (principal subject.now) g.who) k e) }
+    ensures found { IsFirstGranted anchors.now (certificates certs.now) moment
+        (principal subject.now) (map grant list.now) right result }
     ensures asked { D.question bench.new ≡ question_of anchors.now (certificates certs.now)
         (live_marks (certificates certs.now) moment) (principal subject.now) (map grant list.now) }
 {

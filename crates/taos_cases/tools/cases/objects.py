@@ -1,6 +1,6 @@
 """What operations do to objects and to shards, by who may ask for them."""
 from conversation import Grant, talk
-from formats import DISCARD, FORGET, HOLD, SET_LIST, SWEEP, WRITE, anchor_proof, commons_full, digest, expired, frame
+from formats import DISCARD, FORGET, HOLD, SET_LIST, SWEEP, WITHDRAW, WRITE, anchor_proof, commons_full, digest, expired, frame
 from formats import granted, journal_full, key, list_of, missing, no_right, not_held, object_full, replayed, request
 from formats import same_proof, u16, u32, unknown_object
 from .nodes import ALICE, BOB, CHAIN_16, FOR_ALICE, NODES_16, ask, by_anchor, handed, handing, no_alice, node
@@ -41,6 +41,10 @@ def sweep(**whole):
     return asked(SWEEP, **whole)
 
 
+def withdraw(issuer, **whole):
+    return asked(WITHDRAW, u32(issuer), **whole)
+
+
 def did(number, place=0, shard=0, kept=0, entry=0, content=b""):
     """Channel 1 is granted by anchor 0; no content comes with what is done."""
     return granted(1, number, anchor_proof(1, 10, 0), entry=entry, shard=shard, place=place, kept=kept, content=content)
@@ -69,6 +73,7 @@ OPERATIONS = [
     ("a Forget of channel 2", lambda **whole: forget(2, **whole)),
     ("a Sweep", lambda **whole: sweep(**whole)),
     ("a Discard", lambda **whole: discard(C1, **whole)),
+    ("a Withdraw of key 9", lambda **whole: withdraw(9, **whole)),
 ]
 
 

@@ -1,6 +1,6 @@
 """First paths, and what is refused before a request comes to its object."""
 from conversation import Case, Grant, talk
-from formats import DISCARD, FORGET, READ, SET_LIST, WRITE, Fields, anchor_proof, bad_seal
+from formats import DISCARD, FORGET, READ, SET_LIST, WITHDRAW, WRITE, Fields, anchor_proof, bad_seal
 from formats import frame, granted, key, key_of, malformed, missing, no_right, quoting, refused
 from formats import request, tagged, turned, u8, u16, u32, unknown_channel, unknown_object
 from .nodes import ALICE, BOB, NODES_17, SMALL, ask, by_anchor, by_itself, handed
@@ -108,7 +108,7 @@ NO_REQUESTS = [
     ("a quoted term of 14 nodes and no more", quoted_text(b"\x05" * 13 + ALICE + bytes(52)), 84),
     ("no operation", Fields(HEAD, b"\0"), 14),
     ("operation 0", of_operation(0), 14),
-    ("operation 8", of_operation(8), 14),
+    ("operation 9", of_operation(9), 14),
     ("an object that is cut", Fields(HEAD, b"\0", u8(READ), bytes(3)), 18),
     ("no count of certificates", READS, 19),
     ("17 certificates", Fields(READS, u8(17)), 19),
@@ -129,6 +129,7 @@ NO_REQUESTS = [
     ("an entry of 17 nodes", of_operation(SET_LIST, u8(1), u8(15), NODES_17), 69),
     ("a digest that is cut", of_operation(DISCARD, bytes(31)), 50),
     ("a channel to forget that is cut", of_operation(FORGET, bytes(3)), 22),
+    ("an issuer to withdraw that is cut", of_operation(WITHDRAW, bytes(3)), 22),
 ]
 
 

@@ -1,7 +1,7 @@
 -- what is read of the command of this name
 use Rattle.std.proofs.Common.{Some, refl, subst, sym}
 use Rattle.node_words.specs.declared.wanted.Wanted.TheVariants as wanted
-use Rattle.node_words.specs.Words.{Running, Relaying, Minting, Serving, RelayServing, Auditing, Drilling, Carrying, drill_words, mint_words, path_words, run_words, serve_words}
+use Rattle.node_words.specs.Words.{Running, Relaying, Minting, Serving, RelayServing, Auditing, Drilling, Carrying, Giving, drill_words, mint_words, path_words, run_words, serve_words, AuditingBytes}
 use Rattle.node_words.specs.Table.{IsReadAs, texts_of}
 use Rattle.node_words.proofs.Tasks.{by_command}
 use Rattle.node_words.proofs.words.asked_of.Goals as goal
@@ -9,7 +9,7 @@ use Rattle.node_words.proofs.words.asked_of.Goals as goal
 pub returns-in_ok-frames-in-run : goal.returns-in_ok-frames-in-run
 returns-in_ok-frames-in-run c =
     let read = c.in_ok-frames-in-run in
-    by_command Running c.args.name.now (texts_of c.args.options.now) (Some (wanted.Run read.frames read.lemmas)) c.in-run.is (run_words read.frames read.lemmas, refl, read.ensures)
+    by_command Running c.args.name.now (texts_of c.args.options.now) (Some (wanted.Run read.frames read.lemmas read.pulls)) c.in-run.is (run_words read.frames read.lemmas read.pulls, refl, read.ensures)
 
 pub returns-in_ok-frames_of-in-relay : goal.returns-in_ok-frames_of-in-relay
 returns-in_ok-frames_of-in-relay c =
@@ -30,7 +30,7 @@ returns-in_err-limits-in-serve c =
 pub returns-in_ok-limits-in-serve : goal.returns-in_ok-limits-in-serve
 returns-in_ok-limits-in-serve c =
     let read = c.in_ok-limits-in-serve in
-    by_command Serving c.args.name.now (texts_of c.args.options.now) (Some (wanted.Serve read.limits read.lemmas)) c.in-serve.is (serve_words read.limits read.lemmas, refl, read.ensures)
+    by_command Serving c.args.name.now (texts_of c.args.options.now) (Some (wanted.Serve read.limits read.lemmas read.pulls)) c.in-serve.is (serve_words read.limits read.lemmas read.pulls, refl, read.ensures)
 
 pub returns-in_ok-limits_of-in-text : goal.returns-in_ok-limits_of-in-text
 returns-in_ok-limits_of-in-text c =
@@ -57,3 +57,13 @@ pub returns-in_ok-path_of-in-path : goal.returns-in_ok-path_of-in-path
 returns-in_ok-path_of-in-path c =
     let read = c.in_ok-path_of-in-path in
     by_command Carrying c.args.name.now (texts_of c.args.options.now) (Some (wanted.Path read.field-0)) c.in-path.is (path_words read.field-0, refl, read.ensures)
+
+pub returns-in_ok-frames_of-in-wallet : goal.returns-in_ok-frames_of-in-wallet
+returns-in_ok-frames_of-in-wallet c =
+    let read = c.in_ok-frames_of-in-wallet in
+    by_command Giving c.args.name.now (texts_of c.args.options.now) (Some (wanted.Wallet read.field-0)) c.in-wallet.is (read.field-0, refl, read.ensures)
+
+pub returns-in_ok-frames_of-in-text-2 : goal.returns-in_ok-frames_of-in-text-2
+returns-in_ok-frames_of-in-text-2 c =
+    let read = c.in_ok-frames_of-in-text-2 in
+    by_command AuditingBytes c.args.name.now (texts_of c.args.options.now) (Some (wanted.AuditBytes read.field-0)) c.in-text-2.is (read.field-0, refl, read.ensures)

@@ -7,6 +7,6 @@ use Rattle.taos_lanes.proofs.serving.empty.Given as goal
 abbrev pub invariant-loop-lane : goal.invariant-loop-lane
 invariant-loop-lane g l = record {
   upto : Upto IsEmptied l.lane-index
-      (map (shown_by g.C.Clock.shown g.R.RelayLink.shown g.D.Door.shown) l.initial.lanes)
-      (map (shown_by g.C.Clock.shown g.R.RelayLink.shown g.D.Door.shown) l.lanes);
+      (map (shown_by g.C.Clock.shown g.R.RelayLink.shown g.D.Door.shown g.P.Fetch.shown) l.initial.lanes)
+      (map (shown_by g.C.Clock.shown g.R.RelayLink.shown g.D.Door.shown g.P.Fetch.shown) l.lanes);
 }

@@ -7,5 +7,5 @@ returns-in-Err-clause-unserved g c = same_ends _ _ _ c.in-Err.ensures.unserved c
 
 pub returns-in-Err-clause-idle : goal.returns-in-Err-clause-idle
 returns-in-Err-clause-idle g c =
-    let f = shown_by g.C.Clock.shown g.R.RelayLink.shown g.D.Door.shown in
+    let f = shown_by g.C.Clock.shown g.R.RelayLink.shown g.D.Door.shown g.P.Fetch.shown in
     idle_after f _ _ c.empty.ensures

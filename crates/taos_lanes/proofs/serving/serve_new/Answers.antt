@@ -50,7 +50,7 @@ serve_cells-requires-clause-planned g c κs within =
 
 pub returns-clause-served : goal.returns-clause-served
 returns-clause-served g c =
-    let f = shown_by g.C.Clock.shown g.R.RelayLink.shown g.D.Door.shown in
-    subst (λ (x : List Plan × List ObjectFixed). IfOk c.serve_cells.result (λ r. ServesNode (told_by g.D.In.Source.shown g.D.Out.Sink.shown) (node_of c.args.parts.keys x.0 x.1) c.args.limits
+    let f = shown_by g.C.Clock.shown g.R.RelayLink.shown g.D.Door.shown g.P.Fetch.shown in
+    subst (λ (x : List Plan × List ObjectFixed). IfOk c.serve_cells.result (λ r. ServesNode (told_by g.D.In.Source.shown g.D.Out.Sink.shown) (node_of c.args.parts.keys x.0 x.1) c.args.pulls c.args.limits
     (change (map f c.args.lanes.now) (map f c.serve_cells.new.lanes)) (left_by r)))
     (λ i. (opened_plans _ _ _ c.in_ok-opened.ensures.opened i, opened_fixed _ _ _ c.in_ok-racked.ensures.opened i)) c.serve_cells.ensures.served

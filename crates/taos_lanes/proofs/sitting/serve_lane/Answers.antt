@@ -10,7 +10,7 @@ use Rattle.taos_lanes.proofs.sitting.serve_lane.Goals.{in-None-1, in-Some+in-Non
 
 pub returns : goal.returns
 returns g c =
-    let new : Stock = record { passes = c.rise.result; racked = c.rise-2.result; bench = c.serve_door-tally.new.desk.bench; tally = c.serve_door-tally.result } in
+    let new : Stock = record { passes = c.rise.result; racked = c.rise-2.result; bench = c.serve_seats-tally.new.bench; tally = c.serve_seats-tally.result } in
     let had : c.args.lane.now.work ≡ Some c.unwrap-passes.result = sym c.take.ensures.value ∙ c.unwrap-passes.ensures in
     let same : c.requires.stocked.stock ≡ c.unwrap-passes.result = same_Some _ _ (sym c.requires.stocked.is ∙ had) in
     let shards_at = c.rise.ensures.agent ∙ sym c.requires.agent in
@@ -28,10 +28,10 @@ returns g c =
         shards = c.rise.ensures.shares ∙ (sym c.requires.stocked.shards_shared ∙ ap (λ (s : Stock). shares_of s.passes) same);
         objects = c.rise-2.ensures.shares ∙ (sym c.requires.stocked.objects_shared ∙ ap (λ (s : Stock). shares_of s.racked) same);
       };
-      serves = serves_at _ c.args.shared.now.keys.now _ _ _ _ _ _ _ _ _ _ _ c.unwrap-passes.result new
-          (seat_is _ _ _ c.sit.ensures.cells c.sit.ensures.passes)
+      serves = serves_at _ c.args.shared.now.keys.now _ _ _ _ _ _ _ _ _ _ _ _ _ c.unwrap-passes.result new
+          (seat_is _ _ _ c.sit-shards.ensures.cells c.sit-shards.ensures.passes)
           (seat_is _ _ _ shards_at (sym c.rise.ensures.passes))
-          (shelf_is _ _ _ c.sit-2.ensures.cells c.sit-2.ensures.passes c.sit-2.ensures.taken)
-          (shelf_is _ _ _ objects_at (sym c.rise-2.ensures.passes) c.serve_door-tally.ensures.taken)
-          c.serve_door-tally.ensures.served;
+          (shelf_is _ _ _ c.sit-shelf.ensures.cells c.sit-shelf.ensures.passes c.sit-shelf.ensures.taken)
+          (shelf_is _ _ _ objects_at (sym c.rise-2.ensures.passes) c.serve_seats-tally.ensures.taken)
+          c.serve_seats-tally.ensures.served;
     }

@@ -8,18 +8,18 @@ use Rattle.taos_lanes.proofs.stocking.stock_lanes.Goals as goal
 
 pub returns-in_err-stock_of-clause-same : goal.returns-in_err-stock_of-clause-same
 returns-in_err-stock_of-clause-same g c =
-    let f = shown_by g.C.Clock.shown g.R.RelayLink.shown g.D.Door.shown in
+    let f = shown_by g.C.Clock.shown g.R.RelayLink.shown g.D.Door.shown g.P.Fetch.shown in
     at_error c.from_residual.result
     (subst (AllZip HasOtherWork (map f c.args.lanes.now)) (sym (map-set_same f c.loop-lane.lanes c.loop-lane.lane-index _ c.lane-item.result refl))
-    (upto_all (IsGivenStock (cells_of c.args.agent.now c.args.rack.now)) HasOtherWork (λ x y s. s.same) (λ x. record { outside = refl; door = refl }) _ _ _ c.loop-lane.invariant.upto))
+    (upto_all (IsGivenStock (cells_of c.args.agent.now c.args.rack.now)) HasOtherWork (λ x y s. s.same) (λ x. record { outside = refl; door = refl; fetch = refl }) _ _ _ c.loop-lane.invariant.upto))
 
 pub loop-lane-preserved : goal.loop-lane-preserved
 loop-lane-preserved g c =
-    let f = shown_by g.C.Clock.shown g.R.RelayLink.shown g.D.Door.shown in
+    let f = shown_by g.C.Clock.shown g.R.RelayLink.shown g.D.Door.shown g.P.Fetch.shown in
     let within : c.loop-lane.lane-index < length c.loop-lane.lanes = omega (arith, c.loop-lane-test.true, c.loop-lane.auto.lanes) in
     record {
       upto = upto_set (IsGivenStock (cells_of c.args.agent.now c.args.rack.now)) f _ _ c.loop-lane.lanes _ c.lane-item.result c.loop-lane.invariant.upto within
-          (record { same = record { outside = refl; door = refl }; work = (c.in_ok-stock_of.field-0, refl, c.in_ok-stock_of.ensures.stock) });
+          (record { same = record { outside = refl; door = refl; fetch = refl }; work = (c.in_ok-stock_of.field-0, refl, c.in_ok-stock_of.ensures.stock) });
       kept = c.in_ok-stock_of.ensures.kept;
       given = ap (λ n. n + 1) c.loop-lane.invariant.given;
     }

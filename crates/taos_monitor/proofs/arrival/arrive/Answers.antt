@@ -21,7 +21,7 @@ returns-in_err-certs-clause-refused g c =
     let p = err_from_is_err_and c.from_residual.result c.from_residual.ensures.1 in
     let r = request c.args.asked.now in
     let f = c.in_err-certs.field-0.0 in
-    let stops = subst (λ (k : List ℕ). AllStop k (link_use c.args.keys.now.node (g.R.RelayLink.shown c.args.relay.now) (g.R.RelayLink.shown c.open_all.new.relay)) (map text_of c.args.asked.now.certs.items) f) c.requires.key (subst (λ (l : List (Vec ℕ Global)). AllStop c.args.opened.now (link_use c.args.keys.now.node (g.R.RelayLink.shown c.args.relay.now) (g.R.RelayLink.shown c.open_all.new.relay)) (map text_of l) f) c.deref.ensures.value c.in_err-certs.ensures.stopped) in
+    let stops = subst (λ (k : List ℕ). AllStop k (link_use c.args.keys.now.node (g.X.Reach.shown c.args.outside.now).outside.link (g.X.Reach.shown c.open_all.new.outside).outside.link) (map text_of c.args.asked.now.certs.items) f) c.requires.key (subst (λ (l : List (Vec ℕ Global)). AllStop c.args.opened.now (link_use c.args.keys.now.node (g.X.Reach.shown c.args.outside.now).outside.link (g.X.Reach.shown c.open_all.new.outside).outside.link) (map text_of l) f) c.deref.ensures.value c.in_err-certs.ensures.stopped) in
     rw (p.1, p.2) (record {
       calls = stops.calls;
       linked = stops.linked;
@@ -31,12 +31,12 @@ returns-in_err-certs-clause-refused g c =
 pub returns-then-not-has-clause-refused : goal.returns-then-not-has-clause-refused
 returns-then-not-has-clause-refused g c =
     let r = request c.args.asked.now in
-    let came = subst (λ (k : List ℕ). AllCome k (link_use c.args.keys.now.node (g.R.RelayLink.shown c.args.relay.now) (g.R.RelayLink.shown c.open_all.new.relay)) (map text_of c.args.asked.now.certs.items) (map shared c.in_ok-certs.certs.items)) c.requires.key (subst (λ (l : List (Vec ℕ Global)). AllCome c.args.opened.now
-    (link_use c.args.keys.now.node (g.R.RelayLink.shown c.args.relay.now) (g.R.RelayLink.shown c.open_all.new.relay)) (map text_of l)
+    let came = subst (λ (k : List ℕ). AllCome k (link_use c.args.keys.now.node (g.X.Reach.shown c.args.outside.now).outside.link (g.X.Reach.shown c.open_all.new.outside).outside.link) (map text_of c.args.asked.now.certs.items) (map shared c.in_ok-certs.certs.items)) c.requires.key (subst (λ (l : List (Vec ℕ Global)). AllCome c.args.opened.now
+    (link_use c.args.keys.now.node (g.X.Reach.shown c.args.outside.now).outside.link (g.X.Reach.shown c.open_all.new.outside).outside.link) (map text_of l)
     (map shared c.in_ok-certs.certs.items)) c.deref.ensures.value c.in_ok-certs.ensures.came) in
     record {
       calls = came.calls;
-      linked = quiet_linked c.args.keys.now.node (g.R.RelayLink.shown c.args.relay.now) (g.R.RelayLink.shown c.open_all.new.relay) came.calls came.quiet;
+      linked = quiet_linked c.args.keys.now.node (g.X.Reach.shown c.args.outside.now).outside.link (g.X.Reach.shown c.open_all.new.outside).outside.link came.calls came.quiet;
       course = λ plans past J payload key asked.
           unknown_object (record { asked = asked; opened = came.opened }) (none_of (fixed_at (g.H.Shelf.shown c.args.shelf.now).objects r.object) (λ is. false≢true (c.if-not-has.ensures.1 is)));
     }
@@ -45,25 +45,25 @@ pub returns-in_err-speaker_of-clause-refused : goal.returns-in_err-speaker_of-cl
 returns-in_err-speaker_of-clause-refused g c =
     let p = err_from_is_err_and c.from_residual-in_err-speaker_of.result c.from_residual-in_err-speaker_of.ensures.1 in
     let r = request c.args.asked.now in
-    let came = subst (λ (k : List ℕ). AllCome k (link_use c.args.keys.now.node (g.R.RelayLink.shown c.args.relay.now) (g.R.RelayLink.shown c.open_all.new.relay)) (map text_of c.args.asked.now.certs.items) (map shared c.in_ok-certs.certs.items)) c.requires.key (subst (λ (l : List (Vec ℕ Global)). AllCome c.args.opened.now
-    (link_use c.args.keys.now.node (g.R.RelayLink.shown c.args.relay.now) (g.R.RelayLink.shown c.open_all.new.relay)) (map text_of l)
+    let came = subst (λ (k : List ℕ). AllCome k (link_use c.args.keys.now.node (g.X.Reach.shown c.args.outside.now).outside.link (g.X.Reach.shown c.open_all.new.outside).outside.link) (map text_of c.args.asked.now.certs.items) (map shared c.in_ok-certs.certs.items)) c.requires.key (subst (λ (l : List (Vec ℕ Global)). AllCome c.args.opened.now
+    (link_use c.args.keys.now.node (g.X.Reach.shown c.args.outside.now).outside.link (g.X.Reach.shown c.open_all.new.outside).outside.link) (map text_of l)
     (map shared c.in_ok-certs.certs.items)) c.deref.ensures.value c.in_ok-certs.ensures.came) in
     rw (p.1, p.2) (record {
       calls = came.calls;
-      linked = quiet_linked c.args.keys.now.node (g.R.RelayLink.shown c.args.relay.now) (g.R.RelayLink.shown c.open_all.new.relay) came.calls came.quiet;
+      linked = quiet_linked c.args.keys.now.node (g.X.Reach.shown c.args.outside.now).outside.link (g.X.Reach.shown c.open_all.new.outside).outside.link came.calls came.quiet;
       course = λ plans past J payload key asked. unopened asked (at_end came.opened);
     })
 
 pub returns-clause-arrived : goal.returns-clause-arrived
 returns-clause-arrived g c =
     let r = request c.args.asked.now in
-    let came = subst (λ (k : List ℕ). AllCome k (link_use c.args.keys.now.node (g.R.RelayLink.shown c.args.relay.now) (g.R.RelayLink.shown c.open_all.new.relay)) (map text_of c.args.asked.now.certs.items) (map shared c.in_ok-certs.certs.items)) c.requires.key (subst (λ (l : List (Vec ℕ Global)). AllCome c.args.opened.now
-    (link_use c.args.keys.now.node (g.R.RelayLink.shown c.args.relay.now) (g.R.RelayLink.shown c.open_all.new.relay)) (map text_of l)
+    let came = subst (λ (k : List ℕ). AllCome k (link_use c.args.keys.now.node (g.X.Reach.shown c.args.outside.now).outside.link (g.X.Reach.shown c.open_all.new.outside).outside.link) (map text_of c.args.asked.now.certs.items) (map shared c.in_ok-certs.certs.items)) c.requires.key (subst (λ (l : List (Vec ℕ Global)). AllCome c.args.opened.now
+    (link_use c.args.keys.now.node (g.X.Reach.shown c.args.outside.now).outside.link (g.X.Reach.shown c.open_all.new.outside).outside.link) (map text_of l)
     (map shared c.in_ok-certs.certs.items)) c.deref.ensures.value c.in_ok-certs.ensures.came) in
     let object = some_of (fixed_at (g.H.Shelf.shown c.args.shelf.now).objects r.object) (c.if-not-has.ensures.0 refl) in
     record {
       calls = came.calls;
-      linked = quiet_linked c.args.keys.now.node (g.R.RelayLink.shown c.args.relay.now) (g.R.RelayLink.shown c.open_all.new.relay) came.calls came.quiet;
+      linked = quiet_linked c.args.keys.now.node (g.X.Reach.shown c.args.outside.now).outside.link (g.X.Reach.shown c.open_all.new.outside).outside.link came.calls came.quiet;
       object = object.0;
       there = object.1;
       arrived = λ plans payload key asked. record {

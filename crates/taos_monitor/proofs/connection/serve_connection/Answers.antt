@@ -1,30 +1,32 @@
-use Rattle.std.proofs.Common.{◌≡◌, subst, rules}
-use Rattle.frame_link.specs.Outside.{outside_of}
-use Rattle.frame_link.specs.Relay.{Link}
+-- Nothing is fetched, so the fetch is as it was.
+use Rattle.std.proofs.Common.{false, None, ap, rules}
 use Rattle.frame_link.specs.Served.{line}
-use Rattle.frame_link.specs.Streams.{Stream}
-use Rattle.object_core.specs.Shelving.{ShelfSeen}
-use Rattle.agent_core.specs.Shards.{ShardsSeen}
-use Rattle.taos_monitor.specs.Connection.{Connects}
-use Rattle.taos_monitor.specs.World.{World, setting_by, world_by}
-use Rattle.taos_monitor.proofs.Connections.{none_connects}
+use Rattle.cred_pull.specs.Fetching.{fetch_of}
+use Rattle.taos_monitor.specs.Cells.{CellsStay, both_cells}
+use Rattle.taos_monitor.specs.Desk.{ServesBy, state_by}
+use Rattle.taos_monitor.specs.World.{fetch_use}
+use Rattle.taos_monitor.proofs.Desks.{cells_stay, connects_plainly, lent_names, same_four, same_two, three_names}
 use Rattle.taos_monitor.proofs.connection.serve_connection.Goals as goal
-
-pub returns-in_default-clause-connection : goal.returns-in_default-clause-connection
-returns-in_default-clause-connection g c = none_connects _ c.args.frames _ c.are_legal.ensures.legal
-
--- what is lent is given back as it was left
-same_world : (P : World → Type 0) (k l : Stream) (r q : Link) (s t : ShardsSeen) (h g : ShelfSeen) → k ≡ l → r ≡ q → s ≡ t → h ≡ g → P (world_by (outside_of k r) s h) → P (world_by (outside_of l q) t g)
-same_world P k l r q s t h g clock relay shards shelf there = subst P (λ i. world_by (outside_of (clock i) (relay i)) (shards i) (shelf i)) there
 
 pub returns-clause-connection : goal.returns-clause-connection
 returns-clause-connection g c =
-    let left = c.serve_by.new.service in
-    same_world
-    (λ (w : World).
-    Connects (setting_by c.args.keys.now (g.S.Shards.shown c.args.shards.now) (g.H.Shelf.shown c.args.shelf.now)) c.args.frames
-    (line (g.I.Source.shown c.args.input.now) (g.O.Sink.shown c.args.output.now)
-    (world_by (outside_of (g.C.Clock.shown c.args.clock.now) (g.R.RelayLink.shown c.args.relay.now)) (g.S.Shards.shown c.args.shards.now) (g.H.Shelf.shown c.args.shelf.now)))
-    (line (g.I.Source.shown c.serve_by.new.input) (g.O.Sink.shown c.serve_by.new.output) w) c.serve_by.result)
-    (g.C.Clock.shown left.clock.now) (g.C.Clock.shown c.clock-1.given.0) (g.R.RelayLink.shown left.relay.now) (g.R.RelayLink.shown c.relay-1.given.0) (g.S.Shards.shown left.shards.now) (g.S.Shards.shown c.shards-1.given.0)
-    (g.H.Shelf.shown left.shelf.now) (g.H.Shelf.shown c.shelf-1.given.0) (search rules) (search rules) (search rules) (search rules) c.serve_by.ensures.connection
+    let left = c.serve.new.self in
+    let met = c.serve.new.outside in
+    let cells = lent_names _ _ _ _ _ _ c.serve.ensures.same in
+    let ways = three_names _ _ _ _ _ _ _ _ _ _ c.serve.ensures.same_outside in
+    let at = state_by c.args.keys.now g.S.Shards.shown g.H.Shelf.shown g.C.Clock.shown g.R.RelayLink.shown in
+    same_four
+    (λ s h k r. ServesBy c.args.frames (line (g.I.Source.shown c.args.input.now) (g.O.Sink.shown c.args.output.now) (at c.args.shards.now c.args.shelf.now c.args.clock.now c.args.relay.now))
+    (line (g.I.Source.shown c.serve.new.input) (g.O.Sink.shown c.serve.new.output) (at s h k r)) c.serve.result)
+    left.shards.now c.shards-1.given.0 left.shelf.now c.shelf-1.given.0 met.0.now c.clock-1.given.0 met.1.now c.relay-1.given.0
+    (search (rules, cells)) (search (rules, cells)) (search (rules, ways)) (search (rules, ways))
+    (connects_plainly _ c.args.frames _ _ c.serve.result (ap (λ n. fetch_use false (fetch_of None n)) c.new-fetch.ensures) c.serve.ensures.connection.1)
+
+pub returns-clause-stays : goal.returns-clause-stays
+returns-clause-stays g c =
+    let left = c.serve.new.self in
+    let cells = lent_names _ _ _ _ _ _ c.serve.ensures.same in
+    same_two
+    (λ s h. CellsStay (both_cells (g.S.Shards.shown c.args.shards.now) (g.H.Shelf.shown c.args.shelf.now)) (both_cells (g.S.Shards.shown s) (g.H.Shelf.shown h)))
+    left.shards.now c.shards-1.given.0 left.shelf.now c.shelf-1.given.0 (search (rules, cells)) (search (rules, cells))
+    (cells_stay c.args.keys.now left.keys.now _ _ _ _ c.serve.ensures.connection.0 c.serve.ensures.free.none_taken)

@@ -12,7 +12,7 @@ use Rattle.object_core.specs.Operation.{FitsGrant}
 use Rattle.denial_link.proofs.Places.{entry_at}
 use Rattle.taos_wire.specs.declared.reply.LinkSent.{LinkSent as LinkValue}
 use Rattle.taos_wire.specs.Reply as replies
-use Rattle.taos_wire.specs.Reply.{FitsLink, LinkSent, Reply}
+use Rattle.taos_wire.specs.Reply.{FitsLink, LinkSent}
 use Rattle.taos_wire.specs.View.{link}
 use Rattle.agent_core.specs.declared.asked.Denial.{Denial}
 use Rattle.taos_monitor.specs.Asking.{TellsDenial}

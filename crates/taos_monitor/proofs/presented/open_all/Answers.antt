@@ -15,10 +15,10 @@ use Rattle.taos_monitor.proofs.presented.open_all.Goals as goal
 pub loop-place-init : goal.loop-place-init
 loop-place-init g c =
     rw c.new-certs.ensures.items
-    (record { calls = []; opened = none_more; quiet = none_called c.args.node (g.R.RelayLink.shown c.args.relay.now) }, refl, refl)
+    (record { calls = []; opened = none_more; quiet = none_called c.args.node (g.X.Reach.shown c.args.outside.now).outside.link }, refl, refl, record { clock = refl; fetch = refl })
 
-pub present_with-requires : goal.present_with-requires
-present_with-requires g c =
+pub present-requires : goal.present-requires
+present-requires g c =
     let texts = c.args.texts.now in
     let d = c.index-texts-place.result in
     let lt = c.loop-place-test.true in
@@ -30,9 +30,9 @@ pub returns-in-Err-clause-stopped : goal.returns-in-Err-clause-stopped
 returns-in-Err-clause-stopped g c =
     let key = c.args.opened.now in
     let node = c.args.node in
-    let n = (g.R.RelayLink.shown c.args.relay.now) in
-    let middle = (g.R.RelayLink.shown c.loop-place.relay) in
-    let now = (g.R.RelayLink.shown c.present_with.new.link) in
+    let n = (g.X.Reach.shown c.args.outside.now).outside.link in
+    let middle = (g.X.Reach.shown c.loop-place.outside).outside.link in
+    let now = (g.X.Reach.shown c.present.new.self).outside.link in
     let texts = c.args.texts.now in
     let place = c.loop-place.place in
     let d = c.index-texts-place.result in
@@ -48,8 +48,8 @@ returns-in_err-push-in-Ok-clause-stopped g c =
     let p = err_from_is_err_and c.from_residual.result c.from_residual.ensures.1 in
     let key = c.args.opened.now in
     let node = c.args.node in
-    let middle = (g.R.RelayLink.shown c.loop-place.relay) in
-    let now = (g.R.RelayLink.shown c.present_with.new.link) in
+    let middle = (g.X.Reach.shown c.loop-place.outside).outside.link in
+    let now = (g.X.Reach.shown c.present.new.self).outside.link in
     let texts = c.args.texts.now in
     let place = c.loop-place.place in
     let d = c.index-texts-place.result in
@@ -59,16 +59,16 @@ returns-in_err-push-in-Ok-clause-stopped g c =
     let one = subst (λ (k : List ℕ). OneComes k (link_use node middle now) (text_of (get_or texts place d)) (shared cert)) c.loop-place.invariant.2
     (subst (λ (t : List ℕ). OneComes c.loop-place.opened (link_use node middle now) t (shared cert)) (sym text) c.in-Ok.ensures.came) in
     rw (p.1, p.2)
-    (interrupted key node (g.R.RelayLink.shown c.args.relay.now) middle now place (map text_of texts) (text_of (get_or texts place d)) came.calls one.calls (shared cert)
+    (interrupted key node (g.X.Reach.shown c.args.outside.now).outside.link middle now place (map text_of texts) (text_of (get_or texts place d)) came.calls one.calls (shared cert)
     (stops_here key texts place d c.loop-place-test.true came.calls (map shared c.loop-place.certs.items) came.opened) came.quiet one.comes one.quiet)
 
 pub loop-place-preserved : goal.loop-place-preserved
 loop-place-preserved g c =
     let key = c.args.opened.now in
     let node = c.args.node in
-    let n = (g.R.RelayLink.shown c.args.relay.now) in
-    let middle = (g.R.RelayLink.shown c.loop-place.relay) in
-    let now = (g.R.RelayLink.shown c.present_with.new.link) in
+    let n = (g.X.Reach.shown c.args.outside.now).outside.link in
+    let middle = (g.X.Reach.shown c.loop-place.outside).outside.link in
+    let now = (g.X.Reach.shown c.present.new.self).outside.link in
     let texts = c.args.texts.now in
     let place = c.loop-place.place in
     let d = c.index-texts-place.result in
@@ -78,6 +78,7 @@ loop-place-preserved g c =
     (subst (λ (t : List ℕ). OneComes c.loop-place.opened (link_use node middle now) t (shared cert)) (sym text) c.in-Ok.ensures.came) in (
       subst (λ (l : List (Arc Cert Global)). AllCome key (link_use node n now) (map text_of (take (place + 1) texts)) (map shared l)) (sym c.in_ok-push-in-Ok.ensures.items)
           (one_more_comes key texts place d c.loop-place-test.true node n middle now c.loop-place.certs.items cert c.loop-place.invariant.0 one),
-      c.present_with.ensures.same ∙ c.loop-place.invariant.1,
-      c.present_with.ensures.key ∙ c.loop-place.invariant.2,
+      c.present.ensures.same ∙ c.loop-place.invariant.1,
+      c.present.ensures.key ∙ c.loop-place.invariant.2,
+      record { clock = c.present.ensures.rest.clock ∙ c.loop-place.invariant.3.clock; fetch = c.present.ensures.rest.fetch ∙ c.loop-place.invariant.3.fetch },
     )

@@ -56,7 +56,7 @@ returns-in_default-decide-clause-guarded g c = λ fixed at.
     }
 
 pub perform_ruled-refused-requires-clause-legal : goal.perform_ruled-refused-requires-clause-legal
-perform_ruled-refused-requires-clause-legal g c κs within = λ s plan at. c.decide.ensures.decided.holds.legal s plan (ap (λ (l : List Plan). slice_get l s) (sym c.decide.ensures.plans) ∙ at)
+perform_ruled-refused-requires-clause-legal g c κs within = λ s plan at. c.decide.ensures.decided.holds.legal s plan (ap (λ (l : List Plan). slice_get l s) (sym c.decide.ensures.stays.plans) ∙ at)
 
 pub returns-in-Some-refused-clause-guarded : goal.returns-in-Some-refused-clause-guarded
 returns-in-Some-refused-clause-guarded g c = λ fixed at.
@@ -85,12 +85,12 @@ returns-in-Some-refused-clause-guarded g c = λ fixed at.
           (subst (λ (k : ℕ). shelf1.own k ≡ (g.H.Shelf.shown c.take.new.self).own k ++ length o.journal ∷ []) here c.give_ruled.ensures.own ∙ ap (λ (l : List ℕ). l ++ length o.journal ∷ []) owned)
           (subst (λ q. IfSome q (λ _. length o.journal < o.limit)) c.in-Some.is c.decide.ensures.room)
           shards2 c.decide.result left.reply (Some (reply c.in-Some-refused.refused)) left.holds c.in-Some.is
-          (stepped_over shards0 shards1 shards2 c.decide.ensures.plans c.decide.ensures.alone r.ruling op (operation c.deref.result.now) (ap operation c.deref.ensures)
+          (stepped_over shards0 shards1 shards2 c.decide.ensures.stays.plans c.decide.ensures.stays.alone r.ruling op (operation c.deref.result.now) (ap operation c.deref.ensures)
           (certificates c.args.came.arrived.certs.items) c.args.came.reading
           (option_map reply c.perform_ruled-refused.result) (Some (reply c.in-Some-refused.refused)) (ap (option_map reply) c.in-Some-refused.is)
           (c.perform_ruled-refused.ensures.performed (certificates c.args.came.arrived.certs.items) c.args.came.reading
           (subst (λ (o : Op). IsDueOf shards1.plans o (certificates c.args.came.arrived.certs.items) c.args.came.reading c.in-Ok.ready.due) (sym (ap operation c.deref.ensures))
-          (c.in-Ok.ensures.due shards1.plans (ap (λ (l : List Plan). length l) c.decide.ensures.plans ∙ sym c.count.ensures.count))))));
+          (c.in-Ok.ensures.due shards1.plans (ap (λ (l : List Plan). length l) c.decide.ensures.stays.plans ∙ sym c.count.ensures.count))))));
       spelled = c.draft-in-Some-refused.ensures.reply;
       short = c.draft-in-Some-refused.ensures.short;
     }
@@ -122,12 +122,12 @@ returns-in_default-refused-clause-guarded g c = λ fixed at.
           (subst (λ (k : ℕ). shelf1.own k ≡ (g.H.Shelf.shown c.take.new.self).own k ++ length o.journal ∷ []) here c.give_ruled.ensures.own ∙ ap (λ (l : List ℕ). l ++ length o.journal ∷ []) owned)
           (subst (λ q. IfSome q (λ _. length o.journal < o.limit)) c.in-Some.is c.decide.ensures.room)
           shards2 c.decide.result left.reply None left.holds c.in-Some.is
-          (stepped_over shards0 shards1 shards2 c.decide.ensures.plans c.decide.ensures.alone r.ruling op (operation c.deref.result.now) (ap operation c.deref.ensures)
+          (stepped_over shards0 shards1 shards2 c.decide.ensures.stays.plans c.decide.ensures.stays.alone r.ruling op (operation c.deref.result.now) (ap operation c.deref.ensures)
           (certificates c.args.came.arrived.certs.items) c.args.came.reading
           (option_map reply c.perform_ruled-refused.result) None (ap (option_map reply) c.in_default-refused.is)
           (c.perform_ruled-refused.ensures.performed (certificates c.args.came.arrived.certs.items) c.args.came.reading
           (subst (λ (o : Op). IsDueOf shards1.plans o (certificates c.args.came.arrived.certs.items) c.args.came.reading c.in-Ok.ready.due) (sym (ap operation c.deref.ensures))
-          (c.in-Ok.ensures.due shards1.plans (ap (λ (l : List Plan). length l) c.decide.ensures.plans ∙ sym c.count.ensures.count))))));
+          (c.in-Ok.ensures.due shards1.plans (ap (λ (l : List Plan). length l) c.decide.ensures.stays.plans ∙ sym c.count.ensures.count))))));
       spelled = left.spelled;
       short = left.short;
     }

@@ -28,4 +28,4 @@ loop-object-preserved c =
     (c.in_ok-audit_object.ensures.told ∙ ap₂ (λ (n : ℕ) (j : List ObjectEntry). string_bytes c.loop-object.text ++ object_text n j) c.number.ensures c.journal-in-loop-object.ensures.value)
 
 pub returns : goal.returns
-returns c = c.loop-object.invariant ∙ ap (λ (l : List ObjectSeen). shards_text c.args.shards.now ++ objects_text l) (take_all c.loop-object.object-index c.args.objects.now (omega (arith, c.loop-object-test.false)))
+returns c = rw c.into_bytes.ensures.value (c.loop-object.invariant ∙ ap (λ (l : List ObjectSeen). shards_text c.args.shards.now ++ objects_text l) (take_all c.loop-object.object-index c.args.objects.now (omega (arith, c.loop-object-test.false))))

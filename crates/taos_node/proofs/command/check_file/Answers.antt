@@ -1,6 +1,7 @@
 use Rattle.std.proofs.Common.{refl}
 use Rattle.std.proofs.KnownBytes.{Keeps-refl}
-use Rattle.taos_node.specs.Command.{touched, UsesNoLane, LeavesRest}
+use Rattle.taos_node.specs.Calls.{touched}
+use Rattle.taos_node.specs.Command.{UsesNoLane, LeavesRest}
 use Rattle.taos_node.proofs.CheckCommands.{looked_over}
 use Rattle.node_words.specs.Words.{Check}
 use Rattle.taos_node.proofs.Statuses.{checked, unserved}
@@ -8,13 +9,13 @@ use Rattle.taos_node.proofs.command.check_file.Goals as goal
 
 pub returns-in-Ok : goal.returns-in-Ok
 returns-in-Ok g c = record {
-  checks = λ words clock relay check.
+  checks = λ used words check.
       let before = touched (g.F.Source.shown c.args.file.now) (g.I.Source.shown c.args.input.now)
-      (g.O.Sink.shown c.args.output.now) clock relay in
+      (g.O.Sink.shown c.args.output.now) used in
       let after = touched (g.F.Source.shown c.file_opening.new.file) (g.I.Source.shown c.check_connection.new.input)
-      (g.O.Sink.shown c.check_connection.new.output) clock relay in
+      (g.O.Sink.shown c.check_connection.new.output) used in
       let gives = c.in-Ok.ensures.gives in
-      let lane : UsesNoLane before after = record { clock = refl; link = refl } in (
+      let lane : UsesNoLane before after = record { clock = refl; link = refl; fetch = refl } in (
         (check, looked_over before after c.in-Ok.node gives.0 c.check_connection.result gives.1 gives.2 c.check_connection.ensures.checks lane),
         checked words before after gives.0 c.check_connection.result check gives.1 c.in-Ok.ensures.cause refl c.check_connection.ensures.causes,
       );
@@ -22,12 +23,12 @@ returns-in-Ok g c = record {
 
 pub returns-in-Err : goal.returns-in-Err
 returns-in-Err g c = record {
-  checks = λ words clock relay check.
+  checks = λ used words check.
       let input = g.I.Source.shown c.args.input.now in
       let output = g.O.Sink.shown c.args.output.now in
-      let before = touched (g.F.Source.shown c.args.file.now) input output clock relay in
-      let after = touched (g.F.Source.shown c.file_opening.new.file) input output clock relay in
-      let rest : LeavesRest before after = record { input = Keeps-refl input.told; output = Keeps-refl output.told; lane = record { clock = refl; link = refl } } in (
+      let before = touched (g.F.Source.shown c.args.file.now) input output used in
+      let after = touched (g.F.Source.shown c.file_opening.new.file) input output used in
+      let rest : LeavesRest before after = record { input = Keeps-refl input.told; output = Keeps-refl output.told; lane = record { clock = refl; link = refl; fetch = refl } } in (
         ((Check, check, c.in-Err.ensures.gives), rest),
         unserved words before after Check c.in-Err.fault check c.in-Err.ensures.cause c.in-Err.ensures.gives refl refl refl,
       );

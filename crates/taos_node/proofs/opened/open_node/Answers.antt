@@ -5,13 +5,16 @@ use Rattle.agent_core.specs.Alone.{plans_in}
 use Rattle.agent_core.specs.Journals.{ShardSeen}
 use Rattle.object_core.specs.Objects.{ObjectSeen}
 use Rattle.object_core.specs.Shelving.{fixed_of}
-use Rattle.std.specs.Prelude.{map}
+use Rattle.std.specs.Prelude.{All, map}
 use Rattle.node_file.specs.Meaning.{opening}
 use Rattle.taos_monitor.specs.Arriving.{node_of}
 use Rattle.taos_monitor.specs.Planned.{ArePlanned}
-use Rattle.node_open.specs.Cells.{its_plans}
+use Rattle.agent_core.specs.State.{Plan}
+use Rattle.node_open.specs.Cells.{its_plans, new_object}
 use Rattle.taos_node.specs.Opened.{IsNodeOf}
-use Rattle.taos_node.proofs.Nodes.{none_seen}
+use Rattle.replay_law.specs.Laws.{HasFewCommons}
+use Rattle.taos_node.proofs.Audited.{few_planned}
+use Rattle.taos_node.proofs.Nodes.{none_seen, plans_new}
 use Rattle.taos_node.proofs.opened.open_node.Goals as goal
 
 pub returns-clause-opened : goal.returns-clause-opened
@@ -40,3 +43,14 @@ new-requires-2 c = c.in_ok-parts.ensures.new.shards
 pub returns-clause-few : goal.returns-clause-few
 returns-clause-few c =
     omega (arith, ap (λ (l : List ShardSeen). length l) c.new-2.ensures.shards, length-map c.in_ok-parts.parts.shards.items (λ (s : ShardSeen). s.plan), c.in_ok-parts.ensures.new.shards.few)
+
+pub returns-clause-small : goal.returns-clause-small
+returns-clause-small c =
+    let node = c.args.node in
+    let plans = its_plans (opening node) node.channels.entries in
+    let these = c.in_ok-new.ensures.objects ∙ c.in_ok-parts.ensures.objects in
+    let are = ap plans_in (c.new-2.ensures.shards ∙ c.in_ok-parts.ensures.shards) ∙ plans_new plans in
+    record {
+      objects = omega (arith, ap (λ (l : List ObjectSeen). length l) these, length-map node.objects (new_object node.limit), c.requires.objects);
+      commons = subst (λ (l : List Plan). All HasFewCommons l) (sym are) (few_planned (opening node) node.channels.entries c.requires.fits.few_commons);
+    }

@@ -2,7 +2,8 @@ use Rattle.std.proofs.Common.{refl, subst, sym, List, map}
 use Rattle.std.proofs.KnownBytes.{Keeps-refl}
 use Rattle.relay_path.specs.declared.domain.Domain.{Domain}
 use Rattle.relay_path.specs.Domains.{LinksAgree, knows}
-use Rattle.taos_node.specs.Command.{touched, UsesNoLane, LeavesRest}
+use Rattle.taos_node.specs.Calls.{touched}
+use Rattle.taos_node.specs.Command.{UsesNoLane, LeavesRest}
 use Rattle.taos_node.specs.Paths.{Passes}
 use Rattle.node_words.specs.Words.{Path, path_words}
 use Rattle.taos_node.proofs.Endings.{passed}
@@ -15,13 +16,13 @@ pass-requires g c = record { links = subst (λ (l : List Domain). LinksAgree (ma
 
 pub returns-in-Ok : goal.returns-in-Ok
 returns-in-Ok g c = record {
-  passes = λ words clock relay is.
+  passes = λ used words is.
       let before = touched (g.F.Source.shown c.args.file.now) (g.I.Source.shown c.args.input.now)
-      (g.O.Sink.shown c.args.output.now) clock relay in
+      (g.O.Sink.shown c.args.output.now) used in
       let after = touched (g.F.Source.shown c.file_domains.new.file) (g.I.Source.shown c.pass.new.input)
-      (g.O.Sink.shown c.pass.new.output) clock relay in
+      (g.O.Sink.shown c.pass.new.output) used in
       let gives = c.in-Ok.ensures.gives in
-      let lane : UsesNoLane before after = record { clock = refl; link = refl } in
+      let lane : UsesNoLane before after = record { clock = refl; link = refl; fetch = refl } in
       let p = path_words c.args.asked.now in
       let done = subst (λ (l : List Domain). Passes (map knows l) p before.input.told after.input.told before.output.told after.output.told c.pass.result) c.deref.ensures.value c.pass.ensures.passes in (
         (
@@ -42,12 +43,12 @@ returns-in-Ok g c = record {
 
 pub returns-in-Err : goal.returns-in-Err
 returns-in-Err g c = record {
-  passes = λ words clock relay is.
+  passes = λ used words is.
       let input = g.I.Source.shown c.args.input.now in
       let output = g.O.Sink.shown c.args.output.now in
-      let before = touched (g.F.Source.shown c.args.file.now) input output clock relay in
-      let after = touched (g.F.Source.shown c.file_domains.new.file) input output clock relay in
-      let rest : LeavesRest before after = record { input = Keeps-refl input.told; output = Keeps-refl output.told; lane = record { clock = refl; link = refl } } in
+      let before = touched (g.F.Source.shown c.args.file.now) input output used in
+      let after = touched (g.F.Source.shown c.file_domains.new.file) input output used in
+      let rest : LeavesRest before after = record { input = Keeps-refl input.told; output = Keeps-refl output.told; lane = record { clock = refl; link = refl; fetch = refl } } in
       let wanted = Path (path_words c.args.asked.now) in (
         ((wanted, is, c.in-Err.ensures.gives), rest),
         unserved words before after wanted c.in-Err.fault is c.in-Err.ensures.cause c.in-Err.ensures.gives refl refl refl,

@@ -1,6 +1,7 @@
 use Rattle.std.proofs.Common.{refl}
 use Rattle.std.proofs.KnownBytes.{Keeps-refl}
-use Rattle.taos_node.specs.Command.{touched, UsesNoLane, LeavesRest, labels_of}
+use Rattle.taos_node.specs.Calls.{touched}
+use Rattle.taos_node.specs.Command.{UsesNoLane, LeavesRest, labels_of}
 use Rattle.node_words.specs.Words.{Mint, mint_words}
 use Rattle.taos_node.proofs.Minted.{same_mints}
 use Rattle.taos_node.proofs.Statuses.{minted, unserved}
@@ -8,11 +9,11 @@ use Rattle.taos_node.proofs.relay.mint_by_file.Goals as goal
 
 pub returns-in-Ok : goal.returns-in-Ok
 returns-in-Ok g c = record {
-  mints = λ words input clock relay is.
-      let before = touched (g.F.Source.shown c.args.file.now) input (g.O.Sink.shown c.args.output.now) clock relay in
-      let after = touched (g.F.Source.shown c.file_relay.new.file) input (g.O.Sink.shown c.mint.new.output) clock relay in
+  mints = λ input used words is.
+      let before = touched (g.F.Source.shown c.args.file.now) input (g.O.Sink.shown c.args.output.now) used in
+      let after = touched (g.F.Source.shown c.file_relay.new.file) input (g.O.Sink.shown c.mint.new.output) used in
       let gives = c.in-Ok.ensures.gives in
-      let lane : UsesNoLane before after = record { clock = refl; link = refl } in
+      let lane : UsesNoLane before after = record { clock = refl; link = refl; fetch = refl } in
       let m = mint_words c.args.asked.now in
       let stands = gives.2 in
       let made = same_mints c.in-Ok.relay.table.issuers.entries gives.0.issuers c.in-Ok.relay.names (labels_of gives.0) stands.issuers.each stands.names stands.roles m before.output.told after.output.told c.mint.result c.mint.ensures.mints in (
@@ -23,11 +24,11 @@ returns-in-Ok g c = record {
 
 pub returns-in-Err : goal.returns-in-Err
 returns-in-Err g c = record {
-  mints = λ words input clock relay is.
+  mints = λ input used words is.
       let output = g.O.Sink.shown c.args.output.now in
-      let before = touched (g.F.Source.shown c.args.file.now) input output clock relay in
-      let after = touched (g.F.Source.shown c.file_relay.new.file) input output clock relay in
-      let rest : LeavesRest before after = record { input = Keeps-refl input.told; output = Keeps-refl output.told; lane = record { clock = refl; link = refl } } in
+      let before = touched (g.F.Source.shown c.args.file.now) input output used in
+      let after = touched (g.F.Source.shown c.file_relay.new.file) input output used in
+      let rest : LeavesRest before after = record { input = Keeps-refl input.told; output = Keeps-refl output.told; lane = record { clock = refl; link = refl; fetch = refl } } in
       let wanted = Mint (mint_words c.args.asked.now) in (
         ((wanted, is, c.in-Err.ensures.gives), rest),
         unserved words before after wanted c.in-Err.fault is c.in-Err.ensures.cause c.in-Err.ensures.gives refl refl refl,

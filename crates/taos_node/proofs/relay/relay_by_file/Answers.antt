@@ -1,19 +1,20 @@
 use Rattle.std.proofs.Common.{refl}
 use Rattle.std.proofs.KnownBytes.{Keeps-refl}
-use Rattle.taos_node.specs.Command.{touched, UsesNoLane, LeavesRest}
+use Rattle.taos_node.specs.Calls.{touched}
+use Rattle.taos_node.specs.Command.{UsesNoLane, LeavesRest}
 use Rattle.node_words.specs.Words.{Relay}
 use Rattle.taos_node.proofs.Statuses.{relayed, unserved}
 use Rattle.taos_node.proofs.relay.relay_by_file.Goals as goal
 
 pub returns-in-Ok : goal.returns-in-Ok
 returns-in-Ok g c = record {
-  relays = λ words clock relay is.
+  relays = λ used words is.
       let before = touched (g.F.Source.shown c.args.file.now) (g.I.Source.shown c.args.input.now)
-      (g.O.Sink.shown c.args.output.now) clock relay in
+      (g.O.Sink.shown c.args.output.now) used in
       let after = touched (g.F.Source.shown c.file_relay.new.file) (g.I.Source.shown c.serve_relay.new.input)
-      (g.O.Sink.shown c.serve_relay.new.output) clock relay in
+      (g.O.Sink.shown c.serve_relay.new.output) used in
       let gives = c.in-Ok.ensures.gives in
-      let lane : UsesNoLane before after = record { clock = refl; link = refl } in
+      let lane : UsesNoLane before after = record { clock = refl; link = refl; fetch = refl } in
       let outcome = c.serve_relay.result in (
         (c.args.frames, is, (gives.0, gives.1, record { table = c.in-Ok.relay.table; is_relay = record { issuers = gives.2.issuers; nodes = gives.2.nodes }; served = c.serve_relay.ensures.served; lane = lane })),
         relayed words c.args.frames before after outcome c.in-Ok.ensures.cause gives.0 is gives.1 c.serve_relay.ensures.complete c.serve_relay.ensures.causes c.serve_relay.ensures.clock refl,
@@ -22,12 +23,12 @@ returns-in-Ok g c = record {
 
 pub returns-in-Err : goal.returns-in-Err
 returns-in-Err g c = record {
-  relays = λ words clock relay is.
+  relays = λ used words is.
       let input = g.I.Source.shown c.args.input.now in
       let output = g.O.Sink.shown c.args.output.now in
-      let before = touched (g.F.Source.shown c.args.file.now) input output clock relay in
-      let after = touched (g.F.Source.shown c.file_relay.new.file) input output clock relay in
-      let rest : LeavesRest before after = record { input = Keeps-refl input.told; output = Keeps-refl output.told; lane = record { clock = refl; link = refl } } in
+      let before = touched (g.F.Source.shown c.args.file.now) input output used in
+      let after = touched (g.F.Source.shown c.file_relay.new.file) input output used in
+      let rest : LeavesRest before after = record { input = Keeps-refl input.told; output = Keeps-refl output.told; lane = record { clock = refl; link = refl; fetch = refl } } in
       let wanted = Relay c.args.frames in (
         ((wanted, is, c.in-Err.ensures.gives), rest),
         unserved words before after wanted c.in-Err.fault is c.in-Err.ensures.cause c.in-Err.ensures.gives refl refl refl,

@@ -3,23 +3,24 @@ use Rattle.std.proofs.Common.{inr, map, refl}
 use Rattle.std.proofs.KnownBytes.{Keeps-refl}
 use Rattle.taos_lanes.specs.Stocked.{shown_by}
 use Rattle.taos_lanes.specs.Telling.{told_by}
-use Rattle.taos_node.specs.Command.{touched, first_clock, first_link, LeavesRest}
+use Rattle.taos_node.specs.Calls.{touched, first_of}
+use Rattle.taos_node.specs.Command.{LeavesRest}
 use Rattle.node_words.specs.Words.{RelayServe}
 use Rattle.taos_node.proofs.LaneStatuses.{relay_doors_tell, relay_file_does, lanes_tell, not_two_lanes}
 use Rattle.taos_node.proofs.Commands.{decided_opened, relay_files}
-use Rattle.taos_node.specs.Ending.{lanes_status}
 use Rattle.taos_node.specs.Files.{IsRelayFile, relay_means}
 use Rattle.taos_node.proofs.Statuses.{unserved}
 use Rattle.taos_node.proofs.relay_lanes.serve_relay_by_file.Goals as goal
+use Rattle.taos_node.proofs.Stopped.{lanes_status}
 
 pub returns-in-Ok : goal.returns-in-Ok
 returns-in-Ok g c = record {
-  serves = λ words input is.
-      let f = shown_by g.C.Clock.shown g.R.RelayLink.shown g.D.Door.shown in
+  serves = λ input words is.
+      let f = shown_by g.C.Clock.shown g.R.RelayLink.shown g.D.Door.shown g.P.Fetch.shown in
       let before = touched (g.F.Source.shown c.args.file.now) input (g.O.Sink.shown c.args.output.now)
-      (first_clock g.C.Clock.shown c.args.lanes.now) (first_link g.R.RelayLink.shown c.args.lanes.now) in
+      (first_of g.C.Clock.shown g.R.RelayLink.shown g.P.Fetch.shown c.args.lanes.now) in
       let after = touched (g.F.Source.shown c.file_relay.new.file) input (g.O.Sink.shown c.serve_lanes.new.output)
-      (first_clock g.C.Clock.shown c.serve_lanes.new.lanes) (first_link g.R.RelayLink.shown c.serve_lanes.new.lanes) in
+      (first_of g.C.Clock.shown g.R.RelayLink.shown g.P.Fetch.shown c.serve_lanes.new.lanes) in
       let gives = c.in-Ok.ensures.gives in
       let did = c.serve_lanes.ensures.serves gives.0 gives.2 in
       record {
@@ -32,14 +33,13 @@ returns-in-Ok g c = record {
 
 pub returns-in-Err : goal.returns-in-Err
 returns-in-Err g c = record {
-  serves = λ words input is.
-      let f = shown_by g.C.Clock.shown g.R.RelayLink.shown g.D.Door.shown in
+  serves = λ input words is.
+      let f = shown_by g.C.Clock.shown g.R.RelayLink.shown g.D.Door.shown g.P.Fetch.shown in
       let output = g.O.Sink.shown c.args.output.now in
-      let clock = first_clock g.C.Clock.shown c.args.lanes.now in
-      let relay = first_link g.R.RelayLink.shown c.args.lanes.now in
-      let before = touched (g.F.Source.shown c.args.file.now) input output clock relay in
-      let after = touched (g.F.Source.shown c.file_relay.new.file) input output clock relay in
-      let rest : LeavesRest before after = record { input = Keeps-refl input.told; output = Keeps-refl output.told; lane = record { clock = refl; link = refl } } in
+      let used = first_of g.C.Clock.shown g.R.RelayLink.shown g.P.Fetch.shown c.args.lanes.now in
+      let before = touched (g.F.Source.shown c.args.file.now) input output used in
+      let after = touched (g.F.Source.shown c.file_relay.new.file) input output used in
+      let rest : LeavesRest before after = record { input = Keeps-refl input.told; output = Keeps-refl output.told; lane = record { clock = refl; link = refl; fetch = refl } } in
       let wanted = RelayServe c.args.limits in
       relay_file_does (told_by g.D.In.Source.shown g.D.Out.Sink.shown) words before after (map f c.args.lanes.now) c.args.limits c.in-Err.fault is ((wanted, is, c.in-Err.ensures.gives), rest)
       (unserved words before after wanted c.in-Err.fault is c.in-Err.ensures.cause c.in-Err.ensures.gives refl refl refl) c.in-Err.ensures.gives c.in-Err.ensures.cause;

@@ -1,11 +1,9 @@
-use Rattle.std.proofs.Common.{◌≡◌, ◌≤◌, length, filter, map, take}
-use Rattle.stmt_codec.specs.View.{certificates}
+use Rattle.std.proofs.Common.{◌≡◌, ◌≤◌, length, filter, take}
 use Rattle.agent_core.specs.Kept.{name_stays}
-use Rattle.agent_core.specs.Views.{entry_of}
 use Rattle.agent_core.proofs.held.removal.left_of.Given as goal
 
 abbrev pub invariant-loop-place : goal.invariant-loop-place
 invariant-loop-place l = record {
-  left_is : l.left.items ≡ filter (name_stays (certificates l.commons) (map entry_of l.entries) l.removal) (take l.place l.names.items);
+  left_is : l.left.items ≡ filter (name_stays l.book l.removal) (take l.place l.names.items);
   few : length l.left.items ≤ l.place;
 }

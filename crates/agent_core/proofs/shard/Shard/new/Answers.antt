@@ -13,10 +13,11 @@ use Rattle.agent_core.proofs.shard.Shard.new.Goals as goal
 
 pub invariant_of-result : goal.invariant_of-result
 invariant_of-result c =
-    let store : Store = record { clock = 0; swept = 0; commons = c.names_of.result; rows = c.in_ok-rows.rows } in
+    let store : Store = record { clock = 0; swept = 0; commons = c.names_of.result; withdrawn = c.new.result; rows = c.in_ok-rows.rows } in
     record {
       kept = opened_kept (plan_of c.args.plan) c.in_ok-entries.entries store c.requires c.in_ok-entries.ensures.items c.in_ok-entries.ensures.capacity refl refl
           (c.names_of.ensures ∙ ap first_names (c.len-2.ensures ∙ c.args.plan.commons.ok.0 ∙ sym (certificate_count c.args.plan.commons.items)))
+          c.new.ensures
           (subst (AreNew c.in_ok-rows.rows.items) (c.len.ensures ∙ c.args.plan.channels.ok.0) c.in_ok-rows.ensures);
       fits = subst (λ (es : List ShardEntry). All (λ (e : Entry). FitsEvent e.event) (map entry_of es)) (sym c.in_ok-entries.ensures.items)
           (All-nil (λ (e : Entry). FitsEvent e.event));

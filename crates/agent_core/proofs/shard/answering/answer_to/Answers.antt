@@ -2,7 +2,7 @@
 use Rattle.std.proofs.Common.{map, refl, sym, subst}
 use Rattle.stmt_codec.specs.View.{certificates}
 use Rattle.agent_core.specs.Answers.{TakesMemory}
-use Rattle.agent_core.specs.State.{Holds, Discards, Forgets, Expires}
+use Rattle.agent_core.specs.State.{Holds, Discards, Forgets, Expires, Withdraws}
 use Rattle.agent_core.specs.Journals.{told_at}
 use Rattle.agent_core.specs.Looking.{Answered}
 use Rattle.agent_core.specs.Views.{entry_of, event_of, plan_of}
@@ -57,3 +57,12 @@ returns-in-Expire-clause-answered c =
 pub returns-in-Expire-clause-cached : goal.returns-in-Expire-clause-cached
 returns-in-Expire-clause-cached c =
     tells_follow (plan_of c.args.plan.now) c.args.entries.now c.expire-told.new.entries (Expires c.in-Expire.reading) c.expire-told.result c.expire-told.new.store c.expire-told.ensures.tells c.args.cache.now c.purge_before.new.self c.requires.cached c.purge_before.ensures
+
+pub returns-in-Withdraw-clause-answered : goal.returns-in-Withdraw-clause-answered
+returns-in-Withdraw-clause-answered c =
+    subst (λ e. Answered (plan_of c.args.plan.now) c.args.entries.now (event_of e) c.answer-in-Withdraw.result c.withdraw-told.new.entries c.withdraw-told.new.store) (sym c.in-Withdraw.is)
+    (told_answered c.answer-in-Withdraw.result c.answer-in-Withdraw.ensures c.withdraw-told.ensures.tells)
+
+pub returns-in-Withdraw-clause-cached : goal.returns-in-Withdraw-clause-cached
+returns-in-Withdraw-clause-cached c =
+    tells_follow (plan_of c.args.plan.now) c.args.entries.now c.withdraw-told.new.entries (Withdraws c.in-Withdraw.issuer) c.withdraw-told.result c.withdraw-told.new.store c.withdraw-told.ensures.tells c.args.cache.now c.purge.new.cache c.requires.cached c.purge.ensures

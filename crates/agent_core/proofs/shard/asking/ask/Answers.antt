@@ -8,6 +8,7 @@ use Rattle.agent_core.specs.declared.event.Ask.{Ask as AskValue}
 use Rattle.agent_core.specs.State.{Plan, State, Ask, Asks, swept}
 use Rattle.agent_core.specs.Journals.{Entry, state_after, told_at, IsMeant}
 use Rattle.agent_core.specs.Looking.{Answered, IsLook, IsTaken}
+use Rattle.agent_core.specs.Names.{book}
 use Rattle.agent_core.specs.Views.{ask_of, entry_of, plan_of}
 use Rattle.agent_core.proofs.Asks.{on_err}
 use Rattle.agent_core.proofs.Judging.{replayed, full}
@@ -28,7 +29,7 @@ refuse-requires-clause-plain c =
     let s : State = state_after plan journal in
     let a : Ask = ask_of c.args.asked.value in
     let look = rw (c.deref.ensures.value, c.deref-2.ensures) at c.look_at-look.ensures in
-    let last = last_at plan journal s c.args.store.now c.requires.kept.store_is a c.look_at-look.result look c.index.result.now c.index.ensures in
+    let last = last_at plan journal c.args.store.now c.requires.kept.store_is a c.look_at-look.result look c.index.result.now c.index.ensures in
     replayed (swept plan.keep c.look_at-look.result.moment s) a c.index.result.now.last last (omega (arith, c.if-deref-last.true, ap (λ (x : AskValue). x.seq) c.deref-3.ensures))
 
 pub refuse-requires-then-look-len-gt-MAX_OWN-clause-plain : goal.refuse-requires-then-look-len-gt-MAX_OWN-clause-plain
@@ -38,8 +39,8 @@ refuse-requires-then-look-len-gt-MAX_OWN-clause-plain c =
     let s : State = state_after plan journal in
     let a : Ask = ask_of c.args.asked.value in
     let look = rw (c.deref.ensures.value, c.deref-2.ensures) at c.look_at-look.ensures in
-    let last = last_at plan journal s c.args.store.now c.requires.kept.store_is a c.look_at-look.result look c.index.result.now c.index.ensures in
-    let new = new_count plan journal s c.args.store.now c.requires.kept.store_is a c.look_at-look.result look in
+    let last = last_at plan journal c.args.store.now c.requires.kept.store_is a c.look_at-look.result look c.index.result.now c.index.ensures in
+    let new = new_count plan journal c.args.store.now c.requires.kept.store_is a c.look_at-look.result look in
     full (swept plan.keep c.look_at-look.result.moment s) a c.look_at-look.result.held (omega (arith, last, c.if-deref-last.false, ap (λ (x : AskValue). x.seq) c.deref-3.ensures))
     (sym look.held) (omega (arith, new, c.len.ensures.value, c.if-look-len-gt-MAX_OWN.true))
 
@@ -52,7 +53,7 @@ returns-in_err-kept-clause-wanted c =
     let journal : List Entry = map entry_of c.args.entries.now.items in
     let a : Ask = ask_of c.args.asked.value in
     let look = rw (c.deref.ensures.value, c.deref-2.ensures) at c.look_at-look.ensures in
-    let taken = is_taken plan journal (state_after plan journal) c.args.store.now c.requires.kept.store_is a c.look_at-look.result look c.index.result.now c.index.ensures
+    let taken = is_taken plan journal c.args.store.now c.requires.kept.store_is a c.look_at-look.result look c.index.result.now c.index.ensures
     (omega (arith, c.if-deref-last.false, ap (λ (x : AskValue). x.seq) c.deref-3.ensures)) (omega (arith, c.len.ensures.value, c.if-look-len-gt-MAX_OWN.false)) in
     on_err c.from_residual.result (wanted_now plan journal c.args.store.now c.requires.kept.store_is a c.look_at-look.result look taken)
 
@@ -72,7 +73,7 @@ ask_new-requires-clause-look c =
     let plan : Plan = plan_of c.args.plan.now in
     let journal : List Entry = map entry_of c.args.entries.now.items in
     let look = rw (c.deref.ensures.value, c.deref-2.ensures) at c.look_at-look.ensures in
-    subst (λ (a : Ask). IsLook plan journal (state_after plan journal) c.args.store.now a c.look_at-look.result) (sym c.in_ok-kept.ensures) look
+    subst (λ (a : Ask). IsLook (book plan journal) c.args.store.now a c.look_at-look.result) (sym c.in_ok-kept.ensures) look
 
 pub ask_new-requires-clause-judged : goal.ask_new-requires-clause-judged
 ask_new-requires-clause-judged c =
@@ -80,7 +81,7 @@ ask_new-requires-clause-judged c =
     let journal : List Entry = map entry_of c.args.entries.now.items in
     let s : State = state_after plan journal in
     let look = rw (c.deref.ensures.value, c.deref-2.ensures) at c.look_at-look.ensures in
-    let taken = is_taken plan journal s c.args.store.now c.requires.kept.store_is (ask_of c.args.asked.value) c.look_at-look.result look c.index.result.now c.index.ensures
+    let taken = is_taken plan journal c.args.store.now c.requires.kept.store_is (ask_of c.args.asked.value) c.look_at-look.result look c.index.result.now c.index.ensures
     (omega (arith, c.if-deref-last.false, ap (λ (x : AskValue). x.seq) c.deref-3.ensures)) (omega (arith, c.len.ensures.value, c.if-look-len-gt-MAX_OWN.false)) in
     subst (λ (a : Ask). IsTaken (swept plan.keep c.look_at-look.result.moment s) a) (sym c.in_ok-kept.ensures) taken
 

@@ -1,5 +1,6 @@
 -- the state that is left is the swept one
 use Rattle.std.proofs.Common.{[], ◌∷◌, map, List, refl, sym, ap, ◌∙◌, arith}
+use Rattle.std.proofs.lemmas.List.{length-map}
 use Rattle.agent_core.specs.declared.event.Event.TheVariants as code
 use Rattle.agent_core.specs.declared.event.ShardEntry.{ShardEntry}
 use Rattle.agent_core.specs.Caches.{unlapsed}
@@ -24,8 +25,8 @@ told_here c =
     let stamp = rw c.deref.ensures.value at c.move_on.ensures.swept in
     tells_more plan c.args.entries.now c.args.store.now c.requires.kept e c.append.new.entries c.requires.room c.append.ensures.added c.append.ensures.capacity
     c.move_on.new.store (swept plan.keep c.args.look.moment s) (Asks a) refl c.requires.meant
-    (asked_now plan journal s c.args.store.now c.requires.kept.store_is a c.args.look c.requires.look ∙ c.requires.plain)
-    (store_more plan journal (entry_of e ∷ []) (swept plan.keep c.args.look.moment s) c.move_on.new.store moved) (omega (arith, stamp))
+    (asked_now plan journal c.args.store.now c.requires.kept.store_is a c.args.look c.requires.look ∙ c.requires.plain)
+    (store_more plan journal (entry_of e ∷ []) (swept plan.keep c.args.look.moment s) c.move_on.new.store moved) (omega (arith, stamp, length-map c.args.entries.now.items entry_of))
 
 pub returns-clause-answered : goal.returns-clause-answered
 returns-clause-answered c = told_answered c.answer.result c.answer.ensures (told_here c)

@@ -1,12 +1,10 @@
 -- as many names as certificates
-use Rattle.std.proofs.Common.{map, ap, length, arith}
-use Rattle.stmt_codec.specs.View.{certificates}
+use Rattle.std.proofs.Common.{ap, length, arith}
 use Rattle.agent_core.specs.Names.{named}
-use Rattle.agent_core.specs.Views.{entry_of}
 use Rattle.agent_core.proofs.NamesLeft.{count_named}
 use Rattle.agent_core.proofs.shard.forgetting.clear.Goals as goal
 
 pub returns-clause-count : goal.returns-clause-count
 returns-clause-count c =
-    let count = count_named (named (certificates c.args.plan.now.commons.items) (map entry_of c.args.entries.now)) c.settle.new.row.own.items c.settle.ensures.names in
+    let count = count_named (named c.args.book.now) c.settle.new.row.own.items c.settle.ensures.names in
     omega (arith, count, c.len-count.ensures.value, ap (λ certs. length certs) c.settle.ensures.own)

@@ -1,28 +1,24 @@
 -- the commons and the rows let them go, and the counts add up
-use Rattle.std.proofs.Common.{◌≡◌, ℕ, ◌+◌, Some, map, refl, ap, ◌∙◌, length, arith, subst, sym, All, List}
+use Rattle.std.proofs.Common.{◌≡◌, ℕ, Some, refl, ap, ◌∙◌, length, arith, subst, sym, All, List}
 use Rattle.std.specs.List.{slice_get}
-use Rattle.agent_core.specs.Kept.{now_at}
+use Rattle.agent_core.specs.Kept.{now_at, state_of}
 use Rattle.agent_core.specs.declared.shard.store.Row.{Row}
-use Rattle.agent_core.specs.Journals.{state_after}
 use Rattle.agent_core.specs.Letting.{LetsGo}
 use Rattle.std.specs.Vec.{with_items}
 use Rattle.std.proofs.lemmas.List.{with_items_is}
-use Rattle.stmt_codec.specs.View.{certificates}
 use Rattle.agent_core.specs.Names.{named, AreNames}
-use Rattle.agent_core.specs.Views.{entry_of, plan_of}
 use Rattle.agent_core.proofs.Rows.{left_short}
 use Rattle.agent_core.proofs.Stores.{rows_named, let_store, let_count}
 use Rattle.agent_core.proofs.shard.letting.let_go.Goals as goal
 
 pub overflow_sub-common : goal.overflow_sub-common
 overflow_sub-common c =
-    let kept = rw c.deref.ensures.value at c.sweep.ensures in
-    omega (arith, c.len.ensures.value, c.len-before.ensures.value, left_short (named (certificates c.args.plan.now.commons.items) (map entry_of c.args.entries.now)) c.args.removal.now c.args.store.now.commons.items c.sweep.new.names.items kept)
+    omega (arith, c.len.ensures.value, c.len-before.ensures.value, left_short (named c.args.book.now) c.args.removal.now c.args.store.now.commons.items c.sweep.new.names.items c.sweep.ensures)
 
 pub let_go_of_rows-own-requires-clause-names : goal.let_go_of_rows-own-requires-clause-names
 let_go_of_rows-own-requires-clause-names c =
-    subst (λ (rows : List Row). All (λ (row : Row). AreNames (certificates c.args.plan.now.commons.items) (map entry_of c.args.entries.now) row.own.items) rows) (sym c.deref_mut.ensures.value)
-    (rows_named (plan_of c.args.plan.now) (map entry_of c.args.entries.now) (state_after (plan_of c.args.plan.now) (map entry_of c.args.entries.now)) c.args.store.now c.requires.store)
+    subst (λ (rows : List Row). All (λ (row : Row). AreNames c.args.book.now row.own.items) rows) (sym c.deref_mut.ensures.value)
+    (rows_named c.args.book.now.plan c.args.book.now.journal (state_of c.args.book.now) c.args.store.now c.requires.store)
 
 items_are : (c : goal.After-store-3-1) → (with_items c.args.store.now.rows c.let_go_of_rows-own.new.rows).items ≡ c.let_go_of_rows-own.new.rows
 items_are c = with_items_is c.args.store.now.rows c.let_go_of_rows-own.new.rows (c.let_go_of_rows-own.auto.rows ∙ c.deref_mut.ensures.len)
@@ -31,23 +27,21 @@ long : (c : goal.After-store-3-1) → length (with_items c.args.store.now.rows c
 long c = ap (λ (rows : List Row). length rows) (items_are c) ∙ c.let_go_of_rows-own.auto.rows ∙ ap (λ (rows : List Row). length rows) c.deref_mut.ensures.value
 
 rows_let : (c : goal.After-store-3-1) → (i : ℕ) (row row' : Row) → slice_get c.args.store.now.rows.items i ≡ Some row → slice_get (with_items c.args.store.now.rows c.let_go_of_rows-own.new.rows).items i ≡ Some row' →
-    LetsGo (now_at (plan_of c.args.plan.now) (map entry_of c.args.entries.now) c.args.store.now.clock c.args.store.now.swept) c.args.removal.now (length c.args.entries.now + 1) row row'
+    LetsGo (now_at c.args.book.now c.args.store.now.clock c.args.store.now.swept) c.args.removal.now c.stamp-stamp.result row row'
 rows_let c = rw (items_are c) (rw c.deref_mut.ensures.value at c.let_go_of_rows-own.ensures.rows)
 
 pub returns-clause-store : goal.returns-clause-store
 returns-clause-store c =
-    let kept = rw c.deref.ensures.value at c.sweep.ensures in
-    let_store (plan_of c.args.plan.now) (map entry_of c.args.entries.now) (state_after (plan_of c.args.plan.now) (map entry_of c.args.entries.now)) c.args.store.now c.requires.store
-    c.args.removal.now c.args.moment (length c.args.entries.now + 1)
-    (record { clock = c.args.moment; swept = length c.args.entries.now + 1; commons = c.sweep.new.names; rows = with_items c.args.store.now.rows c.let_go_of_rows-own.new.rows })
-    kept (long c) (rows_let c) refl refl
+    let_store c.args.book.now.plan c.args.book.now.journal (state_of c.args.book.now) c.args.store.now c.requires.store
+    c.args.removal.now c.args.moment c.stamp-stamp.result
+    (record { clock = c.args.moment; swept = c.stamp-stamp.result; commons = c.sweep.new.names; withdrawn = c.args.store.now.withdrawn; rows = with_items c.args.store.now.rows c.let_go_of_rows-own.new.rows })
+    c.sweep.ensures (long c) (rows_let c) refl refl refl
 
 pub returns-clause-count : goal.returns-clause-count
 returns-clause-count c =
-    let kept = rw c.deref.ensures.value at c.sweep.ensures in
     let own = rw c.deref_mut.ensures.value at c.let_go_of_rows-own.ensures.count in
-    let count = let_count (plan_of c.args.plan.now) (map entry_of c.args.entries.now) (state_after (plan_of c.args.plan.now) (map entry_of c.args.entries.now)) c.args.store.now c.requires.store
-    c.args.removal.now c.args.moment (length c.args.entries.now + 1)
-    (record { clock = c.args.moment; swept = length c.args.entries.now + 1; commons = c.sweep.new.names; rows = with_items c.args.store.now.rows c.let_go_of_rows-own.new.rows })
-    kept (long c) (rows_let c) c.let_go_of_rows-own.result own in
+    let count = let_count c.args.book.now.plan c.args.book.now.journal (state_of c.args.book.now) c.args.store.now c.requires.store
+    c.args.removal.now c.args.moment c.stamp-stamp.result
+    (record { clock = c.args.moment; swept = c.stamp-stamp.result; commons = c.sweep.new.names; withdrawn = c.args.store.now.withdrawn; rows = with_items c.args.store.now.rows c.let_go_of_rows-own.new.rows })
+    c.sweep.ensures (long c) (rows_let c) c.let_go_of_rows-own.result own in
     omega (arith, count, c.len.ensures.value, c.len-before.ensures.value)

@@ -1,27 +1,24 @@
 -- one row after another
-use Rattle.std.proofs.Common.{ℕ, ◌<◌, length, map, filter, ap, arith}
+use Rattle.std.proofs.Common.{ℕ, ◌<◌, length, filter, ap, arith}
 use Rattle.std.proofs.lemmas.List.Sums.{sum_by_more}
 use Rattle.std.proofs.lemmas.Option.{slice_get_within}
 use Rattle.agent_core.specs.declared.shard.store.Row.{Row}
 use Rattle.agent_core.specs.Kept.{row_certs, stays, now_at}
 use Rattle.agent_core.specs.Letting.{LetsGo}
-use Rattle.agent_core.specs.Views.{entry_of, plan_of}
 use Rattle.agent_core.proofs.Places.{step_before, step_behind, still_there}
 use Rattle.agent_core.proofs.shard.letting.let_go_of_rows.Goals as goal
 
 pub loop-place-preserved : goal.loop-place-preserved
 loop-place-preserved c =
-    let plan = plan_of c.args.plan.now in
-    let journal = map entry_of c.args.entries.now in
     let lt : c.loop-place.place < length c.loop-place.rows = omega arith in
-    let all : (row : Row) → ℕ = λ row. length (row_certs (now_at plan journal c.args.clock c.args.swept) row) in
-    let left : (row : Row) → ℕ = λ row. length (filter (stays c.args.removal.now) (row_certs (now_at plan journal c.args.clock c.args.swept) row)) in
+    let all : (row : Row) → ℕ = λ row. length (row_certs (now_at c.args.book.now c.args.clock c.args.swept) row) in
+    let left : (row : Row) → ℕ = λ row. length (filter (stays c.args.removal.now) (row_certs (now_at c.args.book.now c.args.clock c.args.swept) row)) in
     let old = c.index-rows-place.result in
     let there = still_there c.args.rows.now c.loop-place.rows c.loop-place.place old lt c.loop-place.invariant.behind c.loop-place.auto.rows in
     let more_all = sum_by_more all c.args.rows.now c.loop-place.place old (omega arith) in
     let more_left = sum_by_more left c.args.rows.now c.loop-place.place old (omega arith) in
     record {
-      before = step_before (LetsGo (now_at plan journal c.args.clock c.args.swept) c.args.removal.now c.args.stamp) c.args.rows.now c.loop-place.rows c.loop-place.place old c.let_go_of-count.new.row lt
+      before = step_before (LetsGo (now_at c.args.book.now c.args.clock c.args.swept) c.args.removal.now c.args.stamp) c.args.rows.now c.loop-place.rows c.loop-place.place old c.let_go_of-count.new.row lt
           c.let_go_of-count.ensures.row (λ k x y less from to. c.loop-place.invariant.before k x y less from to) c.loop-place.invariant.behind;
       behind = step_behind c.args.rows.now c.loop-place.rows c.loop-place.place c.let_go_of-count.new.row c.loop-place.invariant.behind;
       count = omega (arith, more_all, more_left, ap all there, ap left there, c.loop-place.invariant.count, c.let_go_of-count.ensures.count);

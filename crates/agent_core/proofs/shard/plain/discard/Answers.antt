@@ -1,5 +1,6 @@
 -- the certificates of the digest are let go at the clock's own moment
 use Rattle.std.proofs.Common.{ℕ, [], ◌∷◌, map, refl, sym, ap₂, arith}
+use Rattle.std.proofs.lemmas.List.{length-map}
 use Rattle.agent_core.specs.declared.event.Event.TheVariants as code
 use Rattle.agent_core.specs.declared.event.ShardEntry.{ShardEntry}
 use Rattle.agent_core.specs.declared.held.removal.Removal.TheVariants.{Named}
@@ -23,4 +24,4 @@ returns-clause-tells c =
     tells_more plan c.args.entries.now c.args.store.now c.requires.kept e c.append.new.entries c.requires.room c.append.ensures.added c.append.ensures.capacity
     c.let_go-count.new.store (keeping (stays (Named c.args.digest)) c.args.store.now.clock s) (Discards c.args.digest) refl tt
     (ap₂ (λ (m n : ℕ). (keeping (stays (Named c.args.digest)) m s, Plain (Told.Removed n))) (sym c.requires.kept.store_is.clock_is) (sym count))
-    (store_more plan journal (entry_of e ∷ []) (keeping (stays (Named c.args.digest)) c.args.store.now.clock s) c.let_go-count.new.store is) (omega (arith, swept))
+    (store_more plan journal (entry_of e ∷ []) (keeping (stays (Named c.args.digest)) c.args.store.now.clock s) c.let_go-count.new.store is) (omega (arith, swept, length-map c.args.entries.now.items entry_of))

@@ -1,5 +1,6 @@
 -- the certificates that are gone at the later of clock and reading are let go
 use Rattle.std.proofs.Common.{◌≡◌, ◌-◌, ℕ, [], ◌∷◌, map, max, refl, sym, ap, ◌∙◌, arith}
+use Rattle.std.proofs.lemmas.List.{length-map}
 use Rattle.agent_core.specs.declared.event.Event.TheVariants as code
 use Rattle.agent_core.specs.declared.event.ShardEntry.{ShardEntry}
 use Rattle.agent_core.specs.declared.held.removal.Removal.TheVariants.{Ended}
@@ -26,4 +27,4 @@ returns-clause-tells c =
     c.let_go-count.new.store (keeping (stays (Ended plan.keep moment)) moment s) (Expires c.args.reading) refl tt
     (ap (λ (m : ℕ). (keeping (stays (Ended plan.keep m)) m s, Plain (Told.Removed (held_count plan s - held_count plan (keeping (stays (Ended plan.keep m)) m s))))) later ∙
     ap (λ (n : ℕ). (keeping (stays (Ended plan.keep moment)) moment s, Plain (Told.Removed n))) (sym count))
-    (store_more plan journal (entry_of e ∷ []) (keeping (stays (Ended plan.keep moment)) moment s) c.let_go-count.new.store is) (omega (arith, swept))
+    (store_more plan journal (entry_of e ∷ []) (keeping (stays (Ended plan.keep moment)) moment s) c.let_go-count.new.store is) (omega (arith, swept, length-map c.args.entries.now.items entry_of))

@@ -1,0 +1,22 @@
+pub mod Splits
+mod ShardFalls
+mod ObjectFalls
+mod OneAnswer
+mod Marks
+mod Ruled
+mod Progressing
+mod Passing
+mod OneStep
+mod LastMark
+mod Naming
+mod Composed
+mod ShardsComing
+mod ObjectsComing
+mod AllComing
+mod NewName
+mod SoundSteps
+mod Keeping
+mod SameLists
+mod LastAsk
+mod SameTold
+mod Forward

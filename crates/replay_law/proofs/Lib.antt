@@ -1,0 +1,6 @@
+mod Rulings
+mod Owning
+mod Placing
+mod Alone
+mod Legal
+mod Writable

@@ -1,0 +1,228 @@
+-- What a node left can be spelled: no proof in it cites too much, and each operation is within the limits.
+use Rattle.std.proofs.Common.{◌≡◌, ◌≢◌, inl, inr, ℕ, ◌+◌, ◌<◌, ◌≤◌, Bool, false, List, [], ◌∷◌, ◌++◌, length, map, get_or, eqb, Option, Some, slice_get, sym, ap, subst, ◌∙◌, arith}
+use Rattle.std.specs.Prelude.{All, Contains}
+use Rattle.std.proofs.lemmas.Bool.{eqb-true}
+use Rattle.std.proofs.lemmas.Bool.Decides.{nat_tests}
+use Rattle.std.proofs.lemmas.List.Elements.{All-append, All-contains, All-cons, All-nil}
+use Rattle.std.proofs.lemmas.Map.Keys.{IsDistinct-from_apart}
+use Rattle.std.proofs.lemmas.Map.Steps.{length-le_from_distinct_below}
+use Rattle.std.proofs.lemmas.Map.Views.{Contains-from_any}
+use Rattle.std.proofs.lemmas.Option.{same_Some, slice_get-get_or}
+use Rattle.prin_term.specs.declared.term.Anchor.{Anchor}
+use Rattle.stmt_codec.specs.Certificates.{Certificate}
+use Rattle.object_core.specs.Objects.{ObjectEntry}
+use Rattle.object_core.specs.Operation.{Op, FitsOperation, Read, Write, SetList, Hold, Discard, Forget, Sweep, Withdraw}
+use Rattle.proof_cache.specs.Cached.{Cached}
+use Rattle.agent_core.specs.declared.limits.TheConstants.{MAX_COMMONS, MAX_OWN}
+use Rattle.agent_core.specs.declared.asked.Settled.{Settled}
+use Rattle.agent_core.specs.declared.told.Told.{Told}
+use Rattle.agent_core.specs.Asked.{IsGrant, IsGrantedAt, by_kept, was_kept, was_dropped, had_no_room}
+use Rattle.agent_core.specs.Granted.{IsProofFor}
+use Rattle.agent_core.specs.Journals.{Entry, entry, Stands}
+use Rattle.agent_core.specs.State.{Plan, Ask, Asks, Event, Keeps, Holds, Discards, Forgets, Expires, Withdraws}
+use Rattle.agent_core.proofs.Bringing.{count_places}
+use Rattle.agent_core.proofs.Few.{judges_few}
+use Rattle.taos_calculus.proofs.Induction.{All-at}
+use Rattle.journal_bytes.specs.declared.limits.TheConstants.{MAX_CITES}
+use Rattle.journal_bytes.specs.Limits.{CitesFewOf}
+use Rattle.taos_monitor.specs.Asking.{IsUnruled, full, replayed, channel_full, untold, unanswered}
+use Rattle.taos_monitor.specs.AtObject.{IsGuardedAfter, Own, Seeking, asks_for, denied, granted, no_ruling, object_is_full, places_at}
+use Rattle.taos_monitor.specs.Cells.{Journals, Node, OfObject, OfShard, Place, in_object, in_shard, no_entries}
+use Rattle.taos_monitor.specs.Course.{Course, TurnAfter, Used, bad_seal, cert_refused, its_seeking, malformed, relay_failed, ruled, unknown_channel, unknown_object, unopened, unread}
+use Rattle.taos_monitor.specs.Course.{plain, pull_failed, unfetched, unpulled, pull_stopped, pulled}
+use Rattle.taos_monitor.specs.Effects.{IsPerformed, IsStep, ShardStep, its_place, step_at, through, not_held, no_room, no_place}
+use Rattle.taos_monitor.specs.Operations.{effect_of}
+use Rattle.taos_monitor.specs.Run.{IsCourse, Turn}
+use Rattle.taos_wire.specs.Reply.{Reply, Sent}
+use Rattle.drill_journal.specs.Works.{In}
+use Rattle.drill_journal.proofs.Members.{all_in, in_either, in_flat, map_in}
+use Rattle.replay_law.specs.Laws.{AreWritable, HasFewCommons}
+use Rattle.replay_law.proofs.Owning.{Came}
+use Rattle.replay_law.proofs.Rulings.{RuledAt, ruled_at, stands_there}
+
+-- ---- how much a proof cites
+
+unequal : (a b : ℕ) → a ≢ b → eqb a b ≡ false
+unequal a b other = grind (arith, nat_tests, other)
+
+module _ (anchors : List Anchor) (certs : List Certificate) (moment : ℕ) (a : Ask) (chosen : ℕ) (c : Cached) (p : IsProofFor anchors certs moment a chosen c) where
+  inside : (q : ℕ) → Contains p.places q → q < length certs
+  inside q has = All-contains (λ i. i < length certs) p.places q p.inside has
+
+  unlike : (i j d : ℕ) → i < j → j < length p.places → eqb (get_or p.places i d) (get_or p.places j d) ≡ false
+  unlike i j d less within = unequal (get_or p.places i d) (get_or p.places j d) (p.tidy.apart i j d less within)
+
+  few_places : length p.places ≤ length certs
+  few_places = length-le_from_distinct_below p.places (length certs) (IsDistinct-from_apart eqb p.places unlike) (λ q has. inside q (Contains-from_any (λ x y. eqb-true x y) q p.places has))
+
+  pub few_cites : length c.cites ≤ length certs
+  few_cites = omega (arith, ap (λ (l : List Certificate). length l) p.cites_are, count_places certs p.places p.inside, few_places)
+
+-- ---- entries of shards
+
+-- what the entry that stands at a place is
+one_entry : (journal : List Entry) (place : ℕ) (before : List Entry) (e x : Entry) → Stands journal place before e → slice_get journal place ≡ Some x → e ≡ x
+one_entry journal place before e x stands at = same_Some e x (sym (stands_there journal place before e stands) ∙ at)
+
+-- an entry that stands at this place cites little
+abbrev pub IsFine : List Entry → ℕ → Type 0
+IsFine journal place = (x : Entry) → slice_get journal place ≡ Some x → CitesFewOf x.event
+
+fine : (journal : List Entry) (place : ℕ) (before : List Entry) (e : Entry) → Stands journal place before e → CitesFewOf e.event → IsFine journal place
+fine journal place before e stands few x at = subst (λ (y : Entry). CitesFewOf y.event) (one_entry journal place before e x stands at) few
+
+module _ (plan : Plan) (few_commons : HasFewCommons plan) (journal : List Entry) (a : Ask) where
+  -- the Ask and the Keep of a grant that was made
+  kept_fine : (place chosen : ℕ) (c : Cached) (keep : ℕ) (told : Told) → IsGrantedAt plan journal a place chosen c → (before : List Entry) × Stands journal keep before (entry (Keeps place chosen c) told) → (p : ℕ) → In p (place ∷ keep ∷ []) → IsFine journal p
+  kept_fine place chosen c keep told g (before, stands) p is =
+      let few : length g.certs ≤ MAX_OWN + MAX_COMMONS = judges_few plan few_commons g.before a g.moment g.certs g.judged in
+      let cites : length c.cites ≤ MAX_CITES = omega (arith, few, few_cites plan.anchors g.certs g.moment a chosen c g.granted.proof) in
+      elim is [
+        | inl same ↦ subst (IsFine journal) same (fine journal place g.before (entry (Asks a) Told.Miss) g.stands tt)
+        | inr rest ↦ elim rest [ inl same ↦ subst (IsFine journal) same (fine journal keep before (entry (Keeps place chosen c) told) stands cites) | inr none ↦ absurd none ]
+      ]
+
+  -- those of any grant
+  grant_fine : (place chosen : ℕ) (c : Cached) (kept : Bool) (settling : Settled) (asks : List ℕ) → IsGrant plan journal a place chosen c kept settling asks → (p : ℕ) → In p asks → IsFine journal p
+  grant_fine place chosen c kept settling asks (by_kept h) p is = elim is [
+    | inl same ↦ subst (IsFine journal) same (fine journal place h.before (entry (Asks a) (Told.Hit chosen)) h.stands tt)
+    | inr none ↦ absurd none
+  ]
+  grant_fine place chosen c kept settling asks (was_kept {keep = k} g stands) p is = kept_fine place chosen c k Told.Kept g stands p is
+  grant_fine place chosen c kept settling asks (was_dropped {keep = k} {cause = cause} g stands) p is = kept_fine place chosen c k (Told.Dropped cause) g stands p is
+  grant_fine place chosen c kept settling asks (had_no_room g ends) p is = elim is [
+    | inl same ↦ subst (IsFine journal) same (fine journal place g.before (entry (Asks a) Told.Miss) g.stands tt)
+    | inr none ↦ absurd none
+  ]
+
+  -- one that has no ruling
+  unruled_fine : (shard : ℕ) (own : List ℕ) (reply : Reply) → IsUnruled plan journal shard a own reply → (p : ℕ) → In p own → IsFine journal p
+  unruled_fine shard own reply (full is_full) p is = absurd is
+  unruled_fine shard own reply (replayed {place = k} {last = last} told) p is = elim is [
+    | inl same ↦ subst (IsFine journal) same (fine journal k told.0 (entry (Asks a) (Told.Replayed last)) told.1 tt)
+    | inr none ↦ absurd none
+  ]
+  unruled_fine shard own reply (channel_full {place = k} {held = held} told) p is = elim is [
+    | inl same ↦ subst (IsFine journal) same (fine journal k told.0 (entry (Asks a) (Told.Full held)) told.1 tt)
+    | inr none ↦ absurd none
+  ]
+  unruled_fine shard own reply (untold {place = k} {entry = e} {c = c} {kept = kept} {settled = settling} grant) p is = grant_fine k e c kept settling own grant p is
+  unruled_fine shard own reply (unanswered ends) p is = elim ends [
+    | inl none ↦ absurd (subst (In p) none is)
+    | inr u ↦ elim (subst (In p) u.4 is) [
+      | inl same ↦ subst (IsFine journal) same (fine journal u.0 u.1 (entry (Asks a) Told.Miss) u.2 tt)
+      | inr none ↦ absurd none
+    ]
+  ]
+
+-- ---- what is performed
+
+effect_few : (op : Op) (certs : List Certificate) (reading : ℕ) (event : Event) → effect_of op certs reading ≡ Some event → CitesFewOf event
+effect_few Read certs reading event is = absurd cc
+effect_few (Write new) certs reading event is = absurd cc
+effect_few (SetList list) certs reading event is = absurd cc
+effect_few Hold certs reading event is = subst CitesFewOf (same_Some (Holds certs) event is) tt
+effect_few (Discard digest) certs reading event is = subst CitesFewOf (same_Some (Discards digest) event is) tt
+effect_few (Forget channel) certs reading event is = subst CitesFewOf (same_Some (Forgets channel) event is) tt
+effect_few Sweep certs reading event is = subst CitesFewOf (same_Some (Expires reading) event is) tt
+effect_few (Withdraw issuer) certs reading event is = subst CitesFewOf (same_Some (Withdraws issuer) event is) tt
+
+module _ (plans : List Plan) (journals : ℕ → List Entry) (op : Op) (effect : Option Event) where
+  steps_stand : (steps : List ShardStep) (refused : Option Reply) → IsPerformed plans journals op effect steps refused → All (IsStep journals effect) steps
+  steps_stand steps refused (through went lets) = went.are_done.stand
+  steps_stand steps refused (not_held digest is went never) = went.are_done.stand
+  steps_stand steps refused (no_room {shard = s} {told = told} lacks found) =
+      subst (All (IsStep journals effect)) (sym found.steps_are)
+      (All-append (IsStep journals effect) found.done (step_at s found.place told ∷ []) found.are_done.stand (All-cons (IsStep journals effect) (step_at s found.place told) [] found.refused (All-nil (IsStep journals effect))))
+  steps_stand steps refused (no_place found) = found.are_done.stand
+
+-- ---- one request
+
+same_shard : (s t : ℕ) → OfShard s ≡ OfShard t → s ≡ t
+same_shard s t e = cc
+
+other_sort : (o k s p : ℕ) → in_object o k ≡ in_shard s p → ⊥
+other_sort o k s p e = cells (ap (λ (x : Place). x.cell) e)
+  where
+    cells : OfObject o ≡ OfShard s → ⊥
+    cells same = absurd cc
+
+module _ (n : Node) (few : All HasFewCommons n.plans) (J : Journals) where
+  -- the place of a shard's entry is one of its shard
+  at_shard : (s k t p : ℕ) → in_shard s k ≡ in_shard t p → IsFine (J.shards s) k → IsFine (J.shards t) p
+  at_shard s k t p e is =
+      subst (λ (x : ℕ). IsFine (J.shards x) p) (same_shard s t (ap (λ (x : Place). x.cell) e)) (subst (IsFine (J.shards s)) (ap (λ (x : Place). x.number) e) is)
+
+  asks_fine : (s t p : ℕ) (asks : List ℕ) → ((k : ℕ) → In k asks → IsFine (J.shards s) k) → In (in_shard t p) (map (in_shard s) asks) → IsFine (J.shards t) p
+  asks_fine s t p asks each h = let (k, is, same) = map_in (in_shard s) asks (in_shard t p) h in at_shard s k t p same (each k is)
+
+  step_fine : (op : Op) (certs : List Certificate) (reading : ℕ) (step : ShardStep) → IsStep J.shards (effect_of op certs reading) step → IsFine (J.shards step.shard) step.place
+  step_fine op certs reading step s = fine (J.shards step.shard) step.place s.before (entry s.event step.told) s.stands (effect_few op certs reading s.event s.effect_is)
+
+  module _ (x : Seeking) (plan : Plan) (at : slice_get n.plans x.shard ≡ Some plan) where
+    its_plan : HasFewCommons plan
+    its_plan = All-at HasFewCommons n.plans x.shard plan few at
+
+    guarded_fine : (own : Own) (reply : Reply) (s p : ℕ) → IsGuardedAfter n.plans plan (no_entries, J) x own reply → In (in_shard s p) (places_at x own) → IsFine (J.shards s) p
+    guarded_fine own reply s p (object_is_full is_full) h = absurd h
+    guarded_fine own reply s p (no_ruling {own = asks} before seen unruled) h = elim (in_either (in_shard s p) (map (in_shard x.shard) asks ++ []) [] h) [
+      | inl asked ↦ elim (in_either (in_shard s p) (map (in_shard x.shard) asks) [] asked) [
+        | inl ask ↦ asks_fine x.shard s p asks (λ k is. unruled_fine plan its_plan (J.shards x.shard) (asks_for x before) x.shard asks reply unruled k is) ask
+        | inr none ↦ absurd none
+      ]
+      | inr none ↦ absurd none
+    ]
+    guarded_fine own reply s p (denied {place = q} {at = k} before stands is tells) h = elim h [
+      | inl ask ↦ at_shard x.shard q s p ask (fine (J.shards x.shard) q is.before (entry (Asks (asks_for x before)) Told.Miss) is.stands tt)
+      | inr rest ↦ elim rest [ inl ruling ↦ absurd (other_sort x.request.object k s p ruling) | inr none ↦ absurd none ]
+    ]
+    guarded_fine own reply s p (granted {place = q} {at = k} {entry = chosen} {c = c} {kept = kept} {settled = settling} {asks = asks} {steps = steps} {refused = refused} before stands is performed leaves) h =
+        elim (in_either (in_shard s p) (map (in_shard x.shard) asks ++ in_object x.request.object k ∷ []) (map its_place steps) h) [
+          | inl first ↦ elim (in_either (in_shard s p) (map (in_shard x.shard) asks) (in_object x.request.object k ∷ []) first) [
+            | inl ask ↦ asks_fine x.shard s p asks (λ j there. grant_fine plan its_plan (J.shards x.shard) (asks_for x before) q chosen c kept settling asks is j there) ask
+            | inr rest ↦ elim rest [ inl ruling ↦ absurd (other_sort x.request.object k s p ruling) | inr none ↦ absurd none ]
+          ]
+          | inr step ↦
+              let (one, there, same) = map_in its_place steps (in_shard s p) step in
+              let stood : IsStep J.shards (effect_of x.request.op x.certs x.reading) one = all_in (IsStep J.shards (effect_of x.request.op x.certs x.reading)) steps one (steps_stand n.plans J.shards x.request.op (effect_of x.request.op x.certs x.reading) steps refused performed) there in
+              at_shard one.shard one.place s p same (step_fine x.request.op x.certs x.reading one stood)
+        ]
+
+  course_fine : (payload : List ℕ) (used : Used) (sent : Sent) (s p : ℕ) → Course n J payload used sent → In (in_shard s p) used.places → IsFine (J.shards s) p
+  course_fine payload used sent s p (malformed none reads) h = absurd h
+  course_fine payload used sent s p (unknown_channel q spelled none) h = absurd h
+  course_fine payload used sent s p (bad_seal q key spelled keyed bad) h = absurd h
+  course_fine payload used sent s p (cert_refused is first) h = absurd h
+  course_fine payload used sent s p (relay_failed is first) h = absurd h
+  course_fine payload used sent s p (unknown_object is none) h = absurd h
+  course_fine payload used sent s p (ruled {own = own} {reply = reply} t reading plan at guarded) h = guarded_fine (its_seeking n t reading) plan at own reply s p guarded h
+  course_fine payload used sent s p unread h = absurd h
+  course_fine payload used sent s p (unopened is at) h = absurd h
+
+  turn_fine : (payload : List ℕ) (used : Used) (sent : Sent) (s p : ℕ) → TurnAfter n no_entries J payload used sent → In (in_shard s p) used.places → IsFine (J.shards s) p
+  turn_fine payload used sent s p (plain c) h = course_fine payload used sent s p c h
+  turn_fine payload used sent s p (pull_failed asked) h = absurd h
+  turn_fine payload used sent s p (unfetched asked) h = absurd h
+  turn_fine payload used sent s p (unpulled asked interrupted) h = absurd h
+  turn_fine payload used sent s p (pull_stopped asked failed) h = absurd h
+  turn_fine payload used sent s p (pulled {used = later} asked opened c) h = course_fine _ later sent s p c h
+
+  -- ---- the whole
+
+  module _ (c : Came n J) where
+    shard_fine : (s p : ℕ) → p < length (J.shards s) → IsFine (J.shards s) p
+    shard_fine s p below =
+        let (t, is, owned) = in_flat (λ (u : Turn). u.used.places) c.turns (in_shard s p) (c.each (OfShard s) p below) in
+        turn_fine t.frame t.used t.sent s p (all_in (IsCourse n J) c.turns t c.courses is) owned
+
+    object_fits : (o k : ℕ) (e : ObjectEntry) → slice_get (J.objects o) k ≡ Some e → k < length (J.objects o) → FitsOperation e.op
+    object_fits o k e at below =
+        let (t, is, owned) = in_flat (λ (u : Turn). u.used.places) c.turns (in_object o k) (c.each (OfObject o) k below) in
+        let r : RuledAt n J o k t.used.places = ruled_at n J t.frame t.used t.sent o k (all_in (IsCourse n J) c.turns t c.courses is) owned in
+        subst (λ (y : ObjectEntry). FitsOperation y.op) (same_Some r.e e (sym (stands_there (J.objects o) k r.before r.e r.stands) ∙ at)) r.fits
+
+    pub left_writable : AreWritable J
+    left_writable = record {
+      cites = λ s i d below. shard_fine s i below (get_or (J.shards s) i d) (slice_get-get_or (J.shards s) i d below);
+      ops = λ o i d below. object_fits o i (get_or (J.objects o) i d) (slice_get-get_or (J.objects o) i d below) below;
+    }

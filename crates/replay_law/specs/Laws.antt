@@ -1,0 +1,64 @@
+-- What the laws of replays say.
+use Rattle.std.specs.Prelude.{◌≡◌, ℕ, ◌≤◌, true, List, length, All}
+use Rattle.frame_link.specs.declared.outcome.Outcome.{Outcome}
+use Rattle.frame_link.specs.Served.{Line}
+use Rattle.object_core.specs.Objects.{ObjectEntry}
+use Rattle.object_core.specs.Operation.{FitsOperation}
+use Rattle.object_core.specs.Shelving.{HaveOwnNumbers}
+use Rattle.agent_core.specs.Journals.{Entry}
+use Rattle.agent_core.specs.State.{Plan}
+use Rattle.agent_core.specs.declared.limits.TheConstants.{MAX_COMMONS}
+use Rattle.journal_bytes.specs.Limits.{CitesFewOf, Spells}
+use Rattle.audit_replay.specs.Legal.{AreLegal, AreRuled}
+use Rattle.audit_replay.specs.Replays.{IsReplayed, entries_in}
+use Rattle.audit_replay.specs.declared.replayed.Replayed.{Replayed}
+use Rattle.taos_lanes.specs.Lanes.{LaneRun, ServesAll}
+use Rattle.taos_monitor.specs.Cells.{Node, Journals, alone_of, no_entries}
+use Rattle.taos_monitor.specs.Connection.{IsConnection}
+use Rattle.taos_monitor.specs.World.{World, setting_of}
+use Rattle.replay_law.specs.Left.{cells_in, journals_left, objects_of, shards_left}
+
+-- the node served from empty journals on, and left these
+pub data HasServed (n : Node) (J : Journals) : Type 0 where
+  -- lanes side by side
+  lanes : {limit : ℕ} (runs : List (LaneRun n limit)) → ServesAll J runs → HasServed n J
+  -- one connection, and nobody else stepped a cell
+  alone : {limit : ℕ} {before after : Line World} {outcome : Outcome} →
+      IsConnection (setting_of n (alone_of true true)) limit before after outcome →
+      before.service.seen.journals ≡ no_entries → after.service.seen.journals ≡ J →
+      HasServed n J
+
+-- the journals are legal beside the cells of the node
+pub record AreLegalBeside (n : Node) (J : Journals) : Type 0 where
+  pub shards : AreLegal n.plans (shards_left n J)
+  pub objects : AreRuled (cells_in n) (shards_left n J) (objects_of J n.objects)
+
+-- bytes that spell the journals are replayed as so many legal entries
+abbrev pub AreReplayedLegal : Node → Journals → Type 0
+AreReplayedLegal n J =
+    (bytes : List ℕ) → Spells (journals_left n J) bytes →
+    IsReplayed (cells_in n) bytes (Replayed.Legal (entries_in (journals_left n J)))
+
+-- the journals can be spelled: no proof in them cites too much, and each operation is within the
+-- limits
+pub record AreWritable (J : Journals) : Type 0 where
+  pub cites : (s : ℕ) → All (λ (e : Entry). CitesFewOf e.event) (J.shards s)
+  pub ops : (o : ℕ) → All (λ (e : ObjectEntry). FitsOperation e.op) (J.objects o)
+
+-- so are the journals that a node left whose objects have numbers of their own
+abbrev pub LeavesLegal : Node → Type 0
+LeavesLegal n =
+    HaveOwnNumbers n.objects → (J : Journals) → HasServed n J → AreLegalBeside n J
+
+abbrev pub LeavesReplayed : Node → Type 0
+LeavesReplayed n =
+    HaveOwnNumbers n.objects → (J : Journals) → HasServed n J → AreReplayedLegal n J
+
+-- the shard was opened with few commons
+abbrev pub HasFewCommons : Plan → Type 0
+HasFewCommons plan = length plan.commons ≤ MAX_COMMONS
+
+-- and those that one left whose shards were opened with few commons
+abbrev pub LeavesWritable : Node → Type 0
+LeavesWritable n =
+    All HasFewCommons n.plans → (J : Journals) → HasServed n J → AreWritable J

@@ -1,0 +1,14 @@
+-- What the desk borrowed is back as it was left.
+use Rattle.std.proofs.Common.{rules}
+use Rattle.taos_lanes.proofs.Sat.{desk_lent}
+use Rattle.taos_lanes.proofs.sitting.serve_seats.Goals as goal
+
+pub returns-clause-served : goal.returns-clause-served
+returns-clause-served g c =
+    let names = desk_lent _ _ _ _ _ _ c.serve_door.ensures.same in
+    search (rules, names, c.serve_door.ensures.served, c.serve_door.ensures.pulls)
+
+pub returns-clause-taken : goal.returns-clause-taken
+returns-clause-taken g c =
+    let names = desk_lent _ _ _ _ _ _ c.serve_door.ensures.same in
+    search (rules, names, c.serve_door.ensures.free.none_taken)

@@ -1,0 +1,31 @@
+//! The command that serves a connection by a wallet.
+
+ghost use Rattle.std.specs.declared.alloc.Global.{Global};
+ghost use Rattle.taos_node.specs.Calls.{LaneUsed, touched};
+ghost use Rattle.taos_node.specs.Command.{EndsAlone};
+ghost use Rattle.node_words.specs.Words.{Wallet};
+
+use crate::ending::Ending;
+use crate::file::file_wallet;
+use cred_pull::serve_wallet;
+use frame_link::{Sink, Source};
+use std::alloc::Global;
+
+/// Serves a connection, of at most so many frames, by the wallet of a file.
+pub(crate) fn wallet_by_file<F: Source, I: Source, O: Sink>(
+    alloc: Global,
+    file: &mut F,
+    input: &mut I,
+    output: &mut O,
+    frames: u64,
+) -> Ending
+    // Whatever clock, link and fetch there are.
+    ensures gives { (lane : LaneUsed) → EndsAlone (Wallet frames)
+        (touched (F.shown file.old) (I.shown input.old) (O.shown output.old) lane)
+        (touched (F.shown file.new) (I.shown input.new) (O.shown output.new) lane) result }
+{
+    match file_wallet(alloc, file) {
+        Ok(wallet) => Ending::Walleted(serve_wallet(alloc, &wallet, input, output, frames)),
+        Err(fault) => Ending::File(fault),
+    }
+}
