@@ -184,7 +184,9 @@ def has_readings(case):
 
 def tells_readings(case):
     """Whether what is written has readings of a clock that the conversation does not say."""
-    return case.words("words")[:1] == ["audit"] and b" reading " in case.bytes("output") and not case.numbers("clock")
+    written = case.bytes("output")
+    told = {"audit": b" reading " in written, "audit-bytes": bool(written and case.bytes("input"))}
+    return any(told.get(word, False) for word in case.words("words")[:1]) and not case.numbers("clock")
 
 
 def is_behind(case):
