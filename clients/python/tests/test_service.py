@@ -164,16 +164,19 @@ class Begins(Case):
 
     def test_an_output_that_is_lost_is_told_by_the_status(self):
         grant = self.ran(self.file(), "-", "-", "run", input=reads(1), stdout=subprocess.PIPE).stdout
-        for pair in reads(1) + grant, reads(2) + grant:
-            status = self.ran(self.file(), "-", "-", "check", input=pair, stdout=subprocess.DEVNULL).returncode
-            self.assertEqual(status, 0 if pair.startswith(reads(1)) else 11)
+        journals = self.ran(self.file(), "-", "-", "audit-bytes", input=reads(1), stdout=subprocess.PIPE).stdout
+        checks = ("check", reads(1) + grant, 0), ("check", reads(2) + grant, 11)
+        replays = ("replay", journals, 0), ("replay", journals[:-1], 14)
+        for command, given, wanted in checks + replays:
+            words = self.file(), "-", "-", command
+            self.assertEqual(self.ran(*words, input=given, stdout=subprocess.DEVNULL).returncode, wanted, command)
             with open("/dev/full", "wb") as full:
-                self.assertEqual(self.ran(self.file(), "-", "-", "check", input=pair, stdout=full).returncode, 4)
+                self.assertEqual(self.ran(*words, input=given, stdout=full).returncode, 4, command)
             come, gone = os.pipe()
             os.close(come)
             with os.fdopen(gone, "wb") as closed:
-                run = self.ran(self.file(), "-", "-", "check", input=pair, stdout=closed, restore_signals=False)
-                self.assertEqual((run.returncode, run.stderr), (4, b"taos: write fault\n"))
+                run = self.ran(*words, input=given, stdout=closed, restore_signals=False)
+                self.assertEqual((run.returncode, run.stderr), (4, b"taos: write fault\n"), command)
 
     def test_streams_that_are_told_not_to_wait_are_waited_for(self):
         (come, asks), (answers, gone) = os.pipe(), os.pipe()

@@ -42,12 +42,18 @@ fn identity_of(rt: &HostRuntime, path: &str) -> Option<Identity> {
     })
 }
 
-/// The logs of all lanes.
+/// The lanes of a log, by which it is told that they could not write to it.
 #[derive(Drop)]
-pub struct Logs {
+pub struct Losses {
     path: String,
     lanes: Vec<Arc<Decisions, Global>>,
     lost: Arc<Lost, Global>,
+}
+
+/// The logs of all lanes.
+#[derive(Drop)]
+pub struct Logs {
+    losses: Losses,
     opened: Option<Identity>,
 }
 
@@ -68,6 +74,43 @@ fn lost_of(
     Ok(Lost::Stops(Stopping::new(Arc::try_clone(stop)?, shutters)))
 }
 
+impl Losses {
+    /// Whether the program was stopped since a ruling could not be recorded.
+    pub fn has_stopped(&self) -> bool {
+        self.lost.has_stopped()
+    }
+
+    /// Tells that a line could not be written, where one could not since this was told last.
+    pub fn tell(&self, rt: &HostRuntime) {
+        let mut has_failed = false;
+        for log in &self.lanes {
+            if log.take_failure() {
+                has_failed = true;
+            }
+        }
+        if has_failed {
+            let _ = writeln!(
+                rt.stderr(),
+                "taosd: {}: a decision can't be written",
+                self.path
+            );
+        }
+    }
+
+    // The same, to tell it elsewhere too.
+    fn again(&self, alloc: Global) -> io::Result<Losses> {
+        let mut lanes = Vec::new(alloc);
+        for log in &self.lanes {
+            lanes.push(Arc::try_clone(log)?)?;
+        }
+        Ok(Losses {
+            path: String::from_str(alloc, self.path.as_str())?,
+            lanes,
+            lost: Arc::try_clone(&self.lost)?,
+        })
+    }
+}
+
 impl Logs {
     /// The logs of so many lanes, in the file at this path.
     pub fn of(
@@ -80,64 +123,52 @@ impl Logs {
     ) -> io::Result<Logs> {
         let alloc = rt.alloc();
         let lost = Arc::new(alloc, lost_of(alloc, may_drop, stop, listeners)?)?;
-        let mut logs = Logs {
+        let mut losses = Losses {
             path: String::from_str(alloc, path)?,
             lanes: Vec::new(alloc),
             lost,
-            opened: None,
         };
         for _ in 0..lanes {
             let file = opened(rt, path)?;
-            let log = Decisions::new(alloc, file, Arc::try_clone(&logs.lost)?)?;
-            logs.lanes.push(Arc::new(alloc, log)?)?;
+            let log = Decisions::new(alloc, file, Arc::try_clone(&losses.lost)?)?;
+            losses.lanes.push(Arc::new(alloc, log)?)?;
         }
-        logs.opened = identity_of(rt, path);
-        Ok(logs)
+        Ok(Logs {
+            losses,
+            opened: identity_of(rt, path),
+        })
     }
 
-    /// What becomes of rulings whose lines can't be written.
-    pub fn lost(&self) -> io::Result<Arc<Lost, Global>> {
-        Ok(Arc::try_clone(&self.lost)?)
+    /// What tells what could not be written.
+    pub fn losses(&self, alloc: Global) -> io::Result<Losses> {
+        self.losses.again(alloc)
     }
 
     /// That of a lane.
     pub fn of_lane(&self, lane: usize) -> io::Result<Option<Arc<Decisions, Global>>> {
-        match self.lanes.get(lane) {
+        match self.losses.lanes.get(lane) {
             Some(log) => Ok(Some(Arc::try_clone(log)?)),
             None => Ok(None),
         }
     }
 
-    // Tells that a line could not be written, once a look.
-    fn tell(&self, rt: &HostRuntime) {
-        for log in &self.lanes {
-            if log.take_failure() {
-                let _ = writeln!(
-                    rt.stderr(),
-                    "taosd: {}: a decision can't be written",
-                    self.path
-                );
-                return;
-            }
-        }
-    }
-
     // Opens the file anew, where the path leads to another one, or to none.
     fn look(&mut self, rt: &HostRuntime) {
-        self.tell(rt);
-        let found = identity_of(rt, self.path.as_str());
+        self.losses.tell(rt);
+        let path = self.losses.path.as_str();
+        let found = identity_of(rt, path);
         if found.is_some() && found == self.opened {
             return;
         }
-        for log in &self.lanes {
-            let Ok(file) = opened(rt, self.path.as_str()) else {
+        for log in &self.losses.lanes {
+            let Ok(file) = opened(rt, path) else {
                 return;
             };
             if !log.replace(file) {
                 return;
             }
         }
-        self.opened = identity_of(rt, self.path.as_str());
+        self.opened = identity_of(rt, path);
     }
 
     /// Looks after the file, by a thread of its own that ends with the program.

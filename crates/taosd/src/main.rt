@@ -47,6 +47,9 @@ use wallets::{failed_door, give_at_all, wallet_doors};
 // The status of a `check` that refuses a reply.
 const REFUSED: u8 = 11;
 
+// That of a `replay` that refuses journals.
+const ILLEGAL: u8 = 14;
+
 // Where fresh keys come from.
 const RANDOM: &str = "/dev/urandom";
 
@@ -129,7 +132,7 @@ fn work<
         lanes,
     );
     match outbox.leave() {
-        false if status == 0 || status == REFUSED => {
+        false if status == 0 || status == REFUSED || status == ILLEGAL => {
             ended(notes, Ending::Served(Outcome::WriteFault))
         }
         _ => status,
@@ -275,6 +278,7 @@ fn listen<W: Threads + Wait + Sync, N: Sink>(
     };
     tell_start(rt, own, setting);
     let status = work_by(rt, rt, workers, setting, common, doorways, notes);
+    told.tell_losses(rt);
     let status = match told.has_stopped() {
         true if status == 0 => ended(notes, Ending::Served(Outcome::WriteFault)),
         _ => status,

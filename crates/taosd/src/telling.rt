@@ -1,6 +1,6 @@
 //! What is told of what goes otherwise than well, and counted: what the lanes leave it by, and who tells it.
 
-use crate::decisions::Logs;
+use crate::decisions::{Logs, Losses};
 use crate::lanes::Setting;
 use crate::own::Own;
 use crate::usage::VERSION_NUMBER;
@@ -15,7 +15,7 @@ use std::sync::Arc;
 use std::thread::Threads;
 use std::time::SystemTime;
 use system_link::{
-    Counted, Counting, FileReading, Form, Journals, Listener, Lost, NoticeQueue, Origin, Scribe,
+    Counted, Counting, FileReading, Form, Journals, Listener, NoticeQueue, Origin, Scribe,
     StatusDoor, Stop, Tally, Teller, Tells, bind_all, notices_of, seconds_of, teller_of,
 };
 use taos_node::{Wanted, file_opening};
@@ -27,16 +27,24 @@ pub struct Told {
     pub tellers: Vec<Teller>,
     pub scribe: Option<Scribe>,
     pub status: Option<StatusDoor>,
-    /// What becomes of rulings that can't be recorded, where they are to be.
-    pub lost: Option<Arc<Lost, Global>>,
+    /// What tells of rulings that could not be recorded, where they are to be.
+    pub losses: Option<Losses>,
 }
 
 impl Told {
     /// Whether the program was stopped since a ruling could not be recorded.
     pub fn has_stopped(&self) -> bool {
-        match &self.lost {
-            Some(lost) => lost.has_stopped(),
+        match &self.losses {
+            Some(losses) => losses.has_stopped(),
             None => false,
+        }
+    }
+
+    /// Tells that a ruling could not be recorded, where that was not told yet: who looks after the log
+    /// ends with the program, and may not look again.
+    pub fn tell_losses(&self, rt: &HostRuntime) {
+        if let Some(losses) = &self.losses {
+            losses.tell(rt);
         }
     }
 }
@@ -202,7 +210,7 @@ pub fn told_of<W: Threads>(
             tellers: Vec::new(alloc),
             scribe: None,
             status: None,
-            lost: None,
+            losses: None,
         });
     }
     let logs = match own.decisions {
@@ -214,11 +222,11 @@ pub fn told_of<W: Threads>(
         queues,
         counted,
     } = ends_of(alloc, own, lanes, &logs)?;
-    let lost = match logs {
+    let losses = match logs {
         Some(logs) => {
-            let lost = logs.lost()?;
+            let losses = logs.losses(alloc)?;
             logs.watch(rt, workers)?;
-            Some(lost)
+            Some(losses)
         }
         None => None,
     };
@@ -238,7 +246,7 @@ pub fn told_of<W: Threads>(
         tellers,
         scribe,
         status,
-        lost,
+        losses,
     })
 }
 
