@@ -214,6 +214,8 @@ class Decisions(Case):
                 stream.sendall(reads(number))
                 self.assertNotEqual(frames_of(stream, 1), [b""])
                 stream.sendall(reads(9)[:30])
+        # The last lines may be missing at a stop.
+        time.sleep(0.5)
         status, notes = self.ends(node)
         self.assertEqual((status, [line["number"] for line in self.lines()]), (0, [1, 2]))
         self.assertEqual(notes.count(b" cause cut\n"), 2)
