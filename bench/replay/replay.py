@@ -4,7 +4,7 @@
     replay.py OUT PROGRAM
 
 OUT is a folder for loads, journals and lines, with the tool `measure`. A node answers 100,000 anchored
-reads, and 1,000,000; and 100,000 reads behind a login with four certificates, each of another object than
+reads, and 1,000,000; and 60,000 reads behind a login with four certificates, each of another object than
 those whose proofs are kept, so that each is a miss. Its journals are judged, the best of three times each.
 It fails where 1,000,000 reads are judged at less than 800,000 entries a second, or take more than 1.15 times
 ten times the processor time of 100,000; where logins take more than 0.6 of the processor time in which the
@@ -20,7 +20,9 @@ import kept
 import load
 from journal import say
 
-FEW, MANY, LOGINS, OBJECTS = 100_000, 1_000_000, 100_000, 256
+FEW, MANY, LOGINS, OBJECTS = 100_000, 1_000_000, 60_000, 65
+# The most entries of each journal of a shard and so many objects.
+LIMIT = 8_388_608 // (OBJECTS + 1)
 LEAST_RATE, MOST_TIMES, MOST_OF_RUN, MOST_BYTES, MOST_REFUSED = 800_000, 1.15, 0.6, 1.3, 1.05
 TRIES, RUNS = 40, 3
 
@@ -99,7 +101,7 @@ def logins(out, program):
     signer, who = kept.USERS[0]
     base = kept.acting(kept.WORKSTATION, kept.name(who))
     lists = [[kept.in_role(base, 100 + number)] for number in range(OBJECTS)]
-    kept.write_secret(it.path("opening"), kept.opening(1, 1 << 20, [1], [(kept.MACHINE, kept.WS1), (signer, who)], lists))
+    kept.write_secret(it.path("opening"), kept.opening(1, LIMIT, [1], [(kept.MACHINE, kept.WS1), (signer, who)], lists))
     with open(it.path("frames"), "wb") as file:
         for seq in range(1, LOGINS + 1):
             certificates = kept.login_of(1, 0) if seq == 1 else []
