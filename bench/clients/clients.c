@@ -4,7 +4,8 @@
 //     clients load PORT FRAMES BUSY SILENT TURNS
 //     clients rude PORT FRAMES COUNT HOW
 //
-// `echo` takes a free port, prints it, and sends what comes on each connection back as it comes, until its input ends.
+// `echo` takes a free port, prints it, and sends what comes on each connection back as it comes, until its input ends. Of who takes nothing
+// it reads no more.
 // `load` connects SILENT clients that send an empty frame and then nothing, and BUSY ones, each of which sends its frames one after
 // the other, TURNS of them, each once the reply to the one before is whole. FRAMES has the frames of the first client, then those of
 // the second, and so on, all of one length. Prints the replies, the replies per second, the median and the 99th in 100 of the microseconds of the first client's
@@ -26,9 +27,15 @@
 #include <time.h>
 #include <unistd.h>
 
-enum { AT_ONCE = 1024, PIECE = 1 << 16, QUEUE = 4096 };
+enum { AT_ONCE = 1024, PIECE = 1 << 16, QUEUE = 4096, GUESTS = 1 << 16 };
 
 static unsigned char piece[PIECE];
+
+// What a guest of the echo did not take yet.
+static struct rest {
+    unsigned char *bytes;
+    size_t count;
+} rests[GUESTS];
 
 static void fail(const char *why) {
     perror(why);
@@ -41,8 +48,8 @@ static double seconds(void) {
     return (double)now.tv_sec + 1e-9 * (double)now.tv_nsec;
 }
 
-static void watch(int poll, int fd, uint32_t place) {
-    struct epoll_event event = {.events = EPOLLIN | EPOLLET, .data.u32 = place};
+static void watch(int poll, int fd, uint32_t place, uint32_t events) {
+    struct epoll_event event = {.events = events | EPOLLET, .data.u32 = place};
     if (epoll_ctl(poll, EPOLL_CTL_ADD, fd, &event) != 0) fail("epoll_ctl");
 }
 
@@ -71,11 +78,37 @@ static void many_files(void) {
     setrlimit(RLIMIT_NOFILE, &limit);
 }
 
-// One read of a connection, of what is there. Whether the connection goes on.
+// Sends what is taken of the bytes now. How many are left, or -1 where the connection has ended.
+static ssize_t offer(int fd, const unsigned char *from, size_t count) {
+    while (count > 0) {
+        ssize_t went = send(fd, from, count, MSG_NOSIGNAL);
+        if (went < 0 && errno == EAGAIN) break;
+        if (went <= 0) return -1;
+        from += went;
+        count -= (size_t)went;
+    }
+    return (ssize_t)count;
+}
+
+// What is left of a guest's bytes, and once that is gone one read, of what is there. Whether the connection goes on.
 static int echo_one(int fd) {
+    struct rest *rest = &rests[fd];
+    if (rest->count > 0) {
+        ssize_t left = offer(fd, rest->bytes, rest->count);
+        if (left < 0) return 0;
+        memmove(rest->bytes, rest->bytes + rest->count - (size_t)left, (size_t)left);
+        rest->count = (size_t)left;
+        if (left > 0) return 1;
+    }
     ssize_t came = recv(fd, piece, sizeof piece, 0);
     if (came < 0 && errno == EAGAIN) return 1;
-    return came > 0 && give(fd, piece, (size_t)came);
+    ssize_t left = came > 0 ? offer(fd, piece, (size_t)came) : -1;
+    if (left <= 0) return left == 0;
+    if (!rest->bytes) rest->bytes = malloc(PIECE);
+    if (!rest->bytes) return 0;
+    memcpy(rest->bytes, piece + came - left, (size_t)left);
+    rest->count = (size_t)left;
+    return 1;
 }
 
 static int echo(void) {
@@ -88,7 +121,7 @@ static int echo(void) {
     printf("%d\n", ntohs(at.sin_port));
     fflush(stdout);
     int poll = epoll_create1(0);
-    watch(poll, listener, (uint32_t)listener);
+    watch(poll, listener, (uint32_t)listener, EPOLLIN);
     struct epoll_event input = {.events = EPOLLIN, .data.u32 = 0};
     if (epoll_ctl(poll, EPOLL_CTL_ADD, 0, &input) != 0) fail("epoll_ctl");
     struct epoll_event ready[AT_ONCE];
@@ -102,8 +135,10 @@ static int echo(void) {
                 continue;
             }
             for (int guest; (guest = accept(listener, NULL, NULL)) >= 0;) {
+                if (guest >= GUESTS) fail("guests");
+                rests[guest].count = 0;
                 prompt(guest);
-                watch(poll, guest, (uint32_t)guest);
+                watch(poll, guest, (uint32_t)guest, EPOLLIN | EPOLLOUT);
             }
         }
     }
@@ -194,7 +229,7 @@ static int load(const char *port, const char *path, uint32_t busy, uint32_t sile
     }
     for (uint32_t each = 0; each < busy; each++) {
         clients[each].fd = connected(port);
-        watch(poll, clients[each].fd, each);
+        watch(poll, clients[each].fd, each, EPOLLIN);
         if (!ask(&clients[each], each, turns)) fail("ask");
     }
     size_t count = 0, count_of_first = 0;

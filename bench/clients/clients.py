@@ -15,14 +15,13 @@ import struct
 import subprocess
 import sys
 import threading
-import urllib.request
 
 LANES, SEATS, BUSY, SILENT, ROUNDS = 4, 12_000, 1_000, 2_000, 3
 # What is wanted: the rate beside the echo's; one client's median and 99th in 100 beside others to those alone; bytes of a silent client; how
 # far the 99th in 100 of others rises beside a rude one; and the rate of a client beside a scrape each 10 ms to that without.
 RATE, MEDIAN, LATE, MEMORY, RISE, SCRAPED = 0.7, 3, 5, 8_192, 1.1, 0.98
 # Beside a rude client: how many others, how many reads of each, and how often, by turns with and without it. Beside scrapes: the reads.
-POLITE, READS, PAIRS, MANY = 16, 2_000, 5, 20_000
+POLITE, READS, PAIRS, MANY = 16, 2_000, 11, 20_000
 
 
 def key(number):
@@ -93,25 +92,33 @@ class Bench:
         told = subprocess.run(words, capture_output=True, text=True)
         return [float(word) for word in told.stdout.split()]
 
-    def late(self, how):
-        """The 99th in 100 of the microseconds of a few clients' reads, beside a client that is rude in this way if any."""
-        node, rude = self.node(), None
+    def late(self, start, how, aside):
+        """The 99th in 100 of the microseconds of a few clients' reads of a server, beside a client that is rude in this way if any: to the
+        server, or aside, to an echo of its own."""
+        server, rude = start(), None
+        other = self.echo() if aside else server
         if how:
             with open(self.path("rude"), "wb") as out:
                 out.writelines(frame for frame in frames(8) if frame[5:9] == struct.pack(">I", BUSY))
-            words = [self.path("clients"), "rude", node.port, self.path("rude"), "8", how]
+            words = [self.path("clients"), "rude", other.port, self.path("rude"), "8", how]
             rude = subprocess.Popen(words, stdin=subprocess.PIPE)
-        told = self.load(node, POLITE, 0, READS)
+        told = self.load(server, POLITE, 0, READS)
         if rude:
             rude.stdin.close()
             rude.wait(20)
-        node.end()
+        for each in {server, other}:
+            each.end()
         return told[5]
 
     def beside(self, how):
-        pairs = [(self.late(None), self.late(how)) for _ in range(PAIRS)]
-        without, by = (sorted(each)[PAIRS // 2] for each in zip(*pairs))
-        self.row(f"99th of {POLITE} clients beside one of this kind: {how}", f"{by:.0f} us to {without:.0f} us", RISE, by <= RISE * without)
+        """What is the hub's is beside what is the machine's: the rise where the client is rude to another program, and that of the echo."""
+        ways = [(self.node, None, False), (self.node, how, False), (self.node, how, True), (self.echo, None, False), (self.echo, how, False)]
+        rounds = [[self.late(*way) for way in ways] for _ in range(PAIRS)]
+        alone, by, aside, bare, bare_by = (sorted(each)[PAIRS // 2] for each in zip(*rounds))
+        kind = how or "nobody, by chance"
+        self.row(f"99th of {POLITE} clients beside one of this kind: {kind}", f"{by:.0f} us to {alone:.0f} us", RISE, by <= RISE * alone or not how)
+        self.row("the same, where it is so to another program", f"{aside:.0f} us to {alone:.0f} us", "", True)
+        self.row("the same of the echo", f"{bare_by:.0f} us to {bare:.0f} us", "", True)
 
     def rate(self, scrapes):
         """The reads a second of one client, of a node whose page is asked for each 10 ms or not at all."""
@@ -121,8 +128,10 @@ class Bench:
 
         def scrape():
             while not done.wait(0.01):
-                with urllib.request.urlopen(f"http://127.0.0.1:{port}/metrics") as page:
-                    page.read()
+                with socket.create_connection(("127.0.0.1", port)) as page:
+                    page.sendall(b"GET /metrics HTTP/1.1\r\nHost: node\r\n\r\n")
+                    while page.recv(65_536):
+                        pass
 
         thread = threading.Thread(target=scrape)
         if scrapes:
@@ -171,7 +180,7 @@ class Bench:
         each = (node.memory() - before) / 10_000
         node.end()
         self.row("memory of the program a silent client", f"{each:.0f} bytes", MEMORY, each <= MEMORY)
-        for how in ("deaf", "drip", "reset"):
+        for how in ("deaf", "drip", "reset", None):
             self.beside(how)
         shares = sorted(self.rate(True) / self.rate(False) for _ in range(PAIRS))
         share = shares[PAIRS // 2]

@@ -1,5 +1,5 @@
 -- The clock of a shard never falls, and stands at the largest reading.
-use Rattle.std.proofs.Common.{◌≡◌, ◌⊎◌, inl, inr, ℕ, ◌+◌, ◌<◌, ◌≤◌, max, get_or, Some, slice_get, nat_le, nat_lt, List, [], ◌∷◌, ◌++◌, length, take, drop, map, All, Contains, refl, sym, ap, ◌∙◌, subst, arith, append_assoc, length-append}
+use Rattle.std.proofs.Common.{◌≡◌, ◌⊎◌, inl, inr, ℕ, ◌+◌, ◌<◌, ◌≤◌, ◌-◌, max, get_or, Some, slice_get, nat_le, nat_lt, List, [], ◌∷◌, ◌++◌, length, take, drop, map, All, Contains, refl, sym, ap, ◌∙◌, subst, arith, append_assoc, length-append}
 use Rattle.std.proofs.lemmas.Bool.{cases_lt, cond_both}
 use Rattle.std.proofs.lemmas.List.{take_at, take_more, take-append-drop}
 use Rattle.std.proofs.lemmas.List.Elements.{All-cons, All-nil}
@@ -94,6 +94,17 @@ module _ (plan : Plan) where
       let here : get_or journal k e ≡ e = get_or_from_slice_get journal k e e at in
       ap (λ j. (state_after plan j).clock) (take_more journal k e within ∙ ap (λ (x : Entry). take k journal ++ x ∷ []) here)
       ∙ ap (λ (s : State). s.clock) (state_from-push plan (opened plan) (take k journal) e) ∙ next_clock plan (state_after plan (take k journal)) e.event
+
+  -- where the clock stands after the first entries, so many
+  abbrev pub clock_after : List Entry → ℕ → ℕ
+  clock_after journal n = (state_after plan (take n journal)).clock
+
+  -- the same of the entries behind which as many of the first are left
+  pub clock_back : (journal : List Entry) (place back : ℕ) (e : Entry) → back ≤ place → slice_get journal (place - back) ≡ Some e → clock_after journal (place + 1 - back) ≡ max (clock_after journal (place + 1 - (back + 1))) (reading_of e.event)
+  clock_back journal place back e within at =
+      let more : place + 1 - back ≡ place - back + 1 = omega (arith, within) in
+      let less : place - back ≡ place + 1 - (back + 1) = omega (arith, within) in
+      ap (clock_after journal) more ∙ clock_more journal (place - back) e at ∙ ap (λ n. max (clock_after journal n) (reading_of e.event)) less
 
   -- ---- the moment of an entry
 

@@ -36,8 +36,8 @@ pub proves_as : (anchors : List Anchor) (said : List Claim) (lines : List Line) 
 proves_as anchors said lines a b c d left right p = subst (λ (x : Principal). Proves anchors said lines (SpeaksFor c x)) right (subst (λ (x : Principal). Proves anchors said lines (SpeaksFor x b)) left p)
 
 pub keepable_made : (plan : Plan) (before : List Entry) (ask e : ℕ) (c : Cached) → IsAsked before ask e c → Proves plan.anchors (claims c.cites) c.proof (SpeaksFor c.subject c.who) →
-    c.lease ≡ lease_of c.cites → AllPairs (λ x y. x ≢ y) c.cites → (m : ℕ) → m ≡ moment_at plan before ask → All (λ x. x.from ≤ m) c.cites → IsKeepable plan before ask e c
-keepable_made plan before ask e c asked proves lease apart m at begun = record {
+    c.lease ≡ lease_of c.cites → AllPairs (λ x y. x ≢ y) c.cites → All (λ x. x.from ≤ moment_at plan before ask) c.cites → IsKeepable plan before ask e c
+keepable_made plan before ask e c asked proves lease apart begun = record {
   asked = asked.asked;
   told = asked.told;
   stands = asked.stands;
@@ -46,11 +46,8 @@ keepable_made plan before ask e c asked proves lease apart m at begun = record {
   proves = proves;
   lease_is = lease;
   apart = apart;
-  begun = subst (λ (n : ℕ). All (λ (x : Certificate). x.from ≤ n) c.cites) at begun;
+  begun = begun;
 }
-
-pub keepable_begun : (plan : Plan) (before : List Entry) (ask e : ℕ) (c : Cached) (m : ℕ) → m ≡ moment_at plan before ask → IsKeepable plan before ask e c → All (λ x. x.from ≤ m) c.cites
-keepable_begun plan before ask e c m at k = subst (λ (n : ℕ). All (λ (x : Certificate). x.from ≤ n) c.cites) (sym at) k.begun
 
 pub keepable_asked : (plan : Plan) (before : List Entry) (ask e : ℕ) (c : Cached) → IsKeepable plan before ask e c → IsAsked before ask e c
 keepable_asked plan before ask e c k = record { asked = k.asked; told = k.told; stands = k.stands; subject_is = k.subject_is; who_is = k.who_is }
@@ -77,6 +74,15 @@ module _ (certs : List Certificate) where
 
 pub begun_from : (certs : List Certificate) (moment count : ℕ) → count ≡ length certs → ((k : ℕ) → k < count → HasBegun certs moment k) → All (λ x. x.from ≤ moment) certs
 begun_from certs moment count all each k d lt = each k (omega (arith, all, lt)) d
+
+pub begun_more : (certs : List Certificate) (moment count : ℕ) → ((k : ℕ) → k < count → HasBegun certs moment k) → HasBegun certs moment count → (k : ℕ) → k < count + 1 → HasBegun certs moment k
+begun_more certs moment count before here k lt d =
+    elim (cases_lt k count) [
+      | inl l ↦ before k l d
+      | inr l ↦
+          let same : k ≡ count = omega (arith, l, lt) in
+          subst (λ (n : ℕ). (get_or certs n d).from ≤ moment) (sym same) (here d)
+    ]
 
 pub begun_at : (certs : List Certificate) (moment : ℕ) → All (λ x. x.from ≤ moment) certs → (place : ℕ) → place < length certs → HasBegun certs moment place
 begun_at certs moment all place lt d = all place d lt

@@ -176,3 +176,13 @@ pub record AskedTo (plan : Plan) (earlier later : JournalSeen) (a : Ask)
   pub there : All (λ p. p < length later.journal) places
   pub ascending : AllPairs (λ p q. p < q) places
   pub ends : Ends places
+
+-- the whole of an ask that ended as the program answers
+abbrev pub AskEnded : Plan → (earlier later : JournalSeen) → Ask → Asked → Type 0
+AskEnded plan earlier later a asked =
+    AskedTo plan earlier later a (AskEnds plan later.journal a asked)
+
+-- the whole of an ask to which memory was refused
+abbrev pub AskLacked : Plan → (earlier later : JournalSeen) → Ask → Type 0
+AskLacked plan earlier later a =
+    AskedTo plan earlier later a (LacksMemory plan earlier.journal later.journal a)

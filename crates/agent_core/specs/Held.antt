@@ -1,5 +1,5 @@
 -- Certificates as a shard compares them: by what they say.
-use Rattle.std.specs.Prelude.{ℕ, Bool, not, ◌==◌, if◌then◌else◌, List, [], ◌∷◌, ◌++◌, filter, Option, Some, None}
+use Rattle.std.specs.Prelude.{ℕ, Bool, not, ◌&&◌, ◌==◌, if◌then◌else◌, List, [], ◌∷◌, ◌++◌, filter, Option, Some, None}
 use Rattle.std.specs.List.{list_any}
 use Rattle.prin_term.specs.Principal.{Principal, Key, Quoting}
 use Rattle.stmt_codec.specs.Certificates.{Certificate}
@@ -21,6 +21,10 @@ is_withdrawn issuers issuer = list_any (λ i. issuer == i) issuers
 -- those whose issuer is none of these, in order
 abbrev pub admitted : List ℕ → List Certificate → List Certificate
 admitted issuers certs = filter (λ c. not (is_withdrawn issuers c.issuer)) certs
+
+-- whether a certificate is brought: its issuer is none of these, and it is none of those that are met
+abbrev pub is_brought : List ℕ → (met : List Certificate) → Certificate → Bool
+is_brought issuers met c = not (is_withdrawn issuers c.issuer) && not (among met c)
 
 -- the channel that a subject speaks on, with its key alone or quoting another principal
 abbrev pub channel_of : Principal → Option ℕ

@@ -1,7 +1,7 @@
 -- Shards side by side: what is shown of them, and what a step of one does.
 use Rattle.std.specs.Prelude.{◌≡◌, ◌≢◌, ℕ, ◌<◌, Bool, List, length, Some, slice_get, All, Result, IfOk, OnErr}
 use Rattle.agent_core.specs.declared.told.Answer.{Answer}
-use Rattle.agent_core.specs.Answers.{SteppedTo, TakesMemory}
+use Rattle.agent_core.specs.Answers.{FitsEvent, SteppedTo, TakesMemory}
 use Rattle.agent_core.specs.Journals.{Entry, IsLegalJournal, IsMeant, told_at}
 use Rattle.agent_core.specs.Plans.{IsPlan, home}
 use Rattle.agent_core.specs.State.{Plan, Event}
@@ -30,6 +30,12 @@ shard_at s number = record { alone = s.alone; journal = s.seen number; own = s.o
 abbrev pub IsMeantAt : ShardsSeen → ℕ → Event → Type 0
 IsMeantAt s number event =
     (plan : Plan) → HasPlanAt s number plan → IsMeant plan (s.seen number) event
+
+-- the shard of this number may be stepped by the event: it is there, and the event is meant at it
+-- and within the limits
+abbrev pub MayStepAt : ShardsSeen → ℕ → Event → Type 0
+MayStepAt s number event =
+    (number < length s.plans) × IsMeantAt s number event × FitsEvent event
 
 -- the number of the shard of a channel
 abbrev pub home_of : ShardsSeen → ℕ → ℕ

@@ -1,11 +1,11 @@
 //! Shards that nobody else steps.
 
 ghost use Rattle.std.specs.Prelude.{◌≡◌, ◌↔◌, ◌<◌, ◌≤◌, IsTrue, true, ℕ, [], length, map, Some, slice_get, All, Contains};
-ghost use Rattle.agent_core.specs.Alone.{plans_in, seen_in, own_in, shards_seen, HasLegalJournal};
+ghost use Rattle.agent_core.specs.Alone.{plans_in, own_in, shards_seen, HasLegalJournal};
 ghost use Rattle.agent_core.specs.Answers.{FitsEvent};
-ghost use Rattle.agent_core.specs.Journals.{ShardSeen, IsMeant};
+ghost use Rattle.agent_core.specs.Journals.{ShardSeen};
 ghost use Rattle.agent_core.specs.Plans.{AreShards, home};
-ghost use Rattle.agent_core.specs.Shards.{IsMeantAt, StepsAmong};
+ghost use Rattle.agent_core.specs.Shards.{IsMeantAt, MayStepAt, StepsAmong};
 ghost use Rattle.agent_core.specs.State.{Plan};
 ghost use Rattle.agent_core.specs.Views.{event_of};
 
@@ -80,10 +80,7 @@ impl Lone {
 
     /// Whether `step` takes the event at the shard of this number.
     pub fn takes(&self, number: u32, event: &Event) -> bool
-        ensures { IsTrue result ↔ ((number < length (plans_in self.now.shards))
-            × ((plan : Plan) → slice_get (plans_in self.now.shards) number ≡ Some plan
-            → IsMeant plan (seen_in self.now.shards number) (event_of event.now))
-            × FitsEvent (event_of event.now)) }
+        ensures { IsTrue result ↔ MayStepAt (shards_seen self.now) number (event_of event.now) }
     {
         match self.shards.get(number as usize) {
             Some(shard) => shard.takes(event),

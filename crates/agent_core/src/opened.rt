@@ -3,7 +3,7 @@
 ghost use Rattle.std.specs.Prelude.{◌≡◌, ◌≤◌, map, IfOk};
 ghost use Rattle.stmt_codec.specs.View.{certificates};
 ghost use Rattle.agent_core.specs.Alone.{plans_in};
-ghost use Rattle.agent_core.specs.Opened.{MayOpen, own_channels, plan_for, plans_for, new_shard};
+ghost use Rattle.agent_core.specs.Opened.{MayOpen, own_channels, plan_by, plans_for, new_shard};
 ghost use Rattle.agent_core.specs.Plans.{AreShards};
 
 use crate::plan::ShardPlan;
@@ -59,9 +59,7 @@ fn handles_to(alloc: Global, certs: &[Arc<Cert>]) -> Result<Vec<Arc<Cert>>, Allo
 fn open_shard(alloc: Global, whole: Whole<'_>, number: u32) -> Result<Shard, AllocError>
     requires { MayOpen whole.channels.now whole.shards whole.anchors.now.value.items
         (certificates whole.commons.now) whole.limit }
-    ensures { IfOk result (λ shard. shard ≡ new_shard (plan_for whole.entry.channels.now
-        whole.entry.shards whole.entry.anchors.now.value.items
-        (certificates whole.entry.commons.now) whole.entry.keep whole.entry.limit number)) }
+    ensures { IfOk result (λ shard. shard ≡ new_shard (plan_by whole.entry number)) }
 {
     let plan = ShardPlan {
         number,

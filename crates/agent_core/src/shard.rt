@@ -1,6 +1,7 @@
 //! The machine: events in, answers out, a journal of both.
 
 ghost use Rattle.std.specs.Prelude.{◌≡◌, ◌↔◌, IsTrue, ◌<◌, ◌≤◌, [], map, length, All, IfOk, OnErr};
+ghost use Rattle.stmt_codec.specs.View.{certificates};
 ghost use Rattle.agent_core.specs.Plans.{IsPlan};
 ghost use Rattle.agent_core.specs.Views.{event_of, plan_of, entry_of};
 ghost use Rattle.agent_core.specs.Journals.{IsMeant, IsLegalJournal, told_at};
@@ -19,21 +20,26 @@ mod plain;
 mod presenting;
 mod row;
 mod serving;
+mod sharing;
 mod store;
 mod withdrawing;
 
 use crate::event::{Event, ShardEntry};
+use crate::held::book::Book;
 use crate::held::name::{Name, Names};
 use crate::held::presented::Presented;
 use crate::held::withdrawn::Withdrawn;
 use crate::plan::ShardPlan;
 use crate::shard::answering::answer_to;
 use crate::shard::meant::is_taken;
+use crate::shard::sharing::handles_to;
 use crate::shard::store::{Row, Store};
 use crate::told::Answer;
 use proof_cache::Cache;
 use std::alloc::{AllocError, Global};
 use std::marker::Model;
+use std::sync::Arc;
+use stmt_codec::Cert;
 
 /// A shard. A contract sees its plan and its journal: all else follows from these.
 #[derive(Drop)]
@@ -133,6 +139,22 @@ impl Shard {
         ensures fits { All (λ e. FitsEvent e.event) self.now.journal }
     {
         &self.entries
+    }
+
+    /// Handles to equal certificates: those that the shard has of what Asks presented and of what is
+    /// held in common, and of others the given ones.
+    pub fn handles_to(
+        &self,
+        alloc: Global,
+        certs: &[Arc<Cert>],
+    ) -> Result<Vec<Arc<Cert>>, AllocError>
+        ensures { IfOk result (λ handles. certificates handles.items ≡ certificates certs.now) }
+    {
+        let book = Book {
+            plan: &self.plan,
+            entries: &self.entries,
+        };
+        handles_to(alloc, &book, &self.store.commons, &self.presented, certs)
     }
 
     /// Whether `step` takes the event: an Ask's subject speaks on its channel, which is the

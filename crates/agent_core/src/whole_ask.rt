@@ -3,11 +3,10 @@
 ghost use Rattle.std.specs.Prelude.{◌≡◌, ◌<◌, length, IfOk, OnErr};
 ghost use Rattle.proof_cache.specs.Cached.{cached};
 ghost use Rattle.agent_core.specs.declared.asked.Settled.TheVariants.{NoNeed};
-ghost use Rattle.agent_core.specs.Asked.{FitsAsk, AskedTo, AskEnds, LacksMemory};
-ghost use Rattle.agent_core.specs.Journals.{IsKeepable};
+ghost use Rattle.agent_core.specs.Asked.{AskEnded, AskLacked, FitsAsk};
 ghost use Rattle.agent_core.specs.Settling.{KeptAs, RefusesAsk, StepsAsk};
-ghost use Rattle.agent_core.specs.Shards.{AtHome, HasPlanAt, IsMeantAt, LeavesShards, home_of};
-ghost use Rattle.agent_core.specs.State.{Plan, Asks, Keeps};
+ghost use Rattle.agent_core.specs.Shards.{AtHome, IsMeantAt, LeavesShards, home_of};
+ghost use Rattle.agent_core.specs.State.{Asks, Keeps};
 ghost use Rattle.agent_core.specs.Steps.{StepRefused};
 ghost use Rattle.agent_core.specs.Views.{ask_of};
 
@@ -64,10 +63,8 @@ fn keep_at_home<W: Wait + Sync, S: Shards>(
     entry: u8,
     proof: &Arc<Cached>,
 ) -> Result<Settled, AllocError>
-    requires meant { (plan : Plan)
-        → HasPlanAt (S.shown shards.old) (home_of (S.shown shards.old) channel) plan
-        → IsKeepable plan ((S.shown shards.old).seen (home_of (S.shown shards.old) channel)) place
-        entry (cached proof.now.value) }
+    requires meant { IsMeantAt (S.shown shards.old) (home_of (S.shown shards.old) channel)
+        (Keeps place entry (cached proof.now.value)) }
     ensures kept { AtHome (S.shown shards.old) (S.shown shards.new) channel
         (λ plan earlier later. IfOk result
         (KeptAs plan earlier later (Keeps place entry (cached proof.now.value)))) }
@@ -128,13 +125,11 @@ pub fn ask<W: Wait + Sync, S: Shards, D: Decide, G: Gate>(
         (home_of (S.shown shards.old) asked.value.channel) (Asks (ask_of asked.value)) }
     requires fits { FitsAsk (ask_of asked.value) }
     ensures asked { AtHome (S.shown shards.old) (S.shown shards.new) asked.value.channel
-        (λ plan earlier later. IfOk result (λ r. AskedTo plan earlier later (ask_of asked.value)
-        (AskEnds plan later.journal (ask_of asked.value) r))) }
+        (λ plan earlier later. IfOk result (AskEnded plan earlier later (ask_of asked.value))) }
 
     // Where memory was refused: before the Ask stood, or at a grant.
     ensures unanswered { AtHome (S.shown shards.old) (S.shown shards.new) asked.value.channel
-        (λ plan earlier later. OnErr result (AskedTo plan earlier later (ask_of asked.value)
-        (LacksMemory plan earlier.journal later.journal (ask_of asked.value)))) }
+        (λ plan earlier later. OnErr result (AskLacked plan earlier later (ask_of asked.value))) }
 
     ensures rest { LeavesShards (S.shown shards.old) (S.shown shards.new)
         (home_of (S.shown shards.old) asked.value.channel) }

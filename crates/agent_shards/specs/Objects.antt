@@ -1,5 +1,5 @@
 -- Objects in cells, and a seat at them.
-use Rattle.std.specs.Prelude.{◌≡◌, ℕ, ◌<◌, ◌≤◌, ◌==◌, false, List, [], ◌∷◌, ◌++◌, length, map, Option, None, Some, slice_get, vec_capacity, vec_len}
+use Rattle.std.specs.Prelude.{◌≡◌, ℕ, ◌<◌, ◌≤◌, ◌==◌, false, List, [], ◌∷◌, ◌++◌, length, map, Option, None, Some, slice_get, slice_set, vec_capacity, vec_len}
 use Rattle.std.specs.declared.alloc.Global.{Global}
 use Rattle.std.specs.declared.vec.Vec.{Vec}
 use Rattle.std.specs.List.{AllZip, position_or_len, remove}
@@ -130,6 +130,17 @@ pub record IsGiven (cell : ObjectCell) (was : ObjectSeen) (p q : KnownObject) (o
   pub added : (e : ObjectEntry) → o.journal ≡ was.journal ++ e ∷ [] →
       q.own ≡ p.own ++ length was.journal ∷ []
   pub shares : q.shares ≡ p.shares
+
+-- the object that was out is put back: its pass stands in its place, and the others as they were
+pub record IsPutBack (cell : ObjectCell) (out : Out) (object : ObjectSeen)
+    (now : Vec KnownObject Global) : Type 0 where
+  -- its pass, as it was before the object was taken
+  pub was : KnownObject
+  pub its_pass : slice_get out.passes.value.items out.place ≡ Some was
+  -- its pass, as it is now
+  pub pass : KnownObject
+  pub put : now.items ≡ slice_set out.passes.value.items out.place pass
+  pub given : IsGiven cell out.object.value was pass object
 
 -- the object at the place of `out` is out of its cell, and is found by its number
 pub record IsOutAt (cells : List ObjectCell) (now : Vec KnownObject Global) (out : Out) :

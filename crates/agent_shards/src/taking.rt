@@ -1,7 +1,7 @@
 //! What is done with the cell of one object, whose value stays out until it is given back.
 
-ghost use Rattle.std.specs.Prelude.{◌≡◌, ◌<◌, Some, length, slice_get, slice_set};
-ghost use Rattle.agent_shards.specs.Objects.{IsGiven, IsOutOf, KnownObject};
+ghost use Rattle.std.specs.Prelude.{◌≡◌, ◌<◌, Some, length, slice_get};
+ghost use Rattle.agent_shards.specs.Objects.{IsOutOf, IsPutBack, KnownObject};
 ghost use Rattle.object_core.specs.Shelving.{IsBack};
 ghost use Rattle.turn_cell.specs.Known.{IsPassOf};
 
@@ -58,10 +58,7 @@ pub(crate) fn leave_at(
 )
     requires out { IsOutOf cell.now passes.old out }
     requires back { IsBack out.object.value object }
-    ensures { (p : KnownObject) × (q : KnownObject)
-        × (slice_get out.passes.value.items out.place ≡ Some p)
-        × (passes.new.items ≡ slice_set out.passes.value.items out.place q)
-        × IsGiven cell.now out.object.value p q object }
+    ensures { IsPutBack cell.now out object passes.new }
 {
     let Out {
         place,

@@ -318,23 +318,18 @@ fn odd_one(
     Ok(None)
 }
 
-#[test]
-fn a_proof_is_kept_until_its_lease_or_what_it_cites_ends(rt: HostRuntime) -> Result<(), Fail> {
-    let cert = hand_off(rt.alloc(), 0)?;
-    assert!(rt; odd_one(rt.alloc(), &cert, DEEDS)? == None);
-    Ok(())
-}
+// What is shown, from when on the certificate is live, and the deeds.
+const COURSES: &[(&str, u64, &[(u64, Deed, Option<Told>)])] = &[
+    ("until its lease or what it cites ends", 0, DEEDS),
+    ("where what it cites had begun", 1500, LATER),
+    ("until the issuer of what it cites goes", 0, WITHDRAWN),
+];
 
 #[test]
-fn a_proof_is_kept_where_what_it_cites_had_begun(rt: HostRuntime) -> Result<(), Fail> {
-    let cert = hand_off(rt.alloc(), 1500)?;
-    assert!(rt; odd_one(rt.alloc(), &cert, LATER)? == None);
-    Ok(())
-}
-
-#[test]
-fn a_proof_goes_with_the_issuer_of_what_it_cites(rt: HostRuntime) -> Result<(), Fail> {
-    let cert = hand_off(rt.alloc(), 0)?;
-    assert!(rt; odd_one(rt.alloc(), &cert, WITHDRAWN)? == None);
+fn a_proof_is_kept_as_long_as_what_it_rests_on(rt: HostRuntime) -> Result<(), Fail> {
+    for &(what, from, deeds) in COURSES {
+        let cert = hand_off(rt.alloc(), from)?;
+        assert!(rt; odd_one(rt.alloc(), &cert, deeds)? == None, "{what}");
+    }
     Ok(())
 }

@@ -356,21 +356,22 @@ fn asks_once(
     Ok(())
 }
 
-#[test]
-fn sweeps_of_others_reach_a_channel_when_it_is_met(rt: HostRuntime) -> Result<(), Fail> {
-    let mut shard = shard(rt.alloc(), 1, 10)?;
+// The place of the first deed that does not let go of so many, behind what the channels present.
+fn odd_behind(alloc: Global, deeds: &[(u64, Deed, u32)]) -> Result<Option<u64>, Fail> {
+    let mut shard = shard(alloc, 1, 10)?;
     for &(channel, reading, first, count) in BEFORE {
-        asks_once(&mut shard, rt.alloc(), channel, reading, first, count)?;
+        asks_once(&mut shard, alloc, channel, reading, first, count)?;
     }
-    for &(place, deed, count) in &[(3, Forgets(2), 0), (4, Expires(0), 2)] {
-        let told = Told::Removed { count };
-        assert!(rt;
-            is_told(&mut shard, rt.alloc(), deed, place, told)?,
-            "at {place}"
-        );
+    for &(place, deed, count) in deeds {
+        if !is_told(&mut shard, alloc, deed, place, Told::Removed { count })? {
+            return Ok(Some(place));
+        }
     }
-    Ok(())
+    Ok(None)
 }
+
+// Sweeps of others reach a channel when it is met.
+const SWEPT: &[(u64, Deed, u32)] = &[(3, Forgets(2), 0), (4, Expires(0), 2)];
 
 // What a sweep let go of is not counted again; what is gone and still held is.
 const WITHDRAWN: &[(u64, Deed, u32)] = &[
@@ -380,18 +381,13 @@ const WITHDRAWN: &[(u64, Deed, u32)] = &[
     (6, Expires(0), 0),
 ];
 
+const GONE: &[&[(u64, Deed, u32)]] = &[SWEPT, WITHDRAWN];
+
 #[test]
-fn a_withdrawal_counts_what_is_held(rt: HostRuntime) -> Result<(), Fail> {
-    let mut shard = shard(rt.alloc(), 1, 10)?;
-    for &(channel, reading, first, count) in BEFORE {
-        asks_once(&mut shard, rt.alloc(), channel, reading, first, count)?;
-    }
-    for &(place, deed, count) in WITHDRAWN {
-        let told = Told::Removed { count };
-        assert!(rt;
-            is_told(&mut shard, rt.alloc(), deed, place, told)?,
-            "at {place}"
-        );
+fn what_is_let_go_of_is_counted_once(rt: HostRuntime) -> Result<(), Fail> {
+    for &deeds in GONE {
+        let odd = odd_behind(rt.alloc(), deeds)?;
+        assert!(rt; odd.is_none(), "at {odd:?}");
     }
     Ok(())
 }

@@ -20,3 +20,4 @@ mod SameLists
 mod LastAsk
 mod SameTold
 mod Forward
+mod SameEvent

@@ -5,34 +5,19 @@ ghost use Rattle.std.specs.Option.{option_map};
 ghost use Rattle.stmt_codec.specs.View.{certificates};
 ghost use Rattle.taos_calculus.specs.Tables.{lines_of};
 ghost use Rattle.proof_cache.specs.Cached.{cached};
-ghost use Rattle.agent_core.specs.Kept.{ask_in};
 ghost use Rattle.agent_core.specs.Views.{ask_of, entry_of, event_of};
 ghost use Rattle.journal_bytes.specs.Events.{ask_there, event_from, kept_for};
 ghost use Rattle.journal_bytes.specs.Spelled.{Keeps};
 ghost use Rattle.journal_bytes.specs.View.{event_seen};
 
-use agent_core::{Ask, Event, ShardEntry};
+use crate::lists::Lists;
+use agent_core::{Ask, Event, Shard, ShardEntry, ask_in};
 use journal_bytes::SpelledEvent;
 use proof_cache::{Cached, lease_of};
 use std::alloc::{AllocError, Global};
 use std::sync::Arc;
 use stmt_codec::Cert;
 use taos_calculus::Proof;
-
-// The Ask that an event is, if it is one.
-fn ask_in(event: &Event) -> Option<&Ask>
-    ensures { option_map (λ a. ask_of a.now) result ≡ ask_in (event_of event.now) }
-{
-    match event {
-        Event::Ask(asked) => Some(asked),
-        Event::Keep { .. }
-        | Event::Hold(_)
-        | Event::Discard(_)
-        | Event::Forget(_)
-        | Event::Expire(_)
-        | Event::Withdraw(_) => None,
-    }
-}
 
 // The Ask that stands at a place, if one does.
 pub(crate) fn ask_at(entries: &[ShardEntry], place: u64) -> Option<&Ask>
@@ -138,4 +123,51 @@ pub fn event_after(
         SpelledEvent::Expire(reading) => Ok(Some(Event::Expire(reading))),
         SpelledEvent::Withdraw(issuer) => Ok(Some(Event::Withdraw(issuer))),
     }
+}
+
+// The same by handles that are kept already, where equal lists and certificates are.
+fn shared(
+    alloc: Global,
+    lists: &mut Lists,
+    shard: &Shard,
+    event: SpelledEvent,
+) -> Result<SpelledEvent, AllocError>
+    ensures { IfOk result (λ e. event_seen e ≡ event_seen event) }
+{
+    match event {
+        SpelledEvent::Ask(asked) => {
+            let list = lists.handle_to(asked.list)?;
+            Ok(SpelledEvent::Ask(Ask { list, ..asked }))
+        }
+        SpelledEvent::Keep {
+            ask,
+            entry,
+            proof,
+            cites,
+        } => Ok(SpelledEvent::Keep {
+            ask,
+            entry,
+            proof,
+            cites: shard.handles_to(alloc, &cites)?,
+        }),
+        SpelledEvent::Hold(_)
+        | SpelledEvent::Discard(_)
+        | SpelledEvent::Forget(_)
+        | SpelledEvent::Expire(_)
+        | SpelledEvent::Withdraw(_) => Ok(event),
+    }
+}
+
+/// The event after the entries of the shard, which shares with them and these lists what it can.
+pub(crate) fn next_event(
+    alloc: Global,
+    lists: &mut Lists,
+    shard: &Shard,
+    event: SpelledEvent,
+) -> Result<Option<Event>, AllocError>
+    ensures { IfOk result (λ o. option_map event_of o
+        ≡ event_from shard.now.journal (event_seen event)) }
+{
+    let event = shared(alloc, lists, shard, event)?;
+    event_after(alloc, shard.journal(), event)
 }

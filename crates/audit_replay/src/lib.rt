@@ -5,6 +5,7 @@ mod due;
 mod event;
 mod fall;
 mod laws;
+mod lists;
 mod objects;
 mod replayed;
 mod replaying;

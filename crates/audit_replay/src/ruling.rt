@@ -28,7 +28,8 @@ fn is_same(entry: &Entry, other: &Entry) -> bool
     entry.rights == other.rights && entry.who.same(&other.who)
 }
 
-fn are_same(list: &[Entry], other: &[Entry]) -> bool
+/// Whether the lists grant alike.
+pub(crate) fn are_same(list: &[Entry], other: &[Entry]) -> bool
     ensures { IsTrue result ↔ (map grant list.now ≡ map grant other.now) }
 {
     if list.len() != other.len() {

@@ -8,6 +8,7 @@ ghost use Rattle.audit_replay.specs.Stepping.{MakesOf};
 ghost use Rattle.audit_replay.specs.Passes.{EntriesCome, ShardComes, ShardsCome, ShardsCompare, ReplayComes};
 
 use crate::fall::{Fall, Progress, failed_at};
+use crate::lists::Lists;
 use crate::replayed::Cell;
 use crate::skipping::{skip_entries, skip_shards};
 use crate::stepping::ShardReplay;
@@ -58,6 +59,7 @@ fn replay_shard<D: Decide>(
     let mut replay = ShardReplay {
         shard,
         marks: Vec::new(alloc),
+        lists: Lists::new(alloc)?,
     };
     let (fall, next) = replay_entries(alloc, bench, &mut replay, bytes, at, count)?;
     Ok((replay, fall, next))

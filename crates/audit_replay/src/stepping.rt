@@ -14,19 +14,21 @@ ghost use Rattle.audit_replay.specs.Replays.{ShardCause, Unmeant};
 ghost use Rattle.audit_replay.specs.Stepping.{HasCome, StepsOrFails, told_in};
 
 use crate::due::{Due, due_by};
-use crate::event::event_after;
+use crate::event::next_event;
 use crate::fall::Fall;
+use crate::lists::Lists;
 use crate::replayed::ReplayCause;
 use agent_core::{Answer, Event, Shard, Told};
 use journal_bytes::{SpelledEntry, SpelledEvent};
 use std::alloc::{AllocError, Global};
 use taos_calculus::Decide;
 
-/// A shard that is stepped again, and what is due to each of its entries.
+/// A shard that is stepped again, what is due to each of its entries, and the lists of its Asks.
 #[derive(Drop)]
 pub(crate) struct ShardReplay {
     pub shard: Shard,
     pub marks: Vec<Option<Due>>,
+    pub lists: Lists,
 }
 
 // What was told by an answer; of a full journal nothing.
@@ -94,6 +96,7 @@ fn step_event(
 fn step_by(
     alloc: Global,
     shard: &mut Shard,
+    lists: &mut Lists,
     entry: SpelledEntry,
 ) -> Result<Result<Answer, ReplayCause>, AllocError>
     requires fits { FitsEntry (entry_seen entry) }
@@ -105,7 +108,7 @@ fn step_by(
     }
     let cause = unmeant(&entry.event);
     let told = entry.told;
-    match event_after(alloc, shard.journal(), entry.event)? {
+    match next_event(alloc, lists, shard, entry.event)? {
         Some(event) => step_event(alloc, shard, event, told, cause),
         None => Ok(Err(cause)),
     }
@@ -128,7 +131,7 @@ impl ShardReplay {
             × (self.new.shard.journal ≡ self.old.shard.journal ++ x ∷ []))) }
         ensures sound { IfOk result (λ c. IfNone c (StaysSound self.old self.new)) }
     {
-        match step_by(alloc, &mut self.shard, entry)? {
+        match step_by(alloc, &mut self.shard, &mut self.lists, entry)? {
             Ok(answer) => {
                 let mark = due_by(bench, &self.shard, &answer);
                 self.marks.push(mark)?;

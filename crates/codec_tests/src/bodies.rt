@@ -1,5 +1,3 @@
-ghost use Rattle.std.specs.Prelude.{◌≤◌, length};
-
 use prin_term::Term;
 use std::alloc::Global;
 use std::sync::Arc;
@@ -44,9 +42,12 @@ const JOINED: [u8; 74] = [
     0, 0, 0, 0, 0, 0, 0, 0, 0, 0,
 ];
 
-fn fault_of(alloc: Global, bytes: &[u8], at: usize) -> Option<BodyFault>
-    requires { at ≤ length bytes.now }
-{
+const BODIES: &[&[u8]] = &[&HAND_OFF, &LATER, &QUOTING, &JOINED];
+
+fn fault_of(alloc: Global, bytes: &[u8], at: usize) -> Option<BodyFault> {
+    if at > bytes.len() {
+        return None;
+    }
     read_body(alloc, bytes, at).err()
 }
 
@@ -72,23 +73,27 @@ fn is_written(alloc: Global, body: &CertBody, bytes: &[u8]) -> Result<bool, Fail
     Ok(out.as_slice() == bytes)
 }
 
-// Whether a body is read whole, and written back as it was.
-fn comes_back(alloc: Global, bytes: &[u8]) -> Result<bool, Fail> {
-    let cert = read(alloc, bytes)?;
-    Ok(end_of(alloc, bytes) == Some(bytes.len()) && is_written(alloc, &cert.body, bytes)?)
-}
-
 // The certificate that is made of the body.
 fn made(alloc: Global, bytes: &[u8]) -> Result<Arc<Cert>, Fail> {
     let (body, _) = read_bare_body(alloc, bytes, 0)?;
     Ok(Arc::new(alloc, Cert::of(alloc, body)?)?)
 }
 
-// Whether that is the one that is read.
-fn is_made_again(alloc: Global, bytes: &[u8]) -> Result<bool, Fail> {
+// Whether a body is read whole, and written back and made again as it was.
+fn comes_back(alloc: Global, bytes: &[u8]) -> Result<bool, Fail> {
     let cert = read(alloc, bytes)?;
     let again = made(alloc, bytes)?;
-    Ok(again.digest == cert.digest && again.speaker.same(&cert.speaker))
+    let is_made = again.digest == cert.digest && again.speaker.same(&cert.speaker);
+    let is_whole = end_of(alloc, bytes) == Some(bytes.len());
+    Ok(is_made && is_whole && is_written(alloc, &cert.body, bytes)?)
+}
+
+#[test]
+fn each_body_is_read_and_written_back(rt: HostRuntime) -> Result<(), Fail> {
+    for &bytes in BODIES {
+        assert!(rt; comes_back(rt.alloc(), bytes)?, "{bytes:?}");
+    }
+    Ok(())
 }
 
 fn is_the_hand_off(cert: &Cert) -> bool {
@@ -107,25 +112,6 @@ fn is_read_bare(alloc: Global, bytes: &[u8], cert: &Cert) -> bool {
     }
 }
 
-#[test]
-fn a_hand_off_is_read_and_written_back(rt: HostRuntime) -> Result<(), Fail> {
-    assert!(rt; comes_back(rt.alloc(), &HAND_OFF)?);
-    assert!(rt; is_made_again(rt.alloc(), &HAND_OFF)?);
-    let cert = read(rt.alloc(), &HAND_OFF)?;
-    assert!(rt; is_the_hand_off(&cert));
-    assert!(rt; is_read_bare(rt.alloc(), &HAND_OFF, &cert));
-    Ok(())
-}
-
-#[test]
-fn a_body_that_begins_later_is_read_and_written_back(rt: HostRuntime) -> Result<(), Fail> {
-    assert!(rt; comes_back(rt.alloc(), &LATER)?);
-    assert!(rt; is_made_again(rt.alloc(), &LATER)?);
-    let cert = read(rt.alloc(), &LATER)?;
-    assert!(rt; cert.body.from == 1500 && cert.body.until == 2000 && cert.digest == LATER_DIGEST);
-    Ok(())
-}
-
 // Whether the speaker is key 9 quoting name 3.
 fn is_quoting(cert: &Cert) -> bool {
     matches!(cert.speaker.part(1), Some(Term::Key(9)))
@@ -134,11 +120,14 @@ fn is_quoting(cert: &Cert) -> bool {
 }
 
 #[test]
-fn a_quoting_speaker_is_read_and_written_back(rt: HostRuntime) -> Result<(), Fail> {
-    assert!(rt; comes_back(rt.alloc(), &QUOTING)?);
-    assert!(rt; is_made_again(rt.alloc(), &QUOTING)?);
-    let cert = read(rt.alloc(), &QUOTING)?;
-    assert!(rt; is_quoting(&cert));
+fn a_body_says_who_speaks_and_from_when_to_when(rt: HostRuntime) -> Result<(), Fail> {
+    let cert = read(rt.alloc(), &HAND_OFF)?;
+    assert!(rt; is_the_hand_off(&cert) && is_read_bare(rt.alloc(), &HAND_OFF, &cert));
+    let later = read(rt.alloc(), &LATER)?;
+    assert!(rt; later.body.from == 1500 && later.body.until == 2000);
+    assert!(rt; later.digest == LATER_DIGEST);
+    let quoting = read(rt.alloc(), &QUOTING)?;
+    assert!(rt; is_quoting(&quoting));
     Ok(())
 }
 
@@ -148,28 +137,46 @@ fn are_same(alloc: Global, first: &[u8], second: &[u8]) -> Result<bool, Fail> {
     Ok(first.body.same(&second.body))
 }
 
+// Two bodies, and whether they are the same.
+const PAIRS: &[(&[u8], &[u8], bool)] = &[
+    (&HAND_OFF, &HAND_OFF, true),
+    (&HAND_OFF, &QUOTING, false),
+    (&QUOTING, &HAND_OFF, false),
+    (&LATER, &HAND_OFF, false),
+];
+
 #[test]
 fn a_body_is_the_same_as_itself_alone(rt: HostRuntime) -> Result<(), Fail> {
-    assert!(rt; are_same(rt.alloc(), &HAND_OFF, &HAND_OFF)?);
-    assert!(rt; !are_same(rt.alloc(), &HAND_OFF, &QUOTING)?);
-    assert!(rt; !are_same(rt.alloc(), &QUOTING, &HAND_OFF)?);
-    assert!(rt; !are_same(rt.alloc(), &LATER, &HAND_OFF)?);
+    for &(first, second, is_same) in PAIRS {
+        assert!(rt;
+            are_same(rt.alloc(), first, second)? == is_same,
+            "{first:?}, {second:?}"
+        );
+    }
     Ok(())
 }
 
-#[test]
-fn a_certificate_ends_at_its_moment(rt: HostRuntime) -> Result<(), Fail> {
-    let cert = read(rt.alloc(), &HAND_OFF)?;
-    assert!(rt; cert.is_live(1999) && !cert.is_live(2000) && !cert.is_live(2001));
-    Ok(())
-}
+// A body, a moment, and whether its certificate is live and dead then.
+const MOMENTS: &[(&[u8], u64, bool, bool)] = &[
+    (&HAND_OFF, 1999, true, false),
+    (&HAND_OFF, 2000, false, true),
+    (&HAND_OFF, 2001, false, true),
+    (&LATER, 0, false, false),
+    (&LATER, 1499, false, false),
+    (&LATER, 1500, true, false),
+    (&LATER, 1999, true, false),
+    (&LATER, 2000, false, true),
+];
 
 #[test]
-fn a_certificate_begins_at_its_moment(rt: HostRuntime) -> Result<(), Fail> {
-    let cert = read(rt.alloc(), &LATER)?;
-    assert!(rt; !cert.is_live(0) && !cert.is_live(1499) && !cert.is_dead(1499));
-    assert!(rt; cert.is_live(1500) && cert.is_live(1999) && !cert.is_dead(1999));
-    assert!(rt; !cert.is_live(2000) && cert.is_dead(2000));
+fn a_certificate_begins_and_ends_at_its_moments(rt: HostRuntime) -> Result<(), Fail> {
+    for &(bytes, moment, is_live, is_dead) in MOMENTS {
+        let cert = read(rt.alloc(), bytes)?;
+        assert!(rt;
+            cert.is_live(moment) == is_live && cert.is_dead(moment) == is_dead,
+            "at {moment}"
+        );
+    }
     Ok(())
 }
 
@@ -190,48 +197,51 @@ fn each_proper_prefix_is_refused_at_its_length(rt: HostRuntime) {
     assert!(rt; is_refused_when_cut(rt.alloc(), &LATER));
 }
 
-const WRONG: &[(usize, u8)] = &[(0, 3), (0, 0), (5, 2), (6, 0), (11, 7)];
+const ZERO: &[(usize, u8)] = &[(22, 0), (23, 0)];
 
-// What is answered where another byte stands at a place.
-fn fault_with(alloc: Global, place: usize, byte: u8) -> Option<BodyFault> {
-    let mut bytes = HAND_OFF;
-    if place < 32 {
-        bytes[place] = byte;
+// A body, other bytes at places of it, how many bytes of that there are, from where it is read, and the
+// place of the fault.
+const FAULTS: &[(&[u8], &[(usize, u8)], usize, usize, usize)] = &[
+    // No version, neither quoting nor not, no term, no term; and no version from the next byte on.
+    (&HAND_OFF, &[(0, 3)], 32, 0, 0),
+    (&HAND_OFF, &[(0, 0)], 32, 0, 0),
+    (&HAND_OFF, &[(5, 2)], 32, 0, 5),
+    (&HAND_OFF, &[(6, 0)], 32, 0, 6),
+    (&HAND_OFF, &[(11, 7)], 32, 0, 11),
+    (&HAND_OFF, &[], 32, 1, 1),
+    // A beginning of 0 is refused at its first byte, where it is whole.
+    (&LATER, ZERO, 40, 0, 16),
+    (&LATER, ZERO, 24, 0, 16),
+    (&LATER, ZERO, 20, 0, 20),
+    // Another name is a seventeenth subterm.
+    (&JOINED, &[(57, 8)], 74, 0, 58),
+    (&JOINED, &[(57, 8), (0, 2)], 74, 0, 58),
+];
+
+// The bytes with others at places of them, as many as there are to be.
+fn changed(
+    alloc: Global,
+    bytes: &[u8],
+    changes: &[(usize, u8)],
+    count: usize,
+) -> Result<Vec<u8>, Fail> {
+    let mut bytes = bytes.to_vec(alloc)?;
+    for &(place, byte) in changes {
+        if let Some(there) = bytes.get_mut(place) {
+            *there = byte;
+        }
     }
-    fault_of(alloc, &bytes, 0)
+    bytes.truncate(count);
+    Ok(bytes)
 }
 
 #[test]
-fn the_first_wrong_byte_is_named(rt: HostRuntime) {
-    for &(place, byte) in WRONG {
-        assert!(rt;
-            fault_with(rt.alloc(), place, byte) == malformed(place),
-            "at {place}"
-        );
+fn the_first_wrong_byte_is_named(rt: HostRuntime) -> Result<(), Fail> {
+    for &(bytes, changes, count, at, offset) in FAULTS {
+        let bytes = changed(rt.alloc(), bytes, changes, count)?;
+        let fault = fault_of(rt.alloc(), &bytes, at);
+        assert!(rt; fault == malformed(offset), "at {offset} of {count}");
     }
-    assert!(rt; fault_of(rt.alloc(), &HAND_OFF, 1) == malformed(1));
-}
-
-#[test]
-fn a_beginning_of_0_is_refused_at_its_first_byte(rt: HostRuntime) {
-    let mut bytes = LATER;
-    bytes[22] = 0;
-    bytes[23] = 0;
-    assert!(rt; fault_of(rt.alloc(), &bytes, 0) == malformed(16));
-    assert!(rt; fault_of(rt.alloc(), &bytes[..24], 0) == malformed(16));
-    assert!(rt; fault_of(rt.alloc(), &bytes[..20], 0) == malformed(20));
-}
-
-#[test]
-fn sixteen_distinct_subterms_are_read_and_seventeen_refused(rt: HostRuntime) -> Result<(), Fail> {
-    assert!(rt; comes_back(rt.alloc(), &JOINED)?);
-    assert!(rt; is_made_again(rt.alloc(), &JOINED)?);
-    // Another name besides.
-    let mut more = JOINED;
-    more[57] = 8;
-    assert!(rt; fault_of(rt.alloc(), &more, 0) == malformed(58));
-    more[0] = 2;
-    assert!(rt; fault_of(rt.alloc(), &more, 0) == malformed(58));
     Ok(())
 }
 

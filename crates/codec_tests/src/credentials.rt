@@ -1,3 +1,4 @@
+use crate::tags::{one_key, table_of};
 use credential_kit::*;
 use keyed_seal::KeyTable;
 use prin_term::Term;
@@ -98,15 +99,6 @@ fn each_call_gives_its_form_under_the_signers_seal(rt: HostRuntime) -> Result<()
     Ok(())
 }
 
-// The keys of the signers of a login.
-fn signers(alloc: Global) -> Result<KeyTable, Fail> {
-    let mut table = KeyTable::new(alloc, 4)?;
-    for number in 11..15u8 {
-        table.add(number as u32, [number; 32])?;
-    }
-    Ok(table)
-}
-
 // The number and the end of a certificate that opens, if it does.
 fn opened(alloc: Global, table: &KeyTable, bytes: &[u8]) -> Option<(u64, u64)> {
     match open_issued(alloc, table, bytes) {
@@ -119,7 +111,7 @@ const LOGGED_IN: &[(u64, &[u8])] = &[(1, &BOOT), (2, &CHANNEL), (3, &LOGIN), (4,
 
 #[test]
 fn a_logins_certificates_open_by_their_signers_keys(rt: HostRuntime) -> Result<(), Fail> {
-    let table = signers(rt.alloc())?;
+    let table = table_of(rt.alloc(), &[11, 12, 13, 14], 4)?;
     for &(serial, bytes) in LOGGED_IN {
         let opened = opened(rt.alloc(), &table, bytes);
         assert!(rt; opened == Some((serial, 5000)), "of {serial}");
@@ -129,8 +121,7 @@ fn a_logins_certificates_open_by_their_signers_keys(rt: HostRuntime) -> Result<(
 }
 
 fn delegation(alloc: Global) -> Result<Arc<Cert>, Fail> {
-    let mut table = KeyTable::new(alloc, 1)?;
-    table.add(15, [15; 32])?;
+    let table = one_key(alloc, 15, 15)?;
     Ok(Arc::new(alloc, open_issued(alloc, &table, &DELEGATE)?)?)
 }
 

@@ -135,12 +135,14 @@ fn a_clock_that_fails_loses_no_reading(rt: HostRuntime) -> Result<(), Fail> {
     Ok(())
 }
 
-// A connection that gives one byte.
-fn connection(alloc: Global, byte: u8) -> Result<(MemSource, MemSink), AllocError> {
-    let bytes = vec![in alloc; byte]?;
-    let input = MemSource::new(bytes, Vec::new(alloc), Vec::new(alloc));
-    let output = MemSink::new(alloc, 1, Vec::new(alloc))?;
-    Ok((input, output))
+// A source of these bytes and a sink with so much room, of which no call fails.
+pub(crate) fn ends_of(
+    alloc: Global,
+    bytes: &[u8],
+    room: usize,
+) -> Result<(MemSource, MemSink), AllocError> {
+    let input = MemSource::new(bytes.to_vec(alloc)?, Vec::new(alloc), Vec::new(alloc));
+    Ok((input, MemSink::new(alloc, room, Vec::new(alloc))?))
 }
 
 // Copies a byte from a connection's source to its sink, and gives the connection back.
@@ -158,13 +160,13 @@ fn copy_byte<D: Door>(door: &mut D) -> Result<bool, Failed> {
 fn door(alloc: Global) -> Result<MemDoor<MemSource, MemSink>, AllocError> {
     let mut connections = Vec::new(alloc);
     for byte in [7, 8] {
-        connections.push(connection(alloc, byte)?)?;
+        connections.push(ends_of(alloc, &[byte], 1)?)?;
     }
     MemDoor::new(alloc, connections, vec![in alloc; 1]?)
 }
 
 fn give_back(alloc: Global, door: &mut MemDoor<MemSource, MemSink>) -> Result<(), AllocError> {
-    let (input, output) = connection(alloc, 9)?;
+    let (input, output) = ends_of(alloc, &[9], 1)?;
     door.done(input, output);
     Ok(())
 }

@@ -1,3 +1,5 @@
+use crate::relays::SHORT;
+use crate::seals::{FROM_ISSUER, FROM_RELAY};
 use arrayvec::ArrayVec;
 use relay_path::*;
 use std::alloc::{AllocError, Global};
@@ -14,33 +16,11 @@ const LINK_B: &str = "9a9a9a9a9a9a9a9a9a9a9a9a9a9a9a9a9a9a9a9a9a9a9a9a9a9a9a9a9a
 
 const LINK_C: &str = "9b9b9b9b9b9b9b9b9b9b9b9b9b9b9b9b9b9b9b9b9b9b9b9b9b9b9b9b9b9b9b9b";
 
-// Key 1 says that key 2 speaks for name 10, until 2000, with serial 1, as kind 1 under key 1. Tags here are
-// by Python's hmac.
-const ISSUED: [u8; 65] = [
-    1, 1, 0, 0, 0, 1, 0, 1, 0, 0, 0, 2, 2, 0, 0, 0, 10, 0, 0, 0, 0, 0, 0, 7, 208, 0, 0, 0, 0, 0, 0,
-    0, 1, 229, 211, 80, 58, 138, 140, 152, 71, 105, 215, 86, 194, 192, 152, 12, 52, 153, 188, 151,
-    204, 149, 154, 30, 239, 55, 109, 98, 134, 183, 46, 95, 56,
-];
-
-// The same under key 2.
+// What `FROM_ISSUER` says, under key 2. Tags here are by Python's hmac.
 const UNDER_2: [u8; 65] = [
     1, 1, 0, 0, 0, 1, 0, 1, 0, 0, 0, 2, 2, 0, 0, 0, 10, 0, 0, 0, 0, 0, 0, 7, 208, 0, 0, 0, 0, 0, 0,
     0, 1, 104, 165, 71, 203, 7, 146, 15, 208, 16, 100, 105, 132, 61, 217, 19, 46, 142, 253, 118,
     89, 176, 205, 19, 103, 86, 169, 113, 250, 82, 41, 30, 40,
-];
-
-// The same under key 1, without its last byte.
-const SHORT: [u8; 64] = [
-    1, 1, 0, 0, 0, 1, 0, 1, 0, 0, 0, 2, 2, 0, 0, 0, 10, 0, 0, 0, 0, 0, 0, 7, 208, 0, 0, 0, 0, 0, 0,
-    0, 1, 229, 211, 80, 58, 138, 140, 152, 71, 105, 215, 86, 194, 192, 152, 12, 52, 153, 188, 151,
-    204, 149, 154, 30, 239, 55, 109, 98, 134, 183, 46, 95,
-];
-
-// The same as kind 2 under key 7.
-const RELAYED: [u8; 65] = [
-    2, 1, 0, 0, 0, 1, 0, 1, 0, 0, 0, 2, 2, 0, 0, 0, 10, 0, 0, 0, 0, 0, 0, 7, 208, 0, 0, 0, 0, 0, 0,
-    0, 1, 34, 245, 18, 205, 143, 39, 50, 124, 30, 14, 52, 137, 25, 233, 81, 228, 6, 255, 23, 137,
-    130, 154, 223, 247, 105, 8, 238, 180, 28, 228, 248, 103,
 ];
 
 // The same as it comes from domain 70 under 32 bytes of value 153.
@@ -148,7 +128,7 @@ const DONE: &[(&[&str], &[u32], &str)] = &[
 fn a_route_gives_a_line_for_each_domain(rt: HostRuntime) -> Result<(), Fail> {
     for &(file, route, lines) in DONE {
         let mut out = Vec::new(rt.alloc());
-        let end = goes(rt.alloc(), file, route, 7, &ISSUED, &mut out);
+        let end = goes(rt.alloc(), file, route, 7, &FROM_ISSUER, &mut out);
         assert!(rt; end == Some(Along::Done), "{route:?}");
         assert!(rt; out.as_slice() == lines.as_bytes(), "{route:?}");
     }
@@ -157,18 +137,18 @@ fn a_route_gives_a_line_for_each_domain(rt: HostRuntime) -> Result<(), Fail> {
 
 // A route, the node at its end, what is passed, and where it stops by which code.
 const STOPS: &[(&[u32], u32, &[u8], u8, u8)] = &[
-    (&[70], 7, &ISSUED, 0, 5),
-    (&[70, 71], 8, &ISSUED, 1, 5),
-    (&[71], 7, &ISSUED, 0, 2),
-    (&[71, 70], 7, &ISSUED, 0, 2),
-    (&[70, 70], 7, &ISSUED, 0, 8),
-    (&[70, 71, 70], 7, &ISSUED, 1, 8),
-    (&[72], 7, &ISSUED, 0, 11),
-    (&[70, 72], 7, &ISSUED, 1, 11),
+    (&[70], 7, &FROM_ISSUER, 0, 5),
+    (&[70, 71], 8, &FROM_ISSUER, 1, 5),
+    (&[71], 7, &FROM_ISSUER, 0, 2),
+    (&[71, 70], 7, &FROM_ISSUER, 0, 2),
+    (&[70, 70], 7, &FROM_ISSUER, 0, 8),
+    (&[70, 71, 70], 7, &FROM_ISSUER, 1, 8),
+    (&[72], 7, &FROM_ISSUER, 0, 11),
+    (&[70, 72], 7, &FROM_ISSUER, 1, 11),
     (&[70, 71], 7, &[], 0, 1),
     (&[70, 71], 7, &SHORT, 0, 1),
     (&[70, 71], 7, &UNDER_2, 0, 3),
-    (&[70, 71], 7, &RELAYED, 0, 4),
+    (&[70, 71], 7, &FROM_RELAY, 0, 4),
     (&[72], 7, &FROM_70, 0, 4),
 ];
 
@@ -191,7 +171,12 @@ const HOPS: &[(usize, Target, &[u8], HopAnswer)] = &[
     (1, Target::Node(7), &THIRD, HopAnswer::Passed),
     (0, Target::Node(7), &FROM_70, HopAnswer::Refused { code: 7 }),
     (1, Target::Node(7), &TURNED, HopAnswer::Refused { code: 3 }),
-    (0, Target::Peer(70), &ISSUED, HopAnswer::Refused { code: 8 }),
+    (
+        0,
+        Target::Peer(70),
+        &FROM_ISSUER,
+        HopAnswer::Refused { code: 8 },
+    ),
     (
         1,
         Target::Peer(70),
@@ -202,7 +187,7 @@ const HOPS: &[(usize, Target, &[u8], HopAnswer)] = &[
     (
         0,
         Target::Peer(75),
-        &ISSUED,
+        &FROM_ISSUER,
         HopAnswer::Refused { code: 10 },
     ),
 ];
@@ -215,7 +200,7 @@ fn a_domain_answers_by_who_sealed_and_where_it_goes(rt: HostRuntime) -> Result<(
     for &(place, target, bytes, answer) in HOPS {
         let told = said(rt.alloc(), &domains, place, target, bytes, &mut out);
         assert!(rt; told == Some(answer), "{target:?}");
-        let made = out.as_slice() == RELAYED.as_slice();
+        let made = out.as_slice() == FROM_RELAY.as_slice();
         assert!(rt; made == (answer == HopAnswer::Passed), "{target:?}");
     }
     Ok(())

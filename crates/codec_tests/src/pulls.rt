@@ -1,8 +1,9 @@
+use crate::frames::ends_of;
+use crate::relays::relay_of;
+use crate::seals::{FROM_ISSUER, FROM_RELAY};
 use arrayvec::ArrayVec;
 use cred_pull::*;
 use frame_link::{Failed, MemSink, MemSource, Outcome};
-use keyed_seal::KeyTable;
-use relay_core::{LocalRelay, MemRelay, RelayTable};
 use std::alloc::{AllocError, Global};
 use std::test::*;
 use taos_wire::read_request;
@@ -15,21 +16,7 @@ const ASKING: [u8; 52] = [
     225, 158,
 ];
 
-// Key 1 says that key 2 speaks for name 10, until 2000, with serial 1, as kind 1 under 32 bytes of value 1.
-const ISSUED: [u8; 65] = [
-    1, 1, 0, 0, 0, 1, 0, 1, 0, 0, 0, 2, 2, 0, 0, 0, 10, 0, 0, 0, 0, 0, 0, 7, 208, 0, 0, 0, 0, 0, 0,
-    0, 1, 229, 211, 80, 58, 138, 140, 152, 71, 105, 215, 86, 194, 192, 152, 12, 52, 153, 188, 151,
-    204, 149, 154, 30, 239, 55, 109, 98, 134, 183, 46, 95, 56,
-];
-
-// The same as kind 2 under 32 bytes of value 7.
-const RELAYED: [u8; 65] = [
-    2, 1, 0, 0, 0, 1, 0, 1, 0, 0, 0, 2, 2, 0, 0, 0, 10, 0, 0, 0, 0, 0, 0, 7, 208, 0, 0, 0, 0, 0, 0,
-    0, 1, 34, 245, 18, 205, 143, 39, 50, 124, 30, 14, 52, 137, 25, 233, 81, 228, 6, 255, 23, 137,
-    130, 154, 223, 247, 105, 8, 238, 180, 28, 228, 248, 103,
-];
-
-// That with another last bit.
+// What the relay sealed, with another last bit.
 const TURNED: [u8; 65] = [
     2, 1, 0, 0, 0, 1, 0, 1, 0, 0, 0, 2, 2, 0, 0, 0, 10, 0, 0, 0, 0, 0, 0, 7, 208, 0, 0, 0, 0, 0, 0,
     0, 1, 34, 245, 18, 205, 143, 39, 50, 124, 30, 14, 52, 137, 25, 233, 81, 228, 6, 255, 23, 137,
@@ -63,13 +50,19 @@ fn giving(alloc: Global, certs: &[&[u8]]) -> Result<Vec<u8>, AllocError> {
     framed(alloc, payload.as_slice())
 }
 
+// Appends the certificate of kind 2 so many times, each behind its length.
+fn push_copies(out: &mut Vec<u8>, count: u8) -> Result<(), AllocError> {
+    for _ in 0..count {
+        out.extend_from_slice(&[0, 65])?;
+        out.extend_from_slice(&FROM_RELAY)?;
+    }
+    Ok(())
+}
+
 // A frame that gives the certificate of kind 2 so many times.
 fn giving_copies(alloc: Global, count: u8) -> Result<Vec<u8>, AllocError> {
     let mut payload = vec![in alloc; 9, count]?;
-    for _ in 0..count {
-        payload.extend_from_slice(&[0, 65])?;
-        payload.extend_from_slice(&RELAYED)?;
-    }
+    push_copies(&mut payload, count)?;
     framed(alloc, payload.as_slice())
 }
 
@@ -81,40 +74,34 @@ fn framed(alloc: Global, payload: &[u8]) -> Result<Vec<u8>, AllocError> {
     Ok(frame)
 }
 
-fn fetch_over(alloc: Global, bytes: Vec<u8>) -> Result<LinkFetch<MemSource, MemSink>, Fail> {
-    let input = MemSource::new(bytes, Vec::new(alloc), Vec::new(alloc));
-    let output = MemSink::new(alloc, 100, Vec::new(alloc))?;
+fn fetch_over(alloc: Global, bytes: &[u8]) -> Result<LinkFetch<MemSource, MemSink>, Fail> {
+    let (input, output) = ends_of(alloc, bytes, 100)?;
     Ok(LinkFetch::new(alloc, input, output)?)
-}
-
-// A relay that knows the issuer and the node, and fails at these calls.
-fn relay_of(alloc: Global, fails: &[u64]) -> Result<MemRelay, Fail> {
-    let mut issuers = KeyTable::new(alloc, 1)?;
-    issuers.add(1, [1; 32])?;
-    let mut nodes = KeyTable::new(alloc, 1)?;
-    nodes.add(7, [7; 32])?;
-    Ok(MemRelay {
-        relay: LocalRelay {
-            alloc,
-            table: RelayTable { issuers, nodes },
-        },
-        fails: fails.to_vec(alloc)?,
-        calls: 0,
-        faults: 0,
-    })
 }
 
 // What is fetched, the calls at which the relay fails, what comes of the pull, how many certificates
 // the request has then, and how often the relay was asked.
 const PULLS: &[(&[&[u8]], &[u64], Pulled, usize, u64)] = &[
     (&[], &[0], Pulled::Ready, 0, 0),
-    (&[&RELAYED], &[0], Pulled::Ready, 1, 0),
-    (&[&RELAYED, &TURNED], &[0], Pulled::Ready, 1, 0),
-    (&[&TURNED, &ISSUED, &RELAYED], &[], Pulled::Ready, 2, 1),
-    (&[&LONG, &RELAYED], &[0], Pulled::Ready, 1, 0),
-    (&[&ISSUED], &[0], Pulled::RelayFailed { index: 0 }, 0, 1),
+    (&[&FROM_RELAY], &[0], Pulled::Ready, 1, 0),
+    (&[&FROM_RELAY, &TURNED], &[0], Pulled::Ready, 1, 0),
     (
-        &[&RELAYED, &LONG, &ISSUED],
+        &[&TURNED, &FROM_ISSUER, &FROM_RELAY],
+        &[],
+        Pulled::Ready,
+        2,
+        1,
+    ),
+    (&[&LONG, &FROM_RELAY], &[0], Pulled::Ready, 1, 0),
+    (
+        &[&FROM_ISSUER],
+        &[0],
+        Pulled::RelayFailed { index: 0 },
+        0,
+        1,
+    ),
+    (
+        &[&FROM_RELAY, &LONG, &FROM_ISSUER],
         &[0],
         Pulled::RelayFailed { index: 2 },
         0,
@@ -126,7 +113,7 @@ const PULLS: &[(&[&[u8]], &[u64], Pulled, usize, u64)] = &[
 fn what_opens_is_appended(rt: HostRuntime) -> Result<(), Fail> {
     let alloc = rt.alloc();
     for &(certs, fails, pulled, count, calls) in PULLS {
-        let mut fetch = fetch_over(alloc, giving(alloc, certs)?)?;
+        let mut fetch = fetch_over(alloc, &giving(alloc, certs)?)?;
         let mut relay = relay_of(alloc, fails)?;
         let mut asked = read_request(alloc, &ASKING)?;
         let end = pull(alloc, 7, &[7; 32], &mut fetch, &mut relay, &mut asked);
@@ -136,7 +123,7 @@ fn what_opens_is_appended(rt: HostRuntime) -> Result<(), Fail> {
             asked
                 .certs
                 .iter()
-                .all(|cert| cert.as_slice() == RELAYED.as_slice()),
+                .all(|cert| cert.as_slice() == FROM_RELAY.as_slice()),
             "{pulled:?}"
         );
         let (_, output) = fetch.into_parts();
@@ -152,10 +139,7 @@ const FRONT: [u8; 19] = [3, 0, 0, 0, 2, 0, 0, 0, 0, 0, 0, 0, 1, 0, 1, 0, 0, 0, 5
 fn presenting(alloc: Global, count: u8) -> Result<Vec<u8>, AllocError> {
     let mut bytes = FRONT.to_vec(alloc)?;
     bytes.push(count)?;
-    for _ in 0..count {
-        bytes.extend_from_slice(&[0, 65])?;
-        bytes.extend_from_slice(&RELAYED)?;
-    }
+    push_copies(&mut bytes, count)?;
     bytes.extend_from_slice(&[0; 32])?;
     Ok(bytes)
 }
@@ -163,18 +147,23 @@ fn presenting(alloc: Global, count: u8) -> Result<Vec<u8>, AllocError> {
 // How many certificates the request presents, what is fetched, what comes of the pull where the relay
 // fails at its first call, and how many the request has then.
 const BESIDE: &[(u8, &[&[u8]], Pulled, usize)] = &[
-    (16, &[&RELAYED], Pulled::Ready, 16),
-    (16, &[&ISSUED], Pulled::Ready, 16),
-    (15, &[&RELAYED, &ISSUED], Pulled::Ready, 16),
-    (15, &[&TURNED, &ISSUED], Pulled::Ready, 15),
-    (2, &[&RELAYED, &ISSUED], Pulled::RelayFailed { index: 3 }, 2),
+    (16, &[&FROM_RELAY], Pulled::Ready, 16),
+    (16, &[&FROM_ISSUER], Pulled::Ready, 16),
+    (15, &[&FROM_RELAY, &FROM_ISSUER], Pulled::Ready, 16),
+    (15, &[&TURNED, &FROM_ISSUER], Pulled::Ready, 15),
+    (
+        2,
+        &[&FROM_RELAY, &FROM_ISSUER],
+        Pulled::RelayFailed { index: 3 },
+        2,
+    ),
 ];
 
 #[test]
 fn presented_certificates_come_first(rt: HostRuntime) -> Result<(), Fail> {
     let alloc = rt.alloc();
     for &(presented, certs, pulled, count) in BESIDE {
-        let mut fetch = fetch_over(alloc, giving(alloc, certs)?)?;
+        let mut fetch = fetch_over(alloc, &giving(alloc, certs)?)?;
         let mut relay = relay_of(alloc, &[0])?;
         let bytes = presenting(alloc, presented)?;
         let mut asked = read_request(alloc, bytes.as_slice())?;
@@ -204,7 +193,7 @@ const NO_ANSWERS: &[&[u8]] = &[
 fn a_fetch_fails_at_what_is_no_answer(rt: HostRuntime) -> Result<(), Fail> {
     let alloc = rt.alloc();
     for &bytes in NO_ANSWERS {
-        let mut fetch = fetch_over(alloc, bytes.to_vec(alloc)?)?;
+        let mut fetch = fetch_over(alloc, bytes)?;
         let answer = fetch.fetch(alloc, 2, 1);
         assert!(rt;
             answer.err() == Some(Failed) && fetch.faults() == 1,
@@ -256,8 +245,7 @@ fn a_wallet_gives_the_first_certificates_of_the_channel(rt: HostRuntime) -> Resu
         let text = wallet_text(alloc, lines)?;
         let wallet = read_wallet(alloc, text.as_bytes())?;
         let frame = framed(alloc, payload)?;
-        let mut input = MemSource::new(frame, Vec::new(alloc), Vec::new(alloc));
-        let mut output = MemSink::new(alloc, 2000, Vec::new(alloc))?;
+        let (mut input, mut output) = ends_of(alloc, &frame, 2000)?;
         let outcome = serve_wallet(alloc, &wallet, &mut input, &mut output, 2);
         assert!(rt; outcome == Outcome::End { frames: 1 }, "{payload:?}");
         let wanted = giving_copies(alloc, count)?;

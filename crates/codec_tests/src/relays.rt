@@ -1,32 +1,18 @@
+use crate::frames::ends_of;
+use crate::seals::{FROM_ISSUER, FROM_RELAY};
+use crate::tags::one_key;
 use arrayvec::ArrayVec;
 use frame_link::{Failed, MemSink, MemSource, Outcome, RelayAnswer, RelayLink};
-use keyed_seal::{KeyTable, Sealer};
+use keyed_seal::Sealer;
 use relay_core::*;
 use std::alloc::Global;
 use std::sync::Arc;
 use std::test::*;
 
-// Key 1 says that key 2 speaks for name 10, until 2000, with serial 1, as kind 1 under 32 bytes of
-// value 1. The tag is by Python's hmac.
-const FROM_ISSUER: [u8; 65] = [
-    1, 1, 0, 0, 0, 1, 0, 1, 0, 0, 0, 2, 2, 0, 0, 0, 10, 0, 0, 0, 0, 0, 0, 7, 208, 0, 0, 0, 0, 0, 0,
-    0, 1, 229, 211, 80, 58, 138, 140, 152, 71, 105, 215, 86, 194, 192, 152, 12, 52, 153, 188, 151,
-    204, 149, 154, 30, 239, 55, 109, 98, 134, 183, 46, 95, 56,
-];
-
-// The same as kind 2 under 32 bytes of value 7.
-const FROM_RELAY: [u8; 65] = [
-    2, 1, 0, 0, 0, 1, 0, 1, 0, 0, 0, 2, 2, 0, 0, 0, 10, 0, 0, 0, 0, 0, 0, 7, 208, 0, 0, 0, 0, 0, 0,
-    0, 1, 34, 245, 18, 205, 143, 39, 50, 124, 30, 14, 52, 137, 25, 233, 81, 228, 6, 255, 23, 137,
-    130, 154, 223, 247, 105, 8, 238, 180, 28, 228, 248, 103,
-];
-
 // A relay that knows one issuer and the node 7.
 fn table_of(alloc: Global, issuer: u32) -> Result<RelayTable, Fail> {
-    let mut issuers = KeyTable::new(alloc, 1)?;
-    issuers.add(issuer, [1; 32])?;
-    let mut nodes = KeyTable::new(alloc, 1)?;
-    nodes.add(7, [7; 32])?;
+    let issuers = one_key(alloc, issuer, 1)?;
+    let nodes = one_key(alloc, 7, 7)?;
     Ok(RelayTable { issuers, nodes })
 }
 
@@ -38,7 +24,7 @@ const WRONG: [u8; 65] = [
 ];
 
 // The issuer's without its last byte.
-const SHORT: [u8; 64] = [
+pub(crate) const SHORT: [u8; 64] = [
     1, 1, 0, 0, 0, 1, 0, 1, 0, 0, 0, 2, 2, 0, 0, 0, 10, 0, 0, 0, 0, 0, 0, 7, 208, 0, 0, 0, 0, 0, 0,
     0, 1, 229, 211, 80, 58, 138, 140, 152, 71, 105, 215, 86, 194, 192, 152, 12, 52, 153, 188, 151,
     204, 149, 154, 30, 239, 55, 109, 98, 134, 183, 46, 95,
@@ -84,13 +70,12 @@ fn what_an_issuer_sealed_is_sealed_for_the_node(rt: HostRuntime) -> Result<(), F
     Ok(())
 }
 
-// A relay whose second call fails.
-fn relay(alloc: Global) -> Result<MemRelay, Fail> {
+// A relay that knows the issuer 1, and fails at these calls.
+pub(crate) fn relay_of(alloc: Global, fails: &[u64]) -> Result<MemRelay, Fail> {
     let table = table_of(alloc, 1)?;
-    let fails = vec![in alloc; 1]?;
     Ok(MemRelay {
         relay: LocalRelay { alloc, table },
-        fails,
+        fails: fails.to_vec(alloc)?,
         calls: 0,
         faults: 0,
     })
@@ -112,7 +97,7 @@ const CALLS: &[(Result<RelayAnswer, Failed>, usize)] = &[
 
 #[test]
 fn a_relay_in_memory_fails_at_its_list(rt: HostRuntime) -> Result<(), Fail> {
-    let mut relay = relay(rt.alloc())?;
+    let mut relay = relay_of(rt.alloc(), &[1])?;
     for &(answer, count) in CALLS {
         let (got, len) = asked(&mut relay);
         assert!(rt; got == answer && len == count);
@@ -124,7 +109,7 @@ fn a_relay_in_memory_fails_at_its_list(rt: HostRuntime) -> Result<(), Fail> {
 #[test]
 fn bytes_that_were_opened_give_the_same_certificate(rt: HostRuntime) -> Result<(), Fail> {
     let alloc = rt.alloc();
-    let mut relay = relay(alloc)?;
+    let mut relay = relay_of(alloc, &[1])?;
     let mut opened = OpenedCerts::new(alloc, &Sealer::of(&[7; 32]));
     let given = present_with(alloc, 7, &mut opened, &mut relay, &FROM_ISSUER);
     let given = given.ok().ok_or("the relay gave none")?;
@@ -149,8 +134,7 @@ fn bytes_that_were_opened_give_the_same_certificate(rt: HostRuntime) -> Result<(
 }
 
 fn link_over(alloc: Global, bytes: &[u8]) -> Result<LinkRelay<MemSource, MemSink>, Fail> {
-    let input = MemSource::new(bytes.to_vec(alloc)?, Vec::new(alloc), Vec::new(alloc));
-    let output = MemSink::new(alloc, 100, Vec::new(alloc))?;
+    let (input, output) = ends_of(alloc, bytes, 100)?;
     Ok(LinkRelay::new(alloc, input, output)?)
 }
 
@@ -189,20 +173,20 @@ fn a_link_answers_what_the_frame_spells(rt: HostRuntime) -> Result<(), Fail> {
 }
 
 // A frame that asks nothing, one of another node, and one of the node.
-fn frames(alloc: Global) -> Result<MemSource, Fail> {
+fn frames(alloc: Global) -> Result<Vec<u8>, Fail> {
     let mut bytes = vec![in alloc; 0, 0, 0, 3, 5, 0, 0]?;
     for node in [8, 7] {
         bytes.extend_from_slice(&[0, 0, 0, 70, 5, 0, 0, 0, node])?;
         bytes.extend_from_slice(&FROM_ISSUER)?;
     }
-    Ok(MemSource::new(bytes, Vec::new(alloc), Vec::new(alloc)))
+    Ok(bytes)
 }
 
 #[test]
 fn a_relay_answers_each_frame(rt: HostRuntime) -> Result<(), Fail> {
     let table = table_of(rt.alloc(), 1)?;
-    let mut input = frames(rt.alloc())?;
-    let mut output = MemSink::new(rt.alloc(), 100, Vec::new(rt.alloc()))?;
+    let frames = frames(rt.alloc())?;
+    let (mut input, mut output) = ends_of(rt.alloc(), &frames, 100)?;
     let outcome = serve_relay(rt.alloc(), &table, &mut input, &mut output, 2);
     assert!(rt; outcome == Outcome::Spent { frames: 2 });
     assert!(rt; output.written() == [0, 0, 0, 2, 6, 1, 0, 0, 0, 2, 6, 5].as_slice());

@@ -1,5 +1,8 @@
+use crate::tags::one_key;
 use keyed_seal::{KeyTable, Sealer};
-use sealed_cert::*;
+use sealed_cert::{
+    SealFault, open_issued, open_issued_body, open_relayed, open_with, seal_issued, seal_relayed,
+};
 use std::alloc::Global;
 use std::sync::Arc;
 use std::test::*;
@@ -12,14 +15,14 @@ const HAND_OFF: [u8; 32] = [
 ];
 
 // The same as kind 1 under 32 bytes of value 1, with its tag by Python's hmac.
-const FROM_ISSUER: [u8; 65] = [
+pub(crate) const FROM_ISSUER: [u8; 65] = [
     1, 1, 0, 0, 0, 1, 0, 1, 0, 0, 0, 2, 2, 0, 0, 0, 10, 0, 0, 0, 0, 0, 0, 7, 208, 0, 0, 0, 0, 0, 0,
     0, 1, 229, 211, 80, 58, 138, 140, 152, 71, 105, 215, 86, 194, 192, 152, 12, 52, 153, 188, 151,
     204, 149, 154, 30, 239, 55, 109, 98, 134, 183, 46, 95, 56,
 ];
 
 // The same as kind 2 under 32 bytes of value 7, with its tag by Python's hmac.
-const FROM_RELAY: [u8; 65] = [
+pub(crate) const FROM_RELAY: [u8; 65] = [
     2, 1, 0, 0, 0, 1, 0, 1, 0, 0, 0, 2, 2, 0, 0, 0, 10, 0, 0, 0, 0, 0, 0, 7, 208, 0, 0, 0, 0, 0, 0,
     0, 1, 34, 245, 18, 205, 143, 39, 50, 124, 30, 14, 52, 137, 25, 233, 81, 228, 6, 255, 23, 137,
     130, 154, 223, 247, 105, 8, 238, 180, 28, 228, 248, 103,
@@ -28,12 +31,6 @@ const FROM_RELAY: [u8; 65] = [
 const ISSUER_KEY: [u8; 32] = [1; 32];
 
 const RELAY_KEY: [u8; 32] = [7; 32];
-
-fn table_of(alloc: Global, number: u32) -> Result<KeyTable, Fail> {
-    let mut table = KeyTable::new(alloc, 1)?;
-    table.add(number, ISSUER_KEY)?;
-    Ok(table)
-}
 
 // The bytes with another one at a place.
 fn changed(bytes: &[u8; 65], place: usize, byte: u8) -> [u8; 65] {
@@ -47,10 +44,6 @@ fn changed(bytes: &[u8; 65], place: usize, byte: u8) -> [u8; 65] {
 fn hand_off(alloc: Global) -> Result<Arc<Cert>, Fail> {
     let (cert, _) = read_body(alloc, &HAND_OFF, 0)?;
     Ok(Arc::new(alloc, cert)?)
-}
-
-fn malformed(offset: usize) -> Option<SealFault> {
-    Some(SealFault::Malformed { offset })
 }
 
 fn seals_for_an_issuer(alloc: Global, cert: &Cert) -> Result<bool, Fail> {
@@ -77,7 +70,7 @@ fn opens_bare_to(alloc: Global, table: &KeyTable, cert: &Cert) -> bool {
 fn an_issuers_seal_opens_to_what_was_sealed(rt: HostRuntime) -> Result<(), Fail> {
     let cert = hand_off(rt.alloc())?;
     assert!(rt; seals_for_an_issuer(rt.alloc(), &cert)?);
-    let table = table_of(rt.alloc(), 1)?;
+    let table = one_key(rt.alloc(), 1, 1)?;
     assert!(rt; opens_to(rt.alloc(), &table, &cert));
     assert!(rt; opens_bare_to(rt.alloc(), &table, &cert));
     Ok(())
@@ -112,72 +105,65 @@ fn a_relays_seal_opens_to_what_was_sealed(rt: HostRuntime) -> Result<(), Fail> {
     Ok(())
 }
 
-// What is answered of bytes where the key is that of an issuer, and where it is the relay's.
-fn issued_fault(alloc: Global, issuer: u32, bytes: &[u8]) -> Result<Option<SealFault>, Fail> {
-    let table = table_of(alloc, issuer)?;
-    Ok(open_issued(alloc, &table, bytes).err())
+// By which key bytes are opened: that of an issuer by a table that has it under this number, or a
+// relay's of this value.
+#[derive(Clone, Copy)]
+enum By {
+    Issuer(u32),
+    Relay(u8),
 }
 
-fn relayed_fault(alloc: Global, bytes: &[u8]) -> Option<SealFault> {
-    fault_by(alloc, &RELAY_KEY, bytes)
-}
+use By::{Issuer, Relay};
+use SealFault::{BadSeal, Malformed, UnknownIssuer, WrongKind};
 
-fn fault_by(alloc: Global, key: &[u8; 32], bytes: &[u8]) -> Option<SealFault> {
-    open_relayed(alloc, key, bytes).err()
-}
+// By which key, which bytes, a place of theirs, what stands there, and the fault.
+const FAULTS: &[(By, &[u8; 65], usize, u8, SealFault)] = &[
+    // Another last byte of the tag, another serial, which is sealed too, and another key.
+    (Issuer(1), &FROM_ISSUER, 64, 57, BadSeal),
+    (Relay(7), &FROM_RELAY, 64, 102, BadSeal),
+    (Relay(7), &FROM_RELAY, 32, 0, BadSeal),
+    (Relay(1), &FROM_RELAY, 0, 2, BadSeal),
+    // An issuer without a key is named before the seal.
+    (Issuer(2), &FROM_ISSUER, 0, 1, UnknownIssuer { issuer: 1 }),
+    (Issuer(2), &FROM_ISSUER, 64, 0, UnknownIssuer { issuer: 1 }),
+    // The other kind.
+    (Issuer(1), &FROM_RELAY, 0, 2, WrongKind { kind: 2 }),
+    (Relay(7), &FROM_ISSUER, 0, 1, WrongKind { kind: 1 }),
+    // No kind, no version, neither quoting nor not, no term, no term.
+    (Relay(7), &FROM_RELAY, 0, 0, Malformed { offset: 0 }),
+    (Relay(7), &FROM_RELAY, 0, 3, Malformed { offset: 0 }),
+    (Relay(7), &FROM_RELAY, 1, 3, Malformed { offset: 1 }),
+    (Relay(7), &FROM_RELAY, 6, 2, Malformed { offset: 6 }),
+    (Relay(7), &FROM_RELAY, 7, 0, Malformed { offset: 7 }),
+    (Relay(7), &FROM_RELAY, 12, 7, Malformed { offset: 12 }),
+];
 
-const BAD: Option<SealFault> = Some(SealFault::BadSeal);
-
-#[test]
-fn a_turned_bit_is_a_bad_seal(rt: HostRuntime) -> Result<(), Fail> {
-    // The last byte of the tag, and the serial, which is sealed too.
-    let bytes = changed(&FROM_ISSUER, 64, FROM_ISSUER[64] ^ 1);
-    assert!(rt; issued_fault(rt.alloc(), 1, &bytes)? == BAD);
-    let bytes = changed(&FROM_RELAY, 64, FROM_RELAY[64] ^ 1);
-    assert!(rt; relayed_fault(rt.alloc(), &bytes) == BAD);
-    let bytes = changed(&FROM_RELAY, 32, FROM_RELAY[32] ^ 1);
-    assert!(rt; relayed_fault(rt.alloc(), &bytes) == BAD);
-    assert!(rt; fault_by(rt.alloc(), &ISSUER_KEY, &FROM_RELAY) == BAD);
-    Ok(())
-}
-
-#[test]
-fn an_issuer_without_a_key_is_named_before_the_seal(rt: HostRuntime) -> Result<(), Fail> {
-    let unknown = Some(SealFault::UnknownIssuer { issuer: 1 });
-    assert!(rt; issued_fault(rt.alloc(), 2, &FROM_ISSUER)? == unknown);
-    let bytes = changed(&FROM_ISSUER, 64, 0);
-    assert!(rt; issued_fault(rt.alloc(), 2, &bytes)? == unknown);
-    Ok(())
-}
-
-#[test]
-fn the_other_kind_is_named(rt: HostRuntime) -> Result<(), Fail> {
-    let second = Some(SealFault::WrongKind { kind: 2 });
-    assert!(rt; issued_fault(rt.alloc(), 1, &FROM_RELAY)? == second);
-    let first = Some(SealFault::WrongKind { kind: 1 });
-    assert!(rt; relayed_fault(rt.alloc(), &FROM_ISSUER) == first);
-    Ok(())
-}
-
-// No kind, no version, neither quoting nor not, no term, no term.
-const WRONG: &[(usize, u8)] = &[(0, 0), (0, 3), (1, 3), (6, 2), (7, 0), (12, 7)];
-
-#[test]
-fn a_byte_that_cannot_stand_there_is_refused_at_its_place(rt: HostRuntime) {
-    for &(place, byte) in WRONG {
-        let bytes = changed(&FROM_RELAY, place, byte);
-        assert!(rt;
-            relayed_fault(rt.alloc(), &bytes) == malformed(place),
-            "at {place}"
-        );
+fn fault_by(alloc: Global, by: By, bytes: &[u8]) -> Result<Option<SealFault>, Fail> {
+    match by {
+        Issuer(number) => {
+            let table = one_key(alloc, number, 1)?;
+            Ok(open_issued(alloc, &table, bytes).err())
+        }
+        Relay(value) => Ok(open_relayed(alloc, &[value; 32], bytes).err()),
     }
+}
+
+#[test]
+fn what_does_not_open_has_its_first_fault(rt: HostRuntime) -> Result<(), Fail> {
+    for &(by, bytes, place, byte, fault) in FAULTS {
+        let bytes = changed(bytes, place, byte);
+        let got = fault_by(rt.alloc(), by, &bytes)?;
+        assert!(rt; got == Some(fault), "{byte} at {place}");
+    }
+    Ok(())
 }
 
 // Whether each proper prefix of both kinds is refused at its length.
 fn is_refused_when_cut(alloc: Global, table: &KeyTable) -> bool {
     for count in 0..65 {
         let fault = open_issued(alloc, table, &FROM_ISSUER[..count]).err();
-        if fault != malformed(count) || relayed_fault(alloc, &FROM_RELAY[..count]) != fault {
+        let relayed = open_relayed(alloc, &RELAY_KEY, &FROM_RELAY[..count]).err();
+        if fault != Some(Malformed { offset: count }) || relayed != fault {
             return false;
         }
     }
@@ -186,7 +172,7 @@ fn is_refused_when_cut(alloc: Global, table: &KeyTable) -> bool {
 
 #[test]
 fn each_proper_prefix_is_refused_at_its_length(rt: HostRuntime) -> Result<(), Fail> {
-    let table = table_of(rt.alloc(), 2)?;
+    let table = one_key(rt.alloc(), 2, 1)?;
     assert!(rt; is_refused_when_cut(rt.alloc(), &table));
     Ok(())
 }
@@ -197,29 +183,23 @@ fn longer_fault(alloc: Global, more: usize) -> Result<Option<SealFault>, Fail> {
     for _ in 0..more {
         bytes.push(0)?;
     }
-    Ok(relayed_fault(alloc, &bytes))
+    Ok(open_relayed(alloc, &RELAY_KEY, &bytes).err())
 }
 
 #[test]
 fn bytes_behind_the_tag_are_refused_at_the_first(rt: HostRuntime) -> Result<(), Fail> {
-    assert!(rt; longer_fault(rt.alloc(), 1)? == malformed(65));
-    assert!(rt; longer_fault(rt.alloc(), 2)? == malformed(65));
+    assert!(rt; longer_fault(rt.alloc(), 1)? == Some(Malformed { offset: 65 }));
+    assert!(rt; longer_fault(rt.alloc(), 2)? == Some(Malformed { offset: 65 }));
     Ok(())
 }
 
 const PRINTED: &[(SealFault, &str)] = &[
     (
-        SealFault::Malformed { offset: 65 },
+        Malformed { offset: 65 },
         "the sealed certificate is malformed at 65",
     ),
-    (
-        SealFault::UnknownIssuer { issuer: 9 },
-        "there is no key of issuer 9",
-    ),
-    (
-        SealFault::WrongKind { kind: 2 },
-        "the certificate is of kind 2",
-    ),
+    (UnknownIssuer { issuer: 9 }, "there is no key of issuer 9"),
+    (WrongKind { kind: 2 }, "the certificate is of kind 2"),
 ];
 
 #[test]

@@ -63,7 +63,15 @@ fn a_sealer_gives_the_tag_of_its_key(rt: HostRuntime) {
     assert!(rt; !sealer.tag_is(b"abc", &tag));
 }
 
-fn table_of(alloc: Global, numbers: &[u8], room: usize) -> Result<KeyTable, Fail> {
+// The one key of a number: 32 bytes of this value.
+pub(crate) fn one_key(alloc: Global, number: u32, value: u8) -> Result<KeyTable, Fail> {
+    let mut table = KeyTable::new(alloc, 1)?;
+    table.add(number, [value; 32])?;
+    Ok(table)
+}
+
+// The keys of these numbers, each 32 bytes of its number.
+pub(crate) fn table_of(alloc: Global, numbers: &[u8], room: usize) -> Result<KeyTable, Fail> {
     let mut table = KeyTable::new(alloc, room)?;
     for number in numbers {
         table.add(*number as u32, [*number; 32])?;

@@ -8,7 +8,7 @@ use Rattle.file_lines.specs.declared.fault.FileFault.{FileFault}
 use Rattle.file_lines.specs.declared.fault.FileFault.TheVariants.{Line}
 use Rattle.file_lines.specs.declared.limits.TheConstants.{MAX_FILE}
 use Rattle.file_lines.specs.Fields.{if_plain, numbered_digits}
-use Rattle.file_lines.specs.FileLines.{LineStep, file_makes, first_of, is_first_line, unless}
+use Rattle.file_lines.specs.FileLines.{LineStep, file_makes, first_of, first_or, is_first_line, unless}
 use Rattle.file_lines.specs.Lines.{lines_from, word_off}
 use Rattle.cred_pull.specs.declared.limits.TheConstants.{MAX_WALLET_CERT, MAX_WALLET_LINES}
 
@@ -38,6 +38,10 @@ unfoldable pub wallet_step : LineStep (List WalletRow)
 wallet_step above line =
     let w = word_off line in
     if bytes_eq w.0 (codes "cert") then if_plain line (row_added above w.1) else Err UnknownWord
+
+-- the same where the first line says what file it is, and adds nothing
+abbrev pub any_wallet_step : LineStep (Option (List WalletRow))
+any_wallet_step = first_or (is_first_line (codes "taos-wallet")) [] wallet_step
 
 -- what a wallet file means, or why it is refused: one that is too long is refused at no line
 unfoldable pub wallet_in : List ℕ → Result (List WalletRow) FileFault

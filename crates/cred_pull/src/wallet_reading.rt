@@ -1,11 +1,11 @@
 //! Reading a wallet file.
 
-ghost use Rattle.std.specs.Prelude.{◌≡◌, ◌∷◌, ◌++◌, List, Option, OnOk, Vec, codes, map, true, [], IfOk};
+ghost use Rattle.std.specs.Prelude.{◌≡◌, ◌∷◌, ◌++◌, List, Option, OnOk, Vec, map, true, [], IfOk};
 ghost use Rattle.byte_fields.specs.Steps.{with_fault};
-ghost use Rattle.file_lines.specs.FileLines.{first_or, is_first_line, unless};
+ghost use Rattle.file_lines.specs.FileLines.{unless};
 ghost use Rattle.file_lines.specs.LineView.{IsReadFor, TakesLine};
-ghost use Rattle.cred_pull.specs.WalletFile.{AreShort, WalletRow, row_added, row_cause};
-ghost use Rattle.cred_pull.specs.WalletFile.{wallet_in, wallet_row, wallet_step};
+ghost use Rattle.cred_pull.specs.WalletFile.{AreShort, WalletRow, any_wallet_step, row_added};
+ghost use Rattle.cred_pull.specs.WalletFile.{row_cause, wallet_in, wallet_row, wallet_step};
 ghost use Rattle.cred_pull.specs.WalletView.{AreRows, IsWalletFault, StandSoFar, file_fault};
 ghost use Rattle.cred_pull.specs.WalletView.{row_of, rows_of, wallet_cause};
 
@@ -78,7 +78,7 @@ fn take_any(
 ) -> Result<(), LineFault>
     ensures takes { (so_far : Option (List WalletRow)) → StandSoFar begun lines.old.items so_far
         → TakesLine (StandSoFar true) result lines.new.items
-        (first_or (is_first_line (codes "taos-wallet")) [] wallet_step so_far line.now) }
+        (any_wallet_step so_far line.now) }
     ensures short { OnOk result
         (AreShort (map row_of lines.old.items) → AreShort (map row_of lines.new.items)) }
 {

@@ -1,5 +1,6 @@
 -- What a denial names: the first thing that is missing.
-use Rattle.std.specs.Prelude.{◌≡◌, ℕ, ◌+◌, ◌<◌, ◌++◌, List, ◌∷◌, Some, slice_get, Contains, All, sum_by}
+use Rattle.std.specs.Prelude.{◌≡◌, ℕ, ◌+◌, ◌<◌, ◌++◌, List, ◌∷◌, slice_get, Contains, All, sum_by}
+use Rattle.std.specs.Prelude.{Option, Some, MatchOption}
 use Rattle.prin_term.specs.declared.term.Anchor.{Anchor}
 use Rattle.prin_term.specs.Principal.{Principal, operands, subterms, node_count}
 use Rattle.prin_term.specs.View.{Grant}
@@ -8,7 +9,8 @@ use Rattle.taos_calculus.specs.Rules.{Claim}
 use Rattle.taos_calculus.specs.Monitor.{HasRight, MaySpeak, FirstEntry}
 use Rattle.denial_link.specs.declared.link.Link.{Link}
 use Rattle.denial_link.specs.declared.link.Link.TheVariants.{Expired, Early, Missing, NoEntry}
-use Rattle.denial_link.specs.Needed.{IsNeeded}
+use Rattle.denial_link.specs.declared.revive.Revival.{Revival}
+use Rattle.denial_link.specs.Needed.{IsNeeded, IsRevived}
 use Rattle.denial_link.specs.Order.{IsAt}
 use Rattle.denial_link.specs.Revived.{claims}
 
@@ -38,6 +40,25 @@ abbrev pub NoEntryWith : List Grant → ℕ → (Grant → Type 0) → Type 0
 NoEntryWith list right P =
     (k : ℕ) (e : Grant) → slice_get list k ≡ Some e → HasRight e right → P e → ⊥
 
+-- the place of the first entry that has the right and this too, or none where no entry has both
+abbrev pub FindsEntry : List Grant → ℕ → (Grant → Type 0) → Option ℕ → Type 0
+FindsEntry list right P place =
+    MatchOption place (NoEntryWith list right P) (λ k. (e : Grant) × FirstEntry list right P k e)
+
+-- the same, of the entries before an end
+abbrev pub FindsBefore : List Grant → ℕ → (Grant → Type 0) → ℕ → Option ℕ → Type 0
+FindsBefore list right P end place =
+    MatchOption place (NoneBefore list right P end)
+    (λ k. (k < end) × (e : Grant) × FirstEntry list right P k e)
+
+-- the first entry that all certificates would do for, with the certificate that is needed, or none
+-- where they would do for no entry
+abbrev pub FindsRevived : List Anchor → List Certificate → ℕ → Principal → List Grant → ℕ →
+    Option Revival → Type 0
+FindsRevived anchors certs moment subject list right found =
+    MatchOption found (NoEntryWith list right (λ e. MaySpeak anchors (claims certs) subject e.who))
+    (λ r. IsRevived anchors certs moment subject list right r)
+
 -- what a denial names, where nothing is granted
 pub data IsFirstLink (anchors : List Anchor) (certs : List Certificate) (moment : ℕ)
     (subject : Principal) (list : List Grant) (right : ℕ) : Link → Type 0 where
@@ -61,3 +82,9 @@ pub data IsFirstLink (anchors : List Anchor) (certs : List Certificate) (moment 
       NoEntryWith list right (λ g. MaySpeak anchors (claims certs) subject g.who) →
       Lacks (IsReached anchors (claims certs) subject) e.who n →
       IsFirstLink anchors certs moment subject list right (Missing k n)
+
+-- no two links are the first one
+abbrev pub HasOneLink : List Anchor → List Certificate → ℕ → Principal → List Grant → ℕ → Type 0
+HasOneLink anchors certs moment subject list right =
+    (a b : Link) → IsFirstLink anchors certs moment subject list right a →
+    IsFirstLink anchors certs moment subject list right b → a ≡ b

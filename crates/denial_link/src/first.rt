@@ -1,14 +1,14 @@
 //! The first missing, expired or early link.
 
-ghost use Rattle.std.specs.Prelude.{◌≡◌, ◌<◌, ◌≤◌, ℕ, true, map, length};
-ghost use Rattle.std.specs.Prelude.{replicate, slice_get, Some, MatchOption};
+ghost use Rattle.std.specs.Prelude.{◌≡◌, ◌≤◌, ℕ, true, map, length};
+ghost use Rattle.std.specs.Prelude.{replicate, slice_get, Some};
 ghost use Rattle.prin_term.specs.View.{Grant, grant, principal};
 ghost use Rattle.stmt_codec.specs.Certificates.{live};
 ghost use Rattle.stmt_codec.specs.View.{certificates};
-ghost use Rattle.taos_calculus.specs.Monitor.{FirstEntry, Grants};
+ghost use Rattle.taos_calculus.specs.Monitor.{Grants};
 ghost use Rattle.taos_calculus.specs.Question.{IsAskable, IsTermOf, MayAnswer, question_of};
 ghost use Rattle.denial_link.specs.Revived.{claims};
-ghost use Rattle.denial_link.specs.Links.{IsFirstLink, NoEntryWith, NoneBefore};
+ghost use Rattle.denial_link.specs.Links.{FindsBefore, FindsEntry, IsFirstLink};
 
 use crate::link::Link;
 use crate::part::lacking;
@@ -21,8 +21,7 @@ use taos_calculus::{Decide, MAX_CERTS};
 /// The place of the first entry with the right.
 pub fn first_with(list: &[Entry], right: u8) -> Option<u8>
     requires { length list.now ≤ 8 }
-    ensures { MatchOption result (NoEntryWith (map grant list.now) right (λ e. Unit {0}))
-        (λ k. (e : Grant) × FirstEntry (map grant list.now) right (λ g. Unit {0}) k e) }
+    ensures { FindsEntry (map grant list.now) right (λ e. Unit {0}) result }
 {
     for place in 0..list.len() {
         if list[place].rights & right != 0 {
@@ -46,11 +45,8 @@ pub(crate) fn first_before<D: Decide>(
     requires asking { IsTermOf (D.question bench.old) (principal subject.now) }
     requires asked { (k : ℕ) (e : Grant) → slice_get (map grant list.now) k ≡ Some e
         → IsTermOf (D.question bench.old) e.who }
-    ensures found { MatchOption result
-        (NoneBefore (map grant list.now) right
-        (λ e. MayAnswer (D.question bench.old) (principal subject.now) e.who) end)
-        (λ k. (k < end) × (e : Grant) × FirstEntry (map grant list.now) right
-        (λ g. MayAnswer (D.question bench.old) (principal subject.now) g.who) k e) }
+    ensures found { FindsBefore (map grant list.now) right
+        (λ e. MayAnswer (D.question bench.old) (principal subject.now) e.who) end result }
     ensures same { D.question bench.new ≡ D.question bench.old }
 {
     for place in 0..end {
@@ -74,11 +70,8 @@ pub fn first_derivable<D: Decide>(
     requires asking { IsTermOf (D.question bench.old) (principal subject.now) }
     requires asked { (k : ℕ) (e : Grant) → slice_get (map grant list.now) k ≡ Some e
         → IsTermOf (D.question bench.old) e.who }
-    ensures found { MatchOption result
-        (NoEntryWith (map grant list.now) right
-        (λ e. MayAnswer (D.question bench.old) (principal subject.now) e.who))
-        (λ k. (e : Grant) × FirstEntry (map grant list.now) right
-        (λ g. MayAnswer (D.question bench.old) (principal subject.now) g.who) k e) }
+    ensures found { FindsEntry (map grant list.now) right
+        (λ e. MayAnswer (D.question bench.old) (principal subject.now) e.who) result }
     ensures same { D.question bench.new ≡ D.question bench.old }
 {
     first_before(bench, subject, list, right, list.len())

@@ -1,15 +1,14 @@
 //! Which of the certificates that are not live would have been enough.
 
-ghost use Rattle.std.specs.Prelude.{◌≡◌, ◌≤◌, true, map, length, replicate, MatchOption};
+ghost use Rattle.std.specs.Prelude.{◌≤◌, true, map, length, replicate};
 ghost use Rattle.prin_term.specs.View.{grant, principal};
 ghost use Rattle.stmt_codec.specs.Certificates.{live};
 ghost use Rattle.stmt_codec.specs.View.{certificates};
-ghost use Rattle.taos_calculus.specs.Monitor.{Grants, MaySpeak};
+ghost use Rattle.taos_calculus.specs.Monitor.{Grants};
 ghost use Rattle.taos_calculus.specs.Question.{IsAskable};
 ghost use Rattle.denial_link.specs.Revived.{claims, AsksWith};
-ghost use Rattle.denial_link.specs.Needed.{IsRevived};
 ghost use Rattle.denial_link.specs.Keys.{AreMarked};
-ghost use Rattle.denial_link.specs.Links.{NoEntryWith};
+ghost use Rattle.denial_link.specs.Links.{FindsRevived};
 
 use crate::first::first_before;
 use crate::order::out_in_order;
@@ -81,11 +80,8 @@ pub(crate) fn first_revived<D: Decide>(
         (replicate (length certs.now) true) (principal subject.now) (map grant list.now) }
     requires denied { Grants anchors.now (claims (live (certificates certs.now) moment))
         (principal subject.now) (map grant list.now) right → ⊥ }
-    ensures { MatchOption result
-        (NoEntryWith (map grant list.now) right
-        (λ e. MaySpeak anchors.now (claims (certificates certs.now)) (principal subject.now) e.who))
-        (λ r. IsRevived anchors.now (certificates certs.now) moment (principal subject.now)
-        (map grant list.now) right r) }
+    ensures { FindsRevived anchors.now (certificates certs.now) moment (principal subject.now)
+        (map grant list.now) right result }
 {
     let places = out_in_order(certs, moment);
     let mut end = list.len();

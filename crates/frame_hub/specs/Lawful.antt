@@ -1,6 +1,6 @@
 -- The law of a hub, of whatever happens at it.
 use Rattle.std.specs.Prelude.{◌≡◌, ◌⊎◌, ℕ, ◌<◌, ◌≤◌, List, [], ◌∷◌, ◌++◌, length, All}
-use Rattle.frame_link.specs.Frames.{framed, IsPart, IsTooLong}
+use Rattle.frame_link.specs.Frames.{framed, IsPart, IsTooLong, Splits}
 use Rattle.frame_link.specs.declared.service.TheConstants.{MAX_PAYLOAD}
 use Rattle.frame_hub.specs.Events.{Event, Opened, Received, Ended, Failed, Took, Replied, Wrote, Closed}
 use Rattle.frame_hub.specs.Accounts.{Account, account_of, nothing, IsPresent, IsSound, IsOpen, lane_by}
@@ -22,6 +22,10 @@ pub record IsServed (place lanes : ℕ) (a : Account) : Type 0 where
   pub one_lane : All (λ lane. lane ≡ lane_by place lanes a.taken) a.lanes
   -- it was written the replies to its own frames, in order, and no byte besides
   pub written : Begins a.written (framed a.replies)
+
+-- what came of a client are these frames, whole and in order, and a rest that has none
+abbrev pub HasFrames : Account → List (List ℕ) → List ℕ → Type 0
+HasFrames a payloads rest = Splits MAX_PAYLOAD a.received payloads rest
 
 -- Nothing more comes of a client: it said its last and has no whole frame left, or has a length
 -- above the limit next. And each reply to its frames was written.

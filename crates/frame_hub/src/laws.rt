@@ -1,10 +1,8 @@
 //! What the law of a hub comes to.
 
 ghost use Rattle.std.specs.Prelude.{◌<◌, ℕ, List, All};
-ghost use Rattle.frame_link.specs.Frames.{Splits};
-ghost use Rattle.frame_link.specs.declared.service.TheConstants.{MAX_PAYLOAD};
 ghost use Rattle.frame_hub.specs.Accounts.{Account};
-ghost use Rattle.frame_hub.specs.Lawful.{IsServed, Begins};
+ghost use Rattle.frame_hub.specs.Lawful.{Begins, HasFrames, IsServed};
 
 use frame_link::one_reading;
 
@@ -14,7 +12,7 @@ pub fn taken_are_first()
     ensures { (place lanes : ℕ) (a : Account) (payloads : List (List ℕ)) (rest : List ℕ)
         → All (λ b. b < 256) a.received
         → IsServed place lanes a
-        → Splits MAX_PAYLOAD a.received payloads rest
+        → HasFrames a payloads rest
         → Begins a.taken payloads }
 {
     one_reading();

@@ -14,4 +14,5 @@ pub mod Gaps
 pub mod Taking
 pub mod Asked
 pub mod Telling
+pub mod TellingSteps
 pub mod Replaying

@@ -77,6 +77,36 @@ pub record TellsHeard (s : Core) (f g : Found) (from to i : ℕ) : Type 0 where
       slice_get s.nodes to ≡ Some (Node.For b a) →
       TellsSaid s f i c a → IsTold g (Fact.Speaks from to)
 
+-- where the nodes are an anchor's key and its name, the lines tell that the one speaks for the
+-- other
+abbrev pub TellsAnchored : Core → Found → (from to : ℕ) → Type 0
+TellsAnchored s g from to =
+    (i : ℕ) (anchor : Anchor) → slice_get s.anchors i ≡ Some anchor →
+    slice_get s.nodes from ≡ Some (Node.Key anchor.key) →
+    slice_get s.nodes to ≡ Some (Node.Name anchor.name) → IsTold g (Fact.Speaks from to)
+
+-- where both nodes quote, and the lines f tell that the parts of the one speak for those of the
+-- other, the lines g tell that the one speaks for the other
+abbrev pub TellsQuoted : Core → (f g : Found) → (from to : ℕ) → Type 0
+TellsQuoted s f g from to =
+    (a b c d : ℕ) → slice_get s.nodes from ≡ Some (Node.Quote a b) →
+    slice_get s.nodes to ≡ Some (Node.Quote c d) →
+    TellsPassed s f a c → TellsPassed s f b d → IsTold g (Fact.Speaks from to)
+
+-- the same where both act for another
+abbrev pub TellsActing : Core → (f g : Found) → (from to : ℕ) → Type 0
+TellsActing s f g from to =
+    (a b c d : ℕ) → slice_get s.nodes from ≡ Some (Node.For a b) →
+    slice_get s.nodes to ≡ Some (Node.For c d) →
+    TellsPassed s f a c → TellsPassed s f b d → IsTold g (Fact.Speaks from to)
+
+-- the same where both are in one role
+abbrev pub TellsUnder : Core → (f g : Found) → (from to : ℕ) → Type 0
+TellsUnder s f g from to =
+    (a c r : ℕ) → slice_get s.nodes from ≡ Some (Node.AsRole a r) →
+    slice_get s.nodes to ≡ Some (Node.AsRole c r) →
+    TellsPassed s f a c → IsTold g (Fact.Speaks from to)
+
 -- where the lines f tell what the parts of two nodes speak for, the lines g tell that the one
 -- speaks for the other, by their forms or by an anchor
 pub record TellsFormed (s : Core) (f g : Found) (from to : ℕ) : Type 0 where
@@ -86,15 +116,7 @@ pub record TellsFormed (s : Core) (f g : Found) (from to : ℕ) : Type 0 where
       IsTold g (Fact.Speaks from to)
   pub role : (r : ℕ) → slice_get s.nodes to ≡ Some (Node.AsRole from r) →
       IsTold g (Fact.Speaks from to)
-  pub anchored : (i : ℕ) (anchor : Anchor) → slice_get s.anchors i ≡ Some anchor →
-      slice_get s.nodes from ≡ Some (Node.Key anchor.key) →
-      slice_get s.nodes to ≡ Some (Node.Name anchor.name) → IsTold g (Fact.Speaks from to)
-  pub quoting : (a b c d : ℕ) → slice_get s.nodes from ≡ Some (Node.Quote a b) →
-      slice_get s.nodes to ≡ Some (Node.Quote c d) →
-      TellsPassed s f a c → TellsPassed s f b d → IsTold g (Fact.Speaks from to)
-  pub for_both : (a b c d : ℕ) → slice_get s.nodes from ≡ Some (Node.For a b) →
-      slice_get s.nodes to ≡ Some (Node.For c d) →
-      TellsPassed s f a c → TellsPassed s f b d → IsTold g (Fact.Speaks from to)
-  pub role_under : (a c r : ℕ) → slice_get s.nodes from ≡ Some (Node.AsRole a r) →
-      slice_get s.nodes to ≡ Some (Node.AsRole c r) →
-      TellsPassed s f a c → IsTold g (Fact.Speaks from to)
+  pub anchored : TellsAnchored s g from to
+  pub quoting : TellsQuoted s f g from to
+  pub for_both : TellsActing s f g from to
+  pub role_under : TellsUnder s f g from to

@@ -4,9 +4,7 @@ ghost use Rattle.std.specs.Prelude.{◌≡◌, ◌≤◌, vec_capacity};
 ghost use Rattle.taos_calculus.specs.declared.decide.TheConstants.{MAX_CERTS, MAX_ENTRIES};
 ghost use Rattle.taos_calculus.specs.declared.proof.TheConstants.{MAX_NODES};
 
-use crate::gather::{
-    keep_anchors, keep_marks, keep_nodes, link_anchors, take_certs, take_list, take_term,
-};
+use crate::gather::{keep_marks, keep_nodes, link_anchors, take_certs, take_list, take_term};
 use crate::going_on::are_among;
 use crate::replay::replay;
 use crate::search::Search;
@@ -15,7 +13,7 @@ use std::alloc::{AllocError, Global};
 use std::sync::Arc;
 use stmt_codec::Cert;
 use taos_calculus::{MAX_CERTS, MAX_ENTRIES, MAX_NODES, Taken};
-use term_pool::{Cited, Pool};
+use term_pool::{Cited, Pool, keep_anchors};
 
 /// What was asked, and how far the search for it went.
 #[derive(Drop)]

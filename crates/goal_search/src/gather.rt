@@ -30,18 +30,6 @@ pub fn take_term(pool: &mut Pool, term: &Term) -> u16
     pool.intern(term)
 }
 
-/// Keeps the anchors. Their keys and names are taken in only as far as they are named elsewhere.
-pub fn keep_anchors(kept: &mut Vec<Anchor>, anchors: &[Anchor])
-    requires none { kept.old.items ≡ [] }
-    requires room { length anchors.now ≤ vec_capacity kept.old }
-    ensures kept { kept.new.items ≡ anchors.now }
-    ensures capacity { vec_capacity kept.old ≤ vec_capacity kept.new }
-{
-    for i in 0..anchors.len() {
-        kept.push(anchors[i]).unwrap();
-    }
-}
-
 // The speaker and the statement of a certificate, by their numbers.
 fn take_cert(pool: &mut Pool, cert: &Cert, place: u16) -> Cited
     requires room { length pool.old.terms + 16 ≤ pool.old.room }

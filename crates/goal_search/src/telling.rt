@@ -1,12 +1,11 @@
 //! Lines of a derivation that tell what a search found, each after those that it follows from.
 
-ghost use Rattle.std.specs.Prelude.{◌≡◌, ◌⊎◌, ◌<◌, ℕ, Some, MatchOption, slice_get, length};
-ghost use Rattle.taos_calculus.specs.Numbered.{Gives};
+ghost use Rattle.std.specs.Prelude.{◌≡◌, ◌<◌, Some, slice_get, length};
 ghost use Rattle.taos_calculus.specs.declared.line.Fact.{Fact};
 ghost use Rattle.term_pool.specs.declared.cited.Cited.{Cited};
-ghost use Rattle.term_pool.specs.Finding.{facts_in};
-ghost use Rattle.goal_search.specs.Searching.{core, about, claims_in, IsReady, IsNumber};
+ghost use Rattle.goal_search.specs.Searching.{core, IsReady, IsNumber};
 ghost use Rattle.goal_search.specs.Telling.{IsTelling, IsTold, TellsMore, TellsPassed, IsFactIn};
+ghost use Rattle.goal_search.specs.TellingSteps.{FindsLine, FindsSaid, GivesIn, GivesSaid};
 
 use crate::search::Search;
 use taos_calculus::{Fact, Step};
@@ -44,8 +43,7 @@ impl Search {
         requires ready { IsReady (core self.now) }
         requires telling { IsTelling (core self.now) found.old }
         requires fact_in { IsFactIn (core self.now) fact }
-        requires gives { Gives self.now.nodes.items self.now.anchors.items
-            (claims_in (about (core self.now))) (facts_in found.old) fact step }
+        requires gives { GivesIn (core self.now) found.old fact step }
         ensures more { TellsMore (core self.now) found.old found.new }
         ensures told { IsTold found.new fact }
     {
@@ -60,8 +58,7 @@ impl Search {
         requires telling { IsTelling (core self.now) found.old }
         requires left_in { IsNumber (core self.now) left }
         requires right_in { IsNumber (core self.now) right }
-        requires gives { Gives self.now.nodes.items self.now.anchors.items
-            (claims_in (about (core self.now))) (facts_in found.old) (Fact.Speaks left right) step }
+        requires gives { GivesIn (core self.now) found.old (Fact.Speaks left right) step }
         ensures more { TellsMore (core self.now) found.old found.new }
         ensures told { IsTold found.new (Fact.Speaks left right) }
     {
@@ -74,10 +71,7 @@ impl Search {
         requires telling { IsTelling (core self.now) found.old }
         requires number_in { number < length self.now.cited.items }
         requires who_in { IsNumber (core self.now) who }
-        requires gives { (c : Cited) → slice_get self.now.cited.items number ≡ Some c
-            → Gives self.now.nodes.items self.now.anchors.items
-            (claims_in (about (core self.now))) (facts_in found.old)
-            (Fact.Says who c.left c.right) step }
+        requires gives { GivesSaid (core self.now) found.old number who step }
         ensures more { TellsMore (core self.now) found.old found.new }
         ensures told { (c : Cited) → slice_get self.now.cited.items number ≡ Some c
             → IsTold found.new (Fact.Says who c.left c.right) }
@@ -105,8 +99,7 @@ impl Search {
         requires telling { IsTelling (core self.now) found.now }
         requires left_in { IsNumber (core self.now) left }
         requires right_in { IsNumber (core self.now) right }
-        ensures { MatchOption result (IsTold found.now (Fact.Speaks left right) → ⊥)
-            (λ k. slice_get (facts_in found.now) k ≡ Some (Fact.Speaks left right)) }
+        ensures { FindsLine found.now (Fact.Speaks left right) result }
     {
         found.number(speaking(left, right))
     }
@@ -117,9 +110,7 @@ impl Search {
         requires telling { IsTelling (core self.now) found.now }
         requires number_in { number < length self.now.cited.items }
         requires who_in { IsNumber (core self.now) who }
-        ensures { (c : Cited) → slice_get self.now.cited.items number ≡ Some c
-            → MatchOption result (IsTold found.now (Fact.Says who c.left c.right) → ⊥)
-            (λ k. slice_get (facts_in found.now) k ≡ Some (Fact.Says who c.left c.right)) }
+        ensures { FindsSaid (core self.now) found.now number who result }
     {
         found.number(self.saying(number, who))
     }

@@ -1,12 +1,13 @@
 //! Lines that tell why a number is in a row.
 
-ghost use Rattle.std.specs.Prelude.{◌≡◌, ◌+◌, ◌<◌, ℕ, Some, slice_get, length};
+ghost use Rattle.std.specs.Prelude.{◌≡◌, ◌<◌, ℕ, Some, slice_get, length};
 ghost use Rattle.taos_calculus.specs.declared.line.Fact.{Fact};
 ghost use Rattle.taos_calculus.specs.declared.line.Node.{Node};
 ghost use Rattle.term_pool.specs.declared.cited.Cited.{Cited};
 ghost use Rattle.goal_search.specs.Reasons.{IsAlike, IsEdge, IsReason};
 ghost use Rattle.goal_search.specs.Searching.{core, about, IsReady, IsNumber, IsRow};
 ghost use Rattle.goal_search.specs.Telling.{IsTelling, IsTold, TellsMore, TellsOf};
+ghost use Rattle.goal_search.specs.TellingSteps.{TellsJoined, TellsLifted, TellsStated};
 
 use crate::search::{AT_ONCE, OF_BOTH, Search};
 use taos_calculus::{Node, Step};
@@ -47,10 +48,7 @@ impl Search {
         requires from_in { IsNumber (core self.now) from }
         requires to_in { IsNumber (core self.now) to }
         ensures more { TellsMore (core self.now) found.old found.new }
-        ensures told { (c : Cited) → slice_get self.now.cited.items number ≡ Some c
-            → IsTold found.old (Fact.Says from c.left c.right)
-            → IsEdge (about (core self.now)) (TellsOf (core self.now) found.old) from to
-            → IsTold found.new (Fact.Says to c.left c.right) }
+        ensures told { TellsLifted (core self.now) found.old found.new number from to }
     {
         self.tell_edge(found, from, to);
         match self.says_line(found, number, from) {
@@ -99,11 +97,7 @@ impl Search {
         requires number_in { number < length self.now.cited.items }
         requires who_in { IsNumber (core self.now) who }
         ensures more { TellsMore (core self.now) found.old found.new }
-        ensures told { (c : Cited) (a b : ℕ) → slice_get self.now.cited.items number ≡ Some c
-            → slice_get self.now.nodes.items who ≡ Some (Node.And a b)
-            → IsTold found.old (Fact.Says a c.left c.right)
-            → IsTold found.old (Fact.Says b c.left c.right)
-            → IsTold found.new (Fact.Says who c.left c.right) }
+        ensures told { TellsJoined (core self.now) found.old found.new number who }
     {
         if let Node::And(a, b) = self.node(who) {
             match self.says_line(found, number, a) {
@@ -182,10 +176,7 @@ impl Search {
         requires place_in { place < length self.now.cited.items }
         requires number_in { IsNumber (core self.now) number }
         ensures more { TellsMore (core self.now) found.old found.new }
-        ensures told { (c : Cited) → slice_get self.now.cited.items place ≡ Some c
-            → IsReason (about (core self.now)) (TellsOf (core self.now) found.old)
-            (length self.now.nodes.items + place) number reason
-            → IsTold found.new (Fact.Says number c.left c.right) }
+        ensures told { TellsStated (core self.now) found.old found.new place number reason }
     {
         if reason == AT_ONCE {
             self.tell_speaker(found, place, number);

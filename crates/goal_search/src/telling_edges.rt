@@ -1,14 +1,14 @@
 //! Lines that tell an edge: how the one speaks for the other at once.
 
 ghost use Rattle.std.specs.Prelude.{◌≡◌, ◌<◌, ◌^◌, ℕ, Some, MatchOption, slice_get, length};
-ghost use Rattle.prin_term.specs.declared.term.Anchor.{Anchor};
 ghost use Rattle.taos_calculus.specs.declared.line.Fact.{Fact};
 ghost use Rattle.taos_calculus.specs.declared.line.Node.{Node};
-ghost use Rattle.term_pool.specs.Finding.{facts_in};
 ghost use Rattle.goal_search.specs.Reasons.{IsEdge};
 ghost use Rattle.goal_search.specs.Searching.{core, about, IsReady, IsNumber};
 ghost use Rattle.goal_search.specs.Telling.{IsTelling, IsTold, TellsMore, TellsOf};
-ghost use Rattle.goal_search.specs.Telling.{TellsPassed, TellsFormed};
+ghost use Rattle.goal_search.specs.Telling.{TellsActing, TellsAnchored, TellsFormed};
+ghost use Rattle.goal_search.specs.Telling.{TellsQuoted, TellsUnder};
+ghost use Rattle.goal_search.specs.TellingSteps.{FindsParts};
 
 use crate::search::Search;
 use prin_term::Anchor;
@@ -76,10 +76,7 @@ impl Search {
         requires from_in { IsNumber (core self.now) from }
         requires to_in { IsNumber (core self.now) to }
         ensures more { TellsMore (core self.now) found.old found.new }
-        ensures told { (i : ℕ) (anchor : Anchor) → slice_get self.now.anchors.items i ≡ Some anchor
-            → slice_get self.now.nodes.items from ≡ Some (Node.Key anchor.key)
-            → slice_get self.now.nodes.items to ≡ Some (Node.Name anchor.name)
-            → IsTold found.new (Fact.Speaks from to) }
+        ensures told { TellsAnchored (core self.now) found.new from to }
     {
         if let Node::Key(key) = self.node(from) {
             if let Node::Name(name) = self.node(to) {
@@ -103,11 +100,7 @@ impl Search {
         requires c_in { IsNumber (core self.now) c }
         requires d_in { IsNumber (core self.now) d }
         ensures more { TellsMore (core self.now) found.old found.new }
-        ensures told { MatchOption result
-            (TellsPassed (core self.now) found.old a c → TellsPassed (core self.now) found.old b d
-            → ⊥)
-            (λ q. (slice_get (facts_in found.new) q.0 ≡ Some (Fact.Speaks a c))
-            × (slice_get (facts_in found.new) q.1 ≡ Some (Fact.Speaks b d))) }
+        ensures told { FindsParts (core self.now) found.old found.new a b c d result }
     {
         self.tell_same(found, a, c);
         self.tell_same(found, b, d);
@@ -127,10 +120,7 @@ impl Search {
         requires from_in { IsNumber (core self.now) from }
         requires to_in { IsNumber (core self.now) to }
         ensures more { TellsMore (core self.now) found.old found.new }
-        ensures told { (a b c d : ℕ) → slice_get self.now.nodes.items from ≡ Some (Node.Quote a b)
-            → slice_get self.now.nodes.items to ≡ Some (Node.Quote c d)
-            → TellsPassed (core self.now) found.old a c → TellsPassed (core self.now) found.old b d
-            → IsTold found.new (Fact.Speaks from to) }
+        ensures told { TellsQuoted (core self.now) found.old found.new from to }
     {
         if let Node::Quote(a, b) = self.node(from) {
             if let Node::Quote(c, d) = self.node(to) {
@@ -151,10 +141,7 @@ impl Search {
         requires from_in { IsNumber (core self.now) from }
         requires to_in { IsNumber (core self.now) to }
         ensures more { TellsMore (core self.now) found.old found.new }
-        ensures told { (a b c d : ℕ) → slice_get self.now.nodes.items from ≡ Some (Node.For a b)
-            → slice_get self.now.nodes.items to ≡ Some (Node.For c d)
-            → TellsPassed (core self.now) found.old a c → TellsPassed (core self.now) found.old b d
-            → IsTold found.new (Fact.Speaks from to) }
+        ensures told { TellsActing (core self.now) found.old found.new from to }
     {
         if let Node::For(a, b) = self.node(from) {
             if let Node::For(c, d) = self.node(to) {
@@ -175,9 +162,7 @@ impl Search {
         requires from_in { IsNumber (core self.now) from }
         requires to_in { IsNumber (core self.now) to }
         ensures more { TellsMore (core self.now) found.old found.new }
-        ensures told { (a c r : ℕ) → slice_get self.now.nodes.items from ≡ Some (Node.AsRole a r)
-            → slice_get self.now.nodes.items to ≡ Some (Node.AsRole c r)
-            → TellsPassed (core self.now) found.old a c → IsTold found.new (Fact.Speaks from to) }
+        ensures told { TellsUnder (core self.now) found.old found.new from to }
     {
         if let Node::AsRole(a, role) = self.node(from) {
             if let Node::AsRole(c, other) = self.node(to) {

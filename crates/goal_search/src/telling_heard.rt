@@ -2,10 +2,10 @@
 
 ghost use Rattle.std.specs.Prelude.{◌≡◌, ◌<◌, ℕ, IsTrue, Some, slice_get, length};
 ghost use Rattle.taos_calculus.specs.declared.line.Fact.{Fact};
-ghost use Rattle.taos_calculus.specs.declared.line.Node.{Node};
 ghost use Rattle.term_pool.specs.declared.cited.Cited.{Cited};
 ghost use Rattle.goal_search.specs.Searching.{core, IsReady, IsNumber};
 ghost use Rattle.goal_search.specs.Telling.{IsTelling, IsTold, TellsMore, TellsSaid, TellsHeard};
+ghost use Rattle.goal_search.specs.TellingSteps.{TellsDelegated, TellsHanded};
 
 use crate::search::Search;
 use taos_calculus::Step;
@@ -44,9 +44,7 @@ impl Search {
         requires telling { IsTelling (core self.now) found.old }
         requires number_in { number < length self.now.cited.items }
         ensures more { TellsMore (core self.now) found.old found.new }
-        ensures told { (c : Cited) → slice_get self.now.cited.items number ≡ Some c
-            → TellsSaid (core self.now) found.old number c c.right
-            → IsTold found.new (Fact.Speaks c.left c.right) }
+        ensures told { TellsHanded (core self.now) found.old found.new number }
     {
         let it = self.cite(number);
         self.tell_said(found, number, it.right);
@@ -64,11 +62,7 @@ impl Search {
         requires telling { IsTelling (core self.now) found.old }
         requires number_in { number < length self.now.cited.items }
         ensures more { TellsMore (core self.now) found.old found.new }
-        ensures told { (c : Cited) (a b : ℕ) → slice_get self.now.cited.items number ≡ Some c
-            → slice_get self.now.nodes.items c.left ≡ Some (Node.Quote b a)
-            → slice_get self.now.nodes.items c.right ≡ Some (Node.For b a)
-            → TellsSaid (core self.now) found.old number c a
-            → IsTold found.new (Fact.Speaks c.left c.right) }
+        ensures told { TellsDelegated (core self.now) found.old found.new number }
     {
         let it = self.cite(number);
         match self.delegator(number) {

@@ -4,7 +4,7 @@ use Rattle.std.specs.Prelude.{slice_get, Contains, Option, Some, None, bytes_eq}
 use Rattle.std.specs.List.{AllZip, filter_map}
 use Rattle.std.specs.Option.{option_and_then}
 use Rattle.std.specs.Map.{lookup}
-use Rattle.lru.specs.LruCache.{LruCache}
+use Rattle.lru.specs.LruCache.{LruCache, lru_cache, put_entries}
 use Rattle.prin_term.specs.declared.term.Anchor.{Anchor}
 use Rattle.prin_term.specs.Principal.{Principal}
 use Rattle.prin_term.specs.View.{principal}
@@ -123,3 +123,10 @@ pub record IsKeptOf (here : List (Option ℕ)) (left right : Principal) (t : Tak
   pub for_these : IsFor left right k
   pub proof : k.proof ≡ t.proof
   pub cites : AllZip (IsMarked here) t.cites.items k.cites.items
+
+-- such a one came in front of the lemmas, by the key of these terms
+abbrev pub PutsLemma : (old new : LruCache (List ℕ) Kept) → List (Option ℕ) →
+    (left right : Principal) → Taken → Type 0
+PutsLemma old new here left right t =
+    (k : Kept) × IsKeptOf here left right t k
+    × (new ≡ lru_cache (put_entries bytes_eq old (key_of left right) k) old.cap)

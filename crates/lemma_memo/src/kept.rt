@@ -5,11 +5,12 @@ ghost use Rattle.std.specs.Prelude.{Contains, IsNone, IsSome, Some, bytes_eq};
 ghost use Rattle.std.specs.Int.{w32, to_be_bytes};
 ghost use Rattle.std.specs.List.{AllZip};
 ghost use Rattle.std.specs.Map.{lookup};
-ghost use Rattle.lru.specs.LruCache.{lru_cache, promoted, put_entries, IsValid};
+ghost use Rattle.lru.specs.LruCache.{lru_cache, promoted, IsValid};
 ghost use Rattle.sha2.specs.Hashers.{Holds256};
 ghost use Rattle.prin_term.specs.Principal.{spelling};
 ghost use Rattle.prin_term.specs.View.{principal};
 ghost use Rattle.lemma_memo.specs.Kept.{AreKeyed, Entry, IsFor, IsHit, IsKeptOf, IsMarked};
+ghost use Rattle.lemma_memo.specs.Kept.{PutsLemma};
 ghost use Rattle.lemma_memo.specs.Memory.{key_of};
 
 use crate::here::{Here, Numbers, Places, numbers_of, places_of};
@@ -191,10 +192,9 @@ pub fn keep(
     right: &Term,
     taken: &Taken,
 )
-    ensures kept { (lemmas.new ≡ lemmas.old) ⊎ ((k : Kept)
-        × IsKeptOf here.now.items (principal left.now) (principal right.now) taken.now k
-        × (lemmas.new ≡ lru_cache (put_entries bytes_eq lemmas.old
-        (key_of (principal left.now) (principal right.now)) k) lemmas.old.cap)) }
+    ensures kept { (lemmas.new ≡ lemmas.old)
+        ⊎ PutsLemma lemmas.old lemmas.new here.now.items (principal left.now)
+        (principal right.now) taken.now }
     ensures valid { IsValid bytes_eq lemmas.old }
 {
     let _known = lemmas.len();

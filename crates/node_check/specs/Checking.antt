@@ -1,6 +1,6 @@
 -- What is found in a request and its reply, without a clock and without the node: the first thing
 -- that is wrong with them, or that the reply's proof gives what it grants.
-use Rattle.std.specs.Prelude.{◌≡◌, ◌≢◌, ℕ, Bool, List, length, map, Option, Some, None, slice_get}
+use Rattle.std.specs.Prelude.{◌≡◌, ◌≢◌, ◌<◌, ℕ, Bool, List, length, map, Option, Some, None, slice_get}
 use Rattle.keyed_seal.specs.Keys.{key_of}
 use Rattle.object_core.specs.Operation.{right_of}
 use Rattle.prin_term.specs.Principal.{Principal}
@@ -9,6 +9,8 @@ use Rattle.stmt_codec.specs.Certificates.{Certificate}
 use Rattle.taos_calculus.specs.Monitor.{HasRight}
 use Rattle.taos_calculus.specs.Question.{claim_of}
 use Rattle.taos_calculus.specs.Rules.{Line, Judgement, SpeaksFor, Proves}
+use Rattle.taos_calculus.specs.Tables.{Parts, named}
+use Rattle.taos_calculus.specs.declared.check.Conclusion.{Conclusion}
 use Rattle.taos_wire.specs.Request.{Request, Spells, IsAsked, IsSealed, subject_of}
 use Rattle.taos_wire.specs.Reply as answers
 use Rattle.taos_wire.specs.Reply.{SpellsReply, status_of}
@@ -16,6 +18,7 @@ use Rattle.object_core.specs.Objects.{ObjectPlan, object_of}
 use Rattle.node_file.specs.Opening.{Opening}
 use Rattle.node_check.specs.declared.checking.Stop.{Stop}
 use Rattle.node_check.specs.declared.checking.Stop.TheVariants.{Wrong, NoMemory}
+use Rattle.node_check.specs.declared.finding.CheckWord.{CheckWord}
 use Rattle.node_check.specs.declared.finding.CheckWord.TheVariants as word
 use Rattle.node_check.specs.declared.finding.Finding.{Finding}
 use Rattle.node_check.specs.declared.finding.Finding.TheVariants.{Granted, Refused}
@@ -123,3 +126,37 @@ module _ (o : Opening) (request reply : Option (List ℕ)) where
 abbrev pub Stops : Opening → Option (List ℕ) → Option (List ℕ) → Stop → Type 0
 Stops o request reply (Wrong w) = Finds o request reply (Refused w)
 Stops o request reply NoMemory = Unit {0}
+
+-- ---- a grant, whatever its frames are
+
+-- a grant of this request by the place is one by this entry
+abbrev pub IsEntryAt : Opening → Request → (place : ℕ) → Grant → Type 0
+IsEntryAt o r place g =
+    (request reply : Option (List ℕ)) (lines : List Line) (certs : List Certificate) →
+    IsGrant o request reply r place lines certs → IsForEntry o request reply r place lines certs g
+
+-- a grant of this request by the place is refused by this word
+abbrev pub RefusesAt : Opening → Request → (place : ℕ) → CheckWord → Type 0
+RefusesAt o r place w =
+    (request reply : Option (List ℕ)) (lines : List Line) (certs : List Certificate) →
+    IsGrant o request reply r place lines certs → Finds o request reply (Refused w)
+
+-- this is found in a grant of the subject's by this entry
+abbrev pub FindsOfGrant : Opening → Principal → (place : ℕ) → List Line → List Certificate → Grant →
+    Finding → Type 0
+FindsOfGrant o subject place lines certs g found =
+    (request reply : Option (List ℕ)) (r : Request) → subject ≡ subject_of r →
+    IsForEntry o request reply r place lines certs g → Finds o request reply found
+
+-- ---- what a proof concludes
+
+-- the conclusion is that the one speaks for the other
+abbrev pub Concludes : Parts → Conclusion → (left right : Principal) → Type 0
+Concludes parts c left right =
+    (named parts.nodes c.left ≡ left) × (named parts.nodes c.right ≡ right)
+
+-- where the conclusion is of numbers that are there, and is that, this holds
+abbrev pub OnConclusion : Parts → Conclusion → (left right : Principal) → Type 0 → Type 0
+OnConclusion parts c left right Holds =
+    c.left < length parts.nodes → c.right < length parts.nodes →
+    named parts.nodes c.left ≡ left → named parts.nodes c.right ≡ right → Holds

@@ -1,18 +1,15 @@
 //! Looking over a request and its reply.
 
-ghost use Rattle.std.specs.Prelude.{◌≡◌, ◌↔◌, ◌<◌, ◌≤◌, List, ℕ, Option, IfErr, IfOk, IsTrue, length, map};
+ghost use Rattle.std.specs.Prelude.{◌≡◌, ◌↔◌, ◌≤◌, List, ℕ, Option, IfErr, IfOk, IsTrue, length, map};
 ghost use Rattle.std.specs.Option.{option_copied};
 ghost use Rattle.prin_term.specs.View.{grant, principal};
-ghost use Rattle.taos_calculus.specs.Tables.{lines_of, named};
+ghost use Rattle.taos_calculus.specs.Tables.{lines_of};
 ghost use Rattle.taos_wire.specs.Reply.{FitsReply};
-ghost use Rattle.taos_wire.specs.Request.{Request as Asked, subject_of};
 ghost use Rattle.taos_wire.specs.View.{cited, reply as reply_is, request as request_is};
 ghost use Rattle.node_file.specs.Meaning.{opening};
 ghost use Rattle.node_file.specs.Opening.{Opening as Node};
-ghost use Rattle.node_check.specs.Checking.{Finds, HasAsked, IsBelieved, IsForEntry, IsGrant, Stops};
+ghost use Rattle.node_check.specs.Checking.{Concludes, Finds, FindsOfGrant, HasAsked, IsBelieved, IsEntryAt, OnConclusion, RefusesAt, Stops};
 ghost use Rattle.node_check.specs.declared.finding.Finding.{Finding as Found};
-ghost use Rattle.taos_calculus.specs.Rules.{Line};
-ghost use Rattle.stmt_codec.specs.Certificates.{Certificate};
 
 use crate::finding::{CheckWord, Finding};
 use keyed_seal::Sealer;
@@ -101,15 +98,9 @@ fn replied_of(
 
 // The entry by which a grant is given, where it has the right.
 fn entry_of<'a>(node: &'a Opening, asked: &Request, place: u8) -> Result<&'a Entry, CheckWord>
-    ensures stands { IfOk result (λ entry. (q p : Option (List ℕ)) (lines : List Line)
-        (certs : List Certificate)
-        → IsGrant (opening node.now) q p (request_is asked.now) place lines certs
-        → IsForEntry (opening node.now) q p (request_is asked.now) place lines certs
-        (grant entry.now)) }
-    ensures stops { IfErr result (λ word. (q p : Option (List ℕ)) (lines : List Line)
-        (certs : List Certificate)
-        → IsGrant (opening node.now) q p (request_is asked.now) place lines certs
-        → Finds (opening node.now) q p (Finding.Refused word)) }
+    ensures stands { IfOk result
+        (λ entry. IsEntryAt (opening node.now) (request_is asked.now) place (grant entry.now)) }
+    ensures stops { IfErr result (RefusesAt (opening node.now) (request_is asked.now) place) }
 {
     let Some(plan) = node.objects.get(asked.object) else {
         return Err(CheckWord::Object);
@@ -138,12 +129,10 @@ fn granted(place: u8, proof: &Proof, certs: &[Arc<Cert>]) -> Finding
 
 // Whether the conclusion of a proof is that the one speaks for the other.
 fn concludes(proof: &Proof, conclusion: Conclusion, subject: &Term, who: &Term) -> bool
-    ensures yes { IsTrue result → (named proof.now.nodes conclusion.left ≡ principal subject.now)
-        × (named proof.now.nodes conclusion.right ≡ principal who.now) }
-    ensures no { conclusion.left < length proof.now.nodes
-        → conclusion.right < length proof.now.nodes
-        → named proof.now.nodes conclusion.left ≡ principal subject.now
-        → named proof.now.nodes conclusion.right ≡ principal who.now → IsTrue result }
+    ensures yes { IsTrue result
+        → Concludes proof.now conclusion (principal subject.now) (principal who.now) }
+    ensures no { OnConclusion proof.now conclusion (principal subject.now) (principal who.now)
+        (IsTrue result) }
 {
     proof.node_is(conclusion.left, subject) && proof.node_is(conclusion.right, who)
 }
@@ -158,10 +147,8 @@ fn judged(
     certs: &[Arc<Cert>],
 ) -> Finding
     requires { length certs.now ≤ MAX_CITED }
-    ensures { (q p : Option (List ℕ)) (r : Asked) → principal subject.now ≡ subject_of r
-        → IsForEntry (opening node.now) q p r place (lines_of proof.now) (map cited certs.now)
-        (grant entry.now)
-        → Finds (opening node.now) q p result }
+    ensures { FindsOfGrant (opening node.now) (principal subject.now) place (lines_of proof.now)
+        (map cited certs.now) (grant entry.now) result }
 {
     let Ok(conclusion) = check_proof(&node.anchors, certs, proof) else {
         return Finding::Refused(CheckWord::Proof);

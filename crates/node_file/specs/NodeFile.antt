@@ -1,6 +1,6 @@
 -- What a node file means.
 use Rattle.std.specs.Prelude.{ℕ, nat_le, codes, if◌then◌else◌}
-use Rattle.std.specs.Prelude.{List, [], length, None, Result, Ok, Err}
+use Rattle.std.specs.Prelude.{List, [], length, Option, None, Result, Ok, Err}
 use Rattle.std.specs.Option.{unwrap_or}
 use Rattle.keyed_seal.specs.Keys.{Entries}
 use Rattle.object_core.specs.Objects.{ObjectPlan}
@@ -18,7 +18,8 @@ use Rattle.node_file.specs.declared.node_text.kind.LineKind.{LineKind}
 use Rattle.node_file.specs.declared.node_text.kind.LineKind.TheVariants as kinds
 use Rattle.node_file.specs.declared.node_text.settings.Settings.{Settings}
 use Rattle.file_lines.specs.Fields.{if_plain, some_or}
-use Rattle.file_lines.specs.FileLines.{LineStep, file_makes, is_first_line, keys_with, texts_with}
+use Rattle.file_lines.specs.FileLines.{LineStep, file_makes, first_or, is_first_line}
+use Rattle.file_lines.specs.FileLines.{keys_with, texts_with}
 use Rattle.file_lines.specs.Lines.{lines_from, word_off}
 use Rattle.node_file.specs.NodeLines.{anchors_with, commons_with, contents_with, grants_with}
 use Rattle.node_file.specs.NodeLines.{kind_of, objects_with, settings_with}
@@ -98,6 +99,10 @@ unfoldable pub node_step : LineStep Draft
 node_step above line =
     let w = word_off line in
     some_or UnknownWord (kind_of w.0) >>= λ kind. if_plain line (adds above kind w.1)
+
+-- the same where the first line says what file it is, and adds nothing
+abbrev pub any_node_step : LineStep (Option Draft)
+any_node_step = first_or (is_first_line (codes "taos")) no_draft node_step
 
 -- what the lines of a node file say together
 unfoldable pub draft_in : List ℕ → Result Draft FileFault

@@ -1,8 +1,13 @@
 -- What the program's lines of a node file so far stand for.
-use Rattle.std.specs.Prelude.{◌≡◌, map}
+use Rattle.std.specs.Prelude.{◌≡◌, List, Result, map}
+use Rattle.object_core.specs.Objects.{ObjectPlan}
+use Rattle.prin_text.specs.Labels.{Labels}
+use Rattle.file_lines.specs.declared.fault.FileCause.{FileCause}
+use Rattle.file_lines.specs.declared.line_fault.LineFault.{LineFault}
 use Rattle.node_file.specs.declared.limits.TheConstants.{MAX_CHANNELS}
 use Rattle.node_file.specs.declared.node_text.draft.Draft as code
 use Rattle.file_lines.specs.Held.{HoldsKeys, HoldsRows}
+use Rattle.file_lines.specs.LineView.{TakesLine}
 use Rattle.node_file.specs.NodeFile.{Draft}
 use Rattle.node_file.specs.OpeningView.{common}
 use Rattle.node_file.specs.Plans.{HoldsPlans}
@@ -18,3 +23,12 @@ pub record IsDraftOf (draft : code.Draft) (d : Draft) : Type 0 where
   pub anchors : draft.anchors.items ≡ d.anchors
   pub commons : map common draft.commons.items ≡ d.commons
   pub objects : HoldsPlans draft.objects d.objects
+
+-- an entry of an access list was taken, whatever texts and objects the lines above say: these names
+-- hold the texts, and the old objects held the objects
+abbrev pub TakesGrant : Labels → (old new : List ObjectPlan) → Result Unit LineFault →
+    (Labels → List ObjectPlan → Result (List ObjectPlan) FileCause) → Type 0
+TakesGrant names old new result want =
+    (labels : Labels) (above : List ObjectPlan) → HoldsRows names.names labels.names →
+    HoldsRows names.roles labels.roles → HoldsPlans old above →
+    TakesLine HoldsPlans result new (want labels above)

@@ -13,7 +13,8 @@ use Rattle.node_file.specs.declared.limits.TheConstants.{MAX_FILE, MAX_ISSUERS, 
 use Rattle.node_file.specs.declared.relay_kind.RelayKind.{RelayKind}
 use Rattle.node_file.specs.declared.relay_kind.RelayKind.TheVariants as kinds
 use Rattle.file_lines.specs.Fields.{if_plain, some_or}
-use Rattle.file_lines.specs.FileLines.{LineStep, file_makes, is_first_line, keys_with, texts_with}
+use Rattle.file_lines.specs.FileLines.{LineStep, file_makes, first_or, is_first_line}
+use Rattle.file_lines.specs.FileLines.{keys_with, texts_with}
 use Rattle.file_lines.specs.Lines.{lines_from, word_off}
 
 -- what a relay knows: the keys of issuers and of nodes, and the texts of names and of roles
@@ -68,6 +69,10 @@ unfoldable pub relay_step : LineStep RelayFile
 relay_step above line =
     let w = word_off line in
     some_or UnknownWord (relay_kind w.0) >>= λ kind. if_plain line (relay_adds above kind w.1)
+
+-- the same where the first line says what file it is, and adds nothing
+abbrev pub any_relay_step : LineStep (Option RelayFile)
+any_relay_step = first_or (is_first_line (codes "taos-relay")) no_relay relay_step
 
 -- what a relay file means, or why it is refused: one that is too long is refused at no line
 unfoldable pub relay_in : List ℕ → Result RelayFile FileFault

@@ -1,9 +1,9 @@
 //! Reading a relay file.
 
-ghost use Rattle.std.specs.Prelude.{◌≡◌, IfOk, Ok, Option, codes, true};
-ghost use Rattle.file_lines.specs.FileLines.{first_or, is_first_line};
+ghost use Rattle.std.specs.Prelude.{◌≡◌, IfOk, Ok, Option, true};
 ghost use Rattle.node_file.specs.RelayFile as meant;
-ghost use Rattle.node_file.specs.RelayFile.{no_relay, relay_adds, relay_in, relay_step};
+ghost use Rattle.node_file.specs.RelayFile.{any_relay_step, no_relay, relay_adds, relay_in};
+ghost use Rattle.node_file.specs.RelayFile.{relay_step};
 ghost use Rattle.file_lines.specs.LineView.{IsReadFor, TakesLine};
 ghost use Rattle.node_file.specs.RelayView.{IsRelayDraft, StandsFor, StandsSoFar};
 
@@ -89,7 +89,7 @@ fn take_line(alloc: Global, file: &mut RelayDraft, line: &[u8]) -> Result<(), Li
 fn take_any(alloc: Global, file: &mut RelayDraft, begun: bool, line: &[u8]) -> Result<(), LineFault>
     ensures takes { (so_far : Option meant.RelayFile) → StandsSoFar begun file.old so_far
         → TakesLine (StandsSoFar true) result file.new
-        (first_or (is_first_line (codes "taos-relay")) no_relay relay_step so_far line.now) }
+        (any_relay_step so_far line.now) }
 {
     if begun {
         return take_line(alloc, file, line);

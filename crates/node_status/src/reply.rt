@@ -13,8 +13,7 @@ ghost use Rattle.std.specs.Prelude.{
   IsTrue,
   length,
 };
-ghost use Rattle.byte_fields.specs.Formats.{u8_in, u32_in, u64_in};
-ghost use Rattle.taos_wire.specs.Heads.{read};
+ghost use Rattle.byte_fields.specs.Formats.{u8_in};
 ghost use Rattle.taos_wire.specs.Reply.{Reply, SpellsReply};
 ghost use Rattle.taos_wire.specs.declared.reply_writing.TheConstants.{VERSION};
 ghost use Rattle.node_status.specs.Replies.{
@@ -29,8 +28,7 @@ ghost use Rattle.node_status.specs.Replies.{
 };
 ghost use Rattle.node_status.specs.Words.{link_word};
 
-use byte_fields::{ended, u8_at, u32_at, u64_at};
-use taos_wire::{ReplyHead, head_at};
+use taos_wire::{ReplyHead, byte_of, head_at, long_of, word_of};
 
 /// The bytes of a reply in which all stands that is told of it.
 pub const FRONT: usize = 28;
@@ -94,45 +92,6 @@ pub(crate) fn link_word_of(kind: u8) -> &'static str
         MISSING => "missing",
         NO_ENTRY => "no-entry",
         _ => "early",
-    }
-}
-
-#[tactic(auto, unfolding(byte_fields::specs::Steps::byte_at))]
-fn byte_of(front: &[u8], at: usize) -> Option<u8>
-    ensures { result ≡ read (u8_in front.now at) }
-{
-    if at > front.len() {
-        return None;
-    }
-    match u8_at(front, at, ended(front)) {
-        Ok((byte, _)) => Some(byte),
-        Err(_) => None,
-    }
-}
-
-#[tactic(auto, unfolding(byte_fields::specs::Steps::number_at))]
-fn word_of(front: &[u8], at: usize) -> Option<u32>
-    ensures { result ≡ read (u32_in front.now at) }
-{
-    if at > front.len() {
-        return None;
-    }
-    match u32_at(front, at, ended(front)) {
-        Ok((word, _)) => Some(word),
-        Err(_) => None,
-    }
-}
-
-#[tactic(auto, unfolding(byte_fields::specs::Steps::number_at))]
-fn long_of(front: &[u8], at: usize) -> Option<u64>
-    ensures { result ≡ read (u64_in front.now at) }
-{
-    if at > front.len() {
-        return None;
-    }
-    match u64_at(front, at, ended(front)) {
-        Ok((long, _)) => Some(long),
-        Err(_) => None,
     }
 }
 

@@ -1,5 +1,5 @@
 -- The bytes of a content, of an access list and of an operation, and which bytes begin with them.
-use Rattle.std.specs.Prelude.{◌≡◌, ℕ, List, [], ◌∷◌, ◌++◌, length, drop}
+use Rattle.std.specs.Prelude.{◌≡◌, ◌+◌, ℕ, List, [], ◌∷◌, ◌++◌, length, drop}
 use Rattle.std.specs.Int.{w16, w32, to_be_bytes}
 use Rattle.std.specs.List.{flat_map}
 use Rattle.prin_term.specs.Principal.{spelling}
@@ -58,3 +58,8 @@ pub record IsListAt (bytes : List ℕ) (at : ℕ) (list : List Grant) : Type 0 w
 pub record IsOperationAt (bytes : List ℕ) (at : ℕ) (op : Op) : Type 0 where
   pub text : (rest : List ℕ) × (drop at bytes ≡ op_fields op ++ rest)
   pub limits : FitsOperation op
+
+-- the same of an operation of this kind, whose fields end at this offset
+abbrev pub IsOperationUpTo : List ℕ → (kind at : ℕ) → Op → ℕ → Type 0
+IsOperationUpTo bytes kind at op end =
+    (kind_of op ≡ kind) × IsOperationAt bytes at op × (end ≡ at + length (op_fields op))

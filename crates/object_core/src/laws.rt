@@ -5,7 +5,7 @@ ghost use Rattle.object_core.specs.Objects.{ChangesByGrants, StaysWhenDenied};
 ghost use Rattle.object_core.specs.Operation.{Op};
 ghost use Rattle.object_core.specs.Reading.{content_at, fields_at, list_at};
 ghost use Rattle.object_core.specs.Spelling.{content_bytes, list_bytes, IsContentAt, IsListAt};
-ghost use Rattle.object_core.specs.Spelling.{kind_of, op_fields, IsOperationAt};
+ghost use Rattle.object_core.specs.Spelling.{kind_of, IsOperationUpTo};
 ghost use Rattle.byte_fields.specs.declared.fault.FormatFault.{FormatFault};
 ghost use Rattle.byte_fields.specs.Formats.{IsFaultIn};
 ghost use Rattle.byte_fields.specs.Steps.{IsByte};
@@ -37,9 +37,8 @@ pub fn lists_are_read()
 pub fn operations_are_read()
     ensures named { (op : Op) → (1 ≤ kind_of op) × (kind_of op ≤ LAST_KIND) }
     ensures read { (bytes : List ℕ) (op : Op) (kind at end : ℕ) → 1 ≤ kind → kind ≤ LAST_KIND
-        → at ≤ length bytes → All IsByte bytes → (fields_at bytes kind at ≡ Ok (op, end))
-        ↔ ((kind_of op ≡ kind) × IsOperationAt bytes at op
-        × (end ≡ at + length (op_fields op))) }
+        → at ≤ length bytes → All IsByte bytes
+        → (fields_at bytes kind at ≡ Ok (op, end)) ↔ IsOperationUpTo bytes kind at op end }
     ensures refused { (bytes : List ℕ) (kind at : ℕ) (f : FormatFault) → at ≤ length bytes
         → All IsByte bytes → fields_at bytes kind at ≡ Err f → IsFaultIn bytes f }
 {}

@@ -1,6 +1,6 @@
 //! Rows of kept proofs.
 
-ghost use Rattle.std.specs.Prelude.{◌≡◌, ◌-◌, ◌≤◌, map, take, vec_capacity};
+ghost use Rattle.std.specs.Prelude.{◌≡◌, ◌-◌, ◌≤◌, All, IsTrue, false, map, take, vec_capacity};
 ghost use Rattle.std.specs.List.{list_any};
 ghost use Rattle.prin_term.specs.View.{principal};
 ghost use Rattle.proof_cache.specs.Cached.{cached};
@@ -129,11 +129,27 @@ pub(crate) fn drop_issued(rows: &mut Vec<Row>, issuer: u32)
     rows.retain(|row| !cites_issuer(&row.proof, issuer));
 }
 
+// Whether no lease has ended.
+fn are_unended(rows: &[Row], clock: u64) -> bool
+    ensures { IsTrue result → All (λ c. has_lapsed clock c ≡ false) (map kept rows.now) }
+{
+    for place in 0..rows.len() {
+        if rows[place].proof.lease <= clock {
+            return false;
+        }
+    }
+    true
+}
+
 /// Drops the proofs whose lease has ended.
 pub(crate) fn drop_lapsed(rows: &mut Vec<Row>, clock: u64)
     ensures left { map kept rows.new.items ≡ without (has_lapsed clock) (map kept rows.old.items) }
     ensures capacity { vec_capacity rows.new ≡ vec_capacity rows.old }
 {
+    // Most often none has, and then no row is moved.
+    if are_unended(rows, clock) {
+        return;
+    }
     rows.retain(|row| clock < row.proof.lease);
 }
 

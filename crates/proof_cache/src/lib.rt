@@ -11,4 +11,5 @@ mod row;
 pub use cache::Cache;
 pub use cached::{Cached, lease_of};
 pub use limit_laws::limits_are;
+pub use mark::mark_of;
 pub use row::MAX_KEPT;

@@ -21,10 +21,16 @@ fn lease(alloc: Global, ends: &[u64]) -> Result<u64, Fail> {
     Ok(lease_of(&cites))
 }
 
+const LEASES: &[(&[u64], u64)] = &[
+    (&[2000, 1500, 1501], 1500),
+    (&[2000], 2000),
+    (&[], 18446744073709551615),
+];
+
 #[test]
 fn the_first_end_counts(rt: HostRuntime) -> Result<(), Fail> {
-    assert!(rt; lease(rt.alloc(), &[2000, 1500, 1501])? == 1500);
-    assert!(rt; lease(rt.alloc(), &[2000])? == 2000);
-    assert!(rt; lease(rt.alloc(), &[])? == 18446744073709551615);
+    for &(ends, end) in LEASES {
+        assert!(rt; lease(rt.alloc(), ends)? == end, "at {end}");
+    }
     Ok(())
 }

@@ -8,7 +8,7 @@ use Rattle.frame_link.specs.Served.{Line, line, Turn, payloads_of, Chain, AreAns
 use Rattle.frame_link.proofs.States.{served_as}
 use Rattle.relay_core.specs.declared.resealing.RelayTable.{RelayTable}
 use Rattle.relay_core.specs.Messages.{Replies}
-use Rattle.relay_core.specs.Serving.{Answers, GivesUp}
+use Rattle.relay_core.specs.Serving.{Answers, GivesUp, IsReply}
 
 module _ {S : Type 0} (table_of : S → RelayTable) (table : RelayTable) where
   -- by what holds the table
@@ -27,9 +27,6 @@ module _ {S : Type 0} (table_of : S → RelayTable) (table : RelayTable) where
       limit before after outcome is served
 
 -- ---- each turn by itself
-
-abbrev pub IsReply : RelayTable → Turn → Type 0
-IsReply table t = Replies table.issuers.entries table.nodes.entries t.payload t.reply
 
 each_of : (table s : RelayTable) (turns : List Turn) (t : RelayTable) → s ≡ table → Chain Answers s turns t → All (IsReply table) turns
 each_of table s [] t is chain = All-nil (IsReply table)

@@ -5,12 +5,11 @@ ghost use Rattle.keyed_seal.specs.Keys.{Entries};
 ghost use Rattle.stmt_codec.specs.Certificates.{Certificate, IsWithinLimits};
 ghost use Rattle.frame_link.specs.declared.outcome.Outcome.{Outcome};
 ghost use Rattle.frame_link.specs.Relay.{Said};
-ghost use Rattle.frame_link.specs.Served.{Line, Turn, IsServed, payloads_of};
+ghost use Rattle.frame_link.specs.Served.{Line, IsServed, payloads_of};
 ghost use Rattle.sealed_cert.specs.Seals.{sealed};
 ghost use Rattle.relay_core.specs.declared.resealing.RelayTable.{RelayTable};
-ghost use Rattle.relay_core.specs.Messages.{Replies};
 ghost use Rattle.relay_core.specs.Resealing.{resealed, IsResealed};
-ghost use Rattle.relay_core.specs.Serving.{Answers, GivesUp};
+ghost use Rattle.relay_core.specs.Serving.{Answers, GivesUp, IsReply};
 
 /// Of the cases of resealing one holds of any bytes, and no other.
 pub fn one_case_holds()
@@ -32,8 +31,7 @@ pub fn sealed_certificates_are_short()
 pub fn each_turn_is_a_reply()
     ensures replies { (limit : ℕ) (before after : Line RelayTable) (outcome : Outcome)
         → (served : IsServed Answers GivesUp limit before after outcome)
-        → All (λ (t : Turn). Replies before.service.issuers.entries before.service.nodes.entries
-        t.payload t.reply) served.turns }
+        → All (IsReply before.service) served.turns }
     ensures all { (limit : ℕ) (before after : Line RelayTable) (outcome : Outcome)
         → (served : IsServed Answers GivesUp limit before after outcome)
         → served.payloads ≡ payloads_of served.turns }

@@ -22,15 +22,36 @@ use stmt_codec::Cert;
 /// The most certificates that are kept at a time.
 pub const OPENED_ROOM: usize = 256;
 
+// Bytes, and the certificate that they opened to.
+#[derive(Drop)]
+pub(crate) struct KeptCert {
+    bytes: Vec<u8>,
+    cert: Arc<Cert>,
+}
+
+// The number by which bytes are looked for: their last eight, which are of a tag. So equal numbers
+// of other bytes are as rare as equal tags.
+fn number_of(text: &[u8]) -> u64 {
+    match text.last_chunk::<8>() {
+        Some(last) => u64::from_be_bytes(*last),
+        None => 0,
+    }
+}
+
 // The certificate that is kept by the bytes, which becomes the one used last.
-fn recall(certs: &mut LruCache<Vec<u8>, Arc<Cert>>, text: &[u8]) -> Option<Arc<Cert>>
+fn recall(certs: &mut LruCache<u64, KeptCert>, text: &[u8]) -> Option<Arc<Cert>>
     ensures kept { IfSome result
         (λ c. IsKeptBy certs.old.entries text.now (arc_value c)) }
     ensures no_more { (e : Kept) → Contains certs.new.entries e → Contains certs.old.entries e }
 {
-    match Arc::try_clone(certs.peek(text)?) {
+    let number = number_of(text);
+    let kept = certs.peek(&number)?;
+    if kept.bytes.as_slice() != text {
+        return None;
+    }
+    match Arc::try_clone(&kept.cert) {
         Ok(cert) => {
-            certs.promote(text);
+            certs.promote(&number);
             Some(cert)
         }
         Err(_) => None,
@@ -38,7 +59,7 @@ fn recall(certs: &mut LruCache<Vec<u8>, Arc<Cert>>, text: &[u8]) -> Option<Arc<C
 }
 
 // Keeps a certificate by its bytes, unless memory is refused.
-fn keep(certs: &mut LruCache<Vec<u8>, Arc<Cert>>, alloc: Global, text: &[u8], cert: &Arc<Cert>)
+fn keep(certs: &mut LruCache<u64, KeptCert>, alloc: Global, text: &[u8], cert: &Arc<Cert>)
     ensures { KeepsAtMost certs.old.entries certs.new.entries text.now
         (arc_value cert.now) }
 {
@@ -46,7 +67,7 @@ fn keep(certs: &mut LruCache<Vec<u8>, Arc<Cert>>, alloc: Global, text: &[u8], ce
         return;
     };
     if let Ok(cert) = Arc::try_clone(cert) {
-        drop(certs.put(bytes, cert));
+        drop(certs.put(number_of(text), KeptCert { bytes, cert }));
     }
 }
 
@@ -55,7 +76,7 @@ fn keep(certs: &mut LruCache<Vec<u8>, Arc<Cert>>, alloc: Global, text: &[u8], ce
 #[derive(Drop)]
 pub struct OpenedCerts {
     key: Sealer,
-    certs: Option<LruCache<Vec<u8>, Arc<Cert>>>,
+    certs: Option<LruCache<u64, KeptCert>>,
 }
 
 impl Model for OpenedCerts {

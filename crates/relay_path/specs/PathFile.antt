@@ -8,7 +8,7 @@ use Rattle.file_lines.specs.declared.fault.FileFault.{FileFault}
 use Rattle.file_lines.specs.declared.fault.FileFault.TheVariants.{Line}
 use Rattle.file_lines.specs.declared.limits.TheConstants.{MAX_FILE}
 use Rattle.file_lines.specs.Fields.{if_plain, one_number, some_or, two_numbers_and_key}
-use Rattle.file_lines.specs.FileLines.{LineStep, file_makes, first_of, is_first_line, key_cause, unless}
+use Rattle.file_lines.specs.FileLines.{LineStep, file_makes, first_of, first_or, is_first_line, key_cause, unless}
 use Rattle.file_lines.specs.Lines.{lines_from, word_off}
 use Rattle.relay_path.specs.declared.limits.TheConstants.{MAX_DOMAINS, MAX_ISSUERS, MAX_NODES, MAX_LINKS}
 use Rattle.relay_path.specs.declared.path_kind.PathKind.{PathKind}
@@ -105,6 +105,10 @@ unfoldable pub path_step : LineStep (List DomainKnows)
 path_step above line =
     let w = word_off line in
     some_or UnknownWord (path_kind w.0) >>= λ kind. if_plain line (path_adds above kind w.1)
+
+-- the same where the first line says what file it is, and adds nothing
+abbrev pub any_path_step : LineStep (Option (List DomainKnows))
+any_path_step = first_or (is_first_line (codes "taos-path")) [] path_step
 
 -- what a path file means, or why it is refused: one that is too long is refused at no line
 unfoldable pub path_in : List ℕ → Result (List DomainKnows) FileFault

@@ -60,6 +60,16 @@ pub record IsPath (ds : List DomainKnows) (route : List ℕ) (node : ℕ) (bytes
   pub linked : AreKeys ds node route keys
   pub are : forms ≡ forms_of [] route keys c
 
+-- there is such a path
+abbrev pub HasPath : List DomainKnows → List ℕ → ℕ → List ℕ → Type 0
+HasPath ds route node bytes = (forms : List (List ℕ)) × IsPath ds route node bytes forms
+
+-- the forms of two such paths are the same
+abbrev pub HasOnePath : List DomainKnows → List ℕ → ℕ → List ℕ → Type 0
+HasOnePath ds route node bytes =
+    (forms others : List (List ℕ)) → IsPath ds route node bytes forms →
+    IsPath ds route node bytes others → forms ≡ others
+
 -- the domain of the last number has the node, and the last form opens under its key to c
 abbrev pub LastOpens : List DomainKnows → List ℕ → ℕ → List (List ℕ) → Certificate → Type 0
 LastOpens ds route node forms c =
@@ -112,6 +122,10 @@ pub data IsStopped (ds : List DomainKnows) (route : List ℕ) (node : ℕ) (byte
       ¬ IsCarried bytes → All (IsNumberOf ds) route →
       Reaches ds route node bytes place given → HopsAt ds route node place given (Refuses code) →
       IsStopped ds route node bytes place code
+
+-- the route stops somewhere
+abbrev pub Stops : List DomainKnows → List ℕ → ℕ → List ℕ → Type 0
+Stops ds route node bytes = (hop : ℕ) × (code : ℕ) × IsStopped ds route node bytes hop code
 
 -- ---- what is told of it
 

@@ -1,15 +1,13 @@
 //! Laws of hops and of paths, stated as contracts of functions that do nothing.
 
-ghost use Rattle.std.specs.Prelude.{◌≡◌, ◌⊎◌, ◌<◌, ◌≤◌, ℕ, List, All, length};
+ghost use Rattle.std.specs.Prelude.{◌≡◌, ◌⊎◌, ◌<◌, ℕ, List, All};
 ghost use Rattle.frame_link.specs.Relay.{Said};
-ghost use Rattle.sealed_cert.specs.Seals.{Opens};
-ghost use Rattle.stmt_codec.specs.Certificates.{Certificate};
-ghost use Rattle.relay_path.specs.declared.limits.TheConstants.{MAX_ROUTE};
 ghost use Rattle.relay_path.specs.declared.answer.Target.{Target};
-ghost use Rattle.relay_path.specs.Domains.{DomainKnows, LinksAgree};
+ghost use Rattle.relay_path.specs.Domains.{DomainKnows};
 ghost use Rattle.relay_path.specs.Hopping.{IsHop};
 ghost use Rattle.relay_path.specs.Opening.{hopped};
-ghost use Rattle.relay_path.specs.Paths.{IsPath, IsRoute, IsStopped, LastOpens, OpensAtFirst};
+ghost use Rattle.relay_path.specs.Paths.{HasOnePath, HasPath, IsPath, IsRoute, IsStopped};
+ghost use Rattle.relay_path.specs.Paths.{LastOpens, Stops};
 
 /// Of the cases of a hop one holds of any bytes, and no other.
 pub fn one_hop_holds()
@@ -22,15 +20,12 @@ pub fn one_hop_holds()
 /// A route of some domains leads to the node, or stops: one of both, and in one way.
 pub fn paths_are_done()
     ensures some { (ds : List DomainKnows) (route bytes : List ℕ) (node : ℕ)
-        → IsRoute ds route bytes
-        → ((forms : List (List ℕ)) × IsPath ds route node bytes forms)
-        ⊎ ((hop : ℕ) × (code : ℕ) × IsStopped ds route node bytes hop code) }
+        → IsRoute ds route bytes → HasPath ds route node bytes ⊎ Stops ds route node bytes }
     ensures apart { (ds : List DomainKnows) (route bytes : List ℕ) (node hop code : ℕ)
         (forms : List (List ℕ)) → IsRoute ds route bytes → IsPath ds route node bytes forms
         → ¬ IsStopped ds route node bytes hop code }
     ensures one_path { (ds : List DomainKnows) (route bytes : List ℕ) (node : ℕ)
-        (forms others : List (List ℕ)) → IsRoute ds route bytes → IsPath ds route node bytes forms
-        → IsPath ds route node bytes others → forms ≡ others }
+        → IsRoute ds route bytes → HasOnePath ds route node bytes }
     ensures one_stop { (ds : List DomainKnows) (route bytes : List ℕ) (node hop code h c : ℕ)
         → IsRoute ds route bytes → IsStopped ds route node bytes hop code
         → IsStopped ds route node bytes h c → (hop ≡ h) × (code ≡ c) }

@@ -1,11 +1,10 @@
 //! Reading a path file.
 
-ghost use Rattle.std.specs.Prelude.{◌≡◌, List, Option, Vec, codes, true, [], IfOk, map};
+ghost use Rattle.std.specs.Prelude.{◌≡◌, List, Option, Vec, true, IfOk, map};
 ghost use Rattle.byte_fields.specs.Steps.{with_fault};
-ghost use Rattle.file_lines.specs.FileLines.{first_or, is_first_line};
 ghost use Rattle.file_lines.specs.LineView.{IsReadFor, TakesLine};
 ghost use Rattle.relay_path.specs.Domains.{DomainKnows, LinksAgree, knows};
-ghost use Rattle.relay_path.specs.PathFile.{path_adds, path_in, path_step};
+ghost use Rattle.relay_path.specs.PathFile.{any_path_step, path_adds, path_in, path_step};
 ghost use Rattle.relay_path.specs.PathView.{AreDomainDrafts, file_fault, path_cause, StandForDomains};
 ghost use Rattle.relay_path.specs.PathView.{IsPathFault, StandSoFar};
 
@@ -64,7 +63,7 @@ fn take_any(
 ) -> Result<(), LineFault>
     ensures takes { (so_far : Option (List DomainKnows)) → StandSoFar begun drafts.old.items so_far
         → TakesLine (StandSoFar true) result drafts.new.items
-        (first_or (is_first_line (codes "taos-path")) [] path_step so_far line.now) }
+        (any_path_step so_far line.now) }
 {
     if begun {
         return take_line(alloc, drafts, line);

@@ -1,7 +1,6 @@
 -- With which refusal bytes do not open.
 use Rattle.std.specs.Prelude.{◌≡◌, ◌≢◌, ℕ, ◌+◌, ◌<◌, List, [], ◌∷◌, ◌++◌, length, None, Some, Err}
 use Rattle.keyed_seal.specs.Keys.{Entries, key_of}
-use Rattle.keyed_seal.specs.Tag.{tag_of}
 use Rattle.byte_fields.specs.declared.fault.FormatFault.TheVariants as formats
 use Rattle.stmt_codec.specs.Certificates.{Certificate, HasBodySpelling, IsWithinLimits}
 use Rattle.stmt_codec.specs.Reading.{body_at}
@@ -10,7 +9,7 @@ use Rattle.sealed_cert.specs.declared.fault.SealFault.TheVariants.{Malformed, Un
 use Rattle.sealed_cert.specs.declared.fault.SealFault.TheVariants.{BadSeal, WrongKind, NoMemory}
 use Rattle.keyed_seal.specs.declared.tag.TheConstants.{TAG_LEN}
 use Rattle.sealed_cert.specs.declared.kind.TheConstants.{ISSUED, RELAYED}
-use Rattle.sealed_cert.specs.Seals.{sealed_text, Spells}
+use Rattle.sealed_cert.specs.Seals.{sealed_text, IsBadTag, Spells}
 
 -- the bytes are c after the byte of a kind, within the limits, and a tail, whatever it is
 pub record HasTail (kind : ℕ) (bytes : List ℕ) (c : Certificate) (tail : List ℕ) : Type 0 where
@@ -47,7 +46,7 @@ IsRefused key bytes (WrongKind k) = (k ≡ ISSUED) × IsOfKind ISSUED bytes
 IsRefused key bytes (UnknownIssuer i) = ⊥
 IsRefused key bytes BadSeal =
     (c : Certificate) × (tag : List ℕ) × Spells RELAYED bytes c tag
-    × (tag ≢ tag_of key (sealed_text RELAYED c))
+    × IsBadTag RELAYED key c tag
 IsRefused key bytes NoMemory = ⊥
 
 -- why bytes do not open under an issuer's key of a table, with this refusal
@@ -59,5 +58,5 @@ IsRefusedIssued entries bytes (UnknownIssuer i) =
     × (key_of entries c.issuer ≡ None) × (i ≡ c.issuer)
 IsRefusedIssued entries bytes BadSeal =
     (c : Certificate) × (tag key : List ℕ) × Spells ISSUED bytes c tag
-    × (key_of entries c.issuer ≡ Some key) × (tag ≢ tag_of key (sealed_text ISSUED c))
+    × (key_of entries c.issuer ≡ Some key) × IsBadTag ISSUED key c tag
 IsRefusedIssued entries bytes NoMemory = ⊥

@@ -1,6 +1,6 @@
 -- Sealed certificates: a front, as the byte of a kind, a body, and the tag of both, which ends the
 -- bytes.
-use Rattle.std.specs.Prelude.{◌≡◌, ℕ, List, [], ◌∷◌, ◌++◌, length, Some}
+use Rattle.std.specs.Prelude.{◌≡◌, ◌≢◌, ℕ, List, [], ◌∷◌, ◌++◌, length, Some}
 use Rattle.keyed_seal.specs.Keys.{Entries, key_of}
 use Rattle.keyed_seal.specs.Tag.{tag_of}
 use Rattle.stmt_codec.specs.Certificates.{Certificate, body_spelling, HasBodySpelling}
@@ -41,6 +41,10 @@ sealed kind key c = sealed_after (kind ∷ []) key c
 -- the bytes are c, after the byte of a kind, and as many more as a tag has
 abbrev pub Spells : ℕ → List ℕ → Certificate → List ℕ → Type 0
 Spells kind bytes c tag = SpellsAfter (kind ∷ []) bytes c tag
+
+-- the tag is not that of c, of a kind, under the key
+abbrev pub IsBadTag : ℕ → List ℕ → Certificate → List ℕ → Type 0
+IsBadTag kind key c tag = tag ≢ tag_of key (sealed_text kind c)
 
 -- the bytes are the sealed form of c, of a kind
 abbrev pub IsSealed : ℕ → List ℕ → List ℕ → Certificate → Type 0

@@ -1,16 +1,15 @@
 //! Laws of sealed certificates, stated as contracts of functions that do nothing.
 
-ghost use Rattle.std.specs.Prelude.{◌≡◌, ◌≢◌, ◌↔◌, ◌<◌, ◌∷◌, ◌++◌, ℕ, List, All, length};
+ghost use Rattle.std.specs.Prelude.{◌≡◌, ◌↔◌, ◌<◌, ◌∷◌, ◌++◌, ℕ, List, All, length};
 ghost use Rattle.std.specs.Prelude.{None, Some, Ok, Err};
 ghost use Rattle.keyed_seal.specs.Keys.{Entries, key_of};
-ghost use Rattle.keyed_seal.specs.Tag.{tag_of};
 ghost use Rattle.stmt_codec.specs.Certificates.{Certificate, HasBodySpelling, IsWithinLimits};
 ghost use Rattle.sealed_cert.specs.Causes.{IsRefused, IsRefusedIssued};
 ghost use Rattle.sealed_cert.specs.declared.fault.SealFault.{SealFault};
 ghost use Rattle.sealed_cert.specs.declared.fault.SealFault.TheVariants.{Malformed, WrongKind};
 ghost use Rattle.sealed_cert.specs.declared.fault.SealFault.TheVariants.{UnknownIssuer, BadSeal};
-ghost use Rattle.sealed_cert.specs.Seals.{sealed_text, sealed, Spells};
-ghost use Rattle.sealed_cert.specs.Seals.{IsSealed, Opens, OpensIssued};
+ghost use Rattle.sealed_cert.specs.Seals.{sealed, Spells};
+ghost use Rattle.sealed_cert.specs.Seals.{IsBadTag, IsSealed, Opens, OpensIssued};
 ghost use Rattle.sealed_cert.specs.Refusals.{opened, opened_issued};
 
 use crate::kind::{ISSUED, RELAYED};
@@ -56,12 +55,12 @@ pub fn one_body_opens()
 
 /// Input that ends inside a sealed certificate is refused at its end.
 pub fn cut_seals_are_refused()
-    ensures relayed { (key other bytes more : List ℕ) (c : Certificate) → HasBodySpelling c
-        → IsWithinLimits c → sealed RELAYED key c ≡ bytes ++ more → 0 < length more
+    ensures relayed { (key other bytes more : List ℕ) (c : Certificate)
+        → IsSealed RELAYED key (bytes ++ more) c → 0 < length more
         → opened other bytes ≡ Err (Malformed (length bytes)) }
     ensures issued { (entries : Entries) (key bytes more : List ℕ) (c : Certificate)
-        → HasBodySpelling c → IsWithinLimits c → sealed ISSUED key c ≡ bytes ++ more
-        → 0 < length more → opened_issued entries bytes ≡ Err (Malformed (length bytes)) }
+        → IsSealed ISSUED key (bytes ++ more) c → 0 < length more
+        → opened_issued entries bytes ≡ Err (Malformed (length bytes)) }
 {}
 
 /// Bytes behind a sealed certificate are refused at the first of them.
@@ -81,7 +80,7 @@ pub fn spelled_bytes_are_judged()
         → opened_issued entries bytes ≡ Err (UnknownIssuer c.issuer) }
     ensures issued { (entries : Entries) (key bytes tag : List ℕ) (c : Certificate)
         → Spells ISSUED bytes c tag → key_of entries c.issuer ≡ Some key
-        → tag ≢ tag_of key (sealed_text ISSUED c) → opened_issued entries bytes ≡ Err BadSeal }
+        → IsBadTag ISSUED key c tag → opened_issued entries bytes ≡ Err BadSeal }
     ensures relayed { (key bytes tag : List ℕ) (c : Certificate) → Spells RELAYED bytes c tag
-        → tag ≢ tag_of key (sealed_text RELAYED c) → opened key bytes ≡ Err BadSeal }
+        → IsBadTag RELAYED key c tag → opened key bytes ≡ Err BadSeal }
 {}

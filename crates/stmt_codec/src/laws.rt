@@ -9,7 +9,7 @@ ghost use Rattle.byte_fields.specs.declared.fault.FormatFault.TheVariants.{Malfo
 ghost use Rattle.byte_fields.specs.Formats.{IsFaultIn};
 ghost use Rattle.byte_fields.specs.Steps.{IsByte};
 ghost use Rattle.stmt_codec.specs.declared.limits.TheConstants.{MAX_BODY_LEN};
-ghost use Rattle.stmt_codec.specs.Certificates.{Certificate, body_spelling};
+ghost use Rattle.stmt_codec.specs.Certificates.{Certificate, FitsBody, body_spelling};
 ghost use Rattle.stmt_codec.specs.Certificates.{HasBodySpelling, IsBodyAt, IsWithinLimits};
 ghost use Rattle.stmt_codec.specs.Certificates.{is_live, is_dead, IsLive, IsDead, IsEarly, live};
 ghost use Rattle.stmt_codec.specs.Distinct.{first_of_each};
@@ -24,8 +24,8 @@ pub fn one_body_spelling()
 /// Input that ends inside a spelling is refused at its end.
 pub fn short_bodies_are_refused()
     ensures { (bytes more : List ℕ) (at : ℕ) (c : Certificate) → at ≤ length bytes
-        → HasBodySpelling c → IsWithinLimits c → body_spelling c ≡ drop at bytes ++ more
-        → 0 < length more → body_at bytes at ≡ Err (Malformed (length bytes)) }
+        → FitsBody c → body_spelling c ≡ drop at bytes ++ more → 0 < length more
+        → body_at bytes at ≡ Err (Malformed (length bytes)) }
 {}
 
 /// The list of distinct parts has what the whole list has, and nothing twice.

@@ -28,4 +28,5 @@ pub use lane_end::LaneEnd;
 pub use limit_laws::limits_are;
 pub use limits::{ABSENCE, CLIENTS, EVENTS, GUESTS, LOOK, OUT, OWN, PIECE};
 pub use patience::Patience;
+pub use place::Place;
 pub use watch::Watch;

@@ -6,19 +6,19 @@ use frame_link::MAX_PAYLOAD;
 
 /// How far a stream of frames has come in the frame that it is in.
 #[derive(Clone, Copy, Debug, PartialEq, Eq)]
-pub(crate) struct Place {
+pub struct Place {
     // The bytes of the length word that came, below four, and what they say so far.
     seen: u32,
     word: u32,
     // The bytes of the payload that have not come.
     left: usize,
-    // A length word was above that of any request.
+    // A length word was above that of any frame.
     is_long: bool,
 }
 
 impl Place {
-    // Before the first frame.
-    pub(crate) fn new() -> Place {
+    /// Before the first frame.
+    pub fn new() -> Place {
         Place {
             seen: 0,
             word: 0,
@@ -27,18 +27,23 @@ impl Place {
         }
     }
 
-    // Whether all that came is whole frames.
-    pub(crate) fn is_between(&self) -> bool {
+    /// Whether all that came is whole frames.
+    pub fn is_between(&self) -> bool {
         self.seen == 0 && self.left == 0
     }
 
-    // Whether a payload has begun that is not whole.
-    pub(crate) fn is_inside(&self) -> bool {
+    /// Whether a payload has begun that is not whole.
+    pub fn is_inside(&self) -> bool {
         self.left > 0
     }
 
-    // Whether a frame was announced that is longer than a request may be.
-    pub(crate) fn is_long(&self) -> bool {
+    /// How many bytes of the payload have not come.
+    pub fn left(&self) -> usize {
+        self.left
+    }
+
+    /// Whether a frame was announced that is longer than any may be.
+    pub fn is_long(&self) -> bool {
         self.is_long
     }
 
@@ -56,9 +61,9 @@ impl Place {
         self.left == 0
     }
 
-    // Takes one byte of a length word, or what is there of a payload. How many bytes that is, and
-    // whether a frame ended with them.
-    pub(crate) fn step(&mut self, bytes: &[u8]) -> (usize, bool)
+    /// Takes one byte of a length word, or what is there of a payload. How many bytes that is, and
+    /// whether a frame ended with them.
+    pub fn step(&mut self, bytes: &[u8]) -> (usize, bool)
         requires { 0 < length bytes.now }
         ensures { result.0 ≤ length bytes.now }
     {
@@ -70,8 +75,8 @@ impl Place {
         (count, self.left == 0)
     }
 
-    // These bytes come next. Whether a frame ended among them.
-    pub(crate) fn pass(&mut self, bytes: &[u8]) -> bool {
+    /// These bytes come next. Whether a frame ended among them.
+    pub fn pass(&mut self, bytes: &[u8]) -> bool {
         let mut has_ended = false;
         let mut rest = bytes;
         for _ in 0..bytes.len() {

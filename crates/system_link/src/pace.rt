@@ -1,8 +1,8 @@
 //! How long a peer may take for a frame.
 
-use crate::place::Place;
 use crate::term::Term;
 use std::time::{Clock, Duration};
+use system_hub::Place;
 
 /// Where a stream of frames stands, and until when what is waited for may take.
 #[derive(Clone, Copy)]

@@ -2,7 +2,6 @@
 
 ghost use Rattle.std.specs.Prelude.{◌≡◌};
 
-use crate::place::Place;
 use crate::term::Term;
 use std::alloc::Global;
 use std::io;
@@ -11,6 +10,7 @@ use std::net::{Shutdown, TcpStream};
 use std::sync::atomic::{AtomicBool, AtomicU64, Ordering};
 use std::sync::{Arc, Mutex, MutexGuard};
 use std::time::{Clock, Duration, Instant};
+use system_hub::Place;
 
 /// Whether a lane has gone on to another request since this was asked last. The lane's input says so,
 /// and its link to a relay asks. While the input waits, a link is closed that nobody has asked for long.
@@ -169,7 +169,12 @@ impl Rounds {
         self.is_trusted.store(true, Ordering::SeqCst);
     }
 
-    // Whether one was since the last time.
+    // Whether one was since the last time that this was taken.
+    pub(crate) fn is_trusted(&self) -> bool {
+        self.is_trusted.load(Ordering::SeqCst)
+    }
+
+    // The same, and takes it.
     pub(crate) fn take_trust(&self) -> bool {
         self.is_trusted.swap(false, Ordering::SeqCst)
     }

@@ -4,8 +4,8 @@ ghost use Rattle.std.specs.Prelude.{◌≡◌, ◌≤◌, IfOk, length};
 ghost use Rattle.std.specs.Io.{WritesAtMost};
 
 use crate::decisions::{Decisions, Ruling};
+use crate::fronts::Fronts;
 use crate::notices::{Notices, Teller, teller_of};
-use crate::place::Fronts;
 use crate::rounds::Rounds;
 use node_status::{reply_at, shows_seal};
 use std::alloc::Global;
@@ -139,7 +139,7 @@ impl<W, C: Clock> Telling<W, C> {
     fn tell_end(&self) {
         let front = self.fronts.front();
         if let Some(rounds) = &self.rounds {
-            if shows_seal(front) {
+            if !rounds.is_trusted() && shows_seal(front) {
                 rounds.trust();
             }
         }
@@ -155,8 +155,16 @@ impl<W, C: Clock> Telling<W, C> {
         self.tell_end();
     }
 
+    // Whether somebody is told what is written.
+    fn is_heard(&self) -> bool {
+        self.teller.is_some() || self.rounds.is_some()
+    }
+
     // These bytes were written.
     fn pass(&mut self, bytes: &[u8]) {
+        if !self.is_heard() {
+            return;
+        }
         let mut rest = bytes;
         for _ in 0..bytes.len() {
             if rest.is_empty() {

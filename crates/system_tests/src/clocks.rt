@@ -42,6 +42,14 @@ impl time::Clock for HandClock {
     }
 }
 
+#[derive(Clone, Copy)]
+enum Lane {
+    First,
+    Second,
+}
+
+use Lane::{First, Second};
+
 // Two lanes' clocks under one guard.
 #[derive(Drop)]
 struct Two<'a> {
@@ -60,15 +68,13 @@ impl<'a> Two<'a> {
         })
     }
 
-    // The first one's reading, when so many seconds have passed.
-    fn first_at(&mut self, passed: u64, seconds: u64) -> Result<u64, Failed> {
+    // What the clock of a lane reads, when so many seconds have passed.
+    fn read(&mut self, lane: Lane, passed: u64, seconds: u64) -> Result<u64, Failed> {
         self.hand.set(passed, seconds);
-        self.first.now()
-    }
-
-    fn second_at(&mut self, passed: u64, seconds: u64) -> Result<u64, Failed> {
-        self.hand.set(passed, seconds);
-        self.second.now()
+        match lane {
+            First => self.first.now(),
+            Second => self.second.now(),
+        }
     }
 }
 
@@ -86,42 +92,72 @@ fn the_clock_tells_seconds_of_this_century(rt: HostRuntime) -> Result<(), Fail> 
     Ok(())
 }
 
-#[test]
-fn a_clock_three_days_back_once_is_believed_when_it_is_right_again(
-    rt: HostRuntime,
-) -> Result<(), Fail> {
+// Whose clock is read, how many seconds have passed, what it is set to, and whether that is believed.
+type Turn = (Lane, u64, u64, bool);
+
+// What is shown, the readings, and how often each of the two failed.
+const READINGS: &[(&str, &[Turn], u64, u64)] = &[
+    (
+        "three days back once, and right again",
+        &[
+            (First, 1_000, NOW, true),
+            (First, 1_010, NOW - 3 * DAY, true),
+            (First, 1_020, NOW + 20, true),
+            // What should have passed is held against too.
+            (First, 1_030, NOW - 3 * DAY, true),
+            (First, 1_030 + 4 * DAY, NOW + 4 * DAY, true),
+        ],
+        0,
+        0,
+    ),
+    (
+        "a jump for a lane that read nothing yet",
+        &[
+            (First, 1_000, NOW, true),
+            (Second, 1_000, NOW + DAY + 1, false),
+            (Second, 1_000, NOW + DAY, true),
+            // The first one goes on from there.
+            (First, 1_000, NOW + 2 * DAY, true),
+            (First, 1_000, NOW + 3 * DAY + 1, false),
+        ],
+        1,
+        1,
+    ),
+    (
+        "before 1970, until it is set",
+        &[
+            (First, 1_000, 0, false),
+            (Second, 1_000, 0, false),
+            (First, 1_001, NOW, true),
+            (Second, 1_001, NOW + 2 * DAY, false),
+        ],
+        1,
+        2,
+    ),
+];
+
+// Whether each reading is believed or fails as it should, and the clocks failed so often.
+fn are_read(alloc: Global, turns: &[Turn], first: u64, second: u64) -> Result<bool, AllocError> {
     let hand = HandClock::new();
-    let mut two = Two::new(rt.alloc(), &hand)?;
-    assert!(rt; two.first_at(1_000, NOW) == Ok(NOW));
-    assert!(rt; two.first_at(1_010, NOW - 3 * DAY) == Ok(NOW - 3 * DAY));
-    assert!(rt; two.first_at(1_020, NOW + 20) == Ok(NOW + 20));
-    // What should have passed is held against too.
-    assert!(rt; two.first_at(1_030, NOW - 3 * DAY) == Ok(NOW - 3 * DAY));
-    assert!(rt; two.first_at(1_030 + 4 * DAY, NOW + 4 * DAY) == Ok(NOW + 4 * DAY));
-    assert!(rt; two.first.faults() == 0);
-    Ok(())
+    let mut two = Two::new(alloc, &hand)?;
+    for &(lane, passed, seconds, is_believed) in turns {
+        let got = two.read(lane, passed, seconds);
+        let wanted = if is_believed {
+            Ok(seconds)
+        } else {
+            Err(Failed)
+        };
+        if got != wanted {
+            return Ok(false);
+        }
+    }
+    Ok(two.first.faults() == first && two.second.faults() == second)
 }
 
 #[test]
-fn a_lane_that_read_nothing_yet_believes_no_jump_either(rt: HostRuntime) -> Result<(), Fail> {
-    let hand = HandClock::new();
-    let mut two = Two::new(rt.alloc(), &hand)?;
-    assert!(rt; two.first_at(1_000, NOW) == Ok(NOW));
-    assert!(rt; two.second_at(1_000, NOW + DAY + 1) == Err(Failed));
-    assert!(rt; two.second_at(1_000, NOW + DAY) == Ok(NOW + DAY));
-    // The first one goes on from there.
-    assert!(rt; two.first_at(1_000, NOW + 2 * DAY) == Ok(NOW + 2 * DAY));
-    assert!(rt; two.first_at(1_000, NOW + 3 * DAY + 1) == Err(Failed));
-    assert!(rt; two.first.faults() == 1 && two.second.faults() == 1);
-    Ok(())
-}
-
-#[test]
-fn a_clock_before_1970_fails_until_it_is_set(rt: HostRuntime) -> Result<(), Fail> {
-    let hand = HandClock::new();
-    let mut two = Two::new(rt.alloc(), &hand)?;
-    assert!(rt; two.first_at(1_000, 0) == Err(Failed) && two.second_at(1_000, 0) == Err(Failed));
-    assert!(rt; two.first_at(1_001, NOW) == Ok(NOW));
-    assert!(rt; two.second_at(1_001, NOW + 2 * DAY) == Err(Failed));
+fn no_lane_believes_a_reading_more_than_a_day_ahead(rt: HostRuntime) -> Result<(), Fail> {
+    for &(what, turns, first, second) in READINGS {
+        assert!(rt; are_read(rt.alloc(), turns, first, second)?, "{what}");
+    }
     Ok(())
 }

@@ -9,6 +9,8 @@ mod counts;
 #[cfg(test)]
 mod doors;
 #[cfg(test)]
+mod leaving;
+#[cfg(test)]
 mod notices;
 #[cfg(test)]
 mod relays;
@@ -16,5 +18,7 @@ mod relays;
 mod streams;
 #[cfg(test)]
 mod switches;
+#[cfg(test)]
+mod told;
 #[cfg(test)]
 mod wallets;

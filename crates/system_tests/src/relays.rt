@@ -35,7 +35,7 @@ fn link_of<'a>(
 }
 
 // A listener on this machine, and its address.
-fn listen(rt: &HostRuntime) -> Result<(TcpListener, String), Fail> {
+pub(crate) fn listen(rt: &HostRuntime) -> Result<(TcpListener, String), Fail> {
     let listener = TcpListener::bind(rt, "127.0.0.1:0")?;
     let port = listener.local_addr()?.port();
     let address = format!(in rt.alloc(); "127.0.0.1:{port}")?;

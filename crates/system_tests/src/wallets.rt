@@ -1,3 +1,4 @@
+use crate::relays::listen;
 use cred_pull::{Fetch, Fetched};
 use frame_link::Failed;
 use std::alloc::AllocError;
@@ -71,9 +72,7 @@ fn are_given(rt: &HostRuntime, fetch: &mut TcpFetch<&HostRuntime>) -> bool {
 
 #[test]
 fn a_stream_to_a_wallet_is_kept_and_opened_again(rt: HostRuntime) -> Result<(), Fail> {
-    let listener = TcpListener::bind(&rt, "127.0.0.1:0")?;
-    let port = listener.local_addr()?.port();
-    let address = format!(in rt.alloc(); "127.0.0.1:{port}")?;
+    let (listener, address) = listen(&rt)?;
     let mut fetch = fetch_from(&rt, address.as_str(), Duration::from_secs(LIMIT))?;
     let (rt, listener, fetch) = (&rt, &listener, &mut fetch);
     let (are_given, are_asked) = thread::join(
@@ -105,9 +104,7 @@ fn a_wallet_that_is_not_reached_fails_at_each_call(rt: HostRuntime) -> Result<()
 
 #[test]
 fn a_wallet_that_says_nothing_fails_behind_the_limit(rt: HostRuntime) -> Result<(), Fail> {
-    let listener = TcpListener::bind(&rt, "127.0.0.1:0")?;
-    let port = listener.local_addr()?.port();
-    let address = format!(in rt.alloc(); "127.0.0.1:{port}")?;
+    let (_listener, address) = listen(&rt)?;
     let mut fetch = fetch_from(&rt, address.as_str(), Duration::from_millis(50))?;
     assert!(rt; fails_twice(&rt, &mut fetch));
     Ok(())

@@ -1,5 +1,5 @@
 -- The rules over a table of nodes, whose principals are named by their numbers.
-use Rattle.std.specs.Prelude.{◌≡◌, ℕ, List, [], ◌∷◌, ◌++◌, Some, slice_get, length, map, Contains}
+use Rattle.std.specs.Prelude.{◌≡◌, ℕ, ◌-◌, List, [], ◌∷◌, ◌++◌, Option, Some, slice_get, length, map, Contains}
 use Rattle.prin_term.specs.declared.term.Anchor.{Anchor}
 use Rattle.taos_calculus.specs.declared.line.Step.{Step}
 use Rattle.taos_calculus.specs.declared.line.Node.{Node}
@@ -66,6 +66,10 @@ pub data Gives (nodes : List Node) (anchors : List Anchor)
 -- the facts of lines, in order
 abbrev pub facts_at : List Line → List Fact
 facts_at lines = map (λ (l : Line). l.fact) lines
+
+-- the fact of the last line, if there is a line
+abbrev pub last_fact_at : List Line → Option Fact
+last_fact_at lines = slice_get (facts_at lines) (length lines - 1)
 
 -- each line's step gives its fact from the earlier facts and the lines before it
 abbrev pub EachGives : List Node → List Anchor → List Claim → List Fact → List Line → Type 0

@@ -1,6 +1,6 @@
 //! Checking a proof against anchors and certificates.
 
-ghost use Rattle.std.specs.Prelude.{◌≡◌, ◌≢◌, ◌↔◌, ◌<◌, ◌≤◌, ◌-◌, [], ℕ, List, Some, IsOk};
+ghost use Rattle.std.specs.Prelude.{◌≡◌, ◌≢◌, ◌↔◌, ◌<◌, ◌≤◌, [], ℕ, List, Some, IsOk};
 ghost use Rattle.std.specs.Prelude.{IsTrue, MatchOption, slice_get, take, length, map, All};
 ghost use Rattle.prin_term.specs.declared.term.Anchor.{Anchor};
 ghost use Rattle.prin_term.specs.Principal.{Principal};
@@ -9,7 +9,7 @@ ghost use Rattle.taos_calculus.specs.Rules as rules;
 ghost use Rattle.taos_calculus.specs.Rules.{Claim, SpeaksFor, Follows, EachFollows, Proves};
 ghost use Rattle.taos_calculus.specs.Tables.{IsNodeTable, IsBelow, named, parts_of, lines_of};
 ghost use Rattle.taos_calculus.specs.Tidy.{facts};
-ghost use Rattle.taos_calculus.specs.Numbered.{Gives, facts_at};
+ghost use Rattle.taos_calculus.specs.Numbered.{Gives, facts_at, last_fact_at};
 ghost use Rattle.taos_calculus.specs.Premises.{IsClaimed, Asks};
 ghost use Rattle.taos_calculus.specs.Checking.{IsChecked, said_by};
 
@@ -205,10 +205,8 @@ fn first_bad(anchors: &[Anchor], cites: &[Arc<Cert>], nodes: &[Node], lines: &[L
 // What the last line says, if it is that one speaks for another.
 fn conclusion_of(lines: &[Line]) -> Option<Conclusion>
     ensures { MatchOption result
-        ((left right : ℕ) → slice_get (facts_at lines.now) (length lines.now - 1)
-        ≢ Some (Fact.Speaks left right))
-        (λ c. slice_get (facts_at lines.now) (length lines.now - 1)
-        ≡ Some (Fact.Speaks c.left c.right)) }
+        ((left right : ℕ) → last_fact_at lines.now ≢ Some (Fact.Speaks left right))
+        (λ c. last_fact_at lines.now ≡ Some (Fact.Speaks c.left c.right)) }
 {
     match lines.last() {
         Some(line) => match line.fact {

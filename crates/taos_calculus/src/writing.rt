@@ -97,55 +97,65 @@ fn push_lines(out: &mut Vec<u8>, lines: &[Line]) -> Result<(), AllocError>
 fn push_line(out: &mut Vec<u8>, line: Line) -> Result<(), AllocError>
     ensures { Pushes out.old out.new (line_bytes line) result }
 {
-    out.push(rule_of(line.step))?;
-    push_fact(out, line.fact)?;
-    push_premises(out, line.step)?;
-    Ok(())
+    push_fact(out, rule_of(line.step), line.fact)?;
+    push_premises(out, line.step)
 }
 
 fn push_node(out: &mut Vec<u8>, node: Node) -> Result<(), AllocError>
     ensures { Pushes out.old out.new (node_bytes node) result }
 {
     match node {
-        Node::Key(key) => push_atom(out, 1, key),
-        Node::Name(name) => push_atom(out, 2, name),
-        Node::And(left, right) => push_compound(out, 3, left, right),
-        Node::Quote(left, right) => push_compound(out, 4, left, right),
-        Node::AsRole(base, role) => push_role(out, base, role),
-        Node::For(left, right) => push_compound(out, 6, left, right),
+        Node::Key(key) => out.extend_from_slice(&atom_of(1, key)),
+        Node::Name(name) => out.extend_from_slice(&atom_of(2, name)),
+        Node::And(left, right) => out.extend_from_slice(&compound_of(3, left, right)),
+        Node::Quote(left, right) => out.extend_from_slice(&compound_of(4, left, right)),
+        Node::AsRole(base, role) => out.extend_from_slice(&role_of(base, role)),
+        Node::For(left, right) => out.extend_from_slice(&compound_of(6, left, right)),
     }
 }
 
-fn push_atom(out: &mut Vec<u8>, tag: u8, number: u32) -> Result<(), AllocError>
-    ensures { Pushes out.old out.new (tag ∷ to_be_bytes w32 number) result }
+fn atom_of(tag: u8, number: u32) -> [u8; 5]
+    ensures { result ≡ tag ∷ to_be_bytes w32 number }
 {
-    out.push(tag)?;
-    out.extend_from_slice(&number.to_be_bytes())
+    let n = number.to_be_bytes();
+    [tag, n[0], n[1], n[2], n[3]]
 }
 
-fn push_compound(out: &mut Vec<u8>, tag: u8, left: u16, right: u16) -> Result<(), AllocError>
-    ensures { Pushes out.old out.new (tag ∷ pair16 left right) result }
+fn compound_of(tag: u8, left: u16, right: u16) -> [u8; 5]
+    ensures { result ≡ tag ∷ pair16 left right }
 {
-    out.push(tag)?;
-    push_pair16(out, left, right)
+    let l = left.to_be_bytes();
+    let r = right.to_be_bytes();
+    [tag, l[0], l[1], r[0], r[1]]
 }
 
-fn push_role(out: &mut Vec<u8>, base: u16, role: u32) -> Result<(), AllocError>
-    ensures { Pushes out.old out.new (5 ∷ (to_be_bytes w16 base ++ to_be_bytes w32 role)) result }
+fn role_of(base: u16, role: u32) -> [u8; 7]
+    ensures { result ≡ 5 ∷ (to_be_bytes w16 base ++ to_be_bytes w32 role) }
 {
-    out.push(5)?;
-    out.extend_from_slice(&base.to_be_bytes())?;
-    out.extend_from_slice(&role.to_be_bytes())
+    let b = base.to_be_bytes();
+    let r = role.to_be_bytes();
+    [5, b[0], b[1], r[0], r[1], r[2], r[3]]
 }
 
-fn push_fact(out: &mut Vec<u8>, fact: Fact) -> Result<(), AllocError>
-    ensures { Pushes out.old out.new (fact_bytes fact) result }
+// What is said, behind the byte of the rule.
+fn said_of(rule: u8, who: u16, left: u16, right: u16) -> [u8; 7]
+    ensures { result
+        ≡ rule ∷ (to_be_bytes w16 who ++ to_be_bytes w16 left ++ to_be_bytes w16 right) }
+{
+    let w = who.to_be_bytes();
+    let l = left.to_be_bytes();
+    let r = right.to_be_bytes();
+    [rule, w[0], w[1], l[0], l[1], r[0], r[1]]
+}
+
+// The byte of the rule, and the fact.
+fn push_fact(out: &mut Vec<u8>, rule: u8, fact: Fact) -> Result<(), AllocError>
+    ensures { Pushes out.old out.new (rule ∷ fact_bytes fact) result }
 {
     match fact {
-        Fact::Speaks { left, right } => push_pair16(out, left, right),
+        Fact::Speaks { left, right } => out.extend_from_slice(&compound_of(rule, left, right)),
         Fact::Says { who, left, right } => {
-            out.extend_from_slice(&who.to_be_bytes())?;
-            push_pair16(out, left, right)
+            out.extend_from_slice(&said_of(rule, who, left, right))
         }
     }
 }
@@ -159,8 +169,8 @@ fn push_premises(out: &mut Vec<u8>, step: Step) -> Result<(), AllocError>
         | Step::Both { first, second }
         | Step::Quote { first, second }
         | Step::For { first, second }
-        | Step::Join { first, second } => push_pair32(out, first, second),
-        Step::Lift { says, speaks } => push_pair32(out, says, speaks),
+        | Step::Join { first, second } => out.extend_from_slice(&pair_of(first, second)),
+        Step::Lift { says, speaks } => out.extend_from_slice(&pair_of(says, speaks)),
         Step::RoleUnder { first } => out.extend_from_slice(&first.to_be_bytes()),
         Step::HandOff { says } | Step::Delegate { says } => {
             out.extend_from_slice(&says.to_be_bytes())
@@ -170,18 +180,12 @@ fn push_premises(out: &mut Vec<u8>, step: Step) -> Result<(), AllocError>
     }
 }
 
-fn push_pair16(out: &mut Vec<u8>, first: u16, second: u16) -> Result<(), AllocError>
-    ensures { Pushes out.old out.new (pair16 first second) result }
+fn pair_of(first: u32, second: u32) -> [u8; 8]
+    ensures { result ≡ pair32 first second }
 {
-    out.extend_from_slice(&first.to_be_bytes())?;
-    out.extend_from_slice(&second.to_be_bytes())
-}
-
-fn push_pair32(out: &mut Vec<u8>, first: u32, second: u32) -> Result<(), AllocError>
-    ensures { Pushes out.old out.new (pair32 first second) result }
-{
-    out.extend_from_slice(&first.to_be_bytes())?;
-    out.extend_from_slice(&second.to_be_bytes())
+    let a = first.to_be_bytes();
+    let b = second.to_be_bytes();
+    [a[0], a[1], a[2], a[3], b[0], b[1], b[2], b[3]]
 }
 
 // The byte of the rule.

@@ -1,7 +1,7 @@
 -- What the node of a drill is opened with.
-use Rattle.std.specs.Prelude.{ℕ, ◌+◌, ◌*◌, List, [], ◌∷◌, ◌++◌, map}
+use Rattle.std.specs.Prelude.{◌≡◌, ℕ, ◌+◌, ◌*◌, List, [], ◌∷◌, ◌++◌, map, Some}
 use Rattle.std.specs.List.{range_with_len}
-use Rattle.object_core.specs.Objects.{ObjectPlan}
+use Rattle.object_core.specs.Objects.{ObjectPlan, object_of}
 use Rattle.node_file.specs.Opening.{Opening, no_texts}
 use Rattle.prin_term.specs.Principal.{Name}
 use Rattle.prin_term.specs.View.{Grant}
@@ -26,6 +26,11 @@ abbrev pub drill_objects : ℕ → List ObjectPlan
 drill_objects lanes =
     map (empty_object (reader ∷ [])) (range_with_len 1 lanes)
     ++ map (empty_object []) (range_with_len 101 lanes)
+
+-- of the objects of so many lanes that of the number is empty, with this access list
+abbrev pub HasObject : ℕ → List Grant → ℕ → Type 0
+HasObject lanes list number =
+    object_of (drill_objects lanes) number ≡ Some (empty_object list number)
 
 -- the channel of each lane with its key, numbered from 1
 abbrev pub drill_channels : ℕ → ℕ → List (ℕ × List ℕ)

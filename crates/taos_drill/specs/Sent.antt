@@ -1,5 +1,5 @@
 -- What the lanes of a drill send.
-use Rattle.std.specs.Prelude.{ℕ, ◌+◌, ◌/◌, ◌%◌, ◌==◌, if◌then◌else◌, List, [], ◌∷◌, map, filter, None}
+use Rattle.std.specs.Prelude.{◌≡◌, ℕ, ◌+◌, ◌/◌, ◌%◌, ◌==◌, if◌then◌else◌, List, [], ◌∷◌, map, filter, None}
 use Rattle.std.specs.List.{range_with_len}
 use Rattle.frame_link.specs.Frames.{framed}
 use Rattle.object_core.specs.Operation.{Read}
@@ -7,8 +7,9 @@ use Rattle.prin_term.specs.Principal.{Key, Name}
 use Rattle.sealed_cert.specs.declared.kind.TheConstants.{RELAYED}
 use Rattle.sealed_cert.specs.Seals as seals
 use Rattle.stmt_codec.specs.Certificates.{Certificate, says}
-use Rattle.taos_wire.specs.Request.{Request, sealed}
-use Rattle.taos_drill.specs.Words.{is_even, key_at, word_of}
+use Rattle.taos_wire.specs.Request.{IsAsked, Request, sealed}
+use Rattle.taos_drill.specs.Opened.{drill_opening}
+use Rattle.taos_drill.specs.Words.{is_even, key_at, word_of, words_of}
 
 -- key 1000 says that the channel's key speaks for name 1
 abbrev pub drill_certificate : ℕ → Certificate
@@ -51,6 +52,12 @@ drill_request seed lanes i =
 abbrev pub payload_of : ℕ → ℕ → ℕ → List ℕ
 payload_of seed lanes i = sealed (key_at seed (channel_of lanes i)) (drill_request seed lanes i)
 
+-- the payload of request i is that request, under the key that the opening has for its channel
+abbrev pub IsAskedAt : (seed requests lanes i : ℕ) → Type 0
+IsAskedAt seed requests lanes i =
+    IsAsked (drill_opening seed requests lanes).channels (payload_of seed lanes i)
+    (drill_request seed lanes i) (key_at seed (channel_of lanes i))
+
 -- the requests of a lane, in order
 abbrev pub requests_of : ℕ → ℕ → ℕ → List ℕ
 requests_of requests lanes lane = filter (λ i. i % lanes == lane) (range_with_len 0 requests)
@@ -59,6 +66,13 @@ requests_of requests lanes lane = filter (λ i. i % lanes == lane) (range_with_l
 abbrev pub drill_stream : ℕ → ℕ → ℕ → ℕ → List ℕ
 drill_stream seed requests lanes lane =
     framed (map (payload_of seed lanes) (requests_of requests lanes lane))
+
+-- it is what a lane sends, where the words are those of a seed, and the key and the certificate
+-- those of the lane's channel
+abbrev pub IsSentBy : (words key cert : List ℕ) → (lanes lane : ℕ) → List ℕ → Type 0
+IsSentBy words key cert lanes lane stream =
+    (seed requests : ℕ) → words ≡ words_of seed requests → key ≡ key_at seed (lane + 1) →
+    cert ≡ presented seed (lane + 1) → stream ≡ drill_stream seed requests lanes lane
 
 -- what all lanes send
 abbrev pub drill_streams : ℕ → ℕ → ℕ → List (List ℕ)

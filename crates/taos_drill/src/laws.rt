@@ -1,20 +1,16 @@
 //! Laws of loads, stated as contracts of functions that do nothing.
 
-ghost use Rattle.std.specs.Prelude.{◌≡◌, ℕ, ◌<◌, ◌≤◌, ◌^◌, [], ◌∷◌, length, map, sum_by, true, false, Some};
+ghost use Rattle.std.specs.Prelude.{◌≡◌, ℕ, ◌<◌, ◌≤◌, ◌^◌, [], ◌∷◌, length, map, sum_by, true, false};
 ghost use Rattle.std.specs.List.{range_with_len};
 ghost use Rattle.frame_link.specs.Frames.{Splits};
-ghost use Rattle.object_core.specs.Objects.{object_of};
 ghost use Rattle.node_file.specs.Opening.{FitsOpening};
 ghost use Rattle.prin_term.specs.Principal.{Key, Name};
 ghost use Rattle.sealed_cert.specs.Seals.{Opens};
 ghost use Rattle.taos_calculus.specs.Monitor.{MaySpeak};
 ghost use Rattle.taos_calculus.specs.Question.{claim_of};
-ghost use Rattle.taos_wire.specs.Request.{IsAsked};
-ghost use Rattle.taos_drill.specs.Opened.{drill_objects, drill_opening, empty_object};
-ghost use Rattle.taos_drill.specs.Opened.{issuer_anchor, reader};
-ghost use Rattle.taos_drill.specs.Sent.{channel_of, drill_certificate, drill_request};
-ghost use Rattle.taos_drill.specs.Sent.{drill_stream, number_of, object_for, payload_of};
-ghost use Rattle.taos_drill.specs.Sent.{presented, requests_of};
+ghost use Rattle.taos_drill.specs.Opened.{HasObject, drill_opening, issuer_anchor, reader};
+ghost use Rattle.taos_drill.specs.Sent.{IsAskedAt, drill_certificate, drill_stream, number_of};
+ghost use Rattle.taos_drill.specs.Sent.{object_for, payload_of, presented, requests_of};
 ghost use Rattle.taos_drill.specs.Words.{is_even, key_at};
 
 use crate::numbers::{MAX_LANES, MAX_REQUESTS};
@@ -47,9 +43,7 @@ pub fn numbers_go_up_by_one()
 /// A payload is its request, under the key that the opening has for its channel.
 pub fn requests_are_asked()
     ensures { (seed requests lanes i : ℕ) → requests ≤ MAX_REQUESTS → 0 < lanes
-        → lanes ≤ MAX_LANES → i < requests
-        → IsAsked (drill_opening seed requests lanes).channels (payload_of seed lanes i)
-        (drill_request seed lanes i) (key_at seed (channel_of lanes i)) }
+        → lanes ≤ MAX_LANES → i < requests → IsAskedAt seed requests lanes i }
 {}
 
 /// What a request presents opens under the relay's key.
@@ -64,9 +58,7 @@ pub fn even_words_may_read()
     ensures speaks { (channel : ℕ) → MaySpeak (issuer_anchor ∷ [])
         (claim_of (drill_certificate channel) ∷ []) (Key channel) (Name 1) }
     ensures even { (lanes channel word : ℕ) → lanes ≤ MAX_LANES → 0 < channel → channel ≤ lanes
-        → is_even word ≡ true → object_of (drill_objects lanes) (object_for channel word)
-        ≡ Some (empty_object (reader ∷ []) (object_for channel word)) }
+        → is_even word ≡ true → HasObject lanes (reader ∷ []) (object_for channel word) }
     ensures odd { (lanes channel word : ℕ) → lanes ≤ MAX_LANES → 0 < channel → channel ≤ lanes
-        → is_even word ≡ false → object_of (drill_objects lanes) (object_for channel word)
-        ≡ Some (empty_object [] (object_for channel word)) }
+        → is_even word ≡ false → HasObject lanes [] (object_for channel word) }
 {}

@@ -1,8 +1,8 @@
 //! What the lanes of a drill send.
 
 ghost use Rattle.std.specs.Prelude.{◌≡◌, ℕ, ◌+◌, ◌<◌, ◌≤◌, IfOk, length, map};
-ghost use Rattle.taos_drill.specs.Sent.{drill_stream, drill_streams, presented};
-ghost use Rattle.taos_drill.specs.Words.{key_at, keys_of, words_of};
+ghost use Rattle.taos_drill.specs.Sent.{IsSentBy, drill_streams};
+ghost use Rattle.taos_drill.specs.Words.{keys_of, words_of};
 ghost use Rattle.taos_wire.specs.Request.{IsCertText};
 ghost use Rattle.taos_wire.specs.View.{text_of};
 
@@ -25,10 +25,8 @@ fn stream_of(
     requires lane { lane < lanes }
     requires channel { caller.now.channel ≡ lane + 1 }
     requires cert { IsCertText caller.now.cert.items }
-    ensures { IfOk result (λ stream. (seed requests : ℕ) → words.now ≡ words_of seed requests
-        → caller.now.key ≡ key_at seed (lane + 1)
-        → caller.now.cert.items ≡ presented seed (lane + 1)
-        → stream.items ≡ drill_stream seed requests lanes lane) }
+    ensures { IfOk result (λ stream. IsSentBy words.now caller.now.key caller.now.cert.items lanes
+        lane stream.items) }
 {
     let mut stream = Vec::new(alloc);
     for (i, word) in words.iter().enumerate() {

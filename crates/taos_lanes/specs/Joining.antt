@@ -8,9 +8,11 @@ use Rattle.agent_shards.specs.Room.{HasRoom}
 use Rattle.turn_cell.specs.declared.shares.TheConstants.{ALL_SHARES}
 use Rattle.turn_cell.specs.Known.{Known}
 use Rattle.taos_lanes.specs.declared.lane.Stock.{Stock}
+use Rattle.taos_lanes.specs.declared.serving.NewNode.{NewNode}
 use Rattle.taos_lanes.specs.declared.total.Total.{Total}
-use Rattle.taos_lanes.specs.Stocked.{NodeCells, IsStockOf, LaneShown}
+use Rattle.taos_lanes.specs.Stocked.{NodeCells, IsStockOf, LaneShown, cells_of, node_at}
 use Rattle.taos_lanes.specs.Totals.{IsSumOf}
+use Rattle.taos_monitor.specs.Cells.{Node}
 
 -- passes of the shards and of the objects of a node
 pub record NodePasses : Type 0 where
@@ -73,6 +75,20 @@ JoinsAll cells before (stock ∷ stocks) after =
 pub record AreNew (cells : NodeCells) : Type 0 where
   pub shards : All (λ (c : ShardCell). c.opening ≡ []) cells.shards
   pub objects : All (λ (c : ObjectCell). c.opening ≡ []) cells.objects
+
+-- ---- a node at new cells
+
+-- its cells
+abbrev pub cells_by : NewNode → NodeCells
+cells_by node = cells_of node.shards.0 node.objects.0
+
+-- the passes of them
+abbrev pub passes_by : NewNode → NodePasses
+passes_by node = passes_of node.shards.1 node.objects.1
+
+-- the node
+abbrev pub node_by : NewNode → Node
+node_by node = node_at node.keys (cells_by node)
 
 -- ---- lanes
 

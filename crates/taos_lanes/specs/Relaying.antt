@@ -2,10 +2,12 @@
 use Rattle.std.specs.Prelude.{◌≡◌, ℕ, Bool, true, List, length, count_by}
 use Rattle.agent_shards.specs.Each.{Each3}
 use Rattle.frame_link.specs.declared.outcome.Outcome.{Outcome}
+use Rattle.frame_link.specs.Doors.{DoorSeen}
 use Rattle.frame_link.specs.Served.{Line, IsServed, HasCauses, IsComplete}
 use Rattle.relay_core.specs.declared.resealing.RelayTable.{RelayTable}
 use Rattle.relay_core.specs.Serving.{Answers, GivesUp}
 use Rattle.frame_link.specs.declared.limits.Limits.{Limits}
+use Rattle.taos_lanes.specs.declared.tally.Tally.{Tally}
 use Rattle.taos_lanes.specs.declared.total.Total.{Total}
 use Rattle.taos_lanes.specs.Doors.{GoesThrough}
 use Rattle.taos_lanes.specs.Stocked.{LaneShown}
@@ -37,12 +39,18 @@ pub record HasOtherDoor {X : Type 0} (before after : LaneShown X) : Type 0 where
   pub fetch : after.fetch ≡ before.fetch
   pub work : after.work ≡ before.work
 
+-- connections of the door were served by this table, and counted
+abbrev pub RelaysDoor : {In Out : Type 0} → Telling In Out → RelayTable → Limits →
+    (before after : DoorSeen (In × Out)) → Tally → Type 0
+RelaysDoor telling table limits before after =
+    ServesDoorBy telling (ServesRelayed limits.frames) limits
+    (change (lane_of table before) (lane_of table after))
+
 -- The lane served connections of its door by this table, and counted them.
 pub record RelaysLane {In Out : Type 0} (telling : Telling In Out) (table : RelayTable)
     (limits : Limits) (before after : LaneShown (In × Out)) : Type 0 where
   pub same : HasOtherDoor before after
-  pub serves : ServesDoorBy telling (ServesRelayed limits.frames) limits
-      (change (lane_of table before.door) (lane_of table after.door)) after.tally
+  pub serves : RelaysDoor telling table limits before.door after.door after.tally
 
 -- what a lane did from before until after: it went through its door, and each connection was served
 -- by this table, which stayed as it is

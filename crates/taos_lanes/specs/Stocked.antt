@@ -13,6 +13,7 @@ use Rattle.cred_pull.specs.Fetching.{FetchSeen}
 use Rattle.taos_lanes.specs.declared.lane.Lane.{Lane}
 use Rattle.frame_link.specs.declared.limits.Limits.{Limits}
 use Rattle.taos_lanes.specs.declared.lane.Stock.{Stock}
+use Rattle.taos_lanes.specs.declared.sitting.Shared.{Shared}
 use Rattle.taos_lanes.specs.declared.tally.Tally.{Tally}
 use Rattle.taos_lanes.specs.Telling.{Telling, change}
 use Rattle.taos_lanes.specs.Working.{ServesDoor, lane_of}
@@ -29,6 +30,10 @@ pub record NodeCells : Type 0 where
 -- the cells of these
 abbrev pub cells_of : List ShardCell → List ObjectCell → NodeCells
 cells_of shards objects = record { shards = shards; objects = objects }
+
+-- the cells at which all workers sit
+abbrev pub cells_shared : {W K L : Type 0} → Shared W K L → NodeCells
+cells_shared shared = cells_of shared.agent.now shared.rack.now
 
 -- the node of these keys at these cells
 abbrev pub node_at : NodeKeys → NodeCells → Node
@@ -111,3 +116,9 @@ pub record ServesLane {In Out : Type 0} (telling : Telling In Out) (keys : NodeK
   pub serves : ServesDoor telling (node_at keys cells) limits
       (change (lane_of (world_at cells before.outside (fetch_use pulls before.fetch) old) before.door)
       (lane_of (world_at cells after.outside (fetch_use pulls after.fetch) new) after.door)) new.tally
+
+-- the same by what all workers share
+abbrev pub ServesLaneBy : {W K L In Out : Type 0} → Shared W K L → Telling In Out →
+    (before after : LaneShown (In × Out)) → Type 0
+ServesLaneBy shared telling =
+    ServesLane telling shared.keys.now (cells_shared shared) shared.pulls shared.limits

@@ -1,4 +1,5 @@
 -- How connections are told, and what was before and is after.
+use Rattle.std.specs.Prelude.{List, map}
 use Rattle.frame_link.specs.Streams.{Stream}
 
 -- what is told of a connection: of its input, and of its output
@@ -18,3 +19,7 @@ pub record Change (A : Type 0) : Type 0 where
 -- from the one to the other
 abbrev pub change : {A : Type 0} → (before after : A) → Change A
 change before after = record { before = before; after = after }
+
+-- the same of a list of things, by what each of them shows
+abbrev pub changes_by : {A B : Type 0} → (A → B) → (before after : List A) → Change (List B)
+changes_by shown before after = change (map shown before) (map shown after)

@@ -2,12 +2,11 @@
 
 ghost use Rattle.std.specs.List.{AllZip};
 ghost use Rattle.std.specs.Prelude.{◌≡◌, ◌<◌, ◌≤◌, ◌^◌, length, map};
-ghost use Rattle.taos_lanes.specs.Relaying.{RelaysLane, RelaysLanes, ServesRelayed};
+ghost use Rattle.taos_lanes.specs.Relaying.{RelaysDoor, RelaysLane, RelaysLanes};
 ghost use Rattle.taos_lanes.specs.Stocked.{shown_by};
-ghost use Rattle.taos_lanes.specs.Telling.{change, told_by};
+ghost use Rattle.taos_lanes.specs.Telling.{changes_by, told_by};
 ghost use Rattle.taos_lanes.specs.Totals.{IsSumOf};
 ghost use Rattle.taos_lanes.specs.declared.serving.TheConstants.{MAX_LANES};
-ghost use Rattle.taos_lanes.specs.Working.{ServesDoorBy, lane_of};
 
 use crate::lane::Lane;
 use crate::tally::Tally;
@@ -30,10 +29,8 @@ struct Relay<'a> {
 // Serves connections of the door, up to as many as the limits say, or until the door has none or
 // fails. Each is given back.
 fn relay_door<D: Door>(relay: &Relay<'_>, door: &mut D) -> Tally
-    ensures { ServesDoorBy (told_by D.In.shown D.Out.shown)
-        (ServesRelayed relay.now.limits.frames) relay.now.limits
-        (change (lane_of relay.now.table.now (D.shown door.old))
-        (lane_of relay.now.table.now (D.shown door.new))) result }
+    ensures { RelaysDoor (told_by D.In.shown D.Out.shown) relay.now.table.now relay.now.limits
+        (D.shown door.old) (D.shown door.new) result }
 {
     let limits = relay.limits;
     let mut tally = Tally::new();
@@ -133,9 +130,8 @@ pub fn serve_relays<
 ) -> Total
     requires some { 0 < length lanes.old }
     requires few { length lanes.old ≤ MAX_LANES }
-    ensures { let shown = shown_by C.shown R.shown D.shown P.shown in
-        RelaysLanes (told_by D.In.shown D.Out.shown) table.now limits
-        (change (map shown lanes.old) (map shown lanes.new)) result }
+    ensures { RelaysLanes (told_by D.In.shown D.Out.shown) table.now limits
+        (changes_by (shown_by C.shown R.shown D.shown P.shown) lanes.old lanes.new) result }
 {
     let relay = Relay {
         alloc,

@@ -3,11 +3,11 @@
 ghost use Rattle.std.specs.List.{AllZip};
 ghost use Rattle.std.specs.Prelude.{◌≡◌, ◌<◌, ◌≤◌, All, IfOk, None, OnErr, OnOk, length, map};
 ghost use Rattle.agent_shards.specs.Shards.{plans_of};
-ghost use Rattle.taos_lanes.specs.Joining.{AreKept, AreNew, HasOtherWork, IsEmptied, passes_of};
+ghost use Rattle.taos_lanes.specs.Joining.{AreKept, AreNew, HasOtherWork, IsEmptied, cells_by, node_by, passes_by};
 ghost use Rattle.taos_lanes.specs.Parts.{ArePartsNew, node_in};
 ghost use Rattle.taos_lanes.specs.Serving.{ServesNode, left_by};
-ghost use Rattle.taos_lanes.specs.Stocked.{cells_of, node_at, shown_by};
-ghost use Rattle.taos_lanes.specs.Telling.{change, told_by};
+ghost use Rattle.taos_lanes.specs.Stocked.{shown_by};
+ghost use Rattle.taos_lanes.specs.Telling.{changes_by, told_by};
 ghost use Rattle.taos_monitor.specs.Planned.{ArePlanned};
 
 use crate::bench::Memos;
@@ -43,6 +43,14 @@ pub struct Served {
     pub total: Total,
 }
 
+// A node's keys, and its cells with all passes.
+#[derive(Drop)]
+struct NewNode {
+    keys: NodeKeys,
+    shards: (Agent, Passes),
+    objects: (Rack, RackPasses),
+}
+
 // The lanes keep nothing of their work.
 fn empty<C: Clock, R: RelayLink, D: Door, P: Fetch>(lanes: &mut [Lane<C, R, D, P>])
     ensures { let shown = shown_by C.shown R.shown D.shown P.shown in
@@ -63,9 +71,7 @@ fn serve_cells<
 >(
     rt: &W,
     alloc: Global,
-    keys: &NodeKeys,
-    shards: (Agent, Passes),
-    objects: (Rack, RackPasses),
+    node: NewNode,
     memos: &Memos,
     lanes: &mut [Lane<C, R, D, P>],
     pulls: bool,
@@ -73,18 +79,22 @@ fn serve_cells<
 ) -> Result<Served, AllocError>
     requires some { 0 < length lanes.old }
     requires few { length lanes.old ≤ MAX_LANES }
-    requires kept { AreKept (cells_of shards.0 objects.0) 0 (passes_of shards.1 objects.1) }
-    requires new { AreNew (cells_of shards.0 objects.0) }
-    requires planned { ArePlanned keys.now.channels.entries (plans_of shards.0) }
-    ensures served { let shown = shown_by C.shown R.shown D.shown P.shown in
-        IfOk result (λ r. ServesNode (told_by D.In.shown D.Out.shown)
-        (node_at keys.now (cells_of shards.0 objects.0)) pulls limits
-        (change (map shown lanes.old) (map shown lanes.new)) (left_by r)) }
+    requires kept { AreKept (cells_by node) 0 (passes_by node) }
+    requires new { AreNew (cells_by node) }
+    requires planned { ArePlanned node.keys.channels.entries (plans_of node.shards.0) }
+    ensures served { IfOk result (λ r. ServesNode (told_by D.In.shown D.Out.shown) (node_by node)
+        pulls limits (changes_by (shown_by C.shown R.shown D.shown P.shown) lanes.old lanes.new)
+        (left_by r)) }
     ensures idle { All (λ lane. lane.work ≡ None) lanes.new }
     ensures unserved { let shown = shown_by C.shown R.shown D.shown P.shown in
         OnErr result (AllZip HasOtherWork (map shown lanes.old) (map shown lanes.new)) }
 {
     closed_lanes_serve_all();
+    let NewNode {
+        keys,
+        shards,
+        objects,
+    } = node;
     let (agent, mut passes) = shards;
     let (rack, mut racked) = objects;
     let Ok(()) = stock_lanes(alloc, memos, &agent, &rack, &mut passes, &mut racked, lanes) else {
@@ -94,7 +104,7 @@ fn serve_cells<
     let shared = Shared {
         rt,
         alloc,
-        keys,
+        keys: &keys,
         agent: &agent,
         rack: &rack,
         pulls,
@@ -129,9 +139,9 @@ fn serve_new<
     requires some { 0 < length lanes.old }
     requires few { length lanes.old ≤ MAX_LANES }
     requires new { ArePartsNew parts }
-    ensures served { let shown = shown_by C.shown R.shown D.shown P.shown in
-        IfOk result (λ r. ServesNode (told_by D.In.shown D.Out.shown) (node_in parts) pulls limits
-        (change (map shown lanes.old) (map shown lanes.new)) (left_by r)) }
+    ensures served { IfOk result (λ r. ServesNode (told_by D.In.shown D.Out.shown) (node_in parts)
+        pulls limits (changes_by (shown_by C.shown R.shown D.shown P.shown) lanes.old lanes.new)
+        (left_by r)) }
     ensures idle { OnOk result (All (λ lane. lane.work ≡ None) lanes.new) }
     ensures unserved { let shown = shown_by C.shown R.shown D.shown P.shown in
         OnErr result (AllZip HasOtherWork (map shown lanes.old) (map shown lanes.new)) }
@@ -150,9 +160,12 @@ fn serve_new<
     };
     let opened = Agent::new(alloc, shards, anchors)?;
     let racked = Rack::new(alloc, objects)?;
-    serve_cells(
-        rt, alloc, &keys, opened, racked, &memos, lanes, pulls, limits,
-    )
+    let node = NewNode {
+        keys,
+        shards: opened,
+        objects: racked,
+    };
+    serve_cells(rt, alloc, node, &memos, lanes, pulls, limits)
 }
 
 /// Serves the doors of all lanes by the node of the parts, all at the same time, a worker a lane,
@@ -179,9 +192,9 @@ pub fn serve<
     requires some { 0 < length lanes.old }
     requires few { length lanes.old ≤ MAX_LANES }
     requires new { ArePartsNew parts }
-    ensures served { let shown = shown_by C.shown R.shown D.shown P.shown in
-        IfOk result (λ r. ServesNode (told_by D.In.shown D.Out.shown) (node_in parts) pulls limits
-        (change (map shown lanes.old) (map shown lanes.new)) (left_by r)) }
+    ensures served { IfOk result (λ r. ServesNode (told_by D.In.shown D.Out.shown) (node_in parts)
+        pulls limits (changes_by (shown_by C.shown R.shown D.shown P.shown) lanes.old lanes.new)
+        (left_by r)) }
     ensures idle { All (λ lane. lane.work ≡ None) lanes.new }
     ensures unserved { let shown = shown_by C.shown R.shown D.shown P.shown in
         OnErr result (AllZip HasOtherWork (map shown lanes.old) (map shown lanes.new)) }

@@ -2,7 +2,7 @@
 
 ghost use Rattle.std.specs.Prelude.{◌≡◌, None, false};
 ghost use Rattle.agent_shards.specs.Shards.{plans_of};
-ghost use Rattle.taos_lanes.specs.Stocked.{IsStocked, ServesLane, cells_of, shown_by};
+ghost use Rattle.taos_lanes.specs.Stocked.{IsStocked, ServesLaneBy, cells_shared, shown_by};
 ghost use Rattle.taos_lanes.specs.Telling.{told_by};
 ghost use Rattle.taos_lanes.specs.Working.{ServesSeated, lane_by};
 ghost use Rattle.taos_monitor.specs.Planned.{ArePlanned};
@@ -92,13 +92,10 @@ pub(crate) fn serve_lane<
         (plans_of shared.now.agent.now) }
     requires agent { shared.now.agent.now ≡ K.cells }
     requires rack { shared.now.rack.now ≡ L.cells }
-    requires stocked { IsStocked
-        (cells_of shared.now.agent.now shared.now.rack.now) K.shares L.shares
-        lane.old.work }
+    requires stocked { IsStocked (cells_shared shared.now) K.shares L.shares lane.old.work }
     ensures { let shown = shown_by C.shown R.shown D.shown P.shown in
-        ServesLane (told_by D.In.shown D.Out.shown) shared.now.keys.now
-        (cells_of shared.now.agent.now shared.now.rack.now) shared.now.pulls
-        shared.now.limits (shown lane.old) (shown lane.new) }
+        ServesLaneBy shared.now (told_by D.In.shown D.Out.shown) (shown lane.old)
+        (shown lane.new) }
 {
     take_room(shared.alloc);
     let Stock {

@@ -3,7 +3,7 @@
 ghost use Rattle.std.specs.List.{AllZip};
 ghost use Rattle.std.specs.Prelude.{◌≡◌, ◌<◌, All, length, map};
 ghost use Rattle.agent_shards.specs.Shards.{plans_of};
-ghost use Rattle.taos_lanes.specs.Stocked.{IsStocked, ServesLane, cells_of, shown_by};
+ghost use Rattle.taos_lanes.specs.Stocked.{IsStocked, ServesLaneBy, cells_shared, shown_by};
 ghost use Rattle.taos_lanes.specs.Telling.{told_by};
 ghost use Rattle.taos_monitor.specs.Planned.{ArePlanned};
 
@@ -31,14 +31,11 @@ pub(crate) fn serve_lanes<
         (plans_of shared.now.agent.now) }
     requires agent { shared.now.agent.now ≡ K.cells }
     requires rack { shared.now.rack.now ≡ L.cells }
-    requires stocked { All (λ lane. IsStocked
-        (cells_of shared.now.agent.now shared.now.rack.now) K.shares L.shares lane.work)
+    requires stocked { All (λ lane. IsStocked (cells_shared shared.now) K.shares L.shares lane.work)
         lanes.old }
     ensures { let shown = shown_by C.shown R.shown D.shown P.shown in
-        AllZip (ServesLane (told_by D.In.shown D.Out.shown) shared.now.keys.now
-        (cells_of shared.now.agent.now shared.now.rack.now) shared.now.pulls
-        shared.now.limits)
-        (map shown lanes.old) (map shown lanes.new) }
+        AllZip (ServesLaneBy shared.now (told_by D.In.shown D.Out.shown)) (map shown lanes.old)
+        (map shown lanes.new) }
 {
     let count = lanes.len();
     thread::for_each_mut(
@@ -50,12 +47,9 @@ pub(crate) fn serve_lanes<
                 (plans_of shared.now.agent.now) }
             requires agent { shared.now.agent.now ≡ K.cells }
             requires rack { shared.now.rack.now ≡ L.cells }
-            requires stocked { IsStocked (cells_of shared.now.agent.now shared.now.rack.now)
-                K.shares L.shares lane.old.work }
+            requires stocked { IsStocked (cells_shared shared.now) K.shares L.shares lane.old.work }
             ensures { let shown = shown_by C.shown R.shown D.shown P.shown in
-                ServesLane (told_by D.In.shown D.Out.shown) shared.entry.now.keys.now
-                (cells_of shared.entry.now.agent.now shared.entry.now.rack.now)
-                shared.entry.now.pulls shared.entry.now.limits (shown lane.old)
+                ServesLaneBy shared.entry.now (told_by D.In.shown D.Out.shown) (shown lane.old)
                 (shown lane.new) }
         { serve_lane(shared, lane) },
     );

@@ -8,6 +8,8 @@ use Rattle.frame_link.specs.Streams.{Stream}
 use Rattle.frame_link.specs.declared.outcome.Outcome.{Outcome}
 use Rattle.object_core.specs.Shelving.{ShelfSeen}
 use Rattle.taos_wire.specs.Request.{Request}
+use Rattle.taos_wire.specs.View.{request}
+use Rattle.taos_wire.specs.declared.request.Request.{Request as RequestValue}
 use Rattle.agent_core.specs.Shards.{ShardsSeen}
 use Rattle.taos_monitor.specs.declared.desk.Desk.{Desk}
 use Rattle.taos_monitor.specs.declared.handling.Handled.{Handled}
@@ -67,6 +69,12 @@ state_by keys shards shelf clock relay s h c r =
     state_of (setting_by keys (shards s) (shelf h))
     (world_by (outside_of (clock c) (relay r)) (shards s) (shelf h))
 
+-- a connection of these
+abbrev pub line_by : {S H C R I O : Type 0} → NodeKeys → (S → ShardsSeen) → (H → ShelfSeen) →
+    (C → Stream) → (R → Link) → (I → Stream) → (O → Stream) → S → H → C → R → I → O → Line State
+line_by keys shards shelf clock relay input output s h c r i o =
+    line (input i) (output o) (state_by keys shards shelf clock relay s h c r)
+
 -- ---- from a state to a state
 
 module _ (before after : State) where
@@ -96,6 +104,10 @@ module _ (before after : State) where
   -- the same of a request
   abbrev pub HandlesWith : Request → (bytes : List ℕ) → Handled → Type 0
   HandlesWith r bytes h = AnswersRequest before.setting before.world after.world r bytes h
+
+  -- the same of the program's request
+  abbrev pub HandlesAsked : RequestValue → (bytes : List ℕ) → Handled → Type 0
+  HandlesAsked r bytes h = HandlesWith (request r) bytes h
 
 -- a line, by what an answer may change
 abbrev pub in_world : Line State → Line World

@@ -3,9 +3,8 @@
 ghost use Rattle.std.specs.Prelude.{◌≡◌, false, IfOk, None};
 ghost use Rattle.std.specs.Thread.{IsSync};
 ghost use Rattle.frame_link.specs.Lent.{Both, To};
-ghost use Rattle.frame_link.specs.Served.{line};
 ghost use Rattle.taos_monitor.specs.Cells.{CellsStay, both_cells};
-ghost use Rattle.taos_monitor.specs.Desk.{IsFree, ServesBy, ServesIn, lent_by, line_at, state_at, state_by};
+ghost use Rattle.taos_monitor.specs.Desk.{IsFree, ServesBy, ServesIn, lent_by, line_at, line_by, state_at};
 ghost use Rattle.taos_monitor.specs.Planned.{ArePlanned};
 ghost use Rattle.taos_monitor.specs.Serving.{StepsTo, StopsIn};
 
@@ -160,10 +159,9 @@ pub fn serve_connection<
 ) -> Outcome
     requires planned { ArePlanned keys.now.channels.entries (S.shown shards.old).plans }
     requires none_taken { (H.shown shelf.old).taken ≡ None }
-    ensures connection { let at = state_by keys.now S.shown H.shown C.shown R.shown in ServesBy frames
-        (line (I.shown input.old) (O.shown output.old) (at shards.old shelf.old clock.old relay.old))
-        (line (I.shown input.new) (O.shown output.new) (at shards.new shelf.new clock.new relay.new))
-        result }
+    ensures connection { let at = line_by keys.now S.shown H.shown C.shown R.shown I.shown O.shown in
+        ServesBy frames (at shards.old shelf.old clock.old relay.old input.old output.old)
+        (at shards.new shelf.new clock.new relay.new input.new output.new) result }
 
     // What nobody changes, and no object is left taken.
     ensures stays { CellsStay (both_cells (S.shown shards.old) (H.shown shelf.old))

@@ -5,7 +5,7 @@ ghost use Rattle.keyed_seal.specs.Keys.{key_of};
 ghost use Rattle.taos_wire.specs.Request.{FitsRequest};
 ghost use Rattle.taos_wire.specs.View.{request as request_of};
 ghost use Rattle.taos_monitor.specs.Cells.{CellsStay, both_cells};
-ghost use Rattle.taos_monitor.specs.Desk.{HandlesPlainly, HandlesWith, IsFree, lent_by, state_at, state_by};
+ghost use Rattle.taos_monitor.specs.Desk.{HandlesAsked, HandlesPlainly, IsFree, lent_by, state_at, state_by};
 ghost use Rattle.taos_monitor.specs.Handling.{HandlesCause, LeavesReply};
 ghost use Rattle.taos_monitor.specs.Planned.{IsPlanned};
 
@@ -120,9 +120,9 @@ pub fn request<W: Wait + Sync, H: Shelf, S: Shards, R: RelayLink, C: Clock, D: D
     requires keyed { IsSome (key_of keys.now.channels.entries asked.now.channel) }
     requires planned { IsPlanned (S.shown shards.old).plans asked.now.channel }
     requires none_taken { (H.shown shelf.old).taken ≡ None }
-    ensures handled { let at = state_by keys.now S.shown H.shown C.shown R.shown in HandlesWith
+    ensures handled { let at = state_by keys.now S.shown H.shown C.shown R.shown in HandlesAsked
         (at shards.old shelf.old clock.old relay.old) (at shards.new shelf.new clock.new relay.new)
-        (request_of asked.now) out.new result }
+        asked.now out.new result }
     ensures left { LeavesReply out.old out.new result }
 
     // What nobody changes, and no object is left taken.

@@ -10,7 +10,7 @@ use Rattle.frame_link.specs.declared.outcome.Outcome.TheVariants.{End, NoMemory,
 use Rattle.frame_link.specs.declared.service.TheConstants.{MAX_PAYLOAD}
 use Rattle.frame_link.specs.Faults.{Rose}
 use Rattle.frame_link.specs.Frames.{framed}
-use Rattle.frame_link.specs.Served.{FaultCounts, CountsCause, StandStill}
+use Rattle.frame_link.specs.Served.{FaultCounts, CountsCause, Line, StandStill, counts_of}
 use Rattle.journal_bytes.specs.Spelled.{Journals as Spelled, numbered, spelled}
 use Rattle.journal_bytes.specs.Spelling.{journals_bytes}
 use Rattle.node_file.specs.Opening.{Opening}
@@ -20,6 +20,7 @@ use Rattle.taos_node.specs.declared.audit.Form.{Form}
 use Rattle.taos_node.specs.declared.audit.Form.TheVariants as form
 use Rattle.taos_node.specs.declared.ending.AuditEnd.{AuditEnd}
 use Rattle.taos_node.specs.declared.ending.AuditEnd.TheVariants as audit
+use Rattle.taos_node.specs.Calls.{LaneUsed, clock_count}
 
 -- these are the numbers of the opening's objects, ascending
 pub record AreNumbersOf (o : Opening) (numbers : List ℕ) : Type 0 where
@@ -89,6 +90,11 @@ AuditCauses before after (audit.Stopped outcome) = CountsCause before after outc
 AuditCauses before after audit.WriteFault = CountsCause before after WriteFault
 AuditCauses before after audit.NoMemory = after ≡ before
 
+-- the same of what the first lane's connection was served over
+abbrev pub HasAuditCauses : (before after : Line LaneUsed) → AuditEnd → Type 0
+HasAuditCauses before after =
+    AuditCauses (counts_of clock_count before) (counts_of clock_count after)
+
 -- Nothing else stops it: where the input is whole frames, not more than may be answered, and no count
 -- rises, the text is written, unless memory was refused.
 abbrev pub AuditIsComplete : ℕ → Option (List ℕ) → FaultCounts → FaultCounts → AuditEnd → Type 0
@@ -97,3 +103,9 @@ AuditIsComplete limit input before after end =
     All (λ p. length p ≤ MAX_PAYLOAD) payloads → length payloads ≤ limit →
     StandStill before after →
     (end ≡ audit.Done) ⊎ ((end ≡ audit.NoMemory) ⊎ (end ≡ audit.Stopped NoMemory))
+
+-- the same of what the first lane's connection was served over
+abbrev pub EndsAuditWhole : ℕ → (before after : Line LaneUsed) → AuditEnd → Type 0
+EndsAuditWhole limit before after =
+    AuditIsComplete limit before.input.told (counts_of clock_count before)
+    (counts_of clock_count after)

@@ -13,7 +13,7 @@ use Rattle.taos_node.specs.declared.ending.Ending.{Ending}
 use Rattle.taos_node.specs.declared.ending.Ending.TheVariants as ending
 use Rattle.taos_node.specs.declared.ending.Ending.TheVariants.{Usage, File, Served, Checked, Relayed, Minted, Lanes, RelayLanes, Audited, Drilled, Passed, Walleted, Replayed}
 use Rattle.taos_node.specs.Files.{IsNodeFile, IsPathFile, IsRelayFile, IsWalletFile, OpensNode, OpensPath, OpensRelay, OpensWallet, FileFails, FileDecides, HasFailed, IsSteady, node_means, path_means, relay_means, wallet_means}
-use Rattle.taos_node.specs.Calls.{Call, Touched, doors_of}
+use Rattle.taos_node.specs.Calls.{Call, LaneUsed, Touched, DoorsTouched, doors_of, with_file, with_input}
 use Rattle.node_words.specs.Words.{Mean, MintWords, DrillWords, PathWords, RunWords, ServeWords, Task, Run, Check, Relay, Mint, Serve, RelayServe, Audit, Drill, Path, Wallet, AuditBytes, Replay}
 use Rattle.node_check.specs.declared.check.CheckEnd.{CheckEnd}
 use Rattle.taos_node.specs.Stops.{status_of}
@@ -26,7 +26,7 @@ use Rattle.taos_node.specs.declared.ending.AuditEnd.{AuditEnd}
 use Rattle.taos_node.specs.declared.ending.DrillEnd.{DrillEnd}
 use Rattle.taos_node.specs.Audit.{IsAuditOf, WritesAudit, counts}
 use Rattle.taos_node.specs.Drills.{Drills}
-use Rattle.taos_node.specs.Lanes.{ServesLanes}
+use Rattle.taos_node.specs.Lanes.{ServesLanes, lanes_words}
 use Rattle.taos_node.specs.RelayLanes.{IsRelayOf, RelaysDoors}
 use Rattle.node_file.specs.Opening.{Opening}
 use Rattle.node_file.specs.RelayFile.{RelayFile}
@@ -37,8 +37,10 @@ use Rattle.cred_pull.specs.WalletFile.{WalletRow}
 use Rattle.cred_pull.specs.WalletServing as wallets
 use Rattle.taos_node.specs.declared.path.PathEnd.{PathEnd}
 use Rattle.taos_node.specs.Paths.{Passes}
+use Rattle.taos_node.specs.declared.audit.AuditAsked.{AuditAsked}
 use Rattle.taos_node.specs.declared.audit.Form.{Form}
 use Rattle.taos_node.specs.declared.audit.Form.TheVariants as form
+use Rattle.taos_node.specs.declared.lanes.LanesAsked.{LanesAsked}
 use Rattle.taos_node.specs.declared.replay.ReplayEnd.{ReplayEnd}
 use Rattle.taos_node.specs.Replaying.{Replays}
 use Rattle.prin_text.specs.Labels.{Labels}
@@ -49,7 +51,7 @@ use Rattle.taos_monitor.specs.declared.connection.TheConstants.{MAX_REQUEST}
 use Rattle.taos_monitor.specs.Connection.{IsConnection}
 use Rattle.taos_monitor.specs.World.{World, fetch_use, setting_of}
 use Rattle.taos_node.specs.declared.opened.OpenNode.{OpenNode}
-use Rattle.taos_node.specs.Opened.{IsNodeOf, IsOpenedBy, nothing_seen}
+use Rattle.taos_node.specs.Opened.{IsNodeOf, IsOpenedBy, nothing_seen, seen_by}
 use Rattle.node_check.specs.Findings.{Checks}
 
 -- the words are a command line
@@ -133,10 +135,14 @@ pub record ServesConnection (o : Opening) (pulls : Bool) (frames : ℕ) (before 
   pub connection : IsConnection (setting_of node (alone_of true true)) frames
       (with_seen pulls before nothing_seen) (with_seen pulls after seen) outcome
 
--- So the node serves the first lane's connection, of whatever opening it is, and shows this afterwards.
-abbrev pub ServesFirst : OpenNode → Bool → ℕ → (before after : Touched) → Seen → Outcome → Type 0
-ServesFirst opened pulls frames before after seen outcome = (o : Opening) → IsOpenedBy o opened →
-    (served : ServesConnection o pulls frames before after outcome) × (served.seen ≡ seen)
+-- So the node serves the first lane's connection, of whatever opening it is and whatever file there
+-- is, and is left like this.
+abbrev pub ServesFirst : OpenNode → Bool → ℕ → (before after : Line LaneUsed) → OpenNode → Outcome →
+    Type 0
+ServesFirst opened pulls frames before after left outcome =
+    (file0 file1 : Stream) (o : Opening) → IsOpenedBy o opened →
+    (served : ServesConnection o pulls frames (with_file file0 before) (with_file file1 after) outcome)
+    × (served.seen ≡ seen_by left)
 
 -- what a connection is served over where nobody has the replies
 abbrev pub unwritten : Touched → Seen → Line World
@@ -156,6 +162,13 @@ pub record Audits (form : Form) (o : Opening) (frames : ℕ) (before after : Tou
   pub text : List ℕ
   pub is_text : IsAuditOf form o seen.journals text
   pub writes : WritesAudit text outcome before.output.told after.output.told end
+
+-- So the node serves the first lane's connection, and its journals are printed, of whatever opening
+-- it is and whatever file there is.
+abbrev pub AuditsFirst : AuditAsked → OpenNode → (before after : Line LaneUsed) → AuditEnd → Type 0
+AuditsFirst asked opened before after end =
+    (o : Opening) (file0 file1 : Stream) → IsOpenedBy o opened →
+    Audits asked.form o asked.frames (with_file file0 before) (with_file file1 after) end
 
 -- a load that is made was served, and nothing but the output was touched
 pub record DrillsAlone (d : DrillWords) (before after : Touched) (end : DrillEnd) : Type 0 where
@@ -323,13 +336,17 @@ EndsWell {A} Means most before after status =
     IsSteady before.file after.file → IsSteady before.input after.input →
     IsSteady before.output after.output → (status ≡ 0) ⊎ (status ≡ 6)
 
--- A check comes to its end: where the file opens a node and nothing fails, it finds something, or
--- memory was refused.
-abbrev pub ChecksWell : Touched → Touched → ℕ → Type 0
-ChecksWell before after status =
+-- It comes to its end, or to this other one, or memory was refused, where the file opens a node and
+-- nothing fails.
+abbrev pub EndsOr : (other : ℕ) → (before after : Touched) → ℕ → Type 0
+EndsOr other before after status =
     (bytes : List ℕ) (o : Opening) → before.file.told ≡ Some bytes → IsNodeFile o bytes →
     IsSteady before.file after.file → IsSteady before.input after.input →
-    IsSteady before.output after.output → (status ≡ 0) ⊎ ((status ≡ 11) ⊎ (status ≡ 6))
+    IsSteady before.output after.output → (status ≡ 0) ⊎ ((status ≡ other) ⊎ (status ≡ 6))
+
+-- A check finds something.
+abbrev pub ChecksWell : (before after : Touched) → ℕ → Type 0
+ChecksWell before after status = EndsOr 11 before after status
 
 -- A certificate is made, or a word refused, or memory, where the file means something and nothing
 -- fails.
@@ -348,12 +365,9 @@ PassesWell before after status =
     IsSteady before.input after.input → IsSteady before.output after.output →
     (status ≡ 0) ⊎ ((status ≡ 13) ⊎ (status ≡ 6))
 
--- Journals are judged, or memory is refused, where the file opens a node and nothing fails.
-abbrev pub ReplaysWell : Touched → Touched → ℕ → Type 0
-ReplaysWell before after status =
-    (bytes : List ℕ) (o : Opening) → before.file.told ≡ Some bytes → IsNodeFile o bytes →
-    IsSteady before.file after.file → IsSteady before.input after.input →
-    IsSteady before.output after.output → (status ≡ 0) ⊎ ((status ≡ 14) ⊎ (status ≡ 6))
+-- Journals are judged.
+abbrev pub ReplaysWell : (before after : Touched) → ℕ → Type 0
+ReplaysWell before after status = EndsOr 14 before after status
 
 -- A load is made and served, or memory is refused, where the output does not fail.
 abbrev pub DrillsWell : Touched → Touched → ℕ → Type 0
@@ -440,6 +454,10 @@ module _ {X : Type 0} where
         IsSteady before.streams.output after.streams.output →
         AllZip HasSteadyDoor before.lanes after.lanes → (status ≡ 0) ⊎ (status ≡ 6)
 
+-- the same of a call
+abbrev pub TellsStatus : {X : Type 0} → List (String Global) → (before after : Call X) → ℕ → Type 0
+TellsStatus words before after status = IsStatus words before.streams after.streams status
+
 -- what a run does and tells, by how it ends
 pub record Does {In Out : Type 0} (telling : Telling In Out) (words : List (String Global))
     (before after : Call (In × Out)) (ending : Ending) : Type 0 where
@@ -453,11 +471,35 @@ abbrev pub DoesFor : {In Out : Type 0} → Telling In Out → Task → (before a
 DoesFor telling task before after ending =
     (words : List (String Global)) → Mean words task → Does telling words before after ending
 
+-- the same, whatever input there is, of lanes of a node that serve their doors
+abbrev pub ServesAsked : {In Out : Type 0} → Telling In Out → LanesAsked →
+    (before after : DoorsTouched (In × Out)) → Ending → Type 0
+ServesAsked telling asked before after ending =
+    (input : Stream) →
+    DoesFor telling (Serve (lanes_words asked)) (with_input input before) (with_input input after) ending
+
+-- and of those of a relay
+abbrev pub RelaysAsked : {In Out : Type 0} → Telling In Out → Limits →
+    (before after : DoorsTouched (In × Out)) → Ending → Type 0
+RelaysAsked telling limits before after ending =
+    (input : Stream) →
+    DoesFor telling (RelayServe limits) (with_input input before) (with_input input after) ending
+
 -- what is done where no lanes are served, and what its status tells, for all words that mean this
 abbrev pub EndsAlone : Task → (before after : Touched) → Ending → Type 0
 EndsAlone task before after ending =
     (words : List (String Global)) → Mean words task →
     RunsAlone words before after ending × IsStatus words before after (status_of ending)
+
+-- the same, whatever the first lane is
+abbrev pub EndsWithoutLanes : Task → (before after : LaneUsed → Touched) → Ending → Type 0
+EndsWithoutLanes task before after ending =
+    (lane : LaneUsed) → EndsAlone task (before lane) (after lane) ending
+
+-- the same of a call that prints journals
+abbrev pub AuditsAsked : {X : Type 0} → AuditAsked → (before after : Call X) → Ending → Type 0
+AuditsAsked asked before after ending =
+    EndsAlone (audit_task asked.form asked.frames) before.streams after.streams ending
 
 -- no other lane than the first was touched, nor the door of any
 pub record LeavesLanes {C R D P In Out : Type 0} (before after : List (Lane C R D P In Out)) :

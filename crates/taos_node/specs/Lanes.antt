@@ -3,16 +3,21 @@ use Rattle.std.specs.Prelude.{◌≡◌, ℕ, Bool, ◌<◌, ◌≤◌, List, �
 use Rattle.std.specs.Io.KnownBytes.{Appends, Keeps}
 use Rattle.std.specs.List.{AllZip}
 use Rattle.frame_link.specs.Faults.{Rose}
+use Rattle.frame_link.specs.Streams.{Stream}
 use Rattle.node_file.specs.Opening.{Opening}
+use Rattle.node_words.specs.Words.{ServeWords, serve_words}
 use Rattle.frame_link.specs.declared.limits.Limits.{Limits}
+use Rattle.taos_lanes.specs.declared.parts.NodeParts.{NodeParts}
 use Rattle.taos_lanes.specs.declared.total.Total.{Total}
 use Rattle.taos_lanes.specs.Joining.{HasOtherWork}
+use Rattle.taos_lanes.specs.Parts.{node_in}
 use Rattle.taos_lanes.specs.Serving.{Left, ServesNode}
 use Rattle.taos_lanes.specs.Stocked.{LaneShown}
-use Rattle.taos_lanes.specs.Telling.{Change, Telling}
+use Rattle.taos_lanes.specs.Telling.{Change, Telling, change}
 use Rattle.taos_monitor.specs.Cells.{Node}
 use Rattle.taos_node.specs.declared.ending.LanesEnd.{LanesEnd}
 use Rattle.taos_node.specs.declared.ending.LanesEnd.TheVariants as lanes
+use Rattle.taos_node.specs.declared.lanes.LanesAsked.{LanesAsked}
 use Rattle.taos_node.specs.Opened.{IsNodeOf}
 use Rattle.taos_node.specs.Summary.{lanes_line}
 
@@ -67,3 +72,18 @@ module _ {In Out : Type 0} (telling : Telling In Out) (o : Opening) (pulls : Boo
         Keeps out.before out.after → ServesLanes doors out end
     served : (l : Left) → ServesOpening doors l → Prints l out.before out.after end →
         ServesLanes doors out end
+
+-- what the lanes of a node are asked for
+abbrev pub lanes_words : LanesAsked → ServeWords
+lanes_words asked = serve_words asked.limits asked.lemmas asked.pulls
+
+-- what was told of a stream
+abbrev pub told_in : Change Stream → Change (Option (List ℕ))
+told_in stream = change stream.before.told stream.after.told
+
+-- So the lanes of a node of these parts serve, of whatever opening it is, with what is printed.
+abbrev pub ServesParts : {In Out : Type 0} → Telling In Out → NodeParts → LanesAsked →
+    Change (List (LaneShown (In × Out))) → Change Stream → LanesEnd → Type 0
+ServesParts telling parts asked lanes output end =
+    (o : Opening) → IsNodeOf o (node_in parts) →
+    ServesLanes telling o asked.pulls asked.limits lanes (told_in output) end

@@ -28,6 +28,14 @@ abbrev pub Begins : Option (List ℕ) → ℕ → Type 0
 Begins None from = from ≡ 0
 Begins (Some text) from = IsMoment text from
 
+-- these are the words' beginning and end
+abbrev pub AreTimes : MintWords → (from until : ℕ) → Type 0
+AreTimes m from until = Begins m.from from × IsMoment m.until until
+
+-- the words have no such
+abbrev pub HasNoTimes : MintWords → Type 0
+HasNoTimes m = (from until : ℕ) → Begins m.from from → IsMoment m.until until → ⊥
+
 -- the text is no principal
 abbrev pub IsNobody : Labels → List ℕ → Type 0
 IsNobody labels text = (p : Principal) → IsTextWithin labels p text → ⊥
@@ -67,7 +75,7 @@ module _ (issuers : Entries) (labels : Labels) (m : MintWords) where
   -- what is wrong where a word is refused
   abbrev pub IsWrong : MintWord → Type 0
   IsWrong word.Issuer = key_of issuers m.issuer ≡ None
-  IsWrong word.Time = (from until : ℕ) → Begins m.from from → IsMoment m.until until → ⊥
+  IsWrong word.Time = HasNoTimes m
   IsWrong word.Quoted = IsBadQuote labels m.quoted
   IsWrong word.Left = IsNobody labels m.left
   IsWrong word.Right = IsNobody labels m.right

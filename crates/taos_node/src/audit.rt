@@ -3,18 +3,18 @@
 ghost use Rattle.std.specs.Prelude.{◌≡◌, ◌<◌, ◌≤◌, ◌^◌, All, IfOk, None, String, length};
 ghost use Rattle.journal_bytes.specs.Limits.{CitesFew, HasFittingOps};
 ghost use Rattle.std.specs.declared.alloc.Global.{Global};
-ghost use Rattle.frame_link.specs.Streams.{Stream, stream};
+ghost use Rattle.frame_link.specs.Streams.{stream};
 ghost use Rattle.node_file.specs.Opening.{Opening as Meaning};
 ghost use Rattle.object_core.specs.OneOwner.{taken_from};
 ghost use Rattle.agent_core.specs.Alone.{plans_in};
 ghost use Rattle.taos_monitor.specs.Planned.{ArePlanned};
-ghost use Rattle.taos_node.specs.Audit.{AuditCauses, AuditIsComplete, TextHasCause, WritesText, counts};
+ghost use Rattle.taos_node.specs.Audit.{EndsAuditWhole, HasAuditCauses, TextHasCause, WritesText};
 ghost use Rattle.taos_node.specs.AuditOf.{all_text, all_in};
-ghost use Rattle.taos_node.specs.Calls.{called, first_of, itself};
-ghost use Rattle.taos_node.specs.Command.{Audits, EndsAlone, LeavesLanes, audit_task};
+ghost use Rattle.taos_node.specs.Calls.{called, first_line};
+ghost use Rattle.taos_node.specs.Command.{AuditsAsked, AuditsFirst, LeavesLanes};
 ghost use Rattle.taos_node.specs.Opened.{IsOpenedBy, IsSmall};
 
-use crate::command::{node_file_of, serve_first};
+use crate::command::{Opened, node_file_of, serve_first};
 use crate::ending::{AuditEnd, Ending};
 use crate::opened::OpenNode;
 use agent_core::{MAX_SHARDS, Shard};
@@ -22,8 +22,6 @@ use audit_replay::write_journals;
 use audit_text::{audit_object, audit_shard};
 use cred_pull::Fetch;
 use frame_link::{Clock, Door, Failed, Outcome, RelayLink, Sink, Source, pour};
-use goal_search::Workbench;
-use lemma_memo::Lemmas;
 use object_core::Object;
 use replay_law::what_a_node_left_is_writable;
 use std::alloc::{AllocError, Global};
@@ -35,6 +33,13 @@ use taos_lanes::Lane;
 pub enum Form {
     Text,
     Bytes,
+}
+
+/// What an audit is to do: serve at most so many frames, and print journals in this form.
+#[derive(Clone, Copy)]
+pub(crate) struct AuditAsked {
+    pub frames: u64,
+    pub form: Form,
 }
 
 // A sink that keeps nothing and tells nothing.
@@ -124,12 +129,11 @@ fn write_text<O: Sink>(alloc: Global, form: Form, node: OpenNode, output: &mut O
 fn audit<W: Wait + Sync, I: Source, O: Sink, C: Clock, R: RelayLink, D: Door, P: Fetch>(
     rt: &W,
     alloc: Global,
-    opened: (OpenNode, Lemmas<Workbench>),
+    opened: Opened,
     input: &mut I,
     output: &mut O,
     lanes: &mut [Lane<C, R, D, P>],
-    frames: u64,
-    form: Form,
+    asked: AuditAsked,
 ) -> AuditEnd
     requires some { 0 < length lanes.old }
     requires planned { ArePlanned opened.0.keys.channels.entries (plans_in opened.0.shards.shards) }
@@ -137,20 +141,15 @@ fn audit<W: Wait + Sync, I: Source, O: Sink, C: Clock, R: RelayLink, D: Door, P:
     requires few { length opened.0.shards.shards ≤ MAX_SHARDS }
     requires opened { (o : Meaning) × IsOpenedBy o opened.0 }
     requires small { IsSmall opened.0 }
-    ensures audits { (o : Meaning) (file0 file1 : Stream) → IsOpenedBy o opened.0
-        → let at = called itself I.shown O.shown C.shown R.shown D.shown P.shown in
-        Audits form o frames (at file0 input.old output.old lanes.old).streams
-        (at file1 input.new output.new lanes.new).streams result }
-    ensures causes { AuditCauses
-        (counts (I.shown input.old).faults (O.shown output.old).faults
-        (first_of C.shown R.shown P.shown lanes.old).clock.faults)
-        (counts (I.shown input.new).faults (O.shown output.new).faults
-        (first_of C.shown R.shown P.shown lanes.new).clock.faults) result }
-    ensures complete { AuditIsComplete frames (I.shown input.old).told
-        (counts (I.shown input.old).faults (O.shown output.old).faults
-        (first_of C.shown R.shown P.shown lanes.old).clock.faults)
-        (counts (I.shown input.new).faults (O.shown output.new).faults
-        (first_of C.shown R.shown P.shown lanes.new).clock.faults) result }
+    ensures audits { let at = first_line I.shown O.shown C.shown R.shown D.shown P.shown in
+        AuditsFirst asked opened.0 (at input.old output.old lanes.old)
+        (at input.new output.new lanes.new) result }
+    ensures causes { let at = first_line I.shown O.shown C.shown R.shown D.shown P.shown in
+        HasAuditCauses (at input.old output.old lanes.old) (at input.new output.new lanes.new)
+        result }
+    ensures complete { let at = first_line I.shown O.shown C.shown R.shown D.shown P.shown in
+        EndsAuditWhole asked.frames (at input.old output.old lanes.old)
+        (at input.new output.new lanes.new) result }
     ensures untouched { LeavesLanes lanes.old lanes.new }
 {
     let (mut node, mut bench) = opened;
@@ -163,13 +162,13 @@ fn audit<W: Wait + Sync, I: Source, O: Sink, C: Clock, R: RelayLink, D: Door, P:
         &mut Nowhere,
         lanes,
         false,
-        frames,
+        asked.frames,
     );
     let Outcome::End { .. } = outcome else {
         return AuditEnd::Stopped(outcome);
     };
     what_a_node_left_is_writable();
-    write_text(alloc, form, node, output)
+    write_text(alloc, asked.form, node, output)
 }
 
 /// Serves a connection by the node of a file, of at most so many frames, and prints the journals.
@@ -189,17 +188,16 @@ pub(crate) fn audit_by_file<
     input: &mut I,
     output: &mut O,
     lanes: &mut [Lane<C, R, D, P>],
-    frames: u64,
-    form: Form,
+    asked: AuditAsked,
 ) -> Ending
     requires some { 0 < length lanes.old }
     ensures audits { let at = called F.shown I.shown O.shown C.shown R.shown D.shown P.shown in
-        EndsAlone (audit_task form frames) (at file.old input.old output.old lanes.old).streams
-        (at file.new input.new output.new lanes.new).streams result }
+        AuditsAsked asked (at file.old input.old output.old lanes.old)
+        (at file.new input.new output.new lanes.new) result }
     ensures untouched { LeavesLanes lanes.old lanes.new }
 {
     match node_file_of(alloc, file, 0) {
-        Ok(opened) => Ending::Audited(audit(rt, alloc, opened, input, output, lanes, frames, form)),
+        Ok(opened) => Ending::Audited(audit(rt, alloc, opened, input, output, lanes, asked)),
         Err(fault) => Ending::File(fault),
     }
 }

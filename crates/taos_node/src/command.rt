@@ -4,23 +4,22 @@ ghost use Rattle.std.specs.Prelude.{◌≡◌, ◌⊎◌, ◌<◌, ◌≤◌, St
 ghost use Rattle.std.specs.declared.alloc.Global.{Global};
 ghost use Rattle.agent_core.specs.declared.limits.TheConstants.{MAX_SHARDS};
 ghost use Rattle.agent_core.specs.Alone.{plans_in};
-ghost use Rattle.frame_link.specs.Served.{line, HasCauses, IsComplete};
+ghost use Rattle.frame_link.specs.Served.{HasCauses, IsComplete};
 ghost use Rattle.object_core.specs.OneOwner.{taken_from};
 ghost use Rattle.taos_monitor.specs.Planned.{ArePlanned};
-ghost use Rattle.frame_link.specs.Streams.{Stream};
 ghost use Rattle.taos_lanes.specs.Telling.{change, told_by};
 ghost use Rattle.taos_lanes.specs.declared.serving.TheConstants.{MAX_LANES};
-ghost use Rattle.taos_node.specs.Calls.{LaneUsed, called, first_of, itself, touched};
-ghost use Rattle.taos_node.specs.Command.{Does, Ends, EndsAlone, IsStatus, LeavesLanes, ServesDoors, ServesFirst, TellsDoors};
+ghost use Rattle.taos_node.specs.Calls.{called, clock_count, first_line, touched};
+ghost use Rattle.taos_node.specs.Command.{Does, Ends, EndsWithoutLanes, LeavesLanes, ServesDoors, ServesFirst, TellsDoors, TellsStatus};
 ghost use Rattle.taos_node.specs.Files.{FileHasCause, NodeFileGives};
-ghost use Rattle.taos_node.specs.Opened.{IsOpenedBy, IsSameNode, IsSmall, seen_by};
+ghost use Rattle.taos_node.specs.Opened.{IsOpenedBy, IsSameNode, IsSmall};
 ghost use Rattle.node_words.specs.Words.{Check};
 
-use crate::audit::{Form, audit_by_file};
+use crate::audit::{AuditAsked, Form, audit_by_file};
 use crate::drill::drill_asked;
 use crate::ending::{Ending, FileFault, status_of};
 use crate::file::file_opening;
-use crate::lanes::serve_by_file;
+use crate::lanes::{LanesAsked, serve_by_file};
 use crate::note::tell;
 use crate::opened::{OpenNode, open_node};
 use crate::path::path_by_file;
@@ -41,12 +40,15 @@ use std::thread::Threads;
 use taos_lanes::{Lane, bench_of};
 use taos_monitor::Desk;
 
+/// A node that a file opened, with the room that its decisions take.
+pub(crate) type Opened = (OpenNode, Lemmas<Workbench>);
+
 /// The node that it opens, with the room that decisions take and that so many lemmas do.
 pub(crate) fn node_file_of<F: Source>(
     alloc: Global,
     file: &mut F,
     lemmas: u32,
-) -> Result<(OpenNode, Lemmas<Workbench>), FileFault>
+) -> Result<Opened, FileFault>
     ensures gives { NodeFileGives (λ o x. IsOpenedBy o x.0) (F.shown file.old)
         (F.shown file.new) result }
     ensures planned { IfOk result (λ x. ArePlanned x.0.keys.channels.entries
@@ -87,21 +89,16 @@ pub(crate) fn serve_first<
     requires planned { ArePlanned node.old.keys.channels.entries
         (plans_in node.old.shards.shards) }
     requires none_taken { taken_from node.old.shelf ≡ None }
-    ensures connection { (file0 file1 : Stream)
-        → let at = called itself I.shown O.shown C.shown R.shown D.shown P.shown in
-        ServesFirst node.old pulls frames (at file0 input.old output.old lanes.old).streams
-        (at file1 input.new output.new lanes.new).streams (seen_by node.new) result }
+    ensures connection { let at = first_line I.shown O.shown C.shown R.shown D.shown P.shown in
+        ServesFirst node.old pulls frames (at input.old output.old lanes.old)
+        (at input.new output.new lanes.new) node.new result }
     ensures same { IsSameNode node.old node.new }
-    ensures causes { HasCauses (λ faults. faults)
-        (line (I.shown input.old) (O.shown output.old)
-        (first_of C.shown R.shown P.shown lanes.old).clock.faults)
-        (line (I.shown input.new) (O.shown output.new)
-        (first_of C.shown R.shown P.shown lanes.new).clock.faults) result }
-    ensures complete { IsComplete (λ faults. faults) frames
-        (line (I.shown input.old) (O.shown output.old)
-        (first_of C.shown R.shown P.shown lanes.old).clock.faults)
-        (line (I.shown input.new) (O.shown output.new)
-        (first_of C.shown R.shown P.shown lanes.new).clock.faults) result }
+    ensures causes { let at = first_line I.shown O.shown C.shown R.shown D.shown P.shown in
+        HasCauses clock_count (at input.old output.old lanes.old)
+        (at input.new output.new lanes.new) result }
+    ensures complete { let at = first_line I.shown O.shown C.shown R.shown D.shown P.shown in
+        IsComplete clock_count frames (at input.old output.old lanes.old)
+        (at input.new output.new lanes.new) result }
     ensures untouched { LeavesLanes lanes.old lanes.new }
 {
     let lane = &mut lanes[0];
@@ -126,9 +123,9 @@ fn check_file<F: Source, I: Source, O: Sink>(
     output: &mut O,
 ) -> Ending
     // Whatever clock and link there are.
-    ensures checks { (lane : LaneUsed) → EndsAlone Check
-        (touched (F.shown file.old) (I.shown input.old) (O.shown output.old) lane)
-        (touched (F.shown file.new) (I.shown input.new) (O.shown output.new) lane) result }
+    ensures checks { EndsWithoutLanes Check
+        (touched (F.shown file.old) (I.shown input.old) (O.shown output.old))
+        (touched (F.shown file.new) (I.shown input.new) (O.shown output.new)) result }
 {
     match file_opening(alloc, file) {
         Ok(node) => Ending::Checked(check_connection(alloc, &node, input, output)),
@@ -177,16 +174,31 @@ fn run<
             limits,
             lemmas,
             pulls,
-        } => serve_by_file(rt, alloc, file, output, lanes, limits, lemmas, pulls),
+        } => {
+            let asked = LanesAsked {
+                limits,
+                lemmas,
+                pulls,
+            };
+            serve_by_file(rt, alloc, file, output, lanes, asked)
+        }
         Wanted::RelayServe(limits) => {
             serve_relay_by_file(rt, alloc, file, output, lanes, limits)
         }
         Wanted::Drill(asked) => drill_asked(rt, alloc, asked, output),
         Wanted::Audit { frames } => {
-            audit_by_file(rt, alloc, file, input, output, lanes, frames, Form::Text)
+            let asked = AuditAsked {
+                frames,
+                form: Form::Text,
+            };
+            audit_by_file(rt, alloc, file, input, output, lanes, asked)
         }
         Wanted::AuditBytes { frames } => {
-            audit_by_file(rt, alloc, file, input, output, lanes, frames, Form::Bytes)
+            let asked = AuditAsked {
+                frames,
+                form: Form::Bytes,
+            };
+            audit_by_file(rt, alloc, file, input, output, lanes, asked)
         }
         Wanted::Replay => replay_by_file(alloc, file, input, output),
         Wanted::Wallet { frames } => wallet_by_file(alloc, file, input, output, frames),
@@ -261,8 +273,8 @@ pub fn taos<
     // Whatever was done: the words decide status 1 and the file status 2, what can come to its end
     // does, and a fault is answered where there was one, and only there.
     ensures status { let at = called F.shown I.shown O.shown C.shown R.shown D.shown P.shown in
-        IsStatus words.now (at file.old input.old output.old lanes.old).streams
-        (at file.new input.new output.new lanes.new).streams result }
+        TellsStatus words.now (at file.old input.old output.old lanes.old)
+        (at file.new input.new output.new lanes.new) result }
 
     // What the status tells of the lanes' doors.
     ensures doors { let at = called F.shown I.shown O.shown C.shown R.shown D.shown P.shown in

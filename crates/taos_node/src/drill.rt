@@ -7,8 +7,8 @@ ghost use Rattle.taos_drill.specs.declared.numbers.TheConstants.{MAX_LANES, MAX_
 ghost use Rattle.taos_node.specs.Drills.{AreDrillLanes, DrillCauses, Drills, IsDrillLane, ServesDrill, drill_shown};
 ghost use Rattle.node_words.specs.Words as task;
 ghost use Rattle.node_words.specs.Words.{drill_words};
-ghost use Rattle.taos_node.specs.Calls.{LaneUsed, touched};
-ghost use Rattle.taos_node.specs.Command.{EndsAlone};
+ghost use Rattle.taos_node.specs.Calls.{touched};
+ghost use Rattle.taos_node.specs.Command.{EndsWithoutLanes};
 ghost use Rattle.frame_link.specs.Streams.{Stream};
 ghost use Rattle.std.specs.declared.alloc.Global.{Global};
 
@@ -114,9 +114,8 @@ pub(crate) fn drill_asked<W: Threads + Wait + Sync, O: Sink>(
     output: &mut O,
 ) -> Ending
     // Whatever file, input, clock and link there are.
-    ensures drills { (file input : Stream) (lane : LaneUsed) → EndsAlone (task.Drill (drill_words asked))
-        (touched file input (O.shown output.old) lane)
-        (touched file input (O.shown output.new) lane) result }
+    ensures drills { (file input : Stream) → EndsWithoutLanes (task.Drill (drill_words asked))
+        (touched file input (O.shown output.old)) (touched file input (O.shown output.new)) result }
 {
     // Words mean no other load.
     if asked.requests > MAX_REQUESTS {

@@ -1,20 +1,17 @@
 //! The command that serves the lanes of a node.
 
-ghost use Rattle.std.specs.Prelude.{◌<◌, ◌≤◌, IfOk, length, map};
+ghost use Rattle.std.specs.Prelude.{◌<◌, ◌≤◌, IfOk, length};
 ghost use Rattle.std.specs.declared.alloc.Global.{Global};
-ghost use Rattle.frame_link.specs.Streams.{Stream};
-ghost use Rattle.node_file.specs.Opening.{Opening as Meaning};
 ghost use Rattle.taos_lanes.specs.Parts.{ArePartsNew, node_in};
 ghost use Rattle.taos_lanes.specs.Serving.{left_by};
 ghost use Rattle.taos_lanes.specs.Stocked.{shown_by};
-ghost use Rattle.taos_lanes.specs.Telling.{change, told_by};
+ghost use Rattle.taos_lanes.specs.Telling.{change, changes_by, told_by};
 ghost use Rattle.taos_lanes.specs.declared.serving.TheConstants.{MAX_LANES};
-ghost use Rattle.taos_node.specs.Calls.{called, itself};
-ghost use Rattle.taos_node.specs.Command.{DoesFor};
+ghost use Rattle.taos_node.specs.Calls.{doors_by};
+ghost use Rattle.taos_node.specs.Command.{ServesAsked};
 ghost use Rattle.taos_node.specs.Files.{FileHasCause, NodeFileGives};
-ghost use Rattle.taos_node.specs.Lanes.{LanesCauses, Prints, PrintsLine, ServesLanes};
+ghost use Rattle.taos_node.specs.Lanes.{LanesCauses, Prints, PrintsLine, ServesParts};
 ghost use Rattle.taos_node.specs.Opened.{IsNodeOf};
-ghost use Rattle.node_words.specs.Words.{Serve, serve_words};
 
 use crate::ending::{Ending, FileFault, LanesEnd};
 use crate::file::file_opening;
@@ -26,6 +23,15 @@ use std::alloc::{AllocError, Global};
 use std::sync::Wait;
 use std::thread::Threads;
 use taos_lanes::{Lane, NodeParts, Served, Total, serve};
+
+/// What the lanes of a node are to do: within the limits, with room for so many lemmas each, and
+/// with certificates that are fetched where `pulls` is set.
+#[derive(Clone, Copy)]
+pub(crate) struct LanesAsked {
+    pub limits: Limits,
+    pub lemmas: u32,
+    pub pulls: bool,
+}
 
 /// Prints the line of what lanes counted, where no door failed and no connection ended for want of
 /// memory.
@@ -84,21 +90,25 @@ fn serve_parts<
     parts: NodeParts,
     output: &mut O,
     lanes: &mut [Lane<C, R, D, P>],
-    limits: Limits,
-    lemmas: u32,
-    pulls: bool,
+    asked: LanesAsked,
 ) -> LanesEnd
     requires some { 0 < length lanes.old }
     requires few { length lanes.old ≤ MAX_LANES }
     requires new { ArePartsNew parts }
-    ensures serves { (o : Meaning) → IsNodeOf o (node_in parts)
-        → let shown = shown_by C.shown R.shown D.shown P.shown in
-        ServesLanes (told_by D.In.shown D.Out.shown) o pulls limits
-        (change (map shown lanes.old) (map shown lanes.new))
-        (change (O.shown output.old).told (O.shown output.new).told) result }
+    ensures serves { ServesParts (told_by D.In.shown D.Out.shown) parts asked
+        (changes_by (shown_by C.shown R.shown D.shown P.shown) lanes.old lanes.new)
+        (change (O.shown output.old) (O.shown output.new)) result }
     ensures cause { LanesCauses (O.shown output.old).faults (O.shown output.new).faults result }
 {
-    match serve(rt, alloc, parts, lanes, limits, lemmas, pulls) {
+    match serve(
+        rt,
+        alloc,
+        parts,
+        lanes,
+        asked.limits,
+        asked.lemmas,
+        asked.pulls,
+    ) {
         Ok(served) => print(output, &served),
         Err(AllocError) => LanesEnd::NoMemory,
     }
@@ -119,22 +129,17 @@ pub(crate) fn serve_by_file<
     file: &mut F,
     output: &mut O,
     lanes: &mut [Lane<C, R, D, P>],
-    limits: Limits,
-    lemmas: u32,
-    pulls: bool,
+    asked: LanesAsked,
 ) -> Ending
     requires some { 0 < length lanes.old }
     requires few { length lanes.old ≤ MAX_LANES }
     // Whatever input there is.
-    ensures serves { (input : Stream)
-        → let at = called F.shown itself O.shown C.shown R.shown D.shown P.shown in
-        DoesFor (told_by D.In.shown D.Out.shown) (Serve (serve_words limits lemmas pulls))
-        (at file.old input output.old lanes.old) (at file.new input output.new lanes.new) result }
+    ensures serves { let at = doors_by F.shown O.shown C.shown R.shown D.shown P.shown in
+        ServesAsked (told_by D.In.shown D.Out.shown) asked (at file.old output.old lanes.old)
+        (at file.new output.new lanes.new) result }
 {
     match node_parts_of(alloc, file) {
-        Ok(parts) => Ending::Lanes(serve_parts(
-            rt, alloc, parts, output, lanes, limits, lemmas, pulls,
-        )),
+        Ok(parts) => Ending::Lanes(serve_parts(rt, alloc, parts, output, lanes, asked)),
         Err(fault) => Ending::File(fault),
     }
 }

@@ -7,7 +7,7 @@ ghost use Rattle.prin_term.specs.View.{principal};
 ghost use Rattle.prin_text.specs.Meaning.{IsTextWithin};
 ghost use Rattle.sealed_cert.specs.Seals.{OpensIssued};
 ghost use Rattle.stmt_codec.specs.Certificates.{certificate, IsWithinLimits};
-ghost use Rattle.taos_node.specs.Minting.{AsksFor, Begins, IsBadQuote, IsMinted, IsMoment, IsNobody, IsQuoted, IsStopped, MintCauses, Mints, minted_line};
+ghost use Rattle.taos_node.specs.Minting.{AreTimes, AsksFor, Begins, HasNoTimes, IsBadQuote, IsMinted, IsMoment, IsNobody, IsQuoted, IsStopped, MintCauses, Mints, minted_line};
 ghost use Rattle.node_words.specs.Words.{mint_words};
 
 use credential_kit::{Signer, issue_body};
@@ -98,9 +98,8 @@ fn beginning_of(text: Option<&str>) -> Option<u64>
 
 // From when on and until when.
 fn times_of(mint: &Mint<'_>) -> Option<(u64, u64)>
-    ensures { MatchOption result ((from until : ℕ) → Begins (mint_words mint.now).from from
-        → IsMoment (mint_words mint.now).until until → ⊥)
-        (λ t. Begins (mint_words mint.now).from t.0 × IsMoment (mint_words mint.now).until t.1) }
+    ensures { MatchOption result (HasNoTimes (mint_words mint.now))
+        (λ t. AreTimes (mint_words mint.now) t.0 t.1) }
 {
     Some((beginning_of(mint.from)?, seconds_of(mint.until)?))
 }

@@ -10,8 +10,8 @@ ghost use Rattle.node_words.specs.Words as task;
 ghost use Rattle.node_words.specs.Words.{path_words};
 ghost use Rattle.relay_core.specs.declared.message.TheConstants.{MAX_CERT};
 ghost use Rattle.relay_path.specs.Domains.{LinksAgree, knows};
-ghost use Rattle.taos_node.specs.Calls.{LaneUsed, touched};
-ghost use Rattle.taos_node.specs.Command.{EndsAlone};
+ghost use Rattle.taos_node.specs.Calls.{touched};
+ghost use Rattle.taos_node.specs.Command.{EndsWithoutLanes};
 ghost use Rattle.taos_node.specs.Paths.{AreLines, HasNoLines, PathCauses, Passes, bytes_or_none};
 
 use crate::ending::Ending;
@@ -143,9 +143,9 @@ pub(crate) fn path_by_file<F: Source, I: Source, O: Sink>(
     asked: &Path,
 ) -> Ending
     // Whatever clock and link there are.
-    ensures passes { (lane : LaneUsed) → EndsAlone (task.Path (path_words asked.now))
-        (touched (F.shown file.old) (I.shown input.old) (O.shown output.old) lane)
-        (touched (F.shown file.new) (I.shown input.new) (O.shown output.new) lane) result }
+    ensures passes { EndsWithoutLanes (task.Path (path_words asked.now))
+        (touched (F.shown file.old) (I.shown input.old) (O.shown output.old))
+        (touched (F.shown file.new) (I.shown input.new) (O.shown output.new)) result }
 {
     match file_domains(alloc, file) {
         Ok(domains) => Ending::Passed(pass(alloc, &domains, asked, input, output)),

@@ -2,8 +2,8 @@
 
 ghost use Rattle.std.specs.declared.alloc.Global.{Global};
 ghost use Rattle.frame_link.specs.Streams.{Stream};
-ghost use Rattle.taos_node.specs.Calls.{LaneUsed, touched};
-ghost use Rattle.taos_node.specs.Command.{EndsAlone};
+ghost use Rattle.taos_node.specs.Calls.{touched};
+ghost use Rattle.taos_node.specs.Command.{EndsWithoutLanes};
 ghost use Rattle.node_words.specs.Words.{Mint, Relay, mint_words};
 
 use crate::ending::Ending;
@@ -23,9 +23,9 @@ pub(crate) fn relay_by_file<F: Source, I: Source, O: Sink>(
     frames: u64,
 ) -> Ending
     // Whatever clock and link there are.
-    ensures relays { (lane : LaneUsed) → EndsAlone (Relay frames)
-        (touched (F.shown file.old) (I.shown input.old) (O.shown output.old) lane)
-        (touched (F.shown file.new) (I.shown input.new) (O.shown output.new) lane) result }
+    ensures relays { EndsWithoutLanes (Relay frames)
+        (touched (F.shown file.old) (I.shown input.old) (O.shown output.old))
+        (touched (F.shown file.new) (I.shown input.new) (O.shown output.new)) result }
 {
     match file_relay(alloc, file) {
         Ok(relay) => Ending::Relayed(serve_relay(alloc, &relay.table, input, output, frames)),
@@ -41,9 +41,9 @@ pub(crate) fn mint_by_file<F: Source, O: Sink>(
     asked: &MintAsked<'_>,
 ) -> Ending
     // Whatever input, clock and link there are.
-    ensures mints { (input : Stream) (lane : LaneUsed) → EndsAlone (Mint (mint_words asked.now))
-        (touched (F.shown file.old) input (O.shown output.old) lane)
-        (touched (F.shown file.new) input (O.shown output.new) lane) result }
+    ensures mints { (input : Stream) → EndsWithoutLanes (Mint (mint_words asked.now))
+        (touched (F.shown file.old) input (O.shown output.old))
+        (touched (F.shown file.new) input (O.shown output.new)) result }
 {
     match file_relay(alloc, file) {
         Ok(relay) => Ending::Minted(mint(alloc, &relay, asked, output)),

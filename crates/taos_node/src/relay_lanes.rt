@@ -1,18 +1,14 @@
 //! The command that serves the lanes of a relay.
 
-ghost use Rattle.std.specs.Prelude.{◌<◌, ◌≤◌, length, map};
+ghost use Rattle.std.specs.Prelude.{◌<◌, ◌≤◌, length};
 ghost use Rattle.std.specs.declared.alloc.Global.{Global};
-ghost use Rattle.frame_link.specs.Streams.{Stream};
-ghost use Rattle.node_file.specs.RelayFile as meant;
-ghost use Rattle.node_file.specs.RelayView.{StandsFor};
 ghost use Rattle.taos_lanes.specs.Stocked.{shown_by};
-ghost use Rattle.taos_lanes.specs.Telling.{change, told_by};
+ghost use Rattle.taos_lanes.specs.Telling.{change, changes_by, told_by};
 ghost use Rattle.taos_lanes.specs.declared.serving.TheConstants.{MAX_LANES};
-ghost use Rattle.taos_node.specs.Calls.{called, itself};
-ghost use Rattle.taos_node.specs.Command.{DoesFor};
+ghost use Rattle.taos_node.specs.Calls.{doors_by};
+ghost use Rattle.taos_node.specs.Command.{RelaysAsked};
 ghost use Rattle.taos_node.specs.Lanes.{LanesCauses};
-ghost use Rattle.taos_node.specs.RelayLanes.{RelaysDoors};
-ghost use Rattle.node_words.specs.Words.{RelayServe};
+ghost use Rattle.taos_node.specs.RelayLanes.{RelaysFile};
 
 use crate::ending::{Ending, LanesEnd};
 use crate::file::file_relay;
@@ -43,11 +39,9 @@ fn serve_lanes<
 ) -> LanesEnd
     requires some { 0 < length lanes.old }
     requires few { length lanes.old ≤ MAX_LANES }
-    ensures serves { (r : meant.RelayFile) → StandsFor relay.now r
-        → let shown = shown_by C.shown R.shown D.shown P.shown in
-        RelaysDoors (told_by D.In.shown D.Out.shown) r limits
-        (change (map shown lanes.old) (map shown lanes.new))
-        (change (O.shown output.old).told (O.shown output.new).told) result }
+    ensures serves { RelaysFile (told_by D.In.shown D.Out.shown) relay.now limits
+        (changes_by (shown_by C.shown R.shown D.shown P.shown) lanes.old lanes.new)
+        (change (O.shown output.old) (O.shown output.new)) result }
     ensures cause { LanesCauses (O.shown output.old).faults (O.shown output.new).faults result }
 {
     let total = serve_relays(rt, alloc, &relay.table, lanes, limits);
@@ -74,10 +68,9 @@ pub(crate) fn serve_relay_by_file<
     requires some { 0 < length lanes.old }
     requires few { length lanes.old ≤ MAX_LANES }
     // Whatever input there is.
-    ensures serves { (input : Stream)
-        → let at = called F.shown itself O.shown C.shown R.shown D.shown P.shown in
-        DoesFor (told_by D.In.shown D.Out.shown) (RelayServe limits)
-        (at file.old input output.old lanes.old) (at file.new input output.new lanes.new) result }
+    ensures serves { let at = doors_by F.shown O.shown C.shown R.shown D.shown P.shown in
+        RelaysAsked (told_by D.In.shown D.Out.shown) limits (at file.old output.old lanes.old)
+        (at file.new output.new lanes.new) result }
 {
     match file_relay(alloc, file) {
         Ok(relay) => Ending::RelayLanes(serve_lanes(rt, alloc, &relay, output, lanes, limits)),

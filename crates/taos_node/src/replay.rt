@@ -7,8 +7,8 @@ ghost use Rattle.node_file.specs.Opening.{Opening as Meaning};
 ghost use Rattle.node_file.specs.OpeningView.{Represents};
 ghost use Rattle.node_open.specs.Cells.{AreCellsOf, cells_of};
 ghost use Rattle.node_words.specs.Words as task;
-ghost use Rattle.taos_node.specs.Calls.{LaneUsed, touched};
-ghost use Rattle.taos_node.specs.Command.{EndsAlone};
+ghost use Rattle.taos_node.specs.Calls.{touched};
+ghost use Rattle.taos_node.specs.Command.{EndsWithoutLanes};
 ghost use Rattle.taos_node.specs.Replaying.{IsToldOf, ReplayCauses, Replays, cause_word, is_legal, replay_line};
 
 use crate::ending::Ending;
@@ -187,9 +187,9 @@ pub(crate) fn replay_by_file<F: Source, I: Source, O: Sink>(
     output: &mut O,
 ) -> Ending
     // Whatever clock, link and fetch there are.
-    ensures replays { (lane : LaneUsed) → EndsAlone task.Replay
-        (touched (F.shown file.old) (I.shown input.old) (O.shown output.old) lane)
-        (touched (F.shown file.new) (I.shown input.new) (O.shown output.new) lane) result }
+    ensures replays { EndsWithoutLanes task.Replay
+        (touched (F.shown file.old) (I.shown input.old) (O.shown output.old))
+        (touched (F.shown file.new) (I.shown input.new) (O.shown output.new)) result }
 {
     match file_opening(alloc, file) {
         Ok(node) => Ending::Replayed(replay_input(alloc, &node, input, output)),

@@ -1,8 +1,8 @@
 //! The command that serves a connection by a wallet.
 
 ghost use Rattle.std.specs.declared.alloc.Global.{Global};
-ghost use Rattle.taos_node.specs.Calls.{LaneUsed, touched};
-ghost use Rattle.taos_node.specs.Command.{EndsAlone};
+ghost use Rattle.taos_node.specs.Calls.{touched};
+ghost use Rattle.taos_node.specs.Command.{EndsWithoutLanes};
 ghost use Rattle.node_words.specs.Words.{Wallet};
 
 use crate::ending::Ending;
@@ -20,9 +20,9 @@ pub(crate) fn wallet_by_file<F: Source, I: Source, O: Sink>(
     frames: u64,
 ) -> Ending
     // Whatever clock, link and fetch there are.
-    ensures gives { (lane : LaneUsed) → EndsAlone (Wallet frames)
-        (touched (F.shown file.old) (I.shown input.old) (O.shown output.old) lane)
-        (touched (F.shown file.new) (I.shown input.new) (O.shown output.new) lane) result }
+    ensures gives { EndsWithoutLanes (Wallet frames)
+        (touched (F.shown file.old) (I.shown input.old) (O.shown output.old))
+        (touched (F.shown file.new) (I.shown input.new) (O.shown output.new)) result }
 {
     match file_wallet(alloc, file) {
         Ok(wallet) => Ending::Walleted(serve_wallet(alloc, &wallet, input, output, frames)),

@@ -1,6 +1,6 @@
 -- What a saturation holds.
 use Rattle.std.specs.Prelude.{◌≡◌, ℕ, ◌<◌, ◌≤◌, ◌^◌, List, [], Some}
-use Rattle.std.specs.Prelude.{slice_get, length, map, vec_capacity}
+use Rattle.std.specs.Prelude.{Option, MatchOption, slice_get, length, map, vec_capacity}
 use Rattle.taos_calculus.specs.declared.line.Step.{Step}
 use Rattle.taos_calculus.specs.declared.line.Fact.{Fact}
 use Rattle.taos_calculus.specs.declared.line.Line.{Line}
@@ -62,6 +62,14 @@ pub record IsReady (s : Saturation) : Type 0 where
 -- the fact was found
 abbrev pub IsKnown : Saturation → Fact → Type 0
 IsKnown s fact = (k : ℕ) × (slice_get (facts_of s) k ≡ Some fact)
+
+-- the numbers of a line that has the one fact and of one that has the other, or none where one of
+-- them is in no line
+abbrev pub FindsBoth : Saturation → (one other : Fact) → Option (ℕ × ℕ) → Type 0
+FindsBoth s one other lines =
+    MatchOption lines ((i j : ℕ) → slice_get (facts_of s) i ≡ Some one
+    → slice_get (facts_of s) j ≡ Some other → ⊥)
+    (λ q. (slice_get (facts_of s) q.0 ≡ Some one) × (slice_get (facts_of s) q.1 ≡ Some other))
 
 -- a line that may come next
 pub record IsNew (s : Saturation) (line : Line) : Type 0 where

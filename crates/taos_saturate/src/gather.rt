@@ -15,7 +15,7 @@ ghost use Rattle.term_pool.specs.Claims.{CitedIn};
 ghost use Rattle.term_pool.specs.Interning.{IsRoomy};
 ghost use Rattle.term_pool.specs.Claims.{claim_by};
 
-use prin_term::{Anchor, Entry, Term};
+use prin_term::{Entry, Term};
 use std::sync::Arc;
 use stmt_codec::Cert;
 use taos_calculus::Node;
@@ -31,18 +31,6 @@ pub fn take_term(nodes: &mut Vec<Node>, term: &Term) -> u16
     ensures capacity { vec_capacity nodes.old ≤ vec_capacity nodes.new }
 {
     intern(nodes, term)
-}
-
-/// Keeps the anchors. Their keys and names are taken in only as far as they are named elsewhere.
-pub fn keep_anchors(kept: &mut Vec<Anchor>, anchors: &[Anchor])
-    requires none { kept.old.items ≡ [] }
-    requires room { length anchors.now ≤ vec_capacity kept.old }
-    ensures kept { kept.new.items ≡ anchors.now }
-    ensures capacity { vec_capacity kept.old ≤ vec_capacity kept.new }
-{
-    for i in 0..anchors.len() {
-        kept.push(anchors[i]).unwrap();
-    }
 }
 
 // The speaker and the statement of a certificate, by their numbers.

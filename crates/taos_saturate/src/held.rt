@@ -10,14 +10,14 @@ ghost use Rattle.taos_saturate.specs.Saturating.{facts_of};
 ghost use Rattle.taos_saturate.specs.Held.{IsReserved, IsGathered, IsHeld, seen};
 ghost use Rattle.term_pool.specs.Claims.{ArePlacesApart};
 
-use crate::gather::{keep_anchors, state_all, take_certs, take_list, take_term};
+use crate::gather::{state_all, take_certs, take_list, take_term};
 use crate::saturation::Saturation;
 use prin_term::{Anchor, Entry, Term};
 use std::alloc::{AllocError, Global};
 use std::sync::Arc;
 use stmt_codec::Cert;
 use taos_calculus::{MAX_ANCHORS, MAX_CERTS, MAX_ENTRIES, MAX_LINES, MAX_NODES, Taken};
-use term_pool::{Found, take_proof};
+use term_pool::{Found, keep_anchors, take_proof};
 
 /// The saturated table, with the numbers of who asks and of who is on the list.
 #[derive(Drop)]

@@ -3,7 +3,7 @@
 ghost use Rattle.std.specs.Prelude.{◌≡◌, ℕ, ◌<◌, Some, MatchOption, slice_get, length};
 ghost use Rattle.taos_calculus.specs.declared.line.Fact.{Fact};
 ghost use Rattle.taos_calculus.specs.Tables.{OperandsBelow};
-ghost use Rattle.taos_saturate.specs.Saturating.{facts_of, IsReady, IsNumber};
+ghost use Rattle.taos_saturate.specs.Saturating.{facts_of, FindsBoth, IsReady, IsNumber};
 
 use prin_term::Anchor;
 use taos_calculus::{Fact, Node};
@@ -60,11 +60,7 @@ impl Saturation {
         requires b_in { IsNumber self.now b }
         requires c_in { IsNumber self.now c }
         requires d_in { IsNumber self.now d }
-        ensures { MatchOption result
-            ((i j : ℕ) → slice_get (facts_of self.now) i ≡ Some (Fact.Speaks a b)
-            → slice_get (facts_of self.now) j ≡ Some (Fact.Speaks c d) → ⊥)
-            (λ q. (slice_get (facts_of self.now) q.0 ≡ Some (Fact.Speaks a b))
-            × (slice_get (facts_of self.now) q.1 ≡ Some (Fact.Speaks c d))) }
+        ensures { FindsBoth self.now (Fact.Speaks a b) (Fact.Speaks c d) result }
     {
         match self.speaks(a, b) {
             Some(first) => match self.speaks(c, d) {

@@ -25,7 +25,7 @@ pub use laws::{
 pub use limit_laws::limits_are;
 pub use reading::read_request;
 pub use reply::{LAST_STATUS, LentGrant, LentPart, LinkSent, MAX_CITED, Reply};
-pub use reply_head::{HEAD, ReplyHead, head_at};
+pub use reply_head::{HEAD, ReplyHead, byte_of, head_at, long_of, word_of};
 pub use reply_lent::{
     draft_granted, draft_missing, write_granted, write_missing, write_missing_with,
 };

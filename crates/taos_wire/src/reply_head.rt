@@ -17,8 +17,6 @@ const UNKNOWN_CHANNEL: u8 = 3;
 
 const JOURNAL_FULL: u8 = 10;
 
-const NO_MEMORY: u8 = 11;
-
 const COMMONS_FULL: u8 = 12;
 
 const WITHDRAWN_FULL: u8 = 14;
@@ -50,19 +48,11 @@ impl ReplyHead {
     {
         self.status == DENIED
     }
-
-    /// Whether the reply names a request: one that is sealed by nobody names none.
-    pub fn names_request(&self) -> bool {
-        match self.status {
-            2..=4 => false,
-            NO_MEMORY => self.channel != 0 || self.number != 0,
-            _ => true,
-        }
-    }
 }
 
+/// The byte at this place, if it is there.
 #[tactic(auto, unfolding(byte_fields::specs::Steps::byte_at))]
-fn byte_of(front: &[u8], at: usize) -> Option<u8>
+pub fn byte_of(front: &[u8], at: usize) -> Option<u8>
     ensures exact { result ≡ read (u8_in front.now at) }
     ensures value { IfSome result (λ byte. u8_in front.now at ≡ Ok (byte, at + 1)) }
     ensures found { IsSome result ↔ at + 1 ≤ length front.now }
@@ -76,8 +66,9 @@ fn byte_of(front: &[u8], at: usize) -> Option<u8>
     }
 }
 
+/// The number of four bytes from this place on, if they are there.
 #[tactic(auto, unfolding(byte_fields::specs::Steps::number_at))]
-fn word_of(front: &[u8], at: usize) -> Option<u32>
+pub fn word_of(front: &[u8], at: usize) -> Option<u32>
     ensures exact { result ≡ read (u32_in front.now at) }
     ensures value { IfSome result (λ word. u32_in front.now at ≡ Ok (word, at + 4)) }
     ensures found { IsSome result ↔ at + 4 ≤ length front.now }
@@ -91,8 +82,9 @@ fn word_of(front: &[u8], at: usize) -> Option<u32>
     }
 }
 
+/// The same of eight bytes.
 #[tactic(auto, unfolding(byte_fields::specs::Steps::number_at))]
-fn long_of(front: &[u8], at: usize) -> Option<u64>
+pub fn long_of(front: &[u8], at: usize) -> Option<u64>
     ensures exact { result ≡ read (u64_in front.now at) }
     ensures value { IfSome result (λ long. u64_in front.now at ≡ Ok (long, at + 8)) }
     ensures found { IsSome result ↔ at + 8 ≤ length front.now }

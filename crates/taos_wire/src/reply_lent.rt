@@ -5,7 +5,6 @@ ghost use Rattle.std.specs.Option.{option_copied};
 ghost use Rattle.byte_fields.specs.Appends.{Appends, Pushes};
 ghost use Rattle.prin_term.specs.Refusal.{FitsLimits};
 ghost use Rattle.prin_term.specs.View.{principal};
-ghost use Rattle.taos_wire.specs.Reply as math;
 ghost use Rattle.taos_wire.specs.Reply.{fields_of, reply_text, sent, spelling};
 ghost use Rattle.taos_wire.specs.View.{lent_grant, lent_part};
 
@@ -13,7 +12,7 @@ use crate::reply::{LentGrant, LentPart, MAX_CITED};
 use crate::reply_granting::push_granted;
 use crate::reply_writing::{DENIED, GRANTED, place_of, push_head, push_part, push_seal};
 use keyed_seal::Sealer;
-use prin_term::{ENTRY_NODES, Term};
+use prin_term::ENTRY_NODES;
 use std::alloc::AllocError;
 
 /// Appends the reply of a grant whose parts are lent: what `write_reply_with` appends for a
@@ -119,25 +118,16 @@ pub fn write_missing(
     key: &[u8; 32],
     channel: u32,
     seq: u64,
-    shard: u32,
-    place: u64,
-    entry: u8,
-    part: &Term,
+    denial: &LentPart<'_>,
 ) -> Result<(), AllocError>
-    requires limits { FitsLimits ENTRY_NODES (principal part.now) }
-    ensures appends { Appends out.old out.new (spelling (sent (Some key.now) channel seq
-        (math.Denied shard place (math.Missing entry (principal part.now))))) result }
-    ensures short { length (spelling (sent (Some key.now) channel seq
-        (math.Denied shard place (math.Missing entry (principal part.now))))) ≤ 256 }
+    requires limits { FitsLimits ENTRY_NODES (principal denial.now.part.now) }
+    ensures appends { Appends out.old out.new
+        (spelling (sent (Some key.now) channel seq (lent_part denial.now))) result }
+    ensures short { length (spelling (sent (Some key.now) channel seq (lent_part denial.now)))
+        ≤ 256 }
 {
     let sealer = Sealer::of(key);
-    let denial = LentPart {
-        shard,
-        place,
-        entry,
-        part,
-    };
-    write_missing_with(out, &sealer, channel, seq, &denial)
+    write_missing_with(out, &sealer, channel, seq, denial)
 }
 
 /// The same under a key that is ready to seal.

@@ -40,7 +40,7 @@ use taos_node::{
     Ending, FileFault, Lane, LanesEnd, Outcome, Wanted, file_opening, file_wallet, status_of, taos,
     tell, wanted_of,
 };
-use telling::{Told, output_teller, tell_end, tell_start, told_of};
+use telling::{Told, output_rounds, output_teller, tell_end, tell_start, told_of};
 use usage::{USAGE, VERSION};
 use wallets::{failed_door, give_at_all, wallet_doors};
 
@@ -117,7 +117,7 @@ fn work<
     }
     let mut file = Watched::new(alloc, file, path, rt.stderr());
     let teller = output_teller(setting.wanted, common.tellers);
-    let timed = Arc::try_clone(&rounds).ok();
+    let timed = output_rounds(&teller, &rounds);
     let mut input = Reading::new(Rounded::new(standard_input, *rt, rounds));
     let telling = Telling::new(Deferred::new(&outbox), *rt, None, teller, timed);
     let mut output = Writing::new(telling);

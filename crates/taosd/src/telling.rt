@@ -15,7 +15,7 @@ use std::sync::Arc;
 use std::thread::Threads;
 use std::time::SystemTime;
 use system_link::{
-    Counted, Counting, FileReading, Form, Journals, Listener, NoticeQueue, Origin, Scribe,
+    Counted, Counting, FileReading, Form, Journals, Listener, NoticeQueue, Origin, Rounds, Scribe,
     StatusDoor, Stop, Tally, Teller, Tells, bind_all, notices_of, seconds_of, teller_of,
 };
 use taos_node::{Wanted, file_opening};
@@ -256,5 +256,14 @@ pub fn output_teller(wanted: Wanted<'_>, tellers: &[Teller]) -> Teller {
     match tellers.first() {
         Some(teller) if writes_frames => teller_of(teller).unwrap_or(None),
         _ => None,
+    }
+}
+
+/// By which rounds the notices of standard output are told. Without notices there is none: no peer stands
+/// behind it who may be silent for longer once a reply shows that a frame was sealed right.
+pub fn output_rounds(teller: &Teller, rounds: &Arc<Rounds, Global>) -> Option<Arc<Rounds, Global>> {
+    match teller {
+        Some(_) => Arc::try_clone(rounds).ok(),
+        None => None,
     }
 }

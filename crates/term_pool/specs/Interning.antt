@@ -1,5 +1,5 @@
 -- Taking principals into a table of nodes.
-use Rattle.std.specs.Prelude.{◌≡◌, ℕ, ◌<◌, ◌≤◌, List, length}
+use Rattle.std.specs.Prelude.{◌≡◌, ◌≢◌, ℕ, ◌<◌, ◌≤◌, List, length, Option, MatchOption}
 use Rattle.prin_term.specs.Kind.{Kind, And, Quoting, For}
 use Rattle.prin_term.specs.Principal.{Principal}
 use Rattle.taos_calculus.specs.declared.line.Node.{Node}
@@ -28,6 +28,12 @@ pub record TakesIn (old new : List Node) (ps : List Principal)
   pub grown : principals_of new ≡ met (principals_of old) ps
   pub within : id < length new
   pub named_is : named new id ≡ p
+
+-- the number of a principal in the table, or none where no node is it
+abbrev pub FindsNumber : List Node → Principal → Option ℕ → Type 0
+FindsNumber nodes p number =
+    MatchOption number ((i : ℕ) → i < length nodes → named nodes i ≢ p)
+    (λ i. (i < length nodes) × (named nodes i ≡ p))
 
 -- a node of two operands
 abbrev pub node_pair : Kind → ℕ → ℕ → Node

@@ -1,6 +1,7 @@
 //! What deciders share: terms with numbers, and proofs that are taken out of what was found.
 #![tactic(auto)]
 
+mod anchors;
 mod cited;
 mod citing;
 mod extract;
@@ -13,6 +14,7 @@ mod region;
 mod retable;
 mod taking;
 
+pub use anchors::keep_anchors;
 pub use cited::Cited;
 pub use found::{Found, Pair};
 pub use interning::{find, intern, place};

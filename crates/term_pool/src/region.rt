@@ -1,6 +1,6 @@
 //! Interned nodes, which are found by a hash.
 
-ghost use Rattle.std.specs.Prelude.{◌≡◌, ◌≢◌, ℕ, ◌<◌, ◌≤◌, [], ◌∷◌, ◌++◌, IfOk, length};
+ghost use Rattle.std.specs.Prelude.{◌≡◌, ℕ, ◌<◌, ◌≤◌, [], ◌∷◌, ◌++◌, IfOk, length};
 ghost use Rattle.std.specs.Prelude.{◌↔◌, IsTrue, MatchOption, Some, slice_get, slice_index};
 ghost use Rattle.prin_term.specs.Principal.{Principal};
 ghost use Rattle.prin_term.specs.View.{principal};
@@ -8,7 +8,7 @@ ghost use Rattle.taos_calculus.specs.declared.proof.TheConstants.{MAX_NODES};
 ghost use Rattle.taos_calculus.specs.Canonical.{post_order};
 ghost use Rattle.taos_calculus.specs.Tables.{OperandsBelow, named, shape};
 ghost use Rattle.term_pool.specs.Filing.{IsFiled, IsRegion, bucket_of, mark_of};
-ghost use Rattle.term_pool.specs.Interning.{FitsIn, TakesIn};
+ghost use Rattle.term_pool.specs.Interning.{FindsNumber, FitsIn, TakesIn};
 
 use crate::interning::pair_node;
 use prin_term::Term;
@@ -181,11 +181,7 @@ impl Region {
     /// The number of a term.
     pub fn find(&self, term: &Term) -> Option<u16>
         requires region { IsRegion self.now }
-        ensures { MatchOption result
-            ((i : ℕ) → i < length self.now.nodes.items
-            → named self.now.nodes.items i ≢ principal term.now)
-            (λ i. (i < length self.now.nodes.items)
-            × (named self.now.nodes.items i ≡ principal term.now)) }
+        ensures { FindsNumber self.now.nodes.items (principal term.now) result }
     {
         match term {
             Term::Key(key) => self.number(Node::Key(*key)),

@@ -24,58 +24,38 @@ pub fn sample(alloc: Global) -> Result<Names, Fail> {
     Ok(names)
 }
 
-// Texts that names and roles may not have.
-const BAD: &[&str] = &[
-    "",
-    "1a",
-    "-a",
-    "Alice",
-    "al ice",
-    "al:ice",
-    "and",
-    "as",
-    "for",
-    "key",
-    "name",
-    "role",
-    "a23456789012345678901234567890123",
-    "\u{e9}t\u{e9}",
+#[derive(Clone, Copy)]
+enum Sort {
+    Name,
+    Role,
+}
+
+use Sort::{Name, Role};
+
+// A sort, a place, and what stands there.
+const ROWS: &[(Sort, usize, Option<(u32, &str)>)] = &[
+    (Name, 0, Some((10, "alice"))),
+    (Name, 1, Some((20, "ws1"))),
+    (Name, 2, Some((21, "ws2"))),
+    (Name, 3, Some((30, "bob"))),
+    (Name, 4, None),
+    (Role, 1, Some((2, "reader"))),
+    (Role, 2, None),
 ];
 
-// And texts at the edges that they may have.
-const GOOD: &[(u32, &str)] = &[
-    (100, "a"),
-    (101, "z"),
-    (102, "a23456789012345678901234567890_."),
-    (103, "ands"),
-    (104, "keys"),
-    (105, "b-9"),
-];
-
-const NAME_ROWS: &[(usize, Option<(u32, &str)>)] = &[
-    (0, Some((10, "alice"))),
-    (1, Some((20, "ws1"))),
-    (2, Some((21, "ws2"))),
-    (3, Some((30, "bob"))),
-    (4, None),
-];
-
-const ROLE_ROWS: &[(usize, Option<(u32, &str)>)] = &[(1, Some((2, "reader"))), (2, None)];
-
-#[test]
-fn places_of_names_go_by_ascending_number(rt: HostRuntime) -> Result<(), Fail> {
-    let names = sample(rt.alloc())?;
-    for &(place, row) in NAME_ROWS {
-        assert!(rt; names.name_at(place) == row, "at {place}");
+// Whether this stands at the place.
+fn is_row(names: &Names, sort: Sort, place: usize, row: Option<(u32, &str)>) -> bool {
+    match sort {
+        Name => names.name_at(place) == row,
+        Role => names.role_at(place) == row,
     }
-    Ok(())
 }
 
 #[test]
-fn places_of_roles_go_by_ascending_number(rt: HostRuntime) -> Result<(), Fail> {
+fn places_go_by_ascending_number(rt: HostRuntime) -> Result<(), Fail> {
     let names = sample(rt.alloc())?;
-    for &(place, row) in ROLE_ROWS {
-        assert!(rt; names.role_at(place) == row, "at {place}");
+    for &(sort, place, row) in ROWS {
+        assert!(rt; is_row(&names, sort, place, row), "at {place}");
     }
     Ok(())
 }
@@ -88,51 +68,62 @@ fn a_name_is_found_by_its_text(rt: HostRuntime) -> Result<(), Fail> {
     Ok(())
 }
 
-fn name_fault(alloc: Global, names: &mut Names, number: u32, text: &str) -> Option<NamesFault> {
-    names.add_name(alloc, number, text).err()
-}
-
-fn role_fault(alloc: Global, names: &mut Names, number: u32, text: &str) -> Option<NamesFault> {
-    names.add_role(alloc, number, text).err()
-}
-
-const TAKEN: &[(u32, &str)] = &[(10, "alice"), (10, "carol"), (40, "alice")];
-
-#[test]
-fn numbers_and_texts_of_names_come_once(rt: HostRuntime) -> Result<(), Fail> {
-    let mut names = sample(rt.alloc())?;
-    for &(number, text) in TAKEN {
-        let fault = name_fault(rt.alloc(), &mut names, number, text);
-        assert!(rt; fault == Some(NamesFault::Twice), "{number} {text}");
+// Why no name or role of this number and text is added.
+fn fault_of(
+    alloc: Global,
+    names: &mut Names,
+    sort: Sort,
+    number: u32,
+    text: &str,
+) -> Option<NamesFault> {
+    match sort {
+        Name => names.add_name(alloc, number, text).err(),
+        Role => names.add_role(alloc, number, text).err(),
     }
-    Ok(())
 }
 
-#[test]
-fn a_role_may_have_a_number_and_a_text_of_a_name(rt: HostRuntime) -> Result<(), Fail> {
-    let mut names = sample(rt.alloc())?;
-    names.add_role(rt.alloc(), 10, "alice")?;
-    let fault = role_fault(rt.alloc(), &mut names, 10, "carol");
-    assert!(rt; fault == Some(NamesFault::Twice));
-    Ok(())
-}
+// What is added to the sample, one after the other, and why it is not.
+const ADDED: &[(Sort, u32, &str, Option<NamesFault>)] = &[
+    // Numbers and texts of names come once.
+    (Name, 10, "alice", Some(NamesFault::Twice)),
+    (Name, 10, "carol", Some(NamesFault::Twice)),
+    (Name, 40, "alice", Some(NamesFault::Twice)),
+    // A bad text is reported first.
+    (Name, 10, "", Some(NamesFault::BadText)),
+    (Name, 10, "1a", Some(NamesFault::BadText)),
+    (Name, 10, "-a", Some(NamesFault::BadText)),
+    (Name, 10, "Alice", Some(NamesFault::BadText)),
+    (Name, 10, "al ice", Some(NamesFault::BadText)),
+    (Name, 10, "al:ice", Some(NamesFault::BadText)),
+    (Name, 10, "and", Some(NamesFault::BadText)),
+    (Name, 10, "as", Some(NamesFault::BadText)),
+    (Name, 10, "for", Some(NamesFault::BadText)),
+    (Name, 10, "key", Some(NamesFault::BadText)),
+    (Name, 10, "name", Some(NamesFault::BadText)),
+    (Name, 10, "role", Some(NamesFault::BadText)),
+    (Name, 10, LONG, Some(NamesFault::BadText)),
+    (Name, 10, "\u{e9}t\u{e9}", Some(NamesFault::BadText)),
+    // A role may have a number and a text of a name.
+    (Role, 10, "alice", None),
+    (Role, 10, "carol", Some(NamesFault::Twice)),
+    // Texts at the edges.
+    (Role, 100, "a", None),
+    (Role, 101, "z", None),
+    (Role, 102, "a23456789012345678901234567890_.", None),
+    (Role, 103, "ands", None),
+    (Role, 104, "keys", None),
+    (Role, 105, "b-9", None),
+];
+
+// A text of 33 bytes.
+const LONG: &str = "a23456789012345678901234567890123";
 
 #[test]
-fn a_bad_text_is_reported_first(rt: HostRuntime) -> Result<(), Fail> {
+fn a_name_or_role_is_added_or_refused_by_its_first_cause(rt: HostRuntime) -> Result<(), Fail> {
     let mut names = sample(rt.alloc())?;
-    for text in BAD {
-        let fault = name_fault(rt.alloc(), &mut names, 10, text);
-        assert!(rt; fault == Some(NamesFault::BadText), "{text}");
-    }
-    Ok(())
-}
-
-#[test]
-fn texts_at_the_edges_are_taken(rt: HostRuntime) -> Result<(), Fail> {
-    let mut names = sample(rt.alloc())?;
-    for &(number, text) in GOOD {
-        let fault = role_fault(rt.alloc(), &mut names, number, text);
-        assert!(rt; fault == None, "{text}");
+    for &(sort, number, text, fault) in ADDED {
+        let got = fault_of(rt.alloc(), &mut names, sort, number, text);
+        assert!(rt; got == fault, "{number} {text}");
     }
     Ok(())
 }
@@ -168,11 +159,11 @@ fn full(alloc: Global) -> Result<Names, Fail> {
 #[test]
 fn a_full_table_holds_so_many(rt: HostRuntime) -> Result<(), Fail> {
     let mut names = full(rt.alloc())?;
-    let fault = name_fault(rt.alloc(), &mut names, 5000, "more");
+    let fault = fault_of(rt.alloc(), &mut names, Name, 5000, "more");
     assert!(rt; fault == Some(NamesFault::Full { held: 1024 }));
-    let fault = role_fault(rt.alloc(), &mut names, 5000, "more");
+    let fault = fault_of(rt.alloc(), &mut names, Role, 5000, "more");
     assert!(rt; fault == Some(NamesFault::Full { held: 256 }));
-    let fault = name_fault(rt.alloc(), &mut names, 5000, "n3");
+    let fault = fault_of(rt.alloc(), &mut names, Name, 5000, "n3");
     assert!(rt; fault == Some(NamesFault::Twice));
     Ok(())
 }

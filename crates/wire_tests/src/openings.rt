@@ -1,7 +1,7 @@
-use crate::spelled::spelled;
+use crate::spelled::{joined, spelled};
 use node_file::*;
 use prin_term::{Entry, Term};
-use std::alloc::{AllocError, Global};
+use std::alloc::Global;
 use std::test::Fail;
 
 // node 7, a key of 32 bytes 7, one shard, keep 3600, journal limit 16384, and four empty lists
@@ -10,18 +10,6 @@ const SMALL: [u8; 64] = [
     7, 7, 7, 7, 7, 7, 0, 0, 0, 1, 0, 0, 0, 0, 0, 0, 0x0e, 0x10, 0, 0, 0, 0, 0, 0, 0x40, 0, 0, 0, 0,
     0, 0, 0,
 ];
-
-// The small opening up to a place, and other bytes from there on.
-fn with_tail(alloc: Global, front: &[u8], tail: &[u8]) -> Result<Vec<u8>, AllocError> {
-    let mut bytes = Vec::from_slice(alloc, front)?;
-    bytes.extend_from_slice(tail)?;
-    Ok(bytes)
-}
-
-fn push_channel(bytes: &mut Vec<u8>, number: u8, key: u8) -> Result<(), AllocError> {
-    bytes.extend_from_slice(&[0, 0, 0, number])?;
-    bytes.extend_from_slice(&[key; 32])
-}
 
 fn read(alloc: Global, bytes: &[u8]) -> Result<Box<Opening>, Fail> {
     Ok(Box::new(alloc, read_opening(alloc, bytes)?)?)
@@ -45,15 +33,22 @@ fn the_small_opening_reads(rt: HostRuntime) -> Result<(), Fail> {
     Ok(())
 }
 
-// Two channels, an anchor and two objects.
+// Two channels, an anchor and two objects, in place of the four empty lists.
+const FILLED: &[&[u8]] = &[
+    &[0, 2],
+    &[0, 0, 0, 9],
+    &[4; 32],
+    &[0, 0, 0, 3],
+    &[5; 32],
+    &[1, 0, 0, 0x03, 0xe8, 0, 0, 0, 1, 0, 0, 2],
+    &[0, 0, 0, 20, 0, 2, b'h', b'i', 2],
+    &[1, 2, 0, 0, 0, 1, 15, 1, 0, 0, 0, 8],
+    &[0, 0, 0, 5, 0, 0, 0],
+];
+
 fn filled(alloc: Global) -> Result<Box<Opening>, Fail> {
-    let mut bytes = with_tail(alloc, &SMALL[..58], &[0, 2])?;
-    push_channel(&mut bytes, 9, 4)?;
-    push_channel(&mut bytes, 3, 5)?;
-    bytes.extend_from_slice(&[1, 0, 0, 0x03, 0xe8, 0, 0, 0, 1, 0, 0, 2])?;
-    bytes.extend_from_slice(&[0, 0, 0, 20, 0, 2, b'h', b'i', 2])?;
-    bytes.extend_from_slice(&[1, 2, 0, 0, 0, 1, 15, 1, 0, 0, 0, 8])?;
-    bytes.extend_from_slice(&[0, 0, 0, 5, 0, 0, 0])?;
+    let tail = joined(alloc, FILLED)?;
+    let bytes = joined(alloc, &[&SMALL[..58], tail.as_slice()])?;
     read(alloc, &bytes)
 }
 
@@ -126,7 +121,7 @@ fn opened(alloc: Global, front: usize, tail: &[&str]) -> Result<Box<Opening>, Fa
         return Err(Fail::new("no front"));
     }
     let tail = spelled(alloc, tail)?;
-    let bytes = with_tail(alloc, &SMALL[..front], &tail)?;
+    let bytes = joined(alloc, &[&SMALL[..front], tail.as_slice()])?;
     read(alloc, &bytes)
 }
 
@@ -217,11 +212,17 @@ fn a_file_that_is_too_long_is_refused_at_no_line(rt: HostRuntime) -> Result<(), 
     Ok(())
 }
 
+// Objects 20, 5 and 9, in place of the last empty list.
+const THREE: &[&[u8]] = &[
+    &[0, 3],
+    &[0, 0, 0, 20, 0, 1, 20, 0],
+    &[0, 0, 0, 5, 0, 1, 5, 0],
+    &[0, 0, 0, 9, 0, 1, 9, 0],
+];
+
 fn with_three_objects(alloc: Global) -> Result<Box<Opening>, Fail> {
-    let mut bytes = with_tail(alloc, &SMALL[..62], &[0, 3])?;
-    for number in [20, 5, 9] {
-        bytes.extend_from_slice(&[0, 0, 0, number, 0, 1, number, 0])?;
-    }
+    let tail = joined(alloc, THREE)?;
+    let bytes = joined(alloc, &[&SMALL[..62], tail.as_slice()])?;
     read(alloc, &bytes)
 }
 

@@ -1,3 +1,4 @@
+use crate::spelled::joined;
 use keyed_seal::{Sealer, hmac};
 use prin_term::Term;
 use std::alloc::{AllocError, Global};
@@ -63,9 +64,7 @@ const MISSING: [u8; 14] = [0, 0, 0, 0, 0, 0, 0, 0, 0, 0, 0, 0, 2, 0];
 
 // The reply of a status with these fields to channel 1's first request, under ONES.
 fn payload(alloc: Global, status: u8, fields: &[u8]) -> Result<Vec<u8>, AllocError> {
-    let mut bytes = Vec::from_slice(alloc, &ANCHORED[..13])?;
-    bytes.push(status)?;
-    bytes.extend_from_slice(fields)?;
+    let mut bytes = joined(alloc, &[&ANCHORED[..13], &[status], fields])?;
     let tag = hmac(&ONES, &bytes);
     bytes.extend_from_slice(&tag)?;
     Ok(bytes)
@@ -208,7 +207,13 @@ fn a_grant_has_its_certificates(rt: HostRuntime) -> Result<(), Fail> {
 fn a_denial_is_written_from_a_lent_part(rt: HostRuntime) -> Result<(), Fail> {
     let part = Term::Name(10);
     let mut out = Vec::from_slice(rt.alloc(), &[9])?;
-    write_missing(&mut out, &TWOS, 2, 1, 0, 0, 0, &part)?;
+    let denial = LentPart {
+        shard: 0,
+        place: 0,
+        entry: 0,
+        part: &part,
+    };
+    write_missing(&mut out, &TWOS, 2, 1, &denial)?;
     assert!(rt; out.get(1..) == Some(UNREACHED.as_slice()));
     Ok(())
 }

@@ -28,3 +28,12 @@ pub(crate) fn spelled(alloc: Global, parts: &[&str]) -> Result<Vec<u8>, AllocErr
     }
     Ok(bytes)
 }
+
+// These bytes, one run behind the other.
+pub(crate) fn joined(alloc: Global, parts: &[&[u8]]) -> Result<Vec<u8>, AllocError> {
+    let mut bytes = Vec::new(alloc);
+    for part in parts {
+        bytes.extend_from_slice(*part)?;
+    }
+    Ok(bytes)
+}

@@ -3,7 +3,7 @@
 ghost use Rattle.std.specs.Prelude.{◌≡◌, ℕ, ◌≤◌, ◌<◌, ◌++◌, not, ◌&&◌, length, All};
 ghost use Rattle.stmt_codec.specs.Certificates.{certificate};
 ghost use Rattle.stmt_codec.specs.View.{certificates};
-ghost use Rattle.agent_core.specs.Held.{admitted, among, is_withdrawn, newly};
+ghost use Rattle.agent_core.specs.Held.{admitted, among, is_brought, newly};
 ghost use Rattle.agent_core.specs.Kept.{certs_held, certs_staying};
 ghost use Rattle.agent_core.specs.Names.{certs_at, certs_named, AreNames};
 
@@ -86,9 +86,8 @@ fn is_brought(held: &Holding<'_>, presented: &[Arc<Cert>], places: &Places, cert
     requires own { AreNames held.now.book.now held.now.own.now.items }
     requires shared { AreNames held.now.book.now held.now.shared.now.items }
     requires places { All (λ i. i < length presented.now) places.now.items }
-    ensures { result ≡ (not (is_withdrawn held.now.withdrawn.now.items cert.now.body.issuer)
-        && not (among (certs_held held.now
-        ++ certs_at (certificates presented.now) places.now.items) (certificate cert.now.body))) }
+    ensures { result ≡ is_brought held.now.withdrawn.now.items (certs_held held.now
+        ++ certs_at (certificates presented.now) places.now.items) (certificate cert.now.body) }
 {
     !is_withdrawn(held.withdrawn, cert.body.issuer) && is_new(held, presented, places, cert)
 }

@@ -139,4 +139,12 @@ impl Presented {
         }
         Ok(taken)
     }
+
+    /// A handle to an equal certificate, where one is kept and a slot leads to it.
+    pub(crate) fn known(&self, cert: &Cert) -> Result<Option<Arc<Cert>>, AllocError>
+        ensures { IfOk result (λ found. IfSome found
+            (λ handle. certificate handle.value.body ≡ certificate cert.now.body)) }
+    {
+        found(&self.certs, &self.slots, cert)
+    }
 }

@@ -78,6 +78,14 @@ fn left_of(book: &Book<'_>, names: &Names, removal: &Removal) -> Names
     left
 }
 
+// Lets go of names. It is called where some go, since the room for those that stay is cleared first.
+fn let_go(book: &Book<'_>, names: &mut Names, removal: &Removal)
+    requires { AreNames book.now names.old.items }
+    ensures { names.new.items ≡ filter (name_stays book.now removal.now) names.old.items }
+{
+    *names = left_of(book, names, removal);
+}
+
 /// Lets go of names, where so many of them stay. Where all do, nothing is written.
 pub(crate) fn keep_left(book: &Book<'_>, names: &mut Names, removal: &Removal, count: usize)
     requires names { AreNames book.now names.old.items }
@@ -86,7 +94,7 @@ pub(crate) fn keep_left(book: &Book<'_>, names: &mut Names, removal: &Removal, c
     ensures count { length names.new.items ≡ count }
 {
     if count < names.len() {
-        *names = left_of(book, names, removal);
+        let_go(book, names, removal);
     }
 }
 

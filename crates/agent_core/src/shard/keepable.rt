@@ -98,32 +98,44 @@ fn reading_of(event: &Event) -> u64
     }
 }
 
-// The moment of the entry at the place.
-fn moment_at(entries: &[ShardEntry], place: usize) -> u64
+// Whether the clock stands at a moment or after it, once the entry at the place has happened: an
+// entry up to there read one as late. The first that is looked at, an Ask, mostly did.
+fn has_come(entries: &[ShardEntry], place: usize, moment: u64) -> bool
     requires { place < length entries.now }
-    ensures { (plan : Plan) → result ≡ moment_at plan (map entry_of entries.now) place }
+    ensures { (plan : Plan)
+        → (IsTrue result ↔ (moment ≤ moment_at plan (map entry_of entries.now) place)) }
 {
-    let mut moment: u64 = 0;
-    for earlier in 0..place + 1 {
-        moment = moment.max(reading_of(&entries[earlier].event));
+    for back in 0..place + 1 {
+        let earlier = place - back;
+        let read = reading_of(&entries[earlier].event);
+        if moment <= read {
+            return true;
+        }
     }
-    moment
+    false
 }
 
-// Whether the certificate at the place has begun at the moment.
-fn has_begun(cites: &[Arc<Cert>], place: usize, moment: u64) -> bool
-    requires { place < length cites.now }
-    ensures { IsTrue result ↔ HasBegun (certificates cites.now) moment place }
+// Whether the certificate at the place has begun at the moment of the Ask.
+fn has_begun(cites: &[Arc<Cert>], place: usize, entries: &[ShardEntry], ask: usize) -> bool
+    requires cite { place < length cites.now }
+    requires ask { ask < length entries.now }
+    ensures { (plan : Plan) → (IsTrue result
+        ↔ HasBegun (certificates cites.now) (moment_at plan (map entry_of entries.now) ask) place) }
 {
-    cites[place].body.from <= moment
+    has_come(entries, ask, cites[place].body.from)
 }
 
-// Whether each certificate has begun at the moment.
-fn have_begun(cites: &[Arc<Cert>], moment: u64) -> bool
-    ensures { IsTrue result ↔ All (λ x. x.from ≤ moment) (certificates cites.now) }
+// Whether each certificate has begun at the moment of the Ask.
+fn have_begun(cites: &[Arc<Cert>], entries: &[ShardEntry], ask: usize) -> bool
+    requires { ask < length entries.now }
+    ensures begun { (plan : Plan) → IsTrue result
+        → All (λ x. x.from ≤ moment_at plan (map entry_of entries.now) ask) (certificates cites.now) }
+    ensures only { (plan : Plan)
+        → All (λ x. x.from ≤ moment_at plan (map entry_of entries.now) ask) (certificates cites.now)
+        → IsTrue result }
 {
     for place in 0..cites.len() {
-        if !has_begun(cites, place, moment) {
+        if !has_begun(cites, place, entries, ask) {
             return false;
         }
     }
@@ -144,5 +156,5 @@ pub(crate) fn is_keepable(
     is_asked(entries, ask, entry, proof)
         && is_proof(&plan.anchors, proof)
         && are_apart(&proof.cites)
-        && have_begun(&proof.cites, moment_at(entries, ask as usize))
+        && have_begun(&proof.cites, entries, ask as usize)
 }

@@ -1,12 +1,10 @@
 //! The proof of a grant.
 
-ghost use Rattle.std.specs.Prelude.{◌≡◌, ◌<◌, ◌++◌, length, map, slice_get, filter_map, All, IfOk, OnOk};
-ghost use Rattle.prin_term.specs.View.{grant, principal};
+ghost use Rattle.std.specs.Prelude.{◌≡◌, ◌<◌, ◌++◌, length, slice_get, filter_map, All, IfOk, OnOk};
 ghost use Rattle.stmt_codec.specs.View.{certificates};
-ghost use Rattle.taos_calculus.specs.Question.{question_of};
 ghost use Rattle.proof_cache.specs.Cached.{cached};
-ghost use Rattle.agent_core.specs.Judged.{live_marks};
 ghost use Rattle.agent_core.specs.Granted.{IsGrantedEntry, IsProofFor};
+ghost use Rattle.agent_core.specs.Judged.{live_question};
 ghost use Rattle.agent_core.specs.Views.{ask_of};
 
 use crate::event::Ask;
@@ -45,10 +43,8 @@ pub fn proof_for<D: Decide>(
     asked: &Ask,
     entry: u8,
 ) -> Result<Cached, AllocError>
-    requires asked { D.question bench.old ≡ question_of anchors.now
-        (certificates snapshot.now.certs.items)
-        (live_marks (certificates snapshot.now.certs.items) snapshot.now.moment)
-        (principal asked.now.subject) (map grant asked.now.list.value.items) }
+    requires asked { D.question bench.old ≡ live_question anchors.now
+        (certificates snapshot.now.certs.items) snapshot.now.moment (ask_of asked.now) }
     requires granted { IsGrantedEntry anchors.now (certificates snapshot.now.certs.items)
         snapshot.now.moment (ask_of asked.now) entry }
     ensures { IfOk result (λ c. IsProofFor anchors.now (certificates snapshot.now.certs.items)

@@ -1,13 +1,9 @@
 //! An Ask that is to be judged, outside of any shard.
 
-ghost use Rattle.std.specs.Prelude.{true, map, length, replicate, IfOk, OnErr};
-ghost use Rattle.prin_term.specs.View.{grant, principal};
-ghost use Rattle.stmt_codec.specs.Certificates.{live};
+ghost use Rattle.std.specs.Prelude.{IfOk, OnErr};
 ghost use Rattle.stmt_codec.specs.View.{certificates};
-ghost use Rattle.taos_calculus.specs.Monitor.{Grants};
-ghost use Rattle.taos_calculus.specs.Question.{IsAskable};
-ghost use Rattle.denial_link.specs.Revived.{claims};
 ghost use Rattle.agent_core.specs.Asked.{Names};
+ghost use Rattle.agent_core.specs.Judged.{GrantsNow, MayBeJudged};
 ghost use Rattle.agent_core.specs.Settling.{IsPlaceIn, Settles};
 ghost use Rattle.agent_core.specs.Views.{ask_of};
 
@@ -62,16 +58,13 @@ pub(crate) fn settle<D: Decide, G: Gate>(
     snapshot: &Snapshot,
     asked: &Ask,
 ) -> Result<Settlement, AllocError>
-    requires { IsAskable anchors.now (certificates snapshot.now.certs.items)
-        (replicate (length snapshot.now.certs.items) true) (principal asked.now.subject)
-        (map grant asked.now.list.value.items) }
+    requires { MayBeJudged anchors.now snapshot.now (ask_of asked.now) }
     ensures settled { IfOk result (λ v. Settles anchors.now
         (certificates snapshot.now.certs.items) snapshot.now.moment (ask_of asked.now) v) }
 
     // Only a grant takes memory.
-    ensures wanted { OnErr result (Grants anchors.now
-        (claims (live (certificates snapshot.now.certs.items) snapshot.now.moment))
-        (principal asked.now.subject) (map grant asked.now.list.value.items) asked.now.right) }
+    ensures wanted { OnErr result (GrantsNow anchors.now (certificates snapshot.now.certs.items)
+        snapshot.now.moment (ask_of asked.now)) }
 {
     let finding = judge(bench, anchors, snapshot, asked);
     gate.between();

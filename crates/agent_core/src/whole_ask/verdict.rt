@@ -1,15 +1,15 @@
 //! The verdict on an Ask that is to be judged.
 
-ghost use Rattle.std.specs.Prelude.{◌≡◌, ◌≤◌, ◌↔◌, ℕ, true, map, length, replicate, All, IsTrue, MatchOption};
-ghost use Rattle.prin_term.specs.View.{Grant, grant, principal};
+ghost use Rattle.std.specs.Prelude.{◌≡◌, ◌≤◌, ◌↔◌, ℕ, true, map, length, replicate, All, IsTrue};
+ghost use Rattle.prin_term.specs.View.{grant, principal};
 ghost use Rattle.stmt_codec.specs.Certificates.{certificate, live, IsLive};
 ghost use Rattle.stmt_codec.specs.View.{certificates};
-ghost use Rattle.taos_calculus.specs.Monitor.{FirstEntry, Grants, MaySpeak};
+ghost use Rattle.taos_calculus.specs.Monitor.{Grants};
 ghost use Rattle.taos_calculus.specs.Question.{IsAskable, question_of};
 ghost use Rattle.denial_link.specs.Revived.{claims};
-ghost use Rattle.denial_link.specs.Links.{IsFirstLink, NoEntryWith};
+ghost use Rattle.denial_link.specs.Links.{IsFirstLink};
 ghost use Rattle.agent_core.specs.Views.{ask_of};
-ghost use Rattle.agent_core.specs.Judged.{live_marks, IsFirstGranted, IsGrant, Judges};
+ghost use Rattle.agent_core.specs.Judged.{live_marks, live_question, FindsGrant, IsFirstGranted, IsGrant, Judges, MayBeJudged};
 
 use crate::event::Ask;
 use crate::told::Snapshot;
@@ -69,24 +69,13 @@ pub fn granting_entry<D: Decide>(
     snapshot: &Snapshot,
     asked: &Ask,
 ) -> Option<u8>
-    requires { IsAskable anchors.now (certificates snapshot.now.certs.items)
-        (replicate (length snapshot.now.certs.items) true) (principal asked.now.subject)
-        (map grant asked.now.list.value.items) }
-    ensures found { MatchOption result
-        (NoEntryWith (map grant asked.now.list.value.items) asked.now.right
-        (λ e. MaySpeak anchors.now
-        (claims (live (certificates snapshot.now.certs.items) snapshot.now.moment))
-        (principal asked.now.subject) e.who))
-        (λ k. (e : Grant) × FirstEntry (map grant asked.now.list.value.items) asked.now.right
-        (λ g. MaySpeak anchors.now
-        (claims (live (certificates snapshot.now.certs.items) snapshot.now.moment))
-        (principal asked.now.subject) g.who) k e) }
+    requires { MayBeJudged anchors.now snapshot.now (ask_of asked.now) }
+    ensures found { FindsGrant anchors.now (certificates snapshot.now.certs.items)
+        snapshot.now.moment (ask_of asked.now) result }
 
     // The decider stays asked about the live certificates.
-    ensures asked { D.question bench.new ≡ question_of anchors.now
-        (certificates snapshot.now.certs.items)
-        (live_marks (certificates snapshot.now.certs.items) snapshot.now.moment)
-        (principal asked.now.subject) (map grant asked.now.list.value.items) }
+    ensures asked { D.question bench.new ≡ live_question anchors.now
+        (certificates snapshot.now.certs.items) snapshot.now.moment (ask_of asked.now) }
 {
     first_granted(
         bench,
@@ -147,17 +136,13 @@ pub fn judge<D: Decide>(
     snapshot: &Snapshot,
     asked: &Ask,
 ) -> Decision
-    requires { IsAskable anchors.now (certificates snapshot.now.certs.items)
-        (replicate (length snapshot.now.certs.items) true) (principal asked.now.subject)
-        (map grant asked.now.list.value.items) }
+    requires { MayBeJudged anchors.now snapshot.now (ask_of asked.now) }
     ensures verdict { Judges anchors.now (certificates snapshot.now.certs.items) snapshot.now.moment
         (ask_of asked.now) result }
 
     // Where it grants, the decider stays asked about the live certificates.
-    ensures asked { IsGrant result → D.question bench.new ≡ question_of anchors.now
-        (certificates snapshot.now.certs.items)
-        (live_marks (certificates snapshot.now.certs.items) snapshot.now.moment)
-        (principal asked.now.subject) (map grant asked.now.list.value.items) }
+    ensures asked { IsGrant result → D.question bench.new ≡ live_question anchors.now
+        (certificates snapshot.now.certs.items) snapshot.now.moment (ask_of asked.now) }
 {
     let Some(_) = first_with(&asked.list, asked.right) else {
         return Decision::Denied(Link::NoEntry);

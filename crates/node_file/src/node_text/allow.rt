@@ -1,14 +1,11 @@
 //! The access lists of a node file.
 
-ghost use Rattle.std.specs.Prelude.{◌≡◌, IsTrue, List};
-ghost use Rattle.object_core.specs.Objects.{ObjectPlan as Plan};
+ghost use Rattle.std.specs.Prelude.{◌≡◌, IsTrue};
 ghost use Rattle.prin_term.specs.View.{principal};
-ghost use Rattle.prin_text.specs.Labels.{Labels};
-ghost use Rattle.file_lines.specs.Held.{HoldsRows};
 ghost use Rattle.file_lines.specs.Lines.{is_plain};
-ghost use Rattle.file_lines.specs.LineView.{GivesLine, TakesLine};
+ghost use Rattle.file_lines.specs.LineView.{GivesLine};
 ghost use Rattle.node_file.specs.NodeLines.{cause_of, grants_and, grants_with, who_said};
-ghost use Rattle.node_file.specs.Plans.{HoldsPlans};
+ghost use Rattle.node_file.specs.NodeView.{TakesGrant};
 
 use crate::object_drafts::ObjectDrafts;
 use file_lines::{FileCause, LineFault, granted};
@@ -54,10 +51,8 @@ fn add_entry(
     rights: u8,
     text: &str,
 ) -> Result<(), LineFault>
-    ensures takes { (labels : Labels) (above : List Plan) → HoldsRows names.now.names labels.names
-        → HoldsRows names.now.roles labels.roles → HoldsPlans objects.old above
-        → TakesLine HoldsPlans result objects.new
-        (grants_and labels above (number, rights, text.now)) }
+    ensures takes { TakesGrant names.now objects.old objects.new result
+        (λ labels above. grants_and labels above (number, rights, text.now)) }
 {
     let Some(object) = objects.get(number) else {
         return Err(LineFault::Refused(FileCause::UnknownObject));
@@ -81,9 +76,8 @@ pub(super) fn take_allow(
     rest: &[u8],
 ) -> Result<(), LineFault>
     requires { IsTrue (is_plain rest.now) }
-    ensures takes { (labels : Labels) (above : List Plan) → HoldsRows names.now.names labels.names
-        → HoldsRows names.now.roles labels.roles → HoldsPlans objects.old above
-        → TakesLine HoldsPlans result objects.new (grants_with labels above rest.now) }
+    ensures takes { TakesGrant names.now objects.old objects.new result
+        (λ labels above. grants_with labels above rest.now) }
 {
     match granted(rest) {
         Ok((number, rights, text)) => add_entry(alloc, names, objects, number, rights, text),

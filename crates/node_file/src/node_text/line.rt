@@ -1,11 +1,10 @@
 //! Taking the lines of a node file.
 
-ghost use Rattle.std.specs.Prelude.{◌≡◌, IsTrue, Option, codes, true};
-ghost use Rattle.file_lines.specs.FileLines.{first_or, is_first_line};
+ghost use Rattle.std.specs.Prelude.{◌≡◌, IsTrue, Option, true};
 ghost use Rattle.file_lines.specs.Lines.{is_plain};
 ghost use Rattle.file_lines.specs.LineView.{SoFar, TakesLine};
 ghost use Rattle.node_file.specs.NodeFile as meant;
-ghost use Rattle.node_file.specs.NodeFile.{adds, no_draft, node_step};
+ghost use Rattle.node_file.specs.NodeFile.{adds, any_node_step, no_draft, node_step};
 ghost use Rattle.node_file.specs.NodeLines.{settings_with};
 ghost use Rattle.node_file.specs.NodeView.{IsDraftOf};
 
@@ -81,7 +80,7 @@ pub(super) fn take_any(
     ensures takes { (so_far : Option meant.Draft)
         → SoFar IsDraftOf no_draft begun draft.old so_far
         → TakesLine (SoFar IsDraftOf no_draft true) result draft.new
-        (first_or (is_first_line (codes "taos")) no_draft node_step so_far line.now) }
+        (any_node_step so_far line.now) }
 {
     if begun {
         return take_line(alloc, draft, line);

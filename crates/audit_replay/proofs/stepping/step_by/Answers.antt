@@ -1,7 +1,4 @@
-use Rattle.std.proofs.Common.{◌∙◌, List, ap}
-use Rattle.agent_core.specs.Journals.{Entry}
-use Rattle.journal_bytes.specs.Events.{event_from}
-use Rattle.journal_bytes.specs.View.{entry_seen, event_seen}
+use Rattle.journal_bytes.specs.View.{entry_seen}
 use Rattle.audit_replay.specs.Replays.{full}
 use Rattle.audit_replay.proofs.OneStep.{has_room, is_full, unmade}
 use Rattle.audit_replay.proofs.stepping.step_by.Goals as goal
@@ -16,5 +13,4 @@ returns-in-None-clause-stepped c =
     let s = c.args.shard.now in
     let room = has_room c.journal.result.now c.plan.result.now s.plan s.journal c.journal.ensures.value c.plan.ensures.value c.if-journal-plan.false in
     let none = rw c.in-None.is at c.in_ok-event.ensures in
-    unmade s.plan s.journal (entry_seen c.args.entry) c.unmeant-cause.result room c.unmeant-cause.ensures
-    (none ∙ ap (λ (l : List Entry). event_from l (event_seen c.args.entry.event)) c.journal-2.ensures.value)
+    unmade s.plan s.journal (entry_seen c.args.entry) c.unmeant-cause.result room c.unmeant-cause.ensures none

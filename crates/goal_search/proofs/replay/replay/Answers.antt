@@ -1,16 +1,17 @@
-use Rattle.std.proofs.Common.{◌≡◌, ◌/◌, ℕ, length, ap, arith, refl, sym, subst}
+use Rattle.std.proofs.Common.{◌≡◌, ◌/◌, ℕ, Some, slice_get, length, ap, arith, refl, sym, subst}
 use Rattle.goal_search.specs.Cells.{held_at, stamp_of}
 use Rattle.std.proofs.lemmas.Option.{slice_get_within}
 use Rattle.std.proofs.lemmas.Result.{IfOk-weaker}
 use Rattle.taos_calculus.specs.Question.{Question, IsProofOf}
 use Rattle.taos_calculus.specs.Tables.{lines_of, named}
 use Rattle.taos_calculus.specs.declared.line.Fact.{Fact}
+use Rattle.term_pool.specs.Finding.{facts_in}
 use Rattle.term_pool.specs.Taking.{ProvesGoal}
 use Rattle.term_pool.proofs.Keeping.{line_stands}
 use Rattle.term_pool.proofs.Picking.{some_if}
 use Rattle.goal_search.specs.Replaying.{IsOrder, IsQuestionOf}
 use Rattle.goal_search.specs.Searching.{core}
-use Rattle.goal_search.specs.Telling.{of_number}
+use Rattle.goal_search.specs.Telling.{IsTold, of_number}
 use Rattle.goal_search.proofs.Replayed.{few_lines, found_for, some_cells}
 use Rattle.goal_search.proofs.replay.replay.Goals as goal
 
@@ -28,7 +29,8 @@ unwrap-goal-requires c =
     let s = core c.args.search.now in
     let told = rw c.deref.ensures.value at c.tell_all.ensures.told in
     let stamp : c.held-last.result / 2048 ≡ stamp_of (held_at s.cells c.args.left c.args.right) = ap (λ (x : ℕ). x / 2048) c.held-last.ensures in
-    some_if _ _ _ c.speaks_line.ensures
+    some_if c.speaks_line.result (IsTold c.tell_all.new.found (Fact.Speaks c.args.left c.args.right) → ⊥)
+    (λ (k : ℕ). slice_get (facts_in c.tell_all.new.found) k ≡ Some (Fact.Speaks c.args.left c.args.right)) c.speaks_line.ensures
     (λ none.
     none
     (told c.args.left c.args.right (Fact.Speaks c.args.left c.args.right) c.requires.known (omega (arith, c.in_ok-order.ensures.long, stamp)) (of_number c.requires.left_in refl)))

@@ -16,7 +16,7 @@ pub returns-in_default-clause-audits : goal.returns-in_default-clause-audits
 returns-in_default-clause-audits g c = λ o file0 file1 opened.
     let did = c.serve_first-outcome.ensures.connection file0 file1 o opened in
     let node = c.serve_first-outcome.new.node in
-    let text = all_in c.args.form node.shards.shards node.shelf.objects in
+    let text = all_in c.args.asked.form node.shards.shards node.shelf.objects in
     record {
       node = did.0.node;
       is_node = did.0.is_node;
@@ -24,7 +24,7 @@ returns-in_default-clause-audits g c = λ o file0 file1 opened.
       outcome = c.serve_first-outcome.result;
       connection = did.0.connection;
       text = text;
-      is_text = subst (λ (s : Seen). IsAuditOf c.args.form o s.journals text) (sym did.1) (is_audit c.args.form o c.args.opened.0 node opened c.serve_first-outcome.ensures.same);
+      is_text = subst (λ (s : Seen). IsAuditOf c.args.asked.form o s.journals text) (sym did.1) (is_audit c.args.asked.form o c.args.opened.0 node opened c.serve_first-outcome.ensures.same);
       writes = (refl, λ end. c.in_default.not-End end.0 end.1, Keeps-refl (g.O.Sink.shown c.args.output.now).told);
     }
 
@@ -35,7 +35,7 @@ returns-in_default-clause-causes g c =
 
 pub returns-in_default-clause-complete : goal.returns-in_default-clause-complete
 returns-in_default-clause-complete g c =
-    stopped_complete c.args.frames (g.I.Source.shown c.args.input.now).faults (first_of g.C.Clock.shown g.R.RelayLink.shown g.P.Fetch.shown c.args.lanes.now).clock.faults (g.I.Source.shown c.serve_first-outcome.new.input).faults
+    stopped_complete c.args.asked.frames (g.I.Source.shown c.args.input.now).faults (first_of g.C.Clock.shown g.R.RelayLink.shown g.P.Fetch.shown c.args.lanes.now).clock.faults (g.I.Source.shown c.serve_first-outcome.new.input).faults
     (first_of g.C.Clock.shown g.R.RelayLink.shown g.P.Fetch.shown c.serve_first-outcome.new.lanes).clock.faults (g.O.Sink.shown c.args.output.now).faults (g.I.Source.shown c.args.input.now).told c.serve_first-outcome.result (λ end. c.in_default.not-End end.0 end.1) c.serve_first-outcome.ensures.complete
 
 pub write_text-requires-clause-few : goal.write_text-requires-clause-few
@@ -73,7 +73,7 @@ pub returns-clause-audits : goal.returns-clause-audits
 returns-clause-audits g c = λ o file0 file1 opened.
     let did = c.serve_first-outcome.ensures.connection file0 file1 o opened in
     let node = c.serve_first-outcome.new.node in
-    let text = all_in c.args.form node.shards.shards node.shelf.objects in
+    let text = all_in c.args.asked.form node.shards.shards node.shelf.objects in
     record {
       node = did.0.node;
       is_node = did.0.is_node;
@@ -81,7 +81,7 @@ returns-clause-audits g c = λ o file0 file1 opened.
       outcome = c.serve_first-outcome.result;
       connection = did.0.connection;
       text = text;
-      is_text = subst (λ (s : Seen). IsAuditOf c.args.form o s.journals text) (sym did.1) (is_audit c.args.form o c.args.opened.0 node opened c.serve_first-outcome.ensures.same);
+      is_text = subst (λ (s : Seen). IsAuditOf c.args.asked.form o s.journals text) (sym did.1) (is_audit c.args.asked.form o c.args.opened.0 node opened c.serve_first-outcome.ensures.same);
       writes = ended_writes text (g.O.Sink.shown c.args.output.now).told (g.O.Sink.shown c.write_text.new.output).told c.serve_first-outcome.result (_, c.in-End.is) c.write_text.result c.write_text.ensures.writes;
     }
 
@@ -93,7 +93,7 @@ returns-clause-causes g c =
     let k1 = (first_of g.C.Clock.shown g.R.RelayLink.shown g.P.Fetch.shown c.serve_first-outcome.new.lanes).clock.faults in
     let node = c.serve_first-outcome.new.node in
     ended_causes i k i1 k1 (g.O.Sink.shown c.args.output.now).faults (g.O.Sink.shown c.write_text.new.output).faults (ended_same i k i1 k1 _ c.serve_first-outcome.result c.in-End.is c.serve_first-outcome.ensures.causes)
-    (all_in c.args.form node.shards.shards node.shelf.objects) (g.O.Sink.shown c.args.output.now).told (g.O.Sink.shown c.write_text.new.output).told c.write_text.result c.write_text.ensures.writes c.write_text.ensures.cause
+    (all_in c.args.asked.form node.shards.shards node.shelf.objects) (g.O.Sink.shown c.args.output.now).told (g.O.Sink.shown c.write_text.new.output).told c.write_text.result c.write_text.ensures.writes c.write_text.ensures.cause
 
 pub returns-clause-complete : goal.returns-clause-complete
 returns-clause-complete g c =
@@ -103,4 +103,4 @@ returns-clause-complete g c =
     let k1 = (first_of g.C.Clock.shown g.R.RelayLink.shown g.P.Fetch.shown c.serve_first-outcome.new.lanes).clock.faults in
     let node = c.serve_first-outcome.new.node in
     ended_complete i k i1 k1 (g.O.Sink.shown c.args.output.now).faults (g.O.Sink.shown c.write_text.new.output).faults (ended_same i k i1 k1 _ c.serve_first-outcome.result c.in-End.is c.serve_first-outcome.ensures.causes)
-    (all_in c.args.form node.shards.shards node.shelf.objects) (g.O.Sink.shown c.args.output.now).told (g.O.Sink.shown c.write_text.new.output).told c.args.frames (g.I.Source.shown c.args.input.now).told c.write_text.result c.write_text.ensures.writes c.write_text.ensures.cause
+    (all_in c.args.asked.form node.shards.shards node.shelf.objects) (g.O.Sink.shown c.args.output.now).told (g.O.Sink.shown c.write_text.new.output).told c.args.asked.frames (g.I.Source.shown c.args.input.now).told c.write_text.result c.write_text.ensures.writes c.write_text.ensures.cause

@@ -32,8 +32,8 @@ returns-in-Ok-clause-audits g c = λ words is.
     let after = touched (g.F.Source.shown c.node_file_of.new.file) (g.I.Source.shown c.audit.new.input)
     (g.O.Sink.shown c.audit.new.output) (first_of g.C.Clock.shown g.R.RelayLink.shown g.P.Fetch.shown c.audit.new.lanes) in
     let gives = c.in-Ok.ensures.gives in (
-      (c.args.form, c.args.frames, is, (gives.0, gives.1, c.audit.ensures.audits gives.0 before.file after.file gives.2)),
-      audited words c.args.form c.args.frames before after c.audit.result gives.0 is gives.1 c.in-Ok.ensures.cause c.audit.ensures.complete c.audit.ensures.causes,
+      (c.args.asked.form, c.args.asked.frames, is, (gives.0, gives.1, c.audit.ensures.audits gives.0 before.file after.file gives.2)),
+      audited words c.args.asked.form c.args.asked.frames before after c.audit.result gives.0 is gives.1 c.in-Ok.ensures.cause c.audit.ensures.complete c.audit.ensures.causes,
     )
 
 pub returns-in-Err-clause-audits : goal.returns-in-Err-clause-audits
@@ -44,7 +44,7 @@ returns-in-Err-clause-audits g c = λ words is.
     let before = touched (g.F.Source.shown c.args.file.now) input output used in
     let after = touched (g.F.Source.shown c.node_file_of.new.file) input output used in
     let rest : LeavesRest before after = record { input = Keeps-refl input.told; output = Keeps-refl output.told; lane = record { clock = refl; link = refl; fetch = refl } } in
-    let wanted = audit_task c.args.form c.args.frames in (
-      ((wanted, is, fails c.args.form c.args.frames before.file after.file c.in-Err.fault c.in-Err.ensures.gives), rest),
-      unserved words before after wanted c.in-Err.fault is c.in-Err.ensures.cause (fails c.args.form c.args.frames before.file after.file c.in-Err.fault c.in-Err.ensures.gives) refl refl refl,
+    let wanted = audit_task c.args.asked.form c.args.asked.frames in (
+      ((wanted, is, fails c.args.asked.form c.args.asked.frames before.file after.file c.in-Err.fault c.in-Err.ensures.gives), rest),
+      unserved words before after wanted c.in-Err.fault is c.in-Err.ensures.cause (fails c.args.asked.form c.args.asked.frames before.file after.file c.in-Err.fault c.in-Err.ensures.gives) refl refl refl,
     )

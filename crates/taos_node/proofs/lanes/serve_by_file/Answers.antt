@@ -24,10 +24,10 @@ returns-in-Ok g c = record {
       let gives = c.in-Ok.ensures.gives in
       let did = c.serve_parts.ensures.serves gives.0 gives.2 in
       record {
-        runs = (Keeps-refl input.told, ((serve_words c.args.limits c.args.lemmas c.args.pulls), is, (gives.0, gives.1, did)));
-        status = lanes_tell before after words (Serve (serve_words c.args.limits c.args.lemmas c.args.pulls)) c.serve_parts.result is tt (decided_opened IsNodeFile node_means node_files before.file after.file gives.0 (lanes_status c.serve_parts.result) gives.1 (not_two_lanes c.serve_parts.result))
-            (inl ((serve_words c.args.limits c.args.lemmas c.args.pulls), is)) c.in-Ok.ensures.cause refl c.serve_parts.ensures.cause;
-        tells = doors_tell (told_by g.D.In.Source.shown g.D.Out.Sink.shown) (serve_words c.args.limits c.args.lemmas c.args.pulls) (map f c.args.lanes.now) (map f c.serve_parts.new.lanes) gives.0 words before after c.serve_parts.result is did c.serve_parts.ensures.cause;
+        runs = (Keeps-refl input.told, ((serve_words c.args.asked.limits c.args.asked.lemmas c.args.asked.pulls), is, (gives.0, gives.1, did)));
+        status = lanes_tell before after words (Serve (serve_words c.args.asked.limits c.args.asked.lemmas c.args.asked.pulls)) c.serve_parts.result is tt (decided_opened IsNodeFile node_means node_files before.file after.file gives.0 (lanes_status c.serve_parts.result) gives.1 (not_two_lanes c.serve_parts.result))
+            (inl ((serve_words c.args.asked.limits c.args.asked.lemmas c.args.asked.pulls), is)) c.in-Ok.ensures.cause refl c.serve_parts.ensures.cause;
+        tells = doors_tell (told_by g.D.In.Source.shown g.D.Out.Sink.shown) (serve_words c.args.asked.limits c.args.asked.lemmas c.args.asked.pulls) (map f c.args.lanes.now) (map f c.serve_parts.new.lanes) gives.0 words before after c.serve_parts.result is did c.serve_parts.ensures.cause;
       };
 }
 
@@ -40,7 +40,7 @@ returns-in-Err g c = record {
       let before = touched (g.F.Source.shown c.args.file.now) input output used in
       let after = touched (g.F.Source.shown c.node_parts_of.new.file) input output used in
       let rest : LeavesRest before after = record { input = Keeps-refl input.told; output = Keeps-refl output.told; lane = record { clock = refl; link = refl; fetch = refl } } in
-      let wanted = Serve (serve_words c.args.limits c.args.lemmas c.args.pulls) in
-      file_does (told_by g.D.In.Source.shown g.D.Out.Sink.shown) words before after (map f c.args.lanes.now) (serve_words c.args.limits c.args.lemmas c.args.pulls) c.in-Err.fault is ((wanted, is, c.in-Err.ensures.gives), rest)
+      let wanted = Serve (serve_words c.args.asked.limits c.args.asked.lemmas c.args.asked.pulls) in
+      file_does (told_by g.D.In.Source.shown g.D.Out.Sink.shown) words before after (map f c.args.lanes.now) (serve_words c.args.asked.limits c.args.asked.lemmas c.args.asked.pulls) c.in-Err.fault is ((wanted, is, c.in-Err.ensures.gives), rest)
       (unserved words before after wanted c.in-Err.fault is c.in-Err.ensures.cause c.in-Err.ensures.gives refl refl refl) c.in-Err.ensures.gives c.in-Err.ensures.cause;
 }

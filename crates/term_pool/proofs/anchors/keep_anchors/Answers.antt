@@ -1,11 +1,9 @@
-use Rattle.std.proofs.Common.{◌≡◌, ◌<◌, ◌∷◌, ◌++◌, [], List, Bool, cond, true, length, get_or, ap, sym, ◌∙◌, arith}
+use Rattle.std.proofs.Common.{◌<◌, ◌∷◌, ◌++◌, [], List, length, get_or, ap, sym, ◌∙◌, arith}
 use Rattle.std.specs.Prelude.{is_ok}
 use Rattle.std.proofs.lemmas.List.{take_more}
 use Rattle.prin_term.specs.declared.term.Anchor.{Anchor}
-use Rattle.taos_saturate.proofs.gather.keep_anchors.Goals as goal
-
-longer : (ok : Bool) (xs ys zs : List Anchor) → ys ≡ cond ok xs zs → ok ≡ true → ys ≡ xs
-longer ok xs ys zs e t = rw t at e
+use Rattle.term_pool.proofs.Pushing.{longer}
+use Rattle.term_pool.proofs.anchors.keep_anchors.Goals as goal
 
 pub loop-i-preserved : goal.loop-i-preserved
 loop-i-preserved c =

@@ -1,6 +1,6 @@
 use Rattle.std.proofs.Common.{◌≡◌, ◌≤◌, take}
 use Rattle.std.specs.Prelude.{vec_capacity}
-use Rattle.goal_search.proofs.gather.keep_anchors.Given as goal
+use Rattle.term_pool.proofs.anchors.keep_anchors.Given as goal
 
 abbrev pub invariant-loop-i : goal.invariant-loop-i
 invariant-loop-i l = record {
