@@ -20,8 +20,9 @@ LANES, SEATS, BUSY, SILENT, ROUNDS = 4, 12_000, 1_000, 2_000, 3
 # What is wanted: the rate beside the echo's; one client's median and 99th in 100 beside others to those alone; bytes of a silent client; how
 # far the 99th in 100 of others rises beside a rude one; and the rate of a client beside a scrape each 10 ms to that without.
 RATE, MEDIAN, LATE, MEMORY, RISE, SCRAPED = 0.7, 3, 5, 8_192, 1.1, 0.98
-# Beside a rude client: how many others, how many reads of each, and how often, by turns with and without it. Beside scrapes: the reads.
-POLITE, READS, PAIRS, MANY = 16, 2_000, 11, 20_000
+# Beside a rude client: how many others, how many reads of each, and how often, by turns with and without it. Beside scrapes: the reads, and
+# how often.
+POLITE, READS, PAIRS, MANY, SCRAPES = 16, 2_000, 11, 20_000, 31
 
 
 def key(number):
@@ -143,6 +144,15 @@ class Bench:
         node.end()
         return told[1]
 
+    def scraped(self):
+        """A client's rate beside scrapes to what it is without, before and behind each: the median."""
+        before, shares = self.rate(False), []
+        for _ in range(SCRAPES):
+            beside, behind = self.rate(True), self.rate(False)
+            shares.append(2 * beside / (before + behind))
+            before = behind
+        return sorted(shares)[SCRAPES // 2]
+
     def row(self, what, number, wanted, kept):
         self.met &= kept
         print(f"| {what} | {number} | {wanted} |{'' if kept else ' MISSED'}")
@@ -182,8 +192,7 @@ class Bench:
         self.row("memory of the program a silent client", f"{each:.0f} bytes", MEMORY, each <= MEMORY)
         for how in ("deaf", "drip", "reset", None):
             self.beside(how)
-        shares = sorted(self.rate(True) / self.rate(False) for _ in range(PAIRS))
-        share = shares[PAIRS // 2]
+        share = self.scraped()
         self.row("one client's rate beside a scrape each 10 ms, to that without", f"{share:.3f}", SCRAPED, share >= SCRAPED)
         return 0 if self.met else 1
 
