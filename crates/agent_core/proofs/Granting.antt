@@ -1,5 +1,6 @@
 -- A grant that was not kept before: the Ask's step, and what became of the proof that was made for it.
 use Rattle.std.proofs.Common.{◌≡◌, ℕ, ◌+◌, ◌<◌, ◌≤◌, true, false, nat_le, List, [], ◌∷◌, ◌++◌, length, Option, None, Some, slice_get, refl, sym, ap, ◌∙◌, subst, arith, append_assoc, length-append, inl, inr, ◌⊎◌}
+use Rattle.std.proofs.Common.{ap₂}
 use Rattle.std.specs.Option.{option_map}
 use Rattle.std.specs.Arc.{arc_value}
 use Rattle.std.proofs.lemmas.Bool.{cond_both}
@@ -16,6 +17,8 @@ use Rattle.proof_cache.specs.declared.cached.Cached.{Cached as CachedValue}
 use Rattle.agent_core.specs.declared.told.Snapshot.{Snapshot}
 use Rattle.agent_core.specs.declared.asked.Settled.{Settled}
 use Rattle.agent_core.specs.declared.asked.Settled.TheVariants as settled
+use Rattle.agent_core.specs.declared.whole_ask.settling.Settlement.{Settlement}
+use Rattle.agent_core.specs.declared.whole_ask.settling.Settlement.TheVariants as settlement
 use Rattle.agent_core.specs.declared.told.Answer.{Answer as ValueOfAnswer}
 use Rattle.agent_core.specs.declared.told.Answer.TheVariants as answer
 use Rattle.agent_core.specs.declared.told.DropCause.{DropCause}
@@ -24,11 +27,12 @@ use Rattle.agent_core.specs.Answers.{SteppedTo}
 use Rattle.agent_core.specs.Asked.{IsGrantedBy, IsGrantedAt, IsGrant, was_kept, was_dropped, had_no_room, LacksMemory, AskedTo}
 use Rattle.agent_core.specs.Granted.{IsProofFor}
 use Rattle.agent_core.specs.Journals.{Entry, entry, Stands, Begins, state_after, moment_at, IsKeepable, granted}
-use Rattle.agent_core.specs.Settling.{KeptAs}
+use Rattle.agent_core.specs.Plans.{AreShards, home}
+use Rattle.agent_core.specs.Settling.{KeptAs, Settles}
 use Rattle.agent_core.specs.State.{Plan, Ask, Event, Asks, Keeps, Plain, first_missing, settled_by, next}
 use Rattle.agent_core.specs.Steps.{StepAnswer, Hit, Miss, Other, IsAnswer, hit, miss, other, JournalSeen, StepsTo, StepRefused}
 use Rattle.agent_core.proofs.Apart.{cites_apart}
-use Rattle.agent_core.proofs.Asks.{granted_at_last, judged_by, some_own, told_other, stands_missed}
+use Rattle.agent_core.proofs.Asks.{anchors_are, granted_at_last, judged_by, some_own, told_other, stands_missed}
 use Rattle.agent_core.proofs.Bringing.{count_places}
 use Rattle.agent_core.proofs.Moments.{moment_judged}
 use Rattle.agent_core.proofs.Onward.{begins_on, granted_stays}
@@ -117,9 +121,32 @@ module _ (plan : Plan) (earlier later : JournalSeen) (p e : ℕ) (c : Cached) (p
   never_kept (inr (inr (inr (inr (inr (inr (inr h))))))) = no_other_step (answer.WithdrawnFull h.0) (Other (Told.WithdrawnFull h.0)) h.1 (λ t. t)
 
 -- the same Ask and anchors
-pub granted_as : (anchors anchors' : List Anchor) → anchors' ≡ anchors → (a b : Ask) → b ≡ a → (certs : List Certificate) (moment e : ℕ) (c : Cached) → IsGrantedBy anchors certs moment b e c → IsGrantedBy anchors' certs moment a e c
+granted_as : (anchors anchors' : List Anchor) → anchors' ≡ anchors → (a b : Ask) → b ≡ a → (certs : List Certificate) (moment e : ℕ) (c : Cached) → IsGrantedBy anchors certs moment b e c → IsGrantedBy anchors' certs moment a e c
 granted_as anchors anchors' same a b is certs moment e c h =
     subst (λ (l : List Anchor). IsGrantedBy l certs moment a e c) (sym same) (subst (λ (x : Ask). IsGrantedBy anchors certs moment x e c) is h)
+
+-- the Ask was settled by a grant, at the shard that was asked
+pub granted_there : {plans mid : List Plan} → mid ≡ plans → {anchors : List Anchor} → AreShards mid anchors →
+    {a b : Ask} → b ≡ a → {plan : Plan} → slice_get plans (home plans a.channel) ≡ Some plan → (certs : List Certificate) (moment : ℕ)
+    {e : ℕ} {x : Arc CachedValue Global} {v : Settlement} → v ≡ settlement.Granted e x → Settles anchors certs moment b v →
+    IsGrantedBy plan.anchors certs moment a e (cached (arc_value {X = CachedValue} x))
+granted_there {plans = plans} same {anchors = anchors} are {a = a} {b = b} is {plan = plan} at certs moment {e = e} {x = x} grants settled =
+    granted_as anchors plan.anchors (anchors_are plans anchors (subst (λ (l : List Plan). AreShards l anchors) same are) (home plans a.channel) plan at)
+    a b is certs moment e (cached (arc_value {X = CachedValue} x)) (subst (Settles anchors certs moment b) grants settled)
+
+-- ---- the shard of an Ask's channel, which its step leaves
+
+module _ {plans mid : List Plan} (same : mid ≡ plans) {a b : Ask} (is : b ≡ a) where
+  pub home_stays : home mid b.channel ≡ home plans a.channel
+  home_stays = ap₂ home same (ap (λ (x : Ask). x.channel) is)
+
+  pub was_home : {plan : Plan} → slice_get mid (home mid b.channel) ≡ Some plan → slice_get plans (home plans a.channel) ≡ Some plan
+  was_home at = ap₂ (λ (l : List Plan) n. slice_get l n) (sym same) (sym home_stays) ∙ at
+
+  -- what is so of it then
+  pub by_home : (P : ℕ → Type 0) {plan : Plan} → slice_get plans (home plans a.channel) ≡ Some plan →
+      (slice_get mid (home mid b.channel) ≡ Some plan → P (home mid b.channel)) → P (home plans a.channel)
+  by_home P at so = subst P home_stays (so (ap₂ (λ (l : List Plan) n. slice_get l n) same home_stays ∙ at))
 
 -- ---- the Ask was judged, and is granted by a proof
 

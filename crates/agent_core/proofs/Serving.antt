@@ -147,6 +147,13 @@ module _ (cache : List Cached) (a : Ask) where
       position_or_len_is p a.list place g (omega (arith, within)) (λ k lt. none k g lt) (λ lt. ap p (get_or_from_slice_get a.list place g g at) ∙ here) in
       ap (λ n. cond (nat_lt n (length a.list)) (Some n) None) is ∙ cond-true (nat_lt place (length a.list)) (Some place) None (lt-ltb place (length a.list) within)
 
+  -- the first entry for which a proof is kept, and that proof
+  pub served_here : (place : ℕ) (g : Grant) (c : Cached) → NoneServed cache a place → slice_get a.list place ≡ Some g → Some c ≡ served_at cache a.subject a.right g →
+      (first_hit cache a ≡ Some place) × (find (is_for a.subject g.who) cache ≡ Some c)
+  served_here place g c none at served =
+      let (test, found) = served_some cache a.subject a.right g c served in
+      (served_first place g none at test, found)
+
   pub none_served : (count : ℕ) → count ≡ length a.list → NoneServed cache a count → first_hit cache a ≡ None
   none_served count all none =
       let p : Grant → Bool = is_served cache a.subject a.right in

@@ -111,8 +111,7 @@ fn ended(place: u64, verdict: Verdict, kept: bool) -> Asked
 
 /// Asks at the shard of the channel, and says how that ended: granted by a proof that was kept, or
 /// the verdict on what the shard handed out, or what it told at once. The proof of a grant is kept
-/// by a step of its own; the gate is passed before. Where its shard may keep no more of what is
-/// presented, memory is refused and nothing has changed.
+/// by a step of its own; the gate is passed before.
 pub fn ask<W: Wait + Sync, S: Shards, D: Decide, G: Gate>(
     rt: &W,
     alloc: Global,

@@ -20,4 +20,3 @@ mod SameLists
 mod LastAsk
 mod SameTold
 mod Forward
-mod SameEvent

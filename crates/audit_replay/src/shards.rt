@@ -14,14 +14,16 @@ use crate::skipping::{skip_entries, skip_shards};
 use crate::stepping::ShardReplay;
 use agent_core::Shard;
 use byte_fields::{ended, u32_at, u64_at};
-use journal_bytes::{JournalFault, read_entry};
+use journal_bytes::{JournalFault, read_entry_by};
 use std::alloc::Global;
+use stmt_codec::KnownBodies;
 use taos_calculus::Decide;
 
 // So many entries of a shard, stepped until one fails.
 fn replay_entries<D: Decide>(
     alloc: Global,
     bench: &mut D,
+    known: &mut KnownBodies,
     replay: &mut ShardReplay,
     bytes: &[u8],
     at: usize,
@@ -35,7 +37,7 @@ fn replay_entries<D: Decide>(
     let mut fall = None;
     let mut next = at;
     for _ in 0..count {
-        let (entry, after) = read_entry(alloc, bytes, next)?;
+        let (entry, after) = read_entry_by(alloc, known, bytes, next)?;
         fall = replay.go_on(alloc, bench, entry, fall)?;
         next = after;
     }
@@ -61,7 +63,8 @@ fn replay_shard<D: Decide>(
         marks: Vec::new(alloc),
         lists: Lists::new(alloc)?,
     };
-    let (fall, next) = replay_entries(alloc, bench, &mut replay, bytes, at, count)?;
+    let mut known = KnownBodies::new(alloc)?;
+    let (fall, next) = replay_entries(alloc, bench, &mut known, &mut replay, bytes, at, count)?;
     Ok((replay, fall, next))
 }
 

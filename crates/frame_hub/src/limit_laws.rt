@@ -6,7 +6,7 @@ ghost use Rattle.frame_hub.specs.declared.limits.TheConstants.{MAX_KEPT, MAX_UND
 /// Each limit, as a number.
 pub fn limits_are()
     ensures kept { MAX_KEPT ≡ 65540 }
-    ensures under_way { MAX_UNDER_WAY ≡ 8 }
+    ensures under_way { MAX_UNDER_WAY ≡ 2 }
     ensures ready { MAX_READY ≡ 65536 }
     ensures left { MAX_LEFT ≡ 67174404 }
     ensures clients { MAX_CLIENTS ≡ 65536 }

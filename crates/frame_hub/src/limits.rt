@@ -3,8 +3,9 @@
 /// The most bytes of a client that wait for a lane: the longest frame.
 pub const MAX_KEPT: usize = 65_540;
 
-/// The most frames of a client that lanes have taken and not answered.
-pub const MAX_UNDER_WAY: u32 = 8;
+/// The most frames of a client that lanes have taken and not answered: one that is answered, and one
+/// behind it. Who sends many has little more of its lane than who waits for each reply.
+pub const MAX_UNDER_WAY: u32 = 2;
 
 /// The most bytes left to write with which a client has a turn.
 pub const MAX_READY: usize = 65_536;

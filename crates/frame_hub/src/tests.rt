@@ -99,7 +99,8 @@ const REPLIES: &[Step] = &[
 ];
 
 // A client keeps the lane of its first frame. Of two that wait each has a turn before one has two,
-// and a third with a part of a frame holds nobody. Who said its last leaves when it was answered.
+// and a third with a part of a frame holds nobody. Who has two frames there has no turn until one is
+// answered. Who said its last leaves when it was answered.
 const TURNS: &[Step] = &[
     Comes { client: 2 },
     Comes { client: 1 },
@@ -133,6 +134,10 @@ const TURNS: &[Step] = &[
         client: 2,
         payload: &[9, 0, 0, 0, 1, 8],
     },
+    Sends {
+        client: 2,
+        bytes: &[0, 1, 5, 0],
+    },
     Idles { lane: 0 },
     Idles { lane: 1 },
     Ends { client: 2 },
@@ -140,6 +145,11 @@ const TURNS: &[Step] = &[
         lane: 0,
         payload: &[3],
         answer: Answer::For { client: 2 },
+    },
+    Takes {
+        lane: 0,
+        client: 2,
+        payload: &[5],
     },
     Replies {
         lane: 0,
@@ -156,9 +166,14 @@ const TURNS: &[Step] = &[
         payload: &[4],
         answer: Answer::For { client: 2 },
     },
+    Replies {
+        lane: 0,
+        payload: &[6],
+        answer: Answer::For { client: 2 },
+    },
     Gets {
         client: 2,
-        bytes: &[0, 0, 0, 1, 4],
+        bytes: &[0, 0, 0, 1, 4, 0, 0, 0, 1, 6],
     },
     Leaves { client: 2 },
     Gets {

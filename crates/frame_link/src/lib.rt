@@ -1,7 +1,6 @@
 //! The traits of the outside, frames over them, and objects in memory that implement them.
 #![tactic(auto)]
 
-mod around;
 mod closed;
 mod exchange;
 mod fault_plan;
@@ -20,7 +19,6 @@ mod service;
 mod serving;
 mod whole;
 
-pub use around::Outside;
 pub use closed::{ClosedDoor, NoRelay};
 pub use exchange::exchange_frames;
 pub use frame::{FrameBuf, Next, Put, SMALL_FRAME, next_frame, one_reading, put_frame};

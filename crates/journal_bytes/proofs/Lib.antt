@@ -11,3 +11,4 @@ pub mod Found
 pub mod Rising
 pub mod Countable
 pub mod OneJournal
+pub mod Fitting

@@ -4,4 +4,5 @@ pub mod Limits
 pub mod Reading
 pub mod JournalsReading
 pub mod View
+pub mod Numbers
 pub mod Events

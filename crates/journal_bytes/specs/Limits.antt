@@ -1,6 +1,6 @@
 -- The limits of journals, and which bytes spell them.
 use Rattle.std.specs.Prelude.{◌≡◌, ℕ, ◌<◌, ◌≤◌, ◌^◌, ◌||◌, ◌==◌, Bool, true, List, ◌++◌, length}
-use Rattle.std.specs.Prelude.{drop, All, AllPairs}
+use Rattle.std.specs.Prelude.{drop, map, All, AllPairs}
 use Rattle.prin_term.specs.declared.limits.TheConstants.{ENTRY_NODES}
 use Rattle.prin_term.specs.Refusal.{FitsLimits}
 use Rattle.byte_fields.specs.Steps.{IsByte}
@@ -18,7 +18,7 @@ use Rattle.agent_core.specs.State as agent
 use Rattle.agent_core.specs.Journals.{Entry, ShardSeen}
 use Rattle.journal_bytes.specs.declared.limits.TheConstants.{MAX_BODIES, MAX_CITES}
 use Rattle.journal_bytes.specs.Spelled.{SpelledEvent, Asks, Keeps, Holds, Discards, Forgets}
-use Rattle.journal_bytes.specs.Spelled.{Expires, Withdraws, SpelledEntry, ObjectJournal, Journals}
+use Rattle.journal_bytes.specs.Spelled.{Expires, Withdraws, SpelledEntry, ObjectJournal, Journals, object_spelled}
 use Rattle.journal_bytes.specs.Spelling.{kind_of, entry_bytes, ruled_bytes, journals_bytes}
 
 -- ---- an entry of a shard
@@ -94,6 +94,21 @@ CitesFewOf _ = Unit {0}
 abbrev pub CitesFew : ShardSeen → Type 0
 CitesFew s = All (λ (e : Entry). CitesFewOf e.event) s.journal
 
+-- the subject, the list and the right of an Ask are within the limits
+pub record IsAskWithin (a : Ask) : Type 0 where
+  pub subject : FitsLimits ENTRY_NODES a.subject
+  pub list : IsAccessList a.list
+  pub right : IsByte a.right × (is_right a.right ≡ true)
+
+-- so are those of the Ask that an event may be
+abbrev pub AsksWithinOf : Event → Type 0
+AsksWithinOf (agent.Asks a) = IsAskWithin a
+AsksWithinOf _ = Unit {0}
+
+-- each Ask of this shard is within the limits
+abbrev pub AsksWithin : ShardSeen → Type 0
+AsksWithin s = All (λ (e : Entry). AsksWithinOf e.event) s.journal
+
 -- each operation of this object is within the limits
 abbrev pub HasFittingOps : ObjectSeen → Type 0
 HasFittingOps o = All (λ (e : ObjectEntry). FitsOperation e.op) o.journal
@@ -127,6 +142,10 @@ pub record FitsObject (o : ObjectJournal) : Type 0 where
 abbrev pub StandsBefore : ObjectJournal → ObjectJournal → Type 0
 StandsBefore a b = a.number < b.number
 
+-- the numbers of these objects rise
+abbrev pub NumbersRise : List ObjectSeen → Type 0
+NumbersRise objects = AllPairs StandsBefore (map object_spelled objects)
+
 -- each journal is within the limits, and the numbers of the objects rise
 pub record FitsJournals (j : Journals) : Type 0 where
   pub shards : (length j.shards < 2 ^ 32) × All FitsShard j.shards
@@ -149,3 +168,9 @@ pub record IsRuledAt (bytes : List ℕ) (at : ℕ) (e : ObjectEntry) : Type 0 wh
 pub record Spells (j : Journals) (bytes : List ℕ) : Type 0 where
   pub limits : FitsJournals j
   pub text : bytes ≡ journals_bytes j
+
+-- the new bytes are the old ones, and behind them the spelling of the journals
+pub record AddsSpelling (old new : List ℕ) (j : Journals) : Type 0 where
+  pub text : List ℕ
+  pub added : new ≡ old ++ text
+  pub spells : Spells j text

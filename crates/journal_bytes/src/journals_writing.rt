@@ -1,13 +1,14 @@
 //! Writing the journals of shards and objects.
 
-ghost use Rattle.std.specs.Prelude.{◌<◌, ◌^◌, ◌++◌, length, map, All};
+ghost use Rattle.std.specs.Prelude.{◌<◌, ◌^◌, ◌++◌, length, map, All, OnOk};
 ghost use Rattle.std.specs.Int.{w32, w64, to_be_bytes};
 ghost use Rattle.std.specs.List.{flat_map};
 ghost use Rattle.byte_fields.specs.Appends.{Appends, Pushes};
 ghost use Rattle.object_core.specs.ObjectView.{object_entry};
 ghost use Rattle.object_core.specs.Operation.{FitsOperation};
 ghost use Rattle.agent_core.specs.Views.{entry_of};
-ghost use Rattle.journal_bytes.specs.Limits.{AreCountable, CitesFew, HasFittingOps};
+ghost use Rattle.journal_bytes.specs.Limits.{AddsSpelling, AreCountable, AsksWithin, CitesFew};
+ghost use Rattle.journal_bytes.specs.Limits.{HasFittingOps, NumbersRise};
 ghost use Rattle.journal_bytes.specs.Spelled.{journals_of, numbered, object_spelled};
 ghost use Rattle.journal_bytes.specs.Spelled.{shard_spelled};
 ghost use Rattle.journal_bytes.specs.View.{entry_spelled};
@@ -15,6 +16,7 @@ ghost use Rattle.journal_bytes.specs.Spelling.{all_bytes, entry_bytes, journals_
 ghost use Rattle.journal_bytes.specs.Spelling.{object_bytes, ruled_bytes, shard_bytes};
 
 use crate::limits::{JOURNALS, VERSION};
+use crate::numbers::{objects_fit, shards_fit};
 use crate::ruled::push_ruled;
 use crate::writing::push_entry;
 use agent_core::{Shard, ShardEntry};
@@ -131,6 +133,25 @@ fn push_journals(out: &mut Vec<u8>, shards: &[Shard], objects: &[Object]) -> Res
     push_all(out, shards, objects)
 }
 
+// An `Err` changes nothing.
+fn append_journals(
+    out: &mut Vec<u8>,
+    shards: &[Shard],
+    objects: &[Object],
+) -> Result<(), AllocError>
+    requires counts { (length shards.now < 2 ^ 32) × (length objects.now < 2 ^ 32) }
+    requires shards { All CitesFew shards.now }
+    requires objects { All HasFittingOps objects.now }
+    ensures { Appends out.old out.new (journals_bytes (journals_of shards.now objects.now)) result }
+{
+    let len = out.len();
+    let written = push_journals(out, shards, objects);
+    if written.is_err() {
+        out.truncate(len);
+    }
+    written
+}
+
 /// Appends the journals, those of the shards first, each list as it stands: that the shards stand in
 /// the order of their numbers and the numbers of the objects rise is the caller's. An `Err` changes
 /// nothing.
@@ -142,13 +163,15 @@ pub fn write_journals(
     requires counts { (length shards.now < 2 ^ 32) × (length objects.now < 2 ^ 32) }
     requires shards { All CitesFew shards.now }
     requires objects { All HasFittingOps objects.now }
-    // `written_is_read` tells that it is read back, where it is within the limits.
-    ensures { Appends out.old out.new (journals_bytes (journals_of shards.now objects.now)) result }
+    ensures appends { Appends out.old out.new
+        (journals_bytes (journals_of shards.now objects.now)) result }
+    // What was appended spells these very journals, where the Asks are within the limits and the
+    // numbers of the objects rise.
+    ensures spelled { All AsksWithin shards.now → NumbersRise objects.now
+        → OnOk result (AddsSpelling out.old.items out.new.items
+        (journals_of shards.now objects.now)) }
 {
-    let len = out.len();
-    let written = push_journals(out, shards, objects);
-    if written.is_err() {
-        out.truncate(len);
-    }
-    written
+    shards_fit(shards);
+    objects_fit(objects);
+    append_journals(out, shards, objects)
 }

@@ -9,6 +9,7 @@ mod journals_writing;
 mod laws;
 mod limit_laws;
 mod limits;
+mod numbers;
 mod reading;
 mod ruled;
 mod told;
@@ -25,6 +26,6 @@ pub use laws::{
 };
 pub use limit_laws::limits_are;
 pub use limits::{JOURNALS, LAST_EVENT, MAX_BODIES, MAX_CITES, VERSION};
-pub use reading::read_entry;
+pub use reading::{read_entry, read_entry_by};
 pub use ruled::{read_ruled, write_ruled};
 pub use writing::write_entry;

@@ -20,7 +20,7 @@ use object_core::read_list;
 use prin_term::{ENTRY_NODES, read_term};
 use std::alloc::Global;
 use std::sync::Arc;
-use stmt_codec::read_bodies;
+use stmt_codec::{KnownBodies, read_bodies_by};
 use taos_calculus::read_counted_proof;
 
 #[tactic(auto, unfolding(crate::specs::Reading::right_at))]
@@ -38,7 +38,12 @@ fn right_of(bytes: &[u8], at: usize) -> Result<(u8, usize), JournalFault>
 }
 
 #[tactic(auto, unfolding(crate::specs::Reading::ask_at))]
-fn asked_of(alloc: Global, bytes: &[u8], at: usize) -> Result<(Ask, usize), JournalFault>
+fn asked_of(
+    alloc: Global,
+    known: &mut KnownBodies,
+    bytes: &[u8],
+    at: usize,
+) -> Result<(Ask, usize), JournalFault>
     requires { at ≤ length bytes.now }
     ensures value { Gives NoMemory (λ x. (ask_of x.0, x.1)) result (ask_at bytes.now at) }
     ensures within { IfOk result (λ x. x.1 ≤ length bytes.now) }
@@ -50,7 +55,7 @@ fn asked_of(alloc: Global, bytes: &[u8], at: usize) -> Result<(Ask, usize), Jour
     let (subject, next) = read_term(alloc, bytes, next, ENTRY_NODES)?;
     let (list, next) = read_list(alloc, bytes, next)?;
     let (right, next) = right_of(bytes, next)?;
-    let (presented, next) = read_bodies(alloc, bytes, next, MAX_BODIES)?;
+    let (presented, next) = read_bodies_by(alloc, known, bytes, next, MAX_BODIES)?;
     let asked = Ask {
         channel,
         seq,
@@ -64,7 +69,12 @@ fn asked_of(alloc: Global, bytes: &[u8], at: usize) -> Result<(Ask, usize), Jour
 }
 
 #[tactic(auto, unfolding(crate::specs::Reading::keep_at))]
-fn keep_of(alloc: Global, bytes: &[u8], at: usize) -> Result<(SpelledEvent, usize), JournalFault>
+fn keep_of(
+    alloc: Global,
+    known: &mut KnownBodies,
+    bytes: &[u8],
+    at: usize,
+) -> Result<(SpelledEvent, usize), JournalFault>
     requires { at ≤ length bytes.now }
     ensures value { Gives NoMemory (λ x. (event_seen x.0, x.1)) result (keep_at bytes.now at) }
     ensures within { IfOk result (λ x. x.1 ≤ length bytes.now) }
@@ -72,7 +82,7 @@ fn keep_of(alloc: Global, bytes: &[u8], at: usize) -> Result<(SpelledEvent, usiz
     let (ask, next) = u64_at(bytes, at, ended(bytes))?;
     let (entry, next) = u8_at(bytes, next, ended(bytes))?;
     let (proof, next) = read_counted_proof(alloc, bytes, next)?;
-    let (cites, next) = read_bodies(alloc, bytes, next, MAX_CITES)?;
+    let (cites, next) = read_bodies_by(alloc, known, bytes, next, MAX_CITES)?;
     let keep = SpelledEvent::Keep {
         ask,
         entry,
@@ -86,6 +96,7 @@ fn keep_of(alloc: Global, bytes: &[u8], at: usize) -> Result<(SpelledEvent, usiz
 #[tactic(auto, unfolding(crate::specs::Reading::event_at))]
 fn event_of(
     alloc: Global,
+    known: &mut KnownBodies,
     bytes: &[u8],
     at: usize,
     kind: u8,
@@ -97,12 +108,12 @@ fn event_of(
 {
     match kind {
         1 => {
-            let (asked, next) = asked_of(alloc, bytes, at)?;
+            let (asked, next) = asked_of(alloc, known, bytes, at)?;
             Ok((SpelledEvent::Ask(asked), next))
         }
-        2 => keep_of(alloc, bytes, at),
+        2 => keep_of(alloc, known, bytes, at),
         3 => {
-            let (certs, next) = read_bodies(alloc, bytes, at, MAX_BODIES)?;
+            let (certs, next) = read_bodies_by(alloc, known, bytes, at, MAX_BODIES)?;
             Ok((SpelledEvent::Hold(certs), next))
         }
         4 => {
@@ -125,13 +136,18 @@ fn event_of(
 }
 
 #[tactic(auto, unfolding(crate::specs::Reading::entry_at))]
-fn entry_of(alloc: Global, bytes: &[u8], at: usize) -> Result<(SpelledEntry, usize), JournalFault>
+fn entry_of(
+    alloc: Global,
+    known: &mut KnownBodies,
+    bytes: &[u8],
+    at: usize,
+) -> Result<(SpelledEntry, usize), JournalFault>
     requires { at ≤ length bytes.now }
     ensures value { Gives NoMemory (λ x. (entry_seen x.0, x.1)) result (entry_at bytes.now at) }
     ensures within { IfOk result (λ x. x.1 ≤ length bytes.now) }
 {
     let (kind, next) = byte_within(bytes, at, 1, LAST_EVENT)?;
-    let (event, next) = event_of(alloc, bytes, next, kind)?;
+    let (event, next) = event_of(alloc, known, bytes, next, kind)?;
     let (told, next) = told_of(bytes, next, kind)?;
     Ok((SpelledEntry { event, told }, next))
 }
@@ -155,5 +171,21 @@ pub fn read_entry(
     // The same as one function, with the fault of bytes that are refused.
     ensures exact { Gives NoMemory (λ x. (entry_seen x.0, x.1)) result (entry_at bytes.now at) }
 {
-    entry_of(alloc, bytes, at)
+    entry_of(alloc, &mut KnownBodies::none(alloc), bytes, at)
+}
+
+/// The same; a certificate that is kept by its body's bytes is not read anew.
+pub fn read_entry_by(
+    alloc: Global,
+    known: &mut KnownBodies,
+    bytes: &[u8],
+    at: usize,
+) -> Result<(SpelledEntry, usize), JournalFault>
+    requires { at ≤ length bytes.now }
+    ensures found { IfOk result (λ x. IsEntryAt bytes.now at (entry_seen x.0)
+        × (x.1 ≡ at + length (entry_bytes (entry_seen x.0)))) }
+    ensures within { IfOk result (λ x. x.1 ≤ length bytes.now) }
+    ensures exact { Gives NoMemory (λ x. (entry_seen x.0, x.1)) result (entry_at bytes.now at) }
+{
+    entry_of(alloc, known, bytes, at)
 }

@@ -8,6 +8,7 @@ pub mod Listed
 pub mod Faults
 pub mod ByNumber
 pub mod GatheredObjects
+pub mod KindTaken
 pub mod RelayTaken
 pub mod RelayRead
 pub mod SamePrincipals

@@ -18,6 +18,11 @@ abbrev pub counted_if : List ℕ → Option ℕ → List Token
 counted_if name (Some n) = counted name n
 counted_if name None = []
 
+-- a member whose value is a text, where there is one
+abbrev pub worded_if : List ℕ → Option (List ℕ) → List Token
+worded_if name (Some text) = worded name text
+worded_if name None = []
+
 -- the peer, where there is one
 abbrev pub peer_members : Option SocketAddr → List Token
 peer_members (Some peer) = worded (codes "peer") (socket_text peer)

@@ -1,13 +1,14 @@
-//! What was ruled on a request, as a line of JSON.
+//! What was ruled on a request, and what became of a grant, as a line of JSON.
 
-ghost use Rattle.std.specs.Prelude.{◌≡◌, ◌⊎◌, ◌++◌, IfOk, OnOk};
+ghost use Rattle.std.specs.Prelude.{◌≡◌, ◌++◌, IfOk, OnOk};
 ghost use Rattle.taos_wire.specs.View.{request as asked};
 ghost use Rattle.node_status.specs.Decisions.{decision_members, ruled_word};
 ghost use Rattle.node_status.specs.Members.{line_of};
+ghost use Rattle.node_status.specs.Replies.{IsEntry};
 
 use crate::asked::put_asked;
-use crate::members::{put_first, put_number, put_peer, put_short, put_some};
-use crate::notices::put_link;
+use crate::members::{put_first, put_number, put_peer};
+use crate::notices::put_reply;
 use crate::reply::ReplyFront;
 use json::Writer;
 use prin_text::Names;
@@ -30,9 +31,12 @@ pub struct Decision<'a> {
 fn ruled_of(front: ReplyFront) -> &'static str
     ensures { result.now ≡ ruled_word front }
 {
-    match front.head.is_grant() {
-        true => "granted",
-        false => "denied",
+    if front.head.is_grant() {
+        return "granted";
+    }
+    match front.head.is_denial() {
+        true => "denied",
+        false => "not-done",
     }
 }
 
@@ -52,9 +56,7 @@ fn put_decision(
     put_number(out, "lane", decision.lane as u64)?;
     put_peer(alloc, out, decision.peer)?;
     put_asked(alloc, out, names, decision.request)?;
-    put_link(out, decision.front.link)?;
-    put_short(out, "shard", decision.front.head.shard)?;
-    put_some(out, "place", decision.front.head.place)
+    put_reply(out, decision.front)
 }
 
 /// The line of a ruling as JSON, with its line feed. A principal is told by these names.
@@ -63,8 +65,8 @@ pub fn decision_line(
     names: &Names,
     decision: Decision<'_>,
 ) -> Result<Vec<u8>, AllocError>
-    // It is a grant or a denial.
-    requires ruled { (decision.front.head.status ≡ 0) ⊎ (decision.front.head.status ≡ 1) }
+    // It is a grant, a denial, or what was granted and not done, or not whole.
+    requires ruled { IsEntry decision.front.head }
     ensures { IfOk result (λ line. line.items ≡ line_of
         (decision_members names.now decision.entry.seconds decision.entry.lane decision.entry.peer
         (asked decision.entry.request.now) decision.entry.front)) }

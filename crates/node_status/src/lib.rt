@@ -24,6 +24,6 @@ pub use notice::{Happening, LeftOut, Notice};
 pub use notices::{left_out_line, notice_line};
 pub use page::push_page;
 pub use reply::{FRONT, ReplyFront, is_entry, names_request, reply_at, shows_seal};
-pub use start::{Ended, Served, Started, ended_line, started_line};
+pub use start::{Addresses, Bounds, Ended, Served, Started, ended_line, started_line};
 pub use status::{ANSWERS, BUCKETS, CAUSES, STATUSES, Status, answer_place, cause_place};
 pub use timing::{BOUNDS, place_of};

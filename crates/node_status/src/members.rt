@@ -1,12 +1,14 @@
 //! The members of the objects that lines of JSON are.
 
 ghost use Rattle.std.specs.Prelude.{◌≡◌, ◌++◌, OnOk};
+ghost use Rattle.std.specs.Option.{option_map};
 ghost use Rattle.node_status.specs.Members.{
   counted,
   counted_if,
   first_members,
   peer_members,
   worded,
+  worded_if,
 };
 
 use json::Writer;
@@ -28,6 +30,21 @@ pub(crate) fn put_text(out: &mut Writer, name: &str, value: &str) -> Result<(), 
 {
     out.key(name)?;
     out.string(value)
+}
+
+pub(crate) fn put_text_if(
+    out: &mut Writer,
+    name: &str,
+    value: Option<&str>,
+) -> Result<(), AllocError>
+    ensures kept { out.new.before ≡ out.old.before }
+    ensures put { OnOk result (out.new.tokens
+        ≡ out.old.tokens ++ worded_if name.now (option_map (λ t. t.now) value.entry)) }
+{
+    match value {
+        Some(value) => put_text(out, name, value),
+        None => Ok(()),
+    }
 }
 
 pub(crate) fn put_some(out: &mut Writer, name: &str, value: Option<u64>) -> Result<(), AllocError>

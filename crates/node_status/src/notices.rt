@@ -71,8 +71,8 @@ fn put_who(
     }
 }
 
-/// What a denial says that lacks.
-pub(crate) fn put_link(out: &mut Writer, link: Option<u8>) -> Result<(), AllocError>
+// What a denial says that lacks.
+fn put_link(out: &mut Writer, link: Option<u8>) -> Result<(), AllocError>
     ensures kept { out.new.before ≡ out.old.before }
     ensures put { OnOk result (out.new.tokens ≡ out.old.tokens ++ link_members link) }
 {
@@ -82,7 +82,8 @@ pub(crate) fn put_link(out: &mut Writer, link: Option<u8>) -> Result<(), AllocEr
     }
 }
 
-fn put_reply(out: &mut Writer, front: ReplyFront) -> Result<(), AllocError>
+// What a reply says but of its request.
+pub(crate) fn put_reply(out: &mut Writer, front: ReplyFront) -> Result<(), AllocError>
     ensures kept { out.new.before ≡ out.old.before }
     ensures put { OnOk result (out.new.tokens ≡ out.old.tokens ++ reply_members front) }
 {

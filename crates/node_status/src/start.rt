@@ -3,13 +3,15 @@
 ghost use Rattle.std.specs.Prelude.{◌≡◌, ◌++◌, IfOk, OnOk};
 ghost use Rattle.node_status.specs.Members.{line_of};
 ghost use Rattle.node_status.specs.Starts.{
+  bound_members,
   ended_members,
   node_members,
+  address_members,
   served_members,
   started_members,
 };
 
-use crate::members::{put_first, put_number, put_short};
+use crate::members::{put_first, put_number, put_short, put_some, put_text_if};
 use crate::notice::When;
 use json::Writer;
 use std::alloc::{AllocError, Global};
@@ -26,15 +28,40 @@ pub struct Served {
     pub journal: u64,
 }
 
-/// A program begins to serve, by so many lanes, and so many clients at most where that is said.
+/// How much a program serves, each where it has a bound.
 #[derive(Clone, Copy)]
-pub struct Started {
+pub struct Bounds {
+    pub lanes: u64,
+    /// The clients that may be connected at a time.
+    pub clients: Option<u32>,
+    /// The connections of each lane.
+    pub connections: Option<u64>,
+    /// The frames of each connection.
+    pub frames: Option<u64>,
+    /// The seconds that a peer may be silent.
+    pub idle: Option<u64>,
+}
+
+/// Where a program listens and whom it asks, each where there is one.
+#[derive(Clone, Copy)]
+pub struct Addresses<'a> {
+    /// The addresses of its lanes as they were bound, joined by commas.
+    pub listen: Option<&'a str>,
+    pub relay: Option<&'a str>,
+    pub wallet: Option<&'a str>,
+    /// Where it answers what it has counted.
+    pub page: Option<&'a str>,
+}
+
+/// A program begins to serve.
+#[derive(Clone, Copy)]
+pub struct Started<'a> {
     /// The seconds since 1970, where the clock told them.
     pub seconds: Option<u64>,
     /// What is served, where that is a node.
     pub served: Option<Served>,
-    pub lanes: u64,
-    pub clients: Option<u32>,
+    pub bounds: Bounds,
+    pub addresses: Addresses<'a>,
 }
 
 /// A program has served, and ends with this exit status.
@@ -54,19 +81,56 @@ impl fmt::Display for Served {
     }
 }
 
-/// The line, without its line feed.
-impl fmt::Display for Started {
+/// The pairs of the line, with a blank before each.
+impl fmt::Display for Bounds {
     fn fmt<W: fmt::Write>(&self, f: &mut fmt::Formatter<W>) -> fmt::Result {
-        let (time, lanes) = (When(self.seconds), self.lanes);
+        let lanes = self.lanes;
+        write!(f, " lanes {lanes}")?;
+        if let Some(clients) = self.clients {
+            write!(f, " clients {clients}")?;
+        }
+        if let Some(connections) = self.connections {
+            write!(f, " connections {connections}")?;
+        }
+        if let Some(frames) = self.frames {
+            write!(f, " frames {frames}")?;
+        }
+        match self.idle {
+            Some(idle) => write!(f, " idle {idle}"),
+            None => Ok(()),
+        }
+    }
+}
+
+/// The pairs of the line, with a blank before each.
+impl<'a> fmt::Display for Addresses<'a> {
+    fn fmt<W: fmt::Write>(&self, f: &mut fmt::Formatter<W>) -> fmt::Result {
+        if let Some(listen) = self.listen {
+            write!(f, " listen {listen}")?;
+        }
+        if let Some(relay) = self.relay {
+            write!(f, " relay {relay}")?;
+        }
+        if let Some(wallet) = self.wallet {
+            write!(f, " wallet {wallet}")?;
+        }
+        match self.page {
+            Some(page) => write!(f, " page {page}"),
+            None => Ok(()),
+        }
+    }
+}
+
+/// The line, without its line feed.
+impl<'a> fmt::Display for Started<'a> {
+    fn fmt<W: fmt::Write>(&self, f: &mut fmt::Formatter<W>) -> fmt::Result {
+        let time = When(self.seconds);
         write!(f, "taosd: {time} started")?;
         if let Some(served) = self.served {
             write!(f, "{served}")?;
         }
-        write!(f, " lanes {lanes}")?;
-        match self.clients {
-            Some(clients) => write!(f, " clients {clients}"),
-            None => Ok(()),
-        }
+        let (bounds, addresses) = (self.bounds, self.addresses);
+        write!(f, "{bounds}{addresses}")
     }
 }
 
@@ -100,14 +164,35 @@ fn put_served(out: &mut Writer, served: Option<Served>) -> Result<(), AllocError
     }
 }
 
-fn put_started(out: &mut Writer, started: &Started) -> Result<(), AllocError>
+fn put_bounds(out: &mut Writer, bounds: Bounds) -> Result<(), AllocError>
+    ensures kept { out.new.before ≡ out.old.before }
+    ensures put { OnOk result (out.new.tokens ≡ out.old.tokens ++ bound_members bounds) }
+{
+    put_number(out, "lanes", bounds.lanes)?;
+    put_short(out, "clients", bounds.clients)?;
+    put_some(out, "connections", bounds.connections)?;
+    put_some(out, "frames", bounds.frames)?;
+    put_some(out, "idle", bounds.idle)
+}
+
+fn put_addresses(out: &mut Writer, addresses: &Addresses<'_>) -> Result<(), AllocError>
+    ensures kept { out.new.before ≡ out.old.before }
+    ensures put { OnOk result (out.new.tokens ≡ out.old.tokens ++ address_members addresses.now) }
+{
+    put_text_if(out, "listen", addresses.listen)?;
+    put_text_if(out, "relay", addresses.relay)?;
+    put_text_if(out, "wallet", addresses.wallet)?;
+    put_text_if(out, "page", addresses.page)
+}
+
+fn put_started(out: &mut Writer, started: &Started<'_>) -> Result<(), AllocError>
     ensures kept { out.new.before ≡ out.old.before }
     ensures put { OnOk result (out.new.tokens ≡ out.old.tokens ++ started_members started.now) }
 {
     put_first(out, started.seconds, "info", "started")?;
     put_served(out, started.served)?;
-    put_number(out, "lanes", started.lanes)?;
-    put_short(out, "clients", started.clients)
+    put_bounds(out, started.bounds)?;
+    put_addresses(out, &started.addresses)
 }
 
 fn put_ended(out: &mut Writer, ended: &Ended) -> Result<(), AllocError>
@@ -119,7 +204,7 @@ fn put_ended(out: &mut Writer, ended: &Ended) -> Result<(), AllocError>
 }
 
 /// The line that tells of the begin as JSON, with its line feed.
-pub fn started_line(alloc: Global, started: &Started) -> Result<Vec<u8>, AllocError>
+pub fn started_line(alloc: Global, started: &Started<'_>) -> Result<Vec<u8>, AllocError>
     ensures { IfOk result (λ line. line.items ≡ line_of (started_members started.now)) }
 {
     let mut out = Writer::new(Vec::new(alloc));

@@ -1,10 +1,10 @@
 -- A task as its command and what that is asked for, so that what holds of all tasks is shown once for each command.
-use Rattle.std.proofs.Common.{◌≡◌, Option, refl, sym, ap, subst, ◌∙◌, codes}
+use Rattle.std.proofs.Common.{◌≡◌, Option, None, Some, refl, sym, ap, subst, ◌∙◌, codes}
 use Rattle.node_words.specs.declared.wanted.Wanted.{Wanted}
 use Rattle.node_words.specs.Table.{IsReadAs}
 use Rattle.std.specs.Prelude.{cond}
 use Rattle.std.specs.Str.{bytes_eq}
-use Rattle.node_words.specs.Words.{Asked, Command, Running, Checking, Relaying, Minting, Serving, RelayServing, Auditing, Drilling, Carrying, Giving, Text, Task, Run, Check, Relay, Mint, Serve, RelayServe, Audit, Drill, Path, Wallet, named, task_for, AuditingBytes, Replaying, AuditBytes, Replay}
+use Rattle.node_words.specs.Words.{Asked, Command, Gives, Running, Checking, Relaying, Minting, Serving, RelayServing, Auditing, Drilling, Carrying, Giving, Text, Task, Run, Check, Relay, Mint, Serve, RelayServe, Audit, Drill, Path, Wallet, named, task_for, task_of, AuditingBytes, Replaying, AuditBytes, Replay}
 
 -- the command that is named so
 abbrev pub command_named : Text → Command
@@ -36,10 +36,20 @@ command_named-named AuditingBytes = refl
 command_named-named Replaying = refl
 
 -- what is read of a command is read of each that has its name
-pub by_command : (d : Command) (name : Text) (text_of : Text → Option Text) (r : Option Wanted) → name ≡ named d → IsReadAs d text_of r → (c : Command) → name ≡ named c → IsReadAs c text_of r
+by_command : (d : Command) (name : Text) (text_of : Text → Option Text) (r : Option Wanted) → name ≡ named d → IsReadAs d text_of r → (c : Command) → name ≡ named c → IsReadAs c text_of r
 by_command d name text_of r is read c other =
     let same : d ≡ c = sym (command_named-named d) ∙ ap command_named (sym is ∙ other) ∙ command_named-named c in
     subst (λ (k : Command). IsReadAs k text_of r) same read
+
+-- what this command is asked for is read where it is given
+pub read_of : (d : Command) {name : Text} → name ≡ named d → (text_of : Text → Option Text) (wanted : Wanted) (asked : Asked d) → task_of wanted ≡ task_for d asked → Gives d text_of asked →
+    (c : Command) → name ≡ named c → IsReadAs c text_of (Some wanted)
+read_of d {name = name} is text_of wanted asked same given = by_command d name text_of (Some wanted) is (asked, same, given)
+
+-- and nothing is where nothing is given
+pub unread_of : (d : Command) {name : Text} → name ≡ named d → (text_of : Text → Option Text) {r : Option Wanted} → r ≡ None → IsReadAs d text_of None →
+    (c : Command) → name ≡ named c → IsReadAs c text_of r
+unread_of d {name = name} is text_of {r = r} none nothing = by_command d name text_of r is (subst (IsReadAs d text_of) (sym none) nothing)
 
 -- ---- tasks
 

@@ -10,6 +10,7 @@ use Rattle.object_core.specs.Kept.{IsLatest, IsObject}
 use Rattle.object_core.specs.ObjectView.{object_entry}
 use Rattle.object_core.specs.Operation.{Op, Read, Write, SetList, Hold, Discard, Forget, Sweep, Withdraw, FitsOperation, IsAccessList, IsContent}
 use Rattle.object_core.specs.declared.ruling.Ruling.{Ruling}
+use Rattle.prin_term.specs.View.{Grant}
 use Rattle.object_core.specs.declared.ruling.Ruling.TheVariants.{Granted, Denied}
 
 latest-append : {X : Type 0} (x : X) (xs ys : List X) → latest x (xs ++ ys) ≡ latest (latest x xs) ys
@@ -48,27 +49,18 @@ place_more by x journal e (Some i) None is before = (
   before.2 ∙ ap Some (sym (latest_more by x journal e ∙ ap (λ o. unwrap_or o (latest x (filter_map by journal))) is)),
 )
 
-content_brought : (r : Ruling) (op : Op) (content : List ℕ) → FitsOperation op → IsContent content → IsContent (unwrap_or (written r op) content)
-content_brought (Granted e) Read content fits is = is
-content_brought (Granted e) (Write new) content fits is = fits
-content_brought (Granted e) (SetList list) content fits is = is
-content_brought (Granted e) Hold content fits is = is
-content_brought (Granted e) (Discard digest) content fits is = is
-content_brought (Granted e) (Forget channel) content fits is = is
-content_brought (Granted e) Sweep content fits is = is
-content_brought (Granted e) (Withdraw issuer) content fits is = is
-content_brought Denied op content fits is = is
-
-list_brought : (r : Ruling) (op : Op) (list : List _) → FitsOperation op → IsAccessList list → IsAccessList (unwrap_or (listed r op) list)
-list_brought (Granted e) Read list fits is = is
-list_brought (Granted e) (Write new) list fits is = is
-list_brought (Granted e) (SetList new) list fits is = fits
-list_brought (Granted e) Hold list fits is = is
-list_brought (Granted e) (Discard digest) list fits is = is
-list_brought (Granted e) (Forget channel) list fits is = is
-list_brought (Granted e) Sweep list fits is = is
-list_brought (Granted e) (Withdraw issuer) list fits is = is
-list_brought Denied op list fits is = is
+-- what an operation brings fits, and so does what stays where it brings none
+brought : (r : Ruling) (op : Op) (content : List ℕ) (list : List Grant) → FitsOperation op → IsContent content → IsAccessList list →
+    IsContent (unwrap_or (written r op) content) × IsAccessList (unwrap_or (listed r op) list)
+brought (Granted e) Read content list fits content_fits listed_fits = (content_fits, listed_fits)
+brought (Granted e) (Write new) content list fits content_fits listed_fits = (fits, listed_fits)
+brought (Granted e) (SetList new) content list fits content_fits listed_fits = (content_fits, fits)
+brought (Granted e) Hold content list fits content_fits listed_fits = (content_fits, listed_fits)
+brought (Granted e) (Discard digest) content list fits content_fits listed_fits = (content_fits, listed_fits)
+brought (Granted e) (Forget channel) content list fits content_fits listed_fits = (content_fits, listed_fits)
+brought (Granted e) Sweep content list fits content_fits listed_fits = (content_fits, listed_fits)
+brought (Granted e) (Withdraw issuer) content list fits content_fits listed_fits = (content_fits, listed_fits)
+brought Denied op content list fits content_fits listed_fits = (content_fits, listed_fits)
 
 -- an object without entries, with room for them
 pub opened_object : (plan : ObjectPlan) (limit : ℕ) (entries : Vec code.ObjectEntry Global) → IsContent plan.content → IsAccessList plan.list →
@@ -91,14 +83,13 @@ pub applied_object : (plan : ObjectPlan) (limit : ℕ) (before after : Vec code.
     (if is_some (listed_by (object_entry e)) then Some (length before.items) else l)
 applied_object plan limit before after w l e was free fits adds grows =
     let journal = map object_entry before.items in
+    let (content_fits, list_fits) = brought e.ruling (object_entry e).op (content_after plan journal) (list_after plan journal) fits was.content_fits was.list_fits in
     let more : map object_entry after.items ≡ journal ++ object_entry e ∷ [] = ap (map object_entry) adds ∙ map-append object_entry before.items (e ∷ []) in
     record {
       content_fits = subst (λ js. IsContent (content_after plan js)) (sym more)
-          (subst IsContent (sym (latest_more written_by plan.content journal (object_entry e)))
-          (content_brought e.ruling (object_entry e).op (content_after plan journal) fits was.content_fits));
+          (subst IsContent (sym (latest_more written_by plan.content journal (object_entry e))) content_fits);
       list_fits = subst (λ js. IsAccessList (list_after plan js)) (sym more)
-          (subst IsAccessList (sym (latest_more listed_by plan.list journal (object_entry e)))
-          (list_brought e.ruling (object_entry e).op (list_after plan journal) fits was.list_fits));
+          (subst IsAccessList (sym (latest_more listed_by plan.list journal (object_entry e))) list_fits);
       within = omega (arith, free, ap length adds ∙ length-append before.items (e ∷ []));
       room = omega (arith, was.room, grows);
       written_at = subst (λ js. IsLatest written_by plan.content js (if is_some (written_by (object_entry e)) then Some (length before.items) else w)) (sym more)

@@ -10,10 +10,9 @@ use Rattle.object_core.specs.Objects.{ObjectEntry}
 use Rattle.object_core.specs.Shelving.{HaveOwnNumbers, ObjectFixed, fixed_at, numbers_of}
 use Rattle.agent_core.specs.Journals.{Entry, IsLegalJournal}
 use Rattle.agent_core.specs.State.{Plan}
-use Rattle.journal_bytes.specs.Limits.{Spells}
 use Rattle.journal_bytes.specs.Spelled.{ObjectJournal, numbered, spelled}
 use Rattle.audit_replay.specs.Legal.{AreLegal, AreRuled, HasCells, IsRuled, IsRuledObject, all_named, named}
-use Rattle.audit_replay.specs.Replays.{IsReplayed, entries_in, judged, legal}
+use Rattle.audit_replay.specs.Replays.{AreReplayed, entries_in, judged, legal}
 use Rattle.audit_replay.specs.declared.replayed.Replayed.{Replayed}
 use Rattle.audit_replay.proofs.Splits.{mapped_at, same_parts}
 use Rattle.taos_monitor.specs.Cells.{Journals, Node, OfObject, Place, in_object, in_shard}
@@ -22,30 +21,10 @@ use Rattle.drill_journal.specs.Works.{In}
 use Rattle.drill_journal.proofs.Members.{all_in, in_all, in_either, in_flat}
 use Rattle.drill_journal.proofs.Ordering.{pairs_first, pairs_tail}
 use Rattle.replay_law.specs.Left.{cells_in, journals_left, objects_of, shards_left}
-use Rattle.replay_law.specs.Laws.{AreLegalBeside}
+use Rattle.replay_law.specs.Laws.{AreLegalBeside, AreReplayedLegal}
+use Rattle.replay_law.proofs.Numbered.{found_by_number}
 use Rattle.replay_law.proofs.Owning.{Came, one_turn}
 use Rattle.replay_law.proofs.Rulings.{RuledAt, ruled_at}
-
--- ---- the object of a number
-
-own_test : (fs : List ObjectFixed) (g f : ObjectFixed) → (g.plan.number ≢ f.plan.number) → fixed_at (g ∷ fs) f.plan.number ≡ fixed_at fs f.plan.number
-own_test fs g f other = let no : eqb g.plan.number f.plan.number ≡ false = grind (arith, nat_tests, other) in rw no refl
-
-in_numbers : (fs : List ObjectFixed) (i : ℕ) (f : ObjectFixed) → slice_get fs i ≡ Some f → In f.plan.number (numbers_of fs)
-in_numbers [] i f at = absurd cc
-in_numbers (g ∷ fs) zero f at = inl (ap (λ (x : ObjectFixed). x.plan.number) (same_Some g f at))
-in_numbers (g ∷ fs) (suc i) f at = inr (in_numbers fs i f at)
-
--- what has a number of its own is found by it
-found_by_number : (fs : List ObjectFixed) → HaveOwnNumbers fs → (i : ℕ) (f : ObjectFixed) → slice_get fs i ≡ Some f → fixed_at fs f.plan.number ≡ Some f
-found_by_number [] own i f at = absurd cc
-found_by_number (g ∷ fs) own zero f at =
-    let one : g ≡ f = same_Some g f at in
-    let yes : eqb f.plan.number f.plan.number ≡ true = grind (arith, nat_tests) in
-    subst (λ (x : ObjectFixed). fixed_at (x ∷ fs) f.plan.number ≡ Some f) (sym one) (rw yes refl)
-found_by_number (g ∷ fs) own (suc i) f at =
-    let other : g.plan.number ≢ f.plan.number = pairs_first (λ (m : ℕ) (k : ℕ). m ≢ k) g.plan.number (numbers_of fs) own f.plan.number (in_numbers fs i f at) in
-    own_test fs g f other ∙ found_by_number fs (pairs_tail (λ (m : ℕ) (k : ℕ). m ≢ k) g.plan.number (numbers_of fs) own) i f at
 
 -- ---- the shards
 
@@ -206,5 +185,7 @@ module _ (n : Node) (own : HaveOwnNumbers n.objects) (J : Journals) (c : Came n 
       numbers_left [] = refl
       numbers_left (f ∷ fs) = ap (λ (l : List ℕ). f.plan.number ∷ l) (numbers_left fs)
 
-  pub left_replayed : (bytes : List ℕ) → Spells (journals_left n J) bytes → IsReplayed (cells_in n) bytes (Replayed.Legal (entries_in (journals_left n J)))
-  left_replayed bytes spells = judged spells (legal has_cells refl shards_legal objects_ruled)
+  pub left_replayed : AreReplayedLegal n J
+  left_replayed =
+      let all : AreReplayed (cells_in n) (journals_left n J) (Replayed.Legal (entries_in (journals_left n J))) = legal has_cells refl shards_legal objects_ruled in
+      record { journals = all; spelled = λ bytes spells. judged spells all }

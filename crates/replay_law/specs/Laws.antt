@@ -3,14 +3,14 @@ use Rattle.std.specs.Prelude.{◌≡◌, ℕ, ◌≤◌, true, List, length, All
 use Rattle.frame_link.specs.declared.outcome.Outcome.{Outcome}
 use Rattle.frame_link.specs.Served.{Line}
 use Rattle.object_core.specs.Objects.{ObjectEntry}
-use Rattle.object_core.specs.Operation.{FitsOperation}
-use Rattle.object_core.specs.Shelving.{HaveOwnNumbers}
+use Rattle.object_core.specs.Operation.{FitsOperation, IsAccessList}
+use Rattle.object_core.specs.Shelving.{HaveOwnNumbers, ObjectFixed}
 use Rattle.agent_core.specs.Journals.{Entry}
 use Rattle.agent_core.specs.State.{Plan}
 use Rattle.agent_core.specs.declared.limits.TheConstants.{MAX_COMMONS}
-use Rattle.journal_bytes.specs.Limits.{CitesFewOf, Spells}
+use Rattle.journal_bytes.specs.Limits.{AsksWithinOf, CitesFewOf, Spells}
 use Rattle.audit_replay.specs.Legal.{AreLegal, AreRuled}
-use Rattle.audit_replay.specs.Replays.{IsReplayed, entries_in}
+use Rattle.audit_replay.specs.Replays.{AreReplayed, IsReplayed, entries_in}
 use Rattle.audit_replay.specs.declared.replayed.Replayed.{Replayed}
 use Rattle.taos_lanes.specs.Lanes.{LaneRun, ServesAll}
 use Rattle.taos_monitor.specs.Cells.{Node, Journals, alone_of, no_entries}
@@ -33,17 +33,22 @@ pub record AreLegalBeside (n : Node) (J : Journals) : Type 0 where
   pub shards : AreLegal n.plans (shards_left n J)
   pub objects : AreRuled (cells_in n) (shards_left n J) (objects_of J n.objects)
 
--- bytes that spell the journals are replayed as so many legal entries
-abbrev pub AreReplayedLegal : Node → Journals → Type 0
-AreReplayedLegal n J =
-    (bytes : List ℕ) → Spells (journals_left n J) bytes →
-    IsReplayed (cells_in n) bytes (Replayed.Legal (entries_in (journals_left n J)))
+-- the journals come to so many legal entries, and so do all bytes that spell them
+pub record AreReplayedLegal (n : Node) (J : Journals) : Type 0 where
+  pub journals : AreReplayed (cells_in n) (journals_left n J)
+      (Replayed.Legal (entries_in (journals_left n J)))
+  pub spelled : (bytes : List ℕ) → Spells (journals_left n J) bytes →
+      IsReplayed (cells_in n) bytes (Replayed.Legal (entries_in (journals_left n J)))
 
 -- the journals can be spelled: no proof in them cites too much, and each operation is within the
 -- limits
 pub record AreWritable (J : Journals) : Type 0 where
   pub cites : (s : ℕ) → All (λ (e : Entry). CitesFewOf e.event) (J.shards s)
   pub ops : (o : ℕ) → All (λ (e : ObjectEntry). FitsOperation e.op) (J.objects o)
+
+-- what each Ask in the journals carries is within the limits
+abbrev pub AreAsksWithin : Journals → Type 0
+AreAsksWithin J = (s : ℕ) → All (λ (e : Entry). AsksWithinOf e.event) (J.shards s)
 
 -- so are the journals that a node left whose objects have numbers of their own
 abbrev pub LeavesLegal : Node → Type 0
@@ -62,3 +67,13 @@ HasFewCommons plan = length plan.commons ≤ MAX_COMMONS
 abbrev pub LeavesWritable : Node → Type 0
 LeavesWritable n =
     All HasFewCommons n.plans → (J : Journals) → HasServed n J → AreWritable J
+
+-- the object was opened with a list that is within the limits
+abbrev pub HasFittingList : ObjectFixed → Type 0
+HasFittingList f = IsAccessList f.plan.list
+
+-- and so were the objects whose lists were asked by
+abbrev pub LeavesAsksWithin : Node → Type 0
+LeavesAsksWithin n =
+    All HasFewCommons n.plans → All HasFittingList n.objects → (J : Journals) → HasServed n J →
+    AreAsksWithin J

@@ -16,3 +16,4 @@ pub mod BodyLengths
 pub mod Offsets
 pub mod Fillings
 pub mod Listed
+pub mod BodySpellings

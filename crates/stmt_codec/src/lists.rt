@@ -14,6 +14,7 @@ ghost use Rattle.stmt_codec.specs.View.{certificate_of, certificates};
 
 use crate::cert::Cert;
 use crate::fault::BodyFault;
+use crate::known::KnownBodies;
 use crate::reading::read_body;
 use crate::writing::write_body;
 use byte_fields::{count_up_to, ended, fill, slice_at, u16_at};
@@ -41,12 +42,29 @@ pub fn read_bodies(
     ensures exact { Gives NoMemory (λ x. (certificates x.0.items, x.1)) result
         (cited_at most bytes.now at) }
 {
-    certs_up_to(alloc, bytes, at, most)
+    certs_up_to(alloc, &mut KnownBodies::none(alloc), bytes, at, most)
+}
+
+/// The same; a certificate that is kept by its body's bytes is not read anew.
+pub fn read_bodies_by(
+    alloc: Global,
+    known: &mut KnownBodies,
+    bytes: &[u8],
+    at: usize,
+    most: u8,
+) -> Result<(Vec<Arc<Cert>>, usize), BodyFault>
+    requires { at ≤ length bytes.now }
+    ensures within { IfOk result (λ x. x.1 ≤ length bytes.now) }
+    ensures exact { Gives NoMemory (λ x. (certificates x.0.items, x.1)) result
+        (cited_at most bytes.now at) }
+{
+    certs_up_to(alloc, known, bytes, at, most)
 }
 
 #[tactic(auto, unfolding(crate::specs::Lists::cited_at))]
 fn certs_up_to(
     alloc: Global,
+    known: &mut KnownBodies,
     bytes: &[u8],
     at: usize,
     most: u8,
@@ -57,12 +75,13 @@ fn certs_up_to(
     ensures within { IfOk result (λ x. x.1 ≤ length bytes.now) }
 {
     let (count, next) = count_up_to(bytes, at, most)?;
-    certs_of(alloc, bytes, next, count)
+    certs_of(alloc, known, bytes, next, count)
 }
 
 // So many certificates.
 fn certs_of(
     alloc: Global,
+    known: &mut KnownBodies,
     bytes: &[u8],
     at: usize,
     count: u8,
@@ -75,7 +94,7 @@ fn certs_of(
     let mut certs = Vec::with_capacity(alloc, count as usize)?;
     let mut next = at;
     for _ in 0..count {
-        let (cert, after) = cert_of(alloc, bytes, next)?;
+        let (cert, after) = cert_of(alloc, known, bytes, next)?;
         certs.push(cert)?;
         next = after;
     }
@@ -83,14 +102,42 @@ fn certs_of(
 }
 
 #[tactic(auto, unfolding(crate::specs::Lists::cert_at))]
-fn cert_of(alloc: Global, bytes: &[u8], at: usize) -> Result<(Arc<Cert>, usize), BodyFault>
+fn cert_of(
+    alloc: Global,
+    known: &mut KnownBodies,
+    bytes: &[u8],
+    at: usize,
+) -> Result<(Arc<Cert>, usize), BodyFault>
     requires { at ≤ length bytes.now }
     ensures value { Gives NoMemory (λ x. (certificate_of x.0, x.1)) result (cert_at bytes.now at) }
     ensures within { IfOk result (λ x. x.1 ≤ length bytes.now) }
 {
     let (len, next) = u16_at(bytes, at, ended(bytes))?;
-    let (cert, next) = body_of(alloc, bytes, next, len as usize)?;
-    Ok((Arc::new(alloc, cert)?, next))
+    body_by(alloc, known, bytes, next, len as usize)
+}
+
+// The certificate whose body fills so many bytes: the one that is kept by these, or a new one.
+#[tactic(auto, unfolding(crate::specs::Lists::body_filling))]
+fn body_by(
+    alloc: Global,
+    known: &mut KnownBodies,
+    bytes: &[u8],
+    at: usize,
+    len: usize,
+) -> Result<(Arc<Cert>, usize), BodyFault>
+    requires { at ≤ length bytes.now }
+    ensures value { Gives NoMemory (λ x. (certificate_of x.0, x.1)) result
+        (body_filling bytes.now len at) }
+    ensures within { IfOk result (λ x. x.1 ≤ length bytes.now) }
+{
+    let (text, end) = slice_at(bytes, at, len, ended(bytes))?;
+    if let Some(cert) = known.handle_to(text)? {
+        return Ok((cert, end));
+    }
+    let (cert, end) = body_of(alloc, bytes, at, len)?;
+    let cert = Arc::new(alloc, cert)?;
+    known.keep(alloc, text, &cert)?;
+    Ok((cert, end))
 }
 
 // The certificate whose body fills so many bytes.

@@ -113,17 +113,17 @@ impl<S: Net<Listener = net::TcpListener, Stream = net::TcpStream> + Clock, N: Wa
 
     // Tells that clients wait for a seat, once until one was free.
     fn tell_full(&mut self) {
-        if !self.hall.is_told {
+        if !self.hall.is_full_told {
             self.hall.watch.full();
-            self.hall.is_told = true;
+            self.hall.is_full_told = true;
         }
     }
 
-    // Tells that descriptors or memory lack.
-    fn tell_scarce(&mut self) {
-        if !self.hall.is_told {
+    /// Tells that descriptors or memory lack, once until there is a client more.
+    pub(crate) fn tell_scarce(&mut self) {
+        if !self.hall.is_scarce_told {
             self.hall.watch.scarce();
-            self.hall.is_told = true;
+            self.hall.is_scarce_told = true;
         }
     }
 }

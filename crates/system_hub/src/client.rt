@@ -3,6 +3,7 @@
 ghost use Rattle.std.specs.Prelude.{◌≡◌, ◌≤◌, ◌<◌, length};
 
 use crate::breakage::Breakage;
+use crate::limits::{GUESTS, LEAVINGS};
 use crate::pace::Pace;
 use crate::patience::Patience;
 use frame_hub::{Hub, MAX_KEPT};
@@ -10,6 +11,14 @@ use mio::net::TcpStream;
 use std::io::{ErrorKind, Read, Write};
 use std::net::{Shutdown, SocketAddr};
 use std::time::Instant;
+
+/// A stream that was shut, and is read on by nobody.
+#[derive(Clone, Copy)]
+pub(crate) struct Parting {
+    pub until: Instant,
+    // How many bytes may come yet.
+    left: usize,
+}
 
 /// A client's socket, and how its stream stands.
 #[derive(Drop)]
@@ -26,8 +35,8 @@ pub(crate) struct Client {
     pub under_way: u32,
     /// There may be bytes for which the hub had no room.
     pub is_hungry: bool,
-    /// Its stream was shut, and what it still sends is read by nobody until then.
-    pub parting: Option<Instant>,
+    /// Its stream was shut, and what it still sends goes nowhere.
+    pub parting: Option<Parting>,
     /// Why it is let go, where that is not in order.
     pub why: Option<Breakage>,
 }
@@ -118,20 +127,34 @@ impl Client {
         }
     }
 
-    /// Reads what nobody answers any more. Whether more of it may come.
+    // One read of what goes nowhere. Whether there may be more now; none where nothing more comes, or
+    // too much did.
+    fn drain_once(&mut self, piece: &mut [u8]) -> Option<bool> {
+        let parting = self.parting.as_mut()?;
+        match self.stream.read(piece) {
+            Ok(0) => None,
+            Ok(count) => {
+                parting.left = parting.left.checked_sub(count)?;
+                Some(true)
+            }
+            Err(error) => match error.kind() {
+                ErrorKind::WouldBlock => Some(false),
+                ErrorKind::Interrupted => Some(true),
+                _ => None,
+            },
+        }
+    }
+
+    /// Reads some of what goes nowhere. Whether it may be waited for more.
     pub(crate) fn drain(&mut self, piece: &mut [u8]) -> bool {
-        for _ in 0..MAX_KEPT {
-            match self.stream.read(piece) {
-                Ok(0) => return false,
-                Ok(_) => {}
-                Err(error) => match error.kind() {
-                    ErrorKind::WouldBlock => return true,
-                    ErrorKind::Interrupted => {}
-                    _ => return false,
-                },
+        for _ in 0..GUESTS {
+            match self.drain_once(piece) {
+                Some(true) => {}
+                Some(false) => return true,
+                None => return false,
             }
         }
-        false
+        true
     }
 
     // One write. Whether more may be written now.
@@ -185,9 +208,18 @@ impl Client {
             && hub.room(self.number) == MAX_KEPT
     }
 
+    /// Whether it may have sent what nobody read: not where its stream was read to its end, or failed.
+    pub(crate) fn may_send(&self) -> bool {
+        match self.why {
+            None | Some(Breakage::Cut | Breakage::Lost | Breakage::TurnedAway) => false,
+            Some(_) => true,
+        }
+    }
+
     /// Shuts its stream: it is read on until this moment, by nobody.
-    pub(crate) fn part(&mut self, until: Option<Instant>) {
+    pub(crate) fn part(&mut self, until: Instant) {
         let _ = self.stream.shutdown(Shutdown::Write);
-        self.parting = until;
+        let left = LEAVINGS;
+        self.parting = Some(Parting { until, left });
     }
 }

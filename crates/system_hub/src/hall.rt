@@ -25,8 +25,10 @@ pub(crate) struct Hall<N> {
     pub now: Instant,
     /// Bytes of clients are read no more, and no frame is handed to a lane.
     pub is_stopping: bool,
-    /// It was told that clients wait, since a client left or came.
-    pub is_told: bool,
+    /// It was told that each seat is taken, since a client left.
+    pub is_full_told: bool,
+    /// It was told that descriptors or memory lack, since a client came.
+    pub is_scarce_told: bool,
 }
 
 // So many seats that nobody has.
@@ -55,7 +57,8 @@ impl<N: Watch + Drop> Hall<N> {
             watch,
             now,
             is_stopping: false,
-            is_told: false,
+            is_full_told: false,
+            is_scarce_told: false,
         })
     }
 }
@@ -92,6 +95,7 @@ impl<N: Watch> Hall<N> {
         if let Some(place) = self.clients.get_mut(seat) {
             *place = Some(client);
             self.count = self.count.saturating_add(1);
+            self.is_scarce_told = false;
             self.watch.came();
         }
     }
@@ -122,14 +126,33 @@ impl<N: Watch> Hall<N> {
             return;
         }
         client.write(&mut self.hub, self.now, &self.patience);
-        if !self.hub.may_leave(client.number) {
+        if self.hub.may_leave(client.number) {
+            self.dismiss(seat);
+        }
+    }
+
+    /// Shuts a client's stream. What it still sends is read for a short time, and goes nowhere.
+    pub(crate) fn part(&mut self, seat: usize) {
+        let until = self.now.checked_add(self.patience.linger);
+        if let Some(Some(client)) = self.clients.get_mut(seat) {
+            client.part(until.unwrap_or(self.now));
+        }
+    }
+
+    /// Lets a client go. One that may have sent what nobody read parts first: closed over that, its
+    /// stream would be reset, and lose replies that it was written.
+    pub(crate) fn dismiss(&mut self, seat: usize) {
+        let Some(Some(client)) = self.clients.get_mut(seat) else {
+            return;
+        };
+        if !client.may_send() {
+            self.remove(seat);
             return;
         }
-        if client.why == Some(Breakage::Long) && self.hub.is_well(client.number) {
-            client.part(self.now.checked_add(self.patience.linger));
-            return;
+        if self.hub.is_here(client.number) {
+            self.hub.failed(client.number);
         }
-        self.remove(seat);
+        self.part(seat);
     }
 
     /// Lets a client go, as it is.
@@ -141,7 +164,7 @@ impl<N: Watch> Hall<N> {
             return;
         };
         self.count = self.count.saturating_sub(1);
-        self.is_told = false;
+        self.is_full_told = false;
         self.watch.went();
         if let Some(why) = client.why {
             self.watch.broke(client.peer, why);

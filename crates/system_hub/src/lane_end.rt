@@ -1,5 +1,6 @@
 //! Through which a lane is given its stream.
 
+use frame_link::Failed;
 use std::alloc::{AllocError, Global};
 use std::net::TcpStream;
 use std::sync::{Arc, Mutex};
@@ -15,8 +16,8 @@ struct Slot {
     // The lane's end of a stream that it has not taken.
     stream: Option<TcpStream>,
     is_wanted: bool,
-    // There will be no stream any more.
-    is_over: bool,
+    // How the switch ended, once there will be no stream any more.
+    ended: Option<Result<(), Failed>>,
 }
 
 /// One of the two ends through which a lane is given its streams, one after the other.
@@ -31,39 +32,42 @@ impl LaneEnd {
         let slot = Slot {
             stream: None,
             is_wanted: true,
-            is_over: false,
+            ended: None,
         };
         let slot = Arc::new(alloc, Mutex::new(slot))?;
         let other = Arc::try_clone(&slot)?;
         Ok((LaneEnd { slot }, LaneEnd { slot: other }))
     }
 
-    // A stream that lies there, and whether there will be none.
-    fn ask(&self) -> (Option<TcpStream>, bool) {
-        let Some(mut slot) = self.slot.try_lock() else {
-            return (None, false);
-        };
+    // A stream that lies there, or how the switch ended. `None` where neither is known yet.
+    fn ask(&self) -> Option<Result<Option<TcpStream>, Failed>> {
+        let mut slot = self.slot.try_lock()?;
         let stream = slot.stream.take();
         slot.is_wanted = stream.is_none();
-        (stream, slot.is_over)
+        match (stream, slot.ended) {
+            (Some(stream), _) => Some(Ok(Some(stream))),
+            (None, Some(Ok(()))) => Some(Ok(None)),
+            (None, Some(Err(Failed))) => Some(Err(Failed)),
+            (None, None) => None,
+        }
     }
 
-    /// The lane's next stream, once there is one. `None` where there will be none any more.
-    pub fn stream<C: Clock>(&self, clock: &C) -> Option<TcpStream> {
+    /// The lane's next stream, once there is one. `None` where there will be none any more, since the
+    /// switch has stopped; a failure where it could not go on.
+    pub fn stream<C: Clock>(&self, clock: &C) -> Result<Option<TcpStream>, Failed> {
         for _ in 0..u64::MAX {
-            let (stream, is_over) = self.ask();
-            if stream.is_some() || is_over {
-                return stream;
+            if let Some(answer) = self.ask() {
+                return answer;
             }
             thread::sleep(clock, Duration::from_millis(WAIT));
         }
-        None
+        Err(Failed)
     }
 
     // Whether the lane wants a stream, and none lies there.
     pub(crate) fn is_wanted(&self) -> bool {
         match self.slot.try_lock() {
-            Some(slot) => slot.is_wanted && slot.stream.is_none() && !slot.is_over,
+            Some(slot) => slot.is_wanted && slot.stream.is_none() && slot.ended.is_none(),
             None => false,
         }
     }
@@ -87,11 +91,20 @@ impl LaneEnd {
         }
     }
 
-    /// The lane is given none any more.
-    pub fn close(&self) {
+    // Takes back a stream that the lane has not taken: it is given another once it asks anew.
+    pub(crate) fn take_back(&self) {
+        if let Some(mut slot) = self.slot.try_lock() {
+            if slot.stream.take().is_some() {
+                slot.is_wanted = false;
+            }
+        }
+    }
+
+    /// The lane is given none any more, since the switch ended so.
+    pub fn close(&self, ended: Result<(), Failed>) {
         for _ in 0..u64::MAX {
             if let Some(mut slot) = self.slot.try_lock() {
-                slot.is_over = true;
+                slot.ended = Some(ended);
                 return;
             }
         }

@@ -26,7 +26,7 @@ pub use descriptors::{clients_within, descriptors_of};
 pub use handle::{Edge, Running, start};
 pub use lane_end::LaneEnd;
 pub use limit_laws::limits_are;
-pub use limits::{ABSENCE, CLIENTS, EVENTS, GUESTS, LOOK, OUT, OWN, PIECE};
+pub use limits::{ABSENCE, CLIENTS, EVENTS, GUESTS, LEAVINGS, LOOK, OUT, OWN, PIECE};
 pub use patience::Patience;
 pub use place::Place;
 pub use watch::Watch;

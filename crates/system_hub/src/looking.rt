@@ -51,17 +51,17 @@ impl<N: Watch> Hall<N> {
             return;
         };
         if client.under_way == 0 && !client.has_left(&self.hub) {
-            client.part(self.now.checked_add(self.patience.linger));
+            self.part(seat);
         }
     }
 
     // Looks at a client: it goes where its time is over.
-    fn look_at(&mut self, seat: usize) {
+    fn look_at(&mut self, seat: usize, piece: &mut [u8]) {
         let Some(Some(client)) = self.clients.get_mut(seat) else {
             return;
         };
-        if let Some(until) = client.parting {
-            if until <= self.now {
+        if let Some(parting) = client.parting {
+            if !client.drain(piece) || parting.until <= self.now {
                 self.remove(seat);
             }
             return;
@@ -79,14 +79,14 @@ impl<N: Watch> Hall<N> {
     pub(crate) fn fail(&mut self, seat: usize, why: Breakage) {
         if let Some(Some(client)) = self.clients.get_mut(seat) {
             client.broke(why);
-            self.remove(seat);
+            self.dismiss(seat);
         }
     }
 
     /// Looks at all clients.
-    pub(crate) fn look(&mut self) {
+    pub(crate) fn look(&mut self, piece: &mut [u8]) {
         for seat in 0..self.clients.len() {
-            self.look_at(seat);
+            self.look_at(seat, piece);
         }
     }
 }

@@ -15,12 +15,16 @@ use std::time::Instant;
 pub(crate) struct Port {
     /// The switch's end of its stream, while it has one.
     pub stream: Option<UnixStream>,
-    /// Since when it has none, or has not taken it.
+    /// Since when it has none, or has left the one that it was given.
     pub gone: Option<Instant>,
     /// Through which its next stream goes to it.
     pub end: LaneEnd,
     /// Bytes of it may be there.
     pub may_read: bool,
+    /// Its stream may be at its end.
+    pub may_end: bool,
+    /// Its socket tells when it takes bytes again.
+    pub is_full: bool,
     out: Vec<u8>,
     written: usize,
     place: Place,
@@ -44,6 +48,8 @@ impl Port {
             gone: Some(now),
             end,
             may_read: false,
+            may_end: false,
+            is_full: false,
             out: Vec::new(alloc),
             written: 0,
             place: Place::new(),
@@ -52,10 +58,13 @@ impl Port {
         }
     }
 
-    /// It has a new stream, with nothing of the one before.
-    pub(crate) fn begin(&mut self, stream: UnixStream) {
+    /// It is given a new stream now, with nothing of the one before.
+    pub(crate) fn begin(&mut self, stream: UnixStream, now: Instant) {
         self.stream = Some(stream);
+        self.gone = Some(now);
         self.may_read = true;
+        self.may_end = false;
+        self.is_full = false;
         self.out.clear();
         self.written = 0;
         self.place = Place::new();
@@ -70,8 +79,10 @@ impl Port {
         }
     }
 
-    /// It has a stream no more, since then.
+    /// It has a stream no more, since then. Frames in one that it has not taken are answered by nobody,
+    /// so it is taken back.
     pub(crate) fn lose(&mut self, since: Instant) {
+        self.end.take_back();
         self.stream = None;
         self.gone = Some(since);
         self.may_read = false;
@@ -138,7 +149,8 @@ impl Port {
     /// whether a reply is whole with them.
     pub(crate) fn take(&mut self, bytes: &[u8]) -> Result<(usize, bool), AllocError>
         requires { 0 < length bytes.now }
-        ensures { IfOk result (λ taken. taken.0 ≤ length bytes.now) }
+        ensures bound { IfOk result (λ taken. taken.0 ≤ length bytes.now) }
+        ensures some { IfOk result (λ taken. 0 < taken.0) }
     {
         let is_payload = self.place.is_inside();
         let (count, has_ended) = self.place.step(bytes);

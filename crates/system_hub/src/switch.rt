@@ -10,7 +10,7 @@ use crate::port::{Port, Written};
 use crate::tokens::{Socket, socket_of, token_of};
 use crate::watch::Watch;
 use frame_hub::{MAX_AT_LANE, MAX_LANES};
-use frame_link::MAX_PAYLOAD;
+use frame_link::{Failed, MAX_PAYLOAD};
 use mio::event::Event;
 use mio::net::UnixStream;
 use mio::{Events, Interest, Poll};
@@ -45,23 +45,25 @@ pub(crate) struct Switch<S, N> {
 impl<S: Net<Listener = TcpListener, Stream = TcpStream> + Clock, N: Watch> Switch<S, N> {
     // What a socket is ready for.
     fn note(&mut self, event: &Event) {
+        let may_end = event.is_read_closed() || event.is_error();
+        let may_read = event.is_readable() || may_end;
         match socket_of(event.token()) {
             Socket::Client { seat } => {
-                self.hall.hear(
-                    seat,
-                    &mut self.piece,
-                    event.is_read_closed() || event.is_error(),
-                );
+                if may_read {
+                    self.hall.hear(seat, &mut self.piece, may_end);
+                }
                 self.hall.settle(seat);
             }
             Socket::Lane { lane } => {
                 if let Some(port) = self.ports.get_mut(lane) {
-                    port.may_read = true;
+                    port.may_read |= may_read;
+                    port.may_end |= may_end;
                 }
             }
             Socket::Listener { place } => {
                 if let Some(entrance) = self.entrances.get_mut(place) {
                     entrance.may_accept = true;
+                    entrance.has_ended |= event.is_read_closed();
                 }
             }
         }
@@ -98,14 +100,16 @@ impl<S: Net<Listener = TcpListener, Stream = TcpStream> + Clock, N: Watch> Switc
         true
     }
 
-    // One read of a lane. Whether there may be more; none where it has no stream any more.
+    // One read of a lane. Whether there may be more, as of a client (`hear_once`); none where it has no
+    // stream any more.
     fn read_once(&mut self, lane: usize) -> Option<bool> {
         let port = self.ports.get_mut(lane)?;
+        let may_end = port.may_end;
         let stream = port.stream.as_mut()?;
         match stream.read(&mut self.piece) {
             Ok(0) => None,
             Ok(count) => match self.pass(lane, count) {
-                true => Some(true),
+                true => Some(may_end || count == self.piece.len()),
                 false => None,
             },
             Err(error) => match error.kind() {
@@ -135,6 +139,30 @@ impl<S: Net<Listener = TcpListener, Stream = TcpStream> + Clock, N: Watch> Switc
         }
     }
 
+    // Lets a lane's socket tell when it takes bytes again, while some wait for it alone: else each read
+    // of the lane would wake the switch.
+    fn heed(&mut self, lane: usize) {
+        let Some(port) = self.ports.get_mut(lane) else {
+            return;
+        };
+        let is_full = port.waiting() > 0;
+        if lane >= MAX_LANES as usize || is_full == port.is_full {
+            return;
+        }
+        let Some(stream) = port.stream.as_mut() else {
+            return;
+        };
+        let token = token_of(Socket::Lane { lane });
+        let interest = match is_full {
+            true => Interest::READABLE | Interest::WRITABLE,
+            false => Interest::READABLE,
+        };
+        let registry = self.poll.registry();
+        if registry.reregister(stream, token, interest).is_ok() {
+            port.is_full = is_full;
+        }
+    }
+
     // Writes to a lane what it takes. Whether it may be handed a frame more.
     fn write_lane(&mut self, lane: usize) -> bool {
         let Some(port) = self.ports.get_mut(lane) else {
@@ -144,7 +172,11 @@ impl<S: Net<Listener = TcpListener, Stream = TcpStream> + Clock, N: Watch> Switc
             return false;
         }
         match port.write() {
-            Written::Some => port.waiting() < OUT,
+            Written::Some => {
+                let has_room = port.waiting() < OUT;
+                self.heed(lane);
+                has_room
+            }
             Written::Lost => {
                 self.lose(lane);
                 false
@@ -228,18 +260,18 @@ impl<S: Net<Listener = TcpListener, Stream = TcpStream> + Clock, N: Watch> Switc
         near.set_nonblocking(true)?;
         let mut stream = UnixStream::from_std(near);
         let token = token_of(Socket::Lane { lane });
-        let interest = Interest::READABLE | Interest::WRITABLE;
-        self.poll.registry().register(&mut stream, token, interest)?;
+        let registry = self.poll.registry();
+        registry.register(&mut stream, token, Interest::READABLE)?;
         if port.end.give(TcpStream::from(OwnedFd::from(far))) {
-            port.begin(stream);
+            port.begin(stream, self.hall.now);
         }
         Ok(())
     }
 
     // Looks at a lane: whether it wants a stream, or is gone for good.
     fn look_at_lane(&mut self, lane: usize) {
-        if !self.hall.is_stopping {
-            let _ = self.connect(lane);
+        if !self.hall.is_stopping && self.connect(lane).is_err() {
+            self.tell_scarce();
         }
         let gone = match self.ports.get_mut(lane) {
             Some(port) => port.gone_since(),
@@ -265,7 +297,7 @@ impl<S: Net<Listener = TcpListener, Stream = TcpStream> + Clock, N: Watch> Switc
         for entrance in self.entrances.iter_mut() {
             entrance.may_accept = true;
         }
-        self.hall.look();
+        self.hall.look(&mut self.piece);
     }
 
     // How long the next wait may take: not at all, where something was left for later.
@@ -278,9 +310,13 @@ impl<S: Net<Listener = TcpListener, Stream = TcpStream> + Clock, N: Watch> Switc
     }
 
     // Waits for what sockets are ready for, and does it.
-    fn turn(&mut self, events: &mut Events) {
+    fn turn(&mut self, events: &mut Events) -> Result<(), Failed> {
         let patience = self.patience();
-        let _ = self.poll.poll(events, Some(patience));
+        if let Err(error) = self.poll.poll(events, Some(patience)) {
+            if error.kind() != ErrorKind::Interrupted {
+                return Err(Failed);
+            }
+        }
         if let Ok(now) = Instant::now(&self.system) {
             self.hall.now = now;
         }
@@ -292,6 +328,7 @@ impl<S: Net<Listener = TcpListener, Stream = TcpStream> + Clock, N: Watch> Switc
         }
         self.accept_all();
         self.look();
+        Ok(())
     }
 
     // Whether each lane has answered all, and each client has gone.
@@ -304,18 +341,24 @@ impl<S: Net<Listener = TcpListener, Stream = TcpStream> + Clock, N: Watch> Switc
         (0..self.ports.len()).any(|lane| self.hall.hub.has_frame(lane))
     }
 
-    /// Serves until each listener has ended, each frame that was taken is answered, and each client
-    /// has gone.
-    pub(crate) fn run(&mut self, events: &mut Events) {
+    // Serves until each listener has ended, each frame that was taken is answered, and each client has
+    // gone.
+    fn serve(&mut self, events: &mut Events) -> Result<(), Failed> {
         for _ in 0..u64::MAX {
-            self.turn(events);
+            self.turn(events)?;
             self.hall.is_stopping |= self.has_ended();
             if self.is_through() {
-                break;
+                return Ok(());
             }
         }
+        Err(Failed)
+    }
+
+    /// Serves, and tells the lanes how that ended.
+    pub(crate) fn run(&mut self, events: &mut Events) {
+        let ended = self.serve(events);
         for port in self.ports.iter_mut() {
-            port.end.close();
+            port.end.close(ended);
             port.stream = None;
         }
     }

@@ -1,8 +1,9 @@
-//! The log of decisions: a line for each ruling, which is written before its reply leaves.
+//! The log of decisions: a line for each ruling, and whether a grant was done, which is written before its
+//! reply leaves.
 
 use crate::clock::seconds_of;
 use crate::stop::{Shutter, Stop};
-use node_status::{Decision, ReplyFront, decision_line};
+use node_status::{Decision, ReplyFront, decision_line, is_entry};
 use prin_text::Names;
 use std::alloc::{AllocError, Global};
 use std::fs::File;
@@ -127,8 +128,7 @@ impl Decisions {
         let Ok(request) = read_request(self.alloc, ruling.request) else {
             return false;
         };
-        let head = ruling.front.head;
-        if !head.is_grant() && !head.is_denial() {
+        if !is_entry(&ruling.front.head) {
             return false;
         }
         let decision = Decision {

@@ -125,16 +125,19 @@ impl<C: Clock + Copy> TcpDoor<C> {
         Err(Failed)
     }
 
-    // The next stream of many clients. One that memory lacks for is dropped, and asked for anew.
+    // The next stream of many clients. One that memory or descriptors lack for is dropped, and asked
+    // for anew.
     fn merged_of(&self, end: &LaneEnd) -> Result<Option<(PeerInput<C>, PeerOutput<C>)>, Failed> {
+        let mut is_told = false;
         for _ in 0..u64::MAX {
-            let Some(stream) = end.stream(&self.terms.clock) else {
+            let Some(stream) = end.stream(&self.terms.clock)? else {
                 return Ok(None);
             };
             if let Ok(connection) = halves(self.alloc, &self.terms, stream, None) {
                 return Ok(Some(connection));
             }
-            self.pause(false);
+            self.pause(is_told);
+            is_told = true;
         }
         Err(Failed)
     }
@@ -168,10 +171,11 @@ impl<C: Clock + Copy + Send> Door for TcpDoor<C> {
         self.terms.rounds.close_link();
         let hearing = input.inner_mut().inner_mut().get_mut();
         let (peer, why) = (hearing.peer(), hearing.close());
-        // A stream of many clients is none: the switch counts those.
-        if peer.is_some() {
-            self.count(false);
+        // A stream of many clients is none: the switch counts those, and tells why they were let go.
+        if peer.is_none() {
+            return;
         }
+        self.count(false);
         if let Some(why) = why {
             self.tell(peer, why);
         }

@@ -7,7 +7,7 @@ use crate::decisions::{Decisions, Ruling};
 use crate::fronts::Fronts;
 use crate::notices::{Notices, Teller, teller_of};
 use crate::rounds::Rounds;
-use node_status::{reply_at, shows_seal};
+use node_status::{is_entry, reply_at, shows_seal};
 use std::alloc::Global;
 use std::io;
 use std::io::{ErrorKind, Write};
@@ -55,7 +55,7 @@ impl<W, C: Clock> Telling<W, C> {
         let Some(front) = reply_at(&front) else {
             return true;
         };
-        if !front.head.is_grant() && !front.head.is_denial() {
+        if !is_entry(&front.head) {
             return true;
         }
         let Some(rounds) = &self.rounds else {

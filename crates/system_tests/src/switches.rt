@@ -1,13 +1,16 @@
 ghost use Rattle.std.specs.Prelude.{◌≡◌, ◌≤◌, IfSome};
 
+use frame_link::{Door, Failed};
+use std::alloc::{AllocError, Global};
 use std::io::{Read, Write};
 use std::net::{SocketAddr, TcpListener, TcpStream};
+use std::sync::Arc;
 use std::test::*;
 use std::thread::{JoinHandle, Threads};
 use std::time::Duration;
 use std::{io, thread};
 use system_hub::{Breakage, Edge, LaneEnd, Patience, Watch, start};
-use system_link::Shutter;
+use system_link::{Doorway, Rounds, Shutter, Stop, TcpDoor, Teller, Tells, Terms, notices_of};
 
 // What is done by a client, or seen of it.
 enum Step {
@@ -19,9 +22,11 @@ enum Step {
     Closes(usize),
     // The listener is shut.
     Stops,
+    // So many milliseconds pass.
+    Waits(u64),
 }
 
-use Step::{Closes, Ends, Hears, Opens, Sends, Stops};
+use Step::{Closes, Ends, Hears, Opens, Sends, Stops, Waits};
 
 // Two lanes and four seats, and the milliseconds that a client has. A lane answers a payload with its own number and the payload, but for
 // one whose fifth byte is 255: that ends the lane's stream.
@@ -138,9 +143,54 @@ const CONVERSATIONS: &[(&str, u64, &[Step])] = &[
             Ends(1),
         ],
     ),
+    (
+        "a stop is seen while each seat is taken",
+        20_000,
+        &[
+            Opens(0),
+            Opens(1),
+            Opens(2),
+            Opens(3),
+            Sends(3, &[0, 0, 0, 1, 0]),
+            Hears(3, &[0, 0, 0, 2, 0, 0]),
+            Opens(4),
+            Stops,
+            Ends(0),
+            Ends(3),
+            Ends(4),
+        ],
+    ),
+    (
+        "who is let go may still send, and its stream is not reset",
+        500,
+        &[
+            Opens(0),
+            Opens(1),
+            Sends(0, &[0, 0, 0, 1, 0, 0]),
+            Sends(1, &[0, 0, 0, 5, 0, 0, 0, 1, 255]),
+            Ends(0),
+            Sends(0, &[0]),
+            Sends(0, &[0]),
+            Ends(1),
+            Sends(1, &[0]),
+            Sends(1, &[0]),
+        ],
+    ),
 ];
 
-// A switch of four seats whose clients have so many milliseconds.
+// Lanes that come behind 11 seconds: who waits for one is let go after 10, and who comes then is served.
+const LATE: &[Step] = &[
+    Opens(0),
+    Sends(0, &[0, 0, 0, 1, 0]),
+    Ends(0),
+    Waits(2_000),
+    Opens(1),
+    Sends(1, &[0, 0, 0, 1, 7]),
+    Hears(1, &[0, 0, 0, 2, 0, 7]),
+];
+
+// A switch of four seats whose clients have so many milliseconds, but 20 seconds to send what nobody
+// reads.
 fn edge_of(patience: u64) -> Edge
     ensures { result.clients ≡ 4 }
 {
@@ -153,7 +203,7 @@ fn edge_of(patience: u64) -> Edge
             frame: patience,
             idle: patience,
             take: patience,
-            linger: patience,
+            linger: Duration::from_secs(20),
         },
     }
 }
@@ -215,10 +265,11 @@ fn answer_all(stream: &mut TcpStream, number: u8) {
     }
 }
 
-// A lane, until its switch ends.
-fn serve(rt: HostRuntime, end: LaneEnd, number: u8) {
+// A lane that comes so late, until its switch ends.
+fn serve(rt: HostRuntime, end: LaneEnd, number: u8, late: Duration) {
+    thread::sleep(&rt, late);
     for _ in 0..u64::MAX {
-        let Some(mut stream) = end.stream(&rt) else {
+        let Ok(Some(mut stream)) = end.stream(&rt) else {
             return;
         };
         answer_all(&mut stream, number);
@@ -230,11 +281,13 @@ fn lanes_of<W: Threads>(
     rt: HostRuntime,
     workers: &W,
     ends: Vec<LaneEnd>,
+    late: Duration,
 ) -> io::Result<Vec<JoinHandle<()>>> {
     let mut lanes = Vec::new(rt.alloc());
     let mut number = 0u8;
     for end in ends {
-        lanes.push(thread::spawn(workers, move || serve(rt, end, number))?)?;
+        let work = move || serve(rt, end, number, late);
+        lanes.push(thread::spawn(workers, work)?)?;
         number = number.saturating_add(1);
     }
     Ok(lanes)
@@ -303,16 +356,21 @@ impl Players {
                 Shutter::of(&self.listener)?.shut();
                 Ok(true)
             }
+            Waits(length) => {
+                thread::sleep(&self.rt, Duration::from_millis(length));
+                Ok(true)
+            }
         }
     }
 }
 
-// Plays a conversation over a switch of its own. The place of the first step that did not come about,
-// where there is one.
+// Plays a conversation over a switch of its own, whose lanes come so late. The place of the first step
+// that did not come about, where there is one.
 fn play_all<W: Threads>(
     rt: HostRuntime,
     workers: &W,
     patience: u64,
+    late: Duration,
     steps: &[Step],
 ) -> io::Result<Option<usize>> {
     let listener = TcpListener::bind(&rt, "127.0.0.1:0")?;
@@ -325,7 +383,7 @@ fn play_all<W: Threads>(
         &[&listener],
         2,
     )?;
-    let lanes = lanes_of(rt, workers, ends)?;
+    let lanes = lanes_of(rt, workers, ends, late)?;
     let mut players = Players {
         rt,
         listener,
@@ -349,8 +407,71 @@ fn play_all<W: Threads>(
 #[test]
 fn many_clients_are_served_by_few_lanes(rt: HostRuntime) -> Result<(), Fail> {
     for (name, patience, steps) in CONVERSATIONS {
-        let failed = play_all(rt, &rt, *patience, steps)?;
+        let failed = play_all(rt, &rt, *patience, Duration::ZERO, steps)?;
         assert!(rt; failed.is_none(), "{name}: {failed:?}");
     }
+    Ok(())
+}
+
+#[test]
+fn a_lane_that_comes_late_has_clients_again(rt: HostRuntime) -> Result<(), Fail> {
+    let failed = play_all(rt, &rt, 20_000, Duration::from_secs(11), LATE)?;
+    assert!(rt; failed.is_none(), "{failed:?}");
+    Ok(())
+}
+
+// A door behind which a switch gives one stream after the other.
+fn merged_door<'a>(
+    rt: &'a HostRuntime,
+    alloc: Global,
+    end: LaneEnd,
+    teller: Teller,
+) -> Result<TcpDoor<&'a HostRuntime>, AllocError> {
+    let terms = Terms {
+        clock: rt,
+        stop: Arc::new(alloc, Stop::new())?,
+        idle: Duration::from_secs(60),
+        teller,
+        rounds: Arc::new(alloc, Rounds::new())?,
+    };
+    Ok(TcpDoor::new(Doorway::Merged(end), alloc, terms))
+}
+
+#[test]
+fn a_door_ends_or_fails_as_its_switch_did(rt: HostRuntime) -> Result<(), Fail> {
+    let (near, end) = LaneEnd::pair(rt.alloc())?;
+    near.close(Ok(()));
+    let mut door = merged_door(&rt, rt.alloc(), end, None)?;
+    assert!(rt; matches!(door.accept(), Ok(None)) && door.faults() == 0);
+    let (near, end) = LaneEnd::pair(rt.alloc())?;
+    near.close(Err(Failed));
+    let mut door = merged_door(&rt, rt.alloc(), end, None)?;
+    assert!(rt; matches!(door.accept(), Err(Failed)) && door.faults() == 1);
+    Ok(())
+}
+
+// Whether a door has a stream, which it is given back before the stream has ended.
+fn is_given_back<D: Door>(door: &mut D) -> bool {
+    let Ok(Some((input, output))) = door.accept() else {
+        return false;
+    };
+    door.done(input, output);
+    true
+}
+
+#[test]
+fn a_stream_of_many_clients_has_no_notice_of_its_own(rt: HostRuntime) -> Result<(), Fail> {
+    let alloc = rt.alloc();
+    let (notices, mut queue) = notices_of(alloc, 2, Tells::Refusals, None)?;
+    let listener = TcpListener::bind(&rt, "127.0.0.1:0")?;
+    let (running, mut ends) = start(&rt, rt, alloc, edge_of(500), Deaf, &[&listener], 1)?;
+    let Some(end) = ends.pop() else {
+        return Err(Fail::from(io::Error::from(io::ErrorKind::NotFound)));
+    };
+    let mut door = merged_door(&rt, alloc, end, Some(Arc::new(alloc, notices)?))?;
+    let is_given_back = is_given_back(&mut door);
+    Shutter::of(&listener)?.shut();
+    running.end(&rt);
+    assert!(rt; is_given_back && queue.take().is_none());
     Ok(())
 }

@@ -1,13 +1,12 @@
 """Holds what a case states of a run against the shards of tools/shard.py: each place, each number, and each `kept`;
-and what the objects are, and what becomes of operations."""
+and what the objects are, and what becomes of operations. What replay says is held against tools/judge.py."""
 from conversation import Grant, Times, joined
 from formats import DISCARD, FORGET, HOLD, ISSUED, READ, RELAYED, SET_LIST, SWEEP, WITHDRAW, WRITE, key, key_of, quoting, tag, u8, u32, u64
+from judge import RIGHTS, Judge, Unknown
 from shard import Kept, Shard, lease_of
 
 TAG, FRAME = 32, 4
 OPERANDS = {3: 2, 4: 2, 5: 1, 6: 2}
-# The right that an operation needs: to read, write, control or manage.
-RIGHTS = {READ: 1, WRITE: 2, SET_LIST: 4, HOLD: 8, DISCARD: 8, FORGET: 8, SWEEP: 8, WITHDRAW: 8}
 # The most certificates of a request, and the most bytes of one that is looked at.
 MOST, LONGEST = 16, 2048
 # The statuses of what had no seal that holds.
@@ -81,8 +80,8 @@ class Node:
         reader = Reader(text)
         self.number, self.key = reader.take(2 + 4)[2:], reader.take(32)
         count, keep, limit = reader.number(4), reader.number(8), reader.number(8)
-        reader.take(36 * reader.number(2))
-        reader.take(8 * reader.number(1))
+        self.channels = [(reader.number(4), reader.take(32))[0] for _ in range(reader.number(2))]
+        self.anchors = [(reader.number(4), reader.number(4)) for _ in range(reader.number(1))]
         commons = [reader.counted()[1:-TAG] for _ in range(reader.number(1))]
         self.limit = limit
         self.objects = dict(self.object_of(reader) for _ in range(reader.number(2)))
@@ -148,7 +147,7 @@ def replies_of(output):
         if isinstance(part, Grant):
             found += map(Reply, frames_of(text))
             text, reply = b"", Reply(part.front)
-            reply.proof, reply.cites = None, None if part.certificates else []
+            reply.proof, reply.cites = None, part.cites
             reply.lease, reply.result = part.until, part.content
             found.append(reply)
         else:
@@ -177,7 +176,8 @@ class Run:
         if kind == u8(RELAYED) and seal == tag(self.node.key, text[:-TAG]):
             return body
         issuer = int.from_bytes(body[1:5], "big")
-        if kind == u8(ISSUED) and len(text) <= LONGEST and (issuer in self.issuers or self.is_resealed):
+        known = issuer in self.issuers or self.is_resealed and issuer <= 0xFF
+        if kind == u8(ISSUED) and len(text) <= LONGEST and known:
             return body if seal == tag(key_of(issuer), text[:-TAG]) else None
         return None
 
@@ -294,9 +294,20 @@ def hit_fault(reply, entry, found):
     return None
 
 
+def replay_fault(case):
+    """What a case says of journals otherwise than the judge of tools/judge.py, if anything."""
+    try:
+        said = Judge(Node(joined(case.lines["file"]))).said(joined(case.lines.get("input", [])))
+    except Unknown:
+        return None
+    return None if joined(case.lines["output"]) == f"{said}\n".encode("ascii") else f"{case.title}: it is {said}"
+
+
 def fault(case):
     """What a case states otherwise than the shards have it, if anything."""
     output = case.lines.get("output", [])
+    if case.lines.get("words", [])[:1] == ["replay"] and case.lines["status"] in (0, 14):
+        return replay_fault(case)
     if case.lines.get("words", [])[:1] != ["run"] or not output or any(isinstance(part, Times) for part in output):
         return None
     # A file that does not begin with 0 is a text, of which Node knows nothing.

@@ -44,12 +44,14 @@ class Named:
 
 
 class Grant:
-    """The frame of a grant whose proof may be any. The first of its certificates ends as `until` says."""
+    """The frame of a grant whose proof may be any. The first of its certificates ends as `until` says; their bodies are told
+    where it counts which they are."""
 
-    def __init__(self, channel, number, certificates, entry=0, shard=0, place=0, content=b"hello", kept=0, until=2000):
+    def __init__(self, channel, number, certificates, entry=0, shard=0, place=0, content=b"hello", kept=0, until=2000, cites=None):
         self.front = grant_front(channel, number, entry, shard, place, kept)
         self.certificates, self.content = certificates, content
         self.until = until if certificates else LAST
+        self.cites = cites if certificates else []
 
     def line(self):
         content = f" content {self.content.hex()}".rstrip()

@@ -309,6 +309,45 @@ def anchor_proof(number, whom, place):
     return proof_of([key(number), name(whom)], [Fields(u8(9), u16(0), u16(1), u16(place))])
 
 
+# Which nodes the parts of a principal are, by its first byte.
+OPERANDS = {1: 0, 2: 0, 3: 2, 4: 2, 5: 1, 6: 2}
+
+
+def end_of(term, at=0):
+    """Where the principal that begins there ends."""
+    kind, at = term[at], at + 1
+    for _ in range(OPERANDS[kind]):
+        at = end_of(term, at)
+    return at + 4 if kind in (1, 2, 5) else at
+
+
+def operands(term):
+    """The principals of which a principal is made, and its number, if it has one."""
+    found, at = [], 1
+    for _ in range(OPERANDS[term[0]]):
+        found.append(term[at : end_of(term, at)])
+        at += len(found[-1])
+    return found, term[at:]
+
+
+def enter(term, table):
+    """The number of a principal in the table, behind those of its parts; each stands there once."""
+    parts, number = operands(term)
+    places = [enter(part, table) for part in parts]
+    node = term[:1] + b"".join(map(u16, places)) + number
+    if node not in table:
+        table.append(node)
+    return table.index(node)
+
+
+def proved(*lines):
+    """The proof of these lines, each the byte of a rule, the principals of its fact, and what the rule names."""
+    table, spelled = [], []
+    for rule, fact, *named in lines:
+        spelled.append(Fields(u8(rule), *[u16(enter(term, table)) for term in fact], *named))
+    return proof_of(table, spelled)
+
+
 # What a relay is asked, and what it answers.
 
 
@@ -348,6 +387,10 @@ def told_replayed(last):
     return u8(2) + u64(last)
 
 
+def told_full(held):
+    return u8(3) + u8(held)
+
+
 def bodies_of(bodies):
     return Fields(u8(len(bodies)), *[Fields(u16(len(each)), each) for each in bodies])
 
@@ -359,6 +402,46 @@ def ask_entry(channel, number, subject, entries, reading=0, right=1, bodies=(), 
 def keep_entry(place, proof, entry=0, bodies=(), told=u8(0)):
     """That a proof for the Ask at this place is kept."""
     return Fields(b"\x02", u64(place) + u8(entry), u32(len(proof)), proof, bodies_of(bodies), told)
+
+
+# What is told of a Keep, besides that the proof is kept.
+
+
+def not_kept(text):
+    """The certificate of this body is not held."""
+    return b"\x01" + digest(text)
+
+
+def lapsed(clock, lease):
+    return b"\x02" + u64(clock) + u64(lease)
+
+
+# What is told of a Hold and of a withdrawal: how many, or how many there are where no more fit.
+
+
+def added(count):
+    return u8(0) + u8(count)
+
+
+def no_room(held):
+    return u8(1) + u8(held)
+
+
+def hold_entry(bodies, told):
+    return Fields(b"\x03", bodies_of(bodies), told)
+
+
+def discard_entry(text, removed):
+    """The certificates of this body are let go."""
+    return Fields(b"\x04", digest(text), u32(removed))
+
+
+def forget_entry(channel, removed):
+    return Fields(b"\x05", u32(channel), u32(removed))
+
+
+def expire_entry(reading, removed):
+    return Fields(b"\x06", u64(reading), u32(removed))
 
 
 def withdraw_entry(issuer, told=bytes(5)):

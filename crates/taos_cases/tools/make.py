@@ -8,7 +8,7 @@ With `--check` nothing is written; it ends with 1 where a file is not as it woul
 import os
 import sys
 
-from cases import THEMES
+from cases import THEMES, TRIED
 from checking import fault
 from conversation import file_text
 
@@ -17,15 +17,15 @@ HERE = os.path.dirname(os.path.dirname(os.path.abspath(__file__)))
 
 def faults():
     """What cases state otherwise than the shards of tools/shard.py have it."""
-    return [f"{theme}: {wrong}" for theme, _, cases in THEMES for wrong in map(fault, cases()) if wrong]
+    return [f"{theme}: {wrong}" for theme, _, cases in THEMES + TRIED for wrong in map(fault, cases()) if wrong]
 
 
 def files():
     """The files by their names, and how many conversations there are."""
     made, count = {}, 0
-    for theme, about, cases in THEMES:
+    for theme, about, cases in THEMES + TRIED:
         told = cases()
-        count += len(told)
+        count += len(told) if (theme, about, cases) in THEMES else 0
         made[f"data/{theme}.txt"] = file_text(about, told)
     made["args"] = "".join(f"{theme}.txt\n" for theme, _, _ in THEMES)
     made["stdout"] = f"{count} conversations, 0 differ\n"

@@ -7,8 +7,9 @@ Each has its node file, its input and its relay, which listens on 127.0.0.1. The
 from tools/clock.c, which `cc` compiles and which is preloaded; where that has no effect, conversations with
 readings are left out, and so are audits that tell a reading which none says. What is written, the exit status and the
 note have to be as the conversation says.
-One run more has little memory, and has to end with 6; in one more a frame is sent only once the reply to the one before
-has come; and in another such a signal cuts short each wait for a frame, by tools/signals.c, where that is compiled.
+One run more has little memory, and has to end with 6; two are given journals as long as they may be, and a byte longer;
+in one more a frame is sent only once the reply to the one before has come; and in another such a signal cuts short each
+wait for a frame, by tools/signals.c, where that is compiled.
 Files are those of data/ where none is named. Ends with 1 where one is not as it should be.
 """
 import concurrent.futures
@@ -38,6 +39,8 @@ SECONDS, MOST_TURNS = 20, 1000
 SIGNALS, WAIT = 20, 0.02
 # So many bytes are too few for the room that is taken before the first frame is read.
 LITTLE_MEMORY = 8 * 1024 * 1024
+# The most bytes of journals that are judged.
+MOST_JOURNALS = 268_435_456
 
 
 class Program:
@@ -222,6 +225,18 @@ def memory_fault(program, case):
     return None
 
 
+def length_fault(program, case):
+    """What is wrong where journals of zeros are as long as they may be, or a byte longer, if anything is."""
+    with tempfile.NamedTemporaryFile(dir=program.folder) as file:
+        file.write(case.bytes("file"))
+        file.flush()
+        for size, line in ((MOST_JOURNALS, b"malformed byte 0\n"), (MOST_JOURNALS + 1, b"too large\n")):
+            run = program.run([file.name, "-", "-", "replay"], bytes(size))
+            if (run.returncode, run.stderr, run.stdout) != (14, b"", line):
+                return f"{size} bytes: status {run.returncode}, {run.stdout.decode().strip()}"
+    return None
+
+
 def next_frame(stream, seconds):
     """The next frame of a pipe, or less where no more comes in time."""
     frame, wanted = b"", 4
@@ -271,6 +286,11 @@ def served(cases):
     return [case for case in cases if case.words("words") == ["run"] and case.text("status") == "0"]
 
 
+def replayed(cases):
+    """Conversations that judge journals."""
+    return [case for case in cases if case.words("words") == ["replay"]]
+
+
 def longest(cases):
     """The one of most frames whose replies are all laid down, as a list."""
     whole = [case for case in served(cases) if not any(isinstance(part, Granted) for part in case.written)]
@@ -296,6 +316,7 @@ def main(words):
         with concurrent.futures.ThreadPoolExecutor(WORKERS) as pool:
             told = [tell(*each) for each in pool.map(lambda case: tried(program, case), fit)]
         told += [tell(case, memory_fault(program, case), ", with little memory") for case in served(fit)[:1]]
+        told += [tell(case, length_fault(program, case), ", of many bytes") for case in replayed(fit)[:1]]
         told += [tell(case, turn_fault(program, case), ", in turn") for case in longest(fit)]
         signals = compiled(folder, "signals")
         told += [tell(case, turn_fault(program, case, signals), ", with signals") for case in longest(fit) if signals]

@@ -3,7 +3,7 @@ use Rattle.std.proofs.Common.{◌≡◌, ◌≢◌, ◌⊎◌, ℕ, ◌+◌, Lis
 use Rattle.std.proofs.Math.Seq.{drop-append_seam, get_or-append_seam}
 use Rattle.std.proofs.lemmas.List.{same_from_push}
 use Rattle.std.proofs.lemmas.List.Elements.{All-head, All-tail, All-append, All-cons, All-nil}
-use Rattle.std.proofs.lemmas.Option.{same_Some}
+use Rattle.std.proofs.lemmas.Option.{none-some, same_Some}
 use Rattle.keyed_seal.specs.Keys.{key_of}
 use Rattle.object_core.specs.Objects.{ObjectEntry}
 use Rattle.object_core.specs.Operation.{Op, Discard}
@@ -286,14 +286,8 @@ module _ (n : Node) (payload : List ℕ) (calls : List LinkCall) (Rest : Request
   module _ (s t : ℕ) (agree : (r : Request) → Rest r s → Rest r t → s ≡ t) where
     objects_agree : (r : Request) → ToObject r s → ToObject r t → s ≡ t
     objects_agree r (inl x) (inl y) = x.1 ∙ sym y.1
-    objects_agree r (inl x) (inr (o, is, rest)) = absurd (apart (sym x.0 ∙ is))
-      where
-        apart : None ≡ Some o → ⊥
-        apart e = absurd cc
-    objects_agree r (inr (o, is, rest)) (inl y) = absurd (apart (sym y.0 ∙ is))
-      where
-        apart : None ≡ Some o → ⊥
-        apart e = absurd cc
+    objects_agree r (inl x) (inr (o, is, rest)) = absurd (none-some o (sym x.0 ∙ is))
+    objects_agree r (inr (o, is, rest)) (inl y) = absurd (none-some o (sym y.0 ∙ is))
     objects_agree r (inr (o, is, rest)) (inr (p, also, more)) = agree r rest more
 
     certs_agree : (r : Request) → ToCerts r s → ToCerts r t → s ≡ t
@@ -315,14 +309,8 @@ module _ (n : Node) (payload : List ℕ) (calls : List LinkCall) (Rest : Request
 
     keys_agree : (r : Request) → ToKey r s → ToKey r t → s ≡ t
     keys_agree r (inl x) (inl y) = x.1 ∙ sym y.1
-    keys_agree r (inl x) (inr (key, is, rest)) = absurd (apart (sym x.0 ∙ is))
-      where
-        apart : None ≡ Some key → ⊥
-        apart e = absurd cc
-    keys_agree r (inr (key, is, rest)) (inl y) = absurd (apart (sym y.0 ∙ is))
-      where
-        apart : None ≡ Some key → ⊥
-        apart e = absurd cc
+    keys_agree r (inl x) (inr (key, is, rest)) = absurd (none-some key (sym x.0 ∙ is))
+    keys_agree r (inr (key, is, rest)) (inl y) = absurd (none-some key (sym y.0 ∙ is))
     keys_agree r (inr (key, is, rest)) (inr (other, also, more)) =
         seals_agree r key rest (subst (λ (k : List ℕ). ToSeal r k t) (same_Some other key (sym also ∙ is)) more)
 

@@ -1,5 +1,5 @@
 -- An ask at the shard of its channel, by what is promised of it.
-use Rattle.std.proofs.Common.{◌≡◌, ◌≤◌, ℕ, List, [], Contains, slice_get, Result, IfOk, refl, sym, ap, subst, ◌∙◌, inl, inr, arith}
+use Rattle.std.proofs.Common.{◌≡◌, ◌<◌, ◌≤◌, ℕ, List, [], Contains, length, slice_get, Result, IfOk, refl, sym, ap, subst, ◌∙◌, inl, inr, arith}
 use Rattle.std.specs.Prelude.{OnErr, ◌==◌}
 use Rattle.std.proofs.lemmas.Bool.{cases_Bool, eqb-true, eq-eqb, false≢true}
 use Rattle.std.proofs.lemmas.List.{length-map}
@@ -14,12 +14,14 @@ use Rattle.agent_core.specs.declared.asked.Asked.{Asked}
 use Rattle.agent_core.specs.State.{Plan, Ask, Asks}
 use Rattle.agent_core.specs.Journals.{Entry, IsMeant, IsOn, IsLegalJournal}
 use Rattle.agent_core.specs.Asked.{AskedTo, AskEnds, FitsAsk, LacksMemory}
+use Rattle.agent_core.proofs.Asks.{standing}
 use Rattle.agent_core.specs.Shards.{HasPlanAt, LeavesShards, ShardsSeen, home_of, shard_at}
 use Rattle.taos_monitor.specs.declared.arrival.Arrived.{Arrived}
 use Rattle.taos_monitor.specs.Arriving.{StandsFor}
 use Rattle.taos_monitor.specs.Cells.{AreLegalShards, shards_in}
 use Rattle.taos_monitor.specs.Ruling.{AskedAt, ask_seen}
 use Rattle.taos_monitor.proofs.Arriving.{is_on, subject_fits}
+use Rattle.taos_monitor.proofs.Presenting.{err_on, on_ok}
 use Rattle.taos_monitor.proofs.Going.{asked_goes_on, shard_went_on, shards_stood}
 
 -- ---- what an ask asks for
@@ -80,3 +82,23 @@ not_yet before h plan Ends legal planned ends = record {
   legal = legal;
   ends = ends;
 }
+
+-- how an ask ended at the shard of its channel, by what is promised of the one that was made
+module _ {E : Type 0} (before after : ShardsSeen) (legal : AreLegalShards before.plans before.seen) (a : Ask) (there : home_of before a.channel < length before.plans)
+    {made : Ask} (is : made ≡ a) (rest : LeavesShards before after (home_of before made.channel)) (result : Result Asked E) where
+  abbrev h : ℕ
+  h = home_of before a.channel
+
+  ends_there : (plan : Plan) (Ends : Plan → List Entry → List ℕ → Type 0) → HasPlanAt before h plan →
+      AskedTo plan (shard_at before h) (shard_at after h) a (Ends plan (after.seen h)) → AskedAt before after h Ends
+  ends_there plan Ends = asked_at before after h legal (subst (λ (b : Ask). LeavesShards before after (home_of before b.channel)) is rest) plan a Ends
+
+  pub ended_at_home : IsAskedAs before after result made → IfOk result (λ r. AskedAt before after h (λ p journal own. AskEnds p journal a r own))
+  ended_at_home asked =
+      let (plan, planned) = standing before.plans h there in
+      on_ok result (λ r. ends_there plan (λ p journal own. AskEnds p journal a r own) planned) (subst (IsAskedAs before after result) is asked plan planned)
+
+  pub lacked_at_home : IsLackedAs before after result made → OnErr result (AskedAt before after h (λ p journal own. LacksMemory p (before.seen h) journal a own))
+  lacked_at_home lacked =
+      let (plan, planned) = standing before.plans h there in
+      err_on result (ends_there plan (λ p journal own. LacksMemory p (before.seen h) journal a own) planned) (subst (IsLackedAs before after result) is lacked plan planned)

@@ -1,6 +1,7 @@
 -- What was seen goes on by own entries of one cell, and then goes on.
-use Rattle.std.proofs.Common.{◌≡◌, ◌≢◌, ℕ, ◌+◌, ◌-◌, ◌<◌, ◌≤◌, Bool, true, false, cond, List, [], ◌∷◌, ◌++◌, length, map, get_or, Some, None, All, AllPairs, refl, sym, ap, subst, subst₂, ◌∙◌, inl, inr, arith, append-nil, append_assoc, length-append}
+use Rattle.std.proofs.Common.{◌≡◌, ◌≢◌, ℕ, ◌+◌, ◌-◌, ◌<◌, ◌≤◌, Bool, true, false, cond, List, [], ◌∷◌, ◌++◌, length, map, get_or, Some, None, All, AllPairs, refl, sym, ap, ap₂, subst, subst₂, ◌∙◌, inl, inr, arith, append-nil, append_assoc, length-append}
 use Rattle.std.specs.Prelude.{◌==◌}
+use Rattle.std.specs.List.{cons_option}
 use Rattle.std.proofs.lemmas.Bool.{cases_Bool, cases_lt, eqb-true, eq-eqb, false≢true}
 use Rattle.std.proofs.lemmas.List.{get_or-append_right, get_or-map, get_or_append_left, length-map}
 use Rattle.std.proofs.lemmas.List.Elements.{All-cons, All-nil, All-append, filter_map-append}
@@ -62,41 +63,37 @@ no_places alone journal journal' own own' begins undisturbed owned = record {
 
 -- ---- among all
 
-here : (s number : ℕ) → number_in (OfShard s) (in_shard s number) ≡ Some number
-here s number = ap (λ (b : Bool). cond b (Some number) None) (eq-eqb s s refl)
+-- of places that are all in a cell, the numbers there are theirs
+all_numbers : (cell : Cell) (place : ℕ → Place) → ((n : ℕ) → number_in cell (place n) ≡ Some n) → (own : List ℕ) → numbers_in cell (map place own) ≡ own
+all_numbers cell place here [] = refl
+all_numbers cell place here (n ∷ own) = ap₂ cons_option (here n) (all_numbers cell place here own)
 
-there_not : (s t number : ℕ) → (s == t) ≡ false → number_in (OfShard s) (in_shard t number) ≡ None
-there_not s t number e = ap (λ (b : Bool). cond b (Some number) None) e
+-- of places that are all elsewhere there is none
+no_numbers : (cell : Cell) (place : ℕ → Place) → ((n : ℕ) → number_in cell (place n) ≡ None) → (own : List ℕ) → numbers_in cell (map place own) ≡ []
+no_numbers cell place elsewhere [] = refl
+no_numbers cell place elsewhere (n ∷ own) = ap₂ cons_option (elsewhere n) (no_numbers cell place elsewhere own)
+
+-- the number, if the place is in the cell
+number_if : (b answer : Bool) (n : ℕ) → b ≡ answer → cond b (Some n) None ≡ cond answer (Some n) None
+number_if b answer n e = ap (λ (c : Bool). cond c (Some n) None) e
 
 pub numbers_here : (s : ℕ) (own : List ℕ) → numbers_in (OfShard s) (map (in_shard s) own) ≡ own
-numbers_here s [] = refl
-numbers_here s (n ∷ own) = rw (here s n) (ap (λ (l : List ℕ). n ∷ l) (numbers_here s own))
+numbers_here s = all_numbers (OfShard s) (in_shard s) (λ n. number_if (s == s) true n (eq-eqb s s refl))
 
 pub numbers_there : (s t : ℕ) (own : List ℕ) → (s == t) ≡ false → numbers_in (OfShard s) (map (in_shard t) own) ≡ []
-numbers_there s t [] e = refl
-numbers_there s t (n ∷ own) e = rw (there_not s t n e) (numbers_there s t own e)
+numbers_there s t own e = no_numbers (OfShard s) (in_shard t) (λ n. number_if (s == t) false n e) own
 
 pub no_object_numbers : (o t : ℕ) (own : List ℕ) → numbers_in (OfObject o) (map (in_shard t) own) ≡ []
-no_object_numbers o t [] = refl
-no_object_numbers o t (n ∷ own) = no_object_numbers o t own
-
-here_object : (o number : ℕ) → number_in (OfObject o) (in_object o number) ≡ Some number
-here_object o number = ap (λ (b : Bool). cond b (Some number) None) (eq-eqb o o refl)
-
-there_object : (o t number : ℕ) → (o == t) ≡ false → number_in (OfObject o) (in_object t number) ≡ None
-there_object o t number e = ap (λ (b : Bool). cond b (Some number) None) e
+no_object_numbers o t = no_numbers (OfObject o) (in_shard t) (λ n. refl)
 
 pub numbers_object : (o : ℕ) (own : List ℕ) → numbers_in (OfObject o) (map (in_object o) own) ≡ own
-numbers_object o [] = refl
-numbers_object o (n ∷ own) = rw (here_object o n) (ap (λ (l : List ℕ). n ∷ l) (numbers_object o own))
+numbers_object o = all_numbers (OfObject o) (in_object o) (λ n. number_if (o == o) true n (eq-eqb o o refl))
 
 pub numbers_others : (o t : ℕ) (own : List ℕ) → (o == t) ≡ false → numbers_in (OfObject o) (map (in_object t) own) ≡ []
-numbers_others o t [] e = refl
-numbers_others o t (n ∷ own) e = rw (there_object o t n e) (numbers_others o t own e)
+numbers_others o t own e = no_numbers (OfObject o) (in_object t) (λ n. number_if (o == t) false n e) own
 
 pub no_shard_numbers : (s t : ℕ) (own : List ℕ) → numbers_in (OfShard s) (map (in_object t) own) ≡ []
-no_shard_numbers s t [] = refl
-no_shard_numbers s t (n ∷ own) = no_shard_numbers s t own
+no_shard_numbers s t = no_numbers (OfShard s) (in_object t) (λ n. refl)
 
 apart : (s h : ℕ) → (s == h) ≡ false → s ≢ h
 apart s h e = λ same. false≢true (sym e ∙ eq-eqb s h same)

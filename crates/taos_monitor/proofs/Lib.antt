@@ -13,6 +13,7 @@ mod Dues
 mod Decisions
 mod Short
 mod Guards
+mod AtItsObject
 mod Drafting
 mod Courses
 mod Pulls

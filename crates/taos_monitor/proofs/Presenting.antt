@@ -1,5 +1,5 @@
 -- Certificates that come one by one, by the node or by the relay, and what the first that comes to none is.
-use Rattle.std.proofs.Common.{◌≡◌, ℕ, ◌+◌, ◌<◌, List, [], ◌∷◌, ◌++◌, length, take, drop, map, Result, Ok, Err, refl, sym, ap, subst, ◌∙◌, append_assoc, append-nil, inl, inr, arith, get_or}
+use Rattle.std.proofs.Common.{◌≡◌, ℕ, ◌+◌, ◌<◌, List, [], ◌∷◌, ◌++◌, length, take, drop, map, Result, Ok, Err, refl, sym, ap, subst, subst₂, ◌∙◌, append_assoc, append-nil, inl, inr, arith, get_or}
 use Rattle.std.specs.Prelude.{OnErr, Vec}
 use Rattle.std.specs.declared.alloc.Global.{Global}
 use Rattle.std.specs.declared.sync.Arc.{Arc}
@@ -37,7 +37,7 @@ module _ (key : List ℕ) (texts : List (Vec ℕ Global)) (place : ℕ) (d : Vec
   pub front_more : map text_of (take (place + 1) texts) ≡ front ++ here ∷ []
   front_more = ap (map text_of) (take_more texts place d lt) ∙ map_push text_of (take place texts) (get_or texts place d)
 
-  pub stops_here : (before : List LinkCall) (certs : List Certificate) → AreOpened key front before certs → StopsAt key (map text_of texts) place here before
+  stops_here : (before : List LinkCall) (certs : List Certificate) → AreOpened key front before certs → StopsAt key (map text_of texts) place here before
   stops_here before certs opened = record {
     front = front;
     rest = map text_of (drop (place + 1) texts);
@@ -71,7 +71,7 @@ module _ (key : List ℕ) (texts : List (Vec ℕ Global)) (place : ℕ) (d : Vec
   stopped before more certs reasons.NoMemory opened (inr (issued, (answer, answered, one))) =
       after_call here before answer (stops_here before certs opened) issued answered (ap (λ (l : List LinkCall). before ++ l) one)
 
-  pub first_stopped : (node : ℕ) (n middle now : Link) (certs : List Certificate) (why : Unpresented) → AllCome key (link_use node n middle) front certs →
+  first_stopped : (node : ℕ) (n middle now : Link) (certs : List Certificate) (why : Unpresented) → AllCome key (link_use node n middle) front certs →
       OneStops key (link_use node middle now) here why → AllStop key (link_use node n now) (map text_of texts) (refused_at place why)
   first_stopped node n middle now certs why came stops = record {
     calls = came.calls ++ stops.calls;
@@ -79,7 +79,7 @@ module _ (key : List ℕ) (texts : List (Vec ℕ Global)) (place : ℕ) (d : Vec
     linked = linked_on node n middle now came.calls stops.calls came.quiet stops.linked;
   }
 
-  pub one_more_comes : (node : ℕ) (n middle now : Link) (certs : List (Arc Cert Global)) (c : Arc Cert Global) → AllCome key (link_use node n middle) front (map shared certs) →
+  one_more_comes : (node : ℕ) (n middle now : Link) (certs : List (Arc Cert Global)) (c : Arc Cert Global) → AllCome key (link_use node n middle) front (map shared certs) →
       OneComes key (link_use node middle now) here (shared c) → AllCome key (link_use node n now) (map text_of (take (place + 1) texts)) (map shared (certs ++ c ∷ []))
   one_more_comes node n middle now certs c came comes = record {
     calls = came.calls ++ comes.calls;
@@ -90,7 +90,7 @@ module _ (key : List ℕ) (texts : List (Vec ℕ Global)) (place : ℕ) (d : Vec
   }
 
 -- memory was refused for one that came
-pub interrupted : (key : List ℕ) (node : ℕ) (n middle now : Link) (index : ℕ) (texts : List (List ℕ)) (text : List ℕ) (before more : List LinkCall) (c : Certificate) →
+interrupted : (key : List ℕ) (node : ℕ) (n middle now : Link) (index : ℕ) (texts : List (List ℕ)) (text : List ℕ) (before more : List LinkCall) (c : Certificate) →
     StopsAt key texts index text before → IsQuiet node n middle before → Comes key text more c → IsQuiet node middle now more → AllStop key (link_use node n now) texts refusals.NoMemory
 interrupted key node n middle now index texts text before more c stops quiet (by_node opens) more_quiet = record {
   calls = before ++ [];
@@ -102,6 +102,28 @@ interrupted key node n middle now index texts text before more c stops quiet (by
   stops = after_call text before (Resealed new) stops (body_spelling c ++ is.tag, is.presented.text) (λ e. cc) refl;
   linked = linked_on node n middle now before (call text (Resealed new) ∷ []) quiet (quiet_linked node middle now (call text (Resealed new) ∷ []) more_quiet);
 }
+
+-- the same of the text at a place, by what is promised of the one that was read there, under the key as it stayed
+module _ (key : List ℕ) (texts : List (Vec ℕ Global)) (place : ℕ) (d : Vec ℕ Global) (lt : place < length texts) (node : ℕ) (n middle now : Link)
+    {opened text : List ℕ} (stayed : opened ≡ key) (read : text ≡ text_of (get_or texts place d)) where
+  came_here : (c : Certificate) → OneComes opened (link_use node middle now) text c → OneComes key (link_use node middle now) (text_of (get_or texts place d)) c
+  came_here c one = subst₂ (λ (k : List ℕ) (t : List ℕ). OneComes k (link_use node middle now) t c) stayed read one
+
+  pub stopped_here : (certs : List Certificate) (why : Unpresented) → AllCome key (link_use node n middle) (map text_of (take place texts)) certs →
+      OneStops opened (link_use node middle now) text why → AllStop key (link_use node n now) (map text_of texts) (refused_at place why)
+  stopped_here certs why came stops =
+      first_stopped key texts place d lt node n middle now certs why came (subst₂ (λ (k : List ℕ) (t : List ℕ). OneStops k (link_use node middle now) t why) stayed read stops)
+
+  pub interrupted_here : (certs : List Certificate) (c : Certificate) → AllCome key (link_use node n middle) (map text_of (take place texts)) certs →
+      OneComes opened (link_use node middle now) text c → AllStop key (link_use node n now) (map text_of texts) refusals.NoMemory
+  interrupted_here certs c came comes =
+      let one = came_here c comes in
+      interrupted key node n middle now place (map text_of texts) (text_of (get_or texts place d)) came.calls one.calls c
+      (stops_here key texts place d lt came.calls certs came.opened) came.quiet one.comes one.quiet
+
+  pub comes_here : (certs : List (Arc Cert Global)) (c : Arc Cert Global) → AllCome key (link_use node n middle) (map text_of (take place texts)) (map shared certs) →
+      OneComes opened (link_use node middle now) text (shared c) → AllCome key (link_use node n now) (map text_of (take (place + 1) texts)) (map shared (certs ++ c ∷ []))
+  comes_here certs c came comes = one_more_comes key texts place d lt node n middle now certs c came (came_here (shared c) comes)
 
 pub err_on : {A E P Q : Type 0} (r : Result A E) → (P → Q) → OnErr r P → OnErr r Q
 err_on (Ok a) f h = h

@@ -7,7 +7,6 @@ use Rattle.std.proofs.lemmas.List.Elements.{filter_map-append}
 use Rattle.object_core.specs.Objects.{ObjectEntry, latest, written_by, listed_by, content_after, list_after}
 use Rattle.object_core.specs.Operation.{Op}
 use Rattle.object_core.specs.declared.ruling.Ruling.TheVariants as rulings
-use Rattle.prin_term.specs.View.{Grant}
 use Rattle.stmt_codec.specs.Certificates.{Certificate}
 use Rattle.taos_wire.specs.Reply.{Reply, Granted, Sent, status_of}
 use Rattle.agent_core.specs.declared.told.Told.{Told}
@@ -115,47 +114,51 @@ module _ (alone : Cell → Bool) (a b : Seen) (places : List Place) (g : GoesOn 
 if_here : {X : Type 0} (o : ℕ) (x : X) → cond (o == o) (Some x) None ≡ Some x
 if_here o x = ap (λ (b : Bool). cond b (Some x) None) (eq-eqb o o refl)
 
+if_not : {X : Type 0} (b : Bool) → b ≡ false → (x : X) → cond b (Some x) None ≡ None
+if_not b not x = ap (λ (c : Bool). cond c (Some x) None) not
+
+-- all that comes of what was found is picked
+all_picked : {X : Type 0} (pick : Effect → Option X) (effect : X → Effect) → ((x : X) → pick (effect x) ≡ Some x) →
+    (found : Option X) → filter_map pick (if_some (λ x. effect x ∷ []) found) ≡ cons_option found []
+all_picked pick effect all None = refl
+all_picked {X = X} pick effect all (Some x) = ap (λ (r : Option X). cons_option r []) (all x)
+
+-- nothing of it is
+none_picked : {X Y : Type 0} (pick : Effect → Option Y) (effect : X → Effect) → ((x : X) → pick (effect x) ≡ None) →
+    (found : Option X) → filter_map pick (if_some (λ x. effect x ∷ []) found) ≡ []
+none_picked pick effect nothing None = refl
+none_picked {Y = Y} pick effect nothing (Some x) = ap (λ (r : Option Y). cons_option r []) (nothing x)
+
+-- what is picked of an entry's changes, by what is of its content and of its list
+of_changes : {X : Type 0} (pick : Effect → Option X) (t : ℕ) (e : ObjectEntry) (contents lists : List X) →
+    filter_map pick (if_some (λ content. Written t content ∷ []) (written_by e)) ≡ contents →
+    filter_map pick (if_some (λ list. Listed t list ∷ []) (listed_by e)) ≡ lists → filter_map pick (changes_of t e) ≡ contents ++ lists
+of_changes {X = X} pick t e contents lists content list =
+    filter_map-append pick (if_some (λ content. Written t content ∷ []) (written_by e)) (if_some (λ list. Listed t list ∷ []) (listed_by e))
+    ∙ ap₂ (λ (l : List X) (m : List X). l ++ m) content list
+
 contents : (o : ℕ) → Picks written_by o (content_for o)
 contents o = record {
   steps = λ s event told. refl;
-  here = λ e. filter_map-append (content_for o) (if_some (λ content. Written o content ∷ []) (written_by e)) (if_some (λ list. Listed o list ∷ []) (listed_by e))
-      ∙ ap₂ (λ (l : List (List ℕ)) (m : List (List ℕ)). l ++ m) (written (written_by e)) (not_listed o (listed_by e)) ∙ append-nil (cons_option (written_by e) []);
-  elsewhere = λ t e not. filter_map-append (content_for o) (if_some (λ content. Written t content ∷ []) (written_by e)) (if_some (λ list. Listed t list ∷ []) (listed_by e))
-      ∙ ap₂ (λ (l : List (List ℕ)) (m : List (List ℕ)). l ++ m) (not_here t not (written_by e)) (not_listed t (listed_by e));
+  here = λ e.
+      of_changes (content_for o) o e (cons_option (written_by e) []) [] (all_picked (content_for o) (Written o) (if_here o) (written_by e)) (no_list o e)
+      ∙ append-nil (cons_option (written_by e) []);
+  elsewhere = λ t e not.
+      of_changes (content_for o) t e [] [] (none_picked (content_for o) (Written t) (if_not (o == t) not) (written_by e)) (no_list t e);
 }
   where
-    written : (found : Option (List ℕ)) → filter_map (content_for o) (if_some (λ content. Written o content ∷ []) found) ≡ cons_option found []
-    written None = refl
-    written (Some content) = ap (λ (x : Option (List ℕ)). cons_option x []) (if_here o content)
-
-    not_here : (t : ℕ) → (o == t) ≡ false → (found : Option (List ℕ)) → filter_map (content_for o) (if_some (λ content. Written t content ∷ []) found) ≡ []
-    not_here t not None = refl
-    not_here t not (Some content) = ap (λ (b : Bool). cons_option (cond b (Some content) None) []) not
-
-    not_listed : (t : ℕ) (found : Option (List Grant)) → filter_map (content_for o) (if_some (λ list. Listed t list ∷ []) found) ≡ []
-    not_listed t None = refl
-    not_listed t (Some list) = refl
+    no_list : (t : ℕ) (e : ObjectEntry) → filter_map (content_for o) (if_some (λ list. Listed t list ∷ []) (listed_by e)) ≡ []
+    no_list t e = none_picked (content_for o) (Listed t) (λ list. refl) (listed_by e)
 
 lists : (o : ℕ) → Picks listed_by o (list_for o)
 lists o = record {
   steps = λ s event told. refl;
-  here = λ e. filter_map-append (list_for o) (if_some (λ content. Written o content ∷ []) (written_by e)) (if_some (λ list. Listed o list ∷ []) (listed_by e))
-      ∙ ap₂ (λ (l : List (List Grant)) (m : List (List Grant)). l ++ m) (not_written o (written_by e)) (listed (listed_by e));
-  elsewhere = λ t e not. filter_map-append (list_for o) (if_some (λ content. Written t content ∷ []) (written_by e)) (if_some (λ list. Listed t list ∷ []) (listed_by e))
-      ∙ ap₂ (λ (l : List (List Grant)) (m : List (List Grant)). l ++ m) (not_written t (written_by e)) (not_here t not (listed_by e));
+  here = λ e. of_changes (list_for o) o e [] (cons_option (listed_by e) []) (no_content o e) (all_picked (list_for o) (Listed o) (if_here o) (listed_by e));
+  elsewhere = λ t e not. of_changes (list_for o) t e [] [] (no_content t e) (none_picked (list_for o) (Listed t) (if_not (o == t) not) (listed_by e));
 }
   where
-    listed : (found : Option (List Grant)) → filter_map (list_for o) (if_some (λ list. Listed o list ∷ []) found) ≡ cons_option found []
-    listed None = refl
-    listed (Some list) = ap (λ (x : Option (List Grant)). cons_option x []) (if_here o list)
-
-    not_here : (t : ℕ) → (o == t) ≡ false → (found : Option (List Grant)) → filter_map (list_for o) (if_some (λ list. Listed t list ∷ []) found) ≡ []
-    not_here t not None = refl
-    not_here t not (Some list) = ap (λ (b : Bool). cons_option (cond b (Some list) None) []) not
-
-    not_written : (t : ℕ) (found : Option (List ℕ)) → filter_map (list_for o) (if_some (λ content. Written t content ∷ []) found) ≡ []
-    not_written t None = refl
-    not_written t (Some content) = refl
+    no_content : (t : ℕ) (e : ObjectEntry) → filter_map (list_for o) (if_some (λ content. Written t content ∷ []) (written_by e)) ≡ []
+    no_content t e = none_picked (list_for o) (Written t) (λ content. refl) (written_by e)
 
 pub objects_are_made : ObjectsAreMade
 objects_are_made alone old new places g o lone plan = (

@@ -94,7 +94,8 @@ LeavesOut _ shard steps = Unit {0}
 
 -- What comes of it, after what was seen before: the own places and the reply. The object's entry
 -- stands in its journal right after those by which the object was asked for. What is performed in the
--- shards comes after the entry that grants it. The journals are those that were seen before, and these.
+-- shards stands in journals of its own: no clause says which of two journals had its entry first. The
+-- journals are those that were seen before, and these.
 pub data IsGuardedAfter (plans : List Plan) (plan : Plan) (seen : Journals × Journals)
     (x : Seeking) : Own → Reply → Type 0 where
   object_is_full : length (seen.1.objects x.request.object) ≡ x.fixed.limit →

@@ -40,7 +40,8 @@ impl<S: Shards, H: Shelf, D: Decide> Desk<'_, '_, '_, '_, '_, S, H, D> {
     /// Handles one request, which was found to be under the seal of its channel's key, and leaves the
     /// sealed reply in the buffer. What it presents is opened by what was opened before; nothing is
     /// fetched. The moment is the clock's reading, or what the shard's clock had come to. What is granted
-    /// is performed after its ruling stands in the journal of the object.
+    /// is performed after its ruling stands in the journal of the object; of two journals no clause says
+    /// which had its entry first, so a test does (`lane_tests`).
     pub fn request<W: Wait + Sync, G: Gate, X: Reach>(
         &mut self,
         rt: &W,

@@ -2,46 +2,54 @@
 use Rattle.std.proofs.Common.{◌≡◌, ◌≢◌, ℕ, zero, suc, ◌+◌, ◌<◌, ◌≤◌, ◌^◌, get_or, Bool, true, false, List, [], ◌∷◌, ◌++◌, length, map, Contains, AllPairs, flat_map, Option, None, Some, IsSome, slice_get, ◌==◌, cond, refl, sym, ap, ap₂, subst, ◌∙◌, arith, inl, inr, add-zero, eq-eqb, append_assoc, length-append}
 use Rattle.std.specs.Prelude.{All}
 use Rattle.std.specs.Option.{option_map, is_some}
+use Rattle.std.proofs.lemmas.Simd.{map-map}
 use Rattle.std.specs.List.{enumerate_from, range_with_len}
 use Rattle.std.specs.List.Sorted.{IsStrictlyIncreasing}
-use Rattle.std.proofs.lemmas.List.{length-map}
+use Rattle.std.proofs.lemmas.List.{get_or-map, length-map}
 use Rattle.std.proofs.lemmas.List.FromFn.{get_or-map-range_with_len, length-map-range_with_len, length-range_with_len}
 use Rattle.std.proofs.lemmas.List.Kept.{AllPairs-from_increasing}
 use Rattle.std.proofs.lemmas.Bool.Decides.{eqb_tells}
-use Rattle.std.proofs.lemmas.Option.{slice_get-get_or, slice_get-map}
+use Rattle.std.proofs.lemmas.Option.{same_Some, slice_get-get_or, slice_get-map}
 use Rattle.frame_link.specs.declared.outcome.Outcome.{Outcome}
 use Rattle.frame_link.specs.declared.outcome.Outcome.TheVariants.{End, Truncated, TooLong, ReadFault, WriteFault, ClockFault, Spent, NoMemory}
 use Rattle.frame_link.specs.Served.{FaultCounts, CountsCause}
-use Rattle.denial_link.proofs.Members.{has-cases, has-cons, has-head, has-nil}
-use Rattle.agent_core.specs.Alone.{seen_in}
+use Rattle.taos_calculus.proofs.Atoms.{Contains-at}
+use Rattle.denial_link.proofs.Members.{Contains-to_map, has-cases, has-cons, has-head, has-nil}
+use Rattle.agent_core.specs.Alone.{plans_in, seen_in}
 use Rattle.agent_core.specs.Journals.{Entry, ShardSeen}
 use Rattle.audit_text.specs.ObjectLines.{object_text}
 use Rattle.audit_text.specs.ShardLines.{shard_text}
 use Rattle.node_file.specs.Opening.{Opening}
-use Rattle.object_core.specs.Objects.{ObjectEntry, ObjectSeen, object_of}
+use Rattle.object_core.specs.Objects.{ObjectEntry, ObjectPlan, ObjectSeen, object_of}
 use Rattle.agent_core.proofs.Opening.{slice_at}
 use Rattle.object_core.specs.OneOwner.{LoneShelfSeen, fixed_on, journal_of, place_on, seen_on}
-use Rattle.object_core.specs.Shelving.{ObjectFixed, fixed_at, fixed_of, numbers_of}
+use Rattle.object_core.specs.Shelving.{HaveOwnNumbers, ObjectFixed, fixed_at, fixed_of, numbers_of}
 use Rattle.object_core.proofs.FindingRows.{place_found}
 use Rattle.taos_node.specs.declared.opened.OpenNode.{OpenNode}
 use Rattle.taos_node.specs.declared.ending.AuditEnd.{AuditEnd}
 use Rattle.taos_node.specs.declared.ending.AuditEnd.TheVariants as audits
-use Rattle.taos_node.specs.Audit.{counts, AuditCauses, AuditIsComplete, IsAuditOf, IsEnd, TextHasCause, WritesAudit, WritesText, journals_in, journals_spelled}
+use Rattle.taos_node.specs.Audit.{counts, AreLegalAs, AuditCauses, AuditIsComplete, IsAuditOf, IsEnd, TextHasCause, WritesAudit, WritesText, journals_in, journals_spelled}
 use Rattle.taos_monitor.specs.Cells.{Journals, Node}
-use Rattle.journal_bytes.specs.Spelled.{ObjectJournal, SpelledEntry, journals_of, numbered, object_spelled, shard_spelled, spelled}
+use Rattle.journal_bytes.specs.Spelled.{Journals as Spelled, ObjectJournal, SpelledEntry, journals_of, numbered, object_spelled, shard_spelled, spelled}
 use Rattle.journal_bytes.specs.Spelling.{journals_bytes}
-use Rattle.taos_node.specs.AuditOf.{all_in, objects_text, shards_text}
+use Rattle.taos_node.specs.AuditOf.{SpellsAs, all_in, objects_text, shards_text}
 use Rattle.taos_node.specs.declared.audit.Form.{Form}
 use Rattle.taos_node.specs.declared.audit.Form.TheVariants as form
-use Rattle.node_open.specs.Cells.{fixed_with, its_plans, numbers_of as numbers_in}
-use Rattle.keyed_seal.specs.Keys.{Entries}
+use Rattle.node_open.specs.Cells.{AllFit, AreCellsOf, fixed_with, its_plans, new_object, numbers_of as numbers_in}
+use Rattle.node_open.proofs.Opens.{fixed_new}
+use Rattle.keyed_seal.specs.Keys.{Entries, key_of}
+use Rattle.taos_monitor.proofs.Keyed.{key_listed, listed_key}
 use Rattle.agent_core.specs.Opened.{plan_for}
 use Rattle.agent_core.specs.State.{Plan}
 use Rattle.agent_core.specs.declared.limits.TheConstants.{MAX_COMMONS}
 use Rattle.object_core.specs.Operation.{FitsOperation}
-use Rattle.journal_bytes.specs.Limits.{CitesFew, CitesFewOf, HasFittingOps}
-use Rattle.replay_law.specs.Laws.{AreWritable, HasFewCommons}
-use Rattle.taos_node.specs.Opened.{IsNodeOf, IsOpenedBy, IsSameNode, IsSmall, seen_by}
+use Rattle.journal_bytes.specs.Limits.{AsksWithin, AsksWithinOf, CitesFew, CitesFewOf, HasFittingOps, NumbersRise}
+use Rattle.replay_law.specs.Laws.{AreAsksWithin, AreReplayedLegal, AreWritable, HasFewCommons, HasFittingList}
+use Rattle.replay_law.specs.Left.{cells_in, journals_left, objects_of}
+use Rattle.replay_law.proofs.Numbered.{found_by_number}
+use Rattle.audit_replay.specs.Replays.{AreReplayed, entries_in, judged}
+use Rattle.audit_replay.specs.declared.replayed.Replayed.{Replayed}
+use Rattle.taos_node.specs.Opened.{IsNodeOf, IsOpenedBy, IsSameNode, IsSmall, node_by, seen_by}
 use Rattle.taos_node.proofs.Commands.{still}
 use Rattle.taos_node.proofs.Statuses.{IsCompleteBy, same_counts}
 
@@ -76,7 +84,7 @@ shards_listed shards count many =
 
 -- ---- objects
 
-numbers_apart : (ns : List ℕ) → IsStrictlyIncreasing ns → AllPairs (λ (m : ℕ) (n : ℕ). m ≢ n) ns
+pub numbers_apart : (ns : List ℕ) → IsStrictlyIncreasing ns → AllPairs (λ (m : ℕ) (n : ℕ). m ≢ n) ns
 numbers_apart ns up i j d lt within same = omega (arith, AllPairs-from_increasing ns up i j d lt within, same)
 
 object_there : (shelf : LoneShelfSeen) → IsStrictlyIncreasing (numbers_of (fixed_on shelf)) → (i : ℕ) (o : ObjectSeen) → slice_get shelf.objects i ≡ Some o → seen_on shelf o.plan.number ≡ o.journal
@@ -211,6 +219,87 @@ module _ (o : Opening) (old new : OpenNode) (opened : IsOpenedBy o old) (same : 
       let objects = new.shelf.objects in
       let up : IsStrictlyIncreasing (numbers_of (fixed_on new.shelf)) = subst (λ (l : List ObjectFixed). IsStrictlyIncreasing (numbers_of l)) (sym same.objects) opened.is_node.by_number in
       subst (All (λ (e : ObjectEntry). FitsOperation e.op)) (object_there new.shelf up i (get_or objects i d) (slice_get-get_or objects i d below)) (w.ops (get_or objects i d).plan.number)
+
+-- ---- what is printed as bytes is replayed
+
+-- each list at opening is within the limits
+pub lists_fit : (limit : ℕ) (objects : List ObjectPlan) (fs : List ObjectFixed) → fs ≡ map fixed_of (map (new_object limit) objects) → HaveOwnNumbers fs → AllFit objects → All HasFittingList fs
+lists_fit limit objects fs are own fit = λ i d below.
+    let f = get_or fs i d in
+    let found : fixed_at fs f.plan.number ≡ Some f = found_by_number fs own i f (slice_get-get_or fs i d below) in
+    its_list f (object_of objects f.plan.number) refl (sym (fixed_new limit objects f.plan.number) ∙ ap (λ (l : List ObjectFixed). fixed_at l f.plan.number) (sym are) ∙ found)
+  where
+    its_list : (f : ObjectFixed) (r : Option ObjectPlan) → object_of objects f.plan.number ≡ r → option_map (fixed_with limit) r ≡ Some f → HasFittingList f
+    its_list f None is e = absurd cc
+    its_list f (Some p) is e = subst HasFittingList (same_Some (fixed_with limit p) f e) (fit f.plan.number p is).list
+
+-- a number that is listed has a key, and the other way
+has_key : (entries : Entries) (number : ℕ) → Contains (numbers_in entries) number → IsSome (key_of entries number)
+has_key entries number (k, within, is) =
+    let e = get_or entries k (number, []) in
+    let lt : k < length entries = omega (arith, within, length-map entries (λ (c : ℕ × List ℕ). c.0)) in
+    let same : e.0 ≡ number = sym (get_or-map (λ (c : ℕ × List ℕ). c.0) entries k (number, []) number lt) ∙ is in
+    subst (λ (m : ℕ). IsSome (key_of entries m)) same (listed_key entries k e (slice_get-get_or entries k (number, []) lt))
+
+has_number : (entries : Entries) (number : ℕ) → IsSome (key_of entries number) → Contains (numbers_in entries) number
+has_number entries number some =
+    let l = key_listed entries number some in
+    subst (Contains (numbers_in entries)) l.number (Contains-to_map (λ (c : ℕ × List ℕ). c.0) entries l.entry (Contains-at entries l.place l.entry l.stands))
+
+are_cells : (o : Opening) (n : Node) → IsNodeOf o n → AreCellsOf o (cells_in n)
+are_cells o n is = record {
+  channels = numbers_in n.channels;
+  ascending = is.ascending;
+  have_keys = λ k. (
+    λ there. subst (λ (x : Option (List ℕ)). IsSome x) (is.channels k) (has_key n.channels k there),
+    λ some. has_number n.channels k (subst (λ (x : Option (List ℕ)). IsSome x) (sym (is.channels k)) some),
+  );
+  plans = is.plans;
+  objects = is.objects;
+  by_number = is.by_number;
+}
+
+pub all_asks : (new : OpenNode) → AreAsksWithin (seen_by new).journals → All AsksWithin new.shards.shards
+all_asks new asks = λ i d below.
+    let shards = new.shards.shards in
+    let at : slice_get (map (λ (s : ShardSeen). s.journal) shards) i ≡ Some (get_or shards i d).journal =
+    slice_get-map (λ (s : ShardSeen). s.journal) shards i ∙ ap (option_map (λ (s : ShardSeen). s.journal)) (slice_get-get_or shards i d below) in
+    subst (All (λ (e : Entry). AsksWithinOf e.event)) (journal_there shards i (get_or shards i d).journal at) (asks i)
+
+module _ (o : Opening) (old new : OpenNode) (opened : IsOpenedBy o old) (same : IsSameNode old new) where
+  ascend : IsStrictlyIncreasing (numbers_of (fixed_on new.shelf))
+  ascend = subst (λ (l : List ObjectFixed). IsStrictlyIncreasing (numbers_of l)) (sym same.objects) opened.is_node.by_number
+
+  pub numbers_rise : NumbersRise new.shelf.objects
+  numbers_rise i j d lt within =
+      let xs = map object_spelled new.shelf.objects in
+      let up : IsStrictlyIncreasing (map (λ (x : ObjectJournal). x.number) xs) = subst IsStrictlyIncreasing (its_numbers new.shelf.objects) ascend in
+      let long = length-map xs (λ (x : ObjectJournal). x.number) in
+      let less = AllPairs-from_increasing (map (λ (x : ObjectJournal). x.number) xs) up i j d.number lt (omega (arith, within, long)) in
+      omega (arith, less, get_or-map (λ (x : ObjectJournal). x.number) xs i d d.number (omega (arith, lt, within)), get_or-map (λ (x : ObjectJournal). x.number) xs j d d.number within)
+    where
+      its_numbers : (os : List ObjectSeen) → numbers_of (map fixed_of os) ≡ map (λ (x : ObjectJournal). x.number) (map object_spelled os)
+      its_numbers [] = refl
+      its_numbers (x ∷ os) = ap (λ (l : List ℕ). x.plan.number ∷ l) (its_numbers os)
+
+  -- what is spelled is what the node left
+  left_is : journals_of new.shards.shards new.shelf.objects ≡ journals_left (node_by old) (seen_by new).journals
+  left_is =
+      let shards = new.shards.shards in
+      let count : length shards ≡ length (plans_in old.shards.shards) = sym (length-map shards (λ (s : ShardSeen). s.plan)) ∙ ap (λ (l : List Plan). length l) same.plans in
+      let by_number = objects_spelled new.shelf ascend in
+      ap₂ (λ (x : List (List SpelledEntry)) (y : List ObjectJournal). record { shards = x; objects = y })
+      (shards_spelled 0 shards [] refl ∙ ap (λ k. map (λ s. map spelled (seen_in shards s)) (range_with_len 0 k)) count ∙ sym (map-map (λ (j : List Entry). map spelled j) (seen_in shards) (range_with_len 0 (length (plans_in old.shards.shards)))))
+      (by_number ∙ map-map (λ n. numbered n (seen_on new.shelf n)) (λ (f : ObjectFixed). f.plan.number) (fixed_on new.shelf) ∙ ap (objects_of (seen_by new).journals) same.objects)
+
+  pub made_legal : (kind : Form) → AreReplayedLegal (node_by old) (seen_by new).journals → SpellsAs kind (journals_of new.shards.shards new.shelf.objects) → AreLegalAs kind o (all_in kind new.shards.shards new.shelf.objects)
+  made_legal form.Text replayed spells = tt
+  made_legal form.Bytes replayed spells = record {
+    cells = cells_in (node_by old);
+    are = are_cells o (node_by old) opened.is_node;
+    entries = _;
+    legal = judged spells (subst (λ (j : Spelled). AreReplayed (cells_in (node_by old)) j (Replayed.Legal (entries_in (journals_left (node_by old) (seen_by new).journals)))) (sym left_is) replayed.journals);
+  }
 
 -- ---- how it ends
 

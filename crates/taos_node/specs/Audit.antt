@@ -13,7 +13,10 @@ use Rattle.frame_link.specs.Frames.{framed}
 use Rattle.frame_link.specs.Served.{FaultCounts, CountsCause, Line, StandStill, counts_of}
 use Rattle.journal_bytes.specs.Spelled.{Journals as Spelled, numbered, spelled}
 use Rattle.journal_bytes.specs.Spelling.{journals_bytes}
+use Rattle.audit_replay.specs.declared.replayed.Replayed.{Replayed}
+use Rattle.audit_replay.specs.Replays.{IsReplayed}
 use Rattle.node_file.specs.Opening.{Opening}
+use Rattle.node_open.specs.Cells.{AreCellsOf, Cells}
 use Rattle.object_core.specs.Objects.{object_of}
 use Rattle.taos_monitor.specs.Cells.{Journals}
 use Rattle.taos_node.specs.declared.audit.Form.{Form}
@@ -50,6 +53,25 @@ pub record IsAuditOf (form : Form) (o : Opening) (j : Journals) (text : List ℕ
   pub numbers : List ℕ
   pub are : AreNumbersOf o numbers
   pub is : text ≡ journals_in form o.shards numbers j
+
+-- bytes are replayed as those of legal journals, beside the cells of the opening
+pub record AreReplayedAt (o : Opening) (bytes : List ℕ) : Type 0 where
+  pub cells : Cells
+  pub are : AreCellsOf o cells
+  pub entries : ℕ
+  pub legal : IsReplayed cells bytes (Replayed.Legal entries)
+
+-- so are those of journals that are printed as bytes
+abbrev pub AreLegalAs : Form → Opening → List ℕ → Type 0
+AreLegalAs form.Text o text = Unit {0}
+AreLegalAs form.Bytes o text = AreReplayedAt o text
+
+-- the text was made, and written, or a proper front of it
+abbrev pub WasMade : AuditEnd → Type 0
+WasMade audit.Done = Unit {0}
+WasMade (audit.Stopped outcome) = ⊥
+WasMade audit.WriteFault = Unit {0}
+WasMade audit.NoMemory = ⊥
 
 -- the outcome is the end of whole frames
 abbrev pub IsEnd : Outcome → Type 0

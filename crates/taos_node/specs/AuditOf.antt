@@ -4,7 +4,8 @@ use Rattle.agent_core.specs.Journals.{ShardSeen}
 use Rattle.audit_text.specs.Lines.{text_of}
 use Rattle.audit_text.specs.ObjectLines.{object_text}
 use Rattle.audit_text.specs.ShardLines.{shard_text}
-use Rattle.journal_bytes.specs.Spelled.{journals_of}
+use Rattle.journal_bytes.specs.Limits.{Spells}
+use Rattle.journal_bytes.specs.Spelled.{Journals, journals_of}
 use Rattle.journal_bytes.specs.Spelling.{journals_bytes}
 use Rattle.object_core.specs.Objects.{ObjectEntry, ObjectSeen}
 use Rattle.taos_node.specs.declared.audit.Form.{Form}
@@ -26,6 +27,11 @@ objects_text objects =
 -- of both
 abbrev pub all_text : List ShardSeen → List ObjectSeen → List ℕ
 all_text shards objects = shards_text shards ++ objects_text objects
+
+-- the journals can be spelled where they are to be bytes: these are the spelling
+abbrev pub SpellsAs : Form → Journals → Type 0
+SpellsAs form.Text j = Unit {0}
+SpellsAs form.Bytes j = Spells j (journals_bytes j)
 
 -- the journals in this form: as text, or as bytes
 abbrev pub all_in : Form → List ShardSeen → List ObjectSeen → List ℕ

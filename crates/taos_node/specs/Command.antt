@@ -24,7 +24,7 @@ use Rattle.taos_lanes.specs.Stocked.{LaneShown}
 use Rattle.taos_lanes.specs.Telling.{Change, Telling, change}
 use Rattle.taos_node.specs.declared.ending.AuditEnd.{AuditEnd}
 use Rattle.taos_node.specs.declared.ending.DrillEnd.{DrillEnd}
-use Rattle.taos_node.specs.Audit.{IsAuditOf, WritesAudit, counts}
+use Rattle.taos_node.specs.Audit.{AreLegalAs, IsAuditOf, WasMade, WritesAudit, counts}
 use Rattle.taos_node.specs.Drills.{Drills}
 use Rattle.taos_node.specs.Lanes.{ServesLanes, lanes_words}
 use Rattle.taos_node.specs.RelayLanes.{IsRelayOf, RelaysDoors}
@@ -40,6 +40,7 @@ use Rattle.taos_node.specs.Paths.{Passes}
 use Rattle.taos_node.specs.declared.audit.AuditAsked.{AuditAsked}
 use Rattle.taos_node.specs.declared.audit.Form.{Form}
 use Rattle.taos_node.specs.declared.audit.Form.TheVariants as form
+use Rattle.taos_node.specs.declared.command.FirstAsked.{FirstAsked}
 use Rattle.taos_node.specs.declared.lanes.LanesAsked.{LanesAsked}
 use Rattle.taos_node.specs.declared.replay.ReplayEnd.{ReplayEnd}
 use Rattle.taos_node.specs.Replaying.{Replays}
@@ -51,7 +52,7 @@ use Rattle.taos_monitor.specs.declared.connection.TheConstants.{MAX_REQUEST}
 use Rattle.taos_monitor.specs.Connection.{IsConnection}
 use Rattle.taos_monitor.specs.World.{World, fetch_use, setting_of}
 use Rattle.taos_node.specs.declared.opened.OpenNode.{OpenNode}
-use Rattle.taos_node.specs.Opened.{IsNodeOf, IsOpenedBy, nothing_seen, seen_by}
+use Rattle.taos_node.specs.Opened.{IsNodeOf, IsOpenedBy, node_by, nothing_seen, seen_by}
 use Rattle.node_check.specs.Findings.{Checks}
 
 -- the words are a command line
@@ -137,12 +138,12 @@ pub record ServesConnection (o : Opening) (pulls : Bool) (frames : ℕ) (before 
 
 -- So the node serves the first lane's connection, of whatever opening it is and whatever file there
 -- is, and is left like this.
-abbrev pub ServesFirst : OpenNode → Bool → ℕ → (before after : Line LaneUsed) → OpenNode → Outcome →
+abbrev pub ServesFirst : OpenNode → FirstAsked → (before after : Line LaneUsed) → OpenNode → Outcome →
     Type 0
-ServesFirst opened pulls frames before after left outcome =
+ServesFirst opened asked before after left outcome =
     (file0 file1 : Stream) (o : Opening) → IsOpenedBy o opened →
-    (served : ServesConnection o pulls frames (with_file file0 before) (with_file file1 after) outcome)
-    × (served.seen ≡ seen_by left)
+    (served : ServesConnection o asked.pulls asked.frames (with_file file0 before)
+    (with_file file1 after) outcome) × (served.seen ≡ seen_by left) × (served.node ≡ node_by opened)
 
 -- what a connection is served over where nobody has the replies
 abbrev pub unwritten : Touched → Seen → Line World
@@ -162,6 +163,7 @@ pub record Audits (form : Form) (o : Opening) (frames : ℕ) (before after : Tou
   pub text : List ℕ
   pub is_text : IsAuditOf form o seen.journals text
   pub writes : WritesAudit text outcome before.output.told after.output.told end
+  pub legal : WasMade end → AreLegalAs form o text
 
 -- So the node serves the first lane's connection, and its journals are printed, of whatever opening
 -- it is and whatever file there is.

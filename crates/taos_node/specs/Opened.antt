@@ -12,7 +12,7 @@ use Rattle.agent_core.specs.Alone.{plans_in, seen_in, own_in}
 use Rattle.taos_monitor.specs.Arriving.{node_of}
 use Rattle.taos_monitor.specs.Cells.{Node, Seen, seen_of, viewed}
 use Rattle.node_file.specs.declared.limits.TheConstants.{MAX_OBJECTS}
-use Rattle.replay_law.specs.Laws.{HasFewCommons}
+use Rattle.replay_law.specs.Laws.{HasFewCommons, HasFittingList}
 use Rattle.taos_node.specs.declared.opened.OpenNode.{OpenNode}
 
 -- the node has what the opening says, its channels and objects by ascending number
@@ -54,7 +54,8 @@ pub record IsOpenedBy (o : Opening) (node : OpenNode) : Type 0 where
   pub unseen : seen_by node ≡ nothing_seen
   pub none_taken : taken_from node.shelf ≡ None
 
--- it has few objects, and each shard was opened with few commons
+-- it has few objects, each with a list within the limits, and each shard was opened with few commons
 pub record IsSmall (node : OpenNode) : Type 0 where
   pub objects : length node.shelf.objects ≤ MAX_OBJECTS
   pub commons : All HasFewCommons (plans_in node.shards.shards)
+  pub lists : All HasFittingList (fixed_on node.shelf)

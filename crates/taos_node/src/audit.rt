@@ -1,20 +1,21 @@
 //! The command that serves a connection and prints the journals.
 
-ghost use Rattle.std.specs.Prelude.{◌≡◌, ◌<◌, ◌≤◌, ◌^◌, All, IfOk, None, String, length};
-ghost use Rattle.journal_bytes.specs.Limits.{CitesFew, HasFittingOps};
+ghost use Rattle.std.specs.Prelude.{◌≡◌, ◌<◌, ◌≤◌, ◌^◌, All, IfOk, None, OnOk, String, length};
+ghost use Rattle.journal_bytes.specs.Limits.{AsksWithin, CitesFew, HasFittingOps, NumbersRise};
+ghost use Rattle.journal_bytes.specs.Spelled.{journals_of};
 ghost use Rattle.std.specs.declared.alloc.Global.{Global};
 ghost use Rattle.frame_link.specs.Streams.{stream};
 ghost use Rattle.node_file.specs.Opening.{Opening as Meaning};
 ghost use Rattle.object_core.specs.OneOwner.{taken_from};
 ghost use Rattle.agent_core.specs.Alone.{plans_in};
 ghost use Rattle.taos_monitor.specs.Planned.{ArePlanned};
-ghost use Rattle.taos_node.specs.Audit.{EndsAuditWhole, HasAuditCauses, TextHasCause, WritesText};
-ghost use Rattle.taos_node.specs.AuditOf.{all_text, all_in};
+ghost use Rattle.taos_node.specs.Audit.{EndsAuditWhole, HasAuditCauses, TextHasCause, WasMade, WritesText};
+ghost use Rattle.taos_node.specs.AuditOf.{SpellsAs, all_text, all_in};
 ghost use Rattle.taos_node.specs.Calls.{called, first_line};
 ghost use Rattle.taos_node.specs.Command.{AuditsAsked, AuditsFirst, LeavesLanes};
 ghost use Rattle.taos_node.specs.Opened.{IsOpenedBy, IsSmall};
 
-use crate::command::{Opened, node_file_of, serve_first};
+use crate::command::{FirstAsked, Opened, node_file_of, serve_first};
 use crate::ending::{AuditEnd, Ending};
 use crate::opened::OpenNode;
 use agent_core::{MAX_SHARDS, Shard};
@@ -23,7 +24,7 @@ use audit_text::{audit_object, audit_shard};
 use cred_pull::Fetch;
 use frame_link::{Clock, Door, Failed, Outcome, RelayLink, Sink, Source, pour};
 use object_core::Object;
-use replay_law::what_a_node_left_is_writable;
+use replay_law::{what_a_node_left_is_replayed, what_a_node_left_is_writable};
 use std::alloc::{AllocError, Global};
 use std::sync::Wait;
 use taos_lanes::Lane;
@@ -76,7 +77,9 @@ fn bytes_of(alloc: Global, shards: &[Shard], objects: &[Object]) -> Result<Vec<u
     requires counts { (length shards.now < 2 ^ 32) × (length objects.now < 2 ^ 32) }
     requires cites { All CitesFew shards.now }
     requires ops { All HasFittingOps objects.now }
-    ensures { IfOk result (λ bytes. bytes.items ≡ all_in Form.Bytes shards.now objects.now) }
+    ensures bytes { IfOk result (λ bytes. bytes.items ≡ all_in Form.Bytes shards.now objects.now) }
+    ensures spelled { All AsksWithin shards.now → NumbersRise objects.now
+        → OnOk result (SpellsAs Form.Bytes (journals_of shards.now objects.now)) }
 {
     let mut bytes = Vec::new(alloc);
     write_journals(&mut bytes, shards, objects)?;
@@ -94,7 +97,9 @@ fn written_as(
     requires counted { length objects.now < 2 ^ 32 }
     requires cites { All CitesFew shards.now }
     requires ops { All HasFittingOps objects.now }
-    ensures { IfOk result (λ text. text.items ≡ all_in form shards.now objects.now) }
+    ensures text { IfOk result (λ text. text.items ≡ all_in form shards.now objects.now) }
+    ensures spelled { All AsksWithin shards.now → NumbersRise objects.now
+        → OnOk result (SpellsAs form (journals_of shards.now objects.now)) }
 {
     match form {
         Form::Text => text_of(alloc, shards, objects),
@@ -112,6 +117,8 @@ fn write_text<O: Sink>(alloc: Global, form: Form, node: OpenNode, output: &mut O
     ensures writes { WritesText (all_in form node.shards.shards node.shelf.objects)
         (O.shown output.old).told (O.shown output.new).told result }
     ensures cause { TextHasCause (O.shown output.old).faults (O.shown output.new).faults result }
+    ensures spelled { All AsksWithin node.shards.shards → NumbersRise node.shelf.objects
+        → WasMade result → SpellsAs form (journals_of node.shards.shards node.shelf.objects) }
 {
     let shards = node.shards.close();
     let objects = node.shelf.close();
@@ -153,21 +160,17 @@ fn audit<W: Wait + Sync, I: Source, O: Sink, C: Clock, R: RelayLink, D: Door, P:
     ensures untouched { LeavesLanes lanes.old lanes.new }
 {
     let (mut node, mut bench) = opened;
-    let outcome = serve_first(
-        rt,
+    let first = FirstAsked {
         alloc,
-        &mut node,
-        &mut bench,
-        input,
-        &mut Nowhere,
-        lanes,
-        false,
-        asked.frames,
-    );
+        pulls: false,
+        frames: asked.frames,
+    };
+    let outcome = serve_first(rt, &mut node, &mut bench, input, &mut Nowhere, lanes, first);
     let Outcome::End { .. } = outcome else {
         return AuditEnd::Stopped(outcome);
     };
     what_a_node_left_is_writable();
+    what_a_node_left_is_replayed();
     write_text(alloc, asked.form, node, output)
 }
 

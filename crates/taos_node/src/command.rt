@@ -43,6 +43,15 @@ use taos_monitor::Desk;
 /// A node that a file opened, with the room that its decisions take.
 pub(crate) type Opened = (OpenNode, Lemmas<Workbench>);
 
+/// How a connection is served: with this memory, of at most so many frames, and with certificates that
+/// are fetched where `pulls` is set.
+#[derive(Clone, Copy)]
+pub(crate) struct FirstAsked {
+    pub alloc: Global,
+    pub pulls: bool,
+    pub frames: u64,
+}
+
 /// The node that it opens, with the room that decisions take and that so many lemmas do.
 pub(crate) fn node_file_of<F: Source>(
     alloc: Global,
@@ -64,8 +73,7 @@ pub(crate) fn node_file_of<F: Source>(
     Ok((node, bench))
 }
 
-/// Serves the connection of the first lane, of at most so many frames, with certificates that are
-/// fetched where `pulls` is set.
+/// Serves the connection of the first lane, as is asked.
 pub(crate) fn serve_first<
     W: Wait + Sync,
     I: Source,
@@ -76,43 +84,41 @@ pub(crate) fn serve_first<
     P: Fetch,
 >(
     rt: &W,
-    alloc: Global,
     node: &mut OpenNode,
     bench: &mut Lemmas<Workbench>,
     input: &mut I,
     output: &mut O,
     lanes: &mut [Lane<C, R, D, P>],
-    pulls: bool,
-    frames: u64,
+    asked: FirstAsked,
 ) -> Outcome
     requires some { 0 < length lanes.old }
     requires planned { ArePlanned node.old.keys.channels.entries
         (plans_in node.old.shards.shards) }
     requires none_taken { taken_from node.old.shelf ≡ None }
     ensures connection { let at = first_line I.shown O.shown C.shown R.shown D.shown P.shown in
-        ServesFirst node.old pulls frames (at input.old output.old lanes.old)
+        ServesFirst node.old asked (at input.old output.old lanes.old)
         (at input.new output.new lanes.new) node.new result }
     ensures same { IsSameNode node.old node.new }
     ensures causes { let at = first_line I.shown O.shown C.shown R.shown D.shown P.shown in
         HasCauses clock_count (at input.old output.old lanes.old)
         (at input.new output.new lanes.new) result }
     ensures complete { let at = first_line I.shown O.shown C.shown R.shown D.shown P.shown in
-        IsComplete clock_count frames (at input.old output.old lanes.old)
+        IsComplete clock_count asked.frames (at input.old output.old lanes.old)
         (at input.new output.new lanes.new) result }
     ensures untouched { LeavesLanes lanes.old lanes.new }
 {
     let lane = &mut lanes[0];
-    let mut kept = OpenedCerts::new(alloc, &node.keys.relay_key);
+    let mut kept = OpenedCerts::new(asked.alloc, &node.keys.relay_key);
     let mut desk = Desk {
         keys: &node.keys,
         opened: &mut kept,
-        pulls,
+        pulls: asked.pulls,
         shards: &mut node.shards,
         shelf: &mut node.shelf,
         bench,
     };
     let mut outside = (&mut lane.clock, &mut lane.relay, &mut lane.fetch);
-    desk.serve(rt, alloc, &mut outside, input, output, frames)
+    desk.serve(rt, asked.alloc, &mut outside, input, output, asked.frames)
 }
 
 // Looks over a request and its reply by the node that a file opens.
@@ -207,9 +213,14 @@ fn run<
             lemmas,
             pulls,
         } => match node_file_of(alloc, file, lemmas) {
-            Ok((mut node, mut bench)) => Ending::Served(serve_first(
-                rt, alloc, &mut node, &mut bench, input, output, lanes, pulls, frames,
-            )),
+            Ok((mut node, mut bench)) => {
+                let asked = FirstAsked {
+                    alloc,
+                    pulls,
+                    frames,
+                };
+                Ending::Served(serve_first(rt, &mut node, &mut bench, input, output, lanes, asked))
+            }
             Err(fault) => Ending::File(fault),
         },
     }
@@ -281,8 +292,8 @@ pub fn taos<
         TellsDoors words.now (at file.old input.old output.old lanes.old)
         (at file.new input.new output.new lanes.new) result }
 
-    // Success has no note, nor what a check refused.
-    ensures silent { (result ≡ 0) ⊎ (result ≡ 11) → notes.new ≡ notes.old }
+    // Success has no note, nor what a check refused, nor what a replay found.
+    ensures silent { (result ≡ 0) ⊎ ((result ≡ 11) ⊎ (result ≡ 14)) → notes.new ≡ notes.old }
 
     // No other command touches another lane than the first, nor the door of any.
     ensures untouched { (ServesDoors words.now → ⊥) → LeavesLanes lanes.old lanes.new }

@@ -140,6 +140,19 @@ fn merged_of(alloc: Global, ends: Vec<LaneEnd>) -> Result<Vec<Doorway>, AllocErr
     Ok(doorways)
 }
 
+/// A switch that runs, and how many clients it lets be connected at a time.
+#[derive(Drop)]
+pub struct Switch {
+    running: Running,
+    clients: u32,
+}
+
+impl Switch {
+    pub fn clients(&self) -> u32 {
+        self.clients
+    }
+}
+
 // What is asked of a switch.
 #[derive(Clone, Copy)]
 struct Crowd {
@@ -155,7 +168,7 @@ fn begin_edge<W: Threads>(
     crowd: Crowd,
     teller: Teller,
     listeners: &[Option<Listener>],
-) -> io::Result<(Running, Vec<Doorway>)>
+) -> io::Result<(Switch, Vec<Doorway>)>
     requires lanes { (0 < crowd.lanes) × (crowd.lanes ≤ 16) }
     ensures each { IfOk result (λ begun. vec_len begun.1 ≡ crowd.lanes) }
 {
@@ -171,7 +184,8 @@ fn begin_edge<W: Threads>(
     };
     let witness = Witness { teller, clock: *rt };
     let (running, ends) = start(workers, *rt, rt.alloc(), edge, witness, &bound, crowd.lanes)?;
-    Ok((running, merged_of(rt.alloc(), ends)?))
+    let doorways = merged_of(rt.alloc(), ends)?;
+    Ok((Switch { running, clients }, doorways))
 }
 
 // Whether an address is bound nowhere.
@@ -194,7 +208,7 @@ pub fn doors_of<W: Threads>(
     setting: &Setting<'_>,
     tellers: &[Teller],
     listeners: &[Option<Listener>],
-) -> io::Result<(Vec<Doorway>, Option<Running>)>
+) -> io::Result<(Vec<Doorway>, Option<Switch>)>
     requires few { length setting.now.addresses.now ≤ 16 }
     ensures some { IfOk result (λ made. 0 < vec_len made.0) }
     ensures few { IfOk result (λ made. vec_len made.0 ≤ 16) }
@@ -216,13 +230,13 @@ pub fn doors_of<W: Threads>(
         idle: own.idle,
         lanes: addresses.len() as u32,
     };
-    let (running, doorways) = begin_edge(rt, workers, crowd, teller, listeners)?;
-    Ok((doorways, Some(running)))
+    let (switch, doorways) = begin_edge(rt, workers, crowd, teller, listeners)?;
+    Ok((doorways, Some(switch)))
 }
 
 /// Lets the switch end, whose lanes have ended.
-pub fn end_edge<W: Threads>(edge: Option<Running>, workers: &W, listeners: &[Option<Listener>]) {
-    let Some(running) = edge else {
+pub fn end_edge<W: Threads>(edge: Option<Switch>, workers: &W, listeners: &[Option<Listener>]) {
+    let Some(Switch { running, .. }) = edge else {
         return;
     };
     for listener in listeners.iter().flatten() {

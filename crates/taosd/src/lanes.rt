@@ -26,6 +26,11 @@ pub struct Setting<'w> {
     pub wanted: Wanted<'w>,
 }
 
+/// Whether a command serves the connections of doors, and leaves standard input alone.
+pub fn serves_doors(wanted: Wanted<'_>) -> bool {
+    matches!(wanted, Wanted::Serve { .. } | Wanted::RelayServe(_))
+}
+
 /// A lane over a system: its clock, a link to the relay, a door and a fetch from the wallet.
 pub type SystemLane<S> = Lane<SystemSeconds<S>, TcpRelay<S>, TcpDoor<S>, TcpFetch<S>>;
 

@@ -70,8 +70,8 @@ fn form_of(word: &str) -> Option<Form> {
     }
 }
 
-// An option that says what is told, and how, taken in, and whether there was one.
-fn take_telling(own: &mut Own<'_>) -> Option<bool> {
+// An option that says where and how it is told, taken in, and whether there was one.
+fn take_place(own: &mut Own<'_>) -> Option<bool> {
     match own.words {
         [option, form, rest @ ..] if option.as_str() == "--notices" && own.form.is_none() => {
             own.form = Some(form_of(form.as_str())?);
@@ -89,6 +89,14 @@ fn take_telling(own: &mut Own<'_>) -> Option<bool> {
                 own.words = rest;
                 Some(true)
             }
+        [word, ..] if word.as_str().starts_with("--") => None,
+        _ => Some(false),
+    }
+}
+
+// An option that says what is told, taken in, and whether there was one.
+fn take_telling(own: &mut Own<'_>) -> Option<bool> {
+    match own.words {
         [option, rest @ ..] if option.as_str() == "--decisions-may-drop" => {
             own.may_drop = true;
             own.words = rest;
@@ -111,8 +119,7 @@ fn take_telling(own: &mut Own<'_>) -> Option<bool> {
             own.words = rest;
             Some(true)
         }
-        [word, ..] if word.as_str().starts_with("--") => None,
-        _ => Some(false),
+        _ => take_place(own),
     }
 }
 

@@ -5,18 +5,16 @@ use crate::lanes::Setting;
 use crate::own::Own;
 use crate::usage::VERSION_NUMBER;
 use node_file::Opening;
-use node_status::{Ended, Served, Started, ended_line, started_line};
+use node_status::Served;
 use std::alloc::{AllocError, Global};
-use std::fmt::Display;
 use std::fs::File;
 use std::io;
-use std::io::{ErrorKind, Write};
+use std::io::ErrorKind;
 use std::sync::Arc;
 use std::thread::Threads;
-use std::time::SystemTime;
 use system_link::{
     Counted, Counting, FileReading, Form, Journals, Listener, NoticeQueue, Origin, Rounds, Scribe,
-    StatusDoor, Stop, Tally, Teller, Tells, bind_all, notices_of, seconds_of, teller_of,
+    StatusDoor, Stop, Tally, Teller, Tells, bind_all, notices_of, teller_of,
 };
 use taos_node::{Wanted, file_opening};
 
@@ -27,11 +25,24 @@ pub struct Told {
     pub tellers: Vec<Teller>,
     pub scribe: Option<Scribe>,
     pub status: Option<StatusDoor>,
+    /// Where it answers.
+    pub page: Option<String>,
     /// What tells of rulings that could not be recorded, where they are to be.
     pub losses: Option<Losses>,
 }
 
 impl Told {
+    // Nothing is wanted.
+    fn nothing(alloc: Global) -> Told {
+        Told {
+            tellers: Vec::new(alloc),
+            scribe: None,
+            status: None,
+            page: None,
+            losses: None,
+        }
+    }
+
     /// Whether the program was stopped since a ruling could not be recorded.
     pub fn has_stopped(&self) -> bool {
         match &self.losses {
@@ -99,19 +110,21 @@ fn place_of(alloc: Global, address: &str) -> Result<String, AllocError> {
     }
 }
 
-// Who answers at this address what is counted.
+// Who answers at this address what is counted, and the address as it was bound.
 fn door_of<W: Threads>(
     rt: &HostRuntime,
     workers: &W,
     address: &str,
     counted: Counted,
-) -> io::Result<StatusDoor> {
+) -> io::Result<(StatusDoor, String)> {
     let place = place_of(rt.alloc(), address)?;
     let listeners = bind_all(rt, rt.alloc(), &[place.as_str()], &mut rt.stderr())?;
     match listeners.first() {
         Some(Some(listener)) => {
+            let bound = listener.local_addr()?.to_string(rt.alloc())?;
             let listener = Arc::try_clone(listener)?;
-            StatusDoor::start(workers, *rt, rt.alloc(), listener, counted)
+            let door = StatusDoor::start(workers, *rt, rt.alloc(), listener, counted)?;
+            Ok((door, bound))
         }
         _ => Err(io::Error::from(ErrorKind::AddrNotAvailable)),
     }
@@ -128,8 +141,8 @@ pub fn served_by(opening: &Opening) -> Served {
     }
 }
 
-// The node that is served, by a file that can be read twice.
-fn served_of(rt: &HostRuntime, setting: &Setting<'_>) -> Option<Served> {
+/// The node that is served, by a file that can be read twice.
+pub fn served_of(rt: &HostRuntime, setting: &Setting<'_>) -> Option<Served> {
     if !matches!(setting.wanted, Wanted::Serve { .. } | Wanted::Run { .. }) {
         return None;
     }
@@ -144,54 +157,62 @@ fn served_of(rt: &HostRuntime, setting: &Setting<'_>) -> Option<Served> {
     }
 }
 
-// The seconds since 1970, where the clock tells them.
-fn now_of(rt: &HostRuntime) -> Option<u64> {
-    let now = SystemTime::now(rt).ok()?;
-    Some(seconds_of(now))
-}
-
-// Writes a line on standard error, as JSON where that is wanted. One that can't be written is missing.
-fn write_line<T: Display>(
+// The logs of so many lanes, where rulings are recorded.
+fn logs_of(
     rt: &HostRuntime,
-    form: Option<Form>,
-    told: &T,
-    object: Result<Vec<u8>, AllocError>,
-) {
-    match (form, object) {
-        (Some(Form::Json), Ok(line)) => {
-            let _ = rt.stderr().write_all(&line);
-        }
-        (Some(Form::Json), Err(_)) => {}
-        _ => {
-            let _ = writeln!(rt.stderr(), "{told}");
-        }
+    own: &Own<'_>,
+    lanes: usize,
+    stop: &Arc<Stop, Global>,
+    listeners: &[Option<Listener>],
+) -> io::Result<Option<Logs>> {
+    match own.decisions {
+        Some(path) => Ok(Some(Logs::of(rt, path, lanes, own.may_drop, stop, listeners)?)),
+        None => Ok(None),
     }
 }
 
-/// Tells that these lanes begin to serve, where that is wanted.
-pub fn tell_start(rt: &HostRuntime, own: &Own<'_>, setting: &Setting<'_>) {
-    if !own.tells_start {
-        return;
-    }
-    let started = Started {
-        seconds: now_of(rt),
-        served: served_of(rt, setting),
-        lanes: setting.addresses.len().max(1) as u64,
-        clients: own.clients,
+// Looks after the file of logs from now on. What tells what could not be written there.
+fn losses_of<W: Threads>(
+    rt: &HostRuntime,
+    workers: &W,
+    logs: Option<Logs>,
+) -> io::Result<Option<Losses>> {
+    let Some(logs) = logs else {
+        return Ok(None);
     };
-    write_line(rt, own.form, &started, started_line(rt.alloc(), &started));
+    let losses = logs.losses(rt.alloc())?;
+    logs.watch(rt, workers)?;
+    Ok(Some(losses))
 }
 
-/// Tells how it has served, where that is wanted.
-pub fn tell_end(rt: &HostRuntime, own: &Own<'_>, status: u8) {
-    if !own.tells_start {
-        return;
+// Who answers what is counted, and where, where that is wanted.
+fn answering_of<W: Threads>(
+    rt: &HostRuntime,
+    workers: &W,
+    own: &Own<'_>,
+    counted: Counted,
+) -> io::Result<(Option<StatusDoor>, Option<String>)> {
+    match own.status {
+        Some(address) => {
+            let (door, page) = door_of(rt, workers, address, counted)?;
+            Ok((Some(door), Some(page)))
+        }
+        None => Ok((None, None)),
     }
-    let ended = Ended {
-        seconds: now_of(rt),
-        status,
-    };
-    write_line(rt, own.form, &ended, ended_line(rt.alloc(), &ended));
+}
+
+// Who writes the notices, where some are wanted.
+fn scribe_of<W: Threads>(
+    rt: &HostRuntime,
+    workers: &W,
+    own: &Own<'_>,
+    queues: Vec<NoticeQueue>,
+) -> io::Result<Option<Scribe>> {
+    let form = own.form.unwrap_or(Form::Text);
+    match own.tells {
+        Tells::Nothing => Ok(None),
+        _ => Ok(Some(Scribe::start(workers, rt.alloc(), form, *rt, rt.stderr(), queues)?)),
+    }
 }
 
 /// Begins to tell what the options want of the lanes.
@@ -204,50 +225,39 @@ pub fn told_of<W: Threads>(
     listeners: &[Option<Listener>],
 ) -> io::Result<Told> {
     let alloc = rt.alloc();
-    let lanes = setting.addresses.len().max(1);
     if !own.watches() {
-        return Ok(Told {
-            tellers: Vec::new(alloc),
-            scribe: None,
-            status: None,
-            losses: None,
-        });
+        return Ok(Told::nothing(alloc));
     }
-    let logs = match own.decisions {
-        Some(path) => Some(Logs::of(rt, path, lanes, own.may_drop, stop, listeners)?),
-        None => None,
-    };
+    let lanes = setting.addresses.len().max(1);
+    let logs = logs_of(rt, own, lanes, stop, listeners)?;
     let Ends {
         tellers,
         queues,
         counted,
     } = ends_of(alloc, own, lanes, &logs)?;
-    let losses = match logs {
-        Some(logs) => {
-            let losses = logs.losses(alloc)?;
-            logs.watch(rt, workers)?;
-            Some(losses)
-        }
-        None => None,
-    };
+    let losses = losses_of(rt, workers, logs)?;
     if let Some(served) = served_of(rt, setting) {
         counted.journals.have_room(served.journal);
     }
-    let status = match own.status {
-        Some(address) => Some(door_of(rt, workers, address, counted)?),
-        None => None,
-    };
-    let form = own.form.unwrap_or(Form::Text);
-    let scribe = match own.tells {
-        Tells::Nothing => None,
-        _ => Some(Scribe::start(workers, alloc, form, *rt, rt.stderr(), queues)?),
-    };
+    let (status, page) = answering_of(rt, workers, own, counted)?;
     Ok(Told {
         tellers,
-        scribe,
+        scribe: scribe_of(rt, workers, own, queues)?,
         status,
+        page,
         losses,
     })
+}
+
+/// Lets who tells end.
+pub fn end_telling<W: Threads>(told: Told, workers: &W, rt: &HostRuntime) {
+    let Told { scribe, status, .. } = told;
+    if let Some(status) = status {
+        status.end(workers);
+    }
+    if let Some(scribe) = scribe {
+        scribe.end(workers, rt);
+    }
 }
 
 /// What the standard output leaves notices by: as the first lane, where the command writes frames to it.

@@ -23,15 +23,16 @@ OPTION is one of
                     without, each lane serves one connection after the other
   --tell-addresses  tells on standard error at which addresses it listens
   --stop-at-end     the end of standard input stops what serves LISTEN
-  --tell-start      tells on standard error that it begins to serve, and what,
-                    and that it has served
+  --tell-start      tells on standard error that it begins to serve, what, where
+                    and for how many, and that it has served
   --tell-refusals   tells on standard error each refusal, each connection that
                     breaks and each failure of the relay, the wallet or the
                     clock
   --tell-denials    tells these and each denial
   --notices FORM    what is told is written as text, or as json (text without)
-  --decisions FILE  appends a line of JSON for each ruling to FILE before its
-                    reply leaves; where that fails, nothing more is served
+  --decisions FILE  appends a line of JSON for each ruling to FILE, which says
+                    whether a grant was done, before its reply leaves; where
+                    that fails, nothing more is served
   --decisions-may-drop
                     where that fails, it is told, and served on
   --status ADDRESS  answers HTTP at HOST:PORT, or at a PORT of this machine:

@@ -1,30 +1,32 @@
-//! A wallet that listens.
+//! A wallet that listens, by the words `--wallet FILE LISTEN`.
 
 ghost use Rattle.cred_pull.specs.WalletFile.{AreShort};
 ghost use Rattle.cred_pull.specs.WalletView.{rows_of};
 
+use crate::ending::{ended, not_begun};
+use crate::files::file_of;
 use cred_pull::{Wallet, serve_wallet};
-use frame_link::Door;
+use frame_link::{Door, Sink};
 use std::alloc::Global;
 use std::sync::Arc;
 use std::thread::Threads;
 use std::time::Duration;
 use std::{io, thread};
-use system_link::{IDLE, Rounds, Stop, TcpDoor, Terms, bind_all, doorways_of, tell_addresses};
+use system_link::{
+    IDLE, Rounds, Stop, TcpDoor, Terms, addresses_of, bind_all, doorways_of, tell_addresses,
+};
+use taos_node::{Ending, LanesEnd, file_wallet};
 
-/// A door of connections over the system.
-pub type WalletDoor<'a> = TcpDoor<&'a HostRuntime>;
+// A door of connections over the system.
+type WalletDoor<'a> = TcpDoor<&'a HostRuntime>;
 
-/// A door for each address. Each that is bound is told, and each that can't be.
-pub fn wallet_doors<'a>(
-    rt: &'a HostRuntime,
-    addresses: &[&str],
-) -> io::Result<Vec<WalletDoor<'a>>> {
+// A door for each address. Each that is bound is told, and each that can't be. Each has rounds of its own:
+// by them a peer that asks on is no silent one, and they say nothing of the peers of other doors.
+fn wallet_doors<'a>(rt: &'a HostRuntime, addresses: &[&str]) -> io::Result<Vec<WalletDoor<'a>>> {
     let alloc = rt.alloc();
     let listeners = bind_all(rt, alloc, addresses, &mut rt.stderr())?;
     tell_addresses(&mut rt.stderr(), &listeners);
     let stop = Arc::new(alloc, Stop::new())?;
-    let rounds = Arc::new(alloc, Rounds::new())?;
     let mut doors = Vec::new(alloc);
     for doorway in doorways_of(alloc, addresses, &listeners)? {
         let terms = Terms {
@@ -32,7 +34,7 @@ pub fn wallet_doors<'a>(
             stop: Arc::try_clone(&stop)?,
             idle: Duration::from_secs(IDLE),
             teller: None,
-            rounds: Arc::try_clone(&rounds)?,
+            rounds: Arc::new(alloc, Rounds::new())?,
         };
         doors.push(TcpDoor::new(doorway, alloc, terms))?;
     }
@@ -62,8 +64,8 @@ fn give_at<D: Door>(giver: &Giver<'_>, door: &mut D)
     }
 }
 
-/// Serves the connections of all doors by a wallet, a worker a door.
-pub fn give_at_all<W: Threads + Sync, D: Door + Send>(
+// Serves the connections of all doors by a wallet, a worker a door.
+fn give_at_all<W: Threads + Sync, D: Door + Send>(
     workers: &W,
     alloc: Global,
     wallet: &Wallet,
@@ -86,12 +88,39 @@ pub fn give_at_all<W: Threads + Sync, D: Door + Send>(
     );
 }
 
-/// The first door that has failed, counted from 0; the first one where none has.
-pub fn failed_door(doors: &[WalletDoor<'_>]) -> u64 {
+// The first door that has failed, counted from 0; the first one where none has.
+fn failed_door(doors: &[WalletDoor<'_>]) -> u64 {
     for place in 0..doors.len() {
         if doors[place].faults() > 0 {
             return place as u64;
         }
     }
     0
+}
+
+/// Gives what a wallet file has at these addresses, until each listener has failed.
+pub fn serve_wallet_at<W: Threads + Sync, N: Sink>(
+    rt: &HostRuntime,
+    workers: &W,
+    path: &str,
+    listening: &str,
+    notes: &mut N,
+) -> u8 {
+    let Some(addresses) = addresses_of(listening) else {
+        return ended(notes, Ending::Usage);
+    };
+    if addresses.is_empty() {
+        return ended(notes, Ending::Usage);
+    }
+    let wallet = match file_wallet(rt.alloc(), &mut file_of(rt, path)) {
+        Ok(wallet) => wallet,
+        Err(fault) => return ended(notes, Ending::File(fault)),
+    };
+    let mut doors = match wallet_doors(rt, addresses.as_slice()) {
+        Ok(doors) => doors,
+        Err(reason) => return not_begun(rt, notes, &reason),
+    };
+    give_at_all(workers, rt.alloc(), &wallet, doors.as_mut_slice());
+    let lane = failed_door(&doors);
+    ended(notes, Ending::Lanes(LanesEnd::DoorFault { lane }))
 }

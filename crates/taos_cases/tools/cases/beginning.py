@@ -1,9 +1,11 @@
 """Certificates that begin later: before their moment they are held, and named where only they keep a request from its grant."""
 from conversation import Case, Grant, talk
-from formats import DISCARD, HOLD, SWEEP, Fields, anchor_proof, body, channel_full, digest, early, expired, frame, granted, key, key_of, refused
-from formats import replayed, request, u64
+from formats import DISCARD, FORGET, HOLD, SWEEP, Fields, anchor_proof, body, channel_full, digest, early, expired, frame, granted, key, key_of, refused
+from formats import replayed, request, u8, u16, u32, u64
+from .files import counted, refused_at
 from .minting import FILE, minted, words_of
 from .nodes import ALICE, BOB, ask, handed, handing, issued, no_alice, node, relayed
+from .texts import HEAD, behind, served
 
 LAST = 2**64 - 1
 
@@ -115,6 +117,17 @@ def held():
         talk("a sweep when it begins", "It moves the clock of the shard.", node(),
              [(ask(2, 1, LATER), early(2, 1, CF)), (managed(1, SWEEP), did(1, place=1)), (ask(2, 2), Grant(2, 2, 1, place=4))],
              clock=[1000, 1500, 1000]),
+        talk("forgotten before it begins", about, node(),
+             [(ask(2, 1, LATER), early(2, 1, CF)), (managed(1, FORGET, [u32(2)]), did(1, place=1)), (ask(2, 2), no_alice(2, 2, place=4))],
+                    clock=[1499, 1499, 1500]),
+        talk("common, and presented besides", "It is held once, and named once.", node(commons=[LATER]),
+             [(ask(2, 1, LATER), early(2, 1, CF)), (ask(2, 2), Grant(2, 2, 1, place=1))], clock=[1499, 1500]),
+        talk("presented, and then common", "The channel's own comes first.", node(),
+             [(ask(2, 1, LATER), early(2, 1, CF)), (managed(1, HOLD, certificates=[LATER]), did(1, place=1)), (ask(2, 2), early(2, 2, CF, place=4)),
+              (managed(2, DISCARD, [digest(CF)]), granted(1, 2, anchor_proof(1, 10, 0), place=5, kept=1, content=b"")),
+                   (ask(2, 3), no_alice(2, 3, place=7))], clock=[1499]),
+        talk("a Hold when it begins", "Its reading is that of the Ask.", node(),
+             [(managed(1, HOLD, certificates=[LATER]), did(1)), (ask(2, 1), Grant(2, 1, 1, place=3))], clock=[1500, 1499]),
         talk("32 of them fill a channel", about, node(), [*fill, (ask(2, 3, relayed(many[32])), channel_full(2, 3, 32))], clock=[1000]),
     ]
 
@@ -143,14 +156,35 @@ def malformed_bodies():
     return cases
 
 
+def opened():
+    """Certificates in common that begin later, and bodies that are none."""
+    bad = [("a beginning of 0", zero()), ("version 0", zero(version=0, begins=1500)), ("version 3", zero(version=3, begins=1500)),
+           ("no end", zero(begins=1500).front(32)), ("half of a beginning", zero(begins=1500).front(20))]
+    about = "It does not open."
+    cases = [refused_at(f"in an opening: {title}", about, 64, counted(u8(1), u16(len(relayed(text))), relayed(text))) for title, text in bad]
+    cases += [behind(f"in a node file: {title}", about, f"common {bytes(relayed(text)).hex()}", "certificate") for title, text in bad]
+    return cases + [
+        talk("in an opening", "It is common from the first moment on.", node(commons=[LATER]),
+             [(ask(2, 1), early(2, 1, CF)), (ask(2, 2), Grant(2, 2, 1, place=1))],
+             clock=[1499, 1500]),
+        served("in a node file", "A line of `common` may have it.", [*HEAD, f"common {bytes(LATER).hex()}"]),
+        behind("in a node file, twice", "No body twice.", f"common {bytes(LATER).hex()}", "twice", [f"common {bytes(LATER).hex()}"]),
+        served("in a node file, and one that has begun", "They are two bodies.", [*HEAD, f"common {bytes(LATER).hex()}", f"common {bytes(handed()).hex()}"]),
+    ]
+
+
 def mints():
     told = words_of() + ["--from", "1970-01-01T00:25:00Z"]
     refusal = "taos: mint refused: time"
-    wrong = [("a beginning that is no instant", words_of() + ["--from", "x"]), ("neither is one", words_of(until="y") + ["--from", "x"])]
+    wrong = [("a beginning with a fraction of a second", words_of() + ["--from", "1970-01-01T00:25:00.5Z"]),
+             ("a beginning before 1970", words_of() + ["--from", "1969-12-31T23:59:59Z"]), ("a beginning that is a number", words_of() + ["--from", "1500"]),
+             ("a beginning that is no instant", words_of() + ["--from", "x"]), ("neither is one", words_of(until="y") + ["--from", "x"])]
     cases = [minted("with a beginning", "Key 1 says so from 1500 on.", told, issued(1, CF)),
              minted("a beginning of 0", "As without.", words_of() + ["--from=1970-01-01T00:00:00Z"], issued(1, handing())),
              minted("a beginning after the end", "It is made all the same.", words_of() + ["--from", "1970-01-01T01:00:00Z"],
                     issued(1, word(begins=3600)))]
+    cases += [minted("a beginning in another zone", "An instant.", words_of() + ["--from", "1970-01-01T01:25:00+01:00"], issued(1, CF)),
+              minted("a beginning at the end", "It is made all the same.", words_of() + ["--from", "1970-01-01T00:33:20Z"], issued(1, word(begins=2000)))]
     cases += [Case(title, "Both times have one word.", 12, words, file=FILE, note=refusal) for title, words in wrong]
     cases += [Case(title, "An option is given once, with a value.", 1, words, file=FILE, note="taos: usage")
               for title, words in (("two beginnings", told + ["--from", "1970-01-01T00:25:00Z"]), ("a beginning without a value", words_of() + ["--from"]))]
@@ -158,7 +192,7 @@ def mints():
 
 
 def beginnings():
-    return moments() + named() + kept() + held() + malformed_bodies() + mints()
+    return moments() + named() + kept() + held() + malformed_bodies() + opened() + mints()
 
 
 THEMES = [("beginnings", "Certificates that begin later.", beginnings)]

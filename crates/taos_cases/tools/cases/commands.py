@@ -1,6 +1,6 @@
 """The other commands: a relay that serves lanes, an audit of a connection, and a drill."""
-from conversation import Case
-from formats import LAST, Fields, u16
+from conversation import Case, Times
+from formats import LAST, Fields, journals, relay_refusal, turned, u16, u32
 from .files import usage
 from .nodes import ask, node
 from .relaying import ANSWERS, FILE, MARK
@@ -45,6 +45,8 @@ def relay_lanes():
              output_room=5, faults=1, note="taos: write fault"),
         Case("a relay file that fails", "The lanes are not asked.", 3, ["relay-serve"], file=FILE, file_fails=[0], faults=1,
              note="taos: read fault"),
+        Case("an empty file for a relay's lanes", "It is no relay file.", 2, ["relay-serve"], note="taos: node file: line 1: first line"),
+        Case("a relay's line that is not written", "Writing it fails.", 4, ["relay-serve"], file=FILE, output_fails=[0], faults=1, note="taos: write fault"),
         Case("a node file for a relay's lanes", "It is no relay file.", 2, ["relay-serve"], file=node(),
              note="taos: node file: line 1: first line"),
     ]
@@ -62,6 +64,12 @@ def relayed():
               words=["--frames", "1"]),
         doors("connections to a relay that end inside a frame", "Each breaks, and the lane goes on.", ASKED + [u16(0)],
               ANSWERED + ANSWERED + [line(2, 2)], 2, 2),
+        doors("connections to a relay with a frame that is too long", "Each breaks, and the lane goes on.", ASKED + [u32(65_537), b"\0"],
+              ANSWERED + ANSWERED + [line(2, 2)], 2, 2),
+        doors("a connection to a relay whose second frame fails", "What came before it is answered.", ASKED, [ANSWERED[0], line(1, 1)], input_fails=[2],
+              byte_fails=[len(ASKED[0])], faults=1),
+        doors("connections to a relay with the longest frame", "Each is answered.", [u32(65_536), Times(b"\0", 65_536)],
+               [relay_refusal(1)] * 2 + [line(2, 0)], 2, 2),
         doors("a connection to a relay whose first read fails", "Nothing is asked, and it breaks.", ASKED, [line(1, 1)], input_fails=[0],
               byte_fails=[0], faults=1),
         doors("connections to a relay whose first reads fail", "Each breaks, and the lane goes on.", ASKED, [line(2, 2)], 2, 2,
@@ -129,10 +137,40 @@ def audits():
               note="taos: clock fault"),
         audit("an audit whose input fails", "No text is written.", [ask(1, 1)], [], 3, input_fails=[0], byte_fails=[0], faults=1,
               left=[ask(1, 1)], note="taos: read fault"),
+        *both_audits(),
         usage("no frames of an audit", ["audit", "--frames", "0"], "At least one frame.", file=node()),
         usage("connections of an audit", ["audit", "--connections", "1"], "It serves one connection.", file=node()),
         usage("a word behind an audit", ["audit", "1"], "A command has options alone.", file=node()),
     ]
+
+
+def both_audits():
+    """How either audit ends where it has no journals to write, and where it can't write them."""
+    cases, asked = [], [ask(1, 1)]
+    for words in (("audit",), ("audit-bytes",)):
+        by = f", by {words[0]}"
+        long = [*asked, Fields(b"\0\1\0\1"), b"\0"]
+        unread = dict(input=asked, left=asked)
+        cases += [
+            audit(f"a frame that is too long{by}", "Nothing is written.", long, [], 8, words, left=[b"\0"], note="taos: frame too long: 65537"),
+            audit(f"an input that is cut{by}", "Nothing is written.", [*asked, bytes(3)], [], 7, words, note="taos: input ends inside a frame, 3 bytes kept"),
+            audit(f"an input that fails{by}", "Nothing is written.", asked, [], 3, words, input_fails=[1], byte_fails=[4], faults=1, note="taos: read fault"),
+            audit(f"an input that fails at its end{by}", "It is not known to have ended.", asked, [], 3, words, input_fails=[2], byte_fails=[56], faults=1,
+                  note="taos: read fault"),
+            audit(f"a clock that fails{by}", "Nothing is written.", asked, [], 5, words, clock_fails=[0], faults=1, note="taos: clock fault"),
+            audit(f"a write that fails{by}", "Nothing is written.", asked, [], 4, words, output_fails=[0], faults=1, note="taos: write fault"),
+            audit(f"two frames of two{by}", "A frame that is no request leaves no entry.", [Fields(bytes(4)), turned(ask(1, 1))], NOTHING[words[0]],
+                  0, [*words, "--frames", "2"]),
+            Case(f"a file that fails{by}", "Nothing of the input is taken.", 3, words, file=node(), file_fails=[0], faults=1, note="taos: read fault",
+                   **unread),
+            Case(f"a file that is cut{by}", "Nothing of the input is taken.", 2, words, file=[b"\0\1"], note="taos: node file: byte 2: malformed", **unread),
+            Case(f"a relay file{by}", "Nothing of the input is taken.", 2, words, file=[MARK], note="taos: node file: line 1: first line", **unread),
+        ]
+    return cases
+
+
+# What has no entry.
+NOTHING = {"audit": [], "audit-bytes": [journals([[]], [(5, [])])]}
 
 
 # ---- drills

@@ -1,6 +1,6 @@
 """The command that serves lanes, two of them: its words, its line, its connections, its faults."""
-from conversation import Case
-from formats import Fields, replayed, u16
+from conversation import Case, Times
+from formats import Fields, malformed, replayed, u16, u32
 from .files import usage
 from .nodes import ask, by_anchor, no_alice, node
 
@@ -48,6 +48,9 @@ def lanes():
              output_room=5, faults=1, note="taos: write fault"),
         Case("a file that fails", "The lanes are not asked.", 3, ["serve"], file=node(), file_fails=[0], faults=1,
              note="taos: read fault"),
+        Case("a file for lanes that is cut", "It is no opening.", 2, ["serve"], file=[b"\0\1"], note="taos: node file: byte 2: malformed"),
+        Case("a relay file for lanes", "It is no node file.", 2, ["serve"], file=[b"taos-relay 1\n"], note="taos: node file: line 1: first line"),
+        Case("a line that is not written", "Writing it fails.", 4, ["serve"], file=node(), output_fails=[0], faults=1, note="taos: write fault"),
         Case("no file for lanes", "No bytes are no opening.", 2, ["serve"], note="taos: node file: line 1: first line"),
     ]
     return cases + served() + broken() + failing()
@@ -92,6 +95,12 @@ def broken():
               words=["--frames", "1"]),
         doors("connections that end inside a frame", cut, [ask(1, 1), u16(0)],
               [by_anchor(1), replayed(1, 1, 1), line(2, 2, 3, 1, 0)], 2, 2),
+        doors("connections with a frame that is too long", cut, [ask(1, 1), u32(65_537), b"\0"], [by_anchor(1), replayed(1, 1, 1), line(2, 2, 3, 1, 0)], 2, 2),
+        doors("connections with the longest frame", "It is no request, and answered.", [u32(65_536), Times(b"\0", 65_536)],
+               [malformed(0)] * 2 + [line(2, 0, 0, 0, 0)], 2, 2),
+        doors("a clock that fails twice", cut, [ask(1, 1)], [line(2, 2, 0, 0, 0)], 2, 2, clock_fails=[0, 1], faults=2),
+        doors("a connection whose end fails", "What came before it is answered.", ASKED, ANSWERED + [line(1, 1, 3, 2, 0)], input_fails=[4],
+               byte_fails=[112], faults=1),
         doors("a clock that fails once", cut, [ask(1, 1)], [by_anchor(1), line(2, 1, 2, 1, 0)], 2, 2, clock_fails=[0], faults=1),
         doors("a connection whose first read fails", "Nothing is asked, and it breaks.", ASKED, [line(1, 1, 0, 0, 0)], input_fails=[0],
               byte_fails=[0], faults=1),

@@ -61,7 +61,49 @@ def makes():
     ]
     cases += [minted(f"until {text}", "An instant in whole seconds.", words_of(until=text), issued(1, handing(until=until)))
               for text, until in UNTILS]
-    return cases + refusals() + ends() + usages()
+    return cases + sizes() + refusals() + ends() + usages()
+
+
+def row(levels):
+    """The text and the term of key 1 in so many levels, each of which quotes it."""
+    text, term = "key:1", key(1)
+    for _ in range(levels - 1):
+        text, term = f"({text})|key:1", quoting(term, key(1))
+    return text, term
+
+
+def tree(levels):
+    """The same with two of the level before."""
+    text, term = "key:1", key(1)
+    for _ in range(levels - 1):
+        text, term = f"({text})|({text})", quoting(term, term)
+    return text, term
+
+
+def sizes():
+    """Principals at their limits: 16 levels, 64 nodes, 16 parts with the speaker."""
+    deep, wide = row(16), tree(6)
+    own = dict(right="key:1")
+    return [
+        minted("16 levels, of 16 parts", "Key 1 is one of them.", words_of(left=deep[0], **own), issued(1, body(1, deep[1], key(1), 2000, 1))),
+        minted("63 nodes, of 6 parts", "Key 1 is one of them.", words_of(left=wide[0], **own), issued(1, body(1, wide[1], key(1), 2000, 1))),
+        minted("parentheses more than needed", "They say nothing.", words_of(left=f"{'(' * 20}key:2{')' * 20}"), issued(1, handing())),
+        minted("the text of a number", "A name need not have a text.", words_of(right="name:10"), issued(1, handing())),
+        minted("the largest numbers of principals", "Of 32 bits.", words_of(left="key:4294967295", right="name:4294967295"),
+               issued(1, body(1, key(2**32 - 1), name(2**32 - 1), 2000, 1))),
+        refused("17 levels", "left", words_of(left=row(17)[0], **own)),
+        refused("65 nodes", "left", words_of(left=f"({wide[0]})|key:1", **own)),
+        refused("16 levels, of 17 parts", "large", words_of(left=deep[0])),
+        refused("16 levels, of 17 parts, and a right side that is wrong", "right", words_of(left=deep[0], right="x")),
+        refused("a key of 2^32", "left", words_of(left="key:4294967296")),
+        refused("a name with a sign", "right", words_of(right="name:+10")),
+        refused("an operand that lacks", "left", words_of(left="key:2|")),
+        refused("a parenthesis that lacks", "left", words_of(left="(key:2")),
+        refused("a parenthesis too many", "left", words_of(left="key:2)")),
+        refused("a word of principals", "right", words_of(right="and")),
+        refused("a text of upper case", "right", words_of(right="Alice")),
+        refused("who is quoted has 17 levels", "quoted", words_of(quoted=row(17)[0])),
+    ]
 
 
 def issued_by(secret, text):

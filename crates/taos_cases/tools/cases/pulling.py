@@ -1,11 +1,11 @@
 """Certificates that a node fetches for a request, and the wallet that gives them."""
-from conversation import Case, Grant, Times, talk
-from formats import Fields, anchor_proof, asking, bad_seal, fetching, frame, giving, granted, key_of, malformed
-from formats import pull_failed, refused, relay_failed, relay_refusal, replayed, resealed, turned, u8, u16, u32
+from conversation import Case, Grant, Named, Times, talk
+from formats import Fields, anchor_proof, asking, bad_seal, body, channel_full, early as begins, expired, fetching, frame, giving, granted, key, key_of
+from formats import malformed, object_full, pull_failed, refused, relay_failed, relay_refusal, replayed, resealed, turned, u8, u16, u32
 from formats import unknown_channel, unknown_object, wants_memory
 from .files import usage
 from .lanes import line as lanes_line
-from .nodes import ask, by_anchor, handed, handing, issued, no_alice, node, relayed
+from .nodes import ALICE, ask, by_anchor, handed, handing, issued, no_alice, node, relayed
 from .objects import hold
 
 C1 = handing()
@@ -13,6 +13,7 @@ OWN, NEW = issued(1, C1), relayed(C1)
 PULLS = ("run", "--pull")
 # Sixteen that nobody needs, each of another body.
 OTHERS = [handed(9, serial=serial) for serial in range(1, 17)]
+OTHERS_17 = [handed(9, serial=serial) for serial in range(17, 33)]
 FAILED, GRANTED, DENIED = pull_failed(2, 1), Grant(2, 1, 1), no_alice(2, 1)
 RELAYS = dict(relay_node=(7, key_of(7)), relay_issuer=[(1, key_of(1))])
 HEARD = [fetching(2, 1)]
@@ -159,6 +160,75 @@ def by_lanes():
     ]
 
 
+def more():
+    """What is fetched, of other channels and for other operations; and answers at their limits."""
+    whom, long = handed(4), Fields(b"\1" * 2048)
+    ended, early = handed(until=500), relayed(body(1, key(2), ALICE, 2000, 1, begins=1500))
+    hears = dict(hears=[asking(7, long)], relay_says=[relay_refusal(1)])
+    table = [
+        ("one of another channel is fetched", "Nobody says that key 2 speaks for alice.", [], [whom], DENIED, {}),
+        ("one of another channel is fetched, and one of its own", "The second is cited.", [], [whom, NEW], GRANTED, {}),
+        ("one that ended is fetched", "It is taken, and named.", [], [ended], expired(2, 1, handing(until=500)), {}),
+        ("one that begins later is fetched", "It is taken, and named.", [], [early], begins(2, 1, Fields(*early.parts[1:-1])), {}),
+        ("one is fetched twice", "It is held once.", [], [NEW, NEW], GRANTED, {}),
+        ("one is fetched in both kinds", "It is held once.", [], [OWN, NEW], GRANTED, RELAYS),
+        ("one of 2,048 bytes is skipped", "The relay is asked, and refuses it.", [], [long, NEW], GRANTED, hears),
+        ("one under another node's key is skipped", "It opens to nothing.", [], [relayed(C1, key_of(8))], DENIED, {}),
+        ("one of another issuer is skipped", "The relay does not know issuer 3.", [], [issued(3, handing(issuer=3)), NEW], GRANTED, RELAYS),
+        ("one for another node is skipped", "The relay does not know node 7.", [], [OWN, NEW], GRANTED, dict(RELAYS, relay_node=(8, key_of(8)))),
+        ("what the relay gives is for another node", "The certificate is skipped.", [], [OWN, NEW], GRANTED, dict(RELAYS, relay_node=(7, key_of(8)))),
+        ("one of a carried kind is skipped", "It opens to nothing.", [], [Fields(b"\3\1", u32(70), C1, bytes(32)), NEW], GRANTED, {}),
+        ("16 that are skipped", "Nothing is added.", [], [turned(NEW)] * 16, DENIED, {}),
+        ("beside 15 one under its issuer's seal", "It is the 16th.", OTHERS[:15], [OWN], GRANTED, RELAYS),
+        ("the link fails at the 16th", "It is counted from 0.", [], [*OTHERS[:15], OWN], relay_failed(2, 1, 15), dict(faults=1)),
+        ("the link fails behind 15 that are presented", "It is counted behind them.", OTHERS[:15], [OWN], relay_failed(2, 1, 15), dict(faults=1)),
+        ("the link would fail behind 16 that are presented", "It is not asked.", OTHERS, [OWN], DENIED, {}),
+        ("the link would fail at one of 2,049 bytes", "It is not asked.", [], [Fields(b"\1" * 2049)], DENIED, {}),
+    ]
+    cases = [pulled(title, about, shown, fetched, reply, **lines) for title, about, shown, fetched, reply, lines in table]
+    return cases + more_runs() + longest()
+
+
+def more_runs():
+    fill, filled = [OTHERS, OTHERS_17], [(ask(2, 1), no_alice(2, 1)), (ask(2, 2), no_alice(2, 2, 1))]
+    return [
+        talk("what is fetched fills the channel", "33 are too many; the third request's are not held.", node(),
+             [*filled, (ask(2, 3), channel_full(2, 3, 32)), (ask(2, 4), no_alice(2, 4, 3))],
+             words=PULLS, clock=[1000], fetched=[*[giving(*each) for each in fill], giving(NEW), giving()],
+                    wallet_hears=[fetching(2, each) for each in (1, 2, 3, 4)]),
+        talk("what is fetched for a number that was there is not held", "The third request is given none.", node(),
+             [(ask(2, 1), DENIED), (ask(2, 1), replayed(2, 1, 1)), (ask(2, 2), no_alice(2, 2, 2))], words=PULLS, clock=[1000],
+             fetched=[giving(), giving(NEW), giving()], wallet_hears=[fetching(2, 1), fetching(2, 1), fetching(2, 2)]),
+        talk("what is fetched for no object is not held", "The second request is given none.", node(),
+             [(ask(2, 1, target=6), unknown_object(2, 1, 6)), (ask(2, 1), DENIED)],
+             words=PULLS, clock=[1000], fetched=[giving(NEW), giving()], wallet_hears=HEARD * 2),
+        talk("what is fetched for a full journal is not held", "It is fetched all the same.", node(limit=1),
+             [(ask(2, 1), DENIED), (ask(2, 2), object_full(2, 2, 5, 1))],
+             words=PULLS, clock=[1000], fetched=[giving(), giving(NEW)], wallet_hears=[fetching(2, 1), fetching(2, 2)]),
+        talk("a fetch for one who quotes", "The channel is asked for, and not who is quoted.", node(), [(ask(2, 1, NEW, quoted=ALICE), no_alice(2, 1))],
+             words=PULLS, clock=[1000], fetched=[giving()], wallet_hears=HEARD),
+        talk("a fetch that fails between two", "The third is granted by what was fetched for it.", node(),
+             [(ask(2, 1), DENIED), (ask(2, 2), pull_failed(2, 2)), (ask(2, 2), Grant(2, 2, 1, place=1))],
+             words=PULLS, clock=[1000], fetched=[giving(), Fields(b"\x09"), giving(NEW)], faults=1,
+                    wallet_hears=[fetching(2, 1), fetching(2, 2), fetching(2, 2)]),
+        Case("the clock fails behind a fetch", "Nothing is answered.", 5, PULLS, file=node(), input=[ask(2, 1)], clock_fails=[0], faults=1,
+               note="taos: clock fault",
+             fetched=[giving(NEW)], wallet_hears=HEARD),
+    ]
+
+
+def longest():
+    """The longest answer that gives: 16 certificates of 65,535 bytes, of which each is skipped."""
+    one = Named("long", Fields(u16(65_535), b"\1" * 65_535))
+    head = Fields(u32(1_048_594), b"\x09", u8(16))
+    return [
+        talk("a wallet that says the longest frame", "16 of 65,535 bytes, which are skipped.", node(), [(ask(2, 1), DENIED)], words=PULLS, clock=[1000],
+             wallet_says=[head, *[one] * 16], wallet_hears=HEARD),
+        talk("a wallet that says a frame of one byte more", "Nothing behind the length is taken.", node(), [(ask(2, 1), FAILED)], words=PULLS, clock=[1000],
+             wallet_says=[Fields(u32(1_048_595), b"\x09", u8(16)), *[one] * 16, b"\0"], wallet_hears=HEARD, faults=1),
+    ]
+
+
 def pull_words():
     about = "A flag has no value, and stands at most once."
     table = [("a flag with a value", ["run", "--pull=1"]), ("a flag with a word", ["run", "--pull", "1"]), ("a flag with an empty value", ["run", "--pull="]),
@@ -170,7 +240,7 @@ def pull_words():
 
 
 def pulls():
-    return taken() + order() + held() + failing() + by_lanes() + pull_words()
+    return taken() + order() + held() + failing() + more() + by_lanes() + pull_words()
 
 
 # ---- the wallet
@@ -224,7 +294,8 @@ def many():
         served("17 of one channel", "The first 16 are given.", [fetching(2, 1)], [gives(*[bytes([each]) for each in range(16)])], [MARK, *short]),
         served("16 of 1,024 bytes", "The longest answer.", [fetching(2, 1)], [gives(*long)], [MARK, *[cert(2, each) for each in long]]),
         served("a wallet of no line", "It gives none.", [fetching(2, 1)], [gives()], [MARK]),
-        served("blank lines and comments", "They say nothing.", [fetching(3, 1)], [gives(b"\5")], [MARK, Fields(b"\n"), Fields(b"# cert 3 06\n"), cert(3, b"\5")]),
+        served("blank lines and comments", "They say nothing.", [fetching(3, 1)], [gives(b"\5")],
+               [MARK, Fields(b"\n"), Fields(b"# cert 3 06\n"), cert(3, b"\5")]),
         served("the highest channel", "It is a number as any.", [fetching(2**32 - 1, 1)], [gives(b"\5")], [MARK, cert(2**32 - 1, b"\5")]),
     ]
 
@@ -244,6 +315,14 @@ def ends():
         served("writing for a wallet fails", "Nothing is given.", [asked], [], status=4, output_fails=[0], note="taos: write fault", faults=1),
         served("reading a wallet file fails", "Nothing of the input is taken.", [asked], [], status=3, file_fails=[0], note="taos: read fault", faults=1,
                left=[asked]),
+        served("the longest frame to a wallet", "It asks for no channel's certificates.", [u32(65_536), Times(b"\0", 65_536)], [gives()]),
+        served("a length to a wallet that is cut", "Three bytes of it came.", [asked, bytes(3)], first, status=7,
+               note="taos: input ends inside a frame, 3 bytes kept"),
+        served("reading for a wallet fails behind a frame", "The first is answered.", [asked, asked], first, status=3, input_fails=[3], byte_fails=[21],
+               note="taos: read fault", faults=1),
+        served("writing for a wallet fails behind an answer", "A front of the second is written.", [asked, asked], [*first, bytes(first[0])[:3]], status=4,
+               output_room=len(first[0]) + 3, note="taos: write fault", faults=1),
+        served("a wallet reads no clock", "It would fail.", [asked], first, clock_fails=[0]),
     ]
 
 
@@ -259,7 +338,7 @@ def wallet_files():
     cases = [Case(f"line 5: {title}", about, 2, WALLET, file=[*FILE, more], input=[fetching(2, 1)], left=[fetching(2, 1)],
                   note=f"taos: node file: line 5: {cause}") for title, more, cause in table]
     full = [MARK, Times(cert(2, b"\0"), 4097)]
-    return cases + [
+    return cases + more_wallet_files() + [
         Case("4,097 certificates", "There are 4,096 at most.", 2, WALLET, file=full, note="taos: node file: line 4098: limit"),
         Case("no bytes for a wallet file", about, 2, WALLET, note="taos: node file: line 1: first line"),
         Case("a relay file for a wallet file", about, 2, WALLET, file=[Fields(b"taos-relay 1\n")], note="taos: node file: line 1: first line"),
@@ -267,8 +346,42 @@ def wallet_files():
     ]
 
 
+def more_wallet_files():
+    """Which of two causes comes first, and what is a wallet all the same."""
+    about = "The first cause of the line."
+    table = [
+        ("words before a number", Fields(b"cert x\n"), "words"), ("a number before digits", Fields(b"cert x xy\n"), "number"),
+        ("digits before their limit", Fields(b"cert 2 " + b"0" * 2051 + b"\n"), "hex"), ("a byte above 127", Fields(b"cert 2 \x8000\n"), "words"),
+        ("a byte below 32", Fields(b"cert 2 00\x07\n"), "words"), ("a sign", Fields(b"cert +2 00\n"), "number"),
+             ("no word but the first", Fields(b"cert\n"), "words"),
+        ("a word of upper case", Fields(b"Cert 2 00\n"), "unknown word"), ("a node's line", Fields(b"node 7 00\n"), "unknown word"),
+        ("a channel of 2^64", Fields(b"cert 18446744073709551616 00\n"), "number"),
+             ("an unknown word before a byte above 127", Fields(b"card \x80\n"), "unknown word"),
+    ]
+    cases = [Case(f"line 5, two causes: {title}", about, 2, WALLET, file=[*FILE, more], note=f"taos: node file: line 5: {cause}") for title, more,
+           cause in table]
+    asked, first = [fetching(2, 1)], [gives(OWN, b"\6\7")]
+    upper = Fields(f"cert 2 {bytes(OWN).hex().upper()}\n".encode("ascii"))
+    odd = [Fields(b"\n\t# one\r\n"), Fields(b" taos-wallet  1\t\r\n"), Fields(b"\tcert   2\t" + bytes(OWN).hex().encode("ascii") + b" \r\n"),
+           Fields(b"cert 2 0607")]
+    return cases + [
+        Case("remarks alone for a wallet file", "There is no first line.", 2, WALLET, file=[Fields(b"# taos-wallet 1\n\n")],
+               note="taos: node file: line 3: first line"),
+        Case("another version of a wallet file", "There is one.", 2, WALLET, file=[Fields(b"taos-wallet 2\n")], note="taos: node file: line 1: first line"),
+        Case("a word behind a wallet's first line", "It has two.", 2, WALLET, file=[Fields(b"taos-wallet 1 1\n")], note="taos: node file: line 1: first line"),
+        Case("too long a wallet file", "One byte more than a file may have.", 2, WALLET, file=[Times(b"\0", 4_194_305)], note="taos: node file: line 0: limit"),
+        served("4,096 certificates", "As many as there may be.", asked, [gives(*[b"\0"] * 16)], [MARK, Times(cert(2, b"\0"), 4096)]),
+        served("certificates of upper case", "Digits are of either case.", asked, [gives(OWN)], [MARK, upper]),
+        served("blanks, tabs, carriage returns and no last end of a wallet", "They part words.", asked, first, odd),
+        served("one certificate twice in a wallet", "It is given twice.", asked, [gives(b"\6", b"\6")], [MARK, cert(2, b"\6"), cert(2, b"\6")]),
+        served("a certificate of one byte", "It is not looked at.", asked, [gives(b"\0")], [MARK, cert(2, b"\0")]),
+        served("channel 0 of a wallet", "It is a number as any.", [fetching(0, 1)], [gives(b"\6")], [MARK, cert(0, b"\6")]),
+    ]
+
+
 def wallet_words():
-    table = [("no frames", ["wallet", "--frames", "0"]), ("frames with a zero in front", ["wallet", "--frames=02"]), ("frames of no number", ["wallet", "--frames", "x"]),
+    table = [("no frames", ["wallet", "--frames", "0"]), ("frames with a zero in front", ["wallet", "--frames=02"]),
+           ("frames of no number", ["wallet", "--frames", "x"]),
              ("frames twice", ["wallet", "--frames=2", "--frames", "2"]), ("frames without a value", ["wallet", "--frames"]),
              ("lemmas of a wallet", ["wallet", "--lemmas", "1"]), ("connections of a wallet", ["wallet", "--connections", "1"]),
              ("a word behind a wallet", ["wallet", "2"])]

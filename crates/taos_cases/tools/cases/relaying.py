@@ -1,5 +1,5 @@
 """The command of a relay: its words, its file, and the frames that it answers."""
-from conversation import Case, Times
+from conversation import Case, Named, Times
 from formats import Fields, asking, frame, key_of, relay_refusal, resealed, turned, u32
 from .nodes import handing, issued, relayed
 
@@ -20,6 +20,8 @@ FILE = [MARK, ISSUER, OF_NODE]
 OWN, SECOND = issued(1, handing()), issued(1, handing(serial=2))
 NEW, NEW_SECOND = relayed(handing()), relayed(handing(serial=2))
 ASKED = asking(7, OWN)
+# What stands in a frame of 65,536 bytes behind its first six.
+LONG = Times(b"\0", 65_530)
 
 
 def served(title, about, told, status=0, words=("relay",), file=None, **lines):
@@ -44,6 +46,12 @@ ANSWERS = [
     ("four bytes", frame(b"\5\0\0\0"), code(1)),
     ("no bytes", frame(b""), code(1)),
     ("another first byte", frame(b"\6", u32(7), OWN), code(1)),
+    ("a carried one", asking(7, Fields(b"\3", OWN.parts[1])), code(1)),
+    ("a turned tag, for another node", asking(8, turned(OWN)), code(3)),
+    ("another issuer's, for another node", asking(8, issued(2, handing(issuer=2))), code(2)),
+    ("one that a relay sealed, for another node", asking(8, NEW), code(4)),
+    ("a byte behind the tag", asking(7, Fields(OWN, b"\0")), code(1)),
+    ("all but the last byte", asking(7, OWN.front(64)), code(1)),
 ]
 
 
@@ -52,6 +60,9 @@ def serving():
     empty = "A command, and nothing comes."
     cases = [served(title, about, [(asked, answer)]) for title, asked, answer in ANSWERS]
     cases += [served("all of them", about, [each[1:] for each in ANSWERS])]
+    cases += [Case(f"the longest frame, of {title}", about, words=["relay"], file=FILE, input=[Fields(u32(65_536), b"\5", u32(7), kind), LONG],
+           output=[code(number)])
+              for title, kind, number in (("an issuer's kind", b"\1", 1), ("a relay's kind", b"\2", 4), ("no kind", b"\0", 1))]
     cases += [Case(f"nothing asked: {' '.join(words)}", empty, words=words, file=[MARK])
               for words in (["relay"], ["relay", "--frames=2"], ["relay", "--frames", "1"])]
     return cases + spent() + ends() + usages()
@@ -161,7 +172,20 @@ def causes():
         titles[title] = titles.get(title, 0) + 1
         again = "" if titles[title] == 1 else f", {cause}"
         cases.append(refused(title + again, number, cause, *lines))
-    return cases + taken()
+    return cases + taken() + tables()
+
+
+def some(word, count):
+    """So many lines of keys, whose digits stand under a name."""
+    digits = Named("digits", Fields(key_of(9).hex().encode() + b"\n"))
+    return [part for each in range(count) for part in (Fields(f"{word} {each} ".encode()), digits)]
+
+
+def tables():
+    """One line more than there may be."""
+    names = [line(f"name {each} n{each}") for each in range(1025)]
+    return [refused("a name too many", 1026, "limit", MARK, *names), refused("a node too many", 1026, "limit", MARK, *some("node", 1025)),
+            refused("an issuer too many", 4098, "limit", MARK, *some("issuer", 4097))]
 
 
 def taken():

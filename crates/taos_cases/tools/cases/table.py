@@ -57,7 +57,9 @@ def failing():
         played("the link fails at call 1", "The certificate that is held is not looked at.", relay_fails=[1], faults=1,
                output=[*ANSWERS[:2], relay_failed(2, 2, 0)]),
     ]
-    return cases + at_last()
+    spent = played("two frames of three", "One byte of the third is taken.", 2, 10, words=["run", "--frames", "2"], left=[Fields(bytes(NAMED[2])[1:])],
+                   note="taos: frames spent: 2")
+    return cases + [spent] + at_last()
 
 
 def at_last():

@@ -1,8 +1,9 @@
 """Issuers that are withdrawn: nothing of theirs is held, and nothing that comes later."""
 from conversation import Case, Grant, talk
-from formats import Fields, body, early, journal_full, key, no_right, not_held, quoting, replayed, withdrawn_full
+from formats import Fields, anchor_proof, body, early, giving, granted, journal_full, key, key_of, no_right, not_held, object_full, quoting, refused
+from formats import replayed, turned, withdrawn_full
 from .beginning import CF, LATER
-from .nodes import ALICE, BOB, ask, by_anchor, handed, handing, no_alice, node, relayed
+from .nodes import ALICE, BOB, ask, by_anchor, handed, handing, issued, no_alice, node, relayed
 from .objects import did, discard, hold, set_list, withdraw
 from .shards import granted as by_one
 
@@ -95,6 +96,39 @@ def whose():
     ])
 
 
+def what_stays():
+    """What others issued, what was kept for them, and what the relay knows."""
+    bobs = node([(15, ALICE), (1, BOB)], more=[6])
+    of_three = handed(issuer=3, to=BOB, whom=4)
+    full = node(shards=2, limit=2, more=[6])
+    by_relay = dict(relay_node=(7, key_of(7)), relay_issuer=[(1, key_of(1))])
+    return told([
+        ("kept proofs of others", "They are hit as before.", bobs,
+         [(ask(2, 1, SHOWN), by_one(2, 1)), (ask(4, 1, of_three), Grant(4, 1, 1, entry=1, place=2, cites=[bytes(handing(4, issuer=3, to=BOB))])),
+                (ask(3, 1), granted(3, 1, anchor_proof(3, 30, 1), entry=1, place=4)),
+          (withdraw(1), did(1, 6)), (ask(4, 2), Grant(4, 2, 1, entry=1, place=9, kept=1)),
+          (ask(3, 2), granted(3, 2, anchor_proof(3, 30, 1), entry=1, place=10, kept=1)), (ask(2, 2), no_alice(2, 2, 11))]),
+        ("withdrawn where one who quotes presented it", "The channel holds it, whoever was quoted.", node(),
+         [(ask(2, 1, SHOWN, quoted=BOB), no_alice(2, 1)), (withdraw(1), did(1, 1)), (ask(2, 2), no_alice(2, 2, 4))]),
+        ("withdrawn with a full journal of the object", "It is not withdrawn.", full,
+         [(ask(2, 1), no_alice(2, 1)), (ask(2, 2), no_alice(2, 2, 1)), (withdraw(1), object_full(1, 1, 5, 2)),
+                (ask(3, 1, handed(3), target=6), Grant(3, 1, 1, shard=1))]),
+        ("withdrawn with a full journal of its shard", "It is not withdrawn.", node(shards=2, limit=2, more=[6]),
+         [(ask(1, 1, target=6), by_anchor(1, shard=1)), (withdraw(1, number=2), journal_full(1, 2, 1, 2)), (ask(2, 1, SHOWN), by_one(2, 1))]),
+        ("withdrawn, where a channel holds it and it is common", "Both are let go.", node(),
+         [(ask(2, 1, SHOWN), by_one(2, 1)), (hold(SHOWN), did(1, 2)), (withdraw(1, number=2), did(2, 5, kept=1)), (discard(C1, number=3), not_held(1, 3, C1)),
+          (ask(2, 2), no_alice(2, 2, 9))]),
+    ]) + [
+        talk("presented after it under its issuer's seal", "The relay knows nothing of it, and reseals.", node(),
+             [(withdraw(1), did(1)), (ask(2, 1, issued(1, C1)), no_alice(2, 1, 3))],
+             clock=AT, **by_relay),
+        talk("presented after it with a turned tag", "It is refused as before.", node(),
+             [(withdraw(1), did(1)), (ask(2, 1, turned(SHOWN)), refused(2, 1, 0, 3))], clock=AT),
+        talk("fetched after it", "It is not added.", node(), [(withdraw(1), did(1)), (ask(2, 1), no_alice(2, 1, 3))], clock=AT, words=["run", "--pull"],
+             fetched=[giving(), giving(SHOWN)]),
+    ]
+
+
 def the_limit():
     """How many may be withdrawn."""
     sixty_four = many(range(100, 164))
@@ -117,7 +151,7 @@ def at_shard(number):
 
 
 def withdrawn():
-    return what_goes() + what_comes() + whose() + the_limit()
+    return what_goes() + what_comes() + whose() + what_stays() + the_limit()
 
 
 def lines(*texts):

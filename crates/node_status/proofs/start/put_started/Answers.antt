@@ -1,8 +1,8 @@
 -- the members stand one after another
 use Rattle.std.proofs.Common.{◌++◌}
 use Rattle.std.specs.Prelude.{codes}
-use Rattle.node_status.specs.Members.{counted, counted_if, first_members}
-use Rattle.node_status.specs.Starts.{served_members}
+use Rattle.node_status.specs.Members.{first_members}
+use Rattle.node_status.specs.Starts.{bound_members, address_members, served_members}
 use Rattle.node_status.proofs.Appending.{appends_both, appends_last}
 use Rattle.node_status.proofs.start.put_started.Goals as goal
 
@@ -12,12 +12,12 @@ returns-clause-put c =
     let at_0 = c.args.out.now.tokens in
     let at_1 = c.put_first.new.out.tokens in
     let at_2 = c.put_served.new.out.tokens in
-    let at_3 = c.put_number.new.out.tokens in
-    let at_4 = c.put_short.new.out.tokens in
+    let at_3 = c.put_bounds.new.out.tokens in
+    let at_4 = c.put_addresses.new.out.tokens in
     let part_1 = first_members s.seconds (codes "info") (codes "started") in
     let part_2 = served_members s.served in
-    let part_3 = counted (codes "lanes") s.lanes in
-    let part_4 = counted_if (codes "clients") s.clients in
+    let part_3 = bound_members s.bounds in
+    let part_4 = address_members s.addresses in
     let by_2 = appends_both at_0 at_1 at_2 part_1 part_2 c.in_ok-put_first.ensures.put c.in_ok-put_served.ensures.put in
-    let by_3 = appends_both at_0 at_2 at_3 (part_1 ++ part_2) part_3 by_2 c.in_ok-put_number.ensures.put in
-    appends_last at_0 at_3 at_4 (part_1 ++ part_2 ++ part_3) part_4 c.put_short.result by_3 c.put_short.ensures.put
+    let by_3 = appends_both at_0 at_2 at_3 (part_1 ++ part_2) part_3 by_2 c.in_ok-put_bounds.ensures.put in
+    appends_last at_0 at_3 at_4 (part_1 ++ part_2 ++ part_3) part_4 c.put_addresses.result by_3 c.put_addresses.ensures.put

@@ -1,15 +1,18 @@
 -- the connection is that of the first lane, and the text that of what it left
-use Rattle.std.proofs.Common.{List, length, refl, sym, ap, subst, arith}
+use Rattle.std.proofs.Common.{List, length, refl, sym, ap, subst, subst₂, arith}
+use Rattle.std.specs.Prelude.{All}
+use Rattle.object_core.specs.Shelving.{HaveOwnNumbers, numbers_of}
 use Rattle.std.proofs.lemmas.List.{length-map}
 use Rattle.std.proofs.KnownBytes.{Keeps-refl}
 use Rattle.agent_core.specs.Journals.{ShardSeen}
 use Rattle.agent_core.specs.State.{Plan}
-use Rattle.taos_monitor.specs.Cells.{Seen}
+use Rattle.taos_monitor.specs.Cells.{Node, Seen}
 use Rattle.taos_node.specs.Audit.{IsAuditOf}
 use Rattle.taos_node.specs.AuditOf.{all_in}
 use Rattle.taos_node.specs.Calls.{first_of}
-use Rattle.replay_law.specs.Laws.{AreWritable, alone}
-use Rattle.taos_node.proofs.Audited.{all_cite_few, all_ops_fit, few_commons, few_objects, ended_causes, ended_complete, ended_same, ended_writes, is_audit, stopped_causes, stopped_complete}
+use Rattle.taos_node.specs.Opened.{node_by, seen_by}
+use Rattle.replay_law.specs.Laws.{AreAsksWithin, AreReplayedLegal, AreWritable, HasFittingList, HasServed, alone}
+use Rattle.taos_node.proofs.Audited.{all_asks, all_cite_few, all_ops_fit, few_commons, few_objects, ended_causes, ended_complete, ended_same, ended_writes, is_audit, made_legal, numbers_apart, numbers_rise, stopped_causes, stopped_complete}
 use Rattle.taos_node.proofs.audit.audit.Goals as goal
 
 pub returns-in_default-clause-audits : goal.returns-in_default-clause-audits
@@ -26,6 +29,7 @@ returns-in_default-clause-audits g c = λ o file0 file1 opened.
       text = text;
       is_text = subst (λ (s : Seen). IsAuditOf c.args.asked.form o s.journals text) (sym did.1) (is_audit c.args.asked.form o c.args.opened.0 node opened c.serve_first-outcome.ensures.same);
       writes = (refl, λ end. c.in_default.not-End end.0 end.1, Keeps-refl (g.O.Sink.shown c.args.output.now).told);
+      legal = λ none. absurd none;
     }
 
 pub returns-in_default-clause-causes : goal.returns-in_default-clause-causes
@@ -56,7 +60,7 @@ write_text-requires-clause-cites g c =
     let same = c.serve_first-outcome.ensures.same in
     let file = g.I.Source.shown c.args.input.now in
     let did = c.serve_first-outcome.ensures.connection file file o opened in
-    let w = c.what_a_node_left_is_writable.ensures did.0.node (few_commons o c.args.opened.0 new opened same c.requires.small did.0.node did.0.is_node) did.0.seen.journals (alone did.0.connection refl refl) in
+    let w = c.what_a_node_left_is_writable.ensures.writable did.0.node (few_commons o c.args.opened.0 new opened same c.requires.small did.0.node did.0.is_node) did.0.seen.journals (alone did.0.connection refl refl) in
     all_cite_few o c.args.opened.0 new opened same c.requires.small (subst (λ (s : Seen). AreWritable s.journals) did.1 w)
 
 pub write_text-requires-clause-ops : goal.write_text-requires-clause-ops
@@ -66,7 +70,7 @@ write_text-requires-clause-ops g c =
     let same = c.serve_first-outcome.ensures.same in
     let file = g.I.Source.shown c.args.input.now in
     let did = c.serve_first-outcome.ensures.connection file file o opened in
-    let w = c.what_a_node_left_is_writable.ensures did.0.node (few_commons o c.args.opened.0 new opened same c.requires.small did.0.node did.0.is_node) did.0.seen.journals (alone did.0.connection refl refl) in
+    let w = c.what_a_node_left_is_writable.ensures.writable did.0.node (few_commons o c.args.opened.0 new opened same c.requires.small did.0.node did.0.is_node) did.0.seen.journals (alone did.0.connection refl refl) in
     all_ops_fit o c.args.opened.0 new opened same c.requires.small (subst (λ (s : Seen). AreWritable s.journals) did.1 w)
 
 pub returns-clause-audits : goal.returns-clause-audits
@@ -83,6 +87,18 @@ returns-clause-audits g c = λ o file0 file1 opened.
       text = text;
       is_text = subst (λ (s : Seen). IsAuditOf c.args.asked.form o s.journals text) (sym did.1) (is_audit c.args.asked.form o c.args.opened.0 node opened c.serve_first-outcome.ensures.same);
       writes = ended_writes text (g.O.Sink.shown c.args.output.now).told (g.O.Sink.shown c.write_text.new.output).told c.serve_first-outcome.result (_, c.in-End.is) c.write_text.result c.write_text.ensures.writes;
+      legal = λ made.
+          let old = c.args.opened.0 in
+          let same = c.serve_first-outcome.ensures.same in
+          let small = c.requires.small in
+          let J = did.0.seen.journals in
+          let served : HasServed did.0.node J = alone did.0.connection refl refl in
+          let lists : All HasFittingList did.0.node.objects = subst (λ (n : Node). All HasFittingList n.objects) (sym did.2) small.lists in
+          let few = few_commons o old node opened same small did.0.node did.0.is_node in
+          let asks : AreAsksWithin (seen_by node).journals = subst (λ (s : Seen). AreAsksWithin s.journals) did.1 (c.what_a_node_left_is_writable.ensures.asks did.0.node few lists J served) in
+          let own : HaveOwnNumbers did.0.node.objects = numbers_apart (numbers_of did.0.node.objects) did.0.is_node.by_number in
+          let replayed : AreReplayedLegal (node_by old) (seen_by node).journals = subst₂ (λ (n : Node) (s : Seen). AreReplayedLegal n s.journals) did.2 did.1 (c.what_a_node_left_is_replayed.ensures did.0.node own J served) in
+          made_legal o old node opened same c.args.asked.form replayed (c.write_text.ensures.spelled (all_asks node asks) (numbers_rise o old node opened same) made);
     }
 
 pub returns-clause-causes : goal.returns-clause-causes

@@ -30,7 +30,7 @@ returns-clause-connection g c = λ file0 file1 o opened.
         is_node = opened.is_node;
         seen = last;
         connection =
-            touches n c.args.pulls left.pulls c.args.frames file0 file1
+            touches n c.args.asked.pulls left.pulls c.args.asked.frames file0 file1
             (g.I.Source.shown c.args.input.now) (g.I.Source.shown c.serve.new.input)
             (g.O.Sink.shown c.args.output.now) (g.O.Sink.shown c.serve.new.output)
             (used_of clock link fetch lane) (first_of clock link fetch lanes)
@@ -39,6 +39,7 @@ returns-clause-connection g c = λ file0 file1 o opened.
             (first_is clock link fetch lanes other some) (first_after clock link fetch lanes _ some) (sym opened.unseen)
             c.serve.ensures.connection.1.connection;
       },
+      refl,
       refl,
     )
 
@@ -50,7 +51,7 @@ returns-clause-causes g c =
 pub returns-clause-complete : goal.returns-clause-complete
 returns-clause-complete g c =
     complete_by g.C.Clock.shown g.R.RelayLink.shown g.P.Fetch.shown c.args.lanes.now c.index-lanes-0.result _ c.requires.some (g.I.Source.shown c.args.input.now) (g.I.Source.shown c.serve.new.input) (g.O.Sink.shown c.args.output.now)
-    (g.O.Sink.shown c.serve.new.output) c.serve.result c.args.frames c.serve.ensures.connection.1.complete
+    (g.O.Sink.shown c.serve.new.output) c.serve.result c.args.asked.frames c.serve.ensures.connection.1.complete
 
 pub returns-clause-same : goal.returns-clause-same
 returns-clause-same g c =

@@ -4,7 +4,7 @@ use Rattle.std.proofs.lemmas.List.{length-map}
 use Rattle.agent_core.specs.Alone.{plans_in}
 use Rattle.agent_core.specs.Journals.{ShardSeen}
 use Rattle.object_core.specs.Objects.{ObjectSeen}
-use Rattle.object_core.specs.Shelving.{fixed_of}
+use Rattle.object_core.specs.Shelving.{HaveOwnNumbers, fixed_of}
 use Rattle.std.specs.Prelude.{All, map}
 use Rattle.node_file.specs.Meaning.{opening}
 use Rattle.taos_monitor.specs.Arriving.{node_of}
@@ -13,7 +13,7 @@ use Rattle.agent_core.specs.State.{Plan}
 use Rattle.node_open.specs.Cells.{its_plans, new_object}
 use Rattle.taos_node.specs.Opened.{IsNodeOf}
 use Rattle.replay_law.specs.Laws.{HasFewCommons}
-use Rattle.taos_node.proofs.Audited.{few_planned}
+use Rattle.taos_node.proofs.Audited.{few_planned, lists_fit}
 use Rattle.taos_node.proofs.Nodes.{none_seen, plans_new}
 use Rattle.taos_node.proofs.opened.open_node.Goals as goal
 
@@ -52,5 +52,8 @@ returns-clause-small c =
     let are = ap plans_in (c.new-2.ensures.shards ∙ c.in_ok-parts.ensures.shards) ∙ plans_new plans in
     record {
       objects = omega (arith, ap (λ (l : List ObjectSeen). length l) these, length-map node.objects (new_object node.limit), c.requires.objects);
+      lists =
+          lists_fit node.limit node.objects (map fixed_of c.in_ok-new.field-0.objects) (ap (map fixed_of) these)
+          (subst (λ (l : List ObjectSeen). HaveOwnNumbers (map fixed_of l)) (sym c.in_ok-new.ensures.objects) c.in_ok-parts.ensures.new.objects) c.requires.fits.objects;
       commons = subst (λ (l : List Plan). All HasFewCommons l) (sym are) (few_planned (opening node) node.channels.entries c.requires.fits.few_commons);
     }

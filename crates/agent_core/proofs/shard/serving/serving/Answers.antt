@@ -5,49 +5,42 @@ use Rattle.std.specs.declared.alloc.Global.{Global}
 use Rattle.std.specs.declared.vec.Vec.{Vec}
 use Rattle.prin_term.specs.declared.term.Entry.{Entry}
 use Rattle.std.proofs.lemmas.List.{length-map}
-use Rattle.prin_term.specs.View.{Grant, grant}
-use Rattle.proof_cache.specs.Cached.{Cached, cached}
+use Rattle.prin_term.specs.View.{grant}
+use Rattle.proof_cache.specs.Cached.{cached}
 use Rattle.proof_cache.specs.declared.cached.Cached.{Cached as CachedValue}
 use Rattle.denial_link.proofs.Places.{entry_at}
-use Rattle.agent_core.specs.Caches.{first_hit, unlapsed}
+use Rattle.agent_core.specs.Caches.{unlapsed}
 use Rattle.agent_core.specs.State.{Ask}
 use Rattle.agent_core.specs.Views.{ask_of}
 use Rattle.agent_core.proofs.Asks.{on_err}
-use Rattle.agent_core.proofs.Serving.{served_some, served_none, served_first, none_served, none_served_more}
+use Rattle.agent_core.proofs.Serving.{served_here, served_none, none_served, none_served_more}
 use Rattle.agent_core.proofs.shard.serving.serving.Goals as goal
 
 pub returns-in_err-try_clone-clause-wanted : goal.returns-in_err-try_clone-clause-wanted
 returns-in_err-try_clone-clause-wanted c =
     let now = unlapsed c.args.moment c.args.cache.now in
     let a : Ask = ask_of c.args.asked.now in
-    let g : Grant = grant c.index.result.now in
     let long : c.len-place-end.result ≡ length c.args.asked.now.list.value.items = c.len-place-end.ensures ∙ c.deref.result.now.ok.0 ∙ ap (λ (v : Vec Entry Global). length v.items) c.deref.ensures in
-    let at : slice_get a.list c.loop-place.place ≡ Some g = entry_at c.args.asked.now.list.value.items c.loop-place.place c.index.result.now (rw c.deref-in-loop-place.ensures at c.index.ensures) (omega (arith, long, c.loop-place-test.true)) in
-    let kept : Cached = cached (arc_value {X = CachedValue} c.in-Some.kept.now) in
-    let (test, found) = served_some now a.subject a.right g kept c.in-Some.ensures in
-    let first : first_hit now a ≡ Some c.loop-place.place = served_first now a c.loop-place.place g c.loop-place.invariant at test in
+    let at : slice_get a.list c.loop-place.place ≡ Some (grant c.index.result.now) = entry_at c.args.asked.now.list.value.items c.loop-place.place c.index.result.now (rw c.deref-in-loop-place.ensures at c.index.ensures) (omega (arith, long, c.loop-place-test.true)) in
+    let (first, found) = served_here now a c.loop-place.place (grant c.index.result.now) (cached (arc_value {X = CachedValue} c.in-Some.kept.now)) c.loop-place.invariant at c.in-Some.ensures in
     on_err c.from_residual.result (subst IsSome (sym first) refl)
 
 pub returns-in-Some-clause-serves : goal.returns-in-Some-clause-serves
 returns-in-Some-clause-serves c =
     let now = unlapsed c.args.moment c.args.cache.now in
     let a : Ask = ask_of c.args.asked.now in
-    let g : Grant = grant c.index.result.now in
     let long : c.len-place-end.result ≡ length c.args.asked.now.list.value.items = c.len-place-end.ensures ∙ c.deref.result.now.ok.0 ∙ ap (λ (v : Vec Entry Global). length v.items) c.deref.ensures in
-    let at : slice_get a.list c.loop-place.place ≡ Some g = entry_at c.args.asked.now.list.value.items c.loop-place.place c.index.result.now (rw c.deref-in-loop-place.ensures at c.index.ensures) (omega (arith, long, c.loop-place-test.true)) in
-    let kept : Cached = cached (arc_value {X = CachedValue} c.in-Some.kept.now) in
-    let (test, found) = served_some now a.subject a.right g kept c.in-Some.ensures in
-    let first : first_hit now a ≡ Some c.loop-place.place = served_first now a c.loop-place.place g c.loop-place.invariant at test in
-    (g, first, at, found ∙ ap (λ (x : CachedValue). Some (cached x)) (sym c.in_ok-try_clone.ensures))
+    let at : slice_get a.list c.loop-place.place ≡ Some (grant c.index.result.now) = entry_at c.args.asked.now.list.value.items c.loop-place.place c.index.result.now (rw c.deref-in-loop-place.ensures at c.index.ensures) (omega (arith, long, c.loop-place-test.true)) in
+    let (first, found) = served_here now a c.loop-place.place (grant c.index.result.now) (cached (arc_value {X = CachedValue} c.in-Some.kept.now)) c.loop-place.invariant at c.in-Some.ensures in
+    (grant c.index.result.now, first, at, found ∙ ap (λ (x : CachedValue). Some (cached x)) (sym c.in_ok-try_clone.ensures))
 
 pub loop-place-preserved : goal.loop-place-preserved
 loop-place-preserved c =
     let now = unlapsed c.args.moment c.args.cache.now in
     let a : Ask = ask_of c.args.asked.now in
-    let g : Grant = grant c.index.result.now in
     let long : c.len-place-end.result ≡ length c.args.asked.now.list.value.items = c.len-place-end.ensures ∙ c.deref.result.now.ok.0 ∙ ap (λ (v : Vec Entry Global). length v.items) c.deref.ensures in
-    let at : slice_get a.list c.loop-place.place ≡ Some g = entry_at c.args.asked.now.list.value.items c.loop-place.place c.index.result.now (rw c.deref-in-loop-place.ensures at c.index.ensures) (omega (arith, long, c.loop-place-test.true)) in
-    none_served_more now a c.loop-place.place g c.loop-place.invariant at (served_none now a.subject a.right g c.in_default.ensures)
+    let at : slice_get a.list c.loop-place.place ≡ Some (grant c.index.result.now) = entry_at c.args.asked.now.list.value.items c.loop-place.place c.index.result.now (rw c.deref-in-loop-place.ensures at c.index.ensures) (omega (arith, long, c.loop-place-test.true)) in
+    none_served_more now a c.loop-place.place (grant c.index.result.now) c.loop-place.invariant at (served_none now a.subject a.right (grant c.index.result.now) c.in_default.ensures)
 
 pub returns-clause-serves : goal.returns-clause-serves
 returns-clause-serves c =

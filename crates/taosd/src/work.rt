@@ -1,0 +1,114 @@
+//! The work of a command by its lanes.
+
+ghost use Rattle.std.specs.Prelude.{◌<◌, ◌≤◌, length, vec_len};
+
+use crate::ending::{after_leaving, ended};
+use crate::files::file_of;
+use crate::lanes::{Setting, lanes_of};
+use crate::telling::{output_rounds, output_teller};
+use cred_pull::Fetch;
+use frame_link::{Clock, Door, RelayLink, Sink};
+use std::fs::File;
+use std::io::{BufReader, Stderr, Stdin, Stdout};
+use std::net::{Net, TcpListener, TcpStream};
+use std::sync::{Arc, Wait};
+use std::thread::Threads;
+use std::{io, time};
+use system_link::{
+    Common, Deferred, Doorway, FileReading, Origin, Outbox, PIECE, Patient, Prompt, Reading,
+    Rounded, Telling, Watched, Writing, tell_readers,
+};
+use taos_node::{Ending, Lane, taos};
+
+// What waits to be written on standard output.
+type Waiting = Outbox<Patient<Stdout, HostRuntime>>;
+
+// Standard input, before whose reads all leaves that waits.
+type Asked<'a> = BufReader<Prompt<'a, Patient<Stdin, HostRuntime>, Patient<Stdout, HostRuntime>>>;
+
+fn waiting_of(rt: &HostRuntime) -> io::Result<Waiting> {
+    Outbox::with_capacity(rt.alloc(), PIECE, Patient::new(rt.stdout(), *rt))
+}
+
+fn asked_of<'a>(rt: &HostRuntime, waiting: &'a Waiting) -> io::Result<Asked<'a>> {
+    let prompt = Prompt::new(Patient::new(rt.stdin(), *rt), waiting);
+    Ok(BufReader::with_capacity(rt.alloc(), PIECE, prompt)?)
+}
+
+// The file of a command. Who else may read it is told.
+fn watched_of<'a>(
+    rt: &HostRuntime,
+    path: &'a str,
+) -> Watched<'a, FileReading<'a, File, Stderr>, Stderr> {
+    let file = file_of(rt, path);
+    if let Origin::Open(open) = file.origin() {
+        tell_readers(&mut rt.stderr(), path, open);
+    }
+    Watched::new(rt.alloc(), file, path, rt.stderr())
+}
+
+// The work of a command, by these lanes. What is read and written is of the first.
+fn work<
+    W: Threads + Wait + Sync,
+    N: Sink,
+    C: Clock + Send,
+    R: RelayLink + Send,
+    D: Door + Send,
+    P: Fetch + Send,
+>(
+    rt: &HostRuntime,
+    workers: &W,
+    setting: &Setting<'_>,
+    common: Common<'_>,
+    notes: &mut N,
+    lanes: &mut [Lane<C, R, D, P>],
+) -> io::Result<u8>
+    requires some { 0 < length lanes.old }
+    requires few { length lanes.old ≤ 16 }
+{
+    let waiting = waiting_of(rt)?;
+    let asked = asked_of(rt, &waiting)?;
+    let rounds = Arc::try_clone(common.first_rounds)?;
+    let mut file = watched_of(rt, setting.path);
+    let teller = output_teller(setting.wanted, common.tellers);
+    let timed = output_rounds(&teller, &rounds);
+    let mut input = Reading::new(Rounded::new(asked, *rt, rounds));
+    let mut output = Writing::new(Telling::new(Deferred::new(&waiting), *rt, None, teller, timed));
+    let status = taos(
+        workers,
+        rt.alloc(),
+        setting.command,
+        &mut file,
+        &mut input,
+        &mut output,
+        notes,
+        lanes,
+    );
+    Ok(after_leaving(notes, status, waiting.leave()))
+}
+
+/// The work of a command by the lanes of these doors over a system.
+pub fn work_by<
+    S: Net<Listener = TcpListener, Stream = TcpStream> + time::Clock + Copy + Send,
+    W: Threads + Wait + Sync,
+    N: Sink,
+>(
+    rt: &HostRuntime,
+    system: S,
+    workers: &W,
+    setting: &Setting<'_>,
+    common: Common<'_>,
+    doorways: Vec<Doorway>,
+    notes: &mut N,
+) -> u8
+    requires some { 0 < vec_len doorways }
+    requires few { vec_len doorways ≤ 16 }
+{
+    let Ok(mut lanes) = lanes_of(system, rt.alloc(), common, doorways) else {
+        return ended(notes, Ending::NoMemory);
+    };
+    match work(rt, workers, setting, common, notes, lanes.as_mut_slice()) {
+        Ok(status) => status,
+        Err(_) => ended(notes, Ending::NoMemory),
+    }
+}
