@@ -1,32 +1,33 @@
 #!/usr/bin/env python3
-"""Starts a relay and a node, runs the clients, and stops the node in order.
+"""Starts a relay and a node, runs the clients, and stops both in order.
 
-    serving.py PROGRAM NODE RELAY CERTIFICATES PORT
+    serving.py PROGRAM NODE RELAY CERTIFICATES
 
-NODE and RELAY are their files. The relay is a process of the program for each connection that comes to a port (`listen.py`),
-whose number is written to the file PORT. The node has two lanes at one port of 127.0.0.1 that it chose, so it serves both clients
-at the same time. It tells its address on its standard error, and ends once its standard input has ended. Ends with 0 where the
-clients did, and the node with status 0.
+NODE and RELAY are their files. Either serves up to 100 clients at a time, at a port of 127.0.0.1 that it chose, by two lanes. It
+tells its address on its standard error, and ends once its standard input has ended. Ends with 0 where the clients, the node and
+the relay did.
 """
 import os
 import re
 import subprocess
 import sys
 import threading
-import time
 
 HERE = os.path.dirname(os.path.abspath(__file__))
 BOUND = re.compile(r"taosd: listening on (\S+):(\d+)$")
 LIMIT = 30
-LANES = 2
+LANES, CLIENTS = 2, 100
 
 
 class Server:
-    """A process that serves a port by so many lanes, until it is stopped."""
+    """A process that serves a port by so many lanes, until it is stopped: so many clients at a time, or without a number of them
+    one connection of a lane after the other."""
 
-    def __init__(self, program, file, lanes, relay, command, *options):
+    def __init__(self, program, file, lanes, relay, command, *options, clients=None):
         listen = ",".join(["127.0.0.1:0"] * lanes)
-        words = [program, "--tell-addresses", "--stop-at-end", file, listen, relay, command, "--connections", "100", *options]
+        many = ["--clients", str(clients)] if clients else []
+        words = [program, *many, "--tell-addresses", "--stop-at-end", file, listen, relay, command]
+        words += ["--connections", "1000000" if clients else "100", *options]
         pipe = subprocess.PIPE
         self.name = command
         self.process = subprocess.Popen(words, stdin=pipe, stdout=pipe, stderr=pipe, text=True)
@@ -59,35 +60,38 @@ class Server:
         return status, self.process.stdout.read().strip()
 
 
-def relay_port(path):
-    """The port that the relay's listener has written, once it has."""
-    for _ in range(100 * LIMIT):
-        if os.path.exists(path):
-            with open(path, encoding="ascii") as file:
-                return file.read().strip()
-        time.sleep(0.01)
-    raise SystemExit("the relay does not listen")
+def started(program, file, relay, command):
+    server = Server(program, file, LANES, relay, command, clients=CLIENTS)
+    if not server.address:
+        server.stop()
+        raise SystemExit(f"{command} does not listen")
+    return server
+
+
+def ended(server):
+    """Whether a server ends well, and the line that it printed is told."""
+    status, line = server.stop()
+    print(f"{server.name}: {line} (status {status})", flush=True)
+    return status == 0
 
 
 def main(words):
-    if len(words) != 5:
+    if len(words) != 4:
         print(__doc__, end="", file=sys.stderr)
         return 2
-    program, node_file, relay_file, certificates, path = words
-    listen = [sys.executable, os.path.join(HERE, "listen.py"), path, program, relay_file, "-", "-", "relay"]
-    relay = subprocess.Popen(listen)
+    program, node_file, relay_file, certificates = words
+    relay, well = started(program, relay_file, "-", "relay-serve"), False
     try:
-        node = Server(program, node_file, LANES, f"127.0.0.1:{relay_port(path)}", "serve")
-        status = 1
-        if node.address:
+        node = started(program, node_file, ":".join(relay.address), "serve")
+        try:
             print(f"the node serves on {':'.join(node.address)}", flush=True)
             clients = [sys.executable, os.path.join(HERE, "clients.py"), certificates, *node.address]
             status = subprocess.run(clients, timeout=LIMIT, check=False).returncode
-        ended, line = node.stop()
-        print(f"{node.name}: {line} (status {ended})", flush=True)
-        return status or (0 if ended == 0 else 1)
+        finally:
+            well = ended(node)
     finally:
-        relay.kill()
+        well = ended(relay) and well
+    return status or (0 if well else 1)
 
 
 if __name__ == "__main__":

@@ -4,22 +4,26 @@
     clients.py PROGRAM OUT [TURNS]
 
 OUT is a folder that has the program `clients`, built. Each of 1,000 clients has a channel of its own and sends TURNS (50) reads, one
-after the other (64 of them are granted, and the others denied, since a node has no more anchors), beside silent ones; the same frames go to an echo over the same loop. Ends with 1 where a bound is not kept.
+after the other (64 of them are granted, and the others denied, since a node has no more anchors), beside silent ones; the same frames
+go to an echo over the same loop. What a machine does to any program it does to the echo: where that alone is beyond a bound, the node is
+held to it. Ends with 1 where a bound is not kept, or a connection is lost.
 """
 import hmac
 import itertools
 import os
 import re
 import socket
+import statistics
 import struct
 import subprocess
 import sys
 import threading
 
 LANES, SEATS, BUSY, SILENT, ROUNDS = 4, 12_000, 1_000, 2_000, 3
-# What is wanted: the rate beside the echo's; one client's median and 99th in 100 beside others to those alone; bytes of a silent client; how
-# far the 99th in 100 of others rises beside a rude one; and the rate of a client beside a scrape each 10 ms to that without.
-RATE, MEDIAN, LATE, MEMORY, RISE, SCRAPED = 0.7, 3, 5, 8_192, 1.1, 0.98
+# What is wanted: the rate beside the echo's; one client's median and 99th in 100 beside others to those alone, or to the echo's beside
+# others where these are beyond that; bytes of a silent client; how far the 99th in 100 of others rises beside a rude one, to how far the
+# echo's does; and the rate of a client beside a scrape each 10 ms to that without.
+RATE, MEDIAN, LATE, MEDIAN_ECHO, LATE_ECHO, MEMORY, RISE, SCRAPED = 0.7, 3, 5, 1.5, 2, 8_192, 1.1, 0.98
 # Beside a rude client: how many others, how many reads of each, and how often, by turns with and without it. Beside scrapes: the reads, and
 # how often.
 POLITE, READS, PAIRS, MANY, SCRAPES = 16, 2_000, 11, 20_000, 31
@@ -68,7 +72,7 @@ class Started:
 
 class Bench:
     def __init__(self, program, out, turns):
-        self.program, self.out, self.turns, self.first, self.met = program, out, turns, 1, True
+        self.program, self.out, self.turns, self.met, self.lost = program, out, turns, True, 0
         self.file = self.path("node.txt")
         with open(self.file, "w") as node:
             node.write(opening(turns))
@@ -90,8 +94,10 @@ class Bench:
         with open(self.path("frames"), "wb") as out:
             out.writelines(itertools.islice(frames(turns), busy * turns))
         words = [self.path("clients"), "load", server.port, self.path("frames"), str(busy), str(silent), str(turns)]
-        told = subprocess.run(words, capture_output=True, text=True)
-        return [float(word) for word in told.stdout.split()]
+        told = [float(word) for word in subprocess.run(words, capture_output=True, text=True).stdout.split()]
+        # A client that was lost, or whose reply did not come in half a minute.
+        self.lost += told[6] + (told[0] < busy * turns)
+        return told
 
     def late(self, start, how, aside):
         """The 99th in 100 of the microseconds of a few clients' reads of a server, beside a client that is rude in this way if any: to the
@@ -112,14 +118,20 @@ class Bench:
         return told[5]
 
     def beside(self, how):
-        """What is the hub's is beside what is the machine's: the rise where the client is rude to another program, and that of the echo."""
-        ways = [(self.node, None, False), (self.node, how, False), (self.node, how, True), (self.echo, None, False), (self.echo, how, False)]
+        """The 99th in 100 beside a rude client to that without, by turns: the node's, and the echo's, to which the same one is rude."""
+        without, near, far = (None, False), (how, False), (how, True)
+        ways = [(self.node, *without), (self.node, *near), (self.node, *far), (self.echo, *without), (self.echo, *near)]
         rounds = [[self.late(*way) for way in ways] for _ in range(PAIRS)]
-        alone, by, aside, bare, bare_by = (sorted(each)[PAIRS // 2] for each in zip(*rounds))
+        rises = [(by / alone, aside / alone, bare_by / bare_alone) for alone, by, aside, bare_alone, bare_by in rounds]
+        rise, rise_aside, bare = (statistics.median(each) for each in zip(*rises))
+        time_alone, time_by = (statistics.median(each[way] for each in rounds) for way in (0, 1))
+        most = RISE * max(1, bare)
         kind = how or "nobody, by chance"
-        self.row(f"99th of {POLITE} clients beside one of this kind: {kind}", f"{by:.0f} us to {alone:.0f} us", RISE, by <= RISE * alone or not how)
-        self.row("the same, where it is so to another program", f"{aside:.0f} us to {alone:.0f} us", "", True)
-        self.row("the same of the echo", f"{bare_by:.0f} us to {bare:.0f} us", "", True)
+        times = f"{time_by:.0f} us to {time_alone:.0f} us"
+        self.row(f"99th of {POLITE} clients beside one of this kind, to that without: {kind}", f"{rise:.2f}; {times}",
+                 f"{most:.2f}" if how else "", rise <= most or not how)
+        self.row("the same of the echo", f"{bare:.2f}", "", True)
+        self.row("the same of the node, where it is so to another program", f"{rise_aside:.2f}", "", True)
 
     def rate(self, scrapes):
         """The reads a second of one client, of a node whose page is asked for each 10 ms or not at all."""
@@ -155,32 +167,33 @@ class Bench:
 
     def row(self, what, number, wanted, kept):
         self.met &= kept
-        print(f"| {what} | {number} | {wanted} |{'' if kept else ' MISSED'}")
+        print(f"| {what} | {number} | {wanted} |{'' if kept else ' MISSED'}", flush=True)
+
+    def one_beside(self, what, at, alone, rounds, times, times_of_echo):
+        """What one client's reads take beside the 1,000, in microseconds, and the most that they may."""
+        found, bare = (statistics.median(each[at] for each in side) for side in zip(*rounds))
+        most = times * alone[at]
+        if bare > most:
+            most = times_of_echo * bare
+        self.row(f"{what} of one client beside the others; alone; that of the echo beside the others",
+                 f"{found:.0f} us; {alone[at]:.0f} us; {bare:.0f} us", f"{most:.0f} us", found <= most)
 
     def run(self):
         node, echo = self.node(), self.echo()
-        alone = self.load(node, 1, 0, self.turns)
+        alone = self.load(node, 1, 0, READS)
         node.end()
-        rates, firsts, bares = [], [], []
+        rounds = []
         for _ in range(ROUNDS):
             node = self.node()
-            served, bare = self.load(node, BUSY, SILENT, self.turns), self.load(echo, BUSY, SILENT, self.turns)
+            rounds.append((self.load(node, BUSY, SILENT, self.turns), self.load(echo, BUSY, SILENT, self.turns)))
             node.end()
-            rates.append(served[1] / bare[1])
-            firsts.append((served[2], served[3], served[1], served[6]))
-            bares.append((bare[2], bare[3]))
         echo.end()
-        rates.sort()
-        firsts.sort()
-        median, late, rate, lost = firsts[len(firsts) // 2]
-        self.row("reads a second of 1,000 clients beside 2,000 silent ones", f"{rate:.0f}, {lost:.0f} lost", "none lost", lost == 0)
-        self.row("the same to the echo", f"{rates[len(rates) // 2]:.2f}", RATE, rates[len(rates) // 2] >= RATE)
-        self.row("a client alone: median, 99th", f"{alone[2]:.0f} us, {alone[3]:.0f} us", "", True)
-        self.row("beside the others: median, 99th", f"{median:.0f} us, {late:.0f} us", "", True)
-        bare = sorted(bares)[len(bares) // 2]
-        self.row("the same of the echo", f"{bare[0]:.0f} us, {bare[1]:.0f} us", "", True)
-        self.row("beside the others: median to alone", f"{median / alone[2]:.1f}", MEDIAN, median <= MEDIAN * alone[2])
-        self.row("beside the others: 99th to alone", f"{late / alone[3]:.1f}", LATE, late <= LATE * alone[3])
+        share = statistics.median(served[1] / bare[1] for served, bare in rounds)
+        rate = statistics.median(served[1] for served, _ in rounds)
+        self.row("reads a second of 1,000 clients beside 2,000 silent ones", f"{rate:.0f}", "", True)
+        self.row("the same to the echo", f"{share:.2f}", RATE, share >= RATE)
+        self.one_beside("median", 2, alone, rounds, MEDIAN, MEDIAN_ECHO)
+        self.one_beside("99th", 3, alone, rounds, LATE, LATE_ECHO)
         node = self.node()
         before = node.memory()
         silent = subprocess.Popen(
@@ -194,6 +207,8 @@ class Bench:
             self.beside(how)
         share = self.scraped()
         self.row("one client's rate beside a scrape each 10 ms, to that without", f"{share:.3f}", SCRAPED, share >= SCRAPED)
+        self.row("connections that were lost, of all of these", f"{self.lost:.0f}", "none", self.lost == 0)
+        print("all bounds were kept" if self.met else "a bound was NOT kept")
         return 0 if self.met else 1
 
 

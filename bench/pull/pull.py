@@ -13,16 +13,28 @@ import re
 import statistics
 import subprocess
 import sys
+import time
 
 HERE = os.path.dirname(os.path.abspath(__file__))
 TOP = os.path.join(HERE, "..", "..")
 sys.path[:0] = [os.path.join(TOP, "bench"), os.path.join(TOP, "example")]
 
 import kept  # noqa: E402
-from serving import Server, relay_port  # noqa: E402
+from serving import Server  # noqa: E402
 
 ROUNDS, MOST, CHANNEL = 9, 1.2, 1
 SIGNER, WHO = kept.USERS[0]
+PATIENCE = 30
+
+
+def port_in(path):
+    """The port that the wallet's listener has written, once it has."""
+    for _ in range(100 * PATIENCE):
+        if os.path.exists(path):
+            with open(path, encoding="ascii") as file:
+                return file.read().strip()
+        time.sleep(0.01)
+    raise RuntimeError("the wallet does not listen")
 
 
 class Bench:
@@ -66,7 +78,7 @@ class Bench:
         listen = [sys.executable, os.path.join(TOP, "example", "listen.py"), port, self.program, self.wallet_file, "-", "-", "wallet"]
         wallet = subprocess.Popen(listen)
         try:
-            return self.node(f"-,127.0.0.1:{relay_port(port)}", frames, "--pull")
+            return self.node(f"-,127.0.0.1:{port_in(port)}", frames, "--pull")
         finally:
             wallet.kill()
             wallet.wait()

@@ -5,7 +5,7 @@
 
 OUT is a folder for loads, journals and lines, with the tool `measure`. A node answers 100,000 anchored
 reads, and 1,000,000; and 60,000 reads behind a login with four certificates, each of another object than
-those whose proofs are kept, so that each is a miss. Its journals are judged, the best of three times each.
+those whose proofs are kept, so that each is a miss. Its journals are judged, the best of nine times each.
 It fails where 1,000,000 reads are judged at less than 800,000 entries a second, or take more than 1.15 times
 ten times the processor time of 100,000; where logins take more than 0.6 of the processor time in which the
 node answered them; where the memory is more than that of the node and 1.3 times the bytes of the journals;
@@ -24,7 +24,7 @@ FEW, MANY, LOGINS, OBJECTS = 100_000, 1_000_000, 60_000, 65
 # The most entries of each journal of a shard and so many objects.
 LIMIT = 8_388_608 // (OBJECTS + 1)
 LEAST_RATE, MOST_TIMES, MOST_OF_RUN, MOST_BYTES, MOST_REFUSED = 800_000, 1.15, 0.6, 1.3, 1.05
-TRIES, RUNS = 40, 3
+TRIES, RUNS = 40, 9
 
 
 class Took:

@@ -233,13 +233,28 @@ class Clocks(Case):
     def test_a_clock_before_1970_has_failed(self):
         self.assertEqual(self.read_at(-1), (5, 0))
 
+    def test_a_reading_that_is_not_believed_is_told(self):
+        now, day = 1_800_000_000, 86_400
+        for readings, count in ([-1], 1), ([now, now + 2 * day], 1), ([now, now - day, now], 0):
+            run = self.run_at(readings, ["--tell-refusals"], b"".join(map(reads, range(1, len(readings) + 1))))
+            self.assertEqual(run.stderr.count(b" clock-failed lane 0\n"), count, readings)
+
 
 class Lacks(Case):
+    def held_by(self, node):
+        """The descriptors of a node that serves already, and has no connection any more."""
+        with socket.create_connection(("127.0.0.1", node.port), PATIENCE) as stream:
+            stream.sendall(b"\0\0\0\0")
+            frames_of(stream, 1)
+        count = None
+        while count != (count := len(os.listdir(f"/proc/{node.pid}/fd"))):
+            time.sleep(SECOND)
+        return count
+
     def test_with_few_descriptors_a_door_waits_and_tells_it_once(self):
         many = 30
         node = self.node(options=["--tell-refusals"])
-        pid = node.pid
-        held = len(os.listdir(f"/proc/{pid}/fd"))
+        pid, held = node.pid, self.held_by(node)
         # One is enough to take a connection, and not to serve it.
         resource.prlimit(pid, resource.RLIMIT_NOFILE, (held + 1, held + 64))
         streams = [socket.create_connection(("127.0.0.1", node.port), PATIENCE) for _ in range(many)]
@@ -260,7 +275,7 @@ class Lacks(Case):
 
     def test_a_door_that_can_take_none_waits_for_descriptors(self):
         node = self.node(options=["--tell-refusals"])
-        held = len(os.listdir(f"/proc/{node.pid}/fd"))
+        held = self.held_by(node)
         resource.prlimit(node.pid, resource.RLIMIT_NOFILE, (held, held + 64))
         # The door waits already, and the system may have kept a number for the connection that it waits for.
         first, second = (socket.create_connection(("127.0.0.1", node.port), PATIENCE) for _ in range(2))

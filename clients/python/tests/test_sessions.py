@@ -22,8 +22,8 @@ class Server:
                 stream, _ = self.listener.accept()
             except OSError:
                 return
-            threading.Thread(target=self._serve, args=(stream, self.count), daemon=True).start()
             self.count += 1
+            threading.Thread(target=self._serve, args=(stream, self.count - 1), daemon=True).start()
 
     def _serve(self, stream, place):
         with stream, stream.makefile("rwb") as files:

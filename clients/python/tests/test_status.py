@@ -251,16 +251,18 @@ class Decisions(Case):
 class Start(Case):
     def test_the_begin_and_the_end_have_a_line_each(self):
         served = {"node": 7, "channels": LANES, "objects": 1, "shards": 2, "journal": 16384}
+        limits = {"connections": 100, "frames": 1000000, "idle": 60}
         for form, clients in ("text", []), ("json", ["--clients", "10"]):
             node = self.node(options=["--tell-start", "--notices", form, *clients])
             status, notes = self.ends(node)
+            where = {"listen": f"127.0.0.1:{node.port}"}
             lines = notes.decode("ascii").splitlines()
             if form == "json":
                 told = [{key: value for key, value in json.loads(line).items() if key not in ("time", "level")} for line in lines]
-                self.assertEqual(told, [{"event": "started", **served, "lanes": 1, "clients": 10}, {"event": "ended", "status": 0}])
+                self.assertEqual(told, [{"event": "started", **served, "lanes": 1, "clients": 10, **limits, **where}, {"event": "ended", "status": 0}])
             else:
-                pairs = " ".join(f"{key} {value}" for key, value in served.items())
-                self.assertEqual([line.split(" ", 2)[2] for line in lines], [f"started {pairs} lanes 1", "ended status 0"])
+                pairs = " ".join(f"{key} {value}" for key, value in {**served, "lanes": 1, **limits, **where}.items())
+                self.assertEqual([line.split(" ", 2)[2] for line in lines], [f"started {pairs}", "ended status 0"])
             self.assertEqual(status, 0)
 
 

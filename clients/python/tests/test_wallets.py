@@ -15,7 +15,7 @@ def told():
     """The conversations whose file is read, each with its lines."""
     for case in conversations("wallets.txt"):
         if case.words("words")[:1] == ["wallet"] and case.text("status") in ("0", "2"):
-            yield case, case.bytes("file").decode("ascii").splitlines()
+            yield case, case.bytes("file").decode("ascii", "surrogateescape").splitlines()
 
 
 class Wallets(unittest.TestCase):

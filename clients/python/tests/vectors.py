@@ -130,18 +130,18 @@ def asked(payload):
 
 
 class Opening:
-    """A binary opening: its channels' keys, its anchors, and its objects' lists."""
+    """A binary opening: its channels' keys, its anchors, its certificates in common, its objects' lists, and its numbers."""
 
     def __init__(self, data):
         parts = Parts(data)
-        parts.take(58)
+        parts.take(38)
+        self.shards, self.keep, self.limit = parts.number(4), parts.number(8), parts.number(8)
         self.keys = {}
         for _ in range(parts.number(2)):
             number = parts.number(4)
             self.keys[number] = parts.take(32)
         self.anchors = [(parts.number(4), parts.number(4)) for _ in range(parts.number(1))]
-        for _ in range(parts.number(1)):
-            parts.counted(2)
+        self.commons = [parts.counted(2) for _ in range(parts.number(1))]
         self.objects = {}
         for _ in range(parts.number(2)):
             number = parts.number(4)

@@ -51,13 +51,14 @@ class Connection:
 
     def _read(self, count):
         """So many bytes, or fewer where the stream ends."""
+        piece = self.source.read(min(count, PIECE))
+        if len(piece) == count:
+            return piece
         pieces = []
-        while count:
-            piece = self.source.read(min(count, PIECE))
-            if not piece:
-                break
+        while piece:
             pieces.append(piece)
             count -= len(piece)
+            piece = self.source.read(min(count, PIECE)) if count else b""
         return b"".join(pieces)
 
 

@@ -35,6 +35,13 @@ class Reader:
             self.refuse(f"the number {number}", at)
         return number
 
+    def numbers(self, form):
+        """Numbers one behind the other, of the widths of a struct."""
+        at, self.at = self.at, self.at + form.size
+        if self.at > len(self.data):
+            self.refuse("bytes are lacking", len(self.data))
+        return form.unpack_from(self.data, at)
+
     def counted(self, width):
         """Bytes behind their length."""
         return self.take(self.number(width))
@@ -46,9 +53,10 @@ class Reader:
 
 def number(value, width):
     """The field of a number. One that has no room in it is refused by ValueError."""
-    if not isinstance(value, int) or not 0 <= value < 1 << 8 * width:
-        raise ValueError(f"{value!r} is no number of {width} bytes")
-    return value.to_bytes(width, "big")
+    try:
+        return value.to_bytes(width, "big")
+    except (AttributeError, OverflowError) as fault:
+        raise ValueError(f"{value!r} is no number of {width} bytes") from fault
 
 
 def counted(data, width):

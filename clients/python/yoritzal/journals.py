@@ -80,13 +80,14 @@ class Ask:
 @dataclass(frozen=True)
 class Keep:
     """The proof of the Ask at a place by an entry of its list. Whose it is follows from that Ask, and the lease from what
-    it cites."""
+    it cites; where it had lapsed one is told too."""
 
     ask: int
     entry: int
     proof: object
     cites: tuple
     told: str
+    told_lease: object = None
 
     @property
     def lease(self):
@@ -98,10 +99,11 @@ class Keep:
 
 @dataclass(frozen=True)
 class Change:
-    """A Hold, Discard, Forget, Expire or Withdraw: its words, and what was told."""
+    """A Hold, Discard, Forget, Expire or Withdraw: its words, what was told, and of a Hold the bodies that were to be held."""
 
     what: str
     told: str
+    bodies: tuple = ()
 
     def __str__(self):
         return f"{self.what} -> {self.told}"
@@ -125,7 +127,8 @@ def _words(operation):
     if isinstance(operation, Write):
         return f"write {len(operation.content)}"
     if isinstance(operation, SetList):
-        return "list " + "; ".join(f"{_letters(each.rights)} {each.who}" for each in operation.entries)
+        # The program writes no blanks about this sign.
+        return "list " + "; ".join(f"{_letters(each.rights)} {each.who}" for each in operation.entries).replace(" | ", "|")
     if isinstance(operation, Discard):
         return f"discard {operation.digest.hex()}"
     if isinstance(operation, Forget):
@@ -219,14 +222,14 @@ def _keep(fields):
         return Keep(*kept, "kept")
     if kind == 1:
         return Keep(*kept, f"dropped not-held {fields.take(32).hex()}")
-    clock, _ = fields.number(8), fields.number(8)
-    return Keep(*kept, f"dropped lapsed {clock}")
+    clock, lease = fields.number(8), fields.number(8)
+    return Keep(*kept, f"dropped lapsed {clock}", lease)
 
 
 def _hold(fields):
-    held = len(_bodies(fields, MAX_PRESENTED))
+    bodies = _bodies(fields, MAX_PRESENTED)
     kind = _one_of(fields, range(2))
-    return Change(f"hold {held}", ("added", "full")[kind] + f" {fields.number(1)}")
+    return Change(f"hold {len(bodies)}", ("added", "full")[kind] + f" {fields.number(1)}", bodies)
 
 
 def _discard(fields):

@@ -1,5 +1,6 @@
 """Replies: what a node answers. Nothing of one is believed before its tag is found right."""
 import functools
+import struct
 from dataclasses import dataclass
 
 from .certificates import read_body
@@ -11,6 +12,8 @@ from .terms import ENTRY_NODES, read_term
 VERSION = 4
 MAX_CITED, MAX_REPLY = 64, (1 << 26) - 1
 DIGEST_BYTES = 32
+# Version, channel, number and status; of a grant kept, entry, shard, place, and how long its proof is.
+HEAD, GRANT = struct.Struct(">BIQB"), struct.Struct(">BBIQI")
 
 
 @dataclass(frozen=True)
@@ -209,11 +212,13 @@ UNSEALED = (MalformedRequest, UnknownChannel, BadSeal)
 
 
 def _read_granted(fields, channel, number):
-    kept, entry = bool(fields.number(1, most=1)), fields.number(1)
-    shard, place = fields.number(4), fields.number(8)
-    proof = fields.counted(4)
-    bodies = tuple(fields.counted(2) for _ in range(fields.number(1, most=MAX_CITED)))
-    return Granted(channel, number, kept, entry, shard, place, proof, bodies, fields.counted(2))
+    at = fields.at
+    kept, entry, shard, place, length = fields.numbers(GRANT)
+    if kept > 1:
+        fields.refuse(f"the number {kept}", at)
+    proof = fields.take(length)
+    bodies = tuple([fields.counted(2) for _ in range(fields.number(1, most=MAX_CITED))])
+    return Granted(channel, number, kept == 1, entry, shard, place, proof, bodies, fields.counted(2))
 
 
 def _read_link(fields):
@@ -230,9 +235,8 @@ def _read_link(fields):
     return fields.refuse(f"a link of kind {kind}", at)
 
 
-def _read_fields(fields, channel, number):
-    at = fields.at
-    status = fields.number(1)
+def _read_fields(fields, channel, number, status):
+    at = fields.at - 1
     if status == Granted.status:
         return _read_granted(fields, channel, number)
     if status == Denied.status:
@@ -251,9 +255,10 @@ def _read_fields(fields, channel, number):
 def read_reply(payload):
     """The reply that is spelled by the payload. Its tag is not looked at, nor the proof of a grant."""
     fields = Reader(payload[:-TAG_BYTES])
-    if len(payload) < TAG_BYTES or fields.number(1) != VERSION:
+    if payload[:1] != VERSION.to_bytes(1, "big"):
         fields.refuse("a reply of another version", 0)
-    reply = _read_fields(fields, fields.number(4), fields.number(8))
+    _, channel, number, status = fields.numbers(HEAD)
+    reply = _read_fields(fields, channel, number, status)
     fields.end()
     if isinstance(reply, UNSEALED) and not is_unsealed(payload):
         fields.refuse("a seal where there is none")

@@ -33,7 +33,7 @@ class Wallet:
     @classmethod
     def of_file(cls, lines):
         """That of the lines of a wallet file."""
-        wallet, has_begun = cls(), False
+        wallet, has_begun, at = cls(), False, 0
         for at, line in enumerate(lines, 1):
             words = line.split()
             if not words or words[0].startswith("#"):
@@ -47,7 +47,7 @@ class Wallet:
                 raise NoWallet(at, fault) from fault
             has_begun = True
         if not has_begun:
-            raise NoWallet(1, "first line")
+            raise NoWallet(at + 1, "first line")
         return wallet
 
     def lines(self):
