@@ -6,6 +6,7 @@ use Rattle.std.proofs.lemmas.List.{length-map, length-take-le, map-append, map_m
 use Rattle.std.proofs.lemmas.List.Elements.{All-nil, All-cons}
 use Rattle.sealed_cert.specs.Seals.{sealed}
 use Rattle.stmt_codec.specs.Certificates.{Certificate, body_spelling, IsWithinLimits}
+use Rattle.frame_link.specs.Lent.{Lent, Nothing, To, Both}
 use Rattle.frame_link.specs.Relay.{Link}
 use Rattle.relay_core.specs.Credentials as credentials
 use Rattle.relay_core.specs.Credentials.{LinkAnswer, Resealed, Refused, LinkCall, link_use, call, Comes, by_node, by_relay, IsIssued, IsRefused, malformed, bad_seal, bad_reseal, FailedAs, IsLinked, IsQuiet}
@@ -22,8 +23,17 @@ use Rattle.cred_pull.specs.declared.pulling.Pulled.TheVariants.{Ready, PullFaile
 use Rattle.taos_wire.specs.Request.{Request}
 use Rattle.cred_pull.specs.Fetching.{Texts, FetchSeen, Gave, Lacked, Failed, IsFetched}
 use Rattle.cred_pull.specs.Pulled.{IsOpened, comes, refused, too_long, ArePulled, none_more, one_more, StopsAt, IsFailedAt, IsInterrupted, at_end, at_text, after_call}
-use Rattle.cred_pull.specs.Pulling.{forms_of, within, IsLeftOff, AreLeftOff, HasPlace, stop_at, OneIsPulled, OneIsLeftOff, AllArePulled, AllAreLeftOff, TakesIn, Pulls, pull_use, ready, pull_failed, relay_failed, unfetched}
+use Rattle.cred_pull.specs.Pulling.{forms_of, within, IsLeftOff, AreLeftOff, HasPlace, stop_at, OneIsPulled, OneIsLeftOff, AllArePulled, AllAreLeftOff, Opener, Remains, TakesIn, Pulls, pull_use, ready, pull_failed, relay_failed, unfetched}
 use Rattle.cred_pull.specs.Pulling.{interrupted as interrupted_by}
+
+-- ---- who opens
+
+pub remains : (a b c : Opener) → Remains a b → Remains b c → Remains a c
+remains a b c first then = record { key = then.key ∙ first.key; node = then.node ∙ first.node; lent = then.lent ∙ first.lent }
+
+-- what is lent for it, name by name
+pub two_names : (a b p q : ℕ) (l m : Lent) → Both (To p Nothing) (To q m) ≡ Both (To a Nothing) (To b l) → (p ≡ a) × (q ≡ b) × (m ≡ l)
+two_names a b p q l m same = (cc, cc, cc)
 
 -- ---- one of them
 

@@ -3,9 +3,11 @@ use Rattle.std.specs.Prelude.{◌≡◌, ℕ, ◌+◌, ◌-◌, ◌<◌, ◌≤�
 use Rattle.sealed_cert.specs.declared.kind.TheConstants.{RELAYED}
 use Rattle.sealed_cert.specs.Seals.{sealed}
 use Rattle.stmt_codec.specs.Certificates.{Certificate}
+use Rattle.frame_link.specs.Lent.{Lent}
+use Rattle.frame_link.specs.Relay.{Link}
 use Rattle.relay_core.specs.declared.message.TheConstants.{MAX_CERT}
 use Rattle.relay_core.specs.Credentials as credentials
-use Rattle.relay_core.specs.Credentials.{LinkCall, call, IsIssued, LinkUse, IsLinked, IsQuiet}
+use Rattle.relay_core.specs.Credentials.{LinkCall, call, IsIssued, LinkUse, link_use, IsLinked, IsQuiet}
 use Rattle.relay_core.specs.Presenting.{IsOneInterrupted}
 use Rattle.taos_wire.specs.declared.request.TheConstants.{MAX_CERTS}
 use Rattle.taos_wire.specs.Request.{Request}
@@ -68,6 +70,28 @@ pub record Pulls (key : List ℕ) (u : PullUse) (old new : Request) (result : Pu
   pub ends : Ends key old new pull calls result
 
 -- ---- the steps
+
+-- who opens certificates: under which key, for which node it asks the link, what the link shows, and
+-- what is borrowed for it
+pub record Opener : Type 0 where
+  pub key : List ℕ
+  pub node : ℕ
+  pub link : Link
+  pub lent : Lent
+
+-- who opens, of these
+abbrev pub opener : List ℕ → ℕ → Link → Lent → Opener
+opener key node link lent = record { key = key; node = node; link = link; lent = lent }
+
+-- in what the link was asked between the two
+abbrev pub used : (before after : Opener) → LinkUse
+used before after = link_use before.node before.link after.link
+
+-- the same opens, whatever became of the link
+pub record Remains (before after : Opener) : Type 0 where
+  pub key : after.key ≡ before.key
+  pub node : after.node ≡ before.node
+  pub lent : after.lent ≡ before.lent
 
 -- one text was not pulled, by these calls
 abbrev pub IsLeftOff : List ℕ → List LinkCall → LeftOff → Type 0

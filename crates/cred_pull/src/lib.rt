@@ -11,6 +11,7 @@ mod limit_laws;
 mod limits;
 mod mem_fetch;
 mod no_fetch;
+mod opening;
 mod pull_reply;
 mod pulling;
 mod wallet;

@@ -10,12 +10,13 @@ ghost use Rattle.taos_wire.specs.Request.{FitsRequest};
 ghost use Rattle.taos_wire.specs.View.{request, text_of};
 ghost use Rattle.cred_pull.specs.declared.pulling.PullStop.TheVariants.{NoMemory};
 ghost use Rattle.cred_pull.specs.Pulling.{AllAreLeftOff, AllArePulled, OneIsLeftOff, OneIsPulled};
-ghost use Rattle.cred_pull.specs.Pulling.{HasPlace, Pulls, TakesIn, pull_use, stop_at};
+ghost use Rattle.cred_pull.specs.Pulling.{HasPlace, Pulls, Remains, TakesIn, pull_use, stop_at, used};
 
 use crate::fetch::{Fetch, Fetched};
+use crate::opening::{Opens, Presenter};
 use frame_link::{Failed, RelayLink};
 use keyed_seal::Sealer;
-use relay_core::{MAX_CERT, OpenedCerts, Unpresented, present_with};
+use relay_core::{MAX_CERT, OpenedCerts, Unpresented};
 use sealed_cert::seal_relayed_with;
 use std::alloc::{AllocError, Global};
 use stmt_codec::CertBody;
@@ -82,27 +83,24 @@ fn sealed(alloc: Global, key: &Sealer, body: &CertBody) -> Result<Vec<u8>, Alloc
 
 // The form of one fetched certificate under the relay's seal, and none where it is refused or too
 // long.
-fn form_of<R: RelayLink>(
+fn form_of<O: Opens>(
     alloc: Global,
-    node: u32,
     key: &Sealer,
-    opened: &mut OpenedCerts,
-    link: &mut R,
+    by: &mut O,
     text: &[u8],
 ) -> Result<Option<Vec<u8>>, LeftOff>
-    requires one_key { opened.old ≡ key.now }
+    requires one_key { (O.shown by.old).key ≡ key.now }
     ensures pulled { IfOk result (λ form. OneIsPulled key.now
-        (link_use node (R.shown link.old) (R.shown link.new))
+        (used (O.shown by.old) (O.shown by.new))
         text.now (option_to_list (option_map text_of form))) }
     ensures left_off { IfErr result (OneIsLeftOff
-        (link_use node (R.shown link.old) (R.shown link.new)) text.now) }
-    ensures key { opened.new ≡ opened.old }
-    ensures same { R.borrows link.new ≡ R.borrows link.old }
+        (used (O.shown by.old) (O.shown by.new)) text.now) }
+    ensures rest { Remains (O.shown by.old) (O.shown by.new) }
 {
     if text.len() > MAX_CERT {
         return Ok(None);
     }
-    match present_with(alloc, node, opened, link, text) {
+    match by.open(alloc, text) {
         Ok(cert) => match sealed(alloc, key, &cert.body) {
             Ok(form) => Ok(Some(form)),
             Err(_) => Err(LeftOff::NoMemory),
@@ -125,27 +123,24 @@ fn add_form(forms: &mut Vec<Vec<u8>>, form: Option<Vec<u8>>) -> Result<(), Alloc
 }
 
 // The forms of all that open, in order.
-fn forms_of<R: RelayLink>(
+fn forms_of<O: Opens>(
     alloc: Global,
-    node: u32,
     key: &Sealer,
-    opened: &mut OpenedCerts,
-    link: &mut R,
+    by: &mut O,
     texts: &[Vec<u8>],
 ) -> Result<Vec<Vec<u8>>, PullStop>
-    requires one_key { opened.old ≡ key.now }
+    requires one_key { (O.shown by.old).key ≡ key.now }
     ensures pulled { IfOk result (λ forms. AllArePulled key.now
-        (link_use node (R.shown link.old) (R.shown link.new))
+        (used (O.shown by.old) (O.shown by.new))
         (map text_of texts.now) (map text_of forms.items)) }
     ensures left_off { IfErr result (AllAreLeftOff key.now
-        (link_use node (R.shown link.old) (R.shown link.new)) (map text_of texts.now)) }
+        (used (O.shown by.old) (O.shown by.new)) (map text_of texts.now)) }
     ensures place { IfErr result (HasPlace (map text_of texts.now)) }
-    ensures key { opened.new ≡ opened.old }
-    ensures same { R.borrows link.new ≡ R.borrows link.old }
+    ensures rest { Remains (O.shown by.old) (O.shown by.new) }
 {
     let mut forms = Vec::new(alloc);
     for place in 0..texts.len() {
-        match form_of(alloc, node, key, opened, link, &texts[place]) {
+        match form_of(alloc, key, by, &texts[place]) {
             Ok(form) => add_form(&mut forms, form)?,
             Err(why) => return Err(stop_at(place, why)),
         }
@@ -162,28 +157,25 @@ fn index_of(presented: usize, place: usize) -> u8
 }
 
 // Appends those of the fetched certificates that open.
-fn append_opened<R: RelayLink>(
+fn append_opened<O: Opens>(
     alloc: Global,
-    node: u32,
     key: &Sealer,
-    opened: &mut OpenedCerts,
-    link: &mut R,
+    by: &mut O,
     fetched: &[Vec<u8>],
     asked: &mut Request,
 ) -> Pulled
     requires fits { FitsRequest (request asked.old) }
-    requires one_key { opened.old ≡ key.now }
-    ensures takes { TakesIn key.now (link_use node (R.shown link.old) (R.shown link.new))
+    requires one_key { (O.shown by.old).key ≡ key.now }
+    ensures takes { TakesIn key.now (used (O.shown by.old) (O.shown by.new))
         (map text_of fetched.now) (request asked.old) (request asked.new) result }
     ensures fits { FitsRequest (request asked.new) }
     ensures short { All (λ t. length t ≤ 65531) (request asked.old).certs
         → All (λ t. length t ≤ 65531) (request asked.new).certs }
-    ensures key { opened.new ≡ opened.old }
-    ensures same { R.borrows link.new ≡ R.borrows link.old }
+    ensures rest { Remains (O.shown by.old) (O.shown by.new) }
 {
     let presented = asked.certs.len();
     let most = (MAX_CERTS as usize - presented).min(fetched.len());
-    match forms_of(alloc, node, key, opened, link, &fetched[..most]) {
+    match forms_of(alloc, key, by, &fetched[..most]) {
         Ok(mut forms) => match asked.certs.append(&mut forms) {
             Ok(()) => Pulled::Ready,
             Err(_) => Pulled::NoMemory,
@@ -229,7 +221,8 @@ pub fn pull_with<P: Fetch, R: RelayLink>(
         Ok(Fetched::NoMemory) => return Pulled::NoMemory,
         Err(Failed) => return Pulled::PullFailed,
     };
-    append_opened(alloc, node, key, opened, link, &fetched, asked)
+    let mut by = Presenter { node, opened, link };
+    append_opened(alloc, key, &mut by, &fetched, asked)
 }
 
 /// As `pull_with`, by a key alone.

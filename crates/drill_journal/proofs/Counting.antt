@@ -12,7 +12,7 @@ use Rattle.object_core.specs.declared.ruling.Ruling.{Ruling}
 use Rattle.object_core.specs.declared.ruling.Ruling.TheVariants as rulings
 use Rattle.node_words.specs.Words.{DrillWords}
 use Rattle.taos_drill.specs.Words.{is_even, word_of}
-use Rattle.taos_monitor.specs.Cells.{Node, Journals}
+use Rattle.request_course.specs.Cells.{Node, Journals}
 use Rattle.turn_cell.specs.Journal.{times}
 use Rattle.drill_journal.specs.Counts.{CountsJournals, has_grant}
 use Rattle.drill_journal.specs.Requests.{FitsDrill, IsLoadNode, its_channel, its_fixed, its_object, its_shard}

@@ -23,8 +23,8 @@ use Rattle.node_words.specs.Words.{DrillWords}
 use Rattle.taos_drill.specs.Opened.{reader}
 use Rattle.taos_drill.specs.Sent.{number_of, requests_of}
 use Rattle.taos_drill.specs.Words.{is_even, word_of}
-use Rattle.taos_monitor.specs.AtObject.{ruled_as}
-use Rattle.taos_monitor.specs.Cells.{Node, Journals, Cell, OfShard, OfObject, in_object, in_shard, number_in, numbers_in, entries_in}
+use Rattle.request_course.specs.AtObject.{ruled_as}
+use Rattle.request_course.specs.Cells.{Node, Journals, Cell, OfShard, OfObject, in_object, in_shard, number_in, numbers_in, entries_in}
 use Rattle.turn_cell.specs.Journal.{once_within}
 use Rattle.turn_cell.proofs.Counts.{length_within}
 use Rattle.drill_journal.specs.Requests.{FitsDrill, IsLoadNode, channels_of, its_channel, its_limit, its_list, its_object, its_shard, load_plan}

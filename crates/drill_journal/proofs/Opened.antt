@@ -5,7 +5,7 @@ use Rattle.keyed_seal.proofs.Tags.{length-tag_of}
 use Rattle.sealed_cert.specs.Seals.{sealed_text, Spells, Opens}
 use Rattle.stmt_codec.specs.Certificates.{Certificate, body_spelling}
 use Rattle.stmt_codec.proofs.Once.{body_once}
-use Rattle.taos_monitor.specs.Credentials.{LinkCall, IsIssued, Comes, by_node, by_relay, IsRefused, malformed, bad_seal, refused, bad_reseal, AreOpened, none_more, one_more, IsFirstRefused, IsFirstFailed}
+use Rattle.request_course.specs.Credentials.{LinkCall, IsIssued, Comes, by_node, by_relay, IsRefused, malformed, bad_seal, refused, bad_reseal, AreOpened, none_more, one_more, IsFirstRefused, IsFirstFailed}
 
 kinds_apart : (text x y : List ℕ) → text ≡ 2 ∷ x → text ≡ 1 ∷ y → ⊥
 kinds_apart text x y relayed issued = absurd cc

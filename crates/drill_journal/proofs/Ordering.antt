@@ -7,7 +7,7 @@ use Rattle.std.proofs.lemmas.Bool.Decides.{nat_tests}
 use Rattle.std.proofs.lemmas.Nat.{div-add-mod', mul-le}
 use Rattle.node_words.specs.Words.{DrillWords}
 use Rattle.taos_drill.specs.Sent.{number_of}
-use Rattle.taos_monitor.specs.Cells.{Node, Journals, OfShard, in_shard, IsAfter}
+use Rattle.request_course.specs.Cells.{Node, Journals, OfShard, in_shard, IsAfter}
 use Rattle.drill_journal.specs.Requests.{its_shard}
 use Rattle.drill_journal.specs.Works.{Work, work_places, LaneOf, In}
 use Rattle.drill_journal.proofs.Members.{in_either, in_left, in_right, flat_in, in_map, in_ranged, in_filter, of_lane}

@@ -22,8 +22,8 @@ use Rattle.taos_drill.specs.Opened.{reader}
 use Rattle.taos_drill.specs.Sent.{number_of, requests_of}
 use Rattle.taos_drill.specs.Words.{is_even, word_of}
 use Rattle.taos_drill.proofs.Numbering.{once}
-use Rattle.taos_monitor.specs.AtObject.{ruled_as}
-use Rattle.taos_monitor.specs.Cells.{Node, Journals}
+use Rattle.request_course.specs.AtObject.{ruled_as}
+use Rattle.request_course.specs.Cells.{Node, Journals}
 use Rattle.drill_journal.specs.Counts.{has_grant}
 use Rattle.drill_journal.specs.Requests.{FitsDrill, IsLoadNode, channels_of, its_channel, its_limit, its_list, its_object, its_shard, load_plan}
 use Rattle.drill_journal.specs.Works.{Work, IsUnheard, Came, object_full, shard_full, unheard, denied, granted, LaneOf, LoadWorks, In}

@@ -29,12 +29,12 @@ use Rattle.taos_drill.specs.Sent.{drill_certificate, drill_request, number_of, p
 use Rattle.taos_drill.specs.Words.{is_even, key_at, word_of}
 use Rattle.taos_drill.proofs.Asking.{certificate_opens, request_asked}
 use Rattle.taos_drill.proofs.Readable.{even_object, odd_object}
-use Rattle.taos_monitor.specs.Cells.{Node, home, Journals, no_entries, in_object, in_shard}
-use Rattle.taos_monitor.specs.Credentials.{LinkCall, AreOpened, IsFirstRefused, IsFirstFailed}
-use Rattle.taos_monitor.specs.Asking.{IsUnruled, full, replayed, channel_full, untold, unanswered}
-use Rattle.taos_monitor.specs.AtObject.{Seeking, Own, asks_for, places_at, ruled_as, IsGuardedAfter, object_is_full, no_ruling, denied, granted}
-use Rattle.taos_monitor.specs.Effects.{ShardStep, its_place, shards_of, IsPerformed, through, not_held, no_room, no_place}
-use Rattle.taos_monitor.specs.Course.{Arrival, Used, Course, its_seeking, malformed, unknown_channel, bad_seal, cert_refused, relay_failed, unknown_object, ruled, unread, unopened}
+use Rattle.request_course.specs.Cells.{Node, home, Journals, no_entries, in_object, in_shard}
+use Rattle.request_course.specs.Credentials.{LinkCall, AreOpened, IsFirstRefused, IsFirstFailed}
+use Rattle.request_course.specs.Asking.{IsUnruled, full, replayed, channel_full, untold, unanswered}
+use Rattle.request_course.specs.AtObject.{Seeking, Own, asks_for, places_at, ruled_as, IsGuardedAfter, object_is_full, no_ruling, denied, granted}
+use Rattle.request_course.specs.Effects.{ShardStep, its_place, shards_of, IsPerformed, through, not_held, no_room, no_place}
+use Rattle.request_course.specs.Course.{Arrival, Used, Course, its_seeking, malformed, unknown_channel, bad_seal, cert_refused, relay_failed, unknown_object, ruled, unread, unopened}
 use Rattle.drill_journal.specs.Requests.{FitsDrill, IsLoadNode, channels_of, its_channel, its_fixed, its_limit, its_list, its_object, its_shard, load_plan}
 use Rattle.drill_journal.specs.Works as works
 use Rattle.drill_journal.specs.Works.{Turned, WasListed, work_of, work_places}

@@ -7,7 +7,7 @@ use Rattle.object_core.specs.Shelving.{numbers_of}
 use Rattle.node_words.specs.Words.{DrillWords}
 use Rattle.taos_drill.specs.Sent.{requests_of}
 use Rattle.taos_drill.specs.Words.{is_even, word_of}
-use Rattle.taos_monitor.specs.Cells.{Node, Journals}
+use Rattle.request_course.specs.Cells.{Node, Journals}
 
 -- how many requests have an even word
 abbrev pub evens : DrillWords → ℕ

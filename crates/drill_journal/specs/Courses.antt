@@ -3,8 +3,8 @@ use Rattle.std.specs.Prelude.{◌≡◌, ◌≢◌, ℕ, ◌<◌, All}
 use Rattle.node_words.specs.Words.{DrillWords}
 use Rattle.taos_drill.specs.declared.numbers.TheConstants.{READING}
 use Rattle.taos_drill.specs.Sent.{payload_of}
-use Rattle.taos_monitor.specs.Cells.{Node, Journals}
-use Rattle.taos_monitor.specs.Course.{Course, Used}
+use Rattle.request_course.specs.Cells.{Node, Journals}
+use Rattle.request_course.specs.Course.{Course, Used}
 use Rattle.taos_wire.specs.Reply.{NoMemory, Sent}
 use Rattle.drill_journal.specs.Counts.{CountsJournals}
 use Rattle.drill_journal.specs.Load.{IsLoadJournal}

@@ -13,7 +13,7 @@ use Rattle.taos_drill.specs.declared.numbers.TheConstants.{MAX_LANES, MAX_REQUES
 use Rattle.taos_drill.specs.Opened.{drill_channels, drill_objects, empty_object, issuer_anchor, reader}
 use Rattle.taos_drill.specs.Sent.{channel_of, number_of, object_for}
 use Rattle.taos_drill.specs.Words.{is_even, key_at, word_of}
-use Rattle.taos_monitor.specs.Cells.{Node}
+use Rattle.request_course.specs.Cells.{Node}
 
 -- the load is within the limits of drills
 pub record FitsDrill (d : DrillWords) : Type 0 where

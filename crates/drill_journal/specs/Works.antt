@@ -15,9 +15,8 @@ use Rattle.agent_core.specs.State.{Plan}
 use Rattle.drill_journal.specs.Load.{AsksAt, load_ask}
 use Rattle.node_words.specs.Words.{DrillWords}
 use Rattle.taos_drill.specs.Sent.{number_of, requests_of}
-use Rattle.taos_monitor.specs.AtObject.{ruled_as}
-use Rattle.taos_monitor.specs.Cells.{Node, Journals, Cell, Place, IsAfter, AreLegal}
-use Rattle.taos_monitor.specs.Cells.{entries_in, in_object, in_shard, numbers_in}
+use Rattle.request_course.specs.AtObject.{ruled_as}
+use Rattle.request_course.specs.Cells.{Node, Journals, Cell, Place, IsAfter, AreLegal, entries_in, in_object, in_shard, numbers_in}
 use Rattle.turn_cell.specs.Journal.{HasEach}
 use Rattle.drill_journal.specs.Requests.{channels_of, its_channel, its_fixed, its_limit, its_object, its_shard, load_plan}
 

@@ -1,7 +1,7 @@
 //! Laws of a node under the load of a drill, each the contract of a function that does nothing.
 
 ghost use Rattle.node_words.specs.Words.{DrillWords};
-ghost use Rattle.taos_monitor.specs.Cells.{Node};
+ghost use Rattle.request_course.specs.Cells.{Node};
 ghost use Rattle.drill_journal.specs.Courses.{CoursesAreTurned, ShardsAreLoads, WorksAreCounted};
 
 /// What the course of a load's request can be: a journal was full, its Ask was not judged, or it

@@ -14,7 +14,7 @@ use Rattle.object_core.specs.OneOwner.{journal_of}
 use Rattle.object_core.specs.Shelving.{ObjectFixed, fixed_of, numbers_of}
 use Rattle.node_words.specs.Words.{DrillWords}
 use Rattle.taos_lanes.specs.Serving.{journal_on, journals_of}
-use Rattle.taos_monitor.specs.Cells.{Node, Journals}
+use Rattle.request_course.specs.Cells.{Node, Journals}
 use Rattle.drill_journal.specs.Counts.{CountsJournals, CountsLoad}
 use Rattle.drill_journal.specs.Requests.{IsLoadNode, channels_of, load_plan}
 use Rattle.drill_journal.specs.Works.{In}

@@ -15,13 +15,13 @@ use Rattle.taos_drill.specs.declared.numbers.TheConstants.{READING}
 use Rattle.taos_drill.specs.Sent.{payload_of, requests_of}
 use Rattle.taos_lanes.specs.Lanes.{LaneRun, ServesAll, IsLaneAnswered, times_in_lane}
 use Rattle.taos_lanes.specs.Visits.{Visit, AnsweredIn, Chain, among, times_own}
-use Rattle.taos_monitor.specs.Cells.{Node, Journals, no_entries, Cell, Place, IsAfter, number_in, numbers_in}
-use Rattle.taos_monitor.specs.Course.{Course, Used}
-use Rattle.taos_monitor.specs.Handling.{Gave}
-use Rattle.taos_monitor.specs.Run.{Turn, AreTurns, IsCourse, frames_of, readings_of, pulls_of, places_of}
-use Rattle.taos_monitor.specs.World.{World}
-use Rattle.taos_monitor.proofs.Connections.{unpulled}
-use Rattle.taos_monitor.proofs.Whole.{plain_course}
+use Rattle.request_course.specs.Cells.{Node, Journals, no_entries, Cell, Place, IsAfter, number_in, numbers_in}
+use Rattle.request_course.specs.Course.{Course, Used}
+use Rattle.request_course.specs.Handling.{Gave}
+use Rattle.request_course.specs.Run.{Turn, AreTurns, IsCourse, frames_of, readings_of, pulls_of, places_of}
+use Rattle.request_course.specs.World.{World}
+use Rattle.request_course.proofs.Connections.{unpulled}
+use Rattle.request_course.proofs.Whole.{plain_course}
 use Rattle.taos_wire.specs.Reply as replies
 use Rattle.taos_wire.specs.Reply.{Sent, spelling}
 use Rattle.turn_cell.specs.Journal.{times}

@@ -7,7 +7,7 @@ use Rattle.taos_drill.specs.declared.numbers.TheConstants.{READING}
 use Rattle.taos_drill.specs.Sent.{payload_of, requests_of}
 use Rattle.taos_lanes.specs.Lanes.{LaneRun}
 use Rattle.taos_lanes.specs.Visits.{Visit}
-use Rattle.taos_monitor.specs.Cells.{Node}
+use Rattle.request_course.specs.Cells.{Node}
 use Rattle.taos_wire.specs.Reply.{NoMemory, Sent, spelling}
 
 -- no reply of the connection says that memory was refused

@@ -9,7 +9,7 @@ use Rattle.drill_journal.specs.Load.{IsLoadJournal}
 use Rattle.node_words.specs.Words.{DrillWords}
 use Rattle.taos_lanes.specs.Lanes.{LaneRun, ServesAll}
 use Rattle.taos_lanes.specs.Serving.{journals_of}
-use Rattle.taos_monitor.specs.Cells.{Node, Journals}
+use Rattle.request_course.specs.Cells.{Node, Journals}
 use Rattle.drill_journal.specs.Counts.{CountsLoad}
 use Rattle.drill_law.specs.Lanes.{AnswersLane}
 use Rattle.drill_journal.specs.Requests.{FitsDrill, IsLoadNode, channels_of, load_plan}

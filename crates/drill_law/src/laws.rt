@@ -2,7 +2,7 @@
 
 ghost use Rattle.std.specs.Prelude.{ℕ};
 ghost use Rattle.node_words.specs.Words.{DrillWords};
-ghost use Rattle.taos_monitor.specs.Cells.{Node};
+ghost use Rattle.request_course.specs.Cells.{Node};
 ghost use Rattle.drill_law.specs.Laws.{LoadIsCounted, ShardsHaveLoads};
 
 /// Where each lane answered all its requests and memory was not refused, the journals of the shards

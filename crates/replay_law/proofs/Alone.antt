@@ -4,9 +4,9 @@ use Rattle.std.specs.Prelude.{AllPairs}
 use Rattle.std.proofs.lemmas.Bool.{cases_eq}
 use Rattle.frame_link.specs.declared.outcome.Outcome.{Outcome}
 use Rattle.frame_link.specs.Served.{Line}
-use Rattle.taos_monitor.specs.Cells.{Cell, GoesOn, IsAfter, Journals, Node, OfObject, OfShard, Place, Seen, alone_of, entries_in, is_cell, no_entries, numbers_in}
-use Rattle.taos_monitor.specs.Connection.{IsConnection}
-use Rattle.taos_monitor.specs.World.{World, setting_of}
+use Rattle.request_course.specs.Cells.{Cell, GoesOn, IsAfter, Journals, Node, OfObject, OfShard, Place, Seen, alone_of, entries_in, is_cell, no_entries, numbers_in}
+use Rattle.request_course.specs.Connection.{IsConnection}
+use Rattle.request_course.specs.World.{World, setting_of}
 use Rattle.drill_journal.specs.Works.{In}
 use Rattle.drill_journal.proofs.Members.{all_in}
 use Rattle.drill_journal.proofs.Ordering.{Rises, pairs_first, pairs_tail}

@@ -15,8 +15,8 @@ use Rattle.audit_replay.specs.Legal.{AreLegal, AreRuled, HasCells, IsRuled, IsRu
 use Rattle.audit_replay.specs.Replays.{AreReplayed, entries_in, judged, legal}
 use Rattle.audit_replay.specs.declared.replayed.Replayed.{Replayed}
 use Rattle.audit_replay.proofs.Splits.{mapped_at, same_parts}
-use Rattle.taos_monitor.specs.Cells.{Journals, Node, OfObject, Place, in_object, in_shard}
-use Rattle.taos_monitor.specs.Run.{IsCourse, Turn}
+use Rattle.request_course.specs.Cells.{Journals, Node, OfObject, Place, in_object, in_shard}
+use Rattle.request_course.specs.Run.{IsCourse, Turn}
 use Rattle.drill_journal.specs.Works.{In}
 use Rattle.drill_journal.proofs.Members.{all_in, in_all, in_either, in_flat}
 use Rattle.drill_journal.proofs.Ordering.{pairs_first, pairs_tail}

@@ -5,8 +5,8 @@ use Rattle.std.proofs.lemmas.Bool.{cases_eq}
 use Rattle.std.proofs.lemmas.Bool.Decides.{nat_tests}
 use Rattle.std.proofs.lemmas.List.Kept.{AllPairs-cons}
 use Rattle.turn_cell.specs.Journal.{times}
-use Rattle.taos_monitor.specs.Cells.{Cell, Journals, Node, OfObject, OfShard, Place, entries_in, is_cell, numbers_in, AreLegal}
-use Rattle.taos_monitor.specs.Run.{IsCourse, Turn, places_of}
+use Rattle.request_course.specs.Cells.{Cell, Journals, Node, OfObject, OfShard, Place, entries_in, is_cell, numbers_in, AreLegal}
+use Rattle.request_course.specs.Run.{IsCourse, Turn, places_of}
 use Rattle.drill_journal.specs.Works.{In}
 use Rattle.drill_journal.proofs.Members.{in_all, in_left, in_right, in_times, one_here, times-cons, times_in}
 use Rattle.drill_journal.proofs.Members as members

@@ -8,8 +8,8 @@ use Rattle.std.proofs.lemmas.List.Sums.{sum_by-cons}
 use Rattle.turn_cell.specs.Journal.{once_within, times}
 use Rattle.taos_lanes.specs.Lanes.{IsLaneAnswered, LaneRun, ServesAll, times_in_lane}
 use Rattle.taos_lanes.specs.Visits.{AnsweredIn, Visit, times_own}
-use Rattle.taos_monitor.specs.Cells.{Cell, Journals, Node, Place, entries_in, number_in, numbers_in}
-use Rattle.taos_monitor.specs.Run.{IsCourse, Turn, places_of}
+use Rattle.request_course.specs.Cells.{Cell, Journals, Node, Place, entries_in, number_in, numbers_in}
+use Rattle.request_course.specs.Run.{IsCourse, Turn, places_of}
 use Rattle.drill_journal.proofs.Members.{in_times}
 use Rattle.drill_law.proofs.Owning.{times-append}
 use Rattle.replay_law.proofs.Owning.{Came, all_apart, in_numbers}

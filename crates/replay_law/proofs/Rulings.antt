@@ -12,12 +12,12 @@ use Rattle.agent_core.specs.Journals.{Entry, entry, Stands}
 use Rattle.agent_core.specs.State.{Plan, Ask, Asks}
 use Rattle.agent_core.proofs.Opening.{slice_at}
 use Rattle.audit_replay.specs.Legal.{IsDue, WasJudged, hit, missed}
-use Rattle.taos_monitor.specs.AtObject.{IsGuardedAfter, Own, Seeking, asks_for, denied, granted, no_ruling, object_is_full, places_at, ruled_as}
-use Rattle.taos_monitor.specs.Cells.{Node, Journals, OfObject, OfShard, Place, in_object, in_shard, no_entries}
-use Rattle.taos_monitor.specs.Course.{Course, TurnAfter, Used, bad_seal, cert_refused, malformed, relay_failed, ruled, unknown_channel, unknown_object, unopened, unread}
-use Rattle.taos_monitor.specs.Course.{plain, pull_failed, unfetched, unpulled, pull_stopped, pulled}
-use Rattle.taos_monitor.specs.Course.{its_seeking}
-use Rattle.taos_monitor.specs.Effects.{ShardStep, its_place}
+use Rattle.request_course.specs.AtObject.{IsGuardedAfter, Own, Seeking, asks_for, denied, granted, no_ruling, object_is_full, places_at, ruled_as}
+use Rattle.request_course.specs.Cells.{Node, Journals, OfObject, OfShard, Place, in_object, in_shard, no_entries}
+use Rattle.request_course.specs.Course.{Course, TurnAfter, Used, bad_seal, cert_refused, malformed, relay_failed, ruled, unknown_channel, unknown_object, unopened, unread}
+use Rattle.request_course.specs.Course.{plain, pull_failed, unfetched, unpulled, pull_stopped, pulled}
+use Rattle.request_course.specs.Course.{its_seeking}
+use Rattle.request_course.specs.Effects.{ShardStep, its_place}
 use Rattle.taos_wire.specs.Reply.{Reply, Sent}
 use Rattle.drill_journal.specs.Works.{In}
 use Rattle.drill_journal.proofs.Members.{in_either, map_in}

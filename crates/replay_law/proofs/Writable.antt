@@ -34,14 +34,14 @@ use Rattle.agent_core.proofs.Few.{judges_few}
 use Rattle.taos_calculus.proofs.Induction.{All-at}
 use Rattle.journal_bytes.specs.declared.limits.TheConstants.{MAX_CITES}
 use Rattle.journal_bytes.specs.Limits.{AsksWithinOf, CitesFewOf, IsAskWithin, is_right}
-use Rattle.taos_monitor.specs.Asking.{IsUnruled, full, replayed, channel_full, untold, unanswered}
-use Rattle.taos_monitor.specs.AtObject.{IsGuardedAfter, Own, Seeking, asks_for, denied, granted, no_ruling, object_is_full, places_at}
-use Rattle.taos_monitor.specs.Cells.{Journals, Node, OfObject, OfShard, Place, in_object, in_shard, no_entries}
-use Rattle.taos_monitor.specs.Course.{Course, TurnAfter, Used, bad_seal, cert_refused, its_seeking, malformed, relay_failed, ruled, unknown_channel, unknown_object, unopened, unread}
-use Rattle.taos_monitor.specs.Course.{plain, pull_failed, unfetched, unpulled, pull_stopped, pulled}
-use Rattle.taos_monitor.specs.Effects.{IsPerformed, IsStep, ShardStep, its_place, step_at, through, not_held, no_room, no_place}
-use Rattle.taos_monitor.specs.Operations.{effect_of}
-use Rattle.taos_monitor.specs.Run.{IsCourse, Turn}
+use Rattle.request_course.specs.Asking.{IsUnruled, full, replayed, channel_full, untold, unanswered}
+use Rattle.request_course.specs.AtObject.{IsGuardedAfter, Own, Seeking, asks_for, denied, granted, no_ruling, object_is_full, places_at}
+use Rattle.request_course.specs.Cells.{Journals, Node, OfObject, OfShard, Place, in_object, in_shard, no_entries}
+use Rattle.request_course.specs.Course.{Course, TurnAfter, Used, bad_seal, cert_refused, its_seeking, malformed, relay_failed, ruled, unknown_channel, unknown_object, unopened, unread}
+use Rattle.request_course.specs.Course.{plain, pull_failed, unfetched, unpulled, pull_stopped, pulled}
+use Rattle.request_course.specs.Effects.{IsPerformed, IsStep, ShardStep, its_place, step_at, through, not_held, no_room, no_place}
+use Rattle.request_course.specs.Operations.{effect_of}
+use Rattle.request_course.specs.Run.{IsCourse, Turn}
 use Rattle.taos_wire.specs.Reply.{Reply, Sent}
 use Rattle.taos_wire.specs.Request.{FitsRequest}
 use Rattle.drill_journal.specs.Works.{In}

@@ -13,9 +13,9 @@ use Rattle.audit_replay.specs.Legal.{AreLegal, AreRuled}
 use Rattle.audit_replay.specs.Replays.{AreReplayed, IsReplayed, entries_in}
 use Rattle.audit_replay.specs.declared.replayed.Replayed.{Replayed}
 use Rattle.taos_lanes.specs.Lanes.{LaneRun, ServesAll}
-use Rattle.taos_monitor.specs.Cells.{Node, Journals, alone_of, no_entries}
-use Rattle.taos_monitor.specs.Connection.{IsConnection}
-use Rattle.taos_monitor.specs.World.{World, setting_of}
+use Rattle.request_course.specs.Cells.{Node, Journals, alone_of, no_entries}
+use Rattle.request_course.specs.Connection.{IsConnection}
+use Rattle.request_course.specs.World.{World, setting_of}
 use Rattle.replay_law.specs.Left.{cells_in, journals_left, objects_of, shards_left}
 
 -- the node served from empty journals on, and left these

@@ -6,7 +6,7 @@ use Rattle.agent_core.specs.Journals.{Entry}
 use Rattle.node_open.specs.Cells.{Cells}
 use Rattle.journal_bytes.specs.Spelled.{Journals as Spelled, ObjectJournal, numbered}
 use Rattle.audit_replay.specs.Replays.{all_spelled}
-use Rattle.taos_monitor.specs.Cells.{Node, Journals}
+use Rattle.request_course.specs.Cells.{Node, Journals}
 
 -- what never changes of the node's shards and objects
 abbrev pub cells_in : Node → Cells

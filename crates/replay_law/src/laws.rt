@@ -1,6 +1,6 @@
 //! The journals that a node left, judged again.
 
-ghost use Rattle.taos_monitor.specs.Cells.{Node};
+ghost use Rattle.request_course.specs.Cells.{Node};
 ghost use Rattle.replay_law.specs.Laws.{LeavesAsksWithin, LeavesLegal, LeavesReplayed, LeavesWritable};
 
 /// Where a node served from empty journals on, those at the end are legal beside its cells: each entry

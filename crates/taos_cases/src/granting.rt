@@ -1,10 +1,11 @@
 //! Whether a reply is the grant that is wanted.
 
 use crate::case::Grant;
+use crate::linking::CaseLink;
 use crate::objects::{Around, no_door, readings_of, sink_of, source_of};
 use crate::playing::call;
 use cred_pull::NoFetch;
-use frame_link::{MemClock, NoRelay};
+use frame_link::MemClock;
 use std::alloc::{AllocError, Global};
 use std::sync::Wait;
 use std::thread::Threads;
@@ -72,7 +73,7 @@ fn checked<W: Threads + Wait + Sync>(
     let clock = MemClock::new(readings_of(alloc, &[])?, Vec::new(alloc));
     let words = [String::from_str(alloc, "check")?];
     let door = no_door(alloc, &[])?;
-    let mut lanes = [Lane::of(clock, NoRelay::new(), door, NoFetch::new())];
+    let mut lanes = [Lane::of(clock, CaseLink::absent(), door, NoFetch::new())];
     Ok(call(rt, alloc, &words, around, &mut lanes))
 }
 

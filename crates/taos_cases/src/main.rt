@@ -7,6 +7,7 @@ mod comparing;
 mod fault;
 mod frames;
 mod granting;
+mod linking;
 mod objects;
 mod playing;
 mod reading;

@@ -8,9 +8,9 @@ use Rattle.frame_link.specs.Served.{Line, replies_of}
 use Rattle.agent_core.specs.Journals.{Begins}
 use Rattle.agent_core.proofs.Onward.{begins_itself, begins_on}
 use Rattle.turn_cell.specs.Journal.{times, HasEach}
-use Rattle.taos_monitor.specs.Cells.{Node, Journals, Cell, OfShard, OfObject, number_in, numbers_in, entries_in, AreLegal, Extends}
-use Rattle.taos_monitor.specs.World.{World}
-use Rattle.taos_monitor.specs.Laws.{AnsweredStays}
+use Rattle.request_course.specs.Cells.{Node, Journals, Cell, OfShard, OfObject, number_in, numbers_in, entries_in, AreLegal, Extends}
+use Rattle.request_course.specs.World.{World}
+use Rattle.request_course.specs.Laws.{AnsweredStays}
 use Rattle.taos_lanes.specs.Visits.{Visit, VisitBy, begun, left, Chain, places_of, all_places, AnsweredIn, times_own}
 use Rattle.taos_lanes.specs.Lanes.{LaneRun, times_in_lane, owned_in, IsFresh, IsLaneAnswered, SawBegins}
 use Rattle.taos_lanes.specs.Laws.{ChainGoesOn, JoinsOneMore, JoinedAreClosed, ClosedServesAll}

@@ -1,11 +1,10 @@
 -- What serving at new cells comes to, of its steps.
-use Rattle.std.proofs.Common.{◌≡◌, ℕ, suc, ◌+◌, List, [], ◌∷◌, length, map, get_or, drop, None, refl, sym, ap, ◌∙◌, subst, arith}
+use Rattle.std.proofs.Common.{◌≡◌, ℕ, suc, ◌+◌, List, [], ◌∷◌, length, map, None, refl, sym, ◌∙◌, subst, arith}
 use Rattle.std.specs.Prelude.{Bool, All}
 use Rattle.std.specs.List.{AllZip}
 use Rattle.std.proofs.lemmas.List.Elements.{All-nil, All-cons, All-head, All-tail}
 use Rattle.agent_core.specs.Journals.{MayFollow}
 use Rattle.agent_shards.specs.Cells.{AreJoined, HaveAll, shares_of}
-use Rattle.agent_shards.proofs.Rows.{zip_long}
 use Rattle.agent_shards.specs.Room.{HasRoom}
 use Rattle.agent_shards.specs.Shards.{ShardCell}
 use Rattle.agent_shards.specs.Objects.{ObjectCell}
@@ -14,10 +13,11 @@ use Rattle.turn_cell.specs.Known.{Cell, Known}
 use Rattle.taos_monitor.specs.declared.node_keys.NodeKeys.{NodeKeys}
 use Rattle.frame_link.specs.declared.limits.Limits.{Limits}
 use Rattle.taos_lanes.specs.declared.lane.Stock.{Stock}
-use Rattle.taos_lanes.specs.Stocked.{NodeCells, LaneShown, IsStockOf, IsStocked, ServesLane}
-use Rattle.taos_lanes.specs.Joining.{NodePasses, HaveAllBut, HaveOne, HasOtherWork, IsFreshStock, IsGivenStock, IsEmptied, JoinsAll, WorkIs, stocks_in}
+use Rattle.taos_lanes.specs.Stocked.{NodeCells, IsStockOf, IsStocked, ServesLane}
+use Rattle.taos_lanes.specs.Workers.{LaneShown, HasOtherWork}
+use Rattle.taos_lanes.specs.Joining.{NodePasses, HaveAllBut, HaveOne, IsGivenStock, IsEmptied, JoinsAll, WorkIs}
 use Rattle.taos_lanes.specs.Telling.{Telling}
-use Rattle.taos_lanes.proofs.Runs.{given_first, same_stock}
+use Rattle.taos_lanes.proofs.Runs.{Ran}
 
 -- ---- lanes before and after
 
@@ -84,13 +84,6 @@ one_back {F} {E} allows count (c ∷ cells) (a ∷ first) (b ∷ both) (d ∷ se
     (one_back allows count cells first both second j.1 (All-tail (λ (p : Known F E). p.shares + suc count ≡ ALL_SHARES) a first left) (All-tail (λ (p : Known F E). p.shares ≡ 1) d second one))
 one_back allows count _ _ _ _ j left one = absurd j
 
-same_ones : {F E : Type 0} (p q : List (Known F E)) → shares_of q ≡ shares_of p → HaveOne p → HaveOne q
-same_ones p [] same one = All-nil _
-same_ones [] (x ∷ q) same one = absurd cc
-same_ones {F} {E} (y ∷ p) (x ∷ q) same one =
-    All-cons (λ (k : Known F E). k.shares ≡ 1) x q (ap (λ (l : List ℕ). get_or l 0 0) same ∙ All-head (λ (k : Known F E). k.shares ≡ 1) y p one)
-    (same_ones p q (ap (λ (l : List ℕ). drop 1 l) same) (All-tail (λ (k : Known F E). k.shares ≡ 1) y p one))
-
 shares_back : (cells : NodeCells) (before after : NodePasses) (stocks : List Stock) → JoinsAll cells before stocks after → All (λ (s : Stock). HaveOne s.passes × HaveOne s.racked) stocks →
     HaveAllBut (length stocks) before.shards → HaveAllBut (length stocks) before.objects → HaveAllBut 0 after.shards × HaveAllBut 0 after.objects
 shares_back cells before after [] j one shards objects = (subst (λ (x : NodePasses). HaveAllBut 0 x.shards) (sym j) shards, subst (λ (x : NodePasses). HaveAllBut 0 x.objects) (sym j) objects)
@@ -114,33 +107,10 @@ module _ {In Out : Type 0} (telling : Telling In Out) (keys : NodeKeys) (cells :
   works [] (a ∷ afters) z = absurd z
   works (b ∷ befores) [] z = absurd z
 
-  stocks_long : (befores afters : List (LaneShown (In × Out))) → AllZip (ServesLane telling keys cells pulls limits) befores afters → length (stocks_in afters) ≡ length befores
-  stocks_long [] [] z = refl
-  stocks_long (b ∷ befores) (a ∷ afters) z =
-      ap (λ (l : List Stock). length l) (given_first (λ (l : LaneShown (In × Out)). l.work) a afters z.0.new z.0.has) ∙ ap suc (stocks_long befores afters z.1)
-  stocks_long [] (a ∷ afters) z = absurd z
-  stocks_long (b ∷ befores) [] z = absurd z
-
-  -- each lane's stock still has one share of each cell
-  pub ones_after : (olds befores afters : List (LaneShown (In × Out))) → AllZip (IsGivenStock cells) olds befores → AllZip (ServesLane telling keys cells pulls limits) befores afters →
-      All (λ (s : Stock). HaveOne s.passes × HaveOne s.racked) (stocks_in afters)
-  ones_after [] [] [] g z = All-nil _
-  ones_after (o ∷ olds) (b ∷ befores) (a ∷ afters) g z =
-      let one = (subst (IsFreshStock cells) (same_stock b.work g.0.work.0 z.0.old g.0.work.1 z.0.had) g.0.work.2).one in
-      subst (All (λ (s : Stock). HaveOne s.passes × HaveOne s.racked)) (sym (given_first (λ (l : LaneShown (In × Out)). l.work) a afters z.0.new z.0.has))
-      (All-cons (λ (s : Stock). HaveOne s.passes × HaveOne s.racked) z.0.new (stocks_in afters)
-      (same_ones z.0.old.passes z.0.new.passes z.0.shares.shards one.shards, same_ones z.0.old.racked z.0.new.racked z.0.shares.objects one.objects)
-      (ones_after olds befores afters g.1 z.1))
-  ones_after [] [] (a ∷ afters) g z = absurd z
-  ones_after [] (b ∷ befores) afters g z = absurd g
-  ones_after (o ∷ olds) [] afters g z = absurd g
-  ones_after (o ∷ olds) (b ∷ befores) [] g z = absurd z
-
   -- all shares are back
-  pub all_back : (kept final : NodePasses) (olds befores afters : List (LaneShown (In × Out))) → AllZip (IsGivenStock cells) olds befores → AllZip (ServesLane telling keys cells pulls limits) befores afters →
-      JoinsAll cells kept (stocks_in afters) final → HaveAllBut (length olds) kept.shards → HaveAllBut (length olds) kept.objects → HaveAll final.shards × HaveAll final.objects
-  all_back kept final olds befores afters g z j shards objects =
-      let long : length (stocks_in afters) ≡ length olds = stocks_long befores afters z ∙ zip_long (IsGivenStock cells) olds befores g in
-      let back = shares_back cells kept final (stocks_in afters) j (ones_after olds befores afters g z)
-      (subst (λ (n : ℕ). HaveAllBut n kept.shards) (sym long) shards) (subst (λ (n : ℕ). HaveAllBut n kept.objects) (sym long) objects) in
+  pub all_back : (kept final : NodePasses) (olds news : List (LaneShown (In × Out))) (stocks : List Stock) → Ran telling keys cells pulls limits olds news stocks → JoinsAll cells kept stocks final →
+      HaveAllBut (length olds) kept.shards → HaveAllBut (length olds) kept.objects → HaveAll final.shards × HaveAll final.objects
+  all_back kept final olds news stocks ran j shards objects =
+      let back = shares_back cells kept final stocks j ran.ones
+      (subst (λ (n : ℕ). HaveAllBut n kept.shards) (sym ran.long) shards) (subst (λ (n : ℕ). HaveAllBut n kept.objects) (sym ran.long) objects) in
       (have_all final.shards back.0, have_all final.objects back.1)

@@ -11,8 +11,8 @@ use Rattle.agent_shards.specs.Objects.{KnownObject, journal_by, places_by, place
 use Rattle.turn_cell.specs.declared.shares.TheConstants.{ALL_SHARES}
 use Rattle.turn_cell.specs.Journal.{Grows}
 use Rattle.turn_cell.specs.Known.{Cell, Known}
-use Rattle.taos_monitor.specs.Cells as node
-use Rattle.taos_monitor.specs.Cells.{Node, Journals, OfShard, OfObject, seen_of}
+use Rattle.request_course.specs.Cells as node
+use Rattle.request_course.specs.Cells.{Node, Journals, OfShard, OfObject, seen_of}
 use Rattle.taos_lanes.specs.declared.lane.Stock.{Stock}
 use Rattle.taos_lanes.specs.Lanes.{LaneRun}
 use Rattle.taos_lanes.specs.Laws.{JoinedAt}

@@ -1,5 +1,5 @@
 mod Closing
-mod Crossing
+pub mod Crossing
 mod Giving
 mod SoFar
 mod Rows

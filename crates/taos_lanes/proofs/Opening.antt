@@ -7,8 +7,8 @@ use Rattle.agent_shards.specs.Cells.{IsOpened}
 use Rattle.agent_shards.specs.Each.{Each3}
 use Rattle.turn_cell.specs.declared.shares.TheConstants.{ALL_SHARES}
 use Rattle.turn_cell.specs.Known.{Cell, Known}
-use Rattle.taos_lanes.specs.Stocked.{LaneShown}
-use Rattle.taos_lanes.specs.Joining.{AreFresh, HaveAllBut, HasOtherWork}
+use Rattle.taos_lanes.specs.Workers.{LaneShown, HasOtherWork}
+use Rattle.taos_lanes.specs.Joining.{AreFresh, HaveAllBut}
 
 -- what is opened so
 pub record Opened {F E : Type 0} (cells : List (Cell F E)) (passes : List (Known F E)) : Type 0 where

@@ -1,17 +1,16 @@
 -- The lanes of a node, from their stocks until its cells were closed.
-use Rattle.std.proofs.Common.{◌≡◌, ℕ, zero, suc, ◌+◌, ◌≤◌, ◌==◌, true, List, [], ◌∷◌, length, map, Option, None, Some, refl, sym, ap, ap₂, ◌∙◌, subst, cond}
-use Rattle.std.specs.Prelude.{Bool, All, not, slice_get, filter_map, sum_by, count_by}
+use Rattle.std.proofs.Common.{◌≡◌, ℕ, zero, suc, ◌≤◌, ◌==◌, true, List, [], ◌∷◌, length, map, get_or, drop, Option, None, Some, refl, sym, ap, ◌∙◌, subst}
+use Rattle.std.specs.Prelude.{Bool, All, slice_get}
 use Rattle.std.specs.List.{AllZip}
-use Rattle.std.specs.List.{cons_option, position_or_len}
+use Rattle.std.specs.List.{position_or_len}
 use Rattle.std.proofs.lemmas.List.Elements.{All-nil, All-cons, All-head, All-tail}
-use Rattle.std.proofs.lemmas.List.Sums.{sum_by-cons}
 use Rattle.std.proofs.lemmas.Option.{same_Some}
 use Rattle.frame_link.specs.Doors.{DoorSeen}
 use Rattle.agent_core.specs.Alone as alone
 use Rattle.agent_core.specs.Alone.{plans_in}
 use Rattle.agent_core.specs.Journals.{Entry, ShardSeen, IsLegalJournal}
 use Rattle.agent_core.specs.State.{Plan}
-use Rattle.agent_shards.specs.Cells.{IsClosed}
+use Rattle.agent_shards.specs.Cells.{IsClosed, shares_of}
 use Rattle.agent_shards.specs.Each.{Each3}
 use Rattle.agent_shards.specs.Shards.{ShardCell, KnownShard, AreShardsClosed, journal_of, places_of, journal_at, own_at, plans_of}
 use Rattle.agent_shards.specs.Objects.{ObjectCell, KnownObject, AreObjectsClosed, journal_by, places_by, seen_on, own_on, fixed_in, place_among}
@@ -24,28 +23,25 @@ use Rattle.turn_cell.proofs.Journals.{once_within-none}
 use Rattle.turn_cell.specs.Journal.{HasEach}
 use Rattle.turn_cell.specs.Known.{Cell, Known}
 use Rattle.taos_monitor.specs.declared.node_keys.NodeKeys.{NodeKeys}
-use Rattle.taos_monitor.specs.Cells as node
-use Rattle.taos_monitor.specs.Cells.{Node, Journals, OfShard, OfObject, AreLegal, viewed}
-use Rattle.taos_monitor.specs.World.{fetch_use, reaching}
+use Rattle.request_course.specs.Cells as node
+use Rattle.request_course.specs.Cells.{Node, Journals, OfShard, OfObject, AreLegal, viewed}
+use Rattle.request_course.specs.World.{fetch_use, reaching}
 use Rattle.frame_link.specs.declared.limits.Limits.{Limits}
 use Rattle.taos_lanes.specs.declared.lane.Stock.{Stock}
-use Rattle.taos_lanes.specs.declared.total.Total.{Total}
 use Rattle.taos_lanes.specs.Doors.{GoesThrough}
 use Rattle.taos_lanes.specs.Telling.{Telling}
-use Rattle.taos_lanes.specs.Visits.{Visit, is_broken, is_lacking}
 use Rattle.taos_lanes.specs.Lanes.{LaneRun, ServesAll, IsFresh}
-use Rattle.taos_lanes.specs.Working.{HasDoorCause}
-use Rattle.taos_lanes.specs.Stocked.{NodeCells, node_at, seat, shelf, shards_viewed, objects_viewed, world_at, LaneShown, ServesLane}
-use Rattle.taos_lanes.specs.Joining.{NodePasses, ArePassesOf, JoinsAll, AreFresh, IsFreshStock, IsGivenStock, IsEmptied, stocks_in, IsTotalOf}
-use Rattle.taos_lanes.specs.Serving.{unseen, IsRunOf, AreCounted, journals_of}
+use Rattle.taos_lanes.specs.Working.{HasDoorCause, tally_of}
+use Rattle.taos_lanes.specs.Stocked.{NodeCells, node_at, seat, shelf, shards_viewed, objects_viewed, world_at, ServesLane}
+use Rattle.taos_lanes.specs.Workers.{LaneShown}
+use Rattle.taos_lanes.specs.Joining.{NodePasses, ArePassesOf, JoinsAll, AreFresh, HaveOne, IsFreshStock, IsGivenStock, IsEmptied, stocks_in}
+use Rattle.taos_lanes.specs.Serving.{unseen, IsRunOf, journals_of}
 use Rattle.taos_lanes.specs.Laws.{JoinedAt, ClosedServesAll}
 use Rattle.taos_lanes.proofs.Closing.{joined_are_closed}
 use Rattle.taos_lanes.proofs.Joined.{HasSeen, Knows, knows_all}
+use Rattle.taos_lanes.proofs.Totals.{given_first}
 
 -- ---- stocks
-
-pub given_first : {A B : Type 0} (f : A → Option B) (x : A) (xs : List A) (y : B) → f x ≡ Some y → filter_map f (x ∷ xs) ≡ y ∷ filter_map f xs
-given_first f x xs y is = ap (λ o. cons_option o (filter_map f xs)) is
 
 pub same_stock : (o : Option Stock) (s t : Stock) → o ≡ Some s → o ≡ Some t → s ≡ t
 same_stock o s t p q = same_Some s t (sym p ∙ q)
@@ -76,6 +72,14 @@ objects_unseen cells passes fresh k = viewed
     (λ o. (object_unseen passes fresh (place_among cells o) (slice_get passes (place_among cells o)) refl).0 k)
     (λ o. (object_unseen passes fresh (place_among cells o) (slice_get passes (place_among cells o)) refl).1 k)
 
+-- passes with one share each have it still where their shares are the same
+same_ones : {F E : Type 0} (p q : List (Known F E)) → shares_of q ≡ shares_of p → HaveOne p → HaveOne q
+same_ones p [] same one = All-nil _
+same_ones [] (x ∷ q) same one = absurd cc
+same_ones {F} {E} (y ∷ p) (x ∷ q) same one =
+    All-cons (λ (k : Known F E). k.shares ≡ 1) x q (ap (λ (l : List ℕ). get_or l 0 0) same ∙ All-head (λ (k : Known F E). k.shares ≡ 1) y p one)
+    (same_ones p q (ap (λ (l : List ℕ). drop 1 l) same) (All-tail (λ (k : Known F E). k.shares ≡ 1) y p one))
+
 -- ---- runs
 
 module _ {In Out : Type 0} (telling : Telling In Out) (keys : NodeKeys) (cells : NodeCells) (pulls : Bool) (limits : Limits) where
@@ -91,36 +95,9 @@ module _ {In Out : Type 0} (telling : Telling In Out) (keys : NodeKeys) (cells :
     door_failed = s.new.tally.door_failed;
   }
 
-  abbrev pub runs_of : (befores afters : List (LaneShown (In × Out))) → AllZip Serves befores afters → List (LaneRun (node_at keys cells) limits.frames)
-  runs_of [] [] z = []
-  runs_of [] (after ∷ afters) z = []
-  runs_of (before ∷ befores) [] z = []
-  runs_of (before ∷ befores) (after ∷ afters) z = run_of before after z.0 ∷ runs_of befores afters z.1
-
-  -- their stocks have seen what they have
-  pub runs_seen : (befores afters : List (LaneShown (In × Out))) (z : AllZip Serves befores afters) → AllZip (HasSeen cells) (runs_of befores afters z) (stocks_in afters)
-  runs_seen [] [] z = tt
-  runs_seen [] (after ∷ afters) z = absurd z
-  runs_seen (before ∷ befores) [] z = absurd z
-  runs_seen (before ∷ befores) (after ∷ afters) z =
-      subst (λ (l : List Stock). AllZip (HasSeen cells) (run_of before after z.0 ∷ runs_of befores afters z.1) l)
-      (sym (given_first (λ (lane : LaneShown (In × Out)). lane.work) after afters z.0.new z.0.has))
-      (refl, runs_seen befores afters z.1)
-
   first_fresh : (before after : LaneShown (In × Out)) (s : Serves before after) → IsFreshStock cells s.old → IsFresh (run_of before after s)
   first_fresh before after s f (OfShard k) = (shard_unseen s.old.passes f.shards_fresh k (slice_get s.old.passes k) refl).1
   first_fresh before after s f (OfObject o) = (object_unseen s.old.racked f.objects_fresh (place_among cells.objects o) (slice_get s.old.racked (place_among cells.objects o)) refl).1
-
-  -- they began with no own place
-  pub runs_fresh : (olds befores afters : List (LaneShown (In × Out))) → AllZip (IsGivenStock cells) olds befores → (z : AllZip Serves befores afters) → All IsFresh (runs_of befores afters z)
-  runs_fresh [] [] [] g z = All-nil IsFresh
-  runs_fresh (old ∷ olds) (before ∷ befores) (after ∷ afters) g z =
-      All-cons IsFresh (run_of before after z.0) (runs_of befores afters z.1) (first_fresh before after z.0 (subst (IsFreshStock cells) (same_stock before.work g.0.work.0 z.0.old g.0.work.1 z.0.had) g.0.work.2))
-      (runs_fresh olds befores afters g.1 z.1)
-  runs_fresh [] [] (after ∷ afters) g z = absurd z
-  runs_fresh [] (before ∷ befores) afters g z = absurd g
-  runs_fresh (old ∷ olds) [] afters g z = absurd g
-  runs_fresh (old ∷ olds) (before ∷ befores) [] g z = absurd z
 
   -- each is what its lane did
   run_is : (old before after new : LaneShown (In × Out)) → IsGivenStock cells old before → (s : Serves before after) → IsEmptied after new → IsRunOf telling pulls limits old new (run_of before after s)
@@ -135,55 +112,39 @@ module _ {In Out : Type 0} (telling : Telling In Out) (keys : NodeKeys) (cells :
         cause = subst (λ (d : DoorSeen (In × Out) × DoorSeen (In × Out)). HasDoorCause s.new.tally.door_failed d.0.faults d.1.faults) (λ k. (g.same.door k, sym e.same.door k)) s.serves.cause;
       }
 
-  pub runs_are : (olds befores afters news : List (LaneShown (In × Out))) → AllZip (IsGivenStock cells) olds befores → (z : AllZip Serves befores afters) → AllZip IsEmptied afters news →
-      Each3 (IsRunOf telling pulls limits) olds news (runs_of befores afters z)
-  runs_are [] [] [] [] g z e = tt
-  runs_are (old ∷ olds) (before ∷ befores) (after ∷ afters) (new ∷ news) g z e = (run_is old before after new g.0 z.0 e.0, runs_are olds befores afters news g.1 z.1 e.1)
-  runs_are [] [] [] (new ∷ news) g z e = absurd e
-  runs_are [] [] (after ∷ afters) news g z e = absurd z
-  runs_are [] (before ∷ befores) afters news g z e = absurd g
-  runs_are (old ∷ olds) [] afters news g z e = absurd g
-  runs_are (old ∷ olds) (before ∷ befores) [] news g z e = absurd z
-  runs_are (old ∷ olds) (before ∷ befores) (after ∷ afters) [] g z e = absurd e
+  -- what lanes did, from fresh stocks until these, of which they were emptied
+  pub record Ran (olds news : List (LaneShown (In × Out))) (stocks : List Stock) : Type 0 where
+    pub runs : List (LaneRun (node_at keys cells) limits.frames)
+    pub each : Each3 (IsRunOf telling pulls limits) olds news runs
+    pub fresh : All IsFresh runs
+    pub seen : AllZip (HasSeen cells) runs stocks
+    pub counted : AllZip (λ (run : LaneRun (node_at keys cells) limits.frames) (stock : Stock). stock.tally ≡ tally_of run.visits run.door_failed) runs stocks
+    pub ones : All (λ (stock : Stock). HaveOne stock.passes × HaveOne stock.racked) stocks
+    pub long : length stocks ≡ length olds
 
-  -- what is summed over the stocks is summed over the runs
-  sums : (of_stock : Stock → ℕ) (of_run : LaneRun (node_at keys cells) limits.frames → ℕ) → ((before after : LaneShown (In × Out)) (s : Serves before after) → of_stock s.new ≡ of_run (run_of before after s)) →
-      (befores afters : List (LaneShown (In × Out))) (z : AllZip Serves befores afters) → sum_by of_stock (stocks_in afters) ≡ sum_by of_run (runs_of befores afters z)
-  sums of_stock of_run each [] [] z = refl
-  sums of_stock of_run each [] (after ∷ afters) z = absurd z
-  sums of_stock of_run each (before ∷ befores) [] z = absurd z
-  sums of_stock of_run each (before ∷ befores) (after ∷ afters) z =
-      ap (sum_by of_stock) (given_first (λ (lane : LaneShown (In × Out)). lane.work) after afters z.0.new z.0.has)
-      ∙ (sum_by-cons of_stock z.0.new (stocks_in afters)
-      ∙ (ap₂ (λ (a b : ℕ). a + b) (each before after z.0) (sums of_stock of_run each befores afters z.1)
-      ∙ sym (sum_by-cons of_run (run_of before after z.0) (runs_of befores afters z.1))))
-
-  -- there is a stock for each run, and the first whose door failed is the same
-  as_many : (befores afters : List (LaneShown (In × Out))) (z : AllZip Serves befores afters) → length (stocks_in afters) ≡ length (runs_of befores afters z)
-  as_many [] [] z = refl
-  as_many [] (after ∷ afters) z = absurd z
-  as_many (before ∷ befores) [] z = absurd z
-  as_many (before ∷ befores) (after ∷ afters) z =
-      ap (λ (l : List Stock). length l) (given_first (λ (lane : LaneShown (In × Out)). lane.work) after afters z.0.new z.0.has) ∙ ap suc (as_many befores afters z.1)
-
-  same_first : (befores afters : List (LaneShown (In × Out))) (z : AllZip Serves befores afters) →
-      position_or_len (λ (s : Stock). s.tally.door_failed) (stocks_in afters) ≡ position_or_len (λ (run : LaneRun (node_at keys cells) limits.frames). run.door_failed) (runs_of befores afters z)
-  same_first [] [] z = refl
-  same_first [] (after ∷ afters) z = absurd z
-  same_first (before ∷ befores) [] z = absurd z
-  same_first (before ∷ befores) (after ∷ afters) z =
-      ap (position_or_len (λ (s : Stock). s.tally.door_failed)) (given_first (λ (lane : LaneShown (In × Out)). lane.work) after afters z.0.new z.0.has)
-      ∙ ap (λ (n : ℕ). cond (not z.0.new.tally.door_failed) (1 + n) 0) (same_first befores afters z.1)
-
-  pub runs_counted : (befores afters : List (LaneShown (In × Out))) (z : AllZip Serves befores afters) (total : Total) → IsTotalOf (stocks_in afters) total → AreCounted (runs_of befores afters z) total
-  runs_counted befores afters z total is = record {
-    lanes = is.lanes ∙ as_many befores afters z;
-    served = is.served ∙ sums (λ (s : Stock). s.tally.served) (λ (run : LaneRun (node_at keys cells) limits.frames). length run.visits) (λ b a s. s.serves.counted.served) befores afters z;
-    broken = is.broken ∙ sums (λ (s : Stock). s.tally.broken) (λ (run : LaneRun (node_at keys cells) limits.frames). count_by (λ (v : Visit (node_at keys cells) limits.frames). is_broken v.outcome) run.visits) (λ b a s. s.serves.counted.broken) befores afters z;
-    lacked = is.lacked ∙ sums (λ (s : Stock). s.tally.lacked) (λ (run : LaneRun (node_at keys cells) limits.frames). count_by (λ (v : Visit (node_at keys cells) limits.frames). is_lacking v.outcome) run.visits) (λ b a s. s.serves.counted.lacked) befores afters z;
-    doors_failed = is.doors_failed ∙ sums (λ (s : Stock). cond s.tally.door_failed 1 0) (λ (run : LaneRun (node_at keys cells) limits.frames). cond run.door_failed 1 0) (λ b a s. refl) befores afters z;
-    first_failed = is.first_failed ∙ same_first befores afters z;
-  }
+  pub all_ran : (olds befores afters news : List (LaneShown (In × Out))) → AllZip (IsGivenStock cells) olds befores → AllZip Serves befores afters → AllZip IsEmptied afters news → Ran olds news (stocks_in afters)
+  all_ran [] [] [] [] g z e = record { runs = []; each = tt; fresh = All-nil IsFresh; seen = tt; counted = tt; ones = All-nil _; long = refl }
+  all_ran (old ∷ olds) (before ∷ befores) (after ∷ afters) (new ∷ news) g z e =
+      let more = all_ran olds befores afters news g.1 z.1 e.1 in
+      let s = z.0 in
+      let run = run_of before after s in
+      let given : IsFreshStock cells s.old = subst (IsFreshStock cells) (same_stock before.work g.0.work.0 s.old g.0.work.1 s.had) g.0.work.2 in
+      subst (Ran (old ∷ olds) (new ∷ news)) (sym (given_first (λ (lane : LaneShown (In × Out)). lane.work) after afters s.new s.has)) (record {
+        runs = run ∷ more.runs;
+        each = (run_is old before after new g.0 s e.0, more.each);
+        fresh = All-cons IsFresh run more.runs (first_fresh before after s given) more.fresh;
+        seen = (refl, more.seen);
+        counted = (s.serves.counted, more.counted);
+        ones = All-cons (λ (stock : Stock). HaveOne stock.passes × HaveOne stock.racked) s.new (stocks_in afters)
+            (same_ones s.old.passes s.new.passes s.shares.shards given.one.shards, same_ones s.old.racked s.new.racked s.shares.objects given.one.objects) more.ones;
+        long = ap suc more.long;
+      })
+  all_ran [] [] [] (new ∷ news) g z e = absurd e
+  all_ran [] [] (after ∷ afters) news g z e = absurd z
+  all_ran [] (before ∷ befores) afters news g z e = absurd g
+  all_ran (old ∷ olds) [] afters news g z e = absurd g
+  all_ran (old ∷ olds) (before ∷ befores) [] news g z e = absurd z
+  all_ran (old ∷ olds) (before ∷ befores) (after ∷ afters) [] g z e = absurd e
 
 -- ---- closed cells
 

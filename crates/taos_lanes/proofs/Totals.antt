@@ -1,18 +1,22 @@
 -- What lanes counted, lane after lane.
-use Rattle.std.proofs.Common.{◌≡◌, ℕ, ◌+◌, ◌*◌, ◌^◌, ◌<◌, ◌≤◌, List, [], ◌∷◌, ◌++◌, length, map, take, get_or, Some, sym, ap, ap₂, ◌∙◌, subst, arith, cond}
-use Rattle.std.specs.Prelude.{◌==◌, All}
+use Rattle.std.proofs.Common.{◌≡◌, ℕ, ◌+◌, ◌*◌, ◌^◌, ◌<◌, ◌≤◌, List, [], ◌∷◌, ◌++◌, length, map, take, get_or, Option, Some, refl, sym, ap, ap₂, ◌∙◌, subst, arith, cond}
+use Rattle.std.specs.Prelude.{◌==◌, All, filter_map, not, sum_by}
+use Rattle.std.specs.List.{AllZip, cons_option, position_or_len}
 use Rattle.std.proofs.lemmas.List.{length-append, length-map, take_more}
 use Rattle.std.proofs.lemmas.List.Elements.{filter_map-append}
 use Rattle.std.proofs.lemmas.List.Folds.{position_or_len_push}
-use Rattle.std.proofs.lemmas.List.Sums.{sum_by_push}
+use Rattle.std.proofs.lemmas.List.Sums.{sum_by-cons, sum_by_push}
+use Rattle.agent_shards.proofs.Rows.{zip_long}
 use Rattle.taos_lanes.specs.declared.lane.Stock.{Stock}
 use Rattle.taos_lanes.specs.declared.tally.Tally.{Tally}
 use Rattle.taos_lanes.specs.declared.total.Total.{Total}
-use Rattle.taos_lanes.specs.Stocked.{LaneShown}
+use Rattle.taos_lanes.specs.Workers.{LaneShown}
 use Rattle.taos_lanes.specs.Joining.{IsEmptied, WorkIs, stocks_in, IsTotalOf}
 use Rattle.taos_lanes.specs.Totals.{IsSumOf}
 use Rattle.taos_lanes.proofs.Rows.{Upto, here_is, upto_long}
-use Rattle.taos_lanes.proofs.Runs.{given_first}
+
+pub given_first : {A B : Type 0} (f : A → Option B) (x : A) (xs : List A) (y : B) → f x ≡ Some y → filter_map f (x ∷ xs) ≡ y ∷ filter_map f xs
+given_first f x xs y is = ap (λ o. cons_option o (filter_map f xs)) is
 
 -- each sum of so many lanes is less than so many times 2 to the 64th
 pub record IsSmall (count : ℕ) (total : Total) : Type 0 where
@@ -41,6 +45,31 @@ pub total_more : (stocks : List Stock) (stock : Stock) (total more : Total) → 
     more.doors_failed ≡ total.doors_failed + cond stock.tally.door_failed 1 0 →
     more.first_failed ≡ cond (total.first_failed == total.lanes) (total.lanes + cond stock.tally.door_failed 0 1) total.first_failed → IsTotalOf (stocks ++ stock ∷ []) more
 total_more = sum_more (λ (s : Stock). s.tally)
+
+-- what is counted of these is counted of those, each of which counts the same in its turn
+module _ {A B : Type 0} (tally : A → Tally) (count : B → Tally) where
+  sums : (of : Tally → ℕ) (xs : List A) (ys : List B) → AllZip (λ (x : A) (y : B). count y ≡ tally x) xs ys → sum_by (λ (y : B). of (count y)) ys ≡ sum_by (λ (x : A). of (tally x)) xs
+  sums of [] [] z = refl
+  sums of (x ∷ xs) (y ∷ ys) z =
+      sum_by-cons (λ (b : B). of (count b)) y ys ∙ (ap₂ (λ (m n : ℕ). m + n) (ap of z.0) (sums of xs ys z.1) ∙ sym (sum_by-cons (λ (a : A). of (tally a)) x xs))
+  sums of [] (y ∷ ys) z = absurd z
+  sums of (x ∷ xs) [] z = absurd z
+
+  firsts : (xs : List A) (ys : List B) → AllZip (λ (x : A) (y : B). count y ≡ tally x) xs ys → position_or_len (λ (y : B). (count y).door_failed) ys ≡ position_or_len (λ (x : A). (tally x).door_failed) xs
+  firsts [] [] z = refl
+  firsts (x ∷ xs) (y ∷ ys) z = ap₂ (λ (t : Tally) (n : ℕ). cond (not t.door_failed) (1 + n) 0) z.0 (firsts xs ys z.1)
+  firsts [] (y ∷ ys) z = absurd z
+  firsts (x ∷ xs) [] z = absurd z
+
+  pub sum_same : (xs : List A) (ys : List B) (total : Total) → AllZip (λ (x : A) (y : B). count y ≡ tally x) xs ys → IsSumOf count ys total → IsSumOf tally xs total
+  sum_same xs ys total z t = record {
+    lanes = t.lanes ∙ zip_long _ xs ys z;
+    served = t.served ∙ sums (λ (x : Tally). x.served) xs ys z;
+    broken = t.broken ∙ sums (λ (x : Tally). x.broken) xs ys z;
+    lacked = t.lacked ∙ sums (λ (x : Tally). x.lacked) xs ys z;
+    doors_failed = t.doors_failed ∙ sums (λ (x : Tally). cond x.door_failed 1 0) xs ys z;
+    first_failed = t.first_failed ∙ firsts xs ys z;
+  }
 
 -- the stocks of one lane more
 stocks_at : {X : Type 0} (lanes : List (LaneShown X)) (i : ℕ) (d : LaneShown X) (stock : Stock) → i < length lanes → (get_or lanes i d).work ≡ Some stock →

@@ -10,9 +10,10 @@ use Rattle.turn_cell.specs.Known.{Known}
 use Rattle.taos_lanes.specs.declared.lane.Stock.{Stock}
 use Rattle.taos_lanes.specs.declared.serving.NewNode.{NewNode}
 use Rattle.taos_lanes.specs.declared.total.Total.{Total}
-use Rattle.taos_lanes.specs.Stocked.{NodeCells, IsStockOf, LaneShown, cells_of, node_at}
+use Rattle.taos_lanes.specs.Stocked.{NodeCells, IsStockOf, cells_of, node_at}
 use Rattle.taos_lanes.specs.Totals.{IsSumOf}
-use Rattle.taos_monitor.specs.Cells.{Node}
+use Rattle.taos_lanes.specs.Workers.{LaneShown, HasOtherWork}
+use Rattle.request_course.specs.Cells.{Node}
 
 -- passes of the shards and of the objects of a node
 pub record NodePasses : Type 0 where
@@ -95,12 +96,6 @@ node_by node = node_at node.keys (cells_by node)
 -- what a lane's work has in it is this
 abbrev pub WorkIs : {X : Type 0} → (Stock → Type 0) → LaneShown X → Type 0
 WorkIs is lane = (stock : Stock) × (lane.work ≡ Some stock) × is stock
-
--- the lane is as before, but for its work
-pub record HasOtherWork {X : Type 0} (before after : LaneShown X) : Type 0 where
-  pub outside : after.outside ≡ before.outside
-  pub door : after.door ≡ before.door
-  pub fetch : after.fetch ≡ before.fetch
 
 -- the lane is as before, with a fresh stock of these cells
 pub record IsGivenStock {X : Type 0} (cells : NodeCells) (before after : LaneShown X) : Type 0 where

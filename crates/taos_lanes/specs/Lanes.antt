@@ -2,8 +2,8 @@
 use Rattle.std.specs.Prelude.{◌≡◌, ℕ, Bool, List, [], All, sum_by}
 use Rattle.std.specs.List.{flat_map}
 use Rattle.turn_cell.specs.Journal.{once_within, HasEach}
-use Rattle.taos_monitor.specs.Cells.{Node, Journals, Cell, entries_in, AreLegal, Extends}
-use Rattle.taos_monitor.specs.World.{World}
+use Rattle.request_course.specs.Cells.{Node, Journals, Cell, entries_in, AreLegal, Extends}
+use Rattle.request_course.specs.World.{World}
 use Rattle.taos_lanes.specs.Visits.{Visit, Chain, left, AnsweredIn, times_own}
 
 -- a lane of a node: what it began with and came to, by its connections, in order

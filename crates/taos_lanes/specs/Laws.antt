@@ -2,8 +2,8 @@
 use Rattle.std.specs.Prelude.{◌≡◌, ℕ, List, [], ◌∷◌, ◌++◌, length, All}
 use Rattle.agent_core.specs.Journals.{Begins}
 use Rattle.turn_cell.specs.Journal.{HasEach}
-use Rattle.taos_monitor.specs.Cells.{Node, Journals, Cell, OfShard, OfObject, AreLegal}
-use Rattle.taos_monitor.specs.World.{World}
+use Rattle.request_course.specs.Cells.{Node, Journals, Cell, OfShard, OfObject, AreLegal}
+use Rattle.request_course.specs.World.{World}
 use Rattle.taos_lanes.specs.Visits.{Visit, Chain, begun, left}
 use Rattle.taos_lanes.specs.Lanes.{LaneRun, owned_in, IsFresh, AreClosed, ServesAll}
 

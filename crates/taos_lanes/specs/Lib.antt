@@ -3,6 +3,7 @@ pub mod Visits
 pub mod Lanes
 pub mod Laws
 pub mod Doors
+pub mod Workers
 pub mod Working
 pub mod Stocked
 pub mod Totals

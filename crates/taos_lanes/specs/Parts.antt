@@ -6,7 +6,7 @@ use Rattle.agent_core.specs.Plans.{AreShards}
 use Rattle.object_core.specs.Objects.{ObjectSeen}
 use Rattle.object_core.specs.Shelving.{HaveOwnNumbers, fixed_of}
 use Rattle.taos_monitor.specs.Arriving.{node_of}
-use Rattle.taos_monitor.specs.Cells.{Node}
+use Rattle.request_course.specs.Cells.{Node}
 use Rattle.taos_monitor.specs.Planned.{ArePlanned}
 use Rattle.taos_lanes.specs.declared.parts.NodeParts.{NodeParts}
 

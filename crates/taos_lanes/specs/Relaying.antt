@@ -1,8 +1,7 @@
 -- Lanes whose connections a relay serves.
-use Rattle.std.specs.Prelude.{◌≡◌, ℕ, Bool, true, List, length, count_by}
+use Rattle.std.specs.Prelude.{◌≡◌, ℕ, Bool, true, List}
 use Rattle.agent_shards.specs.Each.{Each3}
 use Rattle.frame_link.specs.declared.outcome.Outcome.{Outcome}
-use Rattle.frame_link.specs.Doors.{DoorSeen}
 use Rattle.frame_link.specs.Served.{Line, IsServed, HasCauses, IsComplete}
 use Rattle.relay_core.specs.declared.resealing.RelayTable.{RelayTable}
 use Rattle.relay_core.specs.Serving.{Answers, GivesUp}
@@ -10,11 +9,11 @@ use Rattle.frame_link.specs.declared.limits.Limits.{Limits}
 use Rattle.taos_lanes.specs.declared.tally.Tally.{Tally}
 use Rattle.taos_lanes.specs.declared.total.Total.{Total}
 use Rattle.taos_lanes.specs.Doors.{GoesThrough}
-use Rattle.taos_lanes.specs.Stocked.{LaneShown}
 use Rattle.taos_lanes.specs.Telling.{Change, Telling, change}
-use Rattle.taos_lanes.specs.Totals.{AreCountedBy}
-use Rattle.taos_lanes.specs.Visits.{Chain, VisitBy, is_broken, is_lacking}
-use Rattle.taos_lanes.specs.Working.{HasDoorCause, ServesDoorBy, lane_of}
+use Rattle.taos_lanes.specs.Totals.{IsSumOf}
+use Rattle.taos_lanes.specs.Visits.{Chain, VisitBy}
+use Rattle.taos_lanes.specs.Workers.{LaneShown, HasOtherDoor}
+use Rattle.taos_lanes.specs.Working.{HasDoorCause, ServesDoorBy, lane_of, tally_of}
 
 -- How a relay serves a connection, with the cause of its outcome. It has no clock, so none fails.
 pub record ServesRelayed (limit : ℕ) (before after : Line RelayTable) (outcome : Outcome) :
@@ -33,24 +32,18 @@ pub record RelayRun (limit : ℕ) : Type 0 where
   -- whether its door failed at last
   pub door_failed : Bool
 
--- the lane is as before, but for its door and for what it counted
-pub record HasOtherDoor {X : Type 0} (before after : LaneShown X) : Type 0 where
-  pub outside : after.outside ≡ before.outside
-  pub fetch : after.fetch ≡ before.fetch
-  pub work : after.work ≡ before.work
-
--- connections of the door were served by this table, and counted
-abbrev pub RelaysDoor : {In Out : Type 0} → Telling In Out → RelayTable → Limits →
-    (before after : DoorSeen (In × Out)) → Tally → Type 0
-RelaysDoor telling table limits before after =
-    ServesDoorBy telling (ServesRelayed limits.frames) limits
-    (change (lane_of table before) (lane_of table after))
-
--- The lane served connections of its door by this table, and counted them.
-pub record RelaysLane {In Out : Type 0} (telling : Telling In Out) (table : RelayTable)
-    (limits : Limits) (before after : LaneShown (In × Out)) : Type 0 where
+-- The lane served connections of its door by this table, and so many were counted.
+pub record RelaysDoor {In Out : Type 0} (telling : Telling In Out) (table : RelayTable)
+    (limits : Limits) (before after : LaneShown (In × Out)) (tally : Tally) : Type 0 where
   pub same : HasOtherDoor before after
-  pub serves : RelaysDoor telling table limits before.door after.door after.tally
+  pub serves : ServesDoorBy telling (ServesRelayed limits.frames) limits
+      (change (lane_of table before.door) (lane_of table after.door)) tally
+
+-- and it keeps the count
+abbrev pub RelaysLane : {In Out : Type 0} → Telling In Out → RelayTable → Limits →
+    (before after : LaneShown (In × Out)) → Type 0
+RelaysLane telling table limits before after =
+    RelaysDoor telling table limits before after after.tally
 
 -- what a lane did from before until after: it went through its door, and each connection was served
 -- by this table, which stayed as it is
@@ -66,10 +59,7 @@ pub record IsRelayRunOf {In Out : Type 0} (telling : Telling In Out) (table : Re
 -- these are counted
 abbrev pub AreRelaysCounted : {limit : ℕ} → List (RelayRun limit) → Total → Type 0
 AreRelaysCounted {limit} =
-    AreCountedBy (λ (run : RelayRun limit). length run.visits)
-    (λ (run : RelayRun limit). count_by (λ (v : RelayVisit limit). is_broken v.outcome) run.visits)
-    (λ (run : RelayRun limit). count_by (λ (v : RelayVisit limit). is_lacking v.outcome) run.visits)
-    (λ (run : RelayRun limit). run.door_failed)
+    IsSumOf (λ (run : RelayRun limit). tally_of run.visits run.door_failed)
 
 -- A relay that has this table served the doors of its lanes: each connection that a door gave was
 -- answered by the table, and given back.

@@ -1,5 +1,5 @@
 -- What the lanes of a node did, from its opening until its cells were closed.
-use Rattle.std.specs.Prelude.{◌≡◌, ℕ, ◌==◌, Bool, true, List, [], length, map, slice_get, count_by}
+use Rattle.std.specs.Prelude.{◌≡◌, ℕ, ◌==◌, Bool, true, List, [], map, slice_get}
 use Rattle.std.specs.List.{position_or_len}
 use Rattle.agent_core.specs.Alone.{plans_in, seen_in}
 use Rattle.agent_core.specs.Journals.{ShardSeen}
@@ -12,13 +12,12 @@ use Rattle.taos_lanes.specs.declared.serving.Served.{Served}
 use Rattle.taos_lanes.specs.declared.total.Total.{Total}
 use Rattle.taos_lanes.specs.Doors.{GoesThrough}
 use Rattle.taos_lanes.specs.Lanes.{LaneRun, ServesAll}
-use Rattle.taos_lanes.specs.Stocked.{LaneShown}
 use Rattle.taos_lanes.specs.Telling.{Change, Telling}
-use Rattle.taos_lanes.specs.Totals.{AreCountedBy}
-use Rattle.taos_lanes.specs.Visits.{Visit, is_broken, is_lacking}
-use Rattle.taos_lanes.specs.Working.{HasDoorCause}
-use Rattle.taos_monitor.specs.Cells.{Node, Journals, Viewed, viewed}
-use Rattle.taos_monitor.specs.World.{fetch_use, reaching}
+use Rattle.taos_lanes.specs.Totals.{IsSumOf}
+use Rattle.taos_lanes.specs.Workers.{LaneShown}
+use Rattle.taos_lanes.specs.Working.{HasDoorCause, tally_of}
+use Rattle.request_course.specs.Cells.{Node, Journals, Viewed, viewed}
+use Rattle.request_course.specs.World.{fetch_use, reaching}
 
 -- the journal of the first object of the number, or no entries where there is none
 abbrev pub journal_on : List ObjectSeen → ℕ → List ObjectEntry
@@ -49,12 +48,7 @@ pub record IsRunOf {In Out : Type 0} (telling : Telling In Out) {n : Node} (pull
 -- these are counted
 abbrev pub AreCounted : {n : Node} {limit : ℕ} → List (LaneRun n limit) → Total → Type 0
 AreCounted {n} {limit} =
-    AreCountedBy (λ (run : LaneRun n limit). length run.visits)
-    (λ (run : LaneRun n limit).
-    count_by (λ (v : Visit n limit). is_broken v.outcome) run.visits)
-    (λ (run : LaneRun n limit).
-    count_by (λ (v : Visit n limit). is_lacking v.outcome) run.visits)
-    (λ (run : LaneRun n limit). run.door_failed)
+    IsSumOf (λ (run : LaneRun n limit). tally_of run.visits run.door_failed)
 
 -- what the lanes of a node leave: the shards and objects with their journals, and what was counted
 pub record Left : Type 0 where

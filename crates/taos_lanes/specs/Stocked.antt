@@ -1,26 +1,21 @@
 -- A lane with passes of a node's cells, and what its worker does with them.
 use Rattle.std.specs.Prelude.{◌≡◌, ℕ, Bool, List, Option, None, Some}
-use Rattle.frame_link.specs.Doors.{DoorSeen}
-use Rattle.frame_link.specs.Outside.{OutsideSeen, outside_of}
-use Rattle.frame_link.specs.Relay.{Link}
-use Rattle.frame_link.specs.Streams.{Stream}
+use Rattle.frame_link.specs.Outside.{OutsideSeen}
 use Rattle.agent_core.specs.Journals.{Entry}
 use Rattle.agent_shards.specs.Cells.{shares_of}
 use Rattle.agent_shards.specs.Shards.{ShardCell, KnownShard, ArePasses, SeatSeen, journal_at, own_at, plans_of}
 use Rattle.agent_shards.specs.Objects.{ObjectCell, KnownObject, AreObjectPasses, RackSeen, seen_on, own_on, fixed_in}
 use Rattle.object_core.specs.Objects.{ObjectEntry}
-use Rattle.cred_pull.specs.Fetching.{FetchSeen}
-use Rattle.taos_lanes.specs.declared.lane.Lane.{Lane}
 use Rattle.frame_link.specs.declared.limits.Limits.{Limits}
 use Rattle.taos_lanes.specs.declared.lane.Stock.{Stock}
 use Rattle.taos_lanes.specs.declared.sitting.Shared.{Shared}
-use Rattle.taos_lanes.specs.declared.tally.Tally.{Tally}
 use Rattle.taos_lanes.specs.Telling.{Telling, change}
+use Rattle.taos_lanes.specs.Workers.{LaneShown}
 use Rattle.taos_lanes.specs.Working.{ServesDoor, lane_of}
 use Rattle.taos_monitor.specs.declared.node_keys.NodeKeys.{NodeKeys}
 use Rattle.taos_monitor.specs.Arriving.{node_of}
-use Rattle.taos_monitor.specs.Cells.{Node, Viewed, viewed}
-use Rattle.taos_monitor.specs.World.{World, FetchUse, fetch_use, reaching}
+use Rattle.request_course.specs.Cells.{Node, Viewed, viewed}
+use Rattle.request_course.specs.World.{World, FetchUse, fetch_use, reaching}
 
 -- the cells of a node's shards and of its objects
 pub record NodeCells : Type 0 where
@@ -79,28 +74,6 @@ pub record IsStocked (cells : NodeCells) (shards objects : List ℕ) (work : Opt
 pub record HaveSameShares (before after : Stock) : Type 0 where
   pub shards : shares_of after.passes ≡ shares_of before.passes
   pub objects : shares_of after.racked ≡ shares_of before.racked
-
--- a lane, as contracts see it: X is what its door gives
-pub record LaneShown (X : Type 0) : Type 0 where
-  -- its clock, and its link to the relay
-  pub outside : OutsideSeen
-  pub door : DoorSeen X
-  -- from where certificates are fetched
-  pub fetch : FetchSeen
-  pub work : Option Stock
-  -- what its worker counted as a relay
-  pub tally : Tally
-
--- a lane, by what its clock, its link, its door and its fetch show
-abbrev pub shown_by : {C R D P I O : Type 0} → (C → Stream) → (R → Link) →
-    (D → DoorSeen (I × O)) → (P → FetchSeen) → Lane C R D P I O → LaneShown (I × O)
-shown_by clock link door fetch lane = record {
-  outside = outside_of (clock lane.clock) (link lane.relay);
-  door = door lane.door;
-  fetch = fetch lane.fetch;
-  work = lane.work;
-  tally = lane.tally;
-}
 
 -- The lane served connections of its door at the cells, from what its passes had seen before to what
 -- they have seen now, with as many shares.

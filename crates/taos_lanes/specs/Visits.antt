@@ -5,10 +5,10 @@ use Rattle.frame_link.specs.declared.outcome.Outcome.{Outcome}
 use Rattle.frame_link.specs.declared.outcome.Outcome.TheVariants.{End, Truncated, TooLong, ReadFault, WriteFault, ClockFault, Spent, NoMemory}
 use Rattle.frame_link.specs.Served.{Line, replies_of}
 use Rattle.turn_cell.specs.Journal.{times}
-use Rattle.taos_monitor.specs.Cells.{Node, Journals, Cell, Place, numbers_in, alone_of}
-use Rattle.taos_monitor.specs.World.{Setting, World, setting_of}
-use Rattle.taos_monitor.specs.Connection.{Connects}
-use Rattle.taos_monitor.specs.Run.{Answered}
+use Rattle.request_course.specs.Cells.{Node, Journals, Cell, Place, numbers_in, alone_of}
+use Rattle.request_course.specs.World.{Setting, World, setting_of}
+use Rattle.request_course.specs.Connection.{Connects}
+use Rattle.request_course.specs.Run.{Answered}
 
 -- what stays as it is while a lane answers: others step its cells too
 abbrev pub among : Node → Setting

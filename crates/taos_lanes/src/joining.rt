@@ -3,14 +3,13 @@
 ghost use Rattle.std.specs.List.{AllZip};
 ghost use Rattle.std.specs.Prelude.{◌≡◌, ◌^◌, ◌≤◌, All, length, map};
 ghost use Rattle.taos_lanes.specs.Joining.{ArePassesOf, IsEmptied, IsTotalOf, Joins, JoinsAll, WorkIs, passes_of, stocks_in};
-ghost use Rattle.taos_lanes.specs.Stocked.{IsStockOf, cells_of, shown_by};
+ghost use Rattle.taos_lanes.specs.Stocked.{IsStockOf, cells_of};
 
-use crate::lane::{Lane, Stock};
+use crate::lane::Stock;
 use crate::tally::Tally;
 use crate::total::Total;
+use crate::worker::Worker;
 use agent_shards::{Agent, Passes, Rack, RackPasses};
-use cred_pull::Fetch;
-use frame_link::{Clock, Door, RelayLink};
 
 // Joins the passes of a stock to the others, and hands out what it has counted.
 pub(crate) fn join_stock(
@@ -39,29 +38,26 @@ pub(crate) fn join_stock(
 }
 
 // Joins the passes of all lanes to the others. The lanes keep nothing of their work.
-pub(crate) fn join_lanes<C: Clock, R: RelayLink, D: Door, P: Fetch>(
+pub(crate) fn join_lanes<L: Worker>(
     agent: &Agent,
     rack: &Rack,
     passes: &mut Passes,
     racked: &mut RackPasses,
-    lanes: &mut [Lane<C, R, D, P>],
+    lanes: &mut [L],
 ) -> Total
     requires few { length lanes.old ≤ 2 ^ 32 }
     requires passes { ArePassesOf (cells_of agent.now rack.now) (passes_of passes.old racked.old) }
-    requires stocked { let shown = shown_by C.shown R.shown D.shown P.shown in
-        All (WorkIs (IsStockOf (cells_of agent.now rack.now))) (map shown lanes.old) }
-    ensures joined { let shown = shown_by C.shown R.shown D.shown P.shown in
-        JoinsAll (cells_of agent.now rack.now) (passes_of passes.old racked.old)
-        (stocks_in (map shown lanes.old)) (passes_of passes.new racked.new) }
+    requires stocked { All (WorkIs (IsStockOf (cells_of agent.now rack.now)))
+        (map L.shown lanes.old) }
+    ensures joined { JoinsAll (cells_of agent.now rack.now) (passes_of passes.old racked.old)
+        (stocks_in (map L.shown lanes.old)) (passes_of passes.new racked.new) }
     ensures passes { ArePassesOf (cells_of agent.now rack.now) (passes_of passes.new racked.new) }
-    ensures total { let shown = shown_by C.shown R.shown D.shown P.shown in
-        IsTotalOf (stocks_in (map shown lanes.old)) result }
-    ensures emptied { let shown = shown_by C.shown R.shown D.shown P.shown in
-        AllZip IsEmptied (map shown lanes.old) (map shown lanes.new) }
+    ensures total { IsTotalOf (stocks_in (map L.shown lanes.old)) result }
+    ensures emptied { AllZip IsEmptied (map L.shown lanes.old) (map L.shown lanes.new) }
 {
     let mut total = Total::new();
     for lane in lanes.iter_mut() {
-        let stock = lane.work.take().unwrap();
+        let stock = lane.exchange(None).unwrap();
         total.add(join_stock(agent, rack, passes, racked, stock));
     }
     total

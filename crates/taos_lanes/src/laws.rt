@@ -2,14 +2,14 @@
 
 ghost use Rattle.std.specs.Prelude.{ℕ};
 ghost use Rattle.frame_link.specs.Served.{IsFault, StaysSound};
-ghost use Rattle.taos_monitor.specs.Cells.{Node};
-ghost use Rattle.taos_monitor.specs.World.{clock_faults};
+ghost use Rattle.request_course.specs.Cells.{Node};
+ghost use Rattle.request_course.specs.World.{clock_faults};
 ghost use Rattle.taos_lanes.specs.Laws.{ChainGoesOn, ClosedServesAll, JoinedAreClosed, JoinsOneMore};
 ghost use Rattle.taos_lanes.specs.Relaying.{RelayVisit};
 ghost use Rattle.taos_lanes.specs.Visits.{Visit};
 
 use frame_link::steady_counts_cause_no_fault;
-use taos_monitor::what_is_answered_stays;
+use request_course::what_is_answered_stays;
 
 /// Where the seats are joined and the cells closed, each connection of each lane is answered in the
 /// journals, and each entry is own of one connection, once.

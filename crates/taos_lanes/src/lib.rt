@@ -28,3 +28,4 @@ pub use relaying::serve_relays;
 pub use serving::{MAX_LANES, Served, serve};
 pub use tally::Tally;
 pub use total::Total;
+pub use worker::Worker;

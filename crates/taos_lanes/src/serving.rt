@@ -3,26 +3,25 @@
 ghost use Rattle.std.specs.List.{AllZip};
 ghost use Rattle.std.specs.Prelude.{◌≡◌, ◌<◌, ◌≤◌, All, IfOk, None, OnErr, OnOk, length, map};
 ghost use Rattle.agent_shards.specs.Shards.{plans_of};
-ghost use Rattle.taos_lanes.specs.Joining.{AreKept, AreNew, HasOtherWork, IsEmptied, cells_by, node_by, passes_by};
+ghost use Rattle.taos_lanes.specs.Joining.{AreKept, AreNew, IsEmptied, cells_by, node_by, passes_by};
 ghost use Rattle.taos_lanes.specs.Parts.{ArePartsNew, node_in};
 ghost use Rattle.taos_lanes.specs.Serving.{ServesNode, left_by};
-ghost use Rattle.taos_lanes.specs.Stocked.{shown_by};
 ghost use Rattle.taos_lanes.specs.Telling.{changes_by, told_by};
+ghost use Rattle.taos_lanes.specs.Workers.{HasOtherWork};
 ghost use Rattle.taos_monitor.specs.Planned.{ArePlanned};
 
 use crate::bench::Memos;
 use crate::joining::join_lanes;
-use crate::lane::Lane;
 use crate::laws::closed_lanes_serve_all;
 use crate::parts::NodeParts;
 use crate::sitting::Shared;
 use crate::stocking::stock_lanes;
 use crate::together::serve_lanes;
 use crate::total::Total;
+use crate::worker::Worker;
 use agent_core::Shard;
 use agent_shards::{Agent, Passes, Rack, RackPasses};
-use cred_pull::Fetch;
-use frame_link::{Clock, Door, Limits, RelayLink};
+use frame_link::Limits;
 use object_core::Object;
 use std::alloc::{AllocError, Global};
 use std::marker::{Brand, PhantomData};
@@ -52,28 +51,21 @@ struct NewNode {
 }
 
 // The lanes keep nothing of their work.
-fn empty<C: Clock, R: RelayLink, D: Door, P: Fetch>(lanes: &mut [Lane<C, R, D, P>])
-    ensures { let shown = shown_by C.shown R.shown D.shown P.shown in
-        AllZip IsEmptied (map shown lanes.old) (map shown lanes.new) }
+fn empty<L: Worker>(lanes: &mut [L])
+    ensures { AllZip IsEmptied (map L.shown lanes.old) (map L.shown lanes.new) }
 {
     for lane in lanes.iter_mut() {
-        lane.work = None;
+        lane.exchange(None);
     }
 }
 
 // Serves the doors of all lanes at new cells. Where memory is refused, no door was asked.
-fn serve_cells<
-    W: Threads + Wait + Sync,
-    C: Clock + Send,
-    R: RelayLink + Send,
-    D: Door + Send,
-    P: Fetch + Send,
->(
+fn serve_cells<W: Threads + Wait + Sync, L: Worker + Send>(
     rt: &W,
     alloc: Global,
     node: NewNode,
     memos: &Memos,
-    lanes: &mut [Lane<C, R, D, P>],
+    lanes: &mut [L],
     pulls: bool,
     limits: Limits,
 ) -> Result<Served, AllocError>
@@ -82,12 +74,11 @@ fn serve_cells<
     requires kept { AreKept (cells_by node) 0 (passes_by node) }
     requires new { AreNew (cells_by node) }
     requires planned { ArePlanned node.keys.channels.entries (plans_of node.shards.0) }
-    ensures served { IfOk result (λ r. ServesNode (told_by D.In.shown D.Out.shown) (node_by node)
-        pulls limits (changes_by (shown_by C.shown R.shown D.shown P.shown) lanes.old lanes.new)
-        (left_by r)) }
-    ensures idle { All (λ lane. lane.work ≡ None) lanes.new }
-    ensures unserved { let shown = shown_by C.shown R.shown D.shown P.shown in
-        OnErr result (AllZip HasOtherWork (map shown lanes.old) (map shown lanes.new)) }
+    ensures served { IfOk result (λ r. ServesNode (told_by L.In.shown L.Out.shown) (node_by node)
+        pulls limits (changes_by L.shown lanes.old lanes.new) (left_by r)) }
+    ensures idle { All (λ lane. (L.shown lane).work ≡ None) lanes.new }
+    ensures unserved { OnErr result (AllZip HasOtherWork (map L.shown lanes.old)
+        (map L.shown lanes.new)) }
 {
     closed_lanes_serve_all();
     let NewNode {
@@ -111,7 +102,7 @@ fn serve_cells<
         limits,
         whose: PhantomData,
     };
-    serve_lanes::<W, Brand, Brand, C, R, D, P>(&shared, lanes);
+    serve_lanes::<W, Brand, Brand, L>(&shared, lanes);
     let total = join_lanes(&agent, &rack, &mut passes, &mut racked, lanes);
     Ok(Served {
         shards: agent.close(passes),
@@ -121,17 +112,11 @@ fn serve_cells<
 }
 
 // Serves the doors of all lanes at cells of the shards and objects.
-fn serve_new<
-    W: Threads + Wait + Sync,
-    C: Clock + Send,
-    R: RelayLink + Send,
-    D: Door + Send,
-    P: Fetch + Send,
->(
+fn serve_new<W: Threads + Wait + Sync, L: Worker + Send>(
     rt: &W,
     alloc: Global,
     parts: NodeParts,
-    lanes: &mut [Lane<C, R, D, P>],
+    lanes: &mut [L],
     limits: Limits,
     lemmas: u32,
     pulls: bool,
@@ -139,12 +124,11 @@ fn serve_new<
     requires some { 0 < length lanes.old }
     requires few { length lanes.old ≤ MAX_LANES }
     requires new { ArePartsNew parts }
-    ensures served { IfOk result (λ r. ServesNode (told_by D.In.shown D.Out.shown) (node_in parts)
-        pulls limits (changes_by (shown_by C.shown R.shown D.shown P.shown) lanes.old lanes.new)
-        (left_by r)) }
-    ensures idle { OnOk result (All (λ lane. lane.work ≡ None) lanes.new) }
-    ensures unserved { let shown = shown_by C.shown R.shown D.shown P.shown in
-        OnErr result (AllZip HasOtherWork (map shown lanes.old) (map shown lanes.new)) }
+    ensures served { IfOk result (λ r. ServesNode (told_by L.In.shown L.Out.shown) (node_in parts)
+        pulls limits (changes_by L.shown lanes.old lanes.new) (left_by r)) }
+    ensures idle { OnOk result (All (λ lane. (L.shown lane).work ≡ None) lanes.new) }
+    ensures unserved { OnErr result (AllZip HasOtherWork (map L.shown lanes.old)
+        (map L.shown lanes.new)) }
 {
     let NodeParts {
         keys,
@@ -174,17 +158,11 @@ fn serve_new<
 /// asked. The decider of a lane takes room of its own, for so many lemmas too, 1,024 at most; nothing
 /// shows that it remembers them. Where `pulls` is set, each lane fetches certificates for its requests.
 /// The lanes keep nothing of their work.
-pub fn serve<
-    W: Threads + Wait + Sync,
-    C: Clock + Send,
-    R: RelayLink + Send,
-    D: Door + Send,
-    P: Fetch + Send,
->(
+pub fn serve<W: Threads + Wait + Sync, L: Worker + Send>(
     rt: &W,
     alloc: Global,
     parts: NodeParts,
-    lanes: &mut [Lane<C, R, D, P>],
+    lanes: &mut [L],
     limits: Limits,
     lemmas: u32,
     pulls: bool,
@@ -192,12 +170,11 @@ pub fn serve<
     requires some { 0 < length lanes.old }
     requires few { length lanes.old ≤ MAX_LANES }
     requires new { ArePartsNew parts }
-    ensures served { IfOk result (λ r. ServesNode (told_by D.In.shown D.Out.shown) (node_in parts)
-        pulls limits (changes_by (shown_by C.shown R.shown D.shown P.shown) lanes.old lanes.new)
-        (left_by r)) }
-    ensures idle { All (λ lane. lane.work ≡ None) lanes.new }
-    ensures unserved { let shown = shown_by C.shown R.shown D.shown P.shown in
-        OnErr result (AllZip HasOtherWork (map shown lanes.old) (map shown lanes.new)) }
+    ensures served { IfOk result (λ r. ServesNode (told_by L.In.shown L.Out.shown) (node_in parts)
+        pulls limits (changes_by L.shown lanes.old lanes.new) (left_by r)) }
+    ensures idle { All (λ lane. (L.shown lane).work ≡ None) lanes.new }
+    ensures unserved { OnErr result (AllZip HasOtherWork (map L.shown lanes.old)
+        (map L.shown lanes.new)) }
 {
     match serve_new(rt, alloc, parts, lanes, limits, lemmas, pulls) {
         Ok(served) => Ok(served),

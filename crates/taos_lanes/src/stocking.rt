@@ -2,17 +2,17 @@
 
 ghost use Rattle.std.specs.List.{AllZip};
 ghost use Rattle.std.specs.Prelude.{◌≡◌, ◌+◌, ◌<◌, IfOk, OnErr, OnOk, length, map};
-ghost use Rattle.taos_lanes.specs.Joining.{AreKept, HasOtherWork, IsFreshStock, IsGivenStock, passes_of};
+ghost use Rattle.taos_lanes.specs.Joining.{AreKept, IsFreshStock, IsGivenStock, passes_of};
 ghost use Rattle.taos_lanes.specs.Remembering.{memo_of};
-ghost use Rattle.taos_lanes.specs.Stocked.{cells_of, shown_by};
+ghost use Rattle.taos_lanes.specs.Stocked.{cells_of};
+ghost use Rattle.taos_lanes.specs.Workers.{HasOtherWork};
 ghost use Rattle.turn_cell.specs.declared.shares.TheConstants.{ALL_SHARES};
 
 use crate::bench::{Memos, bench_of};
-use crate::lane::{Lane, Stock};
+use crate::lane::Stock;
 use crate::tally::Tally;
+use crate::worker::Worker;
 use agent_shards::{Agent, Passes, Rack, RackPasses};
-use cred_pull::Fetch;
-use frame_link::{Clock, Door, RelayLink};
 use std::alloc::{AllocError, Global};
 
 // One share of each cell out of the passes, with a decider.
@@ -43,28 +43,27 @@ pub(crate) fn stock_of(
 }
 
 // Gives each lane a stock. Where memory is refused some may have one.
-pub(crate) fn stock_lanes<C: Clock, R: RelayLink, D: Door, P: Fetch>(
+pub(crate) fn stock_lanes<L: Worker>(
     alloc: Global,
     memos: &Memos,
     agent: &Agent,
     rack: &Rack,
     passes: &mut Passes,
     racked: &mut RackPasses,
-    lanes: &mut [Lane<C, R, D, P>],
+    lanes: &mut [L],
 ) -> Result<(), AllocError>
     requires few { length lanes.old + 1 < ALL_SHARES }
     requires kept { AreKept (cells_of agent.now rack.now) 0 (passes_of passes.old racked.old) }
-    ensures stocked { let shown = shown_by C.shown R.shown D.shown P.shown in
-        OnOk result (AllZip (IsGivenStock (cells_of agent.now rack.now))
-        (map shown lanes.old) (map shown lanes.new)) }
+    ensures stocked { OnOk result (AllZip (IsGivenStock (cells_of agent.now rack.now))
+        (map L.shown lanes.old) (map L.shown lanes.new)) }
     ensures kept { OnOk result (AreKept (cells_of agent.now rack.now) (length lanes.old)
         (passes_of passes.new racked.new)) }
-    ensures same { let shown = shown_by C.shown R.shown D.shown P.shown in
-        OnErr result (AllZip HasOtherWork (map shown lanes.old) (map shown lanes.new)) }
+    ensures same { OnErr result (AllZip HasOtherWork (map L.shown lanes.old)
+        (map L.shown lanes.new)) }
 {
     let mut given = 0;
     for lane in lanes.iter_mut() {
-        lane.work = Some(stock_of(alloc, memos, agent, rack, passes, racked, given)?);
+        lane.exchange(Some(stock_of(alloc, memos, agent, rack, passes, racked, given)?));
         given += 1;
     }
     Ok(())

@@ -1,7 +1,7 @@
 //! What a lane counts.
 
-ghost use Rattle.std.specs.Prelude.{◌≡◌, ◌+◌, ◌<◌, ◌^◌, cond, false};
-ghost use Rattle.taos_lanes.specs.Visits.{is_broken, is_lacking};
+ghost use Rattle.std.specs.Prelude.{◌≡◌, ◌+◌, ◌<◌, ◌^◌, false};
+ghost use Rattle.taos_lanes.specs.Working.{CountsOne};
 
 use frame_link::Outcome;
 
@@ -39,10 +39,7 @@ impl Tally {
         requires served { self.old.served + 1 < 2 ^ 64 }
         requires broken { self.old.broken + 1 < 2 ^ 64 }
         requires lacked { self.old.lacked + 1 < 2 ^ 64 }
-        ensures served { self.new.served ≡ self.old.served + 1 }
-        ensures broken { self.new.broken ≡ self.old.broken + cond (is_broken outcome) 1 0 }
-        ensures lacked { self.new.lacked ≡ self.old.lacked + cond (is_lacking outcome) 1 0 }
-        ensures door { self.new.door_failed ≡ self.old.door_failed }
+        ensures { CountsOne outcome self.old self.new }
     {
         self.served += 1;
         match outcome {

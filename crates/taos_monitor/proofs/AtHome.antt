@@ -1,42 +1,20 @@
 -- An ask at the shard of its channel, by what is promised of it.
-use Rattle.std.proofs.Common.{◌≡◌, ◌<◌, ◌≤◌, ℕ, List, [], Contains, length, slice_get, Result, IfOk, refl, sym, ap, subst, ◌∙◌, inl, inr, arith}
+use Rattle.std.proofs.Common.{◌≡◌, ◌<◌, ℕ, List, [], length, slice_get, Result, IfOk, refl, sym, ap, subst, ◌∙◌, inl, inr}
 use Rattle.std.specs.Prelude.{OnErr, ◌==◌}
 use Rattle.std.proofs.lemmas.Bool.{cases_Bool, eqb-true, eq-eqb, false≢true}
-use Rattle.std.proofs.lemmas.List.{length-map}
 use Rattle.std.proofs.lemmas.Option.{same_Some}
-use Rattle.prin_term.specs.declared.limits.TheConstants.{ENTRY_NODES}
-use Rattle.prin_term.specs.Principal.{Principal, node_count}
-use Rattle.prin_term.specs.View.{Grant}
-use Rattle.object_core.specs.Operation.{IsAccessList}
-use Rattle.taos_wire.specs.Request.{Request, FitsRequest}
-use Rattle.taos_wire.specs.View.{cited as shared}
 use Rattle.agent_core.specs.declared.asked.Asked.{Asked}
-use Rattle.agent_core.specs.State.{Plan, Ask, Asks}
-use Rattle.agent_core.specs.Journals.{Entry, IsMeant, IsOn, IsLegalJournal}
-use Rattle.agent_core.specs.Asked.{AskedTo, AskEnds, FitsAsk, LacksMemory}
+use Rattle.agent_core.specs.State.{Plan, Ask}
+use Rattle.agent_core.specs.Journals.{Entry, IsLegalJournal}
+use Rattle.agent_core.specs.Asked.{AskedTo, AskEnds, LacksMemory}
 use Rattle.agent_core.proofs.Asks.{standing}
 use Rattle.agent_core.specs.Shards.{HasPlanAt, LeavesShards, ShardsSeen, home_of, shard_at}
-use Rattle.taos_monitor.specs.declared.arrival.Arrived.{Arrived}
-use Rattle.taos_monitor.specs.Arriving.{StandsFor}
-use Rattle.taos_monitor.specs.Cells.{AreLegalShards, shards_in}
-use Rattle.taos_monitor.specs.Ruling.{AskedAt, ask_seen}
-use Rattle.taos_monitor.proofs.Arriving.{is_on, subject_fits}
+use Rattle.request_course.specs.Cells.{AreLegalShards, shards_in}
+use Rattle.taos_monitor.specs.Ruling.{AskedAt}
 use Rattle.taos_monitor.proofs.Presenting.{err_on, on_ok}
-use Rattle.taos_monitor.proofs.Going.{asked_goes_on, shard_went_on, shards_stood}
+use Rattle.request_course.proofs.Going.{asked_goes_on, shard_went_on, shards_stood}
 
 -- ---- what an ask asks for
-
-pub is_meant : (r : Request) (a : Arrived) (list : List Grant) (reading : ℕ) (plan : Plan) (before : List Entry) → StandsFor r a → Contains plan.channels r.channel → IsMeant plan before (Asks (ask_seen r a list reading))
-is_meant r a list reading plan before stands has = (subst (IsOn r.channel) (sym stands.subject) (is_on r.channel r.quoted), has)
-
-pub fits_ask : (r : Request) (a : Arrived) (list : List Grant) (reading : ℕ) → FitsRequest r → StandsFor r a → IsAccessList list → FitsAsk (ask_seen r a list reading)
-fits_ask r a list reading limits stands is = record {
-  subject = subst (λ (p : Principal). node_count p ≤ ENTRY_NODES) (sym stands.subject)
-      (subject_fits r.channel r.quoted limits.quoted);
-  few_entries = is.0;
-  entries = λ k d lt. (is.1 k d lt).who.nodes_fit;
-  few_presented = omega (arith, stands.few_certs, length-map a.certs.items shared);
-}
 
 -- ---- what it promises, of an ask by its own words
 

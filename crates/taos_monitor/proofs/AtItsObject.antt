@@ -14,9 +14,9 @@ use Rattle.agent_core.specs.State.{Plan}
 use Rattle.taos_monitor.specs.declared.deciding.Came.{Came}
 use Rattle.taos_monitor.specs.declared.deciding.Ruled.{Ruled}
 use Rattle.taos_monitor.specs.declared.due.Due.{Due}
-use Rattle.taos_monitor.specs.AtObject.{ruled_as, told_or}
-use Rattle.taos_monitor.specs.Cells.{Seen, ShardsStay, seen_by}
-use Rattle.taos_monitor.specs.Effects.{IsDueOf, PerformsRuled}
+use Rattle.request_course.specs.AtObject.{ruled_as, told_or}
+use Rattle.request_course.specs.Cells.{Seen, ShardsStay, seen_by}
+use Rattle.taos_monitor.specs.Performing.{IsDueOf, PerformsRuled}
 use Rattle.taos_monitor.specs.Ruling.{DecidedTo, GuardedTo, seeking_of, standing_by}
 use Rattle.taos_monitor.proofs.Guards.{fixed_at-number, guarded_unruled, guarded_ruled, stepped_over}
 

@@ -5,7 +5,7 @@ use Rattle.std.proofs.KnownBytes.{Keeps-refl}
 use Rattle.std.proofs.lemmas.Option.{same_Some}
 use Rattle.keyed_seal.specs.Keys.{key_of}
 use Rattle.frame_link.specs.Readings.{ShowsKnown}
-use Rattle.frame_link.specs.Outside.{OutsideSeen, outside_of}
+use Rattle.frame_link.specs.Outside.{outside_of}
 use Rattle.frame_link.specs.Relay.{Link}
 use Rattle.frame_link.specs.Streams.{Stream}
 use Rattle.object_core.specs.Objects.{ObjectEntry}
@@ -16,22 +16,20 @@ use Rattle.taos_wire.specs.View.{cited as shared}
 use Rattle.agent_core.specs.State.{Plan}
 use Rattle.agent_core.specs.Plans.{home}
 use Rattle.agent_core.specs.Journals.{Entry}
-use Rattle.cred_pull.specs.Fetching.{FetchSeen, Pull}
 use Rattle.taos_monitor.specs.declared.arrival.Arrived.{Arrived}
-use Rattle.taos_monitor.specs.declared.handling.Handled.{Handled}
-use Rattle.taos_monitor.specs.declared.handling.Handled.TheVariants as handled
+use Rattle.request_course.specs.declared.handled.Handled.TheVariants as handled
 use Rattle.taos_monitor.specs.declared.node_keys.NodeKeys.{NodeKeys}
 use Rattle.taos_monitor.specs.declared.refusal.Refusal.{Refusal}
 use Rattle.taos_monitor.specs.Refusals.{refusal}
-use Rattle.taos_monitor.specs.Cells.{Node, Cell, Journals, Viewed, in_shard, seen_of, AreLegalIn}
-use Rattle.taos_monitor.specs.World.{FetchUse, Setting, World, fetch_use, setting_of, reaching, world_of}
-use Rattle.taos_monitor.specs.Credentials.{link_use}
-use Rattle.taos_monitor.specs.AtObject.{Seeking, places_at}
-use Rattle.taos_monitor.specs.Course.{Arrival, Used, uses, nothing, only_calls, CourseAfter, ruled, plain, ComesToClock, as_sent}
+use Rattle.request_course.specs.Cells.{Node, Cell, Journals, Viewed, in_shard, seen_of, AreLegalIn}
+use Rattle.request_course.specs.World.{FetchUse, setting_of, reaching, world_of}
+use Rattle.request_course.specs.Credentials.{link_use}
+use Rattle.request_course.specs.AtObject.{Seeking, places_at}
+use Rattle.request_course.specs.Course.{Arrival, Used, uses, nothing, only_calls, CourseAfter, ruled, plain}
 use Rattle.taos_monitor.specs.Arriving.{node_of, IsNotAsked, Arrives, NotArrives}
 use Rattle.taos_monitor.specs.Ruling.{Leaves, GuardedTo, standing_of}
-use Rattle.taos_monitor.specs.Handling.{AreFetched, PullsFor, HandledTo, StoppedAtClock, Handles, Answers}
-use Rattle.taos_monitor.proofs.Going.{stood}
+use Rattle.request_course.specs.Handling.{PullsFor, HandledTo, StoppedAtClock, Answers}
+use Rattle.request_course.proofs.Going.{stood}
 use Rattle.taos_monitor.proofs.Presenting.{none_called, quiet_linked}
 
 -- where there are no places, none is that of an Ask
@@ -141,62 +139,4 @@ unasked_to keys plans objects alone fetch relay shards0 objects0 clock payload f
   asked = none_unsealed fetch.pulls;
   spelled = spelled;
   short = short;
-}
-
--- what is promised of a request holds of the payload that it is
-pub answers_as : (s : Setting) (w0 w1 : World) (r : Request) (payload key bytes : List ℕ) → IsAsked s.node.channels payload r key → (h : Handled) → Handles s w0 w1 r bytes h → Answers s w0 w1 payload bytes h
-answers_as s w0 w1 r payload key bytes asked handled.Replied t = record {
-  used = t.used;
-  sent = t.sent;
-  goes_on = t.goes_on;
-  legal = t.legal;
-  course = plain (t.course.1 payload key asked);
-  tells_full = t.tells_full;
-  gave = t.gave;
-  linked = t.linked;
-  fetched = t.fetched;
-  asked = t.asked;
-  spelled = t.spelled;
-  short = t.short;
-}
-answers_as s w0 w1 r payload key bytes asked handled.ClockFault stop =
-    let (none, certs, object, arrived) = stop.come in
-    record {
-      pulls = stop.pulls;
-      calls = stop.calls;
-      unchanged = stop.unchanged;
-      come = subst (λ (fetches : List Pull). ComesToClock s.node payload fetches stop.calls) (sym none)
-          (as_sent (record { request = r; key = key; calls = stop.calls; certs = certs; object = object; arrived = arrived payload key asked }));
-      fetched = stop.fetched;
-      asked = stop.asked;
-      keeps = stop.keeps;
-      linked = stop.linked;
-    }
-
--- where nothing is fetched any fetch is as it was
-pub answers_plainly : (s : Setting) (f : FetchSeen) (o0 o1 : OutsideSeen) (s0 s1 : Viewed Entry) (h0 h1 : Viewed ObjectEntry) (payload bytes : List ℕ) (h : Handled) →
-    Answers s (world_of o0 s0 h0) (world_of o1 s1 h1) payload bytes h → Answers s (reaching o0 (fetch_use false f) s0 h0) (reaching o1 (fetch_use false f) s1 h1) payload bytes h
-answers_plainly s f o0 o1 s0 s1 h0 h1 payload bytes handled.Replied t = record {
-  used = t.used;
-  sent = t.sent;
-  goes_on = t.goes_on;
-  legal = t.legal;
-  course = t.course;
-  tells_full = t.tells_full;
-  gave = t.gave;
-  linked = t.linked;
-  fetched = (refl, subst (AreFetched f f) (sym t.asked) refl);
-  asked = t.asked;
-  spelled = t.spelled;
-  short = t.short;
-}
-answers_plainly s f o0 o1 s0 s1 h0 h1 payload bytes handled.ClockFault stop = record {
-  pulls = stop.pulls;
-  calls = stop.calls;
-  unchanged = stop.unchanged;
-  come = stop.come;
-  fetched = (refl, subst (AreFetched f f) (sym stop.asked) refl);
-  asked = stop.asked;
-  keeps = stop.keeps;
-  linked = stop.linked;
 }

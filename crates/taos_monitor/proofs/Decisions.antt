@@ -19,11 +19,11 @@ use Rattle.agent_core.proofs.Asks.{standing}
 use Rattle.taos_monitor.specs.declared.deciding.Came.{Came}
 use Rattle.taos_monitor.specs.declared.deciding.Ruled.{Ruled}
 use Rattle.taos_monitor.specs.Arriving.{StandsFor}
-use Rattle.taos_monitor.specs.Asking.{TellsFull, unanswered}
-use Rattle.taos_monitor.specs.AtObject.{asks_for, object_full}
-use Rattle.taos_monitor.specs.Cells.{AreLegalShards, shards_in}
+use Rattle.request_course.specs.Asking.{TellsFull, unanswered}
+use Rattle.request_course.specs.AtObject.{asks_for, object_full}
+use Rattle.request_course.specs.Cells.{AreLegalShards, shards_in}
 use Rattle.taos_monitor.specs.Ruling.{AskedAt, DecidedTo, IsRuled, at_limit, unruled, shard_of, IsToldBy, MayTell, ask_came, list_of, seeking_of, telling}
-use Rattle.taos_monitor.proofs.Going.{shards_stood}
+use Rattle.request_course.proofs.Going.{shards_stood}
 use Rattle.taos_monitor.proofs.Parts.{may_tell}
 use Rattle.taos_monitor.proofs.Telling.{never_lacking, ruled_by}
 

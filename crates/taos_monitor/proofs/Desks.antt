@@ -16,20 +16,26 @@ use Rattle.agent_core.specs.Shards.{ShardsSeen}
 use Rattle.cred_pull.specs.Fetching.{FetchSeen, Pull}
 use Rattle.cred_pull.specs.Pulling.{Pulls}
 use Rattle.cred_pull.specs.declared.pulling.Pulled.TheVariants as results
-use Rattle.taos_monitor.specs.declared.handling.Handled.{Handled}
-use Rattle.taos_monitor.specs.declared.handling.Handled.TheVariants as handled
+use Rattle.request_course.specs.declared.handled.Handled.{Handled}
+use Rattle.request_course.specs.declared.handled.Handled.TheVariants as handled
 use Rattle.taos_monitor.specs.declared.node_keys.NodeKeys.{NodeKeys}
 use Rattle.taos_monitor.specs.Arriving.{node_of}
-use Rattle.taos_monitor.specs.Cells.{Cell, OfShard, OfObject, Viewed, CellsStay, both_cells}
-use Rattle.taos_monitor.specs.Connection.{Connects}
-use Rattle.taos_monitor.specs.Course.{plain, ComesToClock, as_sent}
-use Rattle.taos_monitor.specs.Desk.{ServesIn}
-use Rattle.taos_monitor.specs.Handling.{AreFetched, PullsFor, Answers, Handles, HandlesPulled}
+use Rattle.request_course.specs.Cells.{Cell, OfShard, OfObject, Viewed, CellsStay, both_cells, alone_of}
+use Rattle.request_course.specs.Connection.{Connects}
+use Rattle.request_course.specs.Course.{plain, ComesToClock, as_sent}
+use Rattle.request_course.specs.States.{ServesIn}
+use Rattle.request_course.specs.Handling.{AreFetched, PullsFor, Answers, Handles, HandlesPulled}
 use Rattle.taos_monitor.specs.Planned.{ArePlanned}
 use Rattle.taos_monitor.specs.Reaching.{ReachSeen, pull_by}
-use Rattle.taos_monitor.specs.World.{FetchUse, Setting, World, fetch_use, no_fetch, plainly, reaching, reaching_by, setting_by, setting_of, state_of, world_of}
-use Rattle.taos_monitor.proofs.Connections.{same_setting, unfetched}
+use Rattle.request_course.specs.World.{FetchUse, Setting, World, fetch_use, no_fetch, plainly, reaching, reaching_by, setting_of, state_with, world_of}
+use Rattle.taos_monitor.specs.Desk.{setting_by}
+use Rattle.request_course.proofs.Connections.{unfetched}
 use Rattle.taos_monitor.proofs.Pulls.{ready_to}
+
+-- nothing that stays changed
+pub same_setting : (keys : NodeKeys) {objects0 objects1 : List ObjectFixed} {plans0 plans1 : List Plan} {alone0 alone1 lone0 lone1 : Bool} → objects1 ≡ objects0 → plans1 ≡ plans0 → alone1 ≡ alone0 → lone1 ≡ lone0 →
+    setting_of (node_of keys plans1 objects1) (alone_of alone1 lone1) ≡ setting_of (node_of keys plans0 objects0) (alone_of alone0 lone0)
+same_setting keys objects plans alone lone = rw (objects, plans, alone, lone) refl
 
 -- what holds of a clock and a link holds of the outside that has them
 pub moved : (P : OutsideSeen → Type 0) (clock : Stream) (link : Link) (o : OutsideSeen) → clock ≡ o.clock → link ≡ o.link → P (outside_of clock link) → P o
@@ -136,12 +142,12 @@ module _ (keys : NodeKeys) (plans : List Plan) (objects : List ObjectFixed) (alo
       a0.outside.clock a1.outside.link a1.outside (sym clock) refl x)
 
   -- one that was handled with what was pulled
-  pub ready_pulling : (new : Request) (a2 : ReachSeen) (pulls later : Bool) (shards1 : Viewed Entry) (objects1 : Viewed ObjectEntry) (bytes : List ℕ) → pulls ≡ true → later ≡ pulls → a2.fetch ≡ a1.fetch →
+  pub ready_pulling : (new : Request) (a2 : ReachSeen) (pulls later : Bool) (shards1 : Viewed Entry) (objects1 : Viewed ObjectEntry) (bytes : List ℕ) → pulls ≡ true → fetch_use later a2.fetch ≡ fetch_use pulls a1.fetch →
       Pulls keys.relay_key (pull_by keys.node a0 a1) r new results.Ready → FitsRequest new → (h : Handled) →
       Handles setting (world_of a1.outside shards0 objects0) (world_of a2.outside shards1 objects1) new bytes h →
       HandlesPulled setting (before_pull pulls) (reaching a2.outside (fetch_use later a2.fetch) shards1 objects1) r bytes h
-  ready_pulling new a2 pulls later shards1 objects1 bytes pulling stays fetched p fits h x =
-      let used : fetch_use true a1.fetch ≡ fetch_use later a2.fetch = λ i. fetch_use (sym (stays ∙ pulling) i) (sym fetched i) in
+  ready_pulling new a2 pulls later shards1 objects1 bytes pulling same p fits h x =
+      let used : fetch_use true a1.fetch ≡ fetch_use later a2.fetch = sym (same ∙ ap (λ (b : Bool). fetch_use b a1.fetch) pulling) in
       subst (λ (b : Bool). HandlesPulled setting (before_pull b) (reaching a2.outside (fetch_use later a2.fetch) shards1 objects1) r bytes h) (sym pulling)
       (subst (λ (f : FetchUse). HandlesPulled setting (before_pull true) (reaching a2.outside f shards1 objects1) r bytes h) used
       (ready_to keys plans objects alone a0.fetch a1.fetch a0.outside.link a1.outside.link shards0 objects0 r new a2.outside.link a0.outside.clock a2.outside.clock shards1 objects1 bytes p fits h
@@ -177,11 +183,12 @@ same_keys keys later s t h k same =
     same_setting keys (ap (λ (x : Setting). x.node.objects) same) (ap (λ (x : Setting). x.node.plans) same) (ap (λ (x : Setting). x.alone (OfShard 0)) same) (ap (λ (x : Setting). x.alone (OfObject 0)) same)
 
 -- a connection that was served by a desk that was lent, with these keys and this use of the fetch in the end, was served by the one that lent it
-pub serves_lent : (keys later : NodeKeys) (pulls used : Bool) (s t : ShardsSeen) (h k : ShelfSeen) (r q : ReachSeen) (limit : ℕ) (input rest output written : Stream) (outcome : Outcome) → setting_by later t k ≡ setting_by keys s h → used ≡ pulls →
+pub serves_lent : (keys later : NodeKeys) (pulls used : Bool) (s t : ShardsSeen) (h k : ShelfSeen) (r q : ReachSeen) (desk : Lent) (limit : ℕ) (input rest output written : Stream) (outcome : Outcome) → setting_by later t k ≡ setting_by keys s h → q.lent ≡ r.lent → used ≡ pulls →
     Connects (setting_by keys s h) limit (line input output (reaching_by r.outside (fetch_use pulls r.fetch) s h)) (line rest written (reaching_by q.outside (fetch_use used q.fetch) t k)) outcome →
-    ServesIn limit (line input output (state_of (setting_by keys s h) (reaching_by r.outside (fetch_use pulls r.fetch) s h))) (line rest written (state_of (setting_by keys t k) (reaching_by q.outside (fetch_use pulls q.fetch) t k))) outcome
-serves_lent keys later pulls used s t h k r q limit input rest output written outcome same kept x = (
-  same_keys keys later s t h k same,
+    ServesIn limit (line input output (state_with (setting_by keys s h) (reaching_by r.outside (fetch_use pulls r.fetch) s h) (Both desk r.lent)))
+    (line rest written (state_with (setting_by keys t k) (reaching_by q.outside (fetch_use pulls q.fetch) t k) (Both desk q.lent))) outcome
+serves_lent keys later pulls used s t h k r q desk limit input rest output written outcome same lent kept x = (
+  record { setting = same_keys keys later s t h k same; lent = ap (Both desk) lent },
   subst (λ (b : Bool). Connects (setting_by keys s h) limit (line input output (reaching_by r.outside (fetch_use pulls r.fetch) s h)) (line rest written (reaching_by q.outside (fetch_use b q.fetch) t k)) outcome) kept x,
 )
 
@@ -195,10 +202,17 @@ cells_stay keys later s t h k same taken = record {
   taken = taken;
 }
 
--- what a service lends, part by part
+-- what a service lends, with the name of what it reaches outside
+pub lent_under : {l m k n : Lent} (name : ℕ) → Both l k ≡ Both m n → Both l (To name k) ≡ Both m (To name n)
+lent_under name same = cc
+
+-- the same, part by part
 pub lent_apart : (l m k n : Lent) (b q : ℕ) → Both l (To b k) ≡ Both m (To q n) → (l ≡ m) × (b ≡ q) × (k ≡ n)
 lent_apart l m k n b q same = (cc, cc, cc)
 
--- the borrows of a clock, a link and a fetch that stand side by side
-pub three_names : (a b p q : ℕ) (l k f m n e : Lent) → Both (Both (To a l) (To b k)) f ≡ Both (Both (To p m) (To q n)) e → (a ≡ p) × (b ≡ q)
-three_names a b p q l k f m n e same = (cc, cc)
+-- the borrows of a desk, and of a clock, a link and a fetch that stand side by side, name by name
+pub names_apart : {a b c d e p q r s t : ℕ} {l k f m n g : Lent} →
+    Both (Both (Both (To a Nothing) (To b Nothing)) (To c Nothing)) (Both (Both (To d l) (To e k)) f)
+    ≡ Both (Both (Both (To p Nothing) (To q Nothing)) (To r Nothing)) (Both (Both (To s m) (To t n)) g) →
+    (a ≡ p) × (b ≡ q) × (d ≡ s) × (e ≡ t)
+names_apart same = (cc, cc, cc, cc)

@@ -12,19 +12,17 @@ use Rattle.agent_core.specs.State.{Plan, Event, Holds, Discards, Forgets, Expire
 use Rattle.agent_core.specs.Views.{event_of}
 use Rattle.agent_core.specs.declared.event.Event.{Event as EventValue}
 use Rattle.taos_monitor.specs.declared.due.Due.{Due}
-use Rattle.taos_monitor.specs.Operations.{IsEffect, effect_of, targets_of}
-use Rattle.taos_monitor.specs.Effects.{IsReady, IsDueOf}
+use Rattle.request_course.specs.Operations.{IsEffect, effect_of, targets_of}
+use Rattle.taos_monitor.specs.Performing.{IsReady, IsDueOf}
 
 -- the effect of an operation is one, and fits
 fits_effect : (op : Op) (certs : List Certificate) (reading : ℕ) (e : Event) → effect_of op certs reading ≡ Some e → length certs ≤ 16 → IsEffect e × FitsEvent e
-fits_effect Read certs reading e is few = absurd cc
-fits_effect (Write content) certs reading e is few = absurd cc
-fits_effect (SetList list) certs reading e is few = absurd cc
 fits_effect Hold certs reading e is few = let same : Holds certs ≡ e = cc in subst (λ x. IsEffect x × FitsEvent x) same (tt, few)
 fits_effect (Discard digest) certs reading e is few = let same : Discards digest ≡ e = cc in subst (λ x. IsEffect x × FitsEvent x) same (tt, tt)
 fits_effect (Forget channel) certs reading e is few = let same : Forgets channel ≡ e = cc in subst (λ x. IsEffect x × FitsEvent x) same (tt, tt)
 fits_effect Sweep certs reading e is few = let same : Expires reading ≡ e = cc in subst (λ x. IsEffect x × FitsEvent x) same (tt, tt)
 fits_effect (Withdraw issuer) certs reading e is few = let same : Withdraws issuer ≡ e = cc in subst (λ x. IsEffect x × FitsEvent x) same (tt, tt)
+fits_effect _ certs reading e is few = absurd cc
 
 first_of : (events : List EventValue) (e : Event) → 0 < length events → All (λ (x : EventValue). event_of x ≡ e) events → option_map event_of (slice_get events 0) ≡ Some e
 first_of [] e some same = absurd (omega (arith, some))
@@ -54,8 +52,5 @@ pub all_targets : (plans : List Plan) (op : code.Op) (certs : List Certificate) 
 all_targets plans variant.Read certs reading e is other = absurd cc
 all_targets plans (variant.Write content) certs reading e is other = absurd cc
 all_targets plans (variant.SetList list) certs reading e is other = absurd cc
-all_targets plans variant.Hold certs reading e is other = refl
-all_targets plans (variant.Discard digest) certs reading e is other = refl
 all_targets plans (variant.Forget channel) certs reading e is other = absurd (other channel refl)
-all_targets plans variant.Sweep certs reading e is other = refl
-all_targets plans (variant.Withdraw issuer) certs reading e is other = refl
+all_targets plans _ certs reading e is other = refl

@@ -1,22 +1,18 @@
 -- The steps of an effect: what one is told, and how they go on from shard to shard.
-use Rattle.std.proofs.Common.{◌≡◌, ◌≢◌, ℕ, zero, suc, ◌+◌, ◌<◌, Bool, false, nat_le, nat_lt, List, [], ◌∷◌, ◌++◌, length, map, get_or, Option, Some, slice_get, refl, sym, ap, subst, subst₂, ◌∙◌, arith, inl, inr, append-nil, length-append}
+use Rattle.std.proofs.Common.{◌≡◌, ◌≢◌, ℕ, zero, suc, ◌+◌, ◌<◌, Bool, false, List, [], ◌∷◌, ◌++◌, length, map, Option, Some, slice_get, refl, sym, ap, subst, subst₂, ◌∙◌, arith, inl, inr, append-nil, length-append}
 use Rattle.std.specs.Prelude.{All, IsTrue, ◌↔◌, ◌⊎◌}
 use Rattle.std.specs.List.{range_with_len, sum_by}
-use Rattle.std.proofs.lemmas.Bool.{cases_eq, cond_both}
+use Rattle.std.proofs.lemmas.Bool.{cases_eq}
 use Rattle.std.proofs.lemmas.List.{get_or_append_left, map-append}
 use Rattle.std.proofs.Math.Seq.{get_or-append_seam}
 use Rattle.std.specs.Option.{option_to_list}
 use Rattle.std.proofs.lemmas.List.Elements.{All-append, All-cons, All-nil}
 use Rattle.std.proofs.lemmas.List.Sums.{sum_by_push}
 use Rattle.std.proofs.lemmas.Option.{same_Some}
-use Rattle.stmt_codec.specs.Certificates.{Certificate}
-use Rattle.proof_cache.specs.Cached.{Cached}
 use Rattle.agent_core.specs.declared.told.Told.{Told}
-use Rattle.agent_core.specs.declared.limits.TheConstants.{MAX_COMMONS, MAX_WITHDRAWN}
-use Rattle.agent_core.specs.Held.{is_withdrawn}
-use Rattle.agent_core.specs.State.{Plan, State, Event, Asks, Keeps, Holds, Discards, Forgets, Expires, Withdraws, Answer, Plain, holding, withdrawing, new_commons, next}
-use Rattle.agent_core.specs.Journals.{Entry, entry, Begins, Stands, state_after, cache_after, told_of, told_at, IsMeant, IsLegalJournal}
-use Rattle.agent_core.specs.Answers.{TakesMemory, SteppedTo}
+use Rattle.agent_core.specs.State.{Plan, Event, next}
+use Rattle.agent_core.specs.Journals.{Entry, entry, Stands, IsLegalJournal}
+use Rattle.agent_core.specs.Answers.{SteppedTo}
 use Rattle.agent_core.specs.declared.told.Answer.{Answer as ValueOfAnswer}
 use Rattle.agent_core.specs.declared.told.Answer.TheVariants as answer
 use Rattle.agent_core.specs.declared.told.DropCause.{DropCause}
@@ -27,66 +23,22 @@ use Rattle.std.specs.declared.sync.Arc.{Arc}
 use Rattle.stmt_codec.specs.View.{certificates}
 use Rattle.proof_cache.specs.Cached.{cached}
 use Rattle.proof_cache.specs.declared.cached.Cached.{Cached as CachedValue}
-use Rattle.agent_core.specs.Steps.{StepAnswer, Hit, Miss, Other, IsAnswer, hit, miss, other, JournalSeen, StepsTo, StepRefused}
+use Rattle.agent_core.specs.Steps.{StepAnswer, Hit, Miss, Other, IsAnswer, other, JournalSeen, StepsTo, StepRefused}
 use Rattle.agent_core.specs.Shards.{HasPlanAt, LeavesShards, ShardsSeen, shard_at}
-use Rattle.agent_core.proofs.Onward.{stands_on}
 use Rattle.agent_core.specs.declared.event.Event.{Event as EventValue}
 use Rattle.agent_core.specs.Views.{event_of}
 use Rattle.agent_core.proofs.Asks.{standing}
 use Rattle.taos_monitor.specs.declared.stepping.Went.{Went}
 use Rattle.taos_monitor.specs.declared.stepping.Went.TheVariants as how
-use Rattle.taos_monitor.specs.Cells.{in_shard, ShardsGoOn, AreLegalShards, shards_in}
-use Rattle.taos_monitor.specs.Operations.{IsEffect}
-use Rattle.taos_monitor.specs.Effects.{IsDone, WantsRoom, removed_by, WentAs, ShardStep, step_at, its_place, LetsGo, IsStep, AreDone, WentThrough, FoundNoRoom, FoundNoPlace, SteppedBy, CanStep}
-use Rattle.taos_monitor.proofs.Going.{OneGoesOn, one_place, no_places, shard_went_on, shards_twice, shards_stood, shards_begin}
+use Rattle.request_course.specs.Cells.{in_shard, ShardsGoOn, AreLegalShards, shards_in}
+use Rattle.request_course.specs.Operations.{IsEffect}
+use Rattle.request_course.specs.Effects.{IsDone, WantsRoom, removed_by, ShardStep, step_at, its_place, LetsGo, IsStep, AreDone, WentThrough, FoundNoRoom, FoundNoPlace}
+use Rattle.taos_monitor.specs.Performing.{WentAs, SteppedBy, CanStep}
+use Rattle.request_course.proofs.Going.{OneGoesOn, one_place, no_places, shard_went_on, shards_twice, shards_stood, shards_begin}
+use Rattle.request_course.proofs.Staying.{steps_stay}
+use Rattle.request_course.proofs.EffectTold.{IsAnswerToEffect, told_effect}
 
 -- ---- what is told of an effect
-
-abbrev pub IsToldOfEffect : Told → Type 0
-IsToldOfEffect (Told.Held added) = Unit {0}
-IsToldOfEffect (Told.CommonsFull held) = Unit {0}
-IsToldOfEffect (Told.Removed count) = Unit {0}
-IsToldOfEffect (Told.WithdrawnFull held) = Unit {0}
-IsToldOfEffect _ = ⊥
-
-plain_told : (a b : Told) → Plain a ≡ Plain b → a ≡ b
-plain_told a b e = cc
-
-holding_tells : (s : State) (new : List Certificate) (told : Told) → (holding s new).1 ≡ Plain told → IsToldOfEffect told
-holding_tells s new told =
-    cond_both (nat_lt MAX_COMMONS (length s.commons + length new)) _ _ (λ (r : State × Answer). r.1 ≡ Plain told → IsToldOfEffect told)
-    (λ _ e. subst IsToldOfEffect (plain_told (Told.CommonsFull (length s.commons)) told e) tt)
-    (λ _ e. subst IsToldOfEffect (plain_told (Told.Held (length new)) told e) tt)
-
-withdrawing_tells : (plan : Plan) (issuer : ℕ) (s : State) (told : Told) → (withdrawing plan issuer s).1 ≡ Plain told → IsToldOfEffect told
-withdrawing_tells plan issuer s told =
-    cond_both (is_withdrawn s.withdrawn issuer) _ _ (λ (r : State × Answer). r.1 ≡ Plain told → IsToldOfEffect told)
-    (λ _ e. subst IsToldOfEffect (plain_told _ told e) tt)
-    (λ _. cond_both (nat_le MAX_WITHDRAWN (length s.withdrawn)) _ _ (λ (r : State × Answer). r.1 ≡ Plain told → IsToldOfEffect told)
-    (λ _ e. subst IsToldOfEffect (plain_told _ told e) tt)
-    (λ _ e. subst IsToldOfEffect (plain_told _ told e) tt))
-
-effect_tells : (plan : Plan) (s : State) (event : Event) (told : Told) → IsEffect event → (next plan s event).1 ≡ Plain told → IsToldOfEffect told
-effect_tells plan s (Asks a) told is e = absurd is
-effect_tells plan s (Keeps ask entry c) told is e = absurd is
-effect_tells plan s (Holds certs) told is e = holding_tells s (new_commons s certs) told e
-effect_tells plan s (Discards digest) told is e = subst IsToldOfEffect (plain_told _ told e) tt
-effect_tells plan s (Forgets channel) told is e = subst IsToldOfEffect (plain_told _ told e) tt
-effect_tells plan s (Expires reading) told is e = subst IsToldOfEffect (plain_told _ told e) tt
-effect_tells plan s (Withdraws issuer) told is e = withdrawing_tells plan issuer s told e
-
-abbrev pub IsAnswerToEffect : StepAnswer → Type 0
-IsAnswerToEffect (Other told) = IsToldOfEffect told
-IsAnswerToEffect _ = ⊥
-
-answer_to_effect : (plan : Plan) (before : List Entry) (event : Event) (told : Told) (x : StepAnswer) → IsAnswer plan before event told x → IsEffect event → IsAnswerToEffect x
-answer_to_effect plan before event told x (hit j at found) is = absurd is
-answer_to_effect plan before event told x (miss j) is = absurd is
-answer_to_effect plan before event told x (other p) is = effect_tells plan (state_after plan before) event told is p
-
--- what a step of an effect hands out is told
-pub told_effect : {plan : Plan} {earlier later : JournalSeen} {event : Event} (place : ℕ) (x : StepAnswer) → IsEffect event → StepsTo plan earlier later event place x → IsAnswerToEffect x
-told_effect {plan = plan} {event = event} place x is s = answer_to_effect plan s.before event s.steps.told x s.steps.answers is
 
 told_other : {plan : Plan} {before : List Entry} {event : Event} (told told' : Told) → IsAnswer plan before event told (Other told') → told ≡ told'
 told_other told told' (other e) = refl
@@ -104,40 +56,6 @@ module _ (plan : Plan) (earlier later : JournalSeen) (event : Event) (place : �
   never_asked (inr (inr (inr (inl h)))) = no_effect_step (answer.Miss h.0) (Miss h.0.moment (certificates h.0.certs.items)) h.1 (λ t. t)
   never_asked (inr (inr (inr (inr (inl h))))) = no_effect_step answer.Kept (Other Told.Kept) h (λ t. t)
   never_asked (inr (inr (inr (inr (inr h))))) = no_effect_step (answer.Dropped h.0) (Other (Told.Dropped h.0)) h.1 (λ t. t)
-
-holding_takes_none : (s : State) (new : List Certificate) (cache : List Cached) (event : Event) → TakesMemory (told_of cache event (holding s new).1) → ⊥
-holding_takes_none s new cache event =
-    cond_both (nat_lt MAX_COMMONS (length s.commons + length new)) _ _ (λ (r : State × Answer). TakesMemory (told_of cache event r.1) → ⊥)
-    (λ _ none. none)
-    (λ _ none. none)
-
-withdrawing_takes_none : (plan : Plan) (issuer : ℕ) (s : State) (cache : List Cached) (event : Event) → TakesMemory (told_of cache event (withdrawing plan issuer s).1) → ⊥
-withdrawing_takes_none plan issuer s cache event =
-    cond_both (is_withdrawn s.withdrawn issuer) _ _ (λ (r : State × Answer). TakesMemory (told_of cache event r.1) → ⊥)
-    (λ _ none. none)
-    (λ _. cond_both (nat_le MAX_WITHDRAWN (length s.withdrawn)) _ _ (λ (r : State × Answer). TakesMemory (told_of cache event r.1) → ⊥)
-    (λ _ none. none)
-    (λ _ none. none))
-
--- no effect takes memory
-pub takes_none : (plan : Plan) (before : List Entry) (event : Event) → IsEffect event → TakesMemory (told_at plan before event) → ⊥
-takes_none plan before (Asks a) is takes = is
-takes_none plan before (Keeps ask entry c) is takes = is
-takes_none plan before (Holds certs) is takes = holding_takes_none (state_after plan before) (new_commons (state_after plan before) certs) (cache_after plan before) (Holds certs) takes
-takes_none plan before (Discards digest) is takes = takes
-takes_none plan before (Forgets channel) is takes = takes
-takes_none plan before (Expires reading) is takes = takes
-takes_none plan before (Withdraws issuer) is takes = withdrawing_takes_none plan issuer (state_after plan before) (cache_after plan before) (Withdraws issuer) takes
-
--- an effect is meant, whatever stands before it
-pub is_meant_effect : (plan : Plan) (before : List Entry) (event : Event) → IsEffect event → IsMeant plan before event
-is_meant_effect plan before (Asks a) is = absurd is
-is_meant_effect plan before (Keeps ask entry c) is = absurd is
-is_meant_effect plan before (Holds certs) is = tt
-is_meant_effect plan before (Discards digest) is = tt
-is_meant_effect plan before (Forgets channel) is = tt
-is_meant_effect plan before (Expires reading) is = tt
-is_meant_effect plan before (Withdraws issuer) is = tt
 
 -- ---- one step, in what was seen
 
@@ -166,14 +84,6 @@ pub record AreStepped (old now : ShardsSeen) (effect : Option Event) (shards : L
   pub through : WentThrough now.seen effect shards steps
   pub removed_is : IsTrue removed ↔ LetsGo steps
 
-pub steps_stay : (J K : ℕ → List Entry) (effect : Option Event) (steps : List ShardStep) → ((s : ℕ) → Begins (J s) (K s)) → AreDone J effect steps → AreDone K effect steps
-steps_stay J K effect steps goes are = record {
-  stand = λ k d lt.
-      let s = are.stand k d lt in
-      record { event = s.event; effect_is = s.effect_is; before = s.before; stands = stands_on s.stands (goes (get_or steps k d).shard) };
-  done = are.done;
-}
-
 module _ (old before after : ShardsSeen) (effect : Option Event) (shards : List ℕ) (removed : Bool)
     (so_far : AreStepped old before effect shards removed)
     (h : ℕ) (plan : Plan) (planned : slice_get old.plans h ≡ Some plan) (event : Event) (effect_is : effect ≡ Some event)
@@ -196,9 +106,6 @@ module _ (old before after : ShardsSeen) (effect : Option Event) (shards : List 
   module _ (place : ℕ) (told : Told) (s : StepsTo plan earlier later event place (Other told)) where
     went : ShardsGoOn old.alone (shards_in before) (shards_in after) (in_shard h place ∷ [])
     went = shard_went_on h before.seen after.seen before.own after.own others old.alone (place ∷ []) (goes_stepped place (Other told) s)
-
-    this : ShardStep
-    this = step_at h place told
 
     both_went : ShardsGoOn old.alone (shards_in old) (shards_in after) (map its_place (so_far.steps ++ step_at h place told ∷ []))
     both_went =
@@ -366,13 +273,3 @@ module _ (old before after : ShardsSeen) (same_plans : before.plans ≡ old.plan
       let all : range_with_len first place ++ h ∷ rest' ≡ range_with_len first count = ap (λ k. range_with_len first place ++ k ∷ rest') h_is ∙ sym split in
       subst (λ ss. SteppedBy old after (λ steps. FoundNoPlace after.seen effect old.plans ss steps h n)) all
       (stopped_full old before after effect (range_with_len first place) removed so_far h plan planned (event_of e) can.same rest.others rest' n s full limit)
-
--- all were stepped
-pub all_stepped : (old now : ShardsSeen) (effect : Option Event) (first place count : ℕ) (removed : Bool) → AreStepped old now effect (range_with_len first place) removed → place ≡ count →
-    SteppedBy old now (λ steps. WentThrough now.seen effect (range_with_len first count) steps × (IsTrue removed ↔ LetsGo steps))
-all_stepped old now effect first place count removed so_far same = record {
-  steps = so_far.steps;
-  goes_on = so_far.goes_on;
-  legal = so_far.legal;
-  ends = (subst (λ k. WentThrough now.seen effect (range_with_len first k) so_far.steps) same so_far.through, so_far.removed_is);
-}

@@ -19,21 +19,22 @@ use Rattle.agent_core.specs.declared.asked.Settled.{Settled}
 use Rattle.agent_core.specs.State.{Plan, Ask}
 use Rattle.agent_core.specs.Journals.{Entry, Begins, ShardSeen, Stands}
 use Rattle.agent_core.specs.Shards.{ShardsSeen}
-use Rattle.agent_core.specs.Asked.{FoundRoom, IsGrant, by_kept, was_kept, was_dropped, had_no_room}
+use Rattle.agent_core.specs.Asked.{FoundRoom, IsGrant, had_no_room}
 use Rattle.agent_core.proofs.Asks.{some_own, standing}
 use Rattle.agent_core.proofs.Onward.{begins_itself, denied_stays, grant_stays}
 use Rattle.taos_monitor.specs.declared.deciding.Came.{Came}
 use Rattle.taos_monitor.specs.declared.deciding.Ruled.{Ruled}
-use Rattle.taos_monitor.specs.Asking.{TellsFull, unanswered}
-use Rattle.taos_monitor.specs.AtObject.{Seeking, own_at, ruled_as, told_or, HasLooked, LeavesOut, IsGuardedAfter, object_is_full, no_ruling, asks_for}
-use Rattle.taos_monitor.specs.AtObject as guarded
-use Rattle.taos_monitor.specs.Cells.{Cell, Journals, Place, entries_in, in_shard, in_object, objects_in, shards_in, seen_by, alone_of, AreLegalShards}
-use Rattle.taos_monitor.specs.Effects.{ShardStep, its_place, IsPerformed, PerformedAs, SteppedBy}
-use Rattle.taos_monitor.specs.Operations.{effect_of}
+use Rattle.request_course.specs.Asking.{TellsFull, unanswered}
+use Rattle.request_course.specs.AtObject.{Seeking, own_at, ruled_as, told_or, HasLooked, LeavesOut, IsGuardedAfter, object_is_full, no_ruling, asks_for}
+use Rattle.request_course.specs.AtObject as guarded
+use Rattle.request_course.specs.Cells.{Cell, Journals, Place, entries_in, in_shard, in_object, objects_in, shards_in, seen_by, alone_of, AreLegalShards}
+use Rattle.request_course.specs.Effects.{ShardStep, its_place, IsPerformed}
+use Rattle.taos_monitor.specs.Performing.{PerformedAs, SteppedBy}
+use Rattle.request_course.specs.Operations.{effect_of}
 use Rattle.taos_monitor.specs.Ruling.{DecidedTo, GuardedTo, IsRuled, at_limit, unruled, shard_of, standing_by, ruled_at, seeking_of}
 use Rattle.taos_monitor.specs.Ruling as ruling
-use Rattle.taos_monitor.proofs.Going.{OneGoesOn, one_place, no_places, object_went_on, goes_on_twice, stood, shards_begin}
-use Rattle.taos_monitor.proofs.Short.{short}
+use Rattle.request_course.proofs.Going.{OneGoesOn, one_place, no_places, object_went_on, goes_on_twice, stood, shards_begin}
+use Rattle.request_course.proofs.Short.{short}
 use Rattle.taos_monitor.proofs.Telling.{has_places}
 
 -- ---- objects by their numbers
@@ -78,8 +79,7 @@ module _ (plans : List Plan) (plan : Plan) (past : Journals) (shards : ℕ → L
       IsGuardedAfter plans plan (past, record { shards = shards; objects = objects }) x (own_at own [] []) reply
   unruled_as ruled own reply (at_limit full) none there = object_is_full (ap (λ (l : List ObjectEntry). length l) there ∙ full)
   unruled_as ruled own reply (unruled room u) none there = no_ruling before (record { begins = subst (Begins before) (sym there) (begins_itself before); after = λ told. after; room = λ told. room }) u
-  unruled_as ruled own reply (ruling.denied d tells) none there = absurd cc
-  unruled_as ruled own reply (ruling.granted g) none there = absurd cc
+  unruled_as ruled own reply _ none there = absurd cc
 
 same_ruled : (a b : Ruled) → Some a ≡ Some b → a ≡ b
 same_ruled a b e = cc
@@ -99,10 +99,8 @@ module _ (plans : List Plan) (plan : Plan) (past : Journals) (shards later : ℕ
       λ same. omega (arith, full, within, below, above, ap (λ (s : ℕ). length (shards s)) same, ap (λ (s : ℕ). length (later s)) same)
 
   left_out : (a : Ask) (place e : ℕ) (c : Cached) (kept : Bool) (settled : Settled) (own : List ℕ) → IsGrant plan (shards x.shard) a place e c kept settled own → LeavesOut settled x.shard steps
-  left_out a place e c kept settled own (by_kept h) = tt
-  left_out a place e c kept settled own (was_kept g t) = tt
-  left_out a place e c kept settled own (was_dropped g t) = tt
   left_out a place e c kept settled own (had_no_room g full) = none_there full
+  left_out a place e c kept settled own _ = tt
 
   entry_stands : (s : Ruled) → r ≡ s → Stands (objects x.request.object) (length before) before (ruled_as s.shard s.place x.request.op s.ruling)
   entry_stands s is = record { rest = rest; is = stands ∙ ap (λ (t : Ruled). before ++ ruled_as t.shard t.place x.request.op t.ruling ∷ rest) is; placed = refl }
@@ -114,8 +112,6 @@ module _ (plans : List Plan) (plan : Plan) (past : Journals) (shards later : ℕ
   Guarded own reply = IsGuardedAfter plans plan (past, record { shards = later; objects = objects }) x (own_at own (length before ∷ []) steps) (told_or refused reply)
 
   pub ruled_on : (ruled : Option Ruled) (own : List ℕ) (reply : Reply) → IsRuled (shard_of plan (shards x.shard)) x before ruled own reply → ruled ≡ Some r → Guarded own reply
-  ruled_on ruled own reply (at_limit full) some = absurd cc
-  ruled_on ruled own reply (unruled room u) some = absurd cc
   ruled_on ruled own reply (ruling.denied {place} {denial} {told} d tells) some =
       let is : r ≡ ruled_at x.shard place rulings.Denied = same_ruled r (ruled_at x.shard place rulings.Denied) (sym some) in
       let (none, nothing) = performed_as (ruled_at x.shard place rulings.Denied) is in
@@ -127,6 +123,7 @@ module _ (plans : List Plan) (plan : Plan) (past : Journals) (shards later : ℕ
       (grant_stays plan (shards x.shard) (later x.shard) (asks_for x before) goes place entry c kept settled asks within g)
       (performed_as (ruled_at x.shard place (rulings.Granted entry)) is)
       (left_out (asks_for x before) place entry c kept settled asks g)
+  ruled_on ruled own reply _ some = absurd cc
 
 -- the shards as they are, by the plans that stayed
 abbrev pub as_at_first : (first now : ShardsSeen) → ShardsSeen
@@ -142,10 +139,9 @@ stepped_over first old new same solo r op same_op op_is certs reading answer ref
 
 -- what is ruled has its Ask
 pub ruled_has : (s : ShardSeen) (x : Seeking) (before : List ObjectEntry) (r : Ruled) (ruled : Option Ruled) (own : List ℕ) (reply : Reply) → IsRuled s x before ruled own reply → ruled ≡ Some r → own ≡ [] → ⊥
-ruled_has s x before r ruled own reply (at_limit full) some none = absurd cc
-ruled_has s x before r ruled own reply (unruled room u) some none = absurd cc
 ruled_has s x before r ruled own reply (ruling.denied {place} d tells) some none = some_own place none
 ruled_has s x before r ruled own reply (ruling.granted {place} {entry} {c} {kept} {settled} {own = asks} g) some none = has_places s.plan s.journal (asks_for x before) place entry c kept settled asks g none
+ruled_has s x before r ruled own reply _ some none = absurd cc
 
 -- no shard's journal was found full, where that of the shard that was asked was not
 full_told : (before after : ShardsSeen) (h : ℕ) (plan : Plan) (own : List ℕ) (reply : Reply) → slice_get before.plans h ≡ Some plan → TellsFull plan (before.seen h) (after.seen h) own reply → ((n : ℕ) → n ≢ h → after.seen n ≡ before.seen n) →

@@ -1,12 +1,12 @@
 -- What a verdict names is there, and may be told.
-use Rattle.std.proofs.Common.{◌≡◌, ℕ, Bool, zero, suc, ◌+◌, ◌<◌, ◌≤◌, List, [], ◌∷◌, ◌++◌, length, Contains, Option, None, Some, slice_get, refl, sym, ap, subst, ◌∙◌, ◌^◌, inl, inr, arith, append-nil, length-append}
-use Rattle.std.specs.Prelude.{All, IsSome, option_map, slice_index, sum_by}
+use Rattle.std.proofs.Common.{◌≡◌, ℕ, Bool, zero, suc, ◌+◌, ◌<◌, ◌≤◌, List, [], ◌∷◌, ◌++◌, length, Contains, Some, slice_get, refl, sym, ap, subst, ◌∙◌, ◌^◌, inl, inr, arith, append-nil, length-append}
+use Rattle.std.specs.Prelude.{All, slice_index, sum_by}
 use Rattle.std.specs.Int.{bytes_high_first, byte_at, to_be_bytes, w32}
 use Rattle.sha2.specs.Sha256.{digest_bytes, sha256}
 use Rattle.sha2.proofs.Facts256.{length-sha256}
 use Rattle.object_core.specs.Operation.{IsDigest}
 use Rattle.byte_fields.specs.Steps.{IsByte}
-use Rattle.std.proofs.lemmas.Option.{none-some, slice_get_within}
+use Rattle.std.proofs.lemmas.Option.{slice_get_within}
 use Rattle.std.specs.List.{flat_map}
 use Rattle.std.proofs.Math.Nat.{le-max_left, le-max_right}
 use Rattle.std.proofs.lemmas.Grind.{flat_map-append}
@@ -21,7 +21,7 @@ use Rattle.prin_term.proofs.Parts.{length-parts, first_part}
 use Rattle.stmt_codec.specs.Certificates.{Certificate, body_spelling, digest_of}
 use Rattle.denial_link.specs.declared.link.Link.{Link}
 use Rattle.denial_link.specs.declared.link.Link.TheVariants as links
-use Rattle.denial_link.specs.Links.{Lacks, here, below, IsFirstLink, no_entry, expired, early, missing}
+use Rattle.denial_link.specs.Links.{Lacks, here, below, IsFirstLink, expired, early, missing}
 use Rattle.denial_link.proofs.Members.{has-at, has-cases, has-nil}
 use Rattle.agent_core.specs.declared.asked.Denial.{Denial}
 use Rattle.agent_core.specs.declared.asked.Settled.{Settled}
@@ -32,7 +32,7 @@ use Rattle.agent_core.specs.Plans.{IsPlan}
 use Rattle.agent_core.specs.Journals.{Entry, IsLegalJournal}
 use Rattle.agent_core.specs.Asked.{IsDeniedAt, Ends, Names}
 use Rattle.taos_monitor.specs.Ruling.{HasPart, MayTell}
-use Rattle.taos_monitor.proofs.Cited.{grant_few}
+use Rattle.request_course.proofs.Cited.{grant_few}
 
 -- ---- a part by its place
 
@@ -50,12 +50,11 @@ two_under : (a b : Principal) → subterms a ++ subterms b ≡ flat_map subterms
 two_under a b = sym (flat_map-cons subterms a (b ∷ []) ∙ ap (λ (l : List Principal). subterms a ++ l) (flat_map-cons subterms b [] ∙ append-nil (subterms b)))
 
 under : (p : Principal) → subterms p ≡ p ∷ flat_map subterms (operands p)
-under (Key k) = refl
-under (Name n) = refl
 under (And a b) = ap (λ (l : List Principal). And a b ∷ l) (two_under a b)
 under (Quoting a b) = ap (λ (l : List Principal). Quoting a b ∷ l) (two_under a b)
 under (InRole a r) = ap (λ (l : List Principal). InRole a r ∷ l) (sym (flat_map-cons subterms a [] ∙ append-nil (subterms a)))
 under (For a b) = ap (λ (l : List Principal). For a b ∷ l) (two_under a b)
+under _ = refl
 
 count_under : (ps : List Principal) → length (flat_map subterms ps) ≡ sum_by node_count ps
 count_under [] = refl
@@ -156,25 +155,18 @@ module _ (anchors : List Anchor) (certs : List Certificate) (moment : ℕ) (subj
   IsInList links.NoEntry = Unit {0}
 
   pub in_list : (link : Link) → IsFirstLink anchors certs moment subject list right link → IsInList link
-  in_list link (no_entry none) = tt
   in_list link (expired {k} {c} g first needed out) = slice_get_within list k g first.stands
   in_list link (early {k} {c} g first needed out) = slice_get_within list k g first.stands
-  in_list link (missing {k} {n} g first none lacks) = tt
+  in_list link _ = tt
 
   pub named : (link : Link) (entry node : ℕ) → link ≡ links.Missing entry node → IsFirstLink anchors certs moment subject list right link →
       (g : Grant) × (part : Principal) × (slice_get list entry ≡ Some g) × (slice_get (subterms g.who) node ≡ Some part)
-  named link entry node e (no_entry none) = absurd cc
-  named link entry node e (expired {k} {c} g first needed out) = absurd cc
-  named link entry node e (early {k} {c} g first needed out) = absurd cc
   named link entry node e (missing {k} {n} g first none lacks) =
       let same_entry : k ≡ entry = cc in
       let same_node : n ≡ node = cc in
       let (part, at) = lacking_part _ g.who n lacks in
       (g, part, ap (slice_get list) (sym same_entry) ∙ first.stands, ap (slice_get (subterms g.who)) (sym same_node) ∙ at)
-
-pub is_some : {X Y : Type 0} (f : X → Y) (o : Option X) (y : Y) → option_map f o ≡ Some y → IsSome o
-is_some f None y e = absurd (none-some y e)
-is_some f (Some x) y e = refl
+  named link entry node e _ = absurd cc
 
 has_part : (plan : Plan) (journal : List Entry) (a : Ask) (place : ℕ) (denial : Denial) (link : Link) → length a.list ≤ 8 → (d : IsDeniedAt plan journal a place denial) → d.denied.link ≡ link → Names d.certs link denial → HasPart a.list denial
 has_part plan journal a place denial (links.Expired k i) few d at (c, stands, is) =
@@ -191,6 +183,4 @@ has_part plan journal a place denial links.NoEntry few d at is = subst (HasPart 
 pub may_tell : (plan : Plan) (journal : List Entry) (a : Ask) (place : ℕ) (v : Verdict) (kept : Bool) (settled : Settled) (own : List ℕ) → IsPlan plan → IsLegalJournal plan journal → length a.list ≤ 8 → Ends plan journal a place v kept settled own → MayTell a.list v
 may_tell plan journal a place (verdict.Granted e c) kept settled own sound legal few granted = grant_few plan journal a place e _ kept settled own sound legal granted
 may_tell plan journal a place (verdict.Denied denial) kept settled own sound legal few ((denied, is), plain, none) = has_part plan journal a place denial denied.denied.link few denied refl denied.denied.names
-may_tell plan journal a place (verdict.Replayed last) kept settled own sound legal few ends = tt
-may_tell plan journal a place (verdict.Full held) kept settled own sound legal few ends = tt
-may_tell plan journal a place (verdict.JournalFull n) kept settled own sound legal few ends = tt
+may_tell plan journal a place _ kept settled own sound legal few _ = tt

@@ -11,8 +11,8 @@ use Rattle.taos_wire.specs.Request.{Request, Spells, IsSealed, origin_bytes, ask
 use Rattle.taos_wire.specs.RequestReading.{request_of}
 use Rattle.taos_wire.specs.Reply as replies
 use Rattle.taos_wire.specs.Reply.{unsealed}
-use Rattle.taos_monitor.specs.Cells.{Node, Journals}
-use Rattle.taos_monitor.specs.Course.{CourseAfter, nothing, malformed, bad_seal}
+use Rattle.request_course.specs.Cells.{Node, Journals}
+use Rattle.request_course.specs.Course.{CourseAfter, nothing, malformed, bad_seal}
 
 -- ---- how long what it presents is
 

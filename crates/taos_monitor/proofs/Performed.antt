@@ -9,9 +9,10 @@ use Rattle.agent_core.specs.Shards.{ShardsSeen}
 use Rattle.taos_monitor.specs.declared.due.Due.{Due}
 use Rattle.taos_monitor.specs.declared.performing.Effected.{Effected}
 use Rattle.taos_monitor.specs.declared.performing.Effected.TheVariants as effected
-use Rattle.taos_monitor.specs.Asking.{shard_full}
-use Rattle.taos_monitor.specs.Operations.{effect_of, targets_of}
-use Rattle.taos_monitor.specs.Effects.{ShardStep, EndAs, FoundNoRoom, lacks_room, IsPerformed, through, not_held, no_room, no_place, TellsHeld, SteppedBy, effect_due, shards_due, IsDueOf}
+use Rattle.request_course.specs.Asking.{shard_full}
+use Rattle.request_course.specs.Operations.{effect_of, targets_of}
+use Rattle.request_course.specs.Effects.{ShardStep, FoundNoRoom, lacks_room, IsPerformed, through, not_held, no_room, no_place}
+use Rattle.taos_monitor.specs.Performing.{EndAs, TellsHeld, SteppedBy, effect_due, shards_due, IsDueOf}
 
 module _ (old new : ShardsSeen) where
   stepped_as : (E F : List ShardStep → Type 0) → ((steps : List ShardStep) → E steps → F steps) → SteppedBy old new E → SteppedBy old new F

@@ -9,7 +9,7 @@ use Rattle.stmt_codec.specs.Certificates.{Certificate, body_spelling}
 use Rattle.frame_link.specs.Relay.{Link}
 use Rattle.taos_wire.specs.View.{text_of, cited as shared}
 use Rattle.taos_monitor.specs.declared.refusal.Refusal.TheVariants as refusals
-use Rattle.taos_monitor.specs.Credentials.{Resealed, Refused, LinkCall, link_use, call, Comes, by_node, by_relay, AreOpened, none_more, one_more, StopsAt, at_text, after_call, IsQuiet}
+use Rattle.request_course.specs.Credentials.{Resealed, Refused, LinkCall, link_use, call, Comes, by_node, by_relay, AreOpened, none_more, one_more, StopsAt, at_text, after_call, IsQuiet}
 use Rattle.relay_core.specs.declared.presenting.Unpresented.{Unpresented}
 use Rattle.relay_core.specs.declared.presenting.Unpresented.TheVariants as reasons
 use Rattle.relay_core.specs.Presenting.{IsOneStopped, OneComes, OneStops}

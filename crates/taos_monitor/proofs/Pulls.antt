@@ -22,16 +22,16 @@ use Rattle.cred_pull.specs.declared.pulling.Pulled.{Pulled}
 use Rattle.cred_pull.specs.declared.pulling.Pulled.TheVariants as results
 use Rattle.cred_pull.specs.Pulling as ends
 use Rattle.cred_pull.specs.Pulling.{within, with_pulled, Ends, Pulls, pull_use}
-use Rattle.taos_monitor.specs.declared.handling.Handled.{Handled}
-use Rattle.taos_monitor.specs.declared.handling.Handled.TheVariants as handled
+use Rattle.request_course.specs.declared.handled.Handled.{Handled}
+use Rattle.request_course.specs.declared.handled.Handled.TheVariants as handled
 use Rattle.taos_monitor.specs.declared.node_keys.NodeKeys.{NodeKeys}
 use Rattle.taos_monitor.specs.Arriving.{node_of}
-use Rattle.taos_monitor.specs.Cells.{Node, Cell, Journals, Viewed, seen_of, AreLegalIn}
-use Rattle.taos_monitor.specs.Course.{nothing, pulling, pulled_payload, TurnAfter, pull_failed, unfetched, unpulled, pull_stopped, pulled, with_more}
-use Rattle.taos_monitor.specs.Credentials.{LinkCall, link_use, IsLinked}
-use Rattle.taos_monitor.specs.Handling.{AreFetched, ArePulls, PullsFor, Handles, HandlesPulled, Answers}
-use Rattle.taos_monitor.specs.World.{Setting, World, fetch_use, setting_of, reaching, world_of}
-use Rattle.taos_monitor.proofs.Going.{stood}
+use Rattle.request_course.specs.Cells.{Node, Cell, Journals, Viewed, seen_of, AreLegalIn}
+use Rattle.request_course.specs.Course.{nothing, pulling, pulled_payload, TurnAfter, pull_failed, unfetched, unpulled, pull_stopped, pulled, with_more}
+use Rattle.request_course.specs.Credentials.{LinkCall, link_use, IsLinked}
+use Rattle.request_course.specs.Handling.{AreFetched, ArePulls, PullsFor, Handles, HandlesPulled, Answers}
+use Rattle.request_course.specs.World.{Setting, World, fetch_use, setting_of, reaching, world_of}
+use Rattle.request_course.proofs.Going.{stood}
 use Rattle.taos_monitor.proofs.Presenting.{linked_both}
 
 -- the payload with what was pulled is the request with that, under the same seal

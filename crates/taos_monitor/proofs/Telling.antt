@@ -8,13 +8,13 @@ use Rattle.agent_core.specs.declared.asked.Verdict.TheVariants as verdict
 use Rattle.agent_core.specs.declared.asked.Settled.{Settled}
 use Rattle.agent_core.specs.State.{Plan, Ask}
 use Rattle.agent_core.specs.Journals.{Entry}
-use Rattle.agent_core.specs.Asked.{Ends, IsGrant, by_kept, was_kept, was_dropped, had_no_room}
+use Rattle.agent_core.specs.Asked.{Ends, IsGrant, was_kept, was_dropped}
 use Rattle.proof_cache.specs.Cached.{Cached, cached}
 use Rattle.proof_cache.specs.declared.cached.Cached.{Cached as CachedValue}
 use Rattle.std.specs.Arc.{arc_value}
 use Rattle.taos_monitor.specs.declared.deciding.Ruled.{Ruled}
-use Rattle.taos_monitor.specs.Asking.{full, replayed, channel_full, untold, shard_full}
-use Rattle.taos_monitor.specs.AtObject.{Seeking, asks_for, gives_for}
+use Rattle.request_course.specs.Asking.{full, replayed, channel_full, untold, shard_full}
+use Rattle.request_course.specs.AtObject.{Seeking, asks_for, gives_for}
 use Rattle.taos_monitor.specs.Ruling.{Telling, IsToldBy, IsRuled, unruled, denied, granted, shard_of}
 
 module _ (plan : Plan) (journal : List Entry) (x : Seeking) (before : List ObjectEntry) (room : length before < x.fixed.limit) where
@@ -49,10 +49,9 @@ told_apart shard limit e = cc
 
 module _ (plan : Plan) (journal : List Entry) (a : Ask) (place : ℕ) where
   pub has_places : (e : ℕ) (c : Cached) (kept : Bool) (settled : Settled) (own : List ℕ) → IsGrant plan journal a place e c kept settled own → own ≡ [] → ⊥
-  has_places e c kept settled own (by_kept h) none = some_places place [] none
   has_places e c kept settled own (was_kept {keep} g t) none = some_places place (keep ∷ []) none
   has_places e c kept settled own (was_dropped {keep} g t) none = some_places place (keep ∷ []) none
-  has_places e c kept settled own (had_no_room g at) none = some_places place [] none
+  has_places e c kept settled own _ none = some_places place [] none
 
   pub never_lacking : (v : Verdict) (kept : Bool) (settled : Settled) (own : List ℕ) → Ends plan journal a place v kept settled own →
       (t : Telling) (ruled : Option Ruled) (reply : Reply) → IsToldBy t v ruled reply → reply ≡ replies.NoMemory → own ≡ [] → ⊥

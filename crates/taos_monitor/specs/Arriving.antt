@@ -10,9 +10,9 @@ use Rattle.agent_core.specs.State.{Plan}
 use Rattle.taos_monitor.specs.declared.arrival.Arrived.{Arrived}
 use Rattle.taos_monitor.specs.declared.node_keys.NodeKeys.{NodeKeys}
 use Rattle.taos_monitor.specs.declared.refusal.Refusal.{Refusal}
-use Rattle.taos_monitor.specs.Cells.{Journals, Node}
-use Rattle.taos_monitor.specs.Credentials.{LinkCall, LinkUse, IsLinked}
-use Rattle.taos_monitor.specs.Course.{brought, HasArrived, CourseAfter, nothing, only_calls}
+use Rattle.request_course.specs.Cells.{Journals, Node}
+use Rattle.request_course.specs.Credentials.{LinkCall, LinkUse, IsLinked}
+use Rattle.request_course.specs.Course.{brought, HasArrived, CourseAfter, nothing, only_calls}
 use Rattle.taos_monitor.specs.Refusals.{refusal}
 
 -- the node of these keys, plans and objects

@@ -5,7 +5,7 @@ use Rattle.relay_core.specs.declared.presenting.Unpresented.{Unpresented}
 use Rattle.relay_core.specs.declared.presenting.Unpresented.TheVariants as reasons
 use Rattle.taos_monitor.specs.declared.refusal.Refusal.{Refusal}
 use Rattle.taos_monitor.specs.declared.refusal.Refusal.TheVariants as refusals
-use Rattle.taos_monitor.specs.Credentials.{LinkCall, AreOpened, IsFirstRefused, IsFirstFailed, IsInterrupted, LinkUse, IsLinked, IsQuiet}
+use Rattle.request_course.specs.Credentials.{LinkCall, AreOpened, IsFirstRefused, IsFirstFailed, IsInterrupted, LinkUse, IsLinked, IsQuiet}
 
 -- the reason at a place, as the refusal
 abbrev pub refused_at : ℕ → Unpresented → Refusal

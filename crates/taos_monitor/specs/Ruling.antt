@@ -30,10 +30,10 @@ use Rattle.agent_core.specs.Shards.{HasPlanAt, ShardsSeen, home_of}
 use Rattle.taos_monitor.specs.declared.arrival.Arrived.{Arrived}
 use Rattle.taos_monitor.specs.declared.deciding.Came.{Came}
 use Rattle.taos_monitor.specs.declared.deciding.Ruled.{Ruled}
-use Rattle.taos_monitor.specs.Cells.{Cell, CellsSeen, Seen, GoesOn, ShardsGoOn, AreLegalIn, AreLegalShards, alone_of, in_shard, seen_by, shards_in}
-use Rattle.taos_monitor.specs.Asking.{TellsDenial, IsUnruled, TellsFull, shard_full}
-use Rattle.taos_monitor.specs.Operations.{result_of}
-use Rattle.taos_monitor.specs.AtObject.{Seeking, Own, places_at, asks_for, gives_for, object_full, IsGuardedAfter}
+use Rattle.request_course.specs.Cells.{Cell, CellsSeen, Seen, GoesOn, ShardsGoOn, AreLegalIn, AreLegalShards, alone_of, in_shard, seen_by, shards_in}
+use Rattle.request_course.specs.Asking.{TellsDenial, IsUnruled, TellsFull, shard_full}
+use Rattle.request_course.specs.Operations.{result_of}
+use Rattle.request_course.specs.AtObject.{Seeking, Own, places_at, asks_for, gives_for, object_full, IsGuardedAfter}
 
 -- ---- the ask
 

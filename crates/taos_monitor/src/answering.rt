@@ -3,14 +3,14 @@
 ghost use Rattle.std.specs.Prelude.{◌≡◌, ◌≤◌, IfErr, IfOk, None, length};
 ghost use Rattle.taos_wire.specs.View.{request as request_of};
 ghost use Rattle.taos_monitor.specs.Arriving.{IsAskedBy, IsNotAsked, IsUnasked};
-ghost use Rattle.taos_monitor.specs.Cells.{CellsStay, both_cells};
-ghost use Rattle.taos_monitor.specs.Desk.{AnswersIn, AnswersWith, IsFree, lent_by, state_at, state_by};
-ghost use Rattle.taos_monitor.specs.Handling.{HandlesCause, LeavesReply};
+ghost use Rattle.request_course.specs.Cells.{CellsStay, both_cells};
+ghost use Rattle.request_course.specs.States.{AnswersIn, AnswersWith};
+ghost use Rattle.taos_monitor.specs.Desk.{IsFree, state_at, state_by};
+ghost use Rattle.request_course.specs.Handling.{HandlesCause, LeavesReply};
 ghost use Rattle.taos_monitor.specs.Planned.{ArePlanned};
 
 use crate::connection::MAX_REQUEST;
 use crate::desk::Desk;
-use crate::handling::Handled;
 use crate::legal::are_legal;
 use crate::node_keys::NodeKeys;
 use crate::reach::Reach;
@@ -21,6 +21,7 @@ use cred_pull::NoFetch;
 use frame_link::{Clock, RelayLink};
 use object_core::Shelf;
 use relay_core::OpenedCerts;
+use request_course::Handled;
 use std::alloc::Global;
 use std::sync::Wait;
 use taos_calculus::Decide;
@@ -83,8 +84,6 @@ impl<S: Shards, H: Shelf, D: Decide> Desk<'_, '_, '_, '_, '_, S, H, D> {
 
         // It is free for the next.
         ensures free { IsFree H.shown self.new }
-        ensures same { lent_by self.new ≡ lent_by self.old }
-        ensures same_outside { X.borrows outside.new ≡ X.borrows outside.old }
     {
         let keys = self.keys;
         match asked_of(alloc, keys, payload) {

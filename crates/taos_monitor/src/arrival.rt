@@ -46,7 +46,6 @@ pub(crate) fn arrive<H: Shelf, X: Reach>(
         (request asked.now)) }
     ensures key { opened.new ≡ opened.old }
     ensures rest { UsesLink (X.shown outside.old) (X.shown outside.new) }
-    ensures same { X.borrows outside.new ≡ X.borrows outside.old }
 {
     let certs = open_all(alloc, keys.node, opened, outside, &asked.certs)?;
     if !shelf.has(asked.object) {

@@ -3,13 +3,13 @@
 ghost use Rattle.std.specs.Prelude.{◌≡◌, false, IfOk, None};
 ghost use Rattle.std.specs.Thread.{IsSync};
 ghost use Rattle.frame_link.specs.Lent.{Both, To};
-ghost use Rattle.taos_monitor.specs.Cells.{CellsStay, both_cells};
-ghost use Rattle.taos_monitor.specs.Desk.{IsFree, ServesBy, ServesIn, lent_by, line_at, line_by, state_at};
+ghost use Rattle.request_course.specs.Cells.{CellsStay, both_cells};
+ghost use Rattle.taos_monitor.specs.Desk.{IsFree, lent_by, line_at, line_by, state_at};
+ghost use Rattle.request_course.specs.States.{ServesBy, ServesIn};
 ghost use Rattle.taos_monitor.specs.Planned.{ArePlanned};
-ghost use Rattle.taos_monitor.specs.Serving.{StepsTo, StopsIn};
+ghost use Rattle.request_course.specs.Serving.{StepsTo, StopsIn};
 
 use crate::desk::Desk;
-use crate::handling::Handled;
 use crate::legal::are_legal;
 use crate::node_keys::NodeKeys;
 use crate::reach::Reach;
@@ -21,6 +21,7 @@ use frame_link::{
 };
 use object_core::Shelf;
 use relay_core::OpenedCerts;
+use request_course::Handled;
 use std::alloc::{AllocError, Global};
 use std::sync::Wait;
 use taos_calculus::Decide;
@@ -54,7 +55,7 @@ impl<W: Wait + Sync, S: Shards, H: Shelf, D: Decide, X: Reach> Service
         (S.shown s.desk.shards.now).plans × IsFree H.shown s.desk };
 
     ghost borrows = { λ s. Both (lent_by s.desk)
-        (To s.outside.ghost_name (X.borrows s.outside.now)) };
+        (To s.outside.ghost_name (X.shown s.outside.now).lent) };
 
     fn answer(&mut self, payload: &[u8]) -> Result<(), Failed> {
         let mut gate = FreeGate;
@@ -106,8 +107,6 @@ impl<S: Shards, H: Shelf, D: Decide> Desk<'_, '_, '_, '_, '_, S, H, D> {
 
         // It is free for the next.
         ensures free { IsFree H.shown self.new }
-        ensures same { lent_by self.new ≡ lent_by self.old }
-        ensures same_outside { X.borrows outside.new ≡ X.borrows outside.old }
     {
         let shards = &mut *self.shards;
         let shelf = &mut *self.shelf;

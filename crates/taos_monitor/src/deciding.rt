@@ -12,8 +12,8 @@ ghost use Rattle.agent_core.specs.Views.{ask_of};
 ghost use Rattle.taos_wire.specs.Request.{FitsRequest};
 ghost use Rattle.taos_wire.specs.View.{lent_grant, request};
 ghost use Rattle.taos_monitor.specs.Arriving.{StandsFor};
-ghost use Rattle.taos_monitor.specs.Cells.{AreLegalShards, ShardsStay};
-ghost use Rattle.taos_monitor.specs.Operations.{result_of};
+ghost use Rattle.request_course.specs.Cells.{AreLegalShards, ShardsStay};
+ghost use Rattle.request_course.specs.Operations.{result_of};
 ghost use Rattle.taos_monitor.specs.Planned.{IsPlanned};
 ghost use Rattle.taos_monitor.specs.Ruling.{DecidedTo, Drafts, EndsAsked, HasPart, IsToldBy, LacksAsked, MayTell, TellsDenied, TellsGrant, ask_seen, list_of, ruled_at, telling};
 

@@ -6,8 +6,8 @@ ghost use Rattle.agent_core.specs.State.{Plan};
 ghost use Rattle.agent_core.specs.Views.{event_of};
 ghost use Rattle.object_core.specs.View.{operation};
 ghost use Rattle.stmt_codec.specs.View.{certificates};
-ghost use Rattle.taos_monitor.specs.Effects.{IsDueOf, IsReady};
-ghost use Rattle.taos_monitor.specs.Operations.{effect_of};
+ghost use Rattle.taos_monitor.specs.Performing.{IsDueOf, IsReady};
+ghost use Rattle.request_course.specs.Operations.{effect_of};
 
 use agent_core::Event;
 use object_core::Op;

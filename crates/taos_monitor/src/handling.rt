@@ -4,9 +4,10 @@ ghost use Rattle.std.specs.Prelude.{◌≡◌, ◌≤◌, IsSome, None, length, 
 ghost use Rattle.keyed_seal.specs.Keys.{key_of};
 ghost use Rattle.taos_wire.specs.Request.{FitsRequest};
 ghost use Rattle.taos_wire.specs.View.{request as request_of};
-ghost use Rattle.taos_monitor.specs.Cells.{CellsStay, both_cells};
-ghost use Rattle.taos_monitor.specs.Desk.{HandlesAsked, HandlesPlainly, IsFree, lent_by, state_at, state_by};
-ghost use Rattle.taos_monitor.specs.Handling.{HandlesCause, LeavesReply};
+ghost use Rattle.request_course.specs.Cells.{CellsStay, both_cells};
+ghost use Rattle.request_course.specs.States.{HandlesAsked, HandlesPlainly};
+ghost use Rattle.taos_monitor.specs.Desk.{IsFree, state_at, state_by};
+ghost use Rattle.request_course.specs.Handling.{HandlesCause, LeavesReply};
 ghost use Rattle.taos_monitor.specs.Planned.{IsPlanned};
 
 use crate::arrival::arrive;
@@ -22,19 +23,11 @@ use cred_pull::NoFetch;
 use frame_link::{Clock, RelayLink};
 use object_core::Shelf;
 use relay_core::OpenedCerts;
+use request_course::Handled;
 use std::alloc::Global;
 use std::sync::Wait;
 use taos_calculus::Decide;
 use taos_wire::Request;
-
-/// How the handling of a request ended.
-#[derive(Clone, Copy, Debug, PartialEq, Eq)]
-pub enum Handled {
-    /// The reply was left.
-    Replied,
-    /// The clock failed, before any shard was stepped or the object taken.
-    ClockFault,
-}
 
 impl<S: Shards, H: Shelf, D: Decide> Desk<'_, '_, '_, '_, '_, S, H, D> {
     /// Handles one request, which was found to be under the seal of its channel's key, and leaves the
@@ -59,16 +52,12 @@ impl<S: Shards, H: Shelf, D: Decide> Desk<'_, '_, '_, '_, '_, S, H, D> {
         ensures handled { let at = state_at S.shown H.shown X.shown in HandlesPlainly
             (at self.old outside.old) (at self.new outside.new)
             (request_of asked.now) out.new result }
-        ensures unfetched { (X.shown outside.new).fetch ≡ (X.shown outside.old).fetch }
         ensures cause { HandlesCause (X.shown outside.old).outside.clock.faults
             (X.shown outside.new).outside.clock.faults result }
         ensures left { LeavesReply out.old out.new result }
 
         // It is free for the next.
         ensures free { IsFree H.shown self.new }
-        ensures same_pulls { self.new.pulls ≡ self.old.pulls }
-        ensures same { lent_by self.new ≡ lent_by self.old }
-        ensures same_outside { X.borrows outside.new ≡ X.borrows outside.old }
     {
         let keys = self.keys;
         let shards = &mut *self.shards;

@@ -2,7 +2,7 @@
 
 ghost use Rattle.agent_core.specs.Plans.{IsPlan};
 ghost use Rattle.std.specs.Prelude.{All};
-ghost use Rattle.taos_monitor.specs.Cells.{AreLegalCells, both_cells};
+ghost use Rattle.request_course.specs.Cells.{AreLegalCells, both_cells};
 
 use agent_core::Shards;
 use object_core::Shelf;

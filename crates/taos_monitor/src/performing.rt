@@ -6,8 +6,9 @@ ghost use Rattle.object_core.specs.Operation.{FitsOperation};
 ghost use Rattle.object_core.specs.View.{operation};
 ghost use Rattle.taos_wire.specs.Reply.{FitsReply, status_of};
 ghost use Rattle.taos_wire.specs.View.{reply};
-ghost use Rattle.taos_monitor.specs.Cells.{AreLegalShards, ShardsStay};
-ghost use Rattle.taos_monitor.specs.Effects.{EndAs, IsReady, Performs, PerformsRuled, SteppedBy, TellsHeld, effect_due, lacks_room, shards_due};
+ghost use Rattle.request_course.specs.Cells.{AreLegalShards, ShardsStay};
+ghost use Rattle.taos_monitor.specs.Performing.{EndAs, IsReady, Performs, PerformsRuled, SteppedBy, TellsHeld, effect_due, shards_due};
+ghost use Rattle.request_course.specs.Effects.{lacks_room};
 
 use crate::due::Due;
 use crate::stepping::{Went, step_one};

@@ -41,7 +41,6 @@ pub(crate) fn open_all<X: Reach>(
         (map text_of texts.now)) }
     ensures key { opened.new ≡ opened.old }
     ensures rest { UsesLink (X.shown outside.old) (X.shown outside.new) }
-    ensures same { X.borrows outside.new ≡ X.borrows outside.old }
 {
     let mut certs = Vec::new(alloc);
     for place in 0..texts.len() {

@@ -4,12 +4,12 @@ ghost use Rattle.std.specs.Prelude.{◌≡◌, ◌≤◌, All, IsSome, length, t
 ghost use Rattle.keyed_seal.specs.Keys.{key_of};
 ghost use Rattle.taos_wire.specs.Request.{FitsRequest};
 ghost use Rattle.taos_wire.specs.View.{request as request_of};
-ghost use Rattle.taos_monitor.specs.Desk.{HandlesIn, IsFree, lent_by, state_at};
-ghost use Rattle.taos_monitor.specs.Handling.{HandlesCause, LeavesReply};
+ghost use Rattle.request_course.specs.States.{HandlesIn};
+ghost use Rattle.taos_monitor.specs.Desk.{IsFree, state_at};
+ghost use Rattle.request_course.specs.Handling.{HandlesCause, LeavesReply};
 ghost use Rattle.taos_monitor.specs.Planned.{IsPlanned};
 
 use crate::desk::Desk;
-use crate::handling::Handled;
 use crate::legal::are_legal;
 use crate::reach::Reach;
 use crate::refusal::Refusal;
@@ -17,6 +17,7 @@ use crate::reply::ReplyBuf;
 use agent_core::{Gate, Shards};
 use cred_pull::Pulled;
 use object_core::Shelf;
+use request_course::Handled;
 use std::alloc::Global;
 use std::sync::Wait;
 use taos_calculus::Decide;
@@ -46,8 +47,6 @@ impl<S: Shards, H: Shelf, D: Decide> Desk<'_, '_, '_, '_, '_, S, H, D> {
             (X.shown outside.new).outside.clock.faults result }
         ensures left { LeavesReply out.old out.new result }
         ensures free { IsFree H.shown self.new }
-        ensures same { lent_by self.new ≡ lent_by self.old }
-        ensures same_outside { X.borrows outside.new ≡ X.borrows outside.old }
     {
         let keys = self.keys;
         let shards = &mut *self.shards;
@@ -91,8 +90,6 @@ impl<S: Shards, H: Shelf, D: Decide> Desk<'_, '_, '_, '_, '_, S, H, D> {
             (X.shown outside.new).outside.clock.faults result }
         ensures left { LeavesReply out.old out.new result }
         ensures free { IsFree H.shown self.new }
-        ensures same { lent_by self.new ≡ lent_by self.old }
-        ensures same_outside { X.borrows outside.new ≡ X.borrows outside.old }
     {
         if self.pulls {
             return self.request_pulling(rt, alloc, gate, outside, asked, out);

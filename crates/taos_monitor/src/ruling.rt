@@ -11,9 +11,9 @@ ghost use Rattle.stmt_codec.specs.View.{certificates};
 ghost use Rattle.taos_wire.specs.Request.{FitsRequest};
 ghost use Rattle.taos_wire.specs.View.{request};
 ghost use Rattle.taos_monitor.specs.Arriving.{StandsFor};
-ghost use Rattle.taos_monitor.specs.AtObject.{ruled_as};
-ghost use Rattle.taos_monitor.specs.Cells.{AreLegalShards, CellsStay, both_cells};
-ghost use Rattle.taos_monitor.specs.Effects.{IsDueOf, IsReady};
+ghost use Rattle.request_course.specs.AtObject.{ruled_as};
+ghost use Rattle.request_course.specs.Cells.{AreLegalShards, CellsStay, both_cells};
+ghost use Rattle.taos_monitor.specs.Performing.{IsDueOf, IsReady};
 ghost use Rattle.taos_monitor.specs.Planned.{IsPlanned};
 ghost use Rattle.taos_monitor.specs.Ruling.{Rules};
 

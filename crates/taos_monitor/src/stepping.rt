@@ -5,8 +5,8 @@ ghost use Rattle.agent_core.specs.Answers.{FitsEvent};
 ghost use Rattle.agent_core.specs.Shards.{HasPlanAt, LeavesShards, shard_at};
 ghost use Rattle.agent_core.specs.State.{Plan};
 ghost use Rattle.agent_core.specs.Views.{event_of};
-ghost use Rattle.taos_monitor.specs.Effects.{WentAs};
-ghost use Rattle.taos_monitor.specs.Operations.{IsEffect};
+ghost use Rattle.taos_monitor.specs.Performing.{WentAs};
+ghost use Rattle.request_course.specs.Operations.{IsEffect};
 
 use agent_core::{Answer, Event, Shards, Told};
 use std::alloc::Global;

@@ -8,7 +8,7 @@ use Rattle.node_check.specs.declared.check.CheckEnd.{CheckEnd}
 use Rattle.node_check.specs.Findings.{Checks}
 use Rattle.taos_node.specs.Calls.{Touched}
 use Rattle.taos_node.specs.Command.{UsesNoLane, LooksOver}
-use Rattle.taos_node.specs.Files.{OpensNode}
+use Rattle.command_file.specs.Files.{OpensNode}
 use Rattle.node_check.proofs.SameFindings.{checks_at}
 
 pub looked_over : (before after : Touched) (node : code.Opening) (o : Opening) (end : CheckEnd) → OpensNode before.file after.file o → Represents node o →

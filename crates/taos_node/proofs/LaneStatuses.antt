@@ -1,55 +1,39 @@
 -- What the status tells of the lanes' doors, and of the command that serves lanes.
-use Rattle.std.proofs.Common.{◌≡◌, ◌≢◌, ◌⊎◌, ℕ, ◌+◌, ◌<◌, ◌≤◌, ◌-◌, ◌^◌, Bool, true, false, List, [], ◌∷◌, length, map, drop, Option, Some, refl, sym, ap, ◌∙◌, subst, arith, inl, inr, cond}
-use Rattle.std.specs.Prelude.{String, not}
+use Rattle.std.proofs.Common.{◌≡◌, ◌≢◌, ◌⊎◌, ℕ, ◌+◌, ◌<◌, ◌≤◌, ◌-◌, ◌^◌, Bool, true, false, List, [], ◌∷◌, length, map, drop, Option, refl, sym, ap, ◌∙◌, subst, arith, inl, inr, cond}
+use Rattle.std.specs.Prelude.{String, not, ◌==◌, ◌||◌}
 use Rattle.std.specs.List.{AllZip, position_or_len}
 use Rattle.std.specs.declared.alloc.Global.{Global}
 use Rattle.frame_link.specs.Doors.{DoorSeen}
 use Rattle.agent_shards.specs.Each.{Each3}
-use Rattle.frame_link.specs.declared.outcome.Outcome.{Outcome}
-use Rattle.frame_link.specs.declared.outcome.Outcome.TheVariants.{End, Truncated, TooLong, ReadFault, WriteFault, ClockFault, Spent, NoMemory}
 use Rattle.node_file.specs.Opening.{Opening}
 use Rattle.node_file.specs.RelayFile.{RelayFile}
-use Rattle.file_lines.specs.declared.fault.FileFault.TheVariants.{Line, Byte}
 use Rattle.frame_link.specs.declared.limits.Limits.{Limits}
-use Rattle.taos_lanes.specs.Joining.{HasOtherWork}
+use Rattle.taos_lanes.specs.Workers.{HasOtherWork, LaneShown}
 use Rattle.taos_lanes.specs.Lanes.{LaneRun}
 use Rattle.taos_lanes.specs.declared.total.Total.{Total}
 use Rattle.taos_lanes.specs.Relaying.{IsRelayRunOf, RelayRun}
 use Rattle.taos_lanes.specs.Serving.{IsRunOf}
-use Rattle.taos_lanes.specs.Stocked.{LaneShown}
 use Rattle.taos_lanes.specs.Telling.{Telling, change}
 use Rattle.taos_lanes.specs.Working.{HasDoorCause}
-use Rattle.node_check.specs.declared.check.CheckEnd.{CheckEnd}
 use Rattle.node_check.specs.declared.check.CheckEnd.TheVariants as ends
 use Rattle.taos_node.specs.declared.ending.Ending.{Ending}
 use Rattle.taos_node.specs.declared.ending.Ending.TheVariants as ending
 use Rattle.taos_node.specs.declared.ending.Ending.TheVariants.{Usage, File, Served, Checked, Relayed, Minted, Lanes, RelayLanes, Audited, Drilled, Passed, Walleted, Replayed}
-use Rattle.taos_node.specs.declared.ending.FileFault.{FileFault}
-use Rattle.taos_node.specs.declared.ending.FileFault.TheVariants as fault
-use Rattle.taos_node.specs.declared.ending.FileFault.TheVariants.{Malformed, Refused}
-use Rattle.taos_node.specs.declared.ending.AuditEnd.{AuditEnd}
-use Rattle.taos_node.specs.declared.ending.AuditEnd.TheVariants as audits
-use Rattle.taos_node.specs.declared.ending.DrillEnd.{DrillEnd}
-use Rattle.taos_node.specs.declared.ending.DrillEnd.TheVariants as drills
+use Rattle.command_file.specs.declared.fault.FileFault.{FileFault}
 use Rattle.taos_node.specs.declared.ending.LanesEnd.{LanesEnd}
 use Rattle.taos_node.specs.declared.ending.LanesEnd.TheVariants as lanes
-use Rattle.node_check.specs.declared.finding.Finding.TheVariants.{Granted, Refused as Wrong}
-use Rattle.taos_node.specs.declared.minting.MintEnd.{MintEnd}
-use Rattle.taos_node.specs.declared.minting.MintEnd.TheVariants as made
-use Rattle.taos_node.specs.Command.{Does, EndsWellFor, FileDecidesFor, HasSameCount, HasSteadyDoor, IsCaused, IsCommand, IsStatus, ServesDoors, Runs, RunsAlone, TellsDoors}
+use Rattle.taos_node.specs.Command.{IsCommand, ServesDoors, Runs, RunsAlone}
+use Rattle.taos_node.specs.Status.{Does, EndsAlone, EndsWellFor, FileDecidesFor, HasSameCount, HasSteadyDoor, IsStatus, TellsDoors}
 use Rattle.taos_node.specs.Calls.{Touched, over}
 use Rattle.taos_node.specs.Stops.{status_of}
-use Rattle.taos_node.specs.Files.{FaultHasCause, FileFails, IsNodeFile, IsRelayFile, IsSteady, Meaning, node_means, relay_means}
+use Rattle.command_file.specs.Files.{FaultHasCause, FileFails, HasFailed, IsNodeFile, IsRelayFile, IsSteady, node_means, relay_means}
 use Rattle.taos_node.specs.Lanes.{HasNoneFailed, LanesCauses, PrintsLine, ServesLanes, served, unserved}
 use Rattle.taos_node.specs.RelayLanes.{RelaysDoors}
-use Rattle.taos_node.specs.declared.replay.ReplayEnd.{ReplayEnd}
-use Rattle.taos_node.specs.declared.replay.ReplayEnd.TheVariants as replay_ends
-use Rattle.taos_node.specs.declared.path.PathEnd.{PathEnd}
-use Rattle.taos_node.specs.declared.path.PathEnd.TheVariants as passed_ends
-use Rattle.node_words.specs.Words.{Audit, Check, Drill, Mean, Mint, Path, Relay, RelayServe, Run, Serve, ServeWords, Task, Wallet, AuditBytes, Replay}
-use Rattle.taos_node.proofs.Commands.{IsMeantBy, node_files, not_refused, relay_files, still}
-use Rattle.taos_node.proofs.Statuses.{not_caused, of_command, stayed, two_commands}
-use Rattle.taos_node.proofs.Stopped.{audited_status, checked_status, drilled_status, file_status, lanes_status, minted_status, path_status, replay_status, served_status}
+use Rattle.node_words.specs.Words.{Mean, RelayServe, Serve, ServeWords, Task}
+use Rattle.taos_node.proofs.Commands.{still}
+use Rattle.command_file.proofs.Meant.{node_files, relay_files}
+use Rattle.taos_node.proofs.Statuses.{apart, file_ends, is_file_status, lacked, of_command, stayed, two_commands}
+use Rattle.taos_node.proofs.Stopped.{file_status, lanes_status}
 
 -- ---- the other commands
 
@@ -60,7 +44,7 @@ IsLaneTask (RelayServe limits) = Unit {0}
 IsLaneTask other = ⊥
 
 -- words of another command serve no lanes
-pub other_words : (words : List (String Global)) (a : Task) → Mean words a → (IsLaneTask a → ⊥) → ServesDoors words → ⊥
+other_words : (words : List (String Global)) (a : Task) → Mean words a → (IsLaneTask a → ⊥) → ServesDoors words → ⊥
 other_words words a is apart (inl serve) = two_commands words a (Serve serve.0) is serve.1 (λ e. apart (subst IsLaneTask (sym e) tt))
 other_words words a is apart (inr serve) = two_commands words a (RelayServe serve.0) is serve.1 (λ e. apart (subst IsLaneTask (sym e) tt))
 
@@ -68,77 +52,6 @@ other_words words a is apart (inr serve) = two_commands words a (RelayServe serv
 pub none_serves : (words : List (String Global)) → (IsCommand words → ⊥) → ServesDoors words → ⊥
 none_serves words none (inl serve) = none (Serve serve.0, serve.1)
 none_serves words none (inr serve) = none (RelayServe serve.0, serve.1)
-
-pub not_nine_file : (f : FileFault) → file_status f ≢ 9
-not_nine_file (Malformed offset) = λ e. omega (arith, e)
-not_nine_file (Refused line cause) = λ e. omega (arith, e)
-not_nine_file fault.ReadFault = λ e. omega (arith, e)
-not_nine_file fault.NoMemory = λ e. omega (arith, e)
-
-not_nine_served : (outcome : Outcome) → served_status outcome ≢ 9
-not_nine_served (End n) = λ e. omega (arith, e)
-not_nine_served (Truncated n) = λ e. omega (arith, e)
-not_nine_served (TooLong n) = λ e. omega (arith, e)
-not_nine_served ReadFault = λ e. omega (arith, e)
-not_nine_served WriteFault = λ e. omega (arith, e)
-not_nine_served ClockFault = λ e. omega (arith, e)
-not_nine_served (Spent n) = λ e. omega (arith, e)
-not_nine_served NoMemory = λ e. omega (arith, e)
-
-not_nine_check : (end : CheckEnd) → checked_status end ≢ 9
-not_nine_check (ends.Done (Granted e l c)) = λ e. omega (arith, e)
-not_nine_check (ends.Done (Wrong w)) = λ e. omega (arith, e)
-not_nine_check ends.ReadFault = λ e. omega (arith, e)
-not_nine_check ends.WriteFault = λ e. omega (arith, e)
-not_nine_check ends.NoMemory = λ e. omega (arith, e)
-
-not_nine_mint : (end : MintEnd) → minted_status end ≢ 9
-not_nine_mint made.Done = λ e. omega (arith, e)
-not_nine_mint (made.Refused w) = λ e. omega (arith, e)
-not_nine_mint made.WriteFault = λ e. omega (arith, e)
-not_nine_mint made.NoMemory = λ e. omega (arith, e)
-
-not_nine_replay : (end : ReplayEnd) → replay_status end ≢ 9
-not_nine_replay (replay_ends.Done true) = λ e. omega (arith, e)
-not_nine_replay (replay_ends.Done false) = λ e. omega (arith, e)
-not_nine_replay replay_ends.ReadFault = λ e. omega (arith, e)
-not_nine_replay replay_ends.WriteFault = λ e. omega (arith, e)
-not_nine_replay replay_ends.NoMemory = λ e. omega (arith, e)
-
-not_nine_audit : (end : AuditEnd) → audited_status end ≢ 9
-not_nine_audit audits.Done = λ e. omega (arith, e)
-not_nine_audit (audits.Stopped outcome) = not_nine_served outcome
-not_nine_audit audits.WriteFault = λ e. omega (arith, e)
-not_nine_audit audits.NoMemory = λ e. omega (arith, e)
-
-not_nine_drill : (end : DrillEnd) → drilled_status end ≢ 9
-not_nine_drill drills.Done = λ e. omega (arith, e)
-not_nine_drill drills.WriteFault = λ e. omega (arith, e)
-not_nine_drill drills.NoMemory = λ e. omega (arith, e)
-
-not_nine_path : (end : PathEnd) → path_status end ≢ 9
-not_nine_path passed_ends.Done = λ e. omega (arith, e)
-not_nine_path (passed_ends.Refused hop code) = λ e. omega (arith, e)
-not_nine_path passed_ends.ReadFault = λ e. omega (arith, e)
-not_nine_path passed_ends.WriteFault = λ e. omega (arith, e)
-not_nine_path passed_ends.NoMemory = λ e. omega (arith, e)
-
--- where no lanes are served no door fault is answered
-not_nine : (words : List (String Global)) (before after : Touched) (e : Ending) → RunsAlone words before after e → status_of e ≢ 9
-not_nine words before after Usage r = λ e. omega (arith, e)
-not_nine words before after ending.NoMemory r = λ e. omega (arith, e)
-not_nine words before after (File f) r = not_nine_file f
-not_nine words before after (Served outcome) r = not_nine_served outcome
-not_nine words before after (Checked end) r = not_nine_check end
-not_nine words before after (Relayed outcome) r = not_nine_served outcome
-not_nine words before after (Minted end) r = not_nine_mint end
-not_nine words before after (Audited end) r = not_nine_audit end
-not_nine words before after (Replayed end) r = not_nine_replay end
-not_nine words before after (Drilled end) r = not_nine_drill end
-not_nine words before after (Passed end) r = not_nine_path end
-not_nine words before after (Walleted outcome) r = not_nine_served outcome
-not_nine words before after (Lanes end) r = absurd r
-not_nine words before after (RelayLanes end) r = absurd r
 
 module _ {In Out : Type 0} (telling : Telling In Out) (words : List (String Global)) (before after : Touched) (lanes0 lanes1 : List (LaneShown (In × Out))) where
   alone_runs : (e : Ending) → RunsAlone words before after e → drop 1 lanes1 ≡ drop 1 lanes0 → Runs telling words (over before lanes0) (over after lanes1) e
@@ -162,8 +75,15 @@ module _ {In Out : Type 0} (telling : Telling In Out) (words : List (String Glob
   alone e r status others none = record {
     runs = alone_runs e r others;
     status = status;
-    tells = record { caused = λ nine. absurd (not_nine words before after e r nine); told = λ serve. absurd (none serve); well = λ serve. absurd (none (inl serve)); relays_well = λ serve. absurd (none (inr serve)) };
+    tells = record { caused = λ nine. absurd (none (status.door_of nine)); told = λ serve. absurd (none serve); well = λ serve. absurd (none (inl serve)); relays_well = λ serve. absurd (none (inr serve)) };
   }
+
+-- the same, by what came of the command
+pub ends_alone : {In Out : Type 0} (telling : Telling In Out) (words : List (String Global)) (task : Task) {before after : Touched} (lanes0 lanes1 : List (LaneShown (In × Out))) (e : Ending) → Mean words task → (IsLaneTask task → ⊥) →
+    EndsAlone task before after e → drop 1 lanes1 ≡ drop 1 lanes0 → Does telling words (over before lanes0) (over after lanes1) e
+ends_alone telling words task {before} {after} lanes0 lanes1 e is apart ends others =
+    let did = ends words is in
+    alone telling words before after lanes0 lanes1 e did.0 did.1 others (other_words words task is apart)
 
 -- ---- doors that nobody asked
 
@@ -186,13 +106,6 @@ module _ {In Out : Type 0} (telling : Telling In Out) (words : List (String Glob
     tells = record { caused = λ nine. absurd (omega (arith, nine)); told = λ serve other. same_doors l; well = λ serve bytes o told is sf so steady. inr refl; relays_well = λ serve bytes r told is sf so steady. inr refl };
   }
 
-  file_well : {A : Type 0} (Means : A → List ℕ → Type 0) (means : Meaning A) (laws : IsMeantBy Means means) (f : FileFault) → FileFails means before.file after.file f → FaultHasCause before.file after.file f →
-      (bytes : List ℕ) (a : A) → before.file.told ≡ Some bytes → Means a bytes → IsSteady before.file after.file → (file_status f ≡ 0) ⊎ (file_status f ≡ 6)
-  file_well Means means laws (Refused line cause) bad why bytes a told is sf = absurd (not_refused Means means laws before.file after.file bytes a (Line line cause) bad told is)
-  file_well Means means laws (Malformed offset) bad why bytes a told is sf = absurd (not_refused Means means laws before.file after.file bytes a (Byte offset) bad told is)
-  file_well Means means laws fault.ReadFault bad why bytes a told is sf = absurd (still before.file.faults after.file.faults sf why.1)
-  file_well Means means laws fault.NoMemory bad why bytes a told is sf = inr refl
-
   -- the file of the command that serves lanes was not served
   pub file_does : (s : ServeWords) (f : FileFault) → Mean words (Serve s) → RunsAlone words before after (File f) → IsStatus words before after (file_status f) → FileFails node_means before.file after.file f →
       FaultHasCause before.file after.file f → Does telling words (over before l) (over after l) (File f)
@@ -200,9 +113,9 @@ module _ {In Out : Type 0} (telling : Telling In Out) (words : List (String Glob
     runs = (r, refl);
     status = status;
     tells = record {
-      caused = λ nine. absurd (not_nine_file f nine);
+      caused = λ nine. absurd (apart is_file_status (file_ends f) refl nine);
       told = λ is other. same_doors l;
-      well = λ is bytes o told means sf so steady. file_well IsNodeFile node_means node_files f bad cause bytes o told means sf;
+      well = λ is bytes o told means sf so steady. inr (lacked before after IsNodeFile node_means node_files f bad cause bytes o told means sf);
       relays_well = λ relay. two_commands words (Serve s) (RelayServe relay.0) serve relay.1 (λ e. cc e);
     };
   }
@@ -214,10 +127,10 @@ module _ {In Out : Type 0} (telling : Telling In Out) (words : List (String Glob
     runs = (r, refl);
     status = status;
     tells = record {
-      caused = λ nine. absurd (not_nine_file f nine);
+      caused = λ nine. absurd (apart is_file_status (file_ends f) refl nine);
       told = λ is other. same_doors l;
       well = λ serve. two_commands words (RelayServe limits) (Serve serve.0) relay serve.1 (λ e. cc e);
-      relays_well = λ is bytes q told means sf so steady. file_well IsRelayFile relay_means relay_files f bad cause bytes q told means sf;
+      relays_well = λ is bytes q told means sf so steady. inr (lacked before after IsRelayFile relay_means relay_files f bad cause bytes q told means sf);
     };
   }
 
@@ -269,51 +182,53 @@ module _ {X R : Type 0} (Is : LaneShown X → LaneShown X → R → Type 0) (fai
     counts_stay : HasNoneFailed total → AllZip HasSameCount xs ys
     counts_stay none = none_rose xs ys runs each (no_less none many first)
 
-    pub line_nine : (text : List ℕ) (out0 out1 : Option (List ℕ)) (end : LanesEnd) → PrintsLine total text out0 out1 end → lanes_status end ≡ 9 → AllZip HasSteadyDoor xs ys → ⊥
+    line_nine : (text : List ℕ) (out0 out1 : Option (List ℕ)) (end : LanesEnd) → PrintsLine total text out0 out1 end → lanes_status end ≡ 9 → AllZip HasSteadyDoor xs ys → ⊥
     line_nine text out0 out1 lanes.Done p nine steady = absurd (omega (arith, nine))
     line_nine text out0 out1 (lanes.DoorFault lane) p nine steady = absurd (omega (arith, p.0, p.1, none_first steady))
     line_nine text out0 out1 lanes.WriteFault p nine steady = absurd (omega (arith, nine))
     line_nine text out0 out1 lanes.NoMemory p nine steady = absurd (omega (arith, nine))
 
-    pub line_same : (text : List ℕ) (out0 out1 : Option (List ℕ)) (end : LanesEnd) → PrintsLine total text out0 out1 end → lanes_status end ≢ 9 → AllZip HasSameCount xs ys
+    line_same : (text : List ℕ) (out0 out1 : Option (List ℕ)) (end : LanesEnd) → PrintsLine total text out0 out1 end → lanes_status end ≢ 9 → AllZip HasSameCount xs ys
     line_same text out0 out1 lanes.Done p other = counts_stay p.0.doors
     line_same text out0 out1 (lanes.DoorFault lane) p other = absurd (other refl)
     line_same text out0 out1 lanes.WriteFault p other = counts_stay p.0.doors
     line_same text out0 out1 lanes.NoMemory p other = counts_stay p.0
 
-    pub line_well : (text : List ℕ) (before after : Touched) (end : LanesEnd) → PrintsLine total text before.output.told after.output.told end → LanesCauses before.output.faults after.output.faults end →
+    line_well : (text : List ℕ) (before after : Touched) (end : LanesEnd) → PrintsLine total text before.output.told after.output.told end → LanesCauses before.output.faults after.output.faults end →
         IsSteady before.output after.output → AllZip HasSteadyDoor xs ys → (lanes_status end ≡ 0) ⊎ (lanes_status end ≡ 6)
     line_well text before after lanes.Done p h so steady = inl refl
     line_well text before after (lanes.DoorFault lane) p h so steady = absurd (omega (arith, p.0, p.1, none_first steady))
     line_well text before after lanes.WriteFault p h so steady = absurd (still before.output.faults after.output.faults so h.1)
     line_well text before after lanes.NoMemory p h so steady = inr refl
 
+    -- so it does of a call that printed it
+    pub line_tells : (words : List (String Global)) (before after : Touched) (text : List ℕ) (end : LanesEnd) → PrintsLine total text before.output.told after.output.told end → LanesCauses before.output.faults after.output.faults end →
+        TellsDoors words (over before xs) (over after ys) (lanes_status end)
+    line_tells words before after text end p h = record {
+      caused = line_nine text before.output.told after.output.told end p;
+      told = λ serve other. line_same text before.output.told after.output.told end p other;
+      well = λ serve bytes o told means sf so steady. line_well text before after end p h so steady;
+      relays_well = λ serve bytes r told means sf so steady. line_well text before after end p h so steady;
+    }
+
 -- ---- lanes that served
 
-not_one_lanes : (end : LanesEnd) → lanes_status end ≢ 1
-not_one_lanes lanes.Done = λ e. omega (arith, e)
-not_one_lanes (lanes.DoorFault lane) = λ e. omega (arith, e)
-not_one_lanes lanes.WriteFault = λ e. omega (arith, e)
-not_one_lanes lanes.NoMemory = λ e. omega (arith, e)
+-- it ends by one of these
+abbrev pub is_lanes_status : ℕ → Bool
+is_lanes_status n = (n == 0) || ((n == 4) || ((n == 6) || (n == 9)))
 
-pub not_two_lanes : (end : LanesEnd) → lanes_status end ≢ 2
-not_two_lanes lanes.Done = λ e. omega (arith, e)
-not_two_lanes (lanes.DoorFault lane) = λ e. omega (arith, e)
-not_two_lanes lanes.WriteFault = λ e. omega (arith, e)
-not_two_lanes lanes.NoMemory = λ e. omega (arith, e)
-
-not_five_lanes : (end : LanesEnd) → lanes_status end ≢ 5
-not_five_lanes lanes.Done = λ e. omega (arith, e)
-not_five_lanes (lanes.DoorFault lane) = λ e. omega (arith, e)
-not_five_lanes lanes.WriteFault = λ e. omega (arith, e)
-not_five_lanes lanes.NoMemory = λ e. omega (arith, e)
+pub lanes_end : (end : LanesEnd) → is_lanes_status (lanes_status end) ≡ true
+lanes_end lanes.Done = refl
+lanes_end (lanes.DoorFault lane) = refl
+lanes_end lanes.WriteFault = refl
+lanes_end lanes.NoMemory = refl
 
 module _ (before after : Touched) where
-  lanes_caused : (end : LanesEnd) → LanesCauses before.output.faults after.output.faults end → IsCaused before after (lanes_status end)
-  lanes_caused lanes.Done h = not_caused before after 0 (λ e. omega (arith, e)) (λ e. omega (arith, e)) (λ e. omega (arith, e))
-  lanes_caused (lanes.DoorFault lane) h = not_caused before after 9 (λ e. omega (arith, e)) (λ e. omega (arith, e)) (λ e. omega (arith, e))
-  lanes_caused lanes.WriteFault h = record { read = λ e. absurd (omega (arith, e)); write = λ e. h.1; clock = λ e. absurd (omega (arith, e)) }
-  lanes_caused lanes.NoMemory h = not_caused before after 6 (λ e. omega (arith, e)) (λ e. omega (arith, e)) (λ e. omega (arith, e))
+  lanes_write : (end : LanesEnd) → LanesCauses before.output.faults after.output.faults end → lanes_status end ≡ 4 → HasFailed before.output after.output
+  lanes_write lanes.Done h e = absurd (omega (arith, e))
+  lanes_write (lanes.DoorFault lane) h e = absurd (omega (arith, e))
+  lanes_write lanes.WriteFault h e = h.1
+  lanes_write lanes.NoMemory h e = absurd (omega (arith, e))
 
   lanes_output : (end : LanesEnd) → LanesCauses before.output.faults after.output.faults end → before.output.faults < after.output.faults → lanes_status end ≡ 4
   lanes_output lanes.Done h = stayed before.output.faults after.output.faults h
@@ -321,16 +236,17 @@ module _ (before after : Touched) where
   lanes_output lanes.WriteFault h = λ _. refl
   lanes_output lanes.NoMemory h = stayed before.output.faults after.output.faults h
 
-  pub lanes_tell : (words : List (String Global)) (task : Task) (end : LanesEnd) → Mean words task → EndsWellFor task before after (lanes_status end) → FileDecidesFor task before.file after.file (lanes_status end) → ServesDoors words →
+  pub lanes_tell : (words : List (String Global)) (task : Task) (end : LanesEnd) → Mean words task → EndsWellFor task before after (lanes_status end) → (lanes_status end ≢ 2 → FileDecidesFor task before.file after.file (lanes_status end)) → ServesDoors words →
       after.file.faults ≡ before.file.faults → after.input.faults ≡ before.input.faults → LanesCauses before.output.faults after.output.faults end → IsStatus words before after (lanes_status end)
   lanes_tell words task end is well decides serve same input h = record {
-    usage = record { usage = λ e. absurd (not_one_lanes end e); no_command = λ none. absurd (none (task, is)) };
-    file = λ other o. of_command (λ w. FileDecidesFor w before.file after.file (lanes_status end)) words task other is o decides;
+    usage = record { usage = λ e. absurd (apart is_lanes_status (lanes_end end) refl e); no_command = λ none. absurd (none (task, is)) };
+    file = λ other o. of_command (λ w. FileDecidesFor w before.file after.file (lanes_status end)) words task other is o (decides (apart is_lanes_status (lanes_end end) refl));
     well = λ other o. of_command (λ w. EndsWellFor w before after (lanes_status end)) words task other is o well;
-    causes = lanes_caused end h;
+    causes = record { read = λ e. absurd (apart is_lanes_status (lanes_end end) refl e); write = lanes_write end h; clock = λ e. absurd (apart is_lanes_status (lanes_end end) refl e) };
     told = record { file = stayed before.file.faults after.file.faults same; input = stayed before.input.faults after.input.faults input; output = lanes_output end h };
     clock = λ none. absurd (none serve);
-    clock_of = λ e. absurd (not_five_lanes end e);
+    clock_of = λ e. absurd (apart is_lanes_status (lanes_end end) refl e);
+    door_of = λ e. serve;
   }
 
 module _ {In Out : Type 0} (telling : Telling In Out) (asked : ServeWords) (xs ys : List (LaneShown (In × Out))) where
@@ -346,12 +262,7 @@ module _ {In Out : Type 0} (telling : Telling In Out) (asked : ServeWords) (xs y
       }
   doors_tell o words before after end serve (served l s p) h =
       let run = λ (x y : LaneShown (In × Out)) (r : LaneRun s.node asked.limits.frames) (is : IsRunOf telling asked.pulls asked.limits x y r). is.cause in
-      record {
-        caused = λ nine. (inl (asked, serve), line_nine _ _ run xs ys s.serves.runs s.serves.each l.total s.serves.counted.lanes s.serves.counted.first_failed _ before.output.told after.output.told end p nine);
-        told = λ is other. line_same _ _ run xs ys s.serves.runs s.serves.each l.total s.serves.counted.lanes s.serves.counted.first_failed _ before.output.told after.output.told end p other;
-        well = λ is bytes q told means sf so steady. line_well _ _ run xs ys s.serves.runs s.serves.each l.total s.serves.counted.lanes s.serves.counted.first_failed _ before after end p h so steady;
-        relays_well = λ is bytes q told means sf so steady. line_well _ _ run xs ys s.serves.runs s.serves.each l.total s.serves.counted.lanes s.serves.counted.first_failed _ before after end p h so steady;
-      }
+      line_tells _ _ run xs ys s.serves.runs s.serves.each l.total s.serves.counted.lanes s.serves.counted.first_failed words before after _ end p h
 
 module _ {In Out : Type 0} (telling : Telling In Out) (limits : Limits) (xs ys : List (LaneShown (In × Out))) where
   -- the same of a relay's lanes
@@ -359,12 +270,7 @@ module _ {In Out : Type 0} (telling : Telling In Out) (limits : Limits) (xs ys :
       LanesCauses before.output.faults after.output.faults end → TellsDoors words (over before xs) (over after ys) (lanes_status end)
   relay_doors_tell r words before after end relay s h =
       let run = λ (x y : LaneShown (In × Out)) (q : RelayRun limits.frames) (is : IsRelayRunOf telling s.table limits x y q). is.cause in
-      record {
-        caused = λ nine. (inr (limits, relay), line_nine _ _ run xs ys s.serves.runs s.serves.each s.total s.serves.counted.lanes s.serves.counted.first_failed _ before.output.told after.output.told end s.prints nine);
-        told = λ is other. line_same _ _ run xs ys s.serves.runs s.serves.each s.total s.serves.counted.lanes s.serves.counted.first_failed _ before.output.told after.output.told end s.prints other;
-        well = λ is bytes q told means sf so steady. line_well _ _ run xs ys s.serves.runs s.serves.each s.total s.serves.counted.lanes s.serves.counted.first_failed _ before after end s.prints h so steady;
-        relays_well = λ is bytes q told means sf so steady. line_well _ _ run xs ys s.serves.runs s.serves.each s.total s.serves.counted.lanes s.serves.counted.first_failed _ before after end s.prints h so steady;
-      }
+      line_tells _ _ run xs ys s.serves.runs s.serves.each s.total s.serves.counted.lanes s.serves.counted.first_failed words before after _ end s.prints h
 
 -- ---- lanes, as they are shown
 

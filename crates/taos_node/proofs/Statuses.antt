@@ -1,38 +1,48 @@
 -- What the status tells, by what was done.
-use Rattle.std.proofs.Common.{◌≡◌, ◌≢◌, ℕ, ◌-◌, ◌^◌, ◌<◌, List, refl, ap, subst, arith, inl, inr}
-use Rattle.std.specs.Prelude.{String}
+use Rattle.std.proofs.Common.{◌≡◌, ◌≢◌, ℕ, ◌-◌, ◌^◌, ◌<◌, Bool, true, false, List, refl, sym, ap, subst, ◌∙◌, arith, inl, inr}
+use Rattle.std.specs.Prelude.{String, not, nat_lt, ◌==◌, ◌&&◌, ◌||◌}
 use Rattle.std.specs.declared.alloc.Global.{Global}
 use Rattle.frame_link.specs.declared.outcome.Outcome.{Outcome}
 use Rattle.frame_link.specs.declared.outcome.Outcome.TheVariants.{End, Truncated, TooLong, ReadFault, WriteFault, ClockFault, Spent, NoMemory}
 use Rattle.node_file.specs.Opening.{Opening}
 use Rattle.node_file.specs.RelayFile.{RelayFile}
 use Rattle.file_lines.specs.declared.fault.FileFault.TheVariants.{Line, Byte}
+use Rattle.frame_link.specs.Faults.{Rose}
 use Rattle.frame_link.specs.Served.{FaultCounts, CountsCause, IsComplete, line}
-use Rattle.frame_link.specs.Streams.{stream}
+use Rattle.frame_link.specs.Streams.{Stream, stream}
 use Rattle.taos_node.specs.Audit.{counts}
 use Rattle.node_check.specs.declared.check.CheckEnd.{CheckEnd}
 use Rattle.node_check.specs.declared.check.CheckEnd.TheVariants as ends
-use Rattle.taos_node.specs.declared.ending.FileFault.{FileFault}
-use Rattle.taos_node.specs.declared.ending.FileFault.TheVariants as fault
-use Rattle.taos_node.specs.declared.ending.FileFault.TheVariants.{Malformed, Refused}
+use Rattle.command_file.specs.declared.fault.FileFault.{FileFault}
+use Rattle.command_file.specs.declared.fault.FileFault.TheVariants as fault
+use Rattle.command_file.specs.declared.fault.FileFault.TheVariants.{Malformed, Refused}
 use Rattle.node_check.specs.declared.finding.Finding.TheVariants.{Granted, Refused as Wrong}
 use Rattle.node_words.specs.Words.{IsMeaning, Mean, MintWords, RunWords, Task, Run, Check, Relay, Mint, Serve, RelayServe, Audit, Drill, Path, Wallet, task_of, AuditBytes, Replay}
 use Rattle.node_words.specs.declared.wanted.Wanted.{Wanted}
 use Rattle.cred_pull.specs.WalletFile.{WalletRow}
-use Rattle.taos_node.specs.Files.{FaultHasCause, FileDecides, FileFails, IsNodeFile, IsPathFile, IsRelayFile, IsWalletFile, Meaning, OpensNode, OpensRelay, OpensWallet, node_means, path_means, relay_means, wallet_means}
-use Rattle.taos_node.specs.Calls.{Touched}
-use Rattle.taos_node.specs.Command.{IsCommand, FileDecidesFor, FileFailsFor, EndsWell, EndsWellFor, ChecksWell, MintsWell, PassesWell, ReadsClock, ReplaysWell, IsCaused, TellsFaults, IsStatus, counts_of}
+use Rattle.command_file.specs.Files.{FaultHasCause, FileFails, IsNodeFile, IsPathFile, IsRelayFile, IsSteady, IsWalletFile, Meaning, OpensNode, OpensRelay, OpensWallet, node_means, path_means, relay_means, wallet_means}
+use Rattle.taos_node.specs.Deciding.{FileDecides}
+use Rattle.taos_node.specs.Calls.{LaneUsed, Touched, touched}
+use Rattle.std.proofs.KnownBytes.{Keeps-refl}
+use Rattle.taos_node.specs.declared.ending.Ending.TheVariants.{File}
+use Rattle.taos_node.specs.Command.{IsCommand, FileFailsFor, LeavesRest, ReadsClock, ServesDoors, counts_of}
+use Rattle.taos_node.specs.Status.{EndsWithoutLanes, FileDecidesFor, EndsWell, EndsWellFor, ChecksWell, MintsWell, IsCaused, TellsFaults, IsStatus}
 use Rattle.node_check.specs.Findings.{CheckCauses}
-use Rattle.taos_node.specs.Minting.{MintCauses}
-use Rattle.taos_node.specs.declared.minting.MintEnd.{MintEnd}
-use Rattle.taos_node.specs.declared.minting.MintEnd.TheVariants as made
+use Rattle.cert_mint.specs.Minting.{MintCauses}
+use Rattle.cert_mint.specs.declared.minting.MintEnd.{MintEnd}
+use Rattle.cert_mint.specs.declared.minting.MintEnd.TheVariants as made
 use Rattle.std.specs.Prelude.{Option, Some, None, map, string_bytes}
 use Rattle.node_words.proofs.Meanings.{one_meaning}
-use Rattle.taos_node.proofs.Commands.{IsMeantBy, decided_opened, decided_fault, node_files, not_refused, path_files, relay_files, wallet_files, still}
+use Rattle.taos_node.proofs.Commands.{decided_opened, decided_fault, not_refused, still}
+use Rattle.command_file.proofs.Meant.{IsMeantBy, node_files, path_files, relay_files, wallet_files}
 use Rattle.taos_node.proofs.Stopped.{checked_status, file_status, minted_status, served_status}
 
 pub stayed : {P : Type 0} (a b : ℕ) → b ≡ a → a < b → P
 stayed a b same rose = absurd (omega (arith, same, rose))
+
+-- one of these is none of the others
+pub apart : (is : ℕ → Bool) {n other : ℕ} → is n ≡ true → is other ≡ false → n ≢ other
+apart is at_one at_other e = absurd (cc (at_one, at_other, e))
 
 -- each fault is answered, by its status
 pub record AllTold (before after : Touched) (status : ℕ) : Type 0 where
@@ -57,8 +67,8 @@ two_commands words a b is other apart = absurd (apart (one_meaning (map string_b
 -- What the status tells of the command that words mean: the file decides, it comes to its end, and each
 -- fault is told.
 pub commanded : (words : List (String Global)) (task : Task) (before after : Touched) (status : ℕ) → Mean words task → status ≢ 1 → FileDecidesFor task before.file after.file status → EndsWellFor task before after status →
-    IsCaused before after status → AllTold before after status → (status ≡ 5 → ReadsClock words) → IsStatus words before after status
-commanded words task before after status is one file well causes told clock_of = record {
+    IsCaused before after status → AllTold before after status → (status ≡ 5 → ReadsClock words) → (status ≡ 9 → ServesDoors words) → IsStatus words before after status
+commanded words task before after status is one file well causes told clock_of door_of = record {
   usage = record { usage = λ e. absurd (one e); no_command = λ none. absurd (none (task, is)) };
   file = λ other o. of_command (λ w. FileDecidesFor w before.file after.file status) words task other is o file;
   well = λ other o. of_command (λ w. EndsWellFor w before after status) words task other is o well;
@@ -66,11 +76,12 @@ commanded words task before after status is one file well causes told clock_of =
   told = streams_told before after status told;
   clock = λ _. told.clock;
   clock_of = clock_of;
+  door_of = door_of;
 }
 
 -- what was found is what the words mean
-pub meant : (words : List (String Global)) (found : Option Wanted) (wanted : Wanted) → IsMeaning words found → found ≡ Some wanted → Mean words (task_of wanted)
-meant words found wanted means is = subst (IsMeaning words) is means
+pub meant : (words : List (String Global)) {found : Option Wanted} {some wanted : Wanted} → IsMeaning words found → found ≡ Some some → some ≡ wanted → Mean words (task_of wanted)
+meant words means is same = subst (λ w. Mean words (task_of w)) same (subst (IsMeaning words) is means)
 
 -- nothing was found in words that mean nothing
 pub none_meant : (words : List (String Global)) (found : Option Wanted) → IsMeaning words found → found ≡ None → IsCommand words → ⊥
@@ -121,6 +132,7 @@ unread words t = record {
   };
   clock = λ _. stayed t.clock.faults t.clock.faults refl;
   clock_of = λ e. absurd (omega (arith, e));
+  door_of = λ e. absurd (omega (arith, e));
 }
 
 -- words that are no command, where nothing was touched
@@ -137,47 +149,19 @@ unused words t none = record {
   };
   clock = λ _. stayed t.clock.faults t.clock.faults refl;
   clock_of = λ e. absurd (omega (arith, e));
+  door_of = λ e. absurd (omega (arith, e));
 }
 
 -- ---- a file that is not served
 
--- what nobody touched failed not once more
-record Rests (before after : Touched) : Type 0 where
-  pub input : after.input.faults ≡ before.input.faults
-  pub output : after.output.faults ≡ before.output.faults
-  pub clock : after.clock.faults ≡ before.clock.faults
-
 module _ (before after : Touched) where
-  module _ {A : Type 0} (Means : A → List ℕ → Type 0) (means : Meaning A) (laws : IsMeantBy Means means) where
-    ends_unserved : (most : ℕ) (f : FileFault) → FileFails means before.file after.file f → FaultHasCause before.file after.file f → EndsWell Means most before after (file_status f)
-    ends_unserved most (Refused line cause) bad why bytes a told is frames whole within few sf si so = absurd (not_refused Means means laws before.file after.file bytes a (Line line cause) bad told is)
-    ends_unserved most (Malformed offset) bad why bytes a told is frames whole within few sf si so = absurd (not_refused Means means laws before.file after.file bytes a (Byte offset) bad told is)
-    ends_unserved most fault.ReadFault bad why bytes a told is frames whole within few sf si so = absurd (still before.file.faults after.file.faults sf why.1)
-    ends_unserved most fault.NoMemory bad why bytes a told is frames whole within few sf si so = inr refl
-
-  checks_unserved : (f : FileFault) → FileFails node_means before.file after.file f → FaultHasCause before.file after.file f → ChecksWell before after (file_status f)
-  checks_unserved (Refused line cause) bad why bytes o told is sf si so = absurd (not_refused IsNodeFile node_means node_files before.file after.file bytes o (Line line cause) bad told is)
-  checks_unserved (Malformed offset) bad why bytes o told is sf si so = absurd (not_refused IsNodeFile node_means node_files before.file after.file bytes o (Byte offset) bad told is)
-  checks_unserved fault.ReadFault bad why bytes o told is sf si so = absurd (still before.file.faults after.file.faults sf why.1)
-  checks_unserved fault.NoMemory bad why bytes o told is sf si so = inr (inr refl)
-
-  mints_unserved : (f : FileFault) → FileFails relay_means before.file after.file f → FaultHasCause before.file after.file f → MintsWell before after (file_status f)
-  mints_unserved (Refused line cause) bad why bytes r told is sf so = absurd (not_refused IsRelayFile relay_means relay_files before.file after.file bytes r (Line line cause) bad told is)
-  mints_unserved (Malformed offset) bad why bytes r told is sf so = absurd (not_refused IsRelayFile relay_means relay_files before.file after.file bytes r (Byte offset) bad told is)
-  mints_unserved fault.ReadFault bad why bytes r told is sf so = absurd (still before.file.faults after.file.faults sf why.1)
-  mints_unserved fault.NoMemory bad why bytes r told is sf so = inr (inr refl)
-
-  passes_unserved : (f : FileFault) → FileFails path_means before.file after.file f → FaultHasCause before.file after.file f → PassesWell before after (file_status f)
-  passes_unserved (Refused line cause) bad why bytes ds told is sf si so = absurd (not_refused IsPathFile path_means path_files before.file after.file bytes ds (Line line cause) bad told is)
-  passes_unserved (Malformed offset) bad why bytes ds told is sf si so = absurd (not_refused IsPathFile path_means path_files before.file after.file bytes ds (Byte offset) bad told is)
-  passes_unserved fault.ReadFault bad why bytes ds told is sf si so = absurd (still before.file.faults after.file.faults sf why.1)
-  passes_unserved fault.NoMemory bad why bytes ds told is sf si so = inr (inr refl)
-
-  replays_unserved : (f : FileFault) → FileFails node_means before.file after.file f → FaultHasCause before.file after.file f → ReplaysWell before after (file_status f)
-  replays_unserved (Refused line cause) bad why bytes o told is sf si so = absurd (not_refused IsNodeFile node_means node_files before.file after.file bytes o (Line line cause) bad told is)
-  replays_unserved (Malformed offset) bad why bytes o told is sf si so = absurd (not_refused IsNodeFile node_means node_files before.file after.file bytes o (Byte offset) bad told is)
-  replays_unserved fault.ReadFault bad why bytes o told is sf si so = absurd (still before.file.faults after.file.faults sf why.1)
-  replays_unserved fault.NoMemory bad why bytes o told is sf si so = inr (inr refl)
+  -- a file that means something and was steady wanted memory
+  pub lacked : {A : Type 0} (Means : A → List ℕ → Type 0) (means : Meaning A) (laws : IsMeantBy Means means) (f : FileFault) → FileFails means before.file after.file f → FaultHasCause before.file after.file f →
+      (bytes : List ℕ) (a : A) → before.file.told ≡ Some bytes → Means a bytes → IsSteady before.file after.file → file_status f ≡ 6
+  lacked Means means laws (Refused line cause) bad why bytes a told is sf = absurd (not_refused Means means laws before.file after.file bytes a (Line line cause) bad told is)
+  lacked Means means laws (Malformed offset) bad why bytes a told is sf = absurd (not_refused Means means laws before.file after.file bytes a (Byte offset) bad told is)
+  lacked Means means laws fault.ReadFault bad why bytes a told is sf = absurd (still before.file.faults after.file.faults sf why.1)
+  lacked Means means laws fault.NoMemory bad why bytes a told is sf = refl
 
   decides_unserved : (wanted : Task) (f : FileFault) → FileFailsFor wanted before.file after.file f → FaultHasCause before.file after.file f → FileDecidesFor wanted before.file after.file (file_status f)
   decides_unserved (Run n) f bad why = decided_fault IsNodeFile node_means node_files before.file after.file f bad why
@@ -194,18 +178,18 @@ module _ (before after : Touched) where
   decides_unserved Replay f bad why = decided_fault IsNodeFile node_means node_files before.file after.file f bad why
 
   well_unserved : (wanted : Task) (f : FileFault) → FileFailsFor wanted before.file after.file f → FaultHasCause before.file after.file f → EndsWellFor wanted before after (file_status f)
-  well_unserved (Run r) f bad why = λ clock. ends_unserved IsNodeFile node_means node_files r.frames f bad why
-  well_unserved Check f bad why = checks_unserved f bad why
-  well_unserved (Relay n) f bad why = ends_unserved IsRelayFile relay_means relay_files n f bad why
-  well_unserved (Mint m) f bad why = mints_unserved f bad why
+  well_unserved (Run r) f bad why = λ clock. λ bytes a told is frames whole within few sf si so. inr (lacked IsNodeFile node_means node_files f bad why bytes a told is sf)
+  well_unserved Check f bad why = λ bytes a told is sf si so. inr (inr (lacked IsNodeFile node_means node_files f bad why bytes a told is sf))
+  well_unserved (Relay n) f bad why = λ bytes a told is frames whole within few sf si so. inr (lacked IsRelayFile relay_means relay_files f bad why bytes a told is sf)
+  well_unserved (Mint m) f bad why = λ bytes a told is sf so. inr (inr (lacked IsRelayFile relay_means relay_files f bad why bytes a told is sf))
   well_unserved (Serve l) f bad why = tt
   well_unserved (RelayServe l) f bad why = tt
-  well_unserved (Audit n) f bad why = λ clock. ends_unserved IsNodeFile node_means node_files n f bad why
+  well_unserved (Audit n) f bad why = λ clock. λ bytes a told is frames whole within few sf si so. inr (lacked IsNodeFile node_means node_files f bad why bytes a told is sf)
   well_unserved (Drill d) f bad why = absurd bad
-  well_unserved (Path p) f bad why = passes_unserved f bad why
-  well_unserved (Wallet n) f bad why = ends_unserved IsWalletFile wallet_means wallet_files n f bad why
-  well_unserved (AuditBytes n) f bad why = λ clock. ends_unserved IsNodeFile node_means node_files n f bad why
-  well_unserved Replay f bad why = replays_unserved f bad why
+  well_unserved (Path p) f bad why = λ bytes a told is sf si so. inr (inr (lacked IsPathFile path_means path_files f bad why bytes a told is sf))
+  well_unserved (Wallet n) f bad why = λ bytes a told is frames whole within few sf si so. inr (lacked IsWalletFile wallet_means wallet_files f bad why bytes a told is sf)
+  well_unserved (AuditBytes n) f bad why = λ clock. λ bytes a told is frames whole within few sf si so. inr (lacked IsNodeFile node_means node_files f bad why bytes a told is sf)
+  well_unserved Replay f bad why = λ bytes a told is sf si so. inr (inr (lacked IsNodeFile node_means node_files f bad why bytes a told is sf))
 
   pub not_caused : (status : ℕ) → status ≢ 3 → status ≢ 4 → status ≢ 5 → IsCaused before after status
   not_caused status r w c = record { read = λ e. absurd (r e); write = λ e. absurd (w e); clock = λ e. absurd (c e) }
@@ -222,30 +206,106 @@ module _ (before after : Touched) where
   file_told fault.ReadFault cause rose = refl
   file_told fault.NoMemory cause rose = stayed before.file.faults after.file.faults cause rose
 
-not_one_file : (f : FileFault) → file_status f ≢ 1
-not_one_file (Malformed offset) = λ e. omega (arith, e)
-not_one_file (Refused line cause) = λ e. omega (arith, e)
-not_one_file fault.ReadFault = λ e. omega (arith, e)
-not_one_file fault.NoMemory = λ e. omega (arith, e)
+-- it ends by one of these
+abbrev pub is_file_status : ℕ → Bool
+is_file_status n = (n == 2) || ((n == 3) || (n == 6))
 
-not_five_file : (f : FileFault) → file_status f ≢ 5
-not_five_file (Malformed offset) = λ e. omega (arith, e)
-not_five_file (Refused line cause) = λ e. omega (arith, e)
-not_five_file fault.ReadFault = λ e. omega (arith, e)
-not_five_file fault.NoMemory = λ e. omega (arith, e)
+pub file_ends : (f : FileFault) → is_file_status (file_status f) ≡ true
+file_ends (Malformed offset) = refl
+file_ends (Refused line cause) = refl
+file_ends fault.ReadFault = refl
+file_ends fault.NoMemory = refl
 
 -- the command's file was not served, and nothing else was touched
 module _ (words : List (String Global)) (before after : Touched) (wanted : Task) (f : FileFault) (command : Mean words wanted) (cause : FaultHasCause before.file after.file f) where
   pub unserved : FileFailsFor wanted before.file after.file f → after.input.faults ≡ before.input.faults → after.output.faults ≡ before.output.faults → after.clock.faults ≡ before.clock.faults → IsStatus words before after (file_status f)
   unserved bad input output clock =
-      commanded words wanted before after (file_status f) command (not_one_file f) (decides_unserved before after wanted f bad cause) (well_unserved before after wanted f bad cause) (file_caused before after f cause)
+      commanded words wanted before after (file_status f) command (apart is_file_status (file_ends f) refl) (decides_unserved before after wanted f bad cause) (well_unserved before after wanted f bad cause) (file_caused before after f cause)
       (record {
         file = file_told before after f cause;
         input = stayed before.input.faults after.input.faults input;
         output = stayed before.output.faults after.output.faults output;
         clock = stayed before.clock.faults after.clock.faults clock;
       })
-      (λ e. absurd (not_five_file f e))
+      (λ e. absurd (apart is_file_status (file_ends f) refl e)) (λ e. absurd (apart is_file_status (file_ends f) refl e))
+
+-- nothing but the file was touched
+pub rests : (file0 file1 input output : Stream) (lane : LaneUsed) → LeavesRest (touched file0 input output lane) (touched file1 input output lane)
+rests file0 file1 input output lane = record { input = Keeps-refl input.told; output = Keeps-refl output.told; lane = record { clock = refl; link = refl; fetch = refl } }
+
+-- what is done where the command's file is refused, and what the status tells
+pub refuses : (task : Task) (file0 file1 input output : Stream) (f : FileFault) → FileFailsFor task file0 file1 f → FaultHasCause file0 file1 f → EndsWithoutLanes task (touched file0 input output) (touched file1 input output) (File f)
+refuses task file0 file1 input output f bad cause = λ lane words is. (
+  ((task, is, bad), rests file0 file1 input output lane),
+  unserved words (touched file0 input output lane) (touched file1 input output lane) task f is cause bad refl refl refl,
+)
+
+-- ---- which count rose, by the status
+
+pub same_counts : (i o c i' o' c' : ℕ) → i' ≡ i → o' ≡ o → c' ≡ c → counts i' o' c' ≡ counts i o c
+same_counts i o c i' o' c' input output clock = rw (input, output, clock) refl
+
+pub all_same : (before after : Touched) → after.input.faults ≡ before.input.faults → after.output.faults ≡ before.output.faults → after.clock.faults ≡ before.clock.faults → counts_of after ≡ counts_of before
+all_same before after = same_counts before.input.faults before.output.faults before.clock.faults after.input.faults after.output.faults after.clock.faults
+
+-- no words, no file, no fault and no door has this status
+abbrev pub is_plain : ℕ → Bool
+is_plain n = (n == 0) || (nat_lt 5 n && not (n == 9))
+
+-- where no fault is answered no count rose; else one did, and each other stayed
+pub data Rises (words : List (String Global)) (before after : Touched) (status : ℕ) : Type 0 where
+  stays : is_plain status ≡ true → counts_of after ≡ counts_of before → Rises words before after status
+  by_read : status ≡ 3 → Rose before.input.faults after.input.faults → after.output.faults ≡ before.output.faults → after.clock.faults ≡ before.clock.faults → Rises words before after status
+  by_write : status ≡ 4 → Rose before.output.faults after.output.faults → after.input.faults ≡ before.input.faults → after.clock.faults ≡ before.clock.faults → Rises words before after status
+  by_clock : ReadsClock words → status ≡ 5 → Rose before.clock.faults after.clock.faults → after.input.faults ≡ before.input.faults → after.output.faults ≡ before.output.faults → Rises words before after status
+
+module _ {words : List (String Global)} {before after : Touched} {status : ℕ} where
+  -- such a status is none of words, of a file, and of a door
+  apart_from : (n : ℕ) → is_plain n ≡ false → n ≢ 3 → n ≢ 4 → n ≢ 5 → Rises words before after status → status ≢ n
+  apart_from n other r w c (stays is same) e = apart is_plain is other e
+  apart_from n other r w c (by_read is rose o k) e = r (sym e ∙ is)
+  apart_from n other r w c (by_write is rose i k) e = w (sym e ∙ is)
+  apart_from n other r w c (by_clock reads is rose i o) e = c (sym e ∙ is)
+
+  rises_caused : Rises words before after status → IsCaused before after status
+  rises_caused (stays is same) = record { read = λ e. absurd (apart is_plain is refl e); write = λ e. absurd (apart is_plain is refl e); clock = λ e. absurd (apart is_plain is refl e) }
+  rises_caused (by_read is rose o k) = record { read = λ e. inr rose; write = λ e. absurd (omega (arith, e, is)); clock = λ e. absurd (omega (arith, e, is)) }
+  rises_caused (by_write is rose i k) = record { read = λ e. absurd (omega (arith, e, is)); write = λ e. rose; clock = λ e. absurd (omega (arith, e, is)) }
+  rises_caused (by_clock reads is rose i o) = record { read = λ e. absurd (omega (arith, e, is)); write = λ e. absurd (omega (arith, e, is)); clock = λ e. rose }
+
+  rises_told : after.file.faults ≡ before.file.faults → Rises words before after status → AllTold before after status
+  rises_told same r = record { file = stayed before.file.faults after.file.faults same; input = λ up. input up r; output = λ up. output up r; clock = λ up. clocked up r }
+    where
+      input : before.input.faults < after.input.faults → Rises words before after status → status ≡ 3
+      input up (stays is h) = stayed before.input.faults after.input.faults (ap (λ (f : FaultCounts). f.input) h) up
+      input up (by_read is rose o k) = is
+      input up (by_write is rose i k) = stayed before.input.faults after.input.faults i up
+      input up (by_clock reads is rose i o) = stayed before.input.faults after.input.faults i up
+
+      output : before.output.faults < after.output.faults → Rises words before after status → status ≡ 4
+      output up (stays is h) = stayed before.output.faults after.output.faults (ap (λ (f : FaultCounts). f.output) h) up
+      output up (by_read is rose o k) = stayed before.output.faults after.output.faults o up
+      output up (by_write is rose i k) = is
+      output up (by_clock reads is rose i o) = stayed before.output.faults after.output.faults o up
+
+      clocked : before.clock.faults < after.clock.faults → Rises words before after status → status ≡ 5
+      clocked up (stays is h) = stayed before.clock.faults after.clock.faults (ap (λ (f : FaultCounts). f.clock) h) up
+      clocked up (by_read is rose o k) = stayed before.clock.faults after.clock.faults k up
+      clocked up (by_write is rose i k) = stayed before.clock.faults after.clock.faults k up
+      clocked up (by_clock reads is rose i o) = is
+
+  rises_read : Rises words before after status → status ≡ 5 → ReadsClock words
+  rises_read (stays is same) e = absurd (apart is_plain is refl e)
+  rises_read (by_read is rose o k) e = absurd (omega (arith, e, is))
+  rises_read (by_write is rose i k) e = absurd (omega (arith, e, is))
+  rises_read (by_clock reads is rose i o) e = reads
+
+  -- what the status tells of a command whose file was no longer read
+  pub ended : (task : Task) → Mean words task → (status ≢ 2 → FileDecidesFor task before.file after.file status) → EndsWellFor task before after status → after.file.faults ≡ before.file.faults → Rises words before after status → IsStatus words before after status
+  ended task is file well same r =
+      commanded words task before after status is (apart_from 1 refl (λ e. omega (arith, e)) (λ e. omega (arith, e)) (λ e. omega (arith, e)) r)
+      (file (apart_from 2 refl (λ e. omega (arith, e)) (λ e. omega (arith, e)) (λ e. omega (arith, e)) r)) well (rises_caused r) (rises_told same r) (rises_read r)
+      (λ e. absurd (apart_from 9 refl (λ e. omega (arith, e)) (λ e. omega (arith, e)) (λ e. omega (arith, e)) r e))
 
 -- ---- a connection that was served
 
@@ -253,9 +313,6 @@ module _ (words : List (String Global)) (before after : Touched) (wanted : Task)
 abbrev pub IsCompleteBy : ℕ → Option (List ℕ) → FaultCounts → FaultCounts → Outcome → Type 0
 IsCompleteBy limit input before after outcome =
     IsComplete (λ (n : ℕ). n) limit (line (stream input before.input) (stream None before.output) before.clock) (line (stream None after.input) (stream None after.output) after.clock) outcome
-
-pub same_counts : (i o c i' o' c' : ℕ) → i' ≡ i → o' ≡ o → c' ≡ c → counts i' o' c' ≡ counts i o c
-same_counts i o c i' o' c' input output clock = rw (input, output, clock) refl
 
 module _ (before after : Touched) where
   -- how it ended had its cause
@@ -272,83 +329,15 @@ module _ (before after : Touched) where
         | inr want ↦ inr (ap served_status want)
       ]
 
-  pub serving_caused : (outcome : Outcome) → Causes outcome → IsCaused before after (served_status outcome)
-  serving_caused ReadFault h = record { read = λ e. inr h.1; write = λ e. absurd (omega (arith, e)); clock = λ e. absurd (omega (arith, e)) }
-  serving_caused WriteFault h = record { read = λ e. absurd (omega (arith, e)); write = λ e. h.1; clock = λ e. absurd (omega (arith, e)) }
-  serving_caused ClockFault h = record { read = λ e. absurd (omega (arith, e)); write = λ e. absurd (omega (arith, e)); clock = λ e. h.1 }
-  serving_caused (End n) h = not_caused before after 0 (λ e. omega (arith, e)) (λ e. omega (arith, e)) (λ e. omega (arith, e))
-  serving_caused (Truncated n) h = not_caused before after 7 (λ e. omega (arith, e)) (λ e. omega (arith, e)) (λ e. omega (arith, e))
-  serving_caused (TooLong n) h = not_caused before after 8 (λ e. omega (arith, e)) (λ e. omega (arith, e)) (λ e. omega (arith, e))
-  serving_caused (Spent n) h = not_caused before after 10 (λ e. omega (arith, e)) (λ e. omega (arith, e)) (λ e. omega (arith, e))
-  serving_caused NoMemory h = not_caused before after 6 (λ e. omega (arith, e)) (λ e. omega (arith, e)) (λ e. omega (arith, e))
-
-  pub all_still : (status : ℕ) → after.file.faults ≡ before.file.faults → after.input.faults ≡ before.input.faults → after.output.faults ≡ before.output.faults → after.clock.faults ≡ before.clock.faults →
-      AllTold before after status
-  all_still status f i o c = record {
-    file = stayed before.file.faults after.file.faults f;
-    input = stayed before.input.faults after.input.faults i;
-    output = stayed before.output.faults after.output.faults o;
-    clock = stayed before.clock.faults after.clock.faults c;
-  }
-
-  none_rose : (status : ℕ) → after.file.faults ≡ before.file.faults → counts_of after ≡ counts_of before → AllTold before after status
-  none_rose status file h =
-      all_still status file (ap (λ (f : FaultCounts). f.input) h) (ap (λ (f : FaultCounts). f.output) h) (ap (λ (f : FaultCounts). f.clock) h)
-
-  pub serving_told : (outcome : Outcome) → after.file.faults ≡ before.file.faults → Causes outcome → AllTold before after (served_status outcome)
-  serving_told ReadFault same h = record {
-    file = stayed before.file.faults after.file.faults same;
-    input = λ _. refl;
-    output = stayed before.output.faults after.output.faults h.2;
-    clock = stayed before.clock.faults after.clock.faults h.3;
-  }
-  serving_told WriteFault same h = record {
-    file = stayed before.file.faults after.file.faults same;
-    input = stayed before.input.faults after.input.faults h.2;
-    output = λ _. refl;
-    clock = stayed before.clock.faults after.clock.faults h.3;
-  }
-  serving_told ClockFault same h = record {
-    file = stayed before.file.faults after.file.faults same;
-    input = stayed before.input.faults after.input.faults h.2;
-    output = stayed before.output.faults after.output.faults h.3;
-    clock = λ _. refl;
-  }
-  serving_told (End n) same h = none_rose 0 same h
-  serving_told (Truncated n) same h = none_rose 7 same h
-  serving_told (TooLong n) same h = none_rose 8 same h
-  serving_told (Spent n) same h = none_rose 10 same h
-  serving_told NoMemory same h = none_rose 6 same h
-
-pub not_one : (outcome : Outcome) → served_status outcome ≢ 1
-not_one (End n) = λ e. omega (arith, e)
-not_one (Truncated n) = λ e. omega (arith, e)
-not_one (TooLong n) = λ e. omega (arith, e)
-not_one ReadFault = λ e. omega (arith, e)
-not_one WriteFault = λ e. omega (arith, e)
-not_one ClockFault = λ e. omega (arith, e)
-not_one (Spent n) = λ e. omega (arith, e)
-not_one NoMemory = λ e. omega (arith, e)
-
-pub not_two : (outcome : Outcome) → served_status outcome ≢ 2
-not_two (End n) = λ e. omega (arith, e)
-not_two (Truncated n) = λ e. omega (arith, e)
-not_two (TooLong n) = λ e. omega (arith, e)
-not_two ReadFault = λ e. omega (arith, e)
-not_two WriteFault = λ e. omega (arith, e)
-not_two ClockFault = λ e. omega (arith, e)
-not_two (Spent n) = λ e. omega (arith, e)
-not_two NoMemory = λ e. omega (arith, e)
-
-not_five : (outcome : Outcome) → outcome ≢ ClockFault → served_status outcome ≢ 5
-not_five (End n) other = λ e. omega (arith, e)
-not_five (Truncated n) other = λ e. omega (arith, e)
-not_five (TooLong n) other = λ e. omega (arith, e)
-not_five ReadFault other = λ e. omega (arith, e)
-not_five WriteFault other = λ e. omega (arith, e)
-not_five ClockFault other = absurd (other refl)
-not_five (Spent n) other = λ e. omega (arith, e)
-not_five NoMemory other = λ e. omega (arith, e)
+  pub serving_rises : (words : List (String Global)) (outcome : Outcome) → (outcome ≡ ClockFault → ReadsClock words) → Causes outcome → Rises words before after (served_status outcome)
+  serving_rises words ReadFault reads h = by_read refl h.1 h.2 h.3
+  serving_rises words WriteFault reads h = by_write refl h.1 h.2 h.3
+  serving_rises words ClockFault reads h = by_clock (reads refl) refl h.1 h.2 h.3
+  serving_rises words (End n) reads h = stays refl h
+  serving_rises words (Truncated n) reads h = stays refl h
+  serving_rises words (TooLong n) reads h = stays refl h
+  serving_rises words (Spent n) reads h = stays refl h
+  serving_rises words NoMemory reads h = stays refl h
 
 -- the causes of a service without a clock are those with a clock that stood still
 clockless : (i o i1 o1 c c1 : ℕ) (outcome : Outcome) → CountsCause (counts i o 0) (counts i1 o1 0) outcome → outcome ≢ ClockFault → c1 ≡ c → CountsCause (counts i o c) (counts i1 o1 c1) outcome
@@ -365,8 +354,8 @@ module _ (words : List (String Global)) (r : RunWords) (before after : Touched) 
   pub served : (o : Opening) → Mean words (Run r) → OpensNode before.file after.file o → IsCompleteBy r.frames before.input.told (counts_of before) (counts_of after) outcome →
       Causes before after outcome → IsStatus words before after (served_status outcome)
   served o run opens complete h =
-      commanded words (Run r) before after (served_status outcome) run (not_one outcome) (decided_opened IsNodeFile node_means node_files before.file after.file o (served_status outcome) opens (not_two outcome))
-      (λ clock. ends_well before after IsNodeFile r.frames before.clock.faults after.clock.faults outcome complete clock) (serving_caused before after outcome h) (serving_told before after outcome same h) (λ _. inl (r, run))
+      ended (Run r) run (decided_opened IsNodeFile node_means node_files before.file after.file o (served_status outcome) opens)
+      (λ clock. ends_well before after IsNodeFile r.frames before.clock.faults after.clock.faults outcome complete clock) same (serving_rises before after words outcome (λ _. inl (r, run)) h)
 
 module _ (words : List (String Global)) (frames : ℕ) (before after : Touched) (outcome : Outcome) (same : after.file.faults ≡ before.file.faults) where
   pub relayed : (r : RelayFile) → Mean words (Relay frames) → OpensRelay before.file after.file r →
@@ -375,8 +364,8 @@ module _ (words : List (String Global)) (frames : ℕ) (before after : Touched) 
       IsStatus words before after (served_status outcome)
   relayed r relay opens complete h no_clock clock =
       let causes = clockless before.input.faults before.output.faults after.input.faults after.output.faults before.clock.faults after.clock.faults outcome h no_clock clock in
-      commanded words (Relay frames) before after (served_status outcome) relay (not_one outcome) (decided_opened IsRelayFile relay_means relay_files before.file after.file r (served_status outcome) opens (not_two outcome))
-      (ends_well before after IsRelayFile frames 0 0 outcome complete (refl, omega arith)) (serving_caused before after outcome causes) (serving_told before after outcome same causes) (λ e. absurd (not_five outcome no_clock e))
+      ended (Relay frames) relay (decided_opened IsRelayFile relay_means relay_files before.file after.file r (served_status outcome) opens)
+      (ends_well before after IsRelayFile frames 0 0 outcome complete (refl, omega arith)) same (serving_rises before after words outcome (λ e. absurd (no_clock e)) causes)
 
   -- the same of a wallet
   pub walleted : (rows : List WalletRow) → Mean words (Wallet frames) → OpensWallet before.file after.file rows →
@@ -385,35 +374,18 @@ module _ (words : List (String Global)) (frames : ℕ) (before after : Touched) 
       IsStatus words before after (served_status outcome)
   walleted rows wallet opens complete h no_clock clock =
       let causes = clockless before.input.faults before.output.faults after.input.faults after.output.faults before.clock.faults after.clock.faults outcome h no_clock clock in
-      commanded words (Wallet frames) before after (served_status outcome) wallet (not_one outcome) (decided_opened IsWalletFile wallet_means wallet_files before.file after.file rows (served_status outcome) opens (not_two outcome))
-      (ends_well before after IsWalletFile frames 0 0 outcome complete (refl, omega arith)) (serving_caused before after outcome causes) (serving_told before after outcome same causes) (λ e. absurd (not_five outcome no_clock e))
+      ended (Wallet frames) wallet (decided_opened IsWalletFile wallet_means wallet_files before.file after.file rows (served_status outcome) opens)
+      (ends_well before after IsWalletFile frames 0 0 outcome complete (refl, omega arith)) same (serving_rises before after words outcome (λ e. absurd (no_clock e)) causes)
 
 -- ---- a request and its reply that were looked over
 
 module _ (before after : Touched) where
-  check_caused : (end : CheckEnd) → CheckCauses before.input.faults after.input.faults before.output.faults after.output.faults end → IsCaused before after (checked_status end)
-  check_caused (ends.Done (Granted e l c)) h = not_caused before after 0 (λ e. omega (arith, e)) (λ e. omega (arith, e)) (λ e. omega (arith, e))
-  check_caused (ends.Done (Wrong w)) h = not_caused before after 11 (λ e. omega (arith, e)) (λ e. omega (arith, e)) (λ e. omega (arith, e))
-  check_caused ends.ReadFault h = record { read = λ e. inr h.1; write = λ e. absurd (omega (arith, e)); clock = λ e. absurd (omega (arith, e)) }
-  check_caused ends.WriteFault h = record { read = λ e. absurd (omega (arith, e)); write = λ e. h.2; clock = λ e. absurd (omega (arith, e)) }
-  check_caused ends.NoMemory h = not_caused before after 6 (λ e. omega (arith, e)) (λ e. omega (arith, e)) (λ e. omega (arith, e))
-
-  check_told : (end : CheckEnd) → after.file.faults ≡ before.file.faults → after.clock.faults ≡ before.clock.faults →
-      CheckCauses before.input.faults after.input.faults before.output.faults after.output.faults end → AllTold before after (checked_status end)
-  check_told (ends.Done finding) same clock h = all_still before after (checked_status (ends.Done finding)) same h.0 h.1 clock
-  check_told ends.ReadFault same clock h = record {
-    file = stayed before.file.faults after.file.faults same;
-    input = λ _. refl;
-    output = stayed before.output.faults after.output.faults h.2;
-    clock = stayed before.clock.faults after.clock.faults clock;
-  }
-  check_told ends.WriteFault same clock h = record {
-    file = stayed before.file.faults after.file.faults same;
-    input = stayed before.input.faults after.input.faults h.0;
-    output = λ _. refl;
-    clock = stayed before.clock.faults after.clock.faults clock;
-  }
-  check_told ends.NoMemory same clock h = all_still before after 6 same h.0 h.1 clock
+  check_rises : (words : List (String Global)) (end : CheckEnd) → after.clock.faults ≡ before.clock.faults → CheckCauses before.input.faults after.input.faults before.output.faults after.output.faults end → Rises words before after (checked_status end)
+  check_rises words (ends.Done (Granted e l c)) clock h = stays refl (all_same before after h.0 h.1 clock)
+  check_rises words (ends.Done (Wrong w)) clock h = stays refl (all_same before after h.0 h.1 clock)
+  check_rises words ends.ReadFault clock h = by_read refl h.1 h.2 clock
+  check_rises words ends.WriteFault clock h = by_write refl h.2 h.0 clock
+  check_rises words ends.NoMemory clock h = stays refl (all_same before after h.0 h.1 clock)
 
   check_well : (end : CheckEnd) → CheckCauses before.input.faults after.input.faults before.output.faults after.output.faults end → ChecksWell before after (checked_status end)
   check_well (ends.Done (Granted e l c)) h bytes o told is sf si so = inl refl
@@ -422,54 +394,20 @@ module _ (before after : Touched) where
   check_well ends.WriteFault h bytes o told is sf si so = absurd (still before.output.faults after.output.faults so h.2)
   check_well ends.NoMemory h bytes o told is sf si so = inr (inr refl)
 
-not_one_check : (end : CheckEnd) → checked_status end ≢ 1
-not_one_check (ends.Done (Granted e l c)) = λ e. omega (arith, e)
-not_one_check (ends.Done (Wrong w)) = λ e. omega (arith, e)
-not_one_check ends.ReadFault = λ e. omega (arith, e)
-not_one_check ends.WriteFault = λ e. omega (arith, e)
-not_one_check ends.NoMemory = λ e. omega (arith, e)
-
-not_two_check : (end : CheckEnd) → checked_status end ≢ 2
-not_two_check (ends.Done (Granted e l c)) = λ e. omega (arith, e)
-not_two_check (ends.Done (Wrong w)) = λ e. omega (arith, e)
-not_two_check ends.ReadFault = λ e. omega (arith, e)
-not_two_check ends.WriteFault = λ e. omega (arith, e)
-not_two_check ends.NoMemory = λ e. omega (arith, e)
-
-not_five_check : (end : CheckEnd) → checked_status end ≢ 5
-not_five_check (ends.Done (Granted e l c)) = λ e. omega (arith, e)
-not_five_check (ends.Done (Wrong w)) = λ e. omega (arith, e)
-not_five_check ends.ReadFault = λ e. omega (arith, e)
-not_five_check ends.WriteFault = λ e. omega (arith, e)
-not_five_check ends.NoMemory = λ e. omega (arith, e)
-
 pub checked : (words : List (String Global)) (before after : Touched) (o : Opening) (end : CheckEnd) → Mean words Check → OpensNode before.file after.file o →
     after.file.faults ≡ before.file.faults → after.clock.faults ≡ before.clock.faults → CheckCauses before.input.faults after.input.faults before.output.faults after.output.faults end →
     IsStatus words before after (checked_status end)
 checked words before after o end check opens same clock h =
-    commanded words Check before after (checked_status end) check (not_one_check end) (decided_opened IsNodeFile node_means node_files before.file after.file o (checked_status end) opens (not_two_check end))
-    (check_well before after end h) (check_caused before after end h) (check_told before after end same clock h) (λ e. absurd (not_five_check end e))
+    ended Check check (decided_opened IsNodeFile node_means node_files before.file after.file o (checked_status end) opens) (check_well before after end h) same (check_rises before after words end clock h)
 
 -- ---- a certificate that was made, or refused
 
 module _ (before after : Touched) where
-  mint_caused : (end : MintEnd) → MintCauses before.output.faults after.output.faults end → IsCaused before after (minted_status end)
-  mint_caused made.Done h = not_caused before after 0 (λ e. omega (arith, e)) (λ e. omega (arith, e)) (λ e. omega (arith, e))
-  mint_caused (made.Refused w) h = not_caused before after 12 (λ e. omega (arith, e)) (λ e. omega (arith, e)) (λ e. omega (arith, e))
-  mint_caused made.WriteFault h = record { read = λ e. absurd (omega (arith, e)); write = λ e. h.1; clock = λ e. absurd (omega (arith, e)) }
-  mint_caused made.NoMemory h = not_caused before after 6 (λ e. omega (arith, e)) (λ e. omega (arith, e)) (λ e. omega (arith, e))
-
-  mint_told : (end : MintEnd) → after.file.faults ≡ before.file.faults → after.input.faults ≡ before.input.faults → after.clock.faults ≡ before.clock.faults →
-      MintCauses before.output.faults after.output.faults end → AllTold before after (minted_status end)
-  mint_told made.Done same input clock h = all_still before after 0 same input h clock
-  mint_told (made.Refused w) same input clock h = all_still before after 12 same input h clock
-  mint_told made.WriteFault same input clock h = record {
-    file = stayed before.file.faults after.file.faults same;
-    input = stayed before.input.faults after.input.faults input;
-    output = λ _. refl;
-    clock = stayed before.clock.faults after.clock.faults clock;
-  }
-  mint_told made.NoMemory same input clock h = all_still before after 6 same input h clock
+  mint_rises : (words : List (String Global)) (end : MintEnd) → after.input.faults ≡ before.input.faults → after.clock.faults ≡ before.clock.faults → MintCauses before.output.faults after.output.faults end → Rises words before after (minted_status end)
+  mint_rises words made.Done input clock h = stays refl (all_same before after input h clock)
+  mint_rises words (made.Refused w) input clock h = stays refl (all_same before after input h clock)
+  mint_rises words made.WriteFault input clock h = by_write refl h.1 input clock
+  mint_rises words made.NoMemory input clock h = stays refl (all_same before after input h clock)
 
   mint_well : (end : MintEnd) → MintCauses before.output.faults after.output.faults end → MintsWell before after (minted_status end)
   mint_well made.Done h bytes r told is sf so = inl refl
@@ -477,27 +415,8 @@ module _ (before after : Touched) where
   mint_well made.WriteFault h bytes r told is sf so = absurd (still before.output.faults after.output.faults so h.1)
   mint_well made.NoMemory h bytes r told is sf so = inr (inr refl)
 
-not_one_mint : (end : MintEnd) → minted_status end ≢ 1
-not_one_mint made.Done = λ e. omega (arith, e)
-not_one_mint (made.Refused w) = λ e. omega (arith, e)
-not_one_mint made.WriteFault = λ e. omega (arith, e)
-not_one_mint made.NoMemory = λ e. omega (arith, e)
-
-not_two_mint : (end : MintEnd) → minted_status end ≢ 2
-not_two_mint made.Done = λ e. omega (arith, e)
-not_two_mint (made.Refused w) = λ e. omega (arith, e)
-not_two_mint made.WriteFault = λ e. omega (arith, e)
-not_two_mint made.NoMemory = λ e. omega (arith, e)
-
-not_five_mint : (end : MintEnd) → minted_status end ≢ 5
-not_five_mint made.Done = λ e. omega (arith, e)
-not_five_mint (made.Refused w) = λ e. omega (arith, e)
-not_five_mint made.WriteFault = λ e. omega (arith, e)
-not_five_mint made.NoMemory = λ e. omega (arith, e)
-
 pub minted : (words : List (String Global)) (m : MintWords) (before after : Touched) (r : RelayFile) (end : MintEnd) → Mean words (Mint m) → OpensRelay before.file after.file r →
     after.file.faults ≡ before.file.faults → after.input.faults ≡ before.input.faults → after.clock.faults ≡ before.clock.faults → MintCauses before.output.faults after.output.faults end →
     IsStatus words before after (minted_status end)
 minted words m before after r end mint opens same input clock h =
-    commanded words (Mint m) before after (minted_status end) mint (not_one_mint end) (decided_opened IsRelayFile relay_means relay_files before.file after.file r (minted_status end) opens (not_two_mint end))
-    (mint_well before after end h) (mint_caused before after end h) (mint_told before after end same input clock h) (λ e. absurd (not_five_mint end e))
+    ended (Mint m) mint (decided_opened IsRelayFile relay_means relay_files before.file after.file r (minted_status end) opens) (mint_well before after end h) same (mint_rises before after words end input clock h)

@@ -9,17 +9,15 @@ use Rattle.node_words.specs.Words.{ServeWords, serve_words}
 use Rattle.frame_link.specs.declared.limits.Limits.{Limits}
 use Rattle.taos_lanes.specs.declared.parts.NodeParts.{NodeParts}
 use Rattle.taos_lanes.specs.declared.total.Total.{Total}
-use Rattle.taos_lanes.specs.Joining.{HasOtherWork}
 use Rattle.taos_lanes.specs.Parts.{node_in}
-use Rattle.taos_lanes.specs.Serving.{Left, ServesNode}
-use Rattle.taos_lanes.specs.Stocked.{LaneShown}
+use Rattle.taos_lanes.specs.Serving.{Left}
+use Rattle.taos_lanes.specs.Workers.{HasOtherWork, LaneShown}
 use Rattle.taos_lanes.specs.Telling.{Change, Telling, change}
-use Rattle.taos_monitor.specs.Cells.{Node}
 use Rattle.taos_node.specs.declared.ending.LanesEnd.{LanesEnd}
 use Rattle.taos_node.specs.declared.ending.LanesEnd.TheVariants as lanes
 use Rattle.taos_node.specs.declared.lanes.LanesAsked.{LanesAsked}
-use Rattle.taos_node.specs.Opened.{IsNodeOf}
-use Rattle.taos_node.specs.Summary.{lanes_line}
+use Rattle.opened_node.specs.Opened.{IsNodeOf, ServesOpening}
+use Rattle.count_lines.specs.Summary.{lanes_line}
 
 -- no door failed: the first lane whose door did is none of the lanes
 abbrev pub HasNoneFailed : Total → Type 0
@@ -56,22 +54,14 @@ LanesCauses out0 out1 lanes.NoMemory = out1 ≡ out0
 
 module _ {In Out : Type 0} (telling : Telling In Out) (o : Opening) (pulls : Bool)
     (limits : Limits) where
-  -- A node of the opening served the doors of its lanes, from empty journals on, and left this: each
-  -- connection of each lane is answered in the journals by its own places, and each place of each is
-  -- own of one connection, once.
-  pub record ServesOpening (lanes : Change (List (LaneShown (In × Out)))) (l : Left) : Type 0 where
-    pub node : Node
-    pub is_node : IsNodeOf o node
-    pub serves : ServesNode telling node pulls limits lanes l
-
   -- what lanes did, with what is printed
   pub data ServesLanes (doors : Change (List (LaneShown (In × Out))))
       (out : Change (Option (List ℕ))) (end : LanesEnd) : Type 0 where
     -- memory was refused before the first connection, and no door was asked
     unserved : end ≡ lanes.NoMemory → AllZip HasOtherWork doors.before doors.after →
         Keeps out.before out.after → ServesLanes doors out end
-    served : (l : Left) → ServesOpening doors l → Prints l out.before out.after end →
-        ServesLanes doors out end
+    served : (l : Left) → ServesOpening telling o pulls limits doors l →
+        Prints l out.before out.after end → ServesLanes doors out end
 
 -- what the lanes of a node are asked for
 abbrev pub lanes_words : LanesAsked → ServeWords

@@ -1,15 +1,9 @@
-pub mod Opened
 pub mod Stops
 pub mod Notes
-pub mod Files
-pub mod Minting
-pub mod Paths
-pub mod Replaying
-pub mod Summary
 pub mod Lanes
 pub mod RelayLanes
 pub mod Audit
-pub mod AuditOf
-pub mod Drills
 pub mod Calls
 pub mod Command
+pub mod Status
+pub mod Deciding

@@ -9,11 +9,11 @@ use Rattle.relay_core.specs.declared.resealing.RelayTable.{RelayTable}
 use Rattle.frame_link.specs.declared.limits.Limits.{Limits}
 use Rattle.taos_lanes.specs.declared.total.Total.{Total}
 use Rattle.taos_lanes.specs.Relaying.{RelaysLanes}
-use Rattle.taos_lanes.specs.Stocked.{LaneShown}
+use Rattle.taos_lanes.specs.Workers.{LaneShown}
 use Rattle.taos_lanes.specs.Telling.{Change, Telling}
 use Rattle.taos_node.specs.declared.ending.LanesEnd.{LanesEnd}
 use Rattle.taos_node.specs.Lanes.{PrintsLine, told_in}
-use Rattle.taos_node.specs.Summary.{relays_line}
+use Rattle.count_lines.specs.Summary.{relays_line}
 
 -- the relay has the keys of the file
 pub record IsRelayOf (r : RelayFile) (table : RelayTable) : Type 0 where

@@ -5,22 +5,22 @@ use Rattle.frame_link.specs.declared.outcome.Outcome.TheVariants as outcome
 use Rattle.node_check.specs.declared.check.CheckEnd.{CheckEnd}
 use Rattle.node_check.specs.declared.check.CheckEnd.TheVariants as check
 use Rattle.node_check.specs.declared.finding.Finding.TheVariants as finding
-use Rattle.taos_node.specs.declared.ending.AuditEnd.{AuditEnd}
-use Rattle.taos_node.specs.declared.ending.AuditEnd.TheVariants as audit
-use Rattle.taos_node.specs.declared.ending.DrillEnd.{DrillEnd}
-use Rattle.taos_node.specs.declared.ending.DrillEnd.TheVariants as drill
+use Rattle.node_audit.specs.declared.audit.AuditEnd.{AuditEnd}
+use Rattle.node_audit.specs.declared.audit.AuditEnd.TheVariants as audit
+use Rattle.drill_run.specs.declared.serving.DrillEnd.{DrillEnd}
+use Rattle.drill_run.specs.declared.serving.DrillEnd.TheVariants as drill
 use Rattle.taos_node.specs.declared.ending.Ending.{Ending}
 use Rattle.taos_node.specs.declared.ending.Ending.TheVariants as ending
-use Rattle.taos_node.specs.declared.ending.FileFault.{FileFault}
-use Rattle.taos_node.specs.declared.ending.FileFault.TheVariants as fault
+use Rattle.command_file.specs.declared.fault.FileFault.{FileFault}
+use Rattle.command_file.specs.declared.fault.FileFault.TheVariants as fault
 use Rattle.taos_node.specs.declared.ending.LanesEnd.{LanesEnd}
 use Rattle.taos_node.specs.declared.ending.LanesEnd.TheVariants as lanes
-use Rattle.taos_node.specs.declared.minting.MintEnd.{MintEnd}
-use Rattle.taos_node.specs.declared.minting.MintEnd.TheVariants as mint
-use Rattle.taos_node.specs.declared.path.PathEnd.{PathEnd}
-use Rattle.taos_node.specs.declared.path.PathEnd.TheVariants as path
-use Rattle.taos_node.specs.declared.replay.ReplayEnd.{ReplayEnd}
-use Rattle.taos_node.specs.declared.replay.ReplayEnd.TheVariants as replay
+use Rattle.cert_mint.specs.declared.minting.MintEnd.{MintEnd}
+use Rattle.cert_mint.specs.declared.minting.MintEnd.TheVariants as mint
+use Rattle.path_run.specs.declared.path.PathEnd.{PathEnd}
+use Rattle.path_run.specs.declared.path.PathEnd.TheVariants as path
+use Rattle.replay_run.specs.declared.replay.ReplayEnd.{ReplayEnd}
+use Rattle.replay_run.specs.declared.replay.ReplayEnd.TheVariants as replay
 use Rattle.taos_node.specs.declared.stop.Stop.{Stop}
 use Rattle.taos_node.specs.declared.stop.Stop.TheVariants.{Usage, Line, Malformed, ReadFault, WriteFault, ClockFault, NoMemory, Truncated, TooLong, DoorFault, Spent, NotGranted, Word, Hop, Illegal}
 

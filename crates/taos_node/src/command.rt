@@ -9,35 +9,37 @@ ghost use Rattle.object_core.specs.OneOwner.{taken_from};
 ghost use Rattle.taos_monitor.specs.Planned.{ArePlanned};
 ghost use Rattle.taos_lanes.specs.Telling.{change, told_by};
 ghost use Rattle.taos_lanes.specs.declared.serving.TheConstants.{MAX_LANES};
-ghost use Rattle.taos_node.specs.Calls.{called, clock_count, first_line, touched};
-ghost use Rattle.taos_node.specs.Command.{Does, Ends, EndsWithoutLanes, LeavesLanes, ServesDoors, ServesFirst, TellsDoors, TellsStatus};
-ghost use Rattle.taos_node.specs.Files.{FileHasCause, NodeFileGives};
-ghost use Rattle.taos_node.specs.Opened.{IsOpenedBy, IsSameNode, IsSmall};
+ghost use Rattle.taos_node.specs.Calls.{called, called_by, clock_count, first_line, touched};
+ghost use Rattle.taos_node.specs.Command.{Ends, LeavesBy, LeavesLanes, ServesDoors, ServesFirst};
+ghost use Rattle.taos_node.specs.Status.{Does, EndsWithoutLanes, TellsDoors, TellsStatus};
+ghost use Rattle.command_file.specs.Files.{FileHasCause, NodeFileGives};
+ghost use Rattle.opened_node.specs.Opened.{IsOpenedBy, IsSameNode, IsSmall};
 ghost use Rattle.node_words.specs.Words.{Check};
 
-use crate::audit::{AuditAsked, Form, audit_by_file};
+use crate::audit::{AuditAsked, audit_by_file};
 use crate::drill::drill_asked;
-use crate::ending::{Ending, FileFault, status_of};
-use crate::file::file_opening;
+use crate::ending::{Ending, status_of};
 use crate::lanes::{LanesAsked, serve_by_file};
 use crate::note::tell;
-use crate::opened::{OpenNode, open_node};
 use crate::path::path_by_file;
 use crate::relay::{mint_by_file, relay_by_file};
 use crate::relay_lanes::serve_relay_by_file;
 use crate::replay::replay_by_file;
 use crate::wallet::wallet_by_file;
+use command_file::{FileFault, file_opening};
 use cred_pull::Fetch;
 use frame_link::{Clock, Door, Outcome, RelayLink, Sink, Source};
 use goal_search::Workbench;
 use lemma_memo::Lemmas;
+use node_audit::Form;
 use node_check::check_connection;
 use node_words::{Wanted, wanted_of};
+use opened_node::{OpenNode, open_node};
 use relay_core::OpenedCerts;
 use std::alloc::Global;
 use std::sync::Wait;
 use std::thread::Threads;
-use taos_lanes::{Lane, bench_of};
+use taos_lanes::{Lane, Worker, bench_of};
 use taos_monitor::Desk;
 
 /// A node that a file opened, with the room that its decisions take.
@@ -74,40 +76,31 @@ pub(crate) fn node_file_of<F: Source>(
 }
 
 /// Serves the connection of the first lane, as is asked.
-pub(crate) fn serve_first<
-    W: Wait + Sync,
-    I: Source,
-    O: Sink,
-    C: Clock,
-    R: RelayLink,
-    D: Door,
-    P: Fetch,
->(
+pub(crate) fn serve_first<W: Wait + Sync, I: Source, O: Sink, L: Worker>(
     rt: &W,
     node: &mut OpenNode,
     bench: &mut Lemmas<Workbench>,
     input: &mut I,
     output: &mut O,
-    lanes: &mut [Lane<C, R, D, P>],
+    lanes: &mut [L],
     asked: FirstAsked,
 ) -> Outcome
     requires some { 0 < length lanes.old }
     requires planned { ArePlanned node.old.keys.channels.entries
         (plans_in node.old.shards.shards) }
     requires none_taken { taken_from node.old.shelf ≡ None }
-    ensures connection { let at = first_line I.shown O.shown C.shown R.shown D.shown P.shown in
+    ensures connection { let at = first_line I.shown O.shown L.shown in
         ServesFirst node.old asked (at input.old output.old lanes.old)
         (at input.new output.new lanes.new) node.new result }
     ensures same { IsSameNode node.old node.new }
-    ensures causes { let at = first_line I.shown O.shown C.shown R.shown D.shown P.shown in
+    ensures causes { let at = first_line I.shown O.shown L.shown in
         HasCauses clock_count (at input.old output.old lanes.old)
         (at input.new output.new lanes.new) result }
-    ensures complete { let at = first_line I.shown O.shown C.shown R.shown D.shown P.shown in
+    ensures complete { let at = first_line I.shown O.shown L.shown in
         IsComplete clock_count asked.frames (at input.old output.old lanes.old)
         (at input.new output.new lanes.new) result }
-    ensures untouched { LeavesLanes lanes.old lanes.new }
+    ensures untouched { LeavesBy L.door lanes.old lanes.new }
 {
-    let lane = &mut lanes[0];
     let mut kept = OpenedCerts::new(asked.alloc, &node.keys.relay_key);
     let mut desk = Desk {
         keys: &node.keys,
@@ -117,8 +110,7 @@ pub(crate) fn serve_first<
         shelf: &mut node.shelf,
         bench,
     };
-    let mut outside = (&mut lane.clock, &mut lane.relay, &mut lane.fetch);
-    desk.serve(rt, asked.alloc, &mut outside, input, output, asked.frames)
+    lanes[0].serve(rt, asked.alloc, &mut desk, input, output, asked.frames)
 }
 
 // Looks over a request and its reply by the node that a file opens.
@@ -140,30 +132,21 @@ fn check_file<F: Source, I: Source, O: Sink>(
 }
 
 // Does the work, and tells nobody how it ended.
-fn run<
-    W: Threads + Wait + Sync,
-    F: Source,
-    I: Source,
-    O: Sink,
-    C: Clock + Send,
-    R: RelayLink + Send,
-    D: Door + Send,
-    P: Fetch + Send,
->(
+fn run<W: Threads + Wait + Sync, F: Source, I: Source, O: Sink, L: Worker + Send>(
     rt: &W,
     alloc: Global,
     words: &[String],
     file: &mut F,
     input: &mut I,
     output: &mut O,
-    lanes: &mut [Lane<C, R, D, P>],
+    lanes: &mut [L],
 ) -> Ending
     requires some { 0 < length lanes.old }
     requires few { length lanes.old ≤ MAX_LANES }
-    ensures runs { let at = called F.shown I.shown O.shown C.shown R.shown D.shown P.shown in
-        Does (told_by D.In.shown D.Out.shown) words.now (at file.old input.old output.old lanes.old)
+    ensures runs { let at = called_by F.shown I.shown O.shown L.shown in
+        Does (told_by L.In.shown L.Out.shown) words.now (at file.old input.old output.old lanes.old)
         (at file.new input.new output.new lanes.new) result }
-    ensures untouched { (ServesDoors words.now → ⊥) → LeavesLanes lanes.old lanes.new }
+    ensures untouched { (ServesDoors words.now → ⊥) → LeavesBy L.door lanes.old lanes.new }
 {
     let Ok(found) = wanted_of(alloc, words) else {
         return Ending::NoMemory;
@@ -277,7 +260,7 @@ pub fn taos<
     // request and its reply show; or a relay answers each frame; or the line of a certificate is
     // written, or those of what domains sealed. The note and the status tell how it ended.
     ensures did { let at = called F.shown I.shown O.shown C.shown R.shown D.shown P.shown in
-        Ends (told_by D.In.shown D.Out.shown) words.now (at file.old input.old output.old lanes.old)
+        Ends D.In.shown D.Out.shown words.now (at file.old input.old output.old lanes.old)
         (at file.new input.new output.new lanes.new)
         (change (N.shown notes.old) (N.shown notes.new)) result }
 

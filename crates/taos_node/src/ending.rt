@@ -1,39 +1,17 @@
 //! How a run ended, and its exit status.
 
 ghost use Rattle.std.specs.Prelude.{◌≡◌};
-ghost use Rattle.taos_node.specs.declared.ending.FileFault.TheVariants as fault;
 ghost use Rattle.taos_node.specs.Stops.{status_of};
 
-use crate::minting::MintEnd;
-use crate::path::PathEnd;
-use crate::replay::ReplayEnd;
 use crate::stop::{stop_of, stop_status};
+use cert_mint::MintEnd;
+use command_file::FileFault;
+use drill_run::DrillEnd;
 use frame_link::Outcome;
+use node_audit::AuditEnd;
 use node_check::CheckEnd;
-use node_file::FileCause;
-use std::alloc::AllocError;
-
-/// Why a file opens no node and no relay that serves.
-#[derive(Clone, Copy, Debug, PartialEq, Eq)]
-pub enum FileFault {
-    /// A read failed.
-    ReadFault,
-    /// The line is refused for the cause: 0 is the whole file, and one more than there are what is
-    /// lacking behind the last.
-    Refused { line: u32, cause: FileCause },
-    /// Its byte at the offset can't stand there, or is lacking.
-    Malformed { offset: usize },
-    /// Memory was refused, for the opening or for what it opens.
-    NoMemory,
-}
-
-impl From<AllocError> for FileFault {
-    ghost from_gives = { λ _ e. e ≡ fault.NoMemory };
-
-    fn from(_e: AllocError) -> FileFault {
-        FileFault::NoMemory
-    }
-}
+use path_run::PathEnd;
+use replay_run::ReplayEnd;
 
 /// How the lanes of a node ended.
 #[derive(Clone, Copy, Debug, PartialEq, Eq)]
@@ -45,30 +23,6 @@ pub enum LanesEnd {
     /// A write failed.
     WriteFault,
     /// Memory was refused, before the first connection or for one.
-    NoMemory,
-}
-
-/// How an audit ended.
-#[derive(Clone, Copy, Debug, PartialEq, Eq)]
-pub enum AuditEnd {
-    /// The text of the journals was written.
-    Done,
-    /// The connection had another outcome than the end of whole frames, and nothing was written.
-    Stopped(Outcome),
-    /// A write failed.
-    WriteFault,
-    /// Memory was refused for the text, and nothing was written.
-    NoMemory,
-}
-
-/// How a drill ended.
-#[derive(Clone, Copy, Debug, PartialEq, Eq)]
-pub enum DrillEnd {
-    /// The line of what was counted was written.
-    Done,
-    /// A write failed.
-    WriteFault,
-    /// Memory was refused, before the first request or for one, and nothing was written.
     NoMemory,
 }
 

@@ -4,25 +4,24 @@ ghost use Rattle.std.specs.Prelude.{◌<◌, ◌≤◌, IfOk, length};
 ghost use Rattle.std.specs.declared.alloc.Global.{Global};
 ghost use Rattle.taos_lanes.specs.Parts.{ArePartsNew, node_in};
 ghost use Rattle.taos_lanes.specs.Serving.{left_by};
-ghost use Rattle.taos_lanes.specs.Stocked.{shown_by};
 ghost use Rattle.taos_lanes.specs.Telling.{change, changes_by, told_by};
 ghost use Rattle.taos_lanes.specs.declared.serving.TheConstants.{MAX_LANES};
 ghost use Rattle.taos_node.specs.Calls.{doors_by};
-ghost use Rattle.taos_node.specs.Command.{ServesAsked};
-ghost use Rattle.taos_node.specs.Files.{FileHasCause, NodeFileGives};
-ghost use Rattle.taos_node.specs.Lanes.{LanesCauses, Prints, PrintsLine, ServesParts};
-ghost use Rattle.taos_node.specs.Opened.{IsNodeOf};
+ghost use Rattle.taos_node.specs.Status.{DoesDoors};
+ghost use Rattle.command_file.specs.Files.{FileHasCause, NodeFileGives};
+ghost use Rattle.taos_node.specs.Lanes.{LanesCauses, Prints, PrintsLine, ServesParts, lanes_words};
+ghost use Rattle.node_words.specs.Words.{Serve};
+ghost use Rattle.opened_node.specs.Opened.{IsNodeOf};
 
-use crate::ending::{Ending, FileFault, LanesEnd};
-use crate::file::file_opening;
-use crate::opened::open_parts;
-use crate::summary::lanes_line;
-use cred_pull::Fetch;
-use frame_link::{Clock, Door, Failed, Limits, RelayLink, Sink, Source, pour};
+use crate::ending::{Ending, LanesEnd};
+use command_file::{FileFault, file_opening};
+use count_lines::lanes_line;
+use frame_link::{Failed, Limits, Sink, Source, pour};
+use opened_node::open_parts;
 use std::alloc::{AllocError, Global};
 use std::sync::Wait;
 use std::thread::Threads;
-use taos_lanes::{Lane, NodeParts, Served, Total, serve};
+use taos_lanes::{NodeParts, Served, Total, Worker, serve};
 
 /// What the lanes of a node are to do: within the limits, with room for so many lemmas each, and
 /// with certificates that are fetched where `pulls` is set.
@@ -77,26 +76,19 @@ fn node_parts_of<F: Source>(alloc: Global, file: &mut F) -> Result<NodeParts, Fi
 }
 
 // Serves the doors of all lanes by a node of these parts.
-fn serve_parts<
-    W: Threads + Wait + Sync,
-    O: Sink,
-    C: Clock + Send,
-    R: RelayLink + Send,
-    D: Door + Send,
-    P: Fetch + Send,
->(
+fn serve_parts<W: Threads + Wait + Sync, O: Sink, L: Worker + Send>(
     rt: &W,
     alloc: Global,
     parts: NodeParts,
     output: &mut O,
-    lanes: &mut [Lane<C, R, D, P>],
+    lanes: &mut [L],
     asked: LanesAsked,
 ) -> LanesEnd
     requires some { 0 < length lanes.old }
     requires few { length lanes.old ≤ MAX_LANES }
     requires new { ArePartsNew parts }
-    ensures serves { ServesParts (told_by D.In.shown D.Out.shown) parts asked
-        (changes_by (shown_by C.shown R.shown D.shown P.shown) lanes.old lanes.new)
+    ensures serves { ServesParts (told_by L.In.shown L.Out.shown) parts asked
+        (changes_by L.shown lanes.old lanes.new)
         (change (O.shown output.old) (O.shown output.new)) result }
     ensures cause { LanesCauses (O.shown output.old).faults (O.shown output.new).faults result }
 {
@@ -115,27 +107,20 @@ fn serve_parts<
 }
 
 /// Serves the doors of all lanes by a node that a file opens, and prints what was counted.
-pub(crate) fn serve_by_file<
-    W: Threads + Wait + Sync,
-    F: Source,
-    O: Sink,
-    C: Clock + Send,
-    R: RelayLink + Send,
-    D: Door + Send,
-    P: Fetch + Send,
->(
+pub(crate) fn serve_by_file<W: Threads + Wait + Sync, F: Source, O: Sink, L: Worker + Send>(
     rt: &W,
     alloc: Global,
     file: &mut F,
     output: &mut O,
-    lanes: &mut [Lane<C, R, D, P>],
+    lanes: &mut [L],
     asked: LanesAsked,
 ) -> Ending
     requires some { 0 < length lanes.old }
     requires few { length lanes.old ≤ MAX_LANES }
     // Whatever input there is.
-    ensures serves { let at = doors_by F.shown O.shown C.shown R.shown D.shown P.shown in
-        ServesAsked (told_by D.In.shown D.Out.shown) asked (at file.old output.old lanes.old)
+    ensures serves { let at = doors_by F.shown O.shown L.shown in
+        DoesDoors (told_by L.In.shown L.Out.shown) (Serve (lanes_words asked))
+        (at file.old output.old lanes.old)
         (at file.new output.new lanes.new) result }
 {
     match node_parts_of(alloc, file) {

@@ -5,9 +5,9 @@ ghost use Rattle.taos_node.specs.Stops.{status_of};
 ghost use Rattle.taos_node.specs.Notes.{IsNoted, cause_text, note_of, stop_note, word_text};
 
 use crate::ending::Ending;
-use crate::minting::MintWord;
 use crate::stop::{Stop, stop_of};
 use arrayvec::ArrayVec;
+use cert_mint::MintWord;
 use frame_link::{Sink, pour};
 use itoa::Buffer;
 use node_file::FileCause;

@@ -3,12 +3,12 @@
 ghost use Rattle.std.specs.declared.alloc.Global.{Global};
 ghost use Rattle.frame_link.specs.Streams.{Stream};
 ghost use Rattle.taos_node.specs.Calls.{touched};
-ghost use Rattle.taos_node.specs.Command.{EndsWithoutLanes};
+ghost use Rattle.taos_node.specs.Status.{EndsWithoutLanes};
 ghost use Rattle.node_words.specs.Words.{Mint, Relay, mint_words};
 
 use crate::ending::Ending;
-use crate::file::file_relay;
-use crate::minting::mint;
+use cert_mint::mint;
+use command_file::file_relay;
 use frame_link::{Sink, Source};
 use node_words::Mint as MintAsked;
 use relay_core::serve_relay;

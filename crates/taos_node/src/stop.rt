@@ -3,13 +3,16 @@
 ghost use Rattle.std.specs.Prelude.{◌≡◌};
 ghost use Rattle.taos_node.specs.Stops.{audited_stop, checked_stop, drilled_stop, file_stop, lanes_stop, minted_stop, path_stop, replay_stop, served_stop, stop_of, stop_status};
 
-use crate::ending::{AuditEnd, DrillEnd, Ending, FileFault, LanesEnd};
-use crate::minting::{MintEnd, MintWord};
-use crate::path::PathEnd;
-use crate::replay::ReplayEnd;
+use crate::ending::{Ending, LanesEnd};
+use cert_mint::{MintEnd, MintWord};
+use command_file::FileFault;
+use drill_run::DrillEnd;
 use frame_link::Outcome;
+use node_audit::AuditEnd;
 use node_check::{CheckEnd, Finding};
 use node_file::FileCause;
+use path_run::PathEnd;
+use replay_run::ReplayEnd;
 
 /// What keeps a command from its good end: each has an exit status, and all but two a note.
 #[derive(Clone, Copy, Debug, PartialEq, Eq)]

@@ -2,11 +2,11 @@
 
 ghost use Rattle.std.specs.declared.alloc.Global.{Global};
 ghost use Rattle.taos_node.specs.Calls.{touched};
-ghost use Rattle.taos_node.specs.Command.{EndsWithoutLanes};
+ghost use Rattle.taos_node.specs.Status.{EndsWithoutLanes};
 ghost use Rattle.node_words.specs.Words.{Wallet};
 
 use crate::ending::Ending;
-use crate::file::file_wallet;
+use command_file::file_wallet;
 use cred_pull::serve_wallet;
 use frame_link::{Sink, Source};
 use std::alloc::Global;

@@ -4,10 +4,9 @@ ghost use Rattle.std.specs.Prelude.{◌<◌, ◌≤◌, length, vec_len};
 
 use crate::ending::{after_leaving, ended};
 use crate::files::file_of;
-use crate::lanes::{Setting, lanes_of};
+use crate::lanes::{Setting, SystemLane, lanes_of};
 use crate::telling::{output_rounds, output_teller};
-use cred_pull::Fetch;
-use frame_link::{Clock, Door, RelayLink, Sink};
+use frame_link::Sink;
 use std::fs::File;
 use std::io::{BufReader, Stderr, Stdin, Stdout};
 use std::net::{Net, TcpListener, TcpStream};
@@ -18,7 +17,7 @@ use system_link::{
     Common, Deferred, Doorway, FileReading, Origin, Outbox, PIECE, Patient, Prompt, Reading,
     Rounded, Telling, Watched, Writing, tell_readers,
 };
-use taos_node::{Ending, Lane, taos};
+use taos_node::{Ending, taos};
 
 // What waits to be written on standard output.
 type Waiting = Outbox<Patient<Stdout, HostRuntime>>;
@@ -49,19 +48,16 @@ fn watched_of<'a>(
 
 // The work of a command, by these lanes. What is read and written is of the first.
 fn work<
+    S: Net<Listener = TcpListener, Stream = TcpStream> + time::Clock + Copy + Send,
     W: Threads + Wait + Sync,
     N: Sink,
-    C: Clock + Send,
-    R: RelayLink + Send,
-    D: Door + Send,
-    P: Fetch + Send,
 >(
     rt: &HostRuntime,
     workers: &W,
     setting: &Setting<'_>,
     common: Common<'_>,
     notes: &mut N,
-    lanes: &mut [Lane<C, R, D, P>],
+    lanes: &mut [SystemLane<S>],
 ) -> io::Result<u8>
     requires some { 0 < length lanes.old }
     requires few { length lanes.old ≤ 16 }

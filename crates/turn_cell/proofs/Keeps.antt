@@ -7,7 +7,7 @@ use native.Mathlib.Decide.{ℕ_discrete, dec_le}
 use lib.ListN.{get_elem?}
 use Rattle.std.proofs.Math.ListN.{replicate}
 use lib.Seq.{set-get_or}
-use Rattle.atomic_table.specs.Table.{State, Me, Act, Valid, step, keeps, takes, gives, stepped, carried_after, Allows, Splits, Joins, Final, Seen}
+use Rattle.atomic_table.specs.Table.{State, Me, step, keeps, takes, gives, stepped, Allows, Splits, Joins, Final, Seen}
 use Rattle.atomic_table.proofs.Lists.{at_set, at_snoc, at_longer, set_here, set_else, set_again}
 use Rattle.turn_cell.specs.declared.shares.TheConstants.{ALL_SHARES}
 use Rattle.turn_cell.specs.declared.steps.TheConstants.{WORDS}
@@ -17,7 +17,7 @@ use Rattle.turn_cell.specs.declared.view.View.{View}
 use Rattle.turn_cell.specs.Journal.{Grows, MayLeave, HasEach, times, once_within}
 use Rattle.turn_cell.specs.Line.{Holds, tickets, IsLined}
 use Rattle.turn_cell.specs.Rule.{AtTurn, KnowsTurn, IsJoined, spent, IsHome, IsAway, IsTold, IsInvariant, first_view}
-use Rattle.turn_cell.specs.Steps.{at_stage, added, entered_of, ticket_of, gone_home, keeping, given, both, Draws, Looks, Calls, GoesHome, Settled}
+use Rattle.turn_cell.specs.Steps.{at_stage, added, entered_of, ticket_of, gone_home, keeping, given, both, Draws, Looks, Calls, Settled}
 use Rattle.turn_cell.proofs.Sums.{index_below, sum_set, sum_push, one_below, two_below, only_one, sum_below, times-append}
 use Rattle.turn_cell.proofs.Journals.{grows_refl, grows_trans, grows_length, grows_between, grows_same, grows_leave, added_within, added_once, longer_has, longer_first, longer_second, once_within-le, once_within-none, once_within-one}
 use Rattle.turn_cell.proofs.Lines.{ring, line_same, line_more, line_drawn, line_called}
@@ -288,8 +288,13 @@ module _ {V F E : Type 0} (fixed : V → F) (journal : V → List E) (allows : F
         gives,
         tt,
         kept,
-        λ u entered' value' is' c'. let same : entered ≡ entered' = ap (entered_of) (sym is ∙ is') in let same_value : value ≡ value' = ap (value_or value) c' in
-            (sym here.1 ∙ ap ticket_of (sym is ∙ is'), subst (λ (z : List E × V). let m : Me (Option V) (View F E) = (v, (4, Some value) ∷ []) in let d : Me (Option V) (View F E) = (w, []) in GoesHome journal z.0 z.1 m d) (λ i. (same i, same_value i)) (record { after = refl; whole = whole })),
+        λ u entered' value' is' c'. let own : entered ≡ entered_of v.stage = sym (ap entered_of is) in let same_value : value ≡ value' = ap (value_or value) c' in (
+          sym here.1 ∙ ap ticket_of (sym is ∙ is'),
+          record {
+            after = λ i. (gone_home (own i) (journal (same_value i)) v, []);
+            whole = subst (λ (z : List E × V). v.shares ≡ ALL_SHARES → HasEach v.start (length (journal z.1)) (v.own ++ added z.0 (journal z.1))) (λ i. (own i, same_value i)) whole;
+          },
+        ),
       )
 
   pub calls : (slots id t : ℕ) (me : Me (Option V) (View F E)) (entered : List E) (value : V) → me.0.stage ≡ Turn t entered → me.1 ≡ (4, Some value) ∷ [] → 0 < me.0.shares → me.0.fixed ≡ Some (fixed value)

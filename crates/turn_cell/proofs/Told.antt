@@ -11,7 +11,7 @@ use Rattle.turn_cell.specs.declared.view.Stage.TheVariants.{Idle, Waiting, Joine
 use Rattle.turn_cell.specs.declared.view.View.{View}
 use Rattle.turn_cell.specs.Journal.{Grows, MayLeave, HasEach, times, once_within}
 use Rattle.turn_cell.specs.Rule.{first_view, IsInvariant}
-use Rattle.turn_cell.specs.Steps.{at_stage, gone_home, both, Turns, Calls, GoesHome, MayCall, Settles, entered_of, ticket_of, IsAtTurn, IsIdle, IsResting, IsOut, IsTaken, IsPut, TookOut, IsJoinOf, added}
+use Rattle.turn_cell.specs.Steps.{at_stage, gone_home, both, Turns, Calls, GoesHome, TakesHome, MayCall, Settles, entered_of, ticket_of, IsAtTurn, IsIdle, IsResting, IsOut, IsTaken, IsPut, TookOut, IsJoinOf, added}
 use mathlib.Core.List.{append-nil}
 use Rattle.turn_cell.proofs.Journals.{added_none, added_one}
 use Rattle.turn_cell.proofs.Sums.{times-append}
@@ -32,7 +32,7 @@ slot_rest {X} l x e = e ∙ ap (λ (z : List (ℕ × X)). (4, x) ∷ rest z) (sy
 pub slot_found : {X : Type 0} (l : List (ℕ × Option X)) (value : X) (found : Option X) → l ≡ (4, Some value) ∷ [] → l ≡ (4, found) ∷ rest l → found ≡ Some value
 slot_found l value found e was = ap (held_or None) (sym was ∙ e)
 
-pub taken_now : {V F E : Type 0} (m n : Me (Option V) (View F E)) (had : V) (found : Option V) (value : V) → m.1 ≡ (4, Some had) ∷ [] → m.1 ≡ (4, found) ∷ rest m.1 → n ≡ (m.0, (4, None) ∷ rest m.1) → found ≡ Some value → IsTaken m n value
+pub taken_now : {V F E : Type 0} (m n : Me (Option V) (View F E)) (had : V) (found : Option V) (value : V) → m.1 ≡ (4, Some had) ∷ [] → m.1 ≡ (4, found) ∷ rest m.1 → n ≡ (m.0, (4, None) ∷ rest m.1) → found ≡ Some value → IsTaken value m n
 taken_now {V} {F} {E} m n had found value e was now is = record {
   hand = e ∙ ap (λ (z : Option V). let l : List (ℕ × Option V) = (4, z) ∷ [] in l) (sym (slot_found m.1 had found e was) ∙ is);
   after = now ∙ ap (λ (l : List (ℕ × Option V)). let x : Me (Option V) (View F E) = (m.0, (4, None) ∷ rest l) in x) e;
@@ -42,9 +42,9 @@ module _ {V F E : Type 0} (fixed : V → F) (journal : V → List E) (allows : F
   pub has_slot : (t : ℕ) (m n : Me (Option V) (View F E)) (h : Turns fixed journal allows t m n) → m.1 ≡ [] → n.1 ≡ (4, Some h.value) ∷ []
   has_slot t m n h empty = ap (λ (x : Me (Option V) (View F E)). x.1) h.after ∙ ap (λ (l : List (ℕ × Option V)). (4, Some h.value) ∷ l) empty
 
-  pub took : (t : ℕ) (m n n' : Me (Option V) (View F E)) (value : V) → Turns fixed journal allows t m n → m.1 ≡ [] → IsTaken n n' value → TookOut fixed journal allows t m n' value
+  pub took : (t : ℕ) (m n n' : Me (Option V) (View F E)) (value : V) → Turns fixed journal allows t m n → m.1 ≡ [] → IsTaken value n n' → TookOut fixed journal allows t value m n'
   took t m n n' value h empty taken = let same : h.value ≡ value = some_is h.value value (ap (held_or None) (sym (has_slot t m n h empty) ∙ taken.hand)) in
-      subst (TookOut fixed journal allows t m n') same (record {
+      subst (λ (x : V). TookOut fixed journal allows t x m n') same (record {
         after = taken.after ∙ ap (λ (x : Me (Option V) (View F E)). let y : Me (Option V) (View F E) = (x.0, (4, None) ∷ []) in y) h.after;
         its_fixed = h.its_fixed;
         grows = h.grows;
@@ -53,14 +53,14 @@ module _ {V F E : Type 0} (fixed : V → F) (journal : V → List E) (allows : F
   pub may_call : (opening : V) (slots id : ℕ) (m : Me (Option V) (View F E)) → MayCall fixed journal allows m → Allows (IsInvariant fixed journal allows opening) slots id m 9 (λ x. (x + 1) % 2 ^ 64) (Calls journal (step slots 9 1 0 none) m)
   may_call opening slots id m p = calls fixed journal allows opening slots id p.ticket m p.entered p.value p.stage p.slot p.live p.its_fixed p.may
 
-  pub called_home : (slots found : ℕ) (m n : Me (Option V) (View F E)) → MayCall fixed journal allows m → Calls journal (step slots 9 1 0 none) m found n → (value : V) → m.1 ≡ (4, Some value) ∷ [] → GoesHome journal (entered_of m.0.stage) value m n
-  called_home slots found m n p told value slot = subst (λ (l : List E). GoesHome journal l value m n) (sym (ap entered_of p.stage)) (told p.ticket p.entered value p.stage slot).1
+  pub called_home : (slots found : ℕ) (m n : Me (Option V) (View F E)) → MayCall fixed journal allows m → Calls journal (step slots 9 1 0 none) m found n → TakesHome journal m n
+  called_home slots found m n p told value slot = (told p.ticket p.entered value p.stage slot).1
 
   pub called_ticket : (slots found : ℕ) (m n : Me (Option V) (View F E)) → MayCall fixed journal allows m → Calls journal (step slots 9 1 0 none) m found n → found ≡ ticket_of m.0.stage
   called_ticket slots found m n p told = (told p.ticket p.entered p.value p.stage p.slot).0 ∙ sym (ap ticket_of p.stage)
 
   -- the value was put, so the next may be called
-  pub ready : (m n : Me (Option V) (View F E)) (value : V) → IsAtTurn m → 0 < m.0.shares → IsPut m n value → m.0.fixed ≡ Some (fixed value) → MayLeave allows (fixed value) (entered_of m.0.stage) (journal value) → MayCall fixed journal allows n
+  pub ready : (m n : Me (Option V) (View F E)) (value : V) → IsAtTurn m → 0 < m.0.shares → IsPut value m n → m.0.fixed ≡ Some (fixed value) → MayLeave allows (fixed value) (entered_of m.0.stage) (journal value) → MayCall fixed journal allows n
   ready m n value turn has now own_fixed may = record {
     ticket = turn.0;
     entered = turn.1;
@@ -72,8 +72,8 @@ module _ {V F E : Type 0} (fixed : V → F) (journal : V → List E) (allows : F
     may = subst (λ (l : List E). MayLeave allows (fixed value) l (journal value)) (ap entered_of turn.2) may;
   }
 
-  pub joins_to : (m n : Me (Option V) (View F E)) (v w : View F E) → m ≡ (both v w, []) → Settles allows v.seen w.seen m n → IsJoinOf allows v w n
-  joins_to m n v w now s = record {
+  pub joins_to : (k m n : Me (Option V) (View F E)) (w : View F E) → m ≡ (both k.0 w, []) → Settles allows k.0.seen w.seen m n → IsJoinOf allows w k n
+  joins_to k m n w now s = let v = k.0 in record {
     after = s.after ∙ ap (λ (x : Me (Option V) (View F E)). let y : Me (Option V) (View F E) = (at_stage Idle x.0, x.1) in y) now;
     grows = λ f e. subst (λ (x : Me (Option V) (View F E)). Grows allows f v.seen x.0.seen × Grows allows f w.seen x.0.seen) now (s.grows f (ap (λ (x : Me (Option V) (View F E)). x.0.fixed) now ∙ e));
     few = let f : m.0.shares ≤ ALL_SHARES = s.few in let e : m.0.shares ≡ v.shares + w.shares = ap (λ (x : Me (Option V) (View F E)). x.0.shares) now in omega arith;
@@ -82,7 +82,7 @@ module _ {V F E : Type 0} (fixed : V → F) (journal : V → List E) (allows : F
   }
 
   -- a seat that drew, waited and took is out with the value, and has the shares that it had
-  pub out_after : (r t : ℕ) (m d l n : Me (Option V) (View F E)) (value : V) (shares : ℕ) → IsResting shares m → d ≡ (at_stage (Waiting r) m.0, []) → l ≡ d → TookOut fixed journal allows t l n value → IsOut shares n
+  pub out_after : (r t : ℕ) (m d l n : Me (Option V) (View F E)) (value : V) (shares : ℕ) → IsResting shares m → d ≡ (at_stage (Waiting r) m.0, []) → l ≡ d → TookOut fixed journal allows t value l n → IsOut shares n
   out_after r t m d l n value shares rests e e' h = record {
     at_turn = (t, journal value, ap (λ (x : Me (Option V) (View F E)). x.0.stage) h.after, ap (λ (x : Me (Option V) (View F E)). x.1) h.after);
     counted = ap (λ (x : Me (Option V) (View F E)). x.0.shares) h.after ∙ (ap (λ (x : Me (Option V) (View F E)). x.0.shares) (e' ∙ e) ∙ rests.counted);
@@ -91,15 +91,15 @@ module _ {V F E : Type 0} (fixed : V → F) (journal : V → List E) (allows : F
   }
 
 -- a put changes no view, so the call goes home from where the value was put
-pub home_after : {V F E : Type 0} (journal : V → List E) (m n n' : Me (Option V) (View F E)) (value : V) → IsPut m n value → ((v : V) → n.1 ≡ (4, Some v) ∷ [] → GoesHome journal (entered_of n.0.stage) v n n') → GoesHome journal (entered_of m.0.stage) value m n'
+pub home_after : {V F E : Type 0} (journal : V → List E) (m n n' : Me (Option V) (View F E)) (value : V) → IsPut value m n → TakesHome journal n n' → GoesHome journal value m n'
 home_after {V} {F} {E} journal m n n' value now called = let h = called value (ap (λ (x : Me (Option V) (View F E)). x.1) now) in let e : n.0 ≡ m.0 = ap (λ (x : Me (Option V) (View F E)). x.0) now in record {
   after = h.after ∙ ap (λ (v : View F E). let x : Me (Option V) (View F E) = (gone_home (entered_of v.stage) (journal value) v, []) in x) e;
   whole = λ all. subst (λ (v : View F E). HasEach v.start (length (journal value)) (v.own ++ added (entered_of v.stage) (journal value))) e (h.whole (ap (λ (v : View F E). v.shares) e ∙ all));
 }
 
 -- the seat of a pass after each call
-pub rests_home : {V F E : Type 0} (journal : V → List E) (entered : List E) (value : V) (m n : Me (Option V) (View F E)) (shares : ℕ) → m.0.shares ≡ shares → 1 ≤ shares → shares ≤ ALL_SHARES → GoesHome journal entered value m n → IsResting shares n
-rests_home {V} {F} {E} journal entered value m n shares counted least most h = record {
+pub rests_home : {V F E : Type 0} (journal : V → List E) (value : V) (m n : Me (Option V) (View F E)) (shares : ℕ) → m.0.shares ≡ shares → 1 ≤ shares → shares ≤ ALL_SHARES → GoesHome journal value m n → IsResting shares n
+rests_home {V} {F} {E} journal value m n shares counted least most h = record {
   no_slot = ap (λ (x : Me (Option V) (View F E)). x.1) h.after;
   idle = ap (λ (x : Me (Option V) (View F E)). x.0.stage) h.after;
   counted = ap (λ (x : Me (Option V) (View F E)). x.0.shares) h.after ∙ counted;
@@ -108,7 +108,7 @@ rests_home {V} {F} {E} journal entered value m n shares counted least most h = r
   whole = λ all. subst (λ (x : Me (Option V) (View F E)). HasEach x.0.start (length x.0.seen) x.0.own) (sym h.after) (h.whole (counted ∙ all));
 }
 
-pub rests_joined : {V F E : Type 0} (allows : F → List E → E → Type 0) (m w n : Me (Option V) (View F E)) (shares more : ℕ) → IsResting shares m → IsResting more w → IsJoinOf allows m.0 w.0 n → IsResting (shares + more) n
+pub rests_joined : {V F E : Type 0} (allows : F → List E → E → Type 0) (m w n : Me (Option V) (View F E)) (shares more : ℕ) → IsResting shares m → IsResting more w → IsJoinOf allows w.0 m n → IsResting (shares + more) n
 rests_joined {V} {F} {E} allows m w n shares more a b h = let s = a.counted in let t = b.counted in record {
   no_slot = ap (λ (x : Me (Option V) (View F E)). x.1) h.after;
   idle = ap (λ (x : Me (Option V) (View F E)). x.0.stage) h.after;

@@ -1,6 +1,7 @@
 -- The seven kinds of step, draw, look, take, put, call, split and join: a row says what the seat
 -- `m` is afterwards, `n`, as its view and the slot that is out with it.
 use Rattle.std.specs.Prelude.{◌≡◌, ◌≢◌, ℕ, ◌+◌, ◌-◌, ◌<◌, ◌≤◌, cond, ltb, List, [], ◌∷◌, ◌++◌, length, Option, Some, None}
+use Rattle.atomic_table.specs.declared.shared.Seat.{Seat}
 use Rattle.atomic_table.specs.Seated.{TableId}
 use Rattle.atomic_table.specs.Table.{Me, Step}
 use Rattle.turn_cell.specs.declared.shares.TheConstants.{ALL_SHARES}
@@ -14,6 +15,16 @@ use Rattle.turn_cell.specs.Known.{Known, Entered}
 -- the seat is of this table, which has the words of a cell
 abbrev pub SitsAt : TableId → TableId → Type 0
 SitsAt seat table = (seat ≡ table) × (table.words ≡ WORDS)
+
+-- what a seat is after a step, or a new seat that comes of it: at the same table, and its view and
+-- its slot are so
+abbrev pub StepsBy : {S V : Type 0} → (Me S V → Me S V → Type 0) → (before after : Seat S V) →
+    Type 0
+StepsBy R before after = (after.table_id ≡ before.table_id) × R before.me after.me
+
+-- the seat is at the same table, with the same view and slot
+abbrev pub Stays : {S V : Type 0} → (before after : Seat S V) → Type 0
+Stays before after = StepsBy (λ m n. n ≡ m) before after
 
 -- the places that a journal has beyond the one that was entered
 abbrev pub added : {E : Type 0} → List E → List E → List ℕ
@@ -111,19 +122,27 @@ module _ {V F E : Type 0} where
     pub least : 1 ≤ shares
     pub most : shares ≤ ALL_SHARES
 
+  -- the view is what `view` makes of it, and there is no slot
+  abbrev pub IsLeft : (View F E → View F E) → (m n : Me (Option V) (View F E)) → Type 0
+  IsLeft view m n = n ≡ (view m.0, [])
+
   -- draw: the view holds the ticket that was found
   abbrev pub Draws : Step (Option V) → Me (Option V) (View F E) → ℕ → Me (Option V) (View F E) →
       Type 0
   Draws st m found n = n ≡ (at_stage (Waiting found) m.0, m.1)
 
+  -- draw, of a seat with no slot
+  abbrev pub Drew : ℕ → (m n : Me (Option V) (View F E)) → Type 0
+  Drew ticket m n = IsLeft (at_stage (Waiting ticket)) m n
+
   -- take: the value of the slot is in the caller's hand, and the view is as before
-  pub record IsTaken (m n : Me (Option V) (View F E)) (value : V) : Type 0 where
+  pub record IsTaken (value : V) (m n : Me (Option V) (View F E)) : Type 0 where
     pub hand : m.1 ≡ (4, Some value) ∷ []
     pub after : n ≡ (m.0, (4, None) ∷ [])
 
   -- put: the slot has the value again, and the view is as before
-  abbrev pub IsPut : Me (Option V) (View F E) → Me (Option V) (View F E) → V → Type 0
-  IsPut m n value = n ≡ (m.0, (4, Some value) ∷ [])
+  abbrev pub IsPut : V → (m n : Me (Option V) (View F E)) → Type 0
+  IsPut value m n = n ≡ (m.0, (4, Some value) ∷ [])
 
 module _ {V F E : Type 0} (fixed : V → F) (journal : V → List E)
     (allows : F → List E → E → Type 0) where
@@ -142,7 +161,7 @@ module _ {V F E : Type 0} (fixed : V → F) (journal : V → List E)
       (t : ℕ) → m.0.stage ≡ Waiting t → (found ≡ t → Turns t m n) × (found ≢ t → n ≡ m)
 
   -- look on its turn, then take: the value is in the caller's hand
-  pub record TookOut (t : ℕ) (m n : Me (Option V) (View F E)) (value : V) : Type 0 where
+  pub record TookOut (t : ℕ) (value : V) (m n : Me (Option V) (View F E)) : Type 0 where
     pub after : n ≡ (at_stage (Turn t (journal value)) m.0, (4, None) ∷ [])
     pub its_fixed : m.0.fixed ≡ Some (fixed value)
     pub grows : Grows allows (fixed value) m.0.seen (journal value)
@@ -162,10 +181,14 @@ module _ {V F E : Type 0} (fixed : V → F) (journal : V → List E)
 module _ {V F E : Type 0} (journal : V → List E) where
   -- call: the ticket that was served is the view's, and the slot goes home.
   -- A view with all shares has as its own each place from the opening on
-  pub record GoesHome (entered : List E) (value : V) (m n : Me (Option V) (View F E)) : Type 0 where
-    pub after : n ≡ (gone_home entered (journal value) m.0, [])
-    pub whole : m.0.shares ≡ ALL_SHARES
-        → HasEach m.0.start (length (journal value)) (m.0.own ++ added entered (journal value))
+  pub record GoesHome (value : V) (m n : Me (Option V) (View F E)) : Type 0 where
+    pub after : n ≡ (gone_home (entered_of m.0.stage) (journal value) m.0, [])
+    pub whole : m.0.shares ≡ ALL_SHARES → HasEach m.0.start (length (journal value))
+        (m.0.own ++ added (entered_of m.0.stage) (journal value))
+
+  -- call, of a seat with its slot: the slot goes home
+  abbrev pub TakesHome : (m n : Me (Option V) (View F E)) → Type 0
+  TakesHome m n = (value : V) → m.1 ≡ (4, Some value) ∷ [] → GoesHome value m n
 
   -- call, of a view at its turn with its slot: its ticket is the one that was served, and the slot
   -- goes home
@@ -173,7 +196,7 @@ module _ {V F E : Type 0} (journal : V → List E) where
       Type 0
   Calls st m found n = (t : ℕ) (entered : List E) (value : V)
       → m.0.stage ≡ Turn t entered → m.1 ≡ (4, Some value) ∷ []
-      → (found ≡ t) × GoesHome entered value m n
+      → (found ≡ t) × GoesHome value m n
 
 module _ {V F E : Type 0} (allows : F → List E → E → Type 0) where
   -- join, its second load: what both had seen begins what the view has seen,
@@ -191,13 +214,13 @@ module _ {V F E : Type 0} (allows : F → List E → E → Type 0) where
       Type 0
   Settled st m found n = (xs ys : List E) → m.0.stage ≡ Joined xs ys → Settles xs ys m n
 
-  -- the seat of `v` after that of `w` was joined into it
-  pub record IsJoinOf (v w : View F E) (n : Me (Option V) (View F E)) : Type 0 where
-    pub after : n ≡ (at_stage Idle (both v w), [])
-    pub grows : (f : F) → v.fixed ≡ Some f
-        → Grows allows f v.seen (longer v.seen w.seen)
-        × Grows allows f w.seen (longer v.seen w.seen)
-    pub few : v.shares + w.shares ≤ ALL_SHARES
-    pub distinct : (place : ℕ) → times place v.own + times place w.own ≤ 1
-    pub whole : v.shares + w.shares ≡ ALL_SHARES
-        → HasEach v.start (length (longer v.seen w.seen)) (v.own ++ w.own)
+  -- the seat after that of `w` was joined into it
+  pub record IsJoinOf (w : View F E) (m n : Me (Option V) (View F E)) : Type 0 where
+    pub after : n ≡ (at_stage Idle (both m.0 w), [])
+    pub grows : (f : F) → m.0.fixed ≡ Some f
+        → Grows allows f m.0.seen (longer m.0.seen w.seen)
+        × Grows allows f w.seen (longer m.0.seen w.seen)
+    pub few : m.0.shares + w.shares ≤ ALL_SHARES
+    pub distinct : (place : ℕ) → times place m.0.own + times place w.own ≤ 1
+    pub whole : m.0.shares + w.shares ≡ ALL_SHARES
+        → HasEach m.0.start (length (longer m.0.seen w.seen)) (m.0.own ++ w.own)

@@ -2,7 +2,7 @@
 ghost use Rattle.std.specs.Prelude.{◌≡◌, ◌≢◌, ◌<◌, [], ◌∷◌, IfErr, IfOk, Some};
 ghost use Rattle.turn_cell.specs.declared.view.Stage.TheVariants.{Waiting};
 ghost use Rattle.turn_cell.specs.Journal.{MayLeave};
-ghost use Rattle.turn_cell.specs.Steps.{GoesHome, IsAtTurn, IsIdle, IsJoinOf, IsPut, IsTaken, MayCall, SitsAt, TookOut, Turns, at_stage, entered_of, given, keeping, ticket_of};
+ghost use Rattle.turn_cell.specs.Steps.{Drew, GoesHome, IsAtTurn, IsIdle, IsJoinOf, IsLeft, IsPut, IsTaken, MayCall, SitsAt, Stays, StepsBy, TakesHome, TookOut, Turns, entered_of, given, keeping, ticket_of};
 
 use crate::journaled::Journaled;
 use crate::rule::{Call, Division, Draw, Gift, Look, Place, Settle, Shelf, Union};
@@ -25,8 +25,7 @@ pub const HOME: usize = 4;
 pub fn draw<V: Journaled>(shelf: &Shelf<V>, seat: &mut Place<V>) -> u64
     requires table { SitsAt seat.old.table_id shelf.now.table_id }
     requires idle { IsIdle seat.old.me }
-    ensures table { seat.new.table_id ≡ seat.old.table_id }
-    ensures drawn { seat.new.me ≡ (at_stage (Waiting result) seat.old.me.0, []) }
+    ensures drawn { StepsBy (Drew result) seat.old seat.new }
 {
     shelf.fetch_add::<Draw>(seat, TICKET, 1)
 }
@@ -35,10 +34,9 @@ pub fn draw<V: Journaled>(shelf: &Shelf<V>, seat: &mut Place<V>) -> u64
 pub fn look<V: Journaled>(shelf: &Shelf<V>, seat: &mut Place<V>, ticket: u64) -> u64
     requires table { SitsAt seat.old.table_id shelf.now.table_id }
     requires waits { (seat.old.me.0.stage ≡ Waiting ticket) × (0 < seat.old.me.0.shares) }
-    ensures table { seat.new.table_id ≡ seat.old.table_id }
     ensures turn { result ≡ ticket
-        → Turns V.fixed V.journal V.allows ticket seat.old.me seat.new.me }
-    ensures later { result ≢ ticket → seat.new.me ≡ seat.old.me }
+        → StepsBy (Turns V.fixed V.journal V.allows ticket) seat.old seat.new }
+    ensures later { result ≢ ticket → Stays seat.old seat.new }
 {
     shelf.load::<Look>(seat, SERVING)
 }
@@ -46,8 +44,7 @@ pub fn look<V: Journaled>(shelf: &Shelf<V>, seat: &mut Place<V>, ticket: u64) ->
 pub fn take<V: Journaled>(shelf: &Shelf<V>, seat: &mut Place<V>) -> V
     requires table { SitsAt seat.old.table_id shelf.now.table_id }
     requires slot { (value : V) × (seat.old.me.1 ≡ (HOME, Some value) ∷ []) }
-    ensures table { seat.new.table_id ≡ seat.old.table_id }
-    ensures taken { IsTaken seat.old.me seat.new.me result }
+    ensures taken { StepsBy (IsTaken result) seat.old seat.new }
 {
     shelf.exchange(seat, HOME, None).unwrap()
 }
@@ -55,8 +52,7 @@ pub fn take<V: Journaled>(shelf: &Shelf<V>, seat: &mut Place<V>) -> V
 pub fn put<V: Journaled>(shelf: &Shelf<V>, seat: &mut Place<V>, value: V)
     requires table { SitsAt seat.old.table_id shelf.now.table_id }
     requires turn { IsAtTurn seat.old.me }
-    ensures table { seat.new.table_id ≡ seat.old.table_id }
-    ensures put { IsPut seat.old.me seat.new.me value }
+    ensures put { StepsBy (IsPut value) seat.old seat.new }
 {
     let taken_out = shelf.exchange(seat, HOME, Some(value));
     let None = taken_out else { unreachable!() };
@@ -66,10 +62,8 @@ pub fn put<V: Journaled>(shelf: &Shelf<V>, seat: &mut Place<V>, value: V)
 pub fn call<V: Journaled>(shelf: &Shelf<V>, seat: &mut Place<V>) -> u64
     requires table { SitsAt seat.old.table_id shelf.now.table_id }
     requires put { MayCall V.fixed V.journal V.allows seat.old.me }
-    ensures table { seat.new.table_id ≡ seat.old.table_id }
     ensures served { result ≡ ticket_of seat.old.me.0.stage }
-    ensures home { (value : V) → seat.old.me.1 ≡ (HOME, Some value) ∷ []
-        → GoesHome V.journal (entered_of seat.old.me.0.stage) value seat.old.me seat.new.me }
+    ensures home { StepsBy (TakesHome V.journal) seat.old seat.new }
 {
     shelf.fetch_add::<Call>(seat, SERVING, 1)
 }
@@ -78,10 +72,8 @@ pub fn call<V: Journaled>(shelf: &Shelf<V>, seat: &mut Place<V>) -> u64
 pub fn split<V: Journaled, G: Gift>(shelf: &Shelf<V>, seat: &mut Place<V>) -> Place<V>
     requires table { SitsAt seat.old.table_id shelf.now.table_id }
     requires shares { IsIdle seat.old.me × (0 < G.give) × (G.give < seat.old.me.0.shares) }
-    ensures table { (seat.new.table_id ≡ seat.old.table_id)
-        × (result.table_id ≡ seat.old.table_id) }
-    ensures first { seat.new.me ≡ (keeping G.give seat.old.me.0, []) }
-    ensures second { result.me ≡ (given G.give seat.old.me.0, []) }
+    ensures first { StepsBy (IsLeft (keeping G.give)) seat.old seat.new }
+    ensures second { StepsBy (IsLeft (given G.give)) seat.old result }
 {
     shelf.split_seat::<Division<G>>(seat)
 }
@@ -91,8 +83,7 @@ pub fn join<V: Journaled>(shelf: &Shelf<V>, seat: &mut Place<V>, other: Place<V>
     requires table { SitsAt seat.old.table_id shelf.now.table_id
         × SitsAt other.table_id shelf.now.table_id }
     requires idle { IsIdle seat.old.me × IsIdle other.me }
-    ensures table { seat.new.table_id ≡ seat.old.table_id }
-    ensures joined { IsJoinOf V.allows seat.old.me.0 other.me.0 seat.new.me }
+    ensures joined { StepsBy (IsJoinOf V.allows other.me.0) seat.old seat.new }
 {
     shelf.join_seat::<Union>(seat, other);
     shelf.load::<Settle>(seat, TICKET);
@@ -104,10 +95,10 @@ pub fn try_take<V: Journaled>(shelf: &Shelf<V>, seat: &mut Place<V>, ticket: u64
     requires waits { (seat.old.me.0.stage ≡ Waiting ticket)
         × (0 < seat.old.me.0.shares)
         × (seat.old.me.1 ≡ []) }
-    ensures table { seat.new.table_id ≡ seat.old.table_id }
-    ensures ok { IfOk result (TookOut V.fixed V.journal V.allows ticket seat.old.me seat.new.me) }
+    ensures ok { IfOk result (λ value.
+        StepsBy (TookOut V.fixed V.journal V.allows ticket value) seat.old seat.new) }
     ensures later { IfErr result (λ serving. serving ≢ ticket) }
-    ensures err { IfErr result (λ _. seat.new.me ≡ seat.old.me) }
+    ensures err { IfErr result (λ _. Stays seat.old seat.new) }
 {
     let serving = look(shelf, seat, ticket);
     if serving != ticket {
@@ -123,9 +114,7 @@ pub fn bring_home<V: Journaled>(shelf: &Shelf<V>, seat: &mut Place<V>, value: V)
     requires fixed { seat.old.me.0.fixed ≡ Some (V.fixed value) }
     requires journal { MayLeave V.allows (V.fixed value)
         (entered_of seat.old.me.0.stage) (V.journal value) }
-    ensures table { seat.new.table_id ≡ seat.old.table_id }
-    ensures home { GoesHome V.journal (entered_of seat.old.me.0.stage) value
-        seat.old.me seat.new.me }
+    ensures home { StepsBy (GoesHome V.journal value) seat.old seat.new }
 {
     put(shelf, seat, value);
     call(shelf, seat);

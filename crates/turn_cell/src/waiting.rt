@@ -1,8 +1,7 @@
 //! How a thread waits until a cell is free: it looks further and further apart, then lets others run
 //! between its looks, and then sleeps.
-ghost use Rattle.std.specs.Prelude.{◌≡◌, ◌<◌, []};
-ghost use Rattle.turn_cell.specs.declared.view.Stage.TheVariants.{Waiting};
-ghost use Rattle.turn_cell.specs.Steps.{IsIdle, SitsAt, at_stage};
+ghost use Rattle.std.specs.Prelude.{◌≡◌, ◌<◌};
+ghost use Rattle.turn_cell.specs.Steps.{Drew, IsIdle, SitsAt, StepsBy};
 ghost use Rattle.turn_cell.specs.declared.steps.TheConstants.{WORDS};
 
 use crate::journaled::Journaled;
@@ -33,8 +32,7 @@ pub fn draw_alone<V: Journaled, W: Wait>(
 ) -> u64
     requires table { SitsAt seat.old.table_id shelf.now.table_id }
     requires idle { IsIdle seat.old.me }
-    ensures table { seat.new.table_id ≡ seat.old.table_id }
-    ensures drawn { seat.new.me ≡ (at_stage (Waiting result) seat.old.me.0, []) }
+    ensures drawn { StepsBy (Drew result) seat.old seat.new }
 {
     let mut looks = 0;
     for _ in rt.forever() {

@@ -11,7 +11,7 @@ returns-in-Ok-append-clause-takes g c =
     let len : c.len-presented.result ≡ length c.args.asked.now.certs.items = omega (arith, c.len-presented.ensures, c.args.asked.now.certs.ok.0) in
     let most = subst (λ (n : ℕ). c.min-most.result ≡ min (16 - n) (length c.args.fetched.now)) len c.min-most.ensures in
     let seen = looked_at c.args.asked.now.certs.items c.args.fetched.now c.min-most.result most in
-    taken c.args.key.now c.args.node (g.R.RelayLink.shown c.args.link.now) (g.R.RelayLink.shown c.forms_of.new.link) (map text_of c.args.fetched.now) (request c.args.asked.now) _
+    taken c.args.key.now (g.O.Opens.shown c.args.by.now).node (g.O.Opens.shown c.args.by.now).link (g.O.Opens.shown c.forms_of.new.by).link (map text_of c.args.fetched.now) (request c.args.asked.now) _
     _ (map text_of c.in-Ok.forms.items) seen c.in-Ok.ensures.pulled
     (ap (λ l. record (request c.args.asked.now) { certs = l }) (ap (map text_of) c.in-Ok-append.ensures.items ∙ map-append text_of c.args.asked.now.certs.items c.in-Ok.forms.items))
 
@@ -20,7 +20,7 @@ returns-in-Ok-clause-takes g c =
     let len : c.len-presented.result ≡ length c.args.asked.now.certs.items = omega (arith, c.len-presented.ensures, c.args.asked.now.certs.ok.0) in
     let most = subst (λ (n : ℕ). c.min-most.result ≡ min (16 - n) (length c.args.fetched.now)) len c.min-most.ensures in
     let seen = looked_at c.args.asked.now.certs.items c.args.fetched.now c.min-most.result most in
-    unroomed c.args.key.now c.args.node (g.R.RelayLink.shown c.args.link.now) (g.R.RelayLink.shown c.forms_of.new.link) (map text_of c.args.fetched.now) (request c.args.asked.now) _
+    unroomed c.args.key.now (g.O.Opens.shown c.args.by.now).node (g.O.Opens.shown c.args.by.now).link (g.O.Opens.shown c.forms_of.new.by).link (map text_of c.args.fetched.now) (request c.args.asked.now) _
     _ (map text_of c.in-Ok.forms.items) seen c.in-Ok.ensures.pulled
     (ap (λ l. record (request c.args.asked.now) { certs = map text_of l }) c.in-Err.ensures.items)
 
@@ -37,7 +37,7 @@ returns-in-Err-LinkFailed-clause-takes g c =
     let seen = looked_at c.args.asked.now.certs.items c.args.fetched.now c.min-most.result most in
     let stops = rw c.in-Err-LinkFailed.field-0-is at c.in-Err-LinkFailed.ensures.left_off in
     let index = c.index_of.ensures ∙ ap (λ (n : ℕ). n + c.in-Err-LinkFailed.place) (len ∙ sym (length-map c.args.asked.now.certs.items text_of)) in
-    rw index (stopped_at c.args.key.now c.args.node (g.R.RelayLink.shown c.args.link.now) (g.R.RelayLink.shown c.forms_of.new.link) (map text_of c.args.fetched.now) (request c.args.asked.now) _
+    rw index (stopped_at c.args.key.now (g.O.Opens.shown c.args.by.now).node (g.O.Opens.shown c.args.by.now).link (g.O.Opens.shown c.forms_of.new.by).link (map text_of c.args.fetched.now) (request c.args.asked.now) _
     _ c.in-Err-LinkFailed.place seen stops refl)
 
 pub returns-clause-takes : goal.returns-clause-takes
@@ -46,7 +46,7 @@ returns-clause-takes g c =
     let most = subst (λ (n : ℕ). c.min-most.result ≡ min (16 - n) (length c.args.fetched.now)) len c.min-most.ensures in
     let seen = looked_at c.args.asked.now.certs.items c.args.fetched.now c.min-most.result most in
     let stops = rw c.in-Err-NoMemory.field-0-is at c.in-Err-NoMemory.ensures.left_off in
-    stopped_lacking c.args.key.now c.args.node (g.R.RelayLink.shown c.args.link.now) (g.R.RelayLink.shown c.forms_of.new.link) (map text_of c.args.fetched.now) (request c.args.asked.now) _
+    stopped_lacking c.args.key.now (g.O.Opens.shown c.args.by.now).node (g.O.Opens.shown c.args.by.now).link (g.O.Opens.shown c.forms_of.new.by).link (map text_of c.args.fetched.now) (request c.args.asked.now) _
     _ seen stops refl
 
 -- ---- the request stays within the limits, whatever came of it

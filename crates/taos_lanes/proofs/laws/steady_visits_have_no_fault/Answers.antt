@@ -1,6 +1,6 @@
 use Rattle.frame_link.specs.Served.{counts_of}
 use Rattle.relay_core.specs.declared.resealing.RelayTable.{RelayTable}
-use Rattle.taos_monitor.specs.World.{clock_faults}
+use Rattle.request_course.specs.World.{clock_faults}
 use Rattle.taos_lanes.proofs.laws.steady_visits_have_no_fault.Goals as goal
 
 pub returns-clause-node : goal.returns-clause-node

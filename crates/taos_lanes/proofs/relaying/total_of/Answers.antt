@@ -9,12 +9,12 @@ use Rattle.taos_lanes.proofs.relaying.total_of.Goals as goal
 pub loop-lane-preserved : goal.loop-lane-preserved
 loop-lane-preserved g c =
     let was = c.loop-lane.invariant in
-    let t = c.tally_of.ensures in
+    let t = c.tally.ensures in
     let total = c.loop-lane.total in
     record {
-      sum = subst (λ l. IsSumOf (λ lane. lane.tally) l c.add.new.self)
+      sum = subst (λ l. IsSumOf (λ lane. (g.L.Worker.shown lane).tally) l c.add.new.self)
           (sym (take_more c.args.lanes.now c.loop-lane.lane-index c.lane-item.result c.loop-lane-test.true ∙ ap (λ lane. take c.loop-lane.lane-index c.args.lanes.now ++ lane ∷ []) (sym c.lane-item.is)))
-          (sum_more (λ lane. lane.tally) (take c.loop-lane.lane-index c.args.lanes.now) c.lane-item.result total c.add.new.self was.sum c.add.ensures.lanes
+          (sum_more (λ lane. (g.L.Worker.shown lane).tally) (take c.loop-lane.lane-index c.args.lanes.now) c.lane-item.result total c.add.new.self was.sum c.add.ensures.lanes
           (c.add.ensures.served ∙ ap (λ (x : Tally). total.served + x.served) t)
           (c.add.ensures.broken ∙ ap (λ (x : Tally). total.broken + x.broken) t)
           (c.add.ensures.lacked ∙ ap (λ (x : Tally). total.lacked + x.lacked) t)
@@ -24,4 +24,4 @@ loop-lane-preserved g c =
     }
 
 pub returns : goal.returns
-returns g c = subst (λ l. IsSumOf (λ lane. lane.tally) l c.loop-lane.total) (take_all c.loop-lane.lane-index c.args.lanes.now (omega (arith, c.loop-lane-test.false))) c.loop-lane.invariant.sum
+returns g c = subst (λ l. IsSumOf (λ lane. (g.L.Worker.shown lane).tally) l c.loop-lane.total) (take_all c.loop-lane.lane-index c.args.lanes.now (omega (arith, c.loop-lane-test.false))) c.loop-lane.invariant.sum

@@ -1,4 +1,3 @@
-use Rattle.taos_lanes.specs.Stocked.{shown_by}
 use Rattle.taos_lanes.proofs.Ends.{idle_after, same_ends}
 use Rattle.taos_lanes.proofs.serving.serve.Goals as goal
 
@@ -7,5 +6,4 @@ returns-in-Err-clause-unserved g c = same_ends _ _ _ c.in-Err.ensures.unserved c
 
 pub returns-in-Err-clause-idle : goal.returns-in-Err-clause-idle
 returns-in-Err-clause-idle g c =
-    let f = shown_by g.C.Clock.shown g.R.RelayLink.shown g.D.Door.shown g.P.Fetch.shown in
-    idle_after f _ _ c.empty.ensures
+    idle_after g.L.Worker.shown _ _ c.empty.ensures

@@ -5,8 +5,8 @@ use Rattle.taos_lanes.proofs.serving.serve_cells.Given as goal
 
 -- every lane has one share of each cell
 
-abbrev pub ghosts-serve_lanes-K-OfAgent : goal.ghosts-serve_lanes-K-OfAgent
-ghosts-serve_lanes-K-OfAgent g a = record { cells = a.shared.now.agent.now; shares = map (λ (c : ShardCell). 1) a.shared.now.agent.now }
+abbrev pub ghosts-serve_lanes-A-OfAgent : goal.ghosts-serve_lanes-A-OfAgent
+ghosts-serve_lanes-A-OfAgent g a = record { cells = a.shared.now.agent.now; shares = map (λ (c : ShardCell). 1) a.shared.now.agent.now }
 
-abbrev pub ghosts-serve_lanes-L-OfRack : goal.ghosts-serve_lanes-L-OfRack
-ghosts-serve_lanes-L-OfRack g a = record { cells = a.shared.now.rack.now; shares = map (λ (c : ObjectCell). 1) a.shared.now.rack.now }
+abbrev pub ghosts-serve_lanes-R-OfRack : goal.ghosts-serve_lanes-R-OfRack
+ghosts-serve_lanes-R-OfRack g a = record { cells = a.shared.now.rack.now; shares = map (λ (c : ObjectCell). 1) a.shared.now.rack.now }

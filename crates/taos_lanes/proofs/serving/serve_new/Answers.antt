@@ -11,7 +11,6 @@ use Rattle.object_core.specs.Shelving.{ObjectFixed, fixed_of}
 use Rattle.taos_monitor.specs.Arriving.{node_of}
 use Rattle.taos_monitor.specs.Planned.{ArePlanned}
 use Rattle.taos_lanes.specs.Serving.{ServesNode, left_by}
-use Rattle.taos_lanes.specs.Stocked.{shown_by}
 use Rattle.taos_lanes.specs.Telling.{change, told_by}
 use Rattle.taos_lanes.proofs.Opening.{opened_new, untouched}
 use Rattle.taos_lanes.proofs.Rows.{at_error}
@@ -50,7 +49,6 @@ serve_cells-requires-clause-planned g c κs within =
 
 pub returns-clause-served : goal.returns-clause-served
 returns-clause-served g c =
-    let f = shown_by g.C.Clock.shown g.R.RelayLink.shown g.D.Door.shown g.P.Fetch.shown in
-    subst (λ (x : List Plan × List ObjectFixed). IfOk c.serve_cells.result (λ r. ServesNode (told_by g.D.In.Source.shown g.D.Out.Sink.shown) (node_of c.args.parts.keys x.0 x.1) c.args.pulls c.args.limits
-    (change (map f c.args.lanes.now) (map f c.serve_cells.new.lanes)) (left_by r)))
+    subst (λ (x : List Plan × List ObjectFixed). IfOk c.serve_cells.result (λ r. ServesNode (told_by g.L.In.Source.shown g.L.Out.Sink.shown) (node_of c.args.parts.keys x.0 x.1) c.args.pulls c.args.limits
+    (change (map g.L.Worker.shown c.args.lanes.now) (map g.L.Worker.shown c.serve_cells.new.lanes)) (left_by r)))
     (λ i. (opened_plans _ _ _ c.in_ok-opened.ensures.opened i, opened_fixed _ _ _ c.in_ok-racked.ensures.opened i)) c.serve_cells.ensures.served

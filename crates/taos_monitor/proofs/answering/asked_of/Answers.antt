@@ -2,7 +2,7 @@
 use Rattle.std.proofs.Common.{sym}
 use Rattle.taos_wire.specs.View.{request as request_of}
 use Rattle.taos_monitor.specs.Arriving.{node_of}
-use Rattle.taos_monitor.specs.Course.{unknown_channel, unread}
+use Rattle.request_course.specs.Course.{unknown_channel, unread}
 use Rattle.taos_monitor.proofs.Payloads.{is_malformed, has_bad_seal}
 use Rattle.taos_monitor.proofs.answering.asked_of.Goals as goal
 

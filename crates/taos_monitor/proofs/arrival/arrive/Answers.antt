@@ -9,11 +9,12 @@ use Rattle.object_core.specs.View.{operation}
 use Rattle.object_core.specs.Shelving.{fixed_at}
 use Rattle.taos_wire.specs.View.{request, text_of, cited as shared}
 use Rattle.taos_monitor.specs.Arriving.{node_of}
-use Rattle.taos_monitor.specs.Credentials.{at_end, link_use}
-use Rattle.taos_monitor.specs.Course.{unknown_object, unopened}
+use Rattle.request_course.specs.Credentials.{at_end, link_use}
+use Rattle.request_course.specs.Course.{unknown_object, unopened}
 use Rattle.taos_monitor.specs.Presenting.{AllCome, AllStop}
 use Rattle.taos_monitor.proofs.Presenting.{quiet_linked}
-use Rattle.taos_monitor.proofs.Arriving.{not_opened, opened_count, none_of, some_of}
+use Rattle.taos_monitor.proofs.Arriving.{not_opened, none_of, some_of}
+use Rattle.request_course.proofs.CertWalks.{opened_count}
 use Rattle.taos_monitor.proofs.arrival.arrive.Goals as goal
 
 pub returns-in_err-certs-clause-refused : goal.returns-in_err-certs-clause-refused

@@ -3,7 +3,7 @@ use Rattle.std.proofs.Common.{◌≡◌, length, map, refl, sym, ap, ◌∙◌, 
 use Rattle.std.proofs.lemmas.Bool.{cases_lt, false≢true}
 use Rattle.std.proofs.lemmas.List.{length-map}
 use Rattle.object_core.specs.ObjectView.{object_entry}
-use Rattle.taos_monitor.specs.AtObject.{object_full}
+use Rattle.request_course.specs.AtObject.{object_full}
 use Rattle.std.specs.Arc.{arc_value}
 use Rattle.prin_term.specs.View.{grant}
 use Rattle.agent_core.specs.Shards.{home_of}

@@ -15,7 +15,7 @@ use Rattle.taos_wire.specs.Reply as replies
 use Rattle.taos_wire.specs.Reply.{FitsLink, LinkSent}
 use Rattle.taos_wire.specs.View.{link}
 use Rattle.agent_core.specs.declared.asked.Denial.{Denial}
-use Rattle.taos_monitor.specs.Asking.{TellsDenial}
+use Rattle.request_course.specs.Asking.{TellsDenial}
 use Rattle.taos_monitor.specs.Ruling.{HasPart}
 use Rattle.taos_monitor.proofs.Parts.{part_fits}
 use Rattle.taos_monitor.proofs.deciding.draft_denied.Goals.{in-Expired, in-Early, in-NoEntry}

@@ -8,7 +8,7 @@ use Rattle.object_core.specs.View.{operation}
 use Rattle.stmt_codec.specs.View.{certificates}
 use Rattle.agent_core.specs.Views.{event_of}
 use Rattle.taos_wire.specs.View.{cited}
-use Rattle.taos_monitor.specs.Operations.{targets_of}
+use Rattle.request_course.specs.Operations.{targets_of}
 use Rattle.taos_monitor.proofs.Dues.{ready_of, due_of, all_targets}
 use Rattle.taos_monitor.proofs.due.due_for.Goals.{in-Forget, in_default-op}
 use Rattle.taos_monitor.proofs.due.due_for.Goals as goal

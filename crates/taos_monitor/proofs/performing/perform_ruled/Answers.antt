@@ -2,10 +2,11 @@
 use Rattle.std.proofs.Common.{[], None, refl, sym, subst}
 use Rattle.object_core.specs.declared.ruling.Ruling.{Ruling}
 use Rattle.object_core.specs.View.{operation}
-use Rattle.taos_monitor.specs.Cells.{shards_in}
-use Rattle.taos_monitor.specs.Effects.{IsPerformed, PerformedAs, SteppedBy}
-use Rattle.taos_monitor.specs.Operations.{effect_of}
-use Rattle.taos_monitor.proofs.Going.{shards_stood}
+use Rattle.request_course.specs.Cells.{shards_in}
+use Rattle.request_course.specs.Effects.{IsPerformed}
+use Rattle.taos_monitor.specs.Performing.{PerformedAs, SteppedBy}
+use Rattle.request_course.specs.Operations.{effect_of}
+use Rattle.request_course.proofs.Going.{shards_stood}
 use Rattle.taos_monitor.proofs.performing.perform_ruled.Goals as goal
 
 pub returns-in-Denied-clause-performed : goal.returns-in-Denied-clause-performed

@@ -1,6 +1,6 @@
 -- each shard that is due is stepped, up to one that does not do it
 use Rattle.std.proofs.Common.{◌+◌, length, refl, ◌∙◌, arith}
-use Rattle.taos_monitor.specs.Effects.{CanStep, effect_due}
+use Rattle.taos_monitor.specs.Performing.{CanStep, effect_due}
 use Rattle.taos_monitor.proofs.EffectSteps.{none_stepped, popped, popped_length, done_more, no_room, no_place}
 use Rattle.taos_monitor.proofs.performing.step_due.Goals as goal
 

@@ -1,7 +1,7 @@
 use Rattle.std.proofs.Common.{◌≡◌, ◌+◌, length}
 use Rattle.std.specs.Prelude.{All}
 use Rattle.std.specs.List.{range_with_len}
-use Rattle.taos_monitor.specs.Effects.{CanStep, effect_due}
+use Rattle.taos_monitor.specs.Performing.{CanStep, effect_due}
 use Rattle.taos_monitor.proofs.EffectSteps.{AreStepped}
 use Rattle.taos_monitor.proofs.performing.step_due.Given as goal
 

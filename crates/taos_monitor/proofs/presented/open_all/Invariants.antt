@@ -7,5 +7,4 @@ use Rattle.taos_monitor.proofs.presented.open_all.Given as goal
 abbrev pub invariant-loop-place : goal.invariant-loop-place
 invariant-loop-place g l =
     AllCome l.initial.opened (link_by l.node (g.X.Reach.shown l.initial.outside) (g.X.Reach.shown l.outside)) (map text_of (take l.place l.texts)) (map shared l.certs.items)
-    × (g.X.Reach.borrows l.outside ≡ g.X.Reach.borrows l.initial.outside) × (l.opened ≡ l.initial.opened)
-    × UsesLink (g.X.Reach.shown l.initial.outside) (g.X.Reach.shown l.outside)
+    × (l.opened ≡ l.initial.opened) × UsesLink (g.X.Reach.shown l.initial.outside) (g.X.Reach.shown l.outside)

@@ -5,7 +5,7 @@ use Rattle.object_core.specs.View.{operation}
 use Rattle.agent_core.specs.State.{Plan}
 use Rattle.taos_wire.specs.Reply as replies
 use Rattle.taos_wire.specs.View.{reply}
-use Rattle.taos_monitor.specs.AtObject.{ruled_as}
+use Rattle.request_course.specs.AtObject.{ruled_as}
 use Rattle.taos_monitor.proofs.AtItsObject.{ruled_here, unruled_here}
 use Rattle.taos_monitor.proofs.Guards.{unready}
 use Rattle.taos_monitor.proofs.ruling.rule.Goals as goal

@@ -5,7 +5,8 @@ use Rattle.agent_core.specs.Answers.{TakesMemory}
 use Rattle.agent_core.specs.Journals.{told_at}
 use Rattle.agent_core.specs.Views.{event_of}
 use Rattle.agent_core.proofs.Asks.{standing}
-use Rattle.taos_monitor.proofs.EffectSteps.{never_asked, takes_none}
+use Rattle.taos_monitor.proofs.EffectSteps.{never_asked}
+use Rattle.request_course.proofs.EffectTold.{takes_none}
 use Rattle.taos_monitor.proofs.stepping.step_one.Goals as goal
 
 pub unreachable-requires : goal.unreachable-requires

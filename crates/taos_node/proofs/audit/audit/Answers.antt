@@ -1,18 +1,19 @@
 -- the connection is that of the first lane, and the text that of what it left
-use Rattle.std.proofs.Common.{List, length, refl, sym, ap, subst, subst₂, arith}
+use Rattle.std.proofs.Common.{List, length, map, refl, sym, ap, subst, subst₂, arith}
 use Rattle.std.specs.Prelude.{All}
 use Rattle.object_core.specs.Shelving.{HaveOwnNumbers, numbers_of}
 use Rattle.std.proofs.lemmas.List.{length-map}
 use Rattle.std.proofs.KnownBytes.{Keeps-refl}
 use Rattle.agent_core.specs.Journals.{ShardSeen}
 use Rattle.agent_core.specs.State.{Plan}
-use Rattle.taos_monitor.specs.Cells.{Node, Seen}
-use Rattle.taos_node.specs.Audit.{IsAuditOf}
-use Rattle.taos_node.specs.AuditOf.{all_in}
+use Rattle.request_course.specs.Cells.{Node, Seen}
+use Rattle.node_audit.specs.Audit.{IsAuditOf}
+use Rattle.node_audit.specs.AuditOf.{all_in}
 use Rattle.taos_node.specs.Calls.{first_of}
-use Rattle.taos_node.specs.Opened.{node_by, seen_by}
+use Rattle.opened_node.specs.Opened.{node_by, seen_by}
 use Rattle.replay_law.specs.Laws.{AreAsksWithin, AreReplayedLegal, AreWritable, HasFittingList, HasServed, alone}
-use Rattle.taos_node.proofs.Audited.{all_asks, all_cite_few, all_ops_fit, few_commons, few_objects, ended_causes, ended_complete, ended_same, ended_writes, is_audit, made_legal, numbers_apart, numbers_rise, stopped_causes, stopped_complete}
+use Rattle.node_audit.proofs.Audited.{all_asks, all_cite_few, all_ops_fit, few_commons, few_objects, is_audit, made_legal, numbers_apart, numbers_rise}
+use Rattle.taos_node.proofs.AuditEnds.{ended_causes, ended_complete, ended_same, ended_writes, stopped_causes, stopped_complete}
 use Rattle.taos_node.proofs.audit.audit.Goals as goal
 
 pub returns-in_default-clause-audits : goal.returns-in_default-clause-audits
@@ -34,13 +35,13 @@ returns-in_default-clause-audits g c = λ o file0 file1 opened.
 
 pub returns-in_default-clause-causes : goal.returns-in_default-clause-causes
 returns-in_default-clause-causes g c =
-    stopped_causes (g.I.Source.shown c.args.input.now).faults (first_of g.C.Clock.shown g.R.RelayLink.shown g.P.Fetch.shown c.args.lanes.now).clock.faults (g.I.Source.shown c.serve_first-outcome.new.input).faults
-    (first_of g.C.Clock.shown g.R.RelayLink.shown g.P.Fetch.shown c.serve_first-outcome.new.lanes).clock.faults (g.O.Sink.shown c.args.output.now).faults c.serve_first-outcome.result c.serve_first-outcome.ensures.causes
+    stopped_causes (g.I.Source.shown c.args.input.now).faults (first_of (map g.L.Worker.shown c.args.lanes.now)).clock.faults (g.I.Source.shown c.serve_first-outcome.new.input).faults
+    (first_of (map g.L.Worker.shown c.serve_first-outcome.new.lanes)).clock.faults (g.O.Sink.shown c.args.output.now).faults c.serve_first-outcome.result c.serve_first-outcome.ensures.causes
 
 pub returns-in_default-clause-complete : goal.returns-in_default-clause-complete
 returns-in_default-clause-complete g c =
-    stopped_complete c.args.asked.frames (g.I.Source.shown c.args.input.now).faults (first_of g.C.Clock.shown g.R.RelayLink.shown g.P.Fetch.shown c.args.lanes.now).clock.faults (g.I.Source.shown c.serve_first-outcome.new.input).faults
-    (first_of g.C.Clock.shown g.R.RelayLink.shown g.P.Fetch.shown c.serve_first-outcome.new.lanes).clock.faults (g.O.Sink.shown c.args.output.now).faults (g.I.Source.shown c.args.input.now).told c.serve_first-outcome.result (λ end. c.in_default.not-End end.0 end.1) c.serve_first-outcome.ensures.complete
+    stopped_complete c.args.asked.frames (g.I.Source.shown c.args.input.now).faults (first_of (map g.L.Worker.shown c.args.lanes.now)).clock.faults (g.I.Source.shown c.serve_first-outcome.new.input).faults
+    (first_of (map g.L.Worker.shown c.serve_first-outcome.new.lanes)).clock.faults (g.O.Sink.shown c.args.output.now).faults (g.I.Source.shown c.args.input.now).told c.serve_first-outcome.result (λ end. c.in_default.not-End end.0 end.1) c.serve_first-outcome.ensures.complete
 
 pub write_text-requires-clause-few : goal.write_text-requires-clause-few
 write_text-requires-clause-few g c =
@@ -105,8 +106,8 @@ pub returns-clause-causes : goal.returns-clause-causes
 returns-clause-causes g c =
     let i = (g.I.Source.shown c.args.input.now).faults in
     let i1 = (g.I.Source.shown c.serve_first-outcome.new.input).faults in
-    let k = (first_of g.C.Clock.shown g.R.RelayLink.shown g.P.Fetch.shown c.args.lanes.now).clock.faults in
-    let k1 = (first_of g.C.Clock.shown g.R.RelayLink.shown g.P.Fetch.shown c.serve_first-outcome.new.lanes).clock.faults in
+    let k = (first_of (map g.L.Worker.shown c.args.lanes.now)).clock.faults in
+    let k1 = (first_of (map g.L.Worker.shown c.serve_first-outcome.new.lanes)).clock.faults in
     let node = c.serve_first-outcome.new.node in
     ended_causes i k i1 k1 (g.O.Sink.shown c.args.output.now).faults (g.O.Sink.shown c.write_text.new.output).faults (ended_same i k i1 k1 _ c.serve_first-outcome.result c.in-End.is c.serve_first-outcome.ensures.causes)
     (all_in c.args.asked.form node.shards.shards node.shelf.objects) (g.O.Sink.shown c.args.output.now).told (g.O.Sink.shown c.write_text.new.output).told c.write_text.result c.write_text.ensures.writes c.write_text.ensures.cause
@@ -115,8 +116,8 @@ pub returns-clause-complete : goal.returns-clause-complete
 returns-clause-complete g c =
     let i = (g.I.Source.shown c.args.input.now).faults in
     let i1 = (g.I.Source.shown c.serve_first-outcome.new.input).faults in
-    let k = (first_of g.C.Clock.shown g.R.RelayLink.shown g.P.Fetch.shown c.args.lanes.now).clock.faults in
-    let k1 = (first_of g.C.Clock.shown g.R.RelayLink.shown g.P.Fetch.shown c.serve_first-outcome.new.lanes).clock.faults in
+    let k = (first_of (map g.L.Worker.shown c.args.lanes.now)).clock.faults in
+    let k1 = (first_of (map g.L.Worker.shown c.serve_first-outcome.new.lanes)).clock.faults in
     let node = c.serve_first-outcome.new.node in
     ended_complete i k i1 k1 (g.O.Sink.shown c.args.output.now).faults (g.O.Sink.shown c.write_text.new.output).faults (ended_same i k i1 k1 _ c.serve_first-outcome.result c.in-End.is c.serve_first-outcome.ensures.causes)
     (all_in c.args.asked.form node.shards.shards node.shelf.objects) (g.O.Sink.shown c.args.output.now).told (g.O.Sink.shown c.write_text.new.output).told c.args.asked.frames (g.I.Source.shown c.args.input.now).told c.write_text.result c.write_text.ensures.writes c.write_text.ensures.cause

@@ -1,10 +1,9 @@
 use Rattle.std.proofs.Common.{refl}
-use Rattle.std.proofs.KnownBytes.{Keeps-refl}
 use Rattle.taos_node.specs.Calls.{touched}
-use Rattle.taos_node.specs.Command.{UsesNoLane, LeavesRest}
+use Rattle.taos_node.specs.Command.{UsesNoLane}
 use Rattle.taos_node.proofs.CheckCommands.{looked_over}
 use Rattle.node_words.specs.Words.{Check}
-use Rattle.taos_node.proofs.Statuses.{checked, unserved}
+use Rattle.taos_node.proofs.Statuses.{checked, refuses}
 use Rattle.taos_node.proofs.command.check_file.Goals as goal
 
 pub returns-in-Ok : goal.returns-in-Ok
@@ -23,13 +22,5 @@ returns-in-Ok g c = record {
 
 pub returns-in-Err : goal.returns-in-Err
 returns-in-Err g c = record {
-  checks = λ used words check.
-      let input = g.I.Source.shown c.args.input.now in
-      let output = g.O.Sink.shown c.args.output.now in
-      let before = touched (g.F.Source.shown c.args.file.now) input output used in
-      let after = touched (g.F.Source.shown c.file_opening.new.file) input output used in
-      let rest : LeavesRest before after = record { input = Keeps-refl input.told; output = Keeps-refl output.told; lane = record { clock = refl; link = refl; fetch = refl } } in (
-        ((Check, check, c.in-Err.ensures.gives), rest),
-        unserved words before after Check c.in-Err.fault check c.in-Err.ensures.cause c.in-Err.ensures.gives refl refl refl,
-      );
+  checks = refuses Check (g.F.Source.shown c.args.file.now) (g.F.Source.shown c.file_opening.new.file) (g.I.Source.shown c.args.input.now) (g.O.Sink.shown c.args.output.now) c.in-Err.fault c.in-Err.ensures.gives c.in-Err.ensures.cause;
 }

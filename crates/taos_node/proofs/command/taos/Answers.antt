@@ -1,7 +1,12 @@
+use denote.Param.Send.{sendable}
 use Rattle.std.proofs.Common.{ℕ, sym, subst}
+use Rattle.taos_lanes.proofs.Crossing.{lane_send}
 use Rattle.taos_node.specs.Calls.{called}
-use Rattle.taos_node.specs.Command.{IsStatus, TellsDoors}
+use Rattle.taos_node.specs.Status.{IsStatus, TellsDoors}
 use Rattle.taos_node.proofs.command.taos.Goals as goal
+
+pub run-ending-requires-send-L : goal.run-ending-requires-send-L
+run-ending-requires-send-L g c κs within = search (sendable, lane_send)
 
 pub returns-clause-did : goal.returns-clause-did
 returns-clause-did g c = record {

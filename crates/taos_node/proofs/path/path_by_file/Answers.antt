@@ -1,14 +1,13 @@
 use Rattle.std.proofs.Common.{refl, subst, sym, List, map}
-use Rattle.std.proofs.KnownBytes.{Keeps-refl}
 use Rattle.relay_path.specs.declared.domain.Domain.{Domain}
 use Rattle.relay_path.specs.Domains.{LinksAgree, knows}
 use Rattle.taos_node.specs.Calls.{touched}
-use Rattle.taos_node.specs.Command.{UsesNoLane, LeavesRest}
-use Rattle.taos_node.specs.Paths.{Passes}
+use Rattle.taos_node.specs.Command.{UsesNoLane}
+use Rattle.path_run.specs.Paths.{Passes}
 use Rattle.node_words.specs.Words.{Path, path_words}
 use Rattle.taos_node.proofs.Endings.{passed}
-use Rattle.taos_node.proofs.Standing.{stand_passes}
-use Rattle.taos_node.proofs.Statuses.{unserved}
+use Rattle.path_run.proofs.Standing.{stand_passes}
+use Rattle.taos_node.proofs.Statuses.{refuses}
 use Rattle.taos_node.proofs.path.path_by_file.Goals as goal
 
 pub pass-requires : goal.pass-requires
@@ -43,14 +42,5 @@ returns-in-Ok g c = record {
 
 pub returns-in-Err : goal.returns-in-Err
 returns-in-Err g c = record {
-  passes = λ used words is.
-      let input = g.I.Source.shown c.args.input.now in
-      let output = g.O.Sink.shown c.args.output.now in
-      let before = touched (g.F.Source.shown c.args.file.now) input output used in
-      let after = touched (g.F.Source.shown c.file_domains.new.file) input output used in
-      let rest : LeavesRest before after = record { input = Keeps-refl input.told; output = Keeps-refl output.told; lane = record { clock = refl; link = refl; fetch = refl } } in
-      let wanted = Path (path_words c.args.asked.now) in (
-        ((wanted, is, c.in-Err.ensures.gives), rest),
-        unserved words before after wanted c.in-Err.fault is c.in-Err.ensures.cause c.in-Err.ensures.gives refl refl refl,
-      );
+  passes = refuses (Path (path_words c.args.asked.now)) (g.F.Source.shown c.args.file.now) (g.F.Source.shown c.file_domains.new.file) (g.I.Source.shown c.args.input.now) (g.O.Sink.shown c.args.output.now) c.in-Err.fault c.in-Err.ensures.gives c.in-Err.ensures.cause;
 }

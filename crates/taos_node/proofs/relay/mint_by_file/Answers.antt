@@ -1,10 +1,10 @@
 use Rattle.std.proofs.Common.{refl}
 use Rattle.std.proofs.KnownBytes.{Keeps-refl}
 use Rattle.taos_node.specs.Calls.{touched}
-use Rattle.taos_node.specs.Command.{UsesNoLane, LeavesRest, labels_of}
+use Rattle.taos_node.specs.Command.{UsesNoLane, labels_of}
 use Rattle.node_words.specs.Words.{Mint, mint_words}
-use Rattle.taos_node.proofs.Minted.{same_mints}
-use Rattle.taos_node.proofs.Statuses.{minted, unserved}
+use Rattle.cert_mint.proofs.Minted.{same_mints}
+use Rattle.taos_node.proofs.Statuses.{minted, refuses}
 use Rattle.taos_node.proofs.relay.mint_by_file.Goals as goal
 
 pub returns-in-Ok : goal.returns-in-Ok
@@ -24,13 +24,5 @@ returns-in-Ok g c = record {
 
 pub returns-in-Err : goal.returns-in-Err
 returns-in-Err g c = record {
-  mints = λ input used words is.
-      let output = g.O.Sink.shown c.args.output.now in
-      let before = touched (g.F.Source.shown c.args.file.now) input output used in
-      let after = touched (g.F.Source.shown c.file_relay.new.file) input output used in
-      let rest : LeavesRest before after = record { input = Keeps-refl input.told; output = Keeps-refl output.told; lane = record { clock = refl; link = refl; fetch = refl } } in
-      let wanted = Mint (mint_words c.args.asked.now) in (
-        ((wanted, is, c.in-Err.ensures.gives), rest),
-        unserved words before after wanted c.in-Err.fault is c.in-Err.ensures.cause c.in-Err.ensures.gives refl refl refl,
-      );
+  mints = λ input. refuses (Mint (mint_words c.args.asked.now)) (g.F.Source.shown c.args.file.now) (g.F.Source.shown c.file_relay.new.file) input (g.O.Sink.shown c.args.output.now) c.in-Err.fault c.in-Err.ensures.gives c.in-Err.ensures.cause;
 }

@@ -1,46 +1,43 @@
 -- what the file says, and what the relay's lanes did
 use Rattle.std.proofs.Common.{inr, map, refl}
 use Rattle.std.proofs.KnownBytes.{Keeps-refl}
-use Rattle.taos_lanes.specs.Stocked.{shown_by}
 use Rattle.taos_lanes.specs.Telling.{told_by}
 use Rattle.taos_node.specs.Calls.{touched, first_of}
-use Rattle.taos_node.specs.Command.{LeavesRest}
 use Rattle.node_words.specs.Words.{RelayServe}
-use Rattle.taos_node.proofs.LaneStatuses.{relay_doors_tell, relay_file_does, lanes_tell, not_two_lanes}
-use Rattle.taos_node.proofs.Commands.{decided_opened, relay_files}
-use Rattle.taos_node.specs.Files.{IsRelayFile, relay_means}
-use Rattle.taos_node.proofs.Statuses.{unserved}
+use Rattle.taos_node.proofs.LaneStatuses.{relay_doors_tell, relay_file_does, lanes_tell}
+use Rattle.taos_node.proofs.Commands.{decided_opened}
+use Rattle.command_file.proofs.Meant.{relay_files}
+use Rattle.command_file.specs.Files.{IsRelayFile, relay_means}
+use Rattle.taos_node.proofs.Statuses.{refuses}
 use Rattle.taos_node.proofs.relay_lanes.serve_relay_by_file.Goals as goal
 use Rattle.taos_node.proofs.Stopped.{lanes_status}
 
 pub returns-in-Ok : goal.returns-in-Ok
 returns-in-Ok g c = record {
   serves = λ input words is.
-      let f = shown_by g.C.Clock.shown g.R.RelayLink.shown g.D.Door.shown g.P.Fetch.shown in
+      let f = g.L.Worker.shown in
       let before = touched (g.F.Source.shown c.args.file.now) input (g.O.Sink.shown c.args.output.now)
-      (first_of g.C.Clock.shown g.R.RelayLink.shown g.P.Fetch.shown c.args.lanes.now) in
+      (first_of (map g.L.Worker.shown c.args.lanes.now)) in
       let after = touched (g.F.Source.shown c.file_relay.new.file) input (g.O.Sink.shown c.serve_lanes.new.output)
-      (first_of g.C.Clock.shown g.R.RelayLink.shown g.P.Fetch.shown c.serve_lanes.new.lanes) in
+      (first_of (map g.L.Worker.shown c.serve_lanes.new.lanes)) in
       let gives = c.in-Ok.ensures.gives in
       let did = c.serve_lanes.ensures.serves gives.0 gives.2 in
       record {
         runs = (Keeps-refl input.told, (c.args.limits, is, (gives.0, gives.1, did)));
-        status = lanes_tell before after words (RelayServe c.args.limits) c.serve_lanes.result is tt (decided_opened IsRelayFile relay_means relay_files before.file after.file gives.0 (lanes_status c.serve_lanes.result) gives.1 (not_two_lanes c.serve_lanes.result))
+        status = lanes_tell before after words (RelayServe c.args.limits) c.serve_lanes.result is tt (decided_opened IsRelayFile relay_means relay_files before.file after.file gives.0 (lanes_status c.serve_lanes.result) gives.1)
             (inr (c.args.limits, is)) c.in-Ok.ensures.cause refl c.serve_lanes.ensures.cause;
-        tells = relay_doors_tell (told_by g.D.In.Source.shown g.D.Out.Sink.shown) c.args.limits (map f c.args.lanes.now) (map f c.serve_lanes.new.lanes) gives.0 words before after c.serve_lanes.result is did c.serve_lanes.ensures.cause;
+        tells = relay_doors_tell (told_by g.L.In.Source.shown g.L.Out.Sink.shown) c.args.limits (map f c.args.lanes.now) (map f c.serve_lanes.new.lanes) gives.0 words before after c.serve_lanes.result is did c.serve_lanes.ensures.cause;
       };
 }
 
 pub returns-in-Err : goal.returns-in-Err
 returns-in-Err g c = record {
   serves = λ input words is.
-      let f = shown_by g.C.Clock.shown g.R.RelayLink.shown g.D.Door.shown g.P.Fetch.shown in
       let output = g.O.Sink.shown c.args.output.now in
-      let used = first_of g.C.Clock.shown g.R.RelayLink.shown g.P.Fetch.shown c.args.lanes.now in
-      let before = touched (g.F.Source.shown c.args.file.now) input output used in
-      let after = touched (g.F.Source.shown c.file_relay.new.file) input output used in
-      let rest : LeavesRest before after = record { input = Keeps-refl input.told; output = Keeps-refl output.told; lane = record { clock = refl; link = refl; fetch = refl } } in
-      let wanted = RelayServe c.args.limits in
-      relay_file_does (told_by g.D.In.Source.shown g.D.Out.Sink.shown) words before after (map f c.args.lanes.now) c.args.limits c.in-Err.fault is ((wanted, is, c.in-Err.ensures.gives), rest)
-      (unserved words before after wanted c.in-Err.fault is c.in-Err.ensures.cause c.in-Err.ensures.gives refl refl refl) c.in-Err.ensures.gives c.in-Err.ensures.cause;
+      let l = map g.L.Worker.shown c.args.lanes.now in
+      let file0 = g.F.Source.shown c.args.file.now in
+      let file1 = g.F.Source.shown c.file_relay.new.file in
+      let gives = c.in-Err.ensures.gives in
+      let done = refuses (RelayServe c.args.limits) file0 file1 input output c.in-Err.fault gives c.in-Err.ensures.cause (first_of l) words is in
+      relay_file_does (told_by g.L.In.Source.shown g.L.Out.Sink.shown) words (touched file0 input output (first_of l)) (touched file1 input output (first_of l)) l c.args.limits c.in-Err.fault is done.0 done.1 gives c.in-Err.ensures.cause;
 }

@@ -1,11 +1,10 @@
 -- what the file opens, and what the bytes of the input come to beside it
 use Rattle.std.proofs.Common.{refl}
-use Rattle.std.proofs.KnownBytes.{Keeps-refl}
 use Rattle.taos_node.specs.Calls.{touched}
-use Rattle.taos_node.specs.Command.{UsesNoLane, LeavesRest}
+use Rattle.taos_node.specs.Command.{UsesNoLane}
 use Rattle.node_words.specs.Words.{Replay}
 use Rattle.taos_node.proofs.Replayed.{replayed}
-use Rattle.taos_node.proofs.Statuses.{unserved}
+use Rattle.taos_node.proofs.Statuses.{refuses}
 use Rattle.taos_node.proofs.replay.replay_by_file.Goals as goal
 
 pub returns-in-Ok : goal.returns-in-Ok
@@ -24,13 +23,5 @@ returns-in-Ok g c = record {
 
 pub returns-in-Err : goal.returns-in-Err
 returns-in-Err g c = record {
-  replays = λ used words is.
-      let input = g.I.Source.shown c.args.input.now in
-      let output = g.O.Sink.shown c.args.output.now in
-      let before = touched (g.F.Source.shown c.args.file.now) input output used in
-      let after = touched (g.F.Source.shown c.file_opening.new.file) input output used in
-      let rest : LeavesRest before after = record { input = Keeps-refl input.told; output = Keeps-refl output.told; lane = record { clock = refl; link = refl; fetch = refl } } in (
-        ((Replay, is, c.in-Err.ensures.gives), rest),
-        unserved words before after Replay c.in-Err.fault is c.in-Err.ensures.cause c.in-Err.ensures.gives refl refl refl,
-      );
+  replays = refuses Replay (g.F.Source.shown c.args.file.now) (g.F.Source.shown c.file_opening.new.file) (g.I.Source.shown c.args.input.now) (g.O.Sink.shown c.args.output.now) c.in-Err.fault c.in-Err.ensures.gives c.in-Err.ensures.cause;
 }

@@ -1,12 +1,11 @@
 use Rattle.std.proofs.Common.{List, refl, subst}
-use Rattle.std.proofs.KnownBytes.{Keeps-refl}
 use Rattle.frame_link.specs.Served.{IsServed, line}
 use Rattle.cred_pull.specs.WalletFile.{WalletRow}
 use Rattle.cred_pull.specs.WalletServing.{Answers, GivesUp}
 use Rattle.taos_node.specs.Calls.{touched}
-use Rattle.taos_node.specs.Command.{UsesNoLane, LeavesRest}
+use Rattle.taos_node.specs.Command.{UsesNoLane}
 use Rattle.node_words.specs.Words.{Wallet}
-use Rattle.taos_node.proofs.Statuses.{unserved, walleted}
+use Rattle.taos_node.proofs.Statuses.{refuses, walleted}
 use Rattle.taos_node.proofs.wallet.wallet_by_file.Goals as goal
 
 pub returns-in-Ok : goal.returns-in-Ok
@@ -27,14 +26,5 @@ returns-in-Ok g c = record {
 
 pub returns-in-Err : goal.returns-in-Err
 returns-in-Err g c = record {
-  gives = λ used words is.
-      let input = g.I.Source.shown c.args.input.now in
-      let output = g.O.Sink.shown c.args.output.now in
-      let before = touched (g.F.Source.shown c.args.file.now) input output used in
-      let after = touched (g.F.Source.shown c.file_wallet.new.file) input output used in
-      let rest : LeavesRest before after = record { input = Keeps-refl input.told; output = Keeps-refl output.told; lane = record { clock = refl; link = refl; fetch = refl } } in
-      let wanted = Wallet c.args.frames in (
-        ((wanted, is, c.in-Err.ensures.gives), rest),
-        unserved words before after wanted c.in-Err.fault is c.in-Err.ensures.cause c.in-Err.ensures.gives refl refl refl,
-      );
+  gives = refuses (Wallet c.args.frames) (g.F.Source.shown c.args.file.now) (g.F.Source.shown c.file_wallet.new.file) (g.I.Source.shown c.args.input.now) (g.O.Sink.shown c.args.output.now) c.in-Err.fault c.in-Err.ensures.gives c.in-Err.ensures.cause;
 }

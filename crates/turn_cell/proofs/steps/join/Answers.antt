@@ -13,6 +13,6 @@ load-requires g c = let j = joined_now c.args.seat.now.me c.join_seat.new.seat.m
     (search rules, search rules, settles _ _ _ _ _ _ _ c.args.seat.now.me.0.seen c.args.other.me.0.seen j.1 j.2)
 
 -- what the load told, in the words of the two views
-pub returns-clause-joined : goal.returns-clause-joined
-returns-clause-joined g c = let j = joined_now c.args.seat.now.me c.join_seat.new.seat.me c.args.other.me.0 c.requires.idle.0 c.join_seat.ensures.2 in
-    joins_to g.V.Journaled.fixed g.V.Journaled.journal g.V.Journaled.allows c.join_seat.new.seat.me c.load.new.seat.me c.args.seat.now.me.0 c.args.other.me.0 j.0 (c.load.ensures.2 c.args.seat.now.me.0.seen c.args.other.me.0.seen j.1)
+pub returns : goal.returns
+returns g c = let j = joined_now c.args.seat.now.me c.join_seat.new.seat.me c.args.other.me.0 c.requires.idle.0 c.join_seat.ensures.2 in
+    record { joined = (search rules, joins_to g.V.Journaled.fixed g.V.Journaled.journal g.V.Journaled.allows c.args.seat.now.me c.join_seat.new.seat.me c.load.new.seat.me c.args.other.me.0 j.0 (c.load.ensures.2 c.args.seat.now.me.0.seen c.args.other.me.0.seen j.1)) }

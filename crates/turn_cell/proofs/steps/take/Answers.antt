@@ -11,5 +11,5 @@ exchange-requires g c = (search rules, (Some c.requires.slot.0, slot_rest _ _ c.
 pub unwrap-requires : goal.unwrap-requires
 unwrap-requires g c = ap is_some (slot_found _ _ _ c.requires.slot.1 c.exchange.ensures.2)
 
-pub returns-clause-taken : goal.returns-clause-taken
-returns-clause-taken g c = taken_now c.args.seat.now.me c.exchange.new.seat.me c.requires.slot.0 c.exchange.result c.unwrap.result c.requires.slot.1 c.exchange.ensures.2 c.exchange.ensures.3 c.unwrap.ensures
+pub returns : goal.returns
+returns g c = record { taken = (search rules, taken_now c.args.seat.now.me c.exchange.new.seat.me c.requires.slot.0 c.exchange.result c.unwrap.result c.requires.slot.1 c.exchange.ensures.2 c.exchange.ensures.3 c.unwrap.ensures) }

@@ -1,5 +1,5 @@
-use Rattle.std.proofs.Common.{◌≡◌}
+use Rattle.turn_cell.specs.Steps.{Stays}
 use Rattle.turn_cell.proofs.waiting.draw_alone.Given as goal
 
 abbrev pub invariant-loop : goal.invariant-loop
-invariant-loop g l = (l.seat.table_id ≡ l.initial.seat.table_id) × (l.seat.me ≡ l.initial.seat.me)
+invariant-loop g l = Stays l.initial.seat l.seat

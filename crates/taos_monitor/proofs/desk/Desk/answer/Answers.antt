@@ -2,8 +2,8 @@
 use Rattle.std.proofs.Common.{refl, sym, subst}
 use Rattle.std.specs.Prelude.{IsSome}
 use Rattle.taos_wire.specs.View.{request as request_of}
-use Rattle.taos_monitor.specs.Cells.{alone_of, shards_in, objects_in}
-use Rattle.taos_monitor.specs.World.{fetch_use}
+use Rattle.request_course.specs.Cells.{alone_of, shards_in, objects_in}
+use Rattle.request_course.specs.World.{fetch_use}
 use Rattle.taos_monitor.proofs.Payloads.{texts_short}
 use Rattle.taos_monitor.proofs.Courses.{unasked_to}
 use Rattle.taos_monitor.proofs.Pulls.{answers_pulled}
@@ -35,7 +35,7 @@ returns-in-Err-clause-answered g c =
     let shards = g.S.Shards.shown c.args.self.now.shards.now in
     let shelf = g.H.Shelf.shown c.args.self.now.shelf.now in
     let reach = g.X.Reach.shown c.args.outside.now in (
-      refl,
+      record { setting = refl; lent = refl },
       unasked_to c.args.self.now.keys.now shards.plans shelf.objects (alone_of shards.alone shelf.alone) (fetch_use c.args.self.now.pulls reach.fetch)
           reach.outside.link (shards_in shards) (objects_in shelf) reach.outside.clock c.args.payload.now c.in-Err.why c.leave_unsealed.new.self
           c.are_legal.ensures.legal c.in-Err.ensures.refused c.leave_unsealed.ensures.reply c.leave_unsealed.ensures.short,

@@ -1,6 +1,5 @@
 -- With what is fetched, or without.
 use Rattle.taos_wire.specs.View.{request as request_of}
-use Rattle.taos_monitor.specs.World.{fetch_use}
 use Rattle.taos_monitor.proofs.Desks.{handled_plainly}
 use Rattle.taos_monitor.proofs.desk.Desk.handle.Goals as goal
 
@@ -8,5 +7,5 @@ pub returns-clause-handled : goal.returns-clause-handled
 returns-clause-handled g c =
     let done = c.request.ensures in (
       done.handled.0,
-      handled_plainly _ _ _ (request_of c.args.asked) c.request.new.out c.if-self.false (λ i. fetch_use (done.same_pulls i) (done.unfetched i)) c.request.result done.handled.1,
+      handled_plainly _ _ _ (request_of c.args.asked) c.request.new.out c.if-self.false done.handled.1 c.request.result done.handled.2,
     )

@@ -3,31 +3,34 @@ use Rattle.std.proofs.Common.{ℕ, ◌%◌, map, refl, sym, ap, subst, ◌∙◌
 use Rattle.std.specs.Prelude.{IsSome}
 use Rattle.std.specs.Io.KnownBytes.{Keeps}
 use Rattle.std.specs.Option.{option_copied}
+use Rattle.frame_link.specs.Lent.{Both}
 use Rattle.frame_link.specs.Outside.{OutsideSeen}
 use Rattle.frame_link.specs.Readings.{ShowsKnown}
 use Rattle.frame_link.specs.Streams.{Stream}
 use Rattle.taos_wire.specs.View.{request as request_of, cited as shared}
-use Rattle.taos_monitor.specs.Cells.{alone_of, seen_of, shards_in, objects_in}
-use Rattle.taos_monitor.specs.declared.handling.Handled.TheVariants as handled
-use Rattle.taos_monitor.specs.Handling.{HandledTo, HandlesCause, StoppedAtClock}
+use Rattle.request_course.specs.Cells.{alone_of, seen_of, shards_in, objects_in}
+use Rattle.request_course.specs.declared.handled.Handled.TheVariants as handled
+use Rattle.taos_monitor.specs.Desk.{lent_by, setting_by}
+use Rattle.request_course.specs.Handling.{HandledTo, HandlesCause, StoppedAtClock}
 use Rattle.taos_monitor.specs.Ruling.{Drafts, GuardedTo, standing_of}
-use Rattle.taos_monitor.specs.World.{setting_by, world_of}
-use Rattle.taos_monitor.proofs.Connections.{same_setting}
+use Rattle.request_course.specs.World.{fetch_use, world_of}
+use Rattle.taos_monitor.proofs.Desks.{same_setting, moved}
 use Rattle.taos_monitor.proofs.Courses.{refused_to, stopped_at_clock, ruled_to}
-use Rattle.taos_monitor.proofs.Desks.{moved}
 use Rattle.taos_monitor.proofs.Drafting.{drafted_long, sealed_draft}
 use Rattle.taos_monitor.proofs.desk.Desk.request.Goals as goal
 
 pub returns-in-Err-clause-handled : goal.returns-in-Err-clause-handled
 returns-in-Err-clause-handled g c =
-    let keys = c.args.self.now.keys.now in
-    let shards = g.S.Shards.shown c.args.self.now.shards.now in
-    let shelf = g.H.Shelf.shown c.args.self.now.shelf.now in
+    let d = c.args.self.now in
+    let keys = d.keys.now in
+    let shards = g.S.Shards.shown d.shards.now in
+    let shelf = g.H.Shelf.shown d.shelf.now in
     let a0 = g.X.Reach.shown c.args.outside.now in
     let a1 = g.X.Reach.shown c.arrive.new.outside in
     let r = request_of c.args.asked.now in
     let reply = c.leave_refused.new.self in (
-      refl,
+      record { setting = refl; lent = ap (Both (lent_by d)) c.arrive.ensures.rest.lent },
+      ap (fetch_use d.pulls) c.arrive.ensures.rest.fetch,
       moved (λ (o : OutsideSeen). HandledTo (setting_by keys shards shelf) (world_of a0.outside (shards_in shards) (objects_in shelf)) (world_of o (shards_in shards) (objects_in shelf)) r reply)
           a0.outside.clock a1.outside.link a1.outside (sym c.arrive.ensures.rest.clock) refl
           (refused_to keys shards.plans shelf.objects (alone_of shards.alone shelf.alone) a0.outside.link a1.outside.link (shards_in shards) (objects_in shelf) r
@@ -37,14 +40,16 @@ returns-in-Err-clause-handled g c =
 
 pub returns-in_default-clause-handled : goal.returns-in_default-clause-handled
 returns-in_default-clause-handled g c =
-    let keys = c.args.self.now.keys.now in
-    let shards = g.S.Shards.shown c.args.self.now.shards.now in
-    let shelf = g.H.Shelf.shown c.args.self.now.shelf.now in
+    let d = c.args.self.now in
+    let keys = d.keys.now in
+    let shards = g.S.Shards.shown d.shards.now in
+    let shelf = g.H.Shelf.shown d.shelf.now in
     let a0 = g.X.Reach.shown c.args.outside.now in
     let a1 = g.X.Reach.shown c.arrive.new.outside in
     let a2 = g.X.Reach.shown c.now.new.self in
     let r = request_of c.args.asked.now in (
-      refl,
+      record { setting = refl; lent = ap (Both (lent_by d)) (c.now.ensures.rest.lent ∙ c.arrive.ensures.rest.lent) },
+      ap (fetch_use d.pulls) (c.now.ensures.rest.fetch ∙ c.arrive.ensures.rest.fetch),
       moved (λ (o : OutsideSeen). StoppedAtClock (setting_by keys shards shelf) (world_of a0.outside (shards_in shards) (objects_in shelf)) (world_of o (shards_in shards) (objects_in shelf)) r)
           a2.outside.clock a1.outside.link a2.outside refl (sym c.now.ensures.rest.link)
           (stopped_at_clock keys shards.plans shelf.objects (alone_of shards.alone shelf.alone) a0.outside.link a1.outside.link (shards_in shards) (objects_in shelf) r
@@ -60,9 +65,10 @@ seal-requires g c = let came = c.in-Ok.ensures.arrived in drafted_long c.args.as
 
 pub returns-clause-handled : goal.returns-clause-handled
 returns-clause-handled g c =
-    let keys = c.args.self.now.keys.now in
-    let before = g.S.Shards.shown c.args.self.now.shards.now in
-    let shelf = g.H.Shelf.shown c.args.self.now.shelf.now in
+    let d = c.args.self.now in
+    let keys = d.keys.now in
+    let before = g.S.Shards.shown d.shards.now in
+    let shelf = g.H.Shelf.shown d.shelf.now in
     let plans = before.plans in
     let objects = shelf.objects in
     let alone = alone_of before.alone shelf.alone in
@@ -76,7 +82,11 @@ returns-clause-handled g c =
     let r = request_of c.args.asked.now in
     let came = c.in-Ok.ensures.arrived in
     let stays = c.rule.ensures.stays in (
-      same_setting keys stays.objects stays.plans stays.alone stays.others_take,
+      record {
+        setting = same_setting keys stays.objects stays.plans stays.alone stays.others_take;
+        lent = ap (Both (lent_by d)) (c.now.ensures.rest.lent ∙ c.arrive.ensures.rest.lent);
+      },
+      ap (fetch_use d.pulls) (c.now.ensures.rest.fetch ∙ c.arrive.ensures.rest.fetch),
       moved (λ (o : OutsideSeen). HandledTo (setting_by keys before shelf) (world_of a0.outside shards0 objects0) (world_of o shards1 objects1) r c.seal.new.self)
           a2.outside.clock a1.outside.link a2.outside refl (sym c.now.ensures.rest.link)
           (ruled_to keys plans objects alone a0.outside.link a1.outside.link shards0 objects0 r
@@ -86,9 +96,6 @@ returns-clause-handled g c =
           (record { request = r; certs = map shared c.in-Ok.arrived.certs.items; reading = c.in-Ok-now.reading; shard = r.channel % n; fixed = came.object }))) c.count.ensures.count (c.rule.ensures.guarded came.object came.there))
           c.unwrap-sealer.result.now c.seal.new.self c.seal.ensures.sealed c.seal.ensures.length)),
     )
-
-pub returns-clause-unfetched : goal.returns-clause-unfetched
-returns-clause-unfetched g c = c.now.ensures.rest.fetch ∙ c.arrive.ensures.rest.fetch
 
 -- the clock is read by `now` alone
 pub returns-in-Err-clause-cause : goal.returns-in-Err-clause-cause

@@ -1,0 +1,2 @@
+pub mod DrillCounts
+pub mod DrillRuns

@@ -1,9 +1,0 @@
-use Rattle.taos_monitor.proofs.Agreeing.{courses_agree}
-use Rattle.taos_monitor.proofs.Excluding.{arrival_excludes}
-use Rattle.taos_monitor.proofs.laws.courses_exclude_each_other.Goals as goal
-
-pub returns-clause-agree : goal.returns-clause-agree
-returns-clause-agree c = courses_agree
-
-pub returns-clause-arrived : goal.returns-clause-arrived
-returns-clause-arrived c = arrival_excludes

@@ -1,5 +1,0 @@
-use Rattle.taos_monitor.proofs.Filling.{no_entry_after_full}
-use Rattle.taos_monitor.proofs.laws.nothing_follows_a_full_journal.Goals as goal
-
-pub returns : goal.returns
-returns c = no_entry_after_full
