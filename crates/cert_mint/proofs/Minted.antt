@@ -53,18 +53,9 @@ module _ (issuers : Entries) (labels : Labels) (m : MintWords) where
   rights n issuer time quoted left right few word.Right lt = right lt
   rights n issuer time quoted left right few word.Large lt = λ wrong. omega (arith, lt, few)
 
-  pub issuer_wrong : key_of issuers m.issuer ≡ None → IsFirstWrong issuers labels m word.Issuer
-  issuer_wrong none = record { wrong = none; right_before = λ v lt wrong. omega (arith, lt) }
-
   module _ (key : List ℕ) (known : key_of issuers m.issuer ≡ Some key) where
     not_unknown : key_of issuers m.issuer ≡ None → ⊥
     not_unknown none = absurd (cc (known, none))
-
-    pub time_wrong : ((from until : ℕ) → Begins m.from from → IsMoment m.until until → ⊥) → IsFirstWrong issuers labels m word.Time
-    time_wrong none = record {
-      wrong = none;
-      right_before = rights 1 (λ lt. not_unknown) (λ lt. omega (arith, lt)) (λ lt. omega (arith, lt)) (λ lt. omega (arith, lt)) (λ lt. omega (arith, lt)) (omega arith);
-    }
 
     module _ (from until : ℕ) (begins : Begins m.from from) (moment : IsMoment m.until until) where
       not_none : ((f u : ℕ) → Begins m.from f → IsMoment m.until u → ⊥) → ⊥

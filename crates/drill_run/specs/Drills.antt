@@ -23,7 +23,8 @@ use Rattle.taos_lanes.specs.declared.lane.Lane.{Lane}
 use Rattle.taos_lanes.specs.Lanes.{LaneRun}
 use Rattle.taos_lanes.specs.Serving.{Left}
 use Rattle.taos_lanes.specs.Workers.{LaneShown, shown_by}
-use Rattle.taos_lanes.specs.Telling.{Change, Telling, told_by}
+use Rattle.taos_monitor.specs.Changing.{Change}
+use Rattle.taos_lanes.specs.Telling.{Telling, told_by}
 use Rattle.taos_lanes.specs.Visits.{Visit}
 use Rattle.request_course.specs.Cells.{Node}
 use Rattle.drill_run.specs.declared.serving.DrillEnd.{DrillEnd}

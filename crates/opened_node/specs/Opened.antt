@@ -17,7 +17,8 @@ use Rattle.opened_node.specs.declared.opened.OpenNode.{OpenNode}
 use Rattle.frame_link.specs.declared.limits.Limits.{Limits}
 use Rattle.taos_lanes.specs.Serving.{Left, ServesNode}
 use Rattle.taos_lanes.specs.Workers.{LaneShown}
-use Rattle.taos_lanes.specs.Telling.{Change, Telling}
+use Rattle.taos_monitor.specs.Changing.{Change}
+use Rattle.taos_lanes.specs.Telling.{Telling}
 
 -- the node has what the opening says, its channels and objects by ascending number
 pub record IsNodeOf (o : Opening) (n : Node) : Type 0 where

@@ -37,6 +37,7 @@ same_ends (x ∷ xs) (y ∷ ys) (z ∷ zs) a b = (
     outside = b.0.same.outside ∙ a.0.outside;
     door = b.0.same.door ∙ a.0.door;
     fetch = b.0.same.fetch ∙ a.0.fetch;
+    tally = b.0.same.tally ∙ a.0.tally;
   },
   same_ends xs ys zs a.1 b.1,
 )

@@ -33,4 +33,4 @@ opened_new fixed journal Q go _ _ _ each none = absurd each
 -- lanes that nobody touched
 pub untouched : {X : Type 0} (lanes : List (LaneShown X)) → AllZip HasOtherWork lanes lanes
 untouched [] = tt
-untouched (l ∷ lanes) = (record { outside = refl; door = refl; fetch = refl }, untouched lanes)
+untouched (l ∷ lanes) = (record { outside = refl; door = refl; fetch = refl; tally = refl }, untouched lanes)

@@ -11,7 +11,8 @@ use Rattle.taos_lanes.specs.Relaying.{IsRelayRunOf, RelayRun, RelaysDoor, Relays
 use Rattle.taos_lanes.specs.Workers.{Keeps, LaneShown}
 use Rattle.taos_lanes.specs.Working.{ServesDoorBy, lane_of, tally_of}
 use Rattle.taos_lanes.specs.Totals.{IsSumOf}
-use Rattle.taos_lanes.specs.Telling.{Telling, change}
+use Rattle.taos_monitor.specs.Changing.{change}
+use Rattle.taos_lanes.specs.Telling.{Telling}
 use Rattle.taos_lanes.proofs.SoFar.{other_doors}
 use Rattle.taos_lanes.proofs.Totals.{sum_same}
 

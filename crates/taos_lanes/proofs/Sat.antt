@@ -13,7 +13,8 @@ use Rattle.request_course.specs.Cells.{viewed}
 use Rattle.request_course.specs.World.{World, fetch_use, reaching}
 use Rattle.taos_lanes.specs.declared.lane.Stock.{Stock}
 use Rattle.taos_lanes.specs.declared.tally.Tally.{Tally}
-use Rattle.taos_lanes.specs.Telling.{Telling, change}
+use Rattle.taos_monitor.specs.Changing.{change}
+use Rattle.taos_lanes.specs.Telling.{Telling}
 use Rattle.taos_lanes.specs.Workers.{LaneShown, HasOtherWork}
 use Rattle.taos_lanes.specs.Working.{LaneSeen, ServesDoor, lane_of}
 use Rattle.taos_lanes.specs.Stocked.{NodeCells, node_at, seat, shelf, world_at}

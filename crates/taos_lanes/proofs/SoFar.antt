@@ -19,7 +19,8 @@ use Rattle.taos_monitor.specs.Reaching.{ReachSeen, reach_of}
 use Rattle.request_course.specs.World.{Setting, State, World, setting_of, state_with}
 use Rattle.request_course.specs.Connection.{Connects}
 use Rattle.taos_lanes.specs.declared.tally.Tally.{Tally}
-use Rattle.taos_lanes.specs.Telling.{Telling, change}
+use Rattle.taos_monitor.specs.Changing.{change}
+use Rattle.taos_lanes.specs.Telling.{Telling}
 use Rattle.taos_lanes.specs.Visits as Visits
 use Rattle.taos_lanes.specs.Visits.{VisitBy, among, begun, Chain, is_broken, is_lacking}
 use Rattle.taos_lanes.specs.Doors.{GaveKnown, TookKnown, AreFew, IsTold, IsNoneLeft, Through, IsVisitOf}

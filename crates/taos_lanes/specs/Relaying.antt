@@ -9,7 +9,8 @@ use Rattle.frame_link.specs.declared.limits.Limits.{Limits}
 use Rattle.taos_lanes.specs.declared.tally.Tally.{Tally}
 use Rattle.taos_lanes.specs.declared.total.Total.{Total}
 use Rattle.taos_lanes.specs.Doors.{GoesThrough}
-use Rattle.taos_lanes.specs.Telling.{Change, Telling, change}
+use Rattle.taos_monitor.specs.Changing.{Change, change}
+use Rattle.taos_lanes.specs.Telling.{Telling}
 use Rattle.taos_lanes.specs.Totals.{IsSumOf}
 use Rattle.taos_lanes.specs.Visits.{Chain, VisitBy}
 use Rattle.taos_lanes.specs.Workers.{LaneShown, HasOtherDoor}

@@ -12,7 +12,8 @@ use Rattle.taos_lanes.specs.declared.serving.Served.{Served}
 use Rattle.taos_lanes.specs.declared.total.Total.{Total}
 use Rattle.taos_lanes.specs.Doors.{GoesThrough}
 use Rattle.taos_lanes.specs.Lanes.{LaneRun, ServesAll}
-use Rattle.taos_lanes.specs.Telling.{Change, Telling}
+use Rattle.taos_monitor.specs.Changing.{Change}
+use Rattle.taos_lanes.specs.Telling.{Telling}
 use Rattle.taos_lanes.specs.Totals.{IsSumOf}
 use Rattle.taos_lanes.specs.Workers.{LaneShown}
 use Rattle.taos_lanes.specs.Working.{HasDoorCause, tally_of}

@@ -9,7 +9,8 @@ use Rattle.object_core.specs.Objects.{ObjectEntry}
 use Rattle.frame_link.specs.declared.limits.Limits.{Limits}
 use Rattle.taos_lanes.specs.declared.lane.Stock.{Stock}
 use Rattle.taos_lanes.specs.declared.sitting.Shared.{Shared}
-use Rattle.taos_lanes.specs.Telling.{Telling, change}
+use Rattle.taos_monitor.specs.Changing.{change}
+use Rattle.taos_lanes.specs.Telling.{Telling}
 use Rattle.taos_lanes.specs.Workers.{LaneShown}
 use Rattle.taos_lanes.specs.Working.{ServesDoor, lane_of}
 use Rattle.taos_monitor.specs.declared.node_keys.NodeKeys.{NodeKeys}

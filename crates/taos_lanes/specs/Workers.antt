@@ -43,6 +43,7 @@ module _ {X : Type 0} (before after : LaneShown X) where
     pub outside : after.outside ≡ before.outside
     pub door : after.door ≡ before.door
     pub fetch : after.fetch ≡ before.fetch
+    pub tally : after.tally ≡ before.tally
 
   -- it is as before, but for its door and for what it counted
   pub record HasOtherDoor : Type 0 where
@@ -55,12 +56,14 @@ module _ {X : Type 0} (before after : LaneShown X) where
     pub gives : GivesNext before.door after.door result
     pub back : after.door.back ≡ before.door.back
     pub cause : HasCause before.door.faults after.door.faults result
+    pub tally : after.tally ≡ before.tally
     pub rest : HasOtherDoor
 
   -- its door took a connection back, and nothing else of the door changed
   pub record GivesBack (connection : X) : Type 0 where
     pub takes : TakesBack before.door after.door connection
     pub stays : after.door ≡ record before.door { back = after.door.back }
+    pub tally : after.tally ≡ before.tally
     pub rest : HasOtherDoor
 
   -- this work is in its place, and what was there was handed out

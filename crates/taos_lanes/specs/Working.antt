@@ -14,7 +14,8 @@ use Rattle.taos_monitor.specs.Desk.{state_at, setting_by}
 use Rattle.request_course.specs.World.{State, World, fetch_use, reaching_by, state_of}
 use Rattle.taos_lanes.specs.declared.sitting.Shared.{Shared}
 use Rattle.taos_lanes.specs.declared.tally.Tally.{Tally}
-use Rattle.taos_lanes.specs.Telling.{Change, Telling, change}
+use Rattle.taos_monitor.specs.Changing.{Change, change}
+use Rattle.taos_lanes.specs.Telling.{Telling}
 use Rattle.taos_lanes.specs.Visits.{Chain, ServesAmong, VisitBy, is_broken, is_lacking}
 use Rattle.taos_lanes.specs.Doors.{GoesThrough}
 use Rattle.taos_lanes.specs.Workers.{LaneShown, reach_in}

@@ -3,7 +3,8 @@
 ghost use Rattle.std.specs.List.{AllZip};
 ghost use Rattle.std.specs.Prelude.{◌≡◌, ◌<◌, ◌≤◌, ◌^◌, length, map};
 ghost use Rattle.taos_lanes.specs.Relaying.{RelaysDoor, RelaysLane, RelaysLanes};
-ghost use Rattle.taos_lanes.specs.Telling.{changes_by, told_by};
+ghost use Rattle.taos_monitor.specs.Changing.{change_of};
+ghost use Rattle.taos_lanes.specs.Telling.{told_by};
 ghost use Rattle.taos_lanes.specs.Totals.{IsSumOf};
 ghost use Rattle.taos_lanes.specs.declared.serving.TheConstants.{MAX_LANES};
 
@@ -105,7 +106,7 @@ pub fn serve_relays<W: Threads + Sync, L: Worker + Send>(
     requires some { 0 < length lanes.old }
     requires few { length lanes.old ≤ MAX_LANES }
     ensures { RelaysLanes (told_by L.In.shown L.Out.shown) table.now limits
-        (changes_by L.shown lanes.old lanes.new) result }
+        (change_of (map L.shown) lanes) result }
 {
     let relay = Relay {
         alloc,

@@ -6,7 +6,8 @@ ghost use Rattle.agent_shards.specs.Shards.{plans_of};
 ghost use Rattle.taos_lanes.specs.Joining.{AreKept, AreNew, IsEmptied, cells_by, node_by, passes_by};
 ghost use Rattle.taos_lanes.specs.Parts.{ArePartsNew, node_in};
 ghost use Rattle.taos_lanes.specs.Serving.{ServesNode, left_by};
-ghost use Rattle.taos_lanes.specs.Telling.{changes_by, told_by};
+ghost use Rattle.taos_monitor.specs.Changing.{change_of};
+ghost use Rattle.taos_lanes.specs.Telling.{told_by};
 ghost use Rattle.taos_lanes.specs.Workers.{HasOtherWork};
 ghost use Rattle.taos_monitor.specs.Planned.{ArePlanned};
 
@@ -75,7 +76,7 @@ fn serve_cells<W: Threads + Wait + Sync, L: Worker + Send>(
     requires new { AreNew (cells_by node) }
     requires planned { ArePlanned node.keys.channels.entries (plans_of node.shards.0) }
     ensures served { IfOk result (λ r. ServesNode (told_by L.In.shown L.Out.shown) (node_by node)
-        pulls limits (changes_by L.shown lanes.old lanes.new) (left_by r)) }
+        pulls limits (change_of (map L.shown) lanes) (left_by r)) }
     ensures idle { All (λ lane. (L.shown lane).work ≡ None) lanes.new }
     ensures unserved { OnErr result (AllZip HasOtherWork (map L.shown lanes.old)
         (map L.shown lanes.new)) }
@@ -125,7 +126,7 @@ fn serve_new<W: Threads + Wait + Sync, L: Worker + Send>(
     requires few { length lanes.old ≤ MAX_LANES }
     requires new { ArePartsNew parts }
     ensures served { IfOk result (λ r. ServesNode (told_by L.In.shown L.Out.shown) (node_in parts)
-        pulls limits (changes_by L.shown lanes.old lanes.new) (left_by r)) }
+        pulls limits (change_of (map L.shown) lanes) (left_by r)) }
     ensures idle { OnOk result (All (λ lane. (L.shown lane).work ≡ None) lanes.new) }
     ensures unserved { OnErr result (AllZip HasOtherWork (map L.shown lanes.old)
         (map L.shown lanes.new)) }
@@ -171,7 +172,7 @@ pub fn serve<W: Threads + Wait + Sync, L: Worker + Send>(
     requires few { length lanes.old ≤ MAX_LANES }
     requires new { ArePartsNew parts }
     ensures served { IfOk result (λ r. ServesNode (told_by L.In.shown L.Out.shown) (node_in parts)
-        pulls limits (changes_by L.shown lanes.old lanes.new) (left_by r)) }
+        pulls limits (change_of (map L.shown) lanes) (left_by r)) }
     ensures idle { All (λ lane. (L.shown lane).work ≡ None) lanes.new }
     ensures unserved { OnErr result (AllZip HasOtherWork (map L.shown lanes.old)
         (map L.shown lanes.new)) }

@@ -9,6 +9,7 @@ use Rattle.object_core.specs.Shelving.{ShelfSeen}
 use Rattle.agent_core.specs.Shards.{ShardsSeen}
 use Rattle.taos_monitor.specs.declared.desk.Desk.{Desk}
 use Rattle.taos_monitor.specs.declared.node_keys.NodeKeys.{NodeKeys}
+use Rattle.taos_monitor.specs.Changing.{Borrowed, Change, change}
 use Rattle.taos_monitor.specs.Reaching.{ReachSeen}
 use Rattle.request_course.specs.World.{Setting, State, World, fetch_use, reaching_by, state_of, state_with, world_by, setting_of}
 use Rattle.taos_monitor.specs.Arriving.{node_of}
@@ -69,3 +70,22 @@ abbrev pub line_by : {S H C R I O : Type 0} → NodeKeys → (S → ShardsSeen) 
     (C → Stream) → (R → Link) → (I → Stream) → (O → Stream) → S → H → C → R → I → O → Line State
 line_by keys shards shelf clock relay input output s h c r i o =
     line (input i) (output o) (state_by keys shards shelf clock relay s h c r)
+
+-- ---- and how a call changed it that borrows these parts
+
+-- what is answered in
+abbrev pub state_over : {S H C R : Type 0} → NodeKeys → (S → ShardsSeen) → (H → ShelfSeen) →
+    (C → Stream) → (R → Link) → Borrowed S → Borrowed H → Borrowed C → Borrowed R → Change State
+state_over keys shards shelf clock relay s h c r =
+    let at = state_by keys shards shelf clock relay in
+    change (at s.entry.now h.entry.now c.entry.now r.entry.now)
+    (at s.exit.now h.exit.now c.exit.now r.exit.now)
+
+-- a connection
+abbrev pub line_over : {S H C R I O : Type 0} → NodeKeys → (S → ShardsSeen) → (H → ShelfSeen) →
+    (C → Stream) → (R → Link) → (I → Stream) → (O → Stream) →
+    Borrowed S → Borrowed H → Borrowed C → Borrowed R → Borrowed I → Borrowed O → Change (Line State)
+line_over keys shards shelf clock relay input output s h c r i o =
+    let at = line_by keys shards shelf clock relay input output in
+    change (at s.entry.now h.entry.now c.entry.now r.entry.now i.entry.now o.entry.now)
+    (at s.exit.now h.exit.now c.exit.now r.exit.now i.exit.now o.exit.now)

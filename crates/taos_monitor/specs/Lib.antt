@@ -1,3 +1,4 @@
+pub mod Changing
 pub mod Planned
 pub mod Reaching
 pub mod Refusals

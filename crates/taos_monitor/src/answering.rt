@@ -5,7 +5,7 @@ ghost use Rattle.taos_wire.specs.View.{request as request_of};
 ghost use Rattle.taos_monitor.specs.Arriving.{IsAskedBy, IsNotAsked, IsUnasked};
 ghost use Rattle.request_course.specs.Cells.{CellsStay, both_cells};
 ghost use Rattle.request_course.specs.States.{AnswersIn, AnswersWith};
-ghost use Rattle.taos_monitor.specs.Desk.{IsFree, state_at, state_by};
+ghost use Rattle.taos_monitor.specs.Desk.{IsFree, state_at, state_over};
 ghost use Rattle.request_course.specs.Handling.{HandlesCause, LeavesReply};
 ghost use Rattle.taos_monitor.specs.Planned.{ArePlanned};
 
@@ -116,9 +116,9 @@ pub fn answer<W: Wait + Sync, H: Shelf, S: Shards, R: RelayLink, C: Clock, D: De
     requires short { length payload.now ≤ MAX_REQUEST }
     requires planned { ArePlanned keys.now.channels.entries (S.shown shards.old).plans }
     requires none_taken { (H.shown shelf.old).taken ≡ None }
-    ensures answered { let at = state_by keys.now S.shown H.shown C.shown R.shown in AnswersWith
-        (at shards.old shelf.old clock.old relay.old) (at shards.new shelf.new clock.new relay.new)
-        payload.now out.new result }
+    ensures answered { let state = state_over keys.now
+        S.shown H.shown C.shown R.shown shards shelf clock relay in
+        AnswersWith state.before state.after payload.now out.new result }
     ensures left { LeavesReply out.old out.new result }
 
     // What nobody changes, and no object is left taken.

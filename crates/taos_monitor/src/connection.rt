@@ -4,7 +4,7 @@ ghost use Rattle.std.specs.Prelude.{◌≡◌, false, IfOk, None};
 ghost use Rattle.std.specs.Thread.{IsSync};
 ghost use Rattle.frame_link.specs.Lent.{Both, To};
 ghost use Rattle.request_course.specs.Cells.{CellsStay, both_cells};
-ghost use Rattle.taos_monitor.specs.Desk.{IsFree, lent_by, line_at, line_by, state_at};
+ghost use Rattle.taos_monitor.specs.Desk.{IsFree, lent_by, line_at, line_over, state_at};
 ghost use Rattle.request_course.specs.States.{ServesBy, ServesIn};
 ghost use Rattle.taos_monitor.specs.Planned.{ArePlanned};
 ghost use Rattle.request_course.specs.Serving.{StepsTo, StopsIn};
@@ -158,9 +158,9 @@ pub fn serve_connection<
 ) -> Outcome
     requires planned { ArePlanned keys.now.channels.entries (S.shown shards.old).plans }
     requires none_taken { (H.shown shelf.old).taken ≡ None }
-    ensures connection { let at = line_by keys.now S.shown H.shown C.shown R.shown I.shown O.shown in
-        ServesBy frames (at shards.old shelf.old clock.old relay.old input.old output.old)
-        (at shards.new shelf.new clock.new relay.new input.new output.new) result }
+    ensures connection { let line = line_over keys.now
+        S.shown H.shown C.shown R.shown I.shown O.shown shards shelf clock relay input output in
+        ServesBy frames line.before line.after result }
 
     // What nobody changes, and no object is left taken.
     ensures stays { CellsStay (both_cells (S.shown shards.old) (H.shown shelf.old))

@@ -6,7 +6,7 @@ ghost use Rattle.taos_wire.specs.Request.{FitsRequest};
 ghost use Rattle.taos_wire.specs.View.{request as request_of};
 ghost use Rattle.request_course.specs.Cells.{CellsStay, both_cells};
 ghost use Rattle.request_course.specs.States.{HandlesAsked, HandlesPlainly};
-ghost use Rattle.taos_monitor.specs.Desk.{IsFree, state_at, state_by};
+ghost use Rattle.taos_monitor.specs.Desk.{IsFree, state_at, state_over};
 ghost use Rattle.request_course.specs.Handling.{HandlesCause, LeavesReply};
 ghost use Rattle.taos_monitor.specs.Planned.{IsPlanned};
 
@@ -110,9 +110,9 @@ pub fn request<W: Wait + Sync, H: Shelf, S: Shards, R: RelayLink, C: Clock, D: D
     requires keyed { IsSome (key_of keys.now.channels.entries asked.now.channel) }
     requires planned { IsPlanned (S.shown shards.old).plans asked.now.channel }
     requires none_taken { (H.shown shelf.old).taken ≡ None }
-    ensures handled { let at = state_by keys.now S.shown H.shown C.shown R.shown in HandlesAsked
-        (at shards.old shelf.old clock.old relay.old) (at shards.new shelf.new clock.new relay.new)
-        asked.now out.new result }
+    ensures handled { let state = state_over keys.now
+        S.shown H.shown C.shown R.shown shards shelf clock relay in
+        HandlesAsked state.before state.after asked.now out.new result }
     ensures left { LeavesReply out.old out.new result }
 
     // What nobody changes, and no object is left taken.

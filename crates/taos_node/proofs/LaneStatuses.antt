@@ -13,7 +13,8 @@ use Rattle.taos_lanes.specs.Lanes.{LaneRun}
 use Rattle.taos_lanes.specs.declared.total.Total.{Total}
 use Rattle.taos_lanes.specs.Relaying.{IsRelayRunOf, RelayRun}
 use Rattle.taos_lanes.specs.Serving.{IsRunOf}
-use Rattle.taos_lanes.specs.Telling.{Telling, change}
+use Rattle.taos_monitor.specs.Changing.{change}
+use Rattle.taos_lanes.specs.Telling.{Telling}
 use Rattle.taos_lanes.specs.Working.{HasDoorCause}
 use Rattle.node_check.specs.declared.check.CheckEnd.TheVariants as ends
 use Rattle.taos_node.specs.declared.ending.Ending.{Ending}

@@ -7,6 +7,7 @@ use Rattle.frame_link.specs.Streams.{Stream, stream}
 use Rattle.cred_pull.specs.Fetching.{FetchSeen, fetch_of}
 use Rattle.taos_lanes.specs.declared.lane.Lane.{Lane}
 use Rattle.taos_lanes.specs.Workers.{LaneShown, shown_by}
+use Rattle.taos_monitor.specs.Changing.{Borrowed, Change, change}
 
 -- what a connection of a lane uses beside its streams: the lane's clock, link and fetch
 pub record LaneUsed : Type 0 where
@@ -79,6 +80,15 @@ abbrev pub called : {F I O C R D P In Out : Type 0} → (F → Stream) → (I �
     List (Lane C R D P In Out) → Call (In × Out)
 called file input output clock relay door fetch =
     called_by file input output (shown_by clock relay door fetch)
+
+-- and how it changed what it borrows of these
+abbrev pub call_over : {F I O C R D P In Out : Type 0} → (F → Stream) → (I → Stream) → (O → Stream) →
+    (C → Stream) → (R → Link) → (D → DoorSeen (In × Out)) → (P → FetchSeen) →
+    Borrowed F → Borrowed I → Borrowed O → Borrowed (List (Lane C R D P In Out)) → Change (Call (In × Out))
+call_over file input output clock relay door fetch f i o lanes =
+    let at = called file input output clock relay door fetch in
+    change (at f.entry.now i.entry.now o.entry.now lanes.entry.now)
+    (at f.exit.now i.exit.now o.exit.now lanes.exit.now)
 
 -- what a call touches that serves doors and reads no input
 pub record DoorsTouched (X : Type 0) : Type 0 where

@@ -19,7 +19,8 @@ use Rattle.taos_node.specs.Notes.{note_of, IsNoted}
 use Rattle.taos_lanes.specs.declared.lane.Lane.{Lane}
 use Rattle.frame_link.specs.declared.limits.Limits.{Limits}
 use Rattle.taos_lanes.specs.Workers.{LaneShown}
-use Rattle.taos_lanes.specs.Telling.{Change, Telling, change, told_by}
+use Rattle.taos_monitor.specs.Changing.{Change, change}
+use Rattle.taos_lanes.specs.Telling.{Telling, told_by}
 use Rattle.node_audit.specs.declared.audit.AuditEnd.{AuditEnd}
 use Rattle.drill_run.specs.declared.serving.DrillEnd.{DrillEnd}
 use Rattle.taos_node.specs.Audit.{WritesAudit, counts}

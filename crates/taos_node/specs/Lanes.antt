@@ -12,7 +12,8 @@ use Rattle.taos_lanes.specs.declared.total.Total.{Total}
 use Rattle.taos_lanes.specs.Parts.{node_in}
 use Rattle.taos_lanes.specs.Serving.{Left}
 use Rattle.taos_lanes.specs.Workers.{HasOtherWork, LaneShown}
-use Rattle.taos_lanes.specs.Telling.{Change, Telling, change}
+use Rattle.taos_monitor.specs.Changing.{Change, change}
+use Rattle.taos_lanes.specs.Telling.{Telling}
 use Rattle.taos_node.specs.declared.ending.LanesEnd.{LanesEnd}
 use Rattle.taos_node.specs.declared.ending.LanesEnd.TheVariants as lanes
 use Rattle.taos_node.specs.declared.lanes.LanesAsked.{LanesAsked}

@@ -10,7 +10,8 @@ use Rattle.frame_link.specs.declared.limits.Limits.{Limits}
 use Rattle.taos_lanes.specs.declared.total.Total.{Total}
 use Rattle.taos_lanes.specs.Relaying.{RelaysLanes}
 use Rattle.taos_lanes.specs.Workers.{LaneShown}
-use Rattle.taos_lanes.specs.Telling.{Change, Telling}
+use Rattle.taos_monitor.specs.Changing.{Change}
+use Rattle.taos_lanes.specs.Telling.{Telling}
 use Rattle.taos_node.specs.declared.ending.LanesEnd.{LanesEnd}
 use Rattle.taos_node.specs.Lanes.{PrintsLine, told_in}
 use Rattle.count_lines.specs.Summary.{relays_line}

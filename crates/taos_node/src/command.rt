@@ -7,9 +7,10 @@ ghost use Rattle.agent_core.specs.Alone.{plans_in};
 ghost use Rattle.frame_link.specs.Served.{HasCauses, IsComplete};
 ghost use Rattle.object_core.specs.OneOwner.{taken_from};
 ghost use Rattle.taos_monitor.specs.Planned.{ArePlanned};
-ghost use Rattle.taos_lanes.specs.Telling.{change, told_by};
+ghost use Rattle.taos_monitor.specs.Changing.{change_of};
+ghost use Rattle.taos_lanes.specs.Telling.{told_by};
 ghost use Rattle.taos_lanes.specs.declared.serving.TheConstants.{MAX_LANES};
-ghost use Rattle.taos_node.specs.Calls.{called, called_by, clock_count, first_line, touched};
+ghost use Rattle.taos_node.specs.Calls.{call_over, called_by, clock_count, first_line, touched};
 ghost use Rattle.taos_node.specs.Command.{Ends, LeavesBy, LeavesLanes, ServesDoors, ServesFirst};
 ghost use Rattle.taos_node.specs.Status.{Does, EndsWithoutLanes, TellsDoors, TellsStatus};
 ghost use Rattle.command_file.specs.Files.{FileHasCause, NodeFileGives};
@@ -259,21 +260,18 @@ pub fn taos<
     // lanes' steps interleave, and the line is written of what was counted; or the line of what a
     // request and its reply show; or a relay answers each frame; or the line of a certificate is
     // written, or those of what domains sealed. The note and the status tell how it ended.
-    ensures did { let at = called F.shown I.shown O.shown C.shown R.shown D.shown P.shown in
-        Ends D.In.shown D.Out.shown words.now (at file.old input.old output.old lanes.old)
-        (at file.new input.new output.new lanes.new)
-        (change (N.shown notes.old) (N.shown notes.new)) result }
+    ensures did { let call = call_over F.shown I.shown O.shown C.shown R.shown D.shown P.shown
+        file input output lanes in
+        Ends D.In.shown D.Out.shown words.now call.before call.after (change_of N.shown notes) result }
 
     // Whatever was done: the words decide status 1 and the file status 2, what can come to its end
     // does, and a fault is answered where there was one, and only there.
-    ensures status { let at = called F.shown I.shown O.shown C.shown R.shown D.shown P.shown in
-        TellsStatus words.now (at file.old input.old output.old lanes.old)
-        (at file.new input.new output.new lanes.new) result }
+    ensures status { let call = call_over F.shown I.shown O.shown C.shown R.shown D.shown P.shown
+        file input output lanes in TellsStatus words.now call.before call.after result }
 
     // What the status tells of the lanes' doors.
-    ensures doors { let at = called F.shown I.shown O.shown C.shown R.shown D.shown P.shown in
-        TellsDoors words.now (at file.old input.old output.old lanes.old)
-        (at file.new input.new output.new lanes.new) result }
+    ensures doors { let call = call_over F.shown I.shown O.shown C.shown R.shown D.shown P.shown
+        file input output lanes in TellsDoors words.now call.before call.after result }
 
     // Success has no note, nor what a check refused, nor what a replay found.
     ensures silent { (result ≡ 0) ⊎ ((result ≡ 11) ⊎ (result ≡ 14)) → notes.new ≡ notes.old }

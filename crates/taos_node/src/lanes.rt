@@ -1,10 +1,11 @@
 //! The command that serves the lanes of a node.
 
-ghost use Rattle.std.specs.Prelude.{◌<◌, ◌≤◌, IfOk, length};
+ghost use Rattle.std.specs.Prelude.{◌<◌, ◌≤◌, IfOk, length, map};
 ghost use Rattle.std.specs.declared.alloc.Global.{Global};
 ghost use Rattle.taos_lanes.specs.Parts.{ArePartsNew, node_in};
 ghost use Rattle.taos_lanes.specs.Serving.{left_by};
-ghost use Rattle.taos_lanes.specs.Telling.{change, changes_by, told_by};
+ghost use Rattle.taos_monitor.specs.Changing.{change_of};
+ghost use Rattle.taos_lanes.specs.Telling.{told_by};
 ghost use Rattle.taos_lanes.specs.declared.serving.TheConstants.{MAX_LANES};
 ghost use Rattle.taos_node.specs.Calls.{doors_by};
 ghost use Rattle.taos_node.specs.Status.{DoesDoors};
@@ -88,8 +89,7 @@ fn serve_parts<W: Threads + Wait + Sync, O: Sink, L: Worker + Send>(
     requires few { length lanes.old ≤ MAX_LANES }
     requires new { ArePartsNew parts }
     ensures serves { ServesParts (told_by L.In.shown L.Out.shown) parts asked
-        (changes_by L.shown lanes.old lanes.new)
-        (change (O.shown output.old) (O.shown output.new)) result }
+        (change_of (map L.shown) lanes) (change_of O.shown output) result }
     ensures cause { LanesCauses (O.shown output.old).faults (O.shown output.new).faults result }
 {
     match serve(

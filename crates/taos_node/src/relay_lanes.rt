@@ -1,8 +1,9 @@
 //! The command that serves the lanes of a relay.
 
-ghost use Rattle.std.specs.Prelude.{◌<◌, ◌≤◌, length};
+ghost use Rattle.std.specs.Prelude.{◌<◌, ◌≤◌, length, map};
 ghost use Rattle.std.specs.declared.alloc.Global.{Global};
-ghost use Rattle.taos_lanes.specs.Telling.{change, changes_by, told_by};
+ghost use Rattle.taos_monitor.specs.Changing.{change_of};
+ghost use Rattle.taos_lanes.specs.Telling.{told_by};
 ghost use Rattle.taos_lanes.specs.declared.serving.TheConstants.{MAX_LANES};
 ghost use Rattle.taos_node.specs.Calls.{doors_by};
 ghost use Rattle.taos_node.specs.Status.{DoesDoors};
@@ -32,8 +33,7 @@ fn serve_lanes<W: Threads + Sync, O: Sink, L: Worker + Send>(
     requires some { 0 < length lanes.old }
     requires few { length lanes.old ≤ MAX_LANES }
     ensures serves { RelaysFile (told_by L.In.shown L.Out.shown) relay.now limits
-        (changes_by L.shown lanes.old lanes.new)
-        (change (O.shown output.old) (O.shown output.new)) result }
+        (change_of (map L.shown) lanes) (change_of O.shown output) result }
     ensures cause { LanesCauses (O.shown output.old).faults (O.shown output.new).faults result }
 {
     let total = serve_relays(rt, alloc, &relay.table, lanes, limits);

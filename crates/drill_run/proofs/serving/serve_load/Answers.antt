@@ -12,7 +12,7 @@ use Rattle.cred_pull.proofs.no_fetch.NoFetch.TheSendSync as fetch
 use Rattle.taos_drill.proofs.sink.GrowingSink.TheSendSync as sink
 use Rattle.taos_lanes.proofs.Crossing.{lane_send}
 use Rattle.taos_lanes.specs.Parts.{node_in}
-use Rattle.taos_lanes.specs.Telling.{change}
+use Rattle.taos_monitor.specs.Changing.{change}
 use Rattle.drill_run.specs.Drills.{AreDrillLanes, drill_shown}
 use Rattle.drill_run.proofs.DrillRuns.{DrillLane, many_streams}
 use Rattle.drill_run.proofs.serving.serve_load.Goals as goal

@@ -11,7 +11,8 @@ use Rattle.object_core.specs.Shelving.{ObjectFixed, fixed_of}
 use Rattle.taos_monitor.specs.Arriving.{node_of}
 use Rattle.taos_monitor.specs.Planned.{ArePlanned}
 use Rattle.taos_lanes.specs.Serving.{ServesNode, left_by}
-use Rattle.taos_lanes.specs.Telling.{change, told_by}
+use Rattle.taos_monitor.specs.Changing.{change}
+use Rattle.taos_lanes.specs.Telling.{told_by}
 use Rattle.taos_lanes.proofs.Opening.{opened_new, untouched}
 use Rattle.taos_lanes.proofs.Rows.{at_error}
 use Rattle.taos_lanes.proofs.serving.serve_new.Goals as goal

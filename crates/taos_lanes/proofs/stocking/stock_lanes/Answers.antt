@@ -11,7 +11,7 @@ pub returns-in_err-stock_of-clause-same : goal.returns-in_err-stock_of-clause-sa
 returns-in_err-stock_of-clause-same g c =
     at_error c.from_residual.result
     (subst (AllZip HasOtherWork (map g.L.Worker.shown c.args.lanes.now)) (sym (map-set_same g.L.Worker.shown c.loop-lane.lanes c.loop-lane.lane-index _ c.lane-item.result refl))
-    (upto_all (IsGivenStock (cells_of c.args.agent.now c.args.rack.now)) HasOtherWork (λ x y s. s.same) (λ x. record { outside = refl; door = refl; fetch = refl }) _ _ _ c.loop-lane.invariant.upto))
+    (upto_all (IsGivenStock (cells_of c.args.agent.now c.args.rack.now)) HasOtherWork (λ x y s. s.same) (λ x. record { outside = refl; door = refl; fetch = refl; tally = refl }) _ _ _ c.loop-lane.invariant.upto))
 
 pub loop-lane-preserved : goal.loop-lane-preserved
 loop-lane-preserved g c =
